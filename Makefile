@@ -1,0 +1,15 @@
+# make demo   builds the program without proving it, and boots the example image
+# make        proves the program and every crate below it, builds it as crates/boot_cli/out/boot_cli, and boots the example image
+# make test   the gate: proves everything from nothing, tries the must-fail edits, and runs the tests and the program
+
+.PHONY: all demo test
+
+all:
+	cd crates/boot_cli && rt run -- boot data/flash data/otp arm normal
+
+demo:
+	@echo 'The program is built without its proofs here; "make" proves it.' >&2
+	@cd crates/boot_cli && rt try --data flash=data/flash --data otp=data/otp -- boot flash otp arm normal
+
+test:
+	rt ci
