@@ -1,0 +1,15 @@
+pub mod Between
+pub mod Changed
+pub mod Confinement
+pub mod Contents
+pub mod Counts
+pub mod Cuttings
+pub mod FileLists
+pub mod Gates
+pub mod Phases
+pub mod Raises
+pub mod Ranges
+pub mod Steps
+pub mod Tells
+pub mod ToldLists
+pub mod TornSteps

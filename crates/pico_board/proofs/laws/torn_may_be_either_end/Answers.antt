@@ -1,0 +1,10 @@
+-- By cases on the step.
+use Rattle.pico_board.proofs.Cuttings.{Torn-after}
+use Rattle.pico_board.proofs.TornSteps.{Torn-before}
+use Rattle.pico_board.proofs.laws.torn_may_be_either_end.Goals as goal
+
+pub returns-clause-before : goal.returns-clause-before
+returns-clause-before c = Torn-before
+
+pub returns-clause-after : goal.returns-clause-after
+returns-clause-after c = Torn-after

@@ -1,0 +1,73 @@
+-- The state of a board, and what a step and a list of steps do to it. This project's own.
+use Rattle.std.specs.Prelude.{◌≡◌, ℕ, ◌+◌, ◌-◌, ◌^◌, ◌≤◌, min, Bool, true, Option, None, Some, List, [], ◌∷◌, ◌++◌, length}
+use Rattle.std.specs.Bool.{OnTrue, OnFalse}
+use Rattle.std.specs.Option.{option_map}
+use Rattle.pico_board.specs.Content.{Content}
+use Rattle.pico_board.specs.Steps.{Step, after, after_all, Torn, CutOf}
+use Rattle.pico_board.specs.Cuts.{Cut, Told, told, told_all}
+
+-- what is known of a board: its content, whether it is powered, how often power was lost, and its armed cut, where the outer
+-- option is None for a board that does not tell it and the inner one is None where no cut is armed
+pub record State : Type 0 where
+  pub content : Content
+  pub powered : Bool
+  pub cuts : ℕ
+  pub armed : Option (Option Cut)
+
+-- a count rose, or stands at the last value of its 64 bits
+abbrev pub Rose : ℕ → ℕ → Type 0
+Rose before now = min (before + 1) (2 ^ 64 - 1) ≤ now
+
+-- the answer and the state are what the board told
+pub record IsAs (o : Told) (ok : Bool) (t : State) : Type 0 where
+  pub answer : o.answer ≡ ok
+  pub content : t.content ≡ o.content
+  pub armed : t.armed ≡ Some o.armed
+
+-- a board that tells its armed cut does with the step what the cut says, and goes on telling; one that does not goes on so
+abbrev pub IsTold : Option (Option Cut) → Content → Step → Bool → State → Type 0
+IsTold None c step ok t = t.armed ≡ None
+IsTold (Some cut) c step ok t = IsAs (told cut c step) ok t
+
+-- the same of a list of steps
+abbrev pub IsToldAll : Option (Option Cut) → Content → List Step → Bool → State → Type 0
+IsToldAll None c steps ok t = t.armed ≡ None
+IsToldAll (Some cut) c steps ok t = IsAs (told_all steps cut c) ok t
+
+-- The old board does the step and is then the new one: where the answer is Ok, the step completed, the board is powered, and each
+-- list that the board had done goes on with the step; otherwise power was lost in it, the count of cuts rose or stands at its last
+-- value, and the board is not powered. The flash keeps its length, the count of cuts never falls, and a told cut decides.
+pub record Does {B : Type 0} (state : B → State) (history : B → List Step → Type 0) (old : B) (step : Step) (ok : Bool) (new : B) : Type 0 where
+  pub done : OnTrue ok ((state new).content ≡ after (state old).content step)
+  pub torn : OnFalse ok (Torn (state old).content step (state new).content)
+  pub size : length (state new).content.flash ≡ length (state old).content.flash
+  pub power : (state new).powered ≡ ok
+  pub later : (state old).cuts ≤ (state new).cuts
+  pub rose : OnFalse ok (Rose (state old).cuts (state new).cuts)
+  pub told : IsTold (state old).armed (state old).content step ok (state new)
+  pub recorded : OnTrue ok ((h : List Step) → history old h → history new (h ++ step ∷ []))
+
+-- The old board does the steps, in their order, and is then the new one: where the answer is Ok, all of them completed; otherwise
+-- power was lost in one of them. The rest is as for one step.
+pub record DoesAll {B : Type 0} (state : B → State) (history : B → List Step → Type 0) (old : B) (steps : List Step) (ok : Bool) (new : B) : Type 0 where
+  pub done : OnTrue ok ((state new).content ≡ after_all (state old).content steps)
+  pub torn : OnFalse ok (CutOf (state old).content steps (state new).content)
+  pub size : length (state new).content.flash ≡ length (state old).content.flash
+  pub power : (state new).powered ≡ ok
+  pub later : (state old).cuts ≤ (state new).cuts
+  pub rose : OnFalse ok (Rose (state old).cuts (state new).cuts)
+  pub told : IsToldAll (state old).armed (state old).content steps ok (state new)
+  pub recorded : OnTrue ok ((h : List Step) → history old h → history new (h ++ steps))
+
+-- the state with another cut armed, where the board tells it
+abbrev pub with_cut : State → Cut → State
+with_cut s cut = record { content = s.content; powered = s.powered; cuts = s.cuts; armed = option_map (λ former. Some cut) s.armed }
+
+-- the state with power
+abbrev pub with_power : State → State
+with_power s = record { content = s.content; powered = true; cuts = s.cuts; armed = s.armed }
+
+-- the new board has this state, and has done each list that the old one had done
+pub record Becomes {B : Type 0} (state : B → State) (history : B → List Step → Type 0) (old : B) (s : State) (new : B) : Type 0 where
+  pub same : state new ≡ s
+  pub recorded : (h : List Step) → history old h → history new h

@@ -1,0 +1,12 @@
+pub mod Content
+pub mod Steps
+pub mod Cuts
+pub mod Board
+pub mod Sessions
+pub mod Views
+pub mod Rows
+pub mod Supply
+pub mod MemBoard
+pub mod MemFiles
+pub mod Files
+pub mod Puts

@@ -1,0 +1,101 @@
+//! Laws on what steps leave, done or torn. Each is a function that does nothing, whose contract is the law.
+
+ghost use Rattle.std.specs.Prelude.{◌≡◌, ◌⊎◌, ◌↔◌, ℕ, ◌+◌, ◌-◌, ◌≤◌, All, Bool, List, None, Some, [], ◌∷◌, ◌++◌, length, slice_get, take, true, false};
+ghost use Rattle.std.specs.List.{AllByRecursion};
+ghost use Rattle.pico_board.specs.declared.window.Window.{Window};
+ghost use Rattle.pico_board.specs.Content.{AreApart, Content, IsContent, window_bytes};
+ghost use Rattle.pico_board.specs.Steps.{Step, Raise, CutOf, IsCutAt, IsRaise, IsRaisedIn, IsStepIn, MayLeave, Torn, TornErase, after, after_all};
+ghost use Rattle.pico_board.specs.Cuts.{cut_by, cut_with, told_all};
+ghost use Rattle.pico_board.specs.Sessions.{Confined, Gated, IsBlank, IsClosing, IsGated, IsPartial, SameButWindow, Unfinished};
+
+/// A cut of a list falls in one of its steps, after the steps before it.
+pub fn cut_falls_in_a_step()
+    ensures { (c : Content) (steps : List Step) (d : Content)
+        → CutOf c steps d ↔ ((k : ℕ) × (step : Step) × IsCutAt c steps k step d) }
+{}
+
+/// A cut of two lists falls in the first one, or in the second one after the first.
+pub fn cut_of_two_lists()
+    ensures { (c : Content) (xs ys : List Step) (d : Content)
+        → CutOf c (xs ++ ys) d ↔ (CutOf c xs d ⊎ CutOf (after_all c xs) ys d) }
+{}
+
+/// Power may be lost before a step has changed anything, and after it has changed all of its range.
+pub fn torn_may_be_either_end()
+    ensures before { (c : Content) (step : Step) → IsContent c → Torn c step c }
+    ensures after { (c : Content) (step : Step) → IsContent c → IsStepIn (length c.flash) step → Torn c step (after c step) }
+{}
+
+/// What a proper prefix of a list leaves is a cut of the list.
+pub fn prefix_is_a_cut()
+    ensures { (c : Content) (xs : List Step) (step : Step) (ys : List Step) → IsContent c → All (IsStepIn (length c.flash)) xs
+        → CutOf c (xs ++ step ∷ ys) (after_all c xs) }
+{}
+
+/// Whatever steps leave, done or torn, is a content.
+pub fn steps_leave_a_content()
+    ensures { (c : Content) (steps : List Step) (d : Content) → IsContent c → All (IsStepIn (length c.flash)) steps → MayLeave c steps d
+        → IsContent d }
+{}
+
+/// Confined steps, done or torn, change nothing outside their window, and no row.
+pub fn confined_steps_keep_the_rest()
+    ensures rest { (c : Content) (w : Window) (steps : List Step) (d : Content)
+        → Confined steps w → MayLeave c steps d → SameButWindow w c d }
+    ensures windows { (c : Content) (w v : Window) (d : Content)
+        → SameButWindow w c d → AreApart w v → window_bytes d v ≡ window_bytes c v }
+{}
+
+/// A torn raise, and what the loss of power leaves of a list of raises, lies bit by bit between before and after.
+pub fn raises_only_set_bits()
+    ensures one { (c : Content) (row bits : ℕ) (d : Content)
+        → Torn c (Raise row bits) d → IsRaisedIn c d (after c (Raise row bits)) }
+    ensures list { (c : Content) (steps : List Step) (d : Content) → AllByRecursion IsRaise steps → CutOf c steps d
+        → IsRaisedIn c d (after_all c steps) }
+{}
+
+/// A told cut falls in the step whose number is that of its steps left, or comes nearer by the number of the steps.
+pub fn told_cut_falls_at_its_step()
+    ensures none { (steps : List Step) (c : Content)
+        → told_all steps None c ≡ record { answer = true; content = after_all c steps; armed = None } }
+    ensures cut { (steps : List Step) (left : ℕ) (within : Bool) (pattern : List ℕ) (c : Content) (step : Step)
+        → slice_get steps left ≡ Some step
+        → told_all steps (Some (cut_with left within pattern)) c ≡ record {
+          answer = false;
+          content = cut_by (cut_with left within pattern) (after_all c (take left steps)) step;
+          armed = None;
+        } }
+    ensures whole { (steps : List Step) (left : ℕ) (within : Bool) (pattern : List ℕ) (c : Content)
+        → length steps ≤ left
+        → told_all steps (Some (cut_with left within pattern)) c ≡ record {
+          answer = true;
+          content = after_all c steps;
+          armed = Some (cut_with (left - length steps) within pattern);
+        } }
+{}
+
+/// Each prefix of a gated list is gated, and a gated list ends with at most sixteen programs.
+pub fn prefix_of_gated_is_gated()
+    ensures prefix { (xs ys : List Step) (w : Window) → Gated (xs ++ ys) w → Gated xs w }
+    ensures sixteen { (steps : List Step) (w : Window) (s : ℕ) (elsewhere last : List Step)
+        → IsGated steps w s elsewhere last → length last ≤ 16 }
+{}
+
+/// The phases of a gated list of a window inside the flash: the loss of power leaves its first sector torn and all
+/// else as before, or its first sector blank, or the finished content but for some pages of the first sector. Only the
+/// first and the last of these can be unfinished. A prefix that is done leaves the content before, or the first sector
+/// blank, or the finished content but for blank pages of the first sector.
+pub fn phases_of_a_gated_list()
+    ensures cut { (c : Content) (steps : List Step) (w : Window) (s : ℕ) (elsewhere last : List Step) (d : Content)
+        → IsGated steps w s elsewhere last → w.start + w.len ≤ length c.flash → CutOf c steps d
+        → TornErase c s d ⊎ (IsBlank s d ⊎ ((p : ℕ) × IsClosing (after_all c steps) s p d)) }
+    ensures settled { (c : Content) (steps : List Step) (w : Window) (s : ℕ) (elsewhere last : List Step) (d : Content)
+        → IsGated steps w s elsewhere last → CutOf c steps d
+        → (d ≡ c) ⊎ ((d ≡ after_all c steps) ⊎ (IsBlank s d ⊎ Unfinished c steps w d)) }
+    ensures unfinished { (c : Content) (steps : List Step) (w : Window) (s : ℕ) (elsewhere last : List Step) (d : Content)
+        → IsGated steps w s elsewhere last → w.start + w.len ≤ length c.flash → CutOf c steps d → Unfinished c steps w d
+        → TornErase c s d ⊎ ((p : ℕ) × IsClosing (after_all c steps) s p d) }
+    ensures prefix { (c : Content) (steps : List Step) (w : Window) (s : ℕ) (elsewhere last xs ys : List Step)
+        → IsGated steps w s elsewhere last → w.start + w.len ≤ length c.flash → steps ≡ xs ++ ys
+        → (xs ≡ []) ⊎ (IsBlank s (after_all c xs) ⊎ IsPartial (after_all c steps) s (after_all c xs)) }
+{}

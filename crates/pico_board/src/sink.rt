@@ -1,0 +1,32 @@
+//! The sink of a program's text.
+
+ghost use Rattle.std.specs.Prelude.{OnOk, OnErr, IsErrOf, IsTrue};
+ghost use Rattle.pico_board.specs.Board.{Rose};
+ghost use Rattle.pico_board.specs.Puts.{SinkState, PutsOn, IsPut, IsPutInPart};
+
+use thiserror::Error;
+
+/// Why a put failed.
+#[derive(Clone, Copy, Debug, PartialEq, Eq, Error)]
+pub enum SinkFail {
+    /// The sink was at fault.
+    #[error("the sink was at fault")]
+    Fault,
+    /// There was no memory.
+    #[error("out of memory")]
+    Memory,
+}
+
+/// Takes bytes in order. A sink may tell the bytes that were put so far, and one that does may also tell that it
+/// never fails by itself.
+pub trait Sink {
+    ghost state: { Self → SinkState };
+
+    /// Appends the bytes, or a prefix of them after an error.
+    fn put(&mut self, bytes: &[u8]) -> Result<(), SinkFail>
+        ensures ok { OnOk result (IsPut (state self.old).bytes bytes.now (state self.new).bytes) }
+        ensures err { OnErr result (IsPutInPart (state self.old).bytes bytes.now (state self.new).bytes) }
+        ensures counts { PutsOn (state self.old) (state self.new) }
+        ensures fault { IsErrOf result SinkFail.Fault → Rose (state self.old).faults (state self.new).faults }
+        ensures steady { IsTrue (state self.old).steady → ¬ (IsErrOf result SinkFail.Fault) };
+}
