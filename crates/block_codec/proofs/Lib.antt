@@ -1,0 +1,11 @@
+pub mod WordLemmas
+pub mod ItemLemmas
+pub mod FrameLemmas
+pub mod BlockLemmas
+pub mod ReadLemmas
+pub mod ExactLemmas
+pub mod FirstFault
+pub mod WriteLemmas
+pub mod AtLemmas
+pub mod HighByteLemmas
+pub mod PageLemmas

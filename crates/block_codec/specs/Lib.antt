@@ -1,0 +1,10 @@
+pub mod Words
+pub mod Items
+pub mod Blocks
+pub mod Reading
+pub mod Writing
+pub mod FirstFault
+pub mod Kinds
+pub mod Erased
+pub mod HighByte
+pub mod Pages
