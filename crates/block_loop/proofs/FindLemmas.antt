@@ -1,0 +1,77 @@
+-- What is read at an offset of a window, against the reader of the definitions.
+use Rattle.std.proofs.Common.{◌≡◌, ◌≢◌, ◌⊎◌, ℕ, suc, ◌+◌, ◌-◌, ◌*◌, ◌%◌, ◌<◌, ◌≤◌, ℤ, pos, negsuc, ◌<ℤ◌, ◌≤ℤ◌, List, length, take, drop, min, Option, Some, None, refl, sym, ap, subst, ◌∙◌, inl, inr, arith, length-take, length-drop}
+use Rattle.std.proofs.lemmas.List.{take-take, drop-drop}
+use Rattle.std.proofs.lemmas.Int.{ints}
+use Rattle.std.specs.Prelude.{IfSome, IfNone}
+use Rattle.std.specs.List.{slice_range}
+use Rattle.block_codec.specs.Blocks.{BlockView, Begins, BlockAt, IsBlock, block_size, front_block, block_at}
+use Rattle.block_codec.proofs.BlockLemmas.{Begins-room, front_block-stands, front_block-begins}
+use Rattle.block_codec.proofs.AtLemmas.{BlockAt-room, BlockAt-from_found, block_at-none, block_at-aligned, no_block-from_none, same_found}
+use Rattle.block_loop.specs.Loop.{first_from, block_at_offset}
+use Rattle.block_loop.proofs.FollowLemmas.{first_from-end, first_from-here, first_from-later}
+
+-- what was found stands there, and where nothing was found nothing does
+pub found_at : (w : List ℕ) (x : ℕ) (r : Option BlockView) → r ≡ block_at w x → IfSome r (λ b. BlockAt w x b)
+found_at w x None e = tt
+found_at w x (Some b) e = BlockAt-from_found w x b (sym e)
+
+pub none_at : (w : List ℕ) (x : ℕ) (r : Option BlockView) → r ≡ block_at w x → IfNone r ((b : BlockView) → BlockAt w x b → ⊥)
+none_at w x None e = λ b. no_block-from_none w x b (sym e)
+none_at w x (Some b) e = tt
+
+-- no block stands at an offset that is no multiple of 4, or past the window
+pub nowhere : {X : Type 0} (w : List ℕ) (x n : ℕ) → n ≡ length w → (x % 4 ≢ 0) ⊎ (X × (n ≤ x)) → (b : BlockView) → BlockAt w x b → ⊥
+nowhere w x n long (inl odd) b at = odd at.aligned
+nowhere w x n long (inr past) b at = let room = BlockAt-room w x b at in let far = past.1 in omega arith
+
+-- a block is found in as many bytes as it can have
+front_block-part : (n x : ℕ) (bytes : List ℕ) → n ≡ min 640 (length bytes) → front_block x (take n bytes) ≡ front_block x bytes
+front_block-part n x bytes is = same_found _ _ (λ b e. front_block-begins x bytes b (longer b (front_block-stands x (take n bytes) b e)))
+    (λ b e. front_block-begins x (take n bytes) b (shorter b (front_block-stands x bytes b e)))
+  where
+    longer : (b : BlockView) → Begins x (take n bytes) b → Begins x bytes b
+    longer b begins =
+        let room = Begins-room x (take n bytes) b begins in
+        let long = length-take n bytes in
+        record { placed = begins.placed; stands = subst (λ p. IsBlock p b.items b.link) (take-take (block_size b) n bytes (omega arith)) begins.stands }
+
+    shorter : (b : BlockView) → Begins x bytes b → Begins x (take n bytes) b
+    shorter b begins =
+        let room = Begins-room x bytes b begins in
+        let few = begins.stands.few in
+        record { placed = begins.placed; stands = subst (λ p. IsBlock p b.items b.link) (sym (take-take (block_size b) n bytes (omega arith))) begins.stands }
+
+-- the part of the window that is read for an offset
+pub part_read : (w : List ℕ) (x n : ℕ) → x % 4 ≡ 0 → n ≡ min 640 (length w - x) → front_block x (slice_range w x (x + n)) ≡ block_at w x
+part_read w x n aligned is =
+    let long = length-drop x w in
+    let size : x + n - x ≡ n = omega arith in
+    ap (λ k. front_block x (take k (drop x w))) size ∙ front_block-part n x (drop x w) (omega arith) ∙ sym (block_at-aligned w x aligned)
+
+-- no block stands at a negative offset, or past the window
+pub nowhere_to : (w : List ℕ) (t : ℤ) → (t <ℤ pos 0) ⊎ (pos (length w) ≤ℤ t) → block_at_offset w t ≡ None
+nowhere_to w (pos x) (inl low) = absurd (omega (arith, ints))
+nowhere_to w (pos x) (inr far) =
+    let past : length w ≤ x = omega (arith, ints) in
+    block_at-none w x (λ b at. let room = BlockAt-room w x b at in omega arith)
+nowhere_to w (negsuc n) far = refl
+
+-- the search for the first block goes on behind a multiple of 4 at which none stands
+pub search_more : (w : List ℕ) (k : ℕ) → k < 1024 → None ≡ block_at w (4 * k) →
+    first_from (1024 - k) (4 * k) (drop (4 * k) w) ≡ first_from (1024 - (k + 1)) (4 * (k + 1)) (drop (4 * (k + 1)) w)
+search_more w k lt none =
+    let more : 1024 - k ≡ suc (1024 - (k + 1)) = omega arith in
+    let next : 4 * k + 4 ≡ 4 * (k + 1) = omega arith in
+    ap (λ n. first_from n (4 * k) (drop (4 * k) w)) more
+    ∙ first_from-later (1024 - (k + 1)) (4 * k) (drop (4 * k) w) (sym (block_at-aligned w (4 * k) (omega arith)) ∙ sym none)
+    ∙ ap (first_from (1024 - (k + 1)) (4 * k + 4)) (drop-drop 4 (4 * k) w)
+    ∙ ap (λ x. first_from (1024 - (k + 1)) x (drop x w)) next
+
+pub search_here : (w : List ℕ) (k : ℕ) (b : BlockView) → k < 1024 → Some b ≡ block_at w (4 * k) → first_from (1024 - k) (4 * k) (drop (4 * k) w) ≡ Some b
+search_here w k b lt found =
+    let more : 1024 - k ≡ suc (1024 - (k + 1)) = omega arith in
+    ap (λ n. first_from n (4 * k) (drop (4 * k) w)) more
+    ∙ first_from-here (1024 - (k + 1)) (4 * k) (drop (4 * k) w) b (sym (block_at-aligned w (4 * k) (omega arith)) ∙ sym found)
+
+pub search_end : (w : List ℕ) (k : ℕ) → 1024 ≤ k → first_from (1024 - k) (4 * k) (drop (4 * k) w) ≡ None
+search_end w k past = let none : 1024 - k ≡ 0 = omega arith in ap (λ n. first_from n (4 * k) (drop (4 * k) w)) none ∙ first_from-end (4 * k) (drop (4 * k) w)

@@ -1,0 +1,4 @@
+pub mod Loop
+pub mod Offsets
+pub mod Spans
+pub mod Cycles

@@ -1,0 +1,64 @@
+//! Blocks at offsets of a view.
+
+ghost use Rattle.std.specs.Prelude.{◌≡◌, ◌-◌, ◌%◌, ◌<◌, min, length, IfSome, IfNone};
+ghost use Rattle.block_codec.specs.Blocks.{BlockView, BlockAt, IsWhole, block_at};
+ghost use Rattle.block_loop.specs.Loop.{first_block, block_at_offset};
+
+use block_codec::{Block, read_block};
+use pico_board::View;
+
+/// The block at an offset of the view, whose bytes are read into the piece, as many as a block can
+/// have.
+fn block_in<V: View>(view: &V, at: u32, piece: &mut [u8]) -> Option<Block>
+    requires inside { at < length (V.bytes view.now) }
+    requires part { length piece.old ≡ min 640 (length (V.bytes view.now) - at) }
+    requires aligned { at % 4 ≡ 0 }
+    ensures exact { result ≡ block_at (V.bytes view.now) at }
+    ensures whole { IfSome result (λ b. IsWhole b) }
+{
+    view.read(at, piece);
+    read_block(piece, at)
+}
+
+/// The whole block at an offset of the view; None exactly where none stands there.
+pub fn block_at<V: View>(view: &V, at: u32) -> Option<Block>
+    ensures exact { result ≡ block_at (V.bytes view.now) at }
+    ensures found { IfSome result (λ b. BlockAt (V.bytes view.now) at b) }
+    ensures whole { IfSome result (λ b. IsWhole b) }
+    ensures none { IfNone result ((b : BlockView) → BlockAt (V.bytes view.now) at b → ⊥) }
+{
+    let len = view.len();
+    if at % 4 != 0 || at >= len {
+        return None;
+    }
+    let mut buffer = [0u8; 640];
+    let size = (len - at).min(640) as usize;
+    block_in(view, at, &mut buffer[..size])
+}
+
+/// The block at a signed offset of the view.
+pub(crate) fn block_to<V: View>(view: &V, to: i64) -> Option<Block>
+    ensures exact { result ≡ block_at_offset (V.bytes view.now) to }
+    ensures whole { IfSome result (λ b. IsWhole b) }
+{
+    if to < 0 {
+        return None;
+    }
+    if to >= i64::from(view.len()) {
+        return None;
+    }
+    block_at(view, to as u32)
+}
+
+/// The first block of the view: the one at the least multiple of 4 below 4096.
+pub(crate) fn first_block<V: View>(view: &V) -> Option<Block>
+    ensures exact { result ≡ first_block (V.bytes view.now) }
+    ensures whole { IfSome result (λ b. IsWhole b) }
+{
+    for place in 0..1024u32 {
+        if let Some(block) = block_at(view, 4 * place) {
+            return Some(block);
+        }
+    }
+    None
+}
