@@ -1,0 +1,2 @@
+pub mod SoundLoads
+pub mod LongerWindow
