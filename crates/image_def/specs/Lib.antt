@@ -1,0 +1,5 @@
+pub mod Flags
+pub mod Suits
+pub mod Rows
+pub mod Definition
+pub mod Examples
