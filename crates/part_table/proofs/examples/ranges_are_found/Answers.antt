@@ -1,0 +1,17 @@
+-- By computing.
+use Rattle.std.proofs.Common.{refl}
+use Rattle.block_codec.specs.Blocks.{frame}
+use Rattle.block_codec.specs.Items.{size_of}
+use Rattle.part_table.proofs.examples.ranges_are_found.Goals as goal
+
+pub returns-clause-first : goal.returns-clause-first
+unfolding frame size_of
+returns-clause-first c = refl
+
+pub returns-clause-last : goal.returns-clause-last
+unfolding frame size_of
+returns-clause-last c = refl
+
+pub returns-clause-order : goal.returns-clause-order
+unfolding frame size_of
+returns-clause-order c = refl

@@ -1,0 +1,12 @@
+pub mod Fields
+pub mod Partitions
+pub mod Families
+pub mod Windows
+pub mod Links
+pub mod Rights
+pub mod Contents
+pub mod Faults
+pub mod TableOf
+pub mod Sound
+pub mod Written
+pub mod Examples

@@ -1,0 +1,79 @@
+//! Laws of the definitions, proved: each is the `ensures` of a function that does nothing.
+
+ghost use Rattle.std.specs.Prelude.{◌+◌, ◌*◌, pos, ◌≡◌, ◌≢◌, ◌<◌, ℕ, List, true, false, length, Option, Some, None, Ok};
+ghost use Rattle.std.specs.List.{AllByRecursion, flat_map};
+ghost use Rattle.block_codec.specs.Blocks.{BlockView};
+ghost use Rattle.pico_board.specs.Content.{AreApart};
+ghost use Rattle.part_table.specs.declared.partition.Partition.{Partition};
+ghost use Rattle.part_table.specs.declared.table.Table.{Table};
+ghost use Rattle.part_table.specs.Faults.{table_fault, link_fault};
+ghost use Rattle.part_table.specs.Fields.{link_type, permissions_of};
+ghost use Rattle.part_table.specs.Links.{is_second, is_second_of, owner_of, pair_of};
+ghost use Rattle.part_table.specs.Partitions.{part_at, partitions_in};
+ghost use Rattle.part_table.specs.Rights.{right_word};
+ghost use Rattle.part_table.specs.Sound.{IsSound};
+ghost use Rattle.part_table.specs.TableOf.{table_of};
+ghost use Rattle.part_table.specs.Written.{IsWritable, IsWritableTable, partition_text, written_items, written_size};
+ghost use Rattle.part_table.specs.Windows.{IsPlaced, has_sector, partition_window};
+
+/// A table that a block reads as has no fault of its partitions, and is sound for the same number of sectors.
+pub fn read_tables_are_sound()
+    ensures faultless { (b : BlockView) (n m : ℕ) (t : Table) → table_of b n m ≡ Ok t → table_fault t n m ≡ None }
+    ensures sound { (t : Table) (n m : ℕ) → table_fault t n m ≡ None → IsSound t n }
+{}
+
+/// Each partition of a table without faults is a window of whole sectors, at least one, inside the flash and behind the sectors
+/// that are not free; and two partitions share no byte.
+pub fn partitions_are_placed()
+    ensures placed { (t : Table) (n m : ℕ) → table_fault t n m ≡ None
+        → (i : ℕ) → i < length t.parts.items → IsPlaced (partition_window t i) n m }
+    ensures sound { (t : Table) (n : ℕ) → IsSound t n
+        → (i : ℕ) → i < length t.parts.items → IsPlaced (partition_window t i) n 0 }
+    ensures apart { (t : Table) (n : ℕ) → IsSound t n
+        → (i j : ℕ) → i < length t.parts.items → j < length t.parts.items → i ≢ j
+        → AreApart (partition_window t i) (partition_window t j) }
+{}
+
+/// The permissions of each sector of a partition are those of the partition, which has them in both its words.
+pub fn sectors_have_one_right()
+    ensures own { (t : Table) (n : ℕ) → IsSound t n
+        → (i sector : ℕ) → i < length t.parts.items → has_sector sector (part_at t.parts.items i) ≡ true
+        → right_word t sector ≡ (part_at t.parts.items i).location }
+    ensures both { (t : Table) (n : ℕ) → IsSound t n → (i : ℕ) → i < length t.parts.items
+        → permissions_of (part_at t.parts.items i).location ≡ permissions_of (part_at t.parts.items i).flags }
+{}
+
+/// The A of a pair is a partition, another one than its B, and no B itself; it has one B, which is the one that is found.
+pub fn pairs_are_right()
+    ensures first { (parts : List Partition) → link_fault parts ≡ None
+        → (a b : ℕ) → b < length parts → is_second_of a (part_at parts b) ≡ true
+        → (a < length parts) × (a ≢ b) × (is_second (part_at parts a) ≡ false) }
+    ensures one { (parts : List Partition) → link_fault parts ≡ None
+        → (a i j : ℕ) → i < length parts → j < length parts
+        → is_second_of a (part_at parts i) ≡ true → is_second_of a (part_at parts j) ≡ true → i ≡ j }
+    ensures found { (parts : List Partition) → link_fault parts ≡ None
+        → (a b : ℕ) → b < length parts → is_second_of a (part_at parts b) ≡ true → pair_of parts a ≡ Some b }
+    ensures second { (parts : List Partition) (a b : ℕ) → pair_of parts a ≡ Some b
+        → (b < length parts) × (is_second_of a (part_at parts b) ≡ true) }
+{}
+
+/// The owner of a partition is a partition, another one, and has no link.
+pub fn owners_are_right()
+    ensures { (parts : List Partition) → link_fault parts ≡ None
+        → (i v : ℕ) → i < length parts → owner_of (part_at parts i) ≡ Some v
+        → (v < length parts) × (v ≢ i) × (link_type (part_at parts v) ≡ 0) }
+{}
+
+/// Partitions that agree with their flag words are read again from the words that are written for them.
+pub fn partitions_are_read_back()
+    ensures { (parts : List Partition) → AllByRecursion IsWritable parts
+        → partitions_in (length parts) (flat_map partition_text parts) ≡ Some parts }
+{}
+
+/// The block that is written for a table is read as the same table in each flash for which that has no fault, and has the size that
+/// is told of it.
+pub fn tables_are_read_back()
+    ensures again { (t : Table) (place n m : ℕ) → IsWritableTable t → table_fault t n m ≡ None
+        → table_of (record { at = place; items = written_items t; link = pos 0 }) n m ≡ Ok t }
+    ensures size { (t : Table) → 4 * length (written_items t) + 16 ≡ written_size t }
+{}
