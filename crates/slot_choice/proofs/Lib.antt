@@ -1,0 +1,5 @@
+pub mod PartLists
+pub mod UnitFacts
+pub mod PlaceFacts
+pub mod UpdateFacts
+pub mod VersionFacts

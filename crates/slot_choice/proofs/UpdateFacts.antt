@@ -1,0 +1,163 @@
+-- The updated member and the order of an update boot.
+use Rattle.std.proofs.Common.{◌≡◌, ◌≢◌, ℕ, ◌+◌, ◌-◌, ◌<◌, ◌⊎◌, inl, inr, Bool, true, false, ◌==◌, nat_le, if◌then◌else◌, List, [], ◌∷◌, ◌++◌, take, drop, remove, get_or, length, refl, sym, ◌∙◌, ap, subst, arith, Option, None, Some, option_and_then, is_some, slice_get, find, position}
+use Rattle.std.specs.Option.{option_map_or}
+use Rattle.std.specs.List.Sorted.{IsPermutation}
+use Rattle.std.proofs.lemmas.Bool.{eqb-true, eq-eqb}
+use Rattle.std.proofs.lemmas.Bool.Decides.{leb_tells}
+use Rattle.std.proofs.lemmas.Option.{slice_get_within, slice_get-get_or, get_or_from_slice_get}
+use Rattle.std.proofs.lemmas.List.{drop_more, get_or_default}
+use Rattle.std.proofs.lemmas.List.Sorted.{IsPermutation-remove, IsPermutation-refl}
+use Rattle.pico_board.specs.declared.window.Window.{Window}
+use Rattle.part_table.proofs.TestFacts.{Found, Absent, search_of, passes_at_position}
+use Rattle.slot_choice.specs.declared.unit.SlotUnit.{SlotUnit}
+use Rattle.slot_choice.specs.declared.unit.Member.{Member}
+use Rattle.slot_choice.specs.declared.unit.Member.TheVariants.{A, B}
+use Rattle.slot_choice.specs.Units.{IsMember, member_window}
+use Rattle.pico_board.specs.Content.{flash_base}
+use Rattle.slot_choice.specs.Updates.{member_at, has_member_at, updated_member, moved_to_front, update_order, IsUpdateless, IsUpdateOf}
+
+-- moving an element to the front changes the order alone
+pub front_permutes : {X : Type 0} (xs : List X) (k : ℕ) (x : X) → slice_get xs k ≡ Some x → moved_to_front xs k ≡ x ∷ remove xs k
+front_permutes xs k x at =
+    let lt : k < length xs = slice_get_within xs k x at in
+    let is : get_or xs k x ≡ x = get_or_from_slice_get xs k x x at in
+    let cut : take 1 (drop k xs) ≡ take 1 (get_or xs k x ∷ drop (k + 1) xs) = ap (λ ys. take 1 ys) (drop_more xs k x lt) in
+    ap (λ ys. ys ++ remove xs k) (cut ∙ ap (λ y. y ∷ []) is)
+
+-- a unit that stands for one past the end of a list
+nowhere : SlotUnit
+nowhere = record { a = record { start = 0; len = 0 }; b = None; a_part = None; b_part = None }
+
+permutes_by : (us : List SlotUnit) (o : Option ℕ) → ((k : ℕ) → o ≡ Some k → k < length us) → IsPermutation us (option_map_or (moved_to_front us) o us)
+permutes_by us None within = IsPermutation-refl us
+permutes_by us (Some k) within =
+    let lt : k < length us = within k refl in
+    let x : SlotUnit = get_or us k nowhere in
+    let at : slice_get us k ≡ Some x = slice_get-get_or us k nowhere lt in
+    subst (λ ys. IsPermutation us ys) (sym (front_permutes us k x at))
+    (IsPermutation-remove us k x lt (get_or_default us k nowhere x lt))
+
+if_permutes : (yes : Bool) (us vs : List SlotUnit) → IsPermutation us vs → IsPermutation us (if yes then vs else us)
+if_permutes true us vs p = p
+if_permutes false us vs p = IsPermutation-refl us
+
+-- the order of an update boot has the same units
+pub order_permutes : (us : List SlotUnit) (base : ℕ) → IsPermutation us (update_order us base)
+order_permutes us base =
+    if_permutes (nat_le flash_base base) us _
+    (permutes_by us (position (has_member_at (base - flash_base)) us) (λ k at. (passes_at_position (has_member_at (base - flash_base)) us k nowhere at).0))
+
+second_starts : (start : ℕ) (w : Window) (m : Member) (yes : Bool) → (w.start == start) ≡ yes → (if yes then Some B else None) ≡ Some m
+    → (m ≡ B) × (w.start ≡ start)
+second_starts start w m true is e = (cc, eqb-true _ _ is)
+second_starts start w m false is e = cc
+
+starts_by : (start : ℕ) (a : Window) (b : Option Window) (m : Member) (yes : Bool) → (a.start == start) ≡ yes
+    → (if yes then Some A else (if option_map_or (λ w. w.start == start) b false then Some B else None)) ≡ Some m
+    → ((m ≡ A) × (a.start ≡ start)) ⊎ ((m ≡ B) × (w : Window) × (b ≡ Some w) × (w.start ≡ start))
+starts_by start a b m true is e = inl (cc, eqb-true _ _ is)
+starts_by start a None m false is e = cc
+starts_by start a (Some w) m false is e =
+    let second : (m ≡ B) × (w.start ≡ start) = second_starts start w m (w.start == start) refl e in inr (second.0, w, refl, second.1)
+
+-- the member that starts at an offset has a window that does
+pub member_starts : (start : ℕ) (u : SlotUnit) (m : Member) → member_at start u ≡ Some m
+    → (w : Window) × (member_window m u ≡ Some w) × (w.start ≡ start)
+member_starts start u m at =
+    elim (starts_by start u.a u.b m (u.a.start == start) refl at) [
+      | inl a ↦ (u.a, subst (λ l. member_window l u ≡ Some u.a) (sym a.0) refl, a.1)
+      | inr b ↦ (b.1, subst (λ l. member_window l u ≡ Some b.1) (sym b.0) b.2, b.3)
+    ]
+
+none_by : (start : ℕ) (a : Window) (b : Option Window) (yes : Bool) → (a.start == start) ≡ yes
+    → is_some (if yes then Some A else (if option_map_or (λ w. w.start == start) b false then Some B else None)) ≡ false
+    → (w : Window) → (w ≡ a) ⊎ (b ≡ Some w) → w.start ≢ start
+none_by start a b true is e w member = λ same. cc
+none_by start a b false is e w (inl one) = λ same.
+    let yes : (a.start == start) ≡ true = eq-eqb _ _ (ap (λ (y : Window). y.start) (sym one) ∙ same) in cc
+none_by start a None false is e w (inr two) = λ same. cc
+none_by start a (Some v) false is e w (inr two) = λ same.
+    let one : v ≡ w = cc in
+    let yes : (v.start == start) ≡ true = eq-eqb _ _ (ap (λ (y : Window). y.start) one ∙ same) in
+    let some : is_some (if v.start == start then Some B else None) ≡ true = ap (λ b. is_some (if b then Some B else None)) yes in
+    cc
+
+-- where no member starts at an offset, no window of the unit does
+pub none_starts : (start : ℕ) (u : SlotUnit) → has_member_at start u ≡ false → (w : Window) → IsMember u w → w.start ≢ start
+none_starts start u no_member w member = none_by start u.a u.b (u.a.start == start) refl no_member w member
+
+-- a member that is searched for in the units from an address on
+sought_from : (us : List SlotUnit) (base : ℕ) (yes : Bool) (k : ℕ) (u : SlotUnit) (m : Option Member) → yes ≡ true
+    → Found (has_member_at (base - flash_base)) us k u
+    → (if yes then option_and_then (member_at (base - flash_base)) (find (has_member_at (base - flash_base)) us) else None) ≡ m
+    → member_at (base - flash_base) u ≡ m
+sought_from us base false k u m is found e = cc
+sought_from us base true k u m is found e = ap (λ o. option_and_then (member_at (base - flash_base)) o) (sym found.sought) ∙ e
+
+-- the order that a place gives, from an address on
+ordered_by : (us : List SlotUnit) (base : ℕ) (yes : Bool) (o : Option ℕ) → yes ≡ true → position (has_member_at (base - flash_base)) us ≡ o
+    → (if yes then option_map_or (moved_to_front us) (position (has_member_at (base - flash_base)) us) us else us) ≡ option_map_or (moved_to_front us) o us
+ordered_by us base false o is e = cc
+ordered_by us base true o is e = ap (λ p. option_map_or (moved_to_front us) p us) e
+
+-- below the flash nothing is sought
+below_order : (us : List SlotUnit) (base : ℕ) (yes : Bool) → yes ≡ false
+    → (if yes then option_map_or (moved_to_front us) (position (has_member_at (base - flash_base)) us) us else us) ≡ us
+below_order us base true is = cc
+below_order us base false is = refl
+
+below_member : (us : List SlotUnit) (base : ℕ) (yes : Bool) (m : Member) → yes ≡ false
+    → (if yes then option_and_then (member_at (base - flash_base)) (find (has_member_at (base - flash_base)) us) else None) ≡ Some m → ⊥
+below_member us base true m is e = cc
+below_member us base false m is e = cc
+
+absent_member : (us : List SlotUnit) (base : ℕ) (yes : Bool) (m : Member) → Absent (has_member_at (base - flash_base)) us
+    → (if yes then option_and_then (member_at (base - flash_base)) (find (has_member_at (base - flash_base)) us) else None) ≡ Some m → ⊥
+absent_member us base true m absent e =
+    let none : None ≡ Some m = ap (λ o. option_and_then (member_at (base - flash_base)) o) (sym absent.unfound) ∙ e in cc
+absent_member us base false m absent e = cc
+
+some_is_some : (o : Option Member) → is_some o ≡ true → o ≡ None → ⊥
+some_is_some None e none = cc
+some_is_some (Some m) e none = cc
+
+-- without an updated member the order stays, and no member starts where the address points
+pub not_updated : (us : List SlotUnit) (base : ℕ) → updated_member us base ≡ None → IsUpdateless us base
+not_updated us base none =
+    elim (leb_tells flash_base base) [
+      | inl above ↦ elim (search_of (has_member_at (base - flash_base)) us) [
+        | inl absent ↦ (record {
+          order = ordered_by us base (nat_le flash_base base) None above.0 absent.placeless;
+          elsewhere = λ k u w at member same.
+              none_starts (base - flash_base) u (absent.fails k u at) w member (omega arith);
+        })
+        | inr found ↦ absurd (some_is_some (member_at (base - flash_base) found.1) found.2.passes
+            (sought_from us base (nat_le flash_base base) found.0 found.1 None above.0 found.2 none))
+      ]
+      | inr below ↦ (record {
+        order = below_order us base (nat_le flash_base base) below.0;
+        elsewhere = λ k u w at member same. absurd (omega arith);
+      })
+    ]
+
+-- the updated member is one of the unit that comes first, and starts where the address points
+pub updated : (us : List SlotUnit) (base : ℕ) (m : Member) → updated_member us base ≡ Some m → (u : SlotUnit) × (w : Window) × IsUpdateOf us base m u w
+updated us base m some =
+    elim (leb_tells flash_base base) [
+      | inl above ↦ elim (search_of (has_member_at (base - flash_base)) us) [
+        | inl absent ↦ absurd (absent_member us base (nat_le flash_base base) m absent some)
+        | inr found ↦
+            let start : (w : Window) × (member_window m found.1 ≡ Some w) × (w.start ≡ base - flash_base) =
+            member_starts (base - flash_base) found.1 m (sought_from us base (nat_le flash_base base) found.0 found.1 (Some m) above.0 found.2 some) in (
+              found.1,
+              start.0,
+              record {
+                leads = ap (λ vs. slice_get vs 0) (ordered_by us base (nat_le flash_base base) (Some found.0) above.0 found.2.place
+                    ∙ front_permutes us found.0 found.1 found.2.at);
+                window = start.1;
+                pointed = omega (arith, above.1, start.2);
+              },
+            )
+      ]
+      | inr below ↦ absurd (below_member us base (nat_le flash_base base) m below.0 some)
+    ]

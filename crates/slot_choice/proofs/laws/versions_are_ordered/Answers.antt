@@ -1,0 +1,12 @@
+-- By the lemmas on versions.
+use Rattle.slot_choice.proofs.VersionFacts.{irreflexive, total, transitive}
+use Rattle.slot_choice.proofs.laws.versions_are_ordered.Goals as goal
+
+pub returns-clause-irreflexive : goal.returns-clause-irreflexive
+returns-clause-irreflexive c = irreflexive
+
+pub returns-clause-transitive : goal.returns-clause-transitive
+returns-clause-transitive c = transitive
+
+pub returns-clause-total : goal.returns-clause-total
+returns-clause-total c = total

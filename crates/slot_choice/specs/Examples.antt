@@ -1,0 +1,48 @@
+-- Worked examples of units, with their answers reckoned by hand from the rules. This project's own.
+use Rattle.std.specs.Prelude.{ℕ, false, List, [], ◌∷◌, None, Some}
+use Rattle.pico_board.specs.declared.window.Window.{Window}
+use Rattle.part_table.specs.declared.partition.Partition.{Partition}
+use Rattle.part_table.specs.declared.table.Table.{Table}
+use Rattle.part_table.specs.Examples.{plain_partition}
+use Rattle.slot_choice.specs.declared.unit.SlotUnit.{SlotUnit}
+
+-- a window of this start and length
+abbrev pub window_at : ℕ → ℕ → Window
+window_at from size = record { start = from; len = size }
+
+-- a unit of two partitions, by the window and the number of each
+abbrev pub pair_unit : Window → ℕ → Window → ℕ → SlotUnit
+pair_unit one i two j = record { a = one; b = Some two; a_part = Some i; b_part = Some j }
+
+-- a unit of one partition, by its window and its number
+abbrev pub lone_unit : Window → ℕ → SlotUnit
+lone_unit one i = record { a = one; b = None; a_part = Some i; b_part = None }
+
+-- the unit of the pair of sectors 2 to 31 and 32 to 61
+abbrev pub the_pair : SlotUnit
+the_pair = pair_unit (window_at 0x2000 0x1e000) 0 (window_at 0x20000 0x1e000) 1
+
+-- a table of these partitions, in which the unpartitioned sectors have all rights and take no family
+abbrev pub table_with : List Partition → Table
+table_with partitions = record {
+  version = record { major = 0; minor = 0 };
+  singleton = false;
+  unpartitioned = 0xfc000000;
+  parts = record { items = partitions };
+}
+
+-- three partitions without links, sectors 2 to 3, 4 to 5 and 6 to 7: the second is ignored in a RISC-V boot and accepts rp2350-arm-s,
+-- the third is ignored in an Arm boot
+abbrev pub three_table : Table
+three_table = table_with
+    (plain_partition 0xfc006002 0xfc000000 ∷ plain_partition 0xfc00a004 0xfc020400 ∷ plain_partition 0xfc00e006 0xfc000200 ∷ [])
+
+-- their units
+abbrev pub unit_one : SlotUnit
+unit_one = lone_unit (window_at 0x2000 0x2000) 0
+
+abbrev pub unit_two : SlotUnit
+unit_two = lone_unit (window_at 0x4000 0x2000) 1
+
+abbrev pub unit_three : SlotUnit
+unit_three = lone_unit (window_at 0x6000 0x2000) 2

@@ -1,0 +1,5 @@
+pub mod Units
+pub mod LoadUnits
+pub mod Versions
+pub mod Updates
+pub mod Examples
