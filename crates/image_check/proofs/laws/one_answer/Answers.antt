@@ -1,0 +1,14 @@
+use Rattle.image_check.proofs.LawLemmas.{some-answer, not-both, one-image, one-reason}
+use Rattle.image_check.proofs.laws.one_answer.Goals as goal
+
+pub returns-clause-some : goal.returns-clause-some
+returns-clause-some c = some-answer
+
+pub returns-clause-not_both : goal.returns-clause-not_both
+returns-clause-not_both c = not-both
+
+pub returns-clause-one_image : goal.returns-clause-one_image
+returns-clause-one_image c = one-image
+
+pub returns-clause-one_reason : goal.returns-clause-one_reason
+returns-clause-one_reason c = one-reason

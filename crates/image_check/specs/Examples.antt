@@ -1,0 +1,77 @@
+-- Worked examples of entries and of the rollback rule. This project's own.
+use Rattle.std.specs.Prelude.{ℕ, Bool, pos, List, [], ◌∷◌, ◌++◌, replicate, Option, Some, None}
+use Rattle.pico_board.specs.declared.window.Window.{Window}
+use Rattle.image_def.specs.declared.started.Started.{Started}
+use Rattle.block_codec.specs.declared.definition.Def.{Def}
+use Rattle.block_codec.specs.declared.definition.EntryPoint.{EntryPoint}
+use Rattle.block_codec.specs.Blocks.{BlockView}
+use Rattle.image_def.specs.Definition.{no_version}
+use Rattle.image_check.specs.Entry.{Source}
+
+-- the block of 20 bytes at this offset that has the one item word 0x10210142
+abbrev pub small_block : ℕ → BlockView
+small_block at = record { at = at; items = 0x10210142 ∷ []; link = pos 0 }
+
+-- an entry at this PC, with SP at the end of SRAM
+abbrev pub entry_at : ℕ → EntryPoint
+entry_at pc = record { pc = pc; sp = 0x20082000; limit = 0 }
+
+-- that entry, from the vector table at this address, or from an ENTRY_POINT item
+abbrev pub tabled : ℕ → ℕ → Source
+tabled table pc = record { entry = entry_at pc; table = Some table }
+
+abbrev pub pointed : ℕ → Source
+pointed pc = record { entry = entry_at pc; table = None }
+
+-- the bytes of the vector table with SP 0x20082000 and PC 0x10000201
+abbrev pub table_bytes : List ℕ
+table_bytes = 0x00 ∷ 0x20 ∷ 0x08 ∷ 0x20 ∷ 0x01 ∷ 0x02 ∷ 0x00 ∷ 0x10 ∷ []
+
+-- a definition with this VECTOR_TABLE address, rollback version and listed rows
+abbrev pub def_with : Option ℕ → Option ℕ → List ℕ → Def
+def_with vector rollback rows = record {
+  flags = 0x1021;
+  image_word = 1;
+  vector = vector;
+  entry_point = None;
+  delta = pos 0;
+  map_item = None;
+  hash_words = 0;
+  digest = None;
+  version = no_version;
+  rollback = rollback;
+  rows = record { items = rows };
+}
+
+-- the first 195 OTP rows: row 0x048, and the triple from row 0x0c0 on; the others are 0
+abbrev pub otp_with : ℕ → ℕ → ℕ → ℕ → List ℕ
+otp_with flags a b c = replicate 0x048 0 ++ (flags ∷ (replicate 0x077 0 ++ (a ∷ b ∷ c ∷ [])))
+
+-- the bytes of a window of 64: a vector table whose PC has these bytes 0, 1 and 3, and behind it a block of version 9.0 whose
+-- IMAGE_TYPE item has this fourth byte, 0x10 or, with the trial bit, 0x90
+abbrev pub window_of : ℕ → ℕ → ℕ → ℕ → List ℕ
+window_of first second fourth high =
+    0x00 ∷ 0x20 ∷ 0x08 ∷ 0x20 ∷ first ∷ second ∷ 0x00 ∷ fourth
+    ∷ 0xd3 ∷ 0xde ∷ 0xff ∷ 0xff ∷ 0x42 ∷ 0x01 ∷ 0x21 ∷ high
+    ∷ 0x48 ∷ 0x02 ∷ 0x00 ∷ 0x00 ∷ 0x00 ∷ 0x00 ∷ 0x09 ∷ 0x00
+    ∷ 0xff ∷ 0x03 ∷ 0x00 ∷ 0x00 ∷ 0x00 ∷ 0x00 ∷ 0x00 ∷ 0x00
+    ∷ 0x79 ∷ 0x35 ∷ 0x12 ∷ 0xab ∷ replicate 28 0
+
+-- its window in the flash
+abbrev pub window_at_two : Window
+window_at_two = record { start = 0x2000; len = 64 }
+
+-- its record, by PC and the trial bit
+abbrev pub version_nine : ℕ → Bool → Started
+version_nine pc trial = record {
+  window = window_at_two;
+  block = 8;
+  image_at = 12;
+  pc = pc;
+  sp = 0x20082000;
+  limit = 0;
+  version = record { major = 9; minor = 0 };
+  rollback = None;
+  rows = record { items = [] };
+  trial = trial;
+}

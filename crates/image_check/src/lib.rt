@@ -1,0 +1,13 @@
+//! Whether a window of the RP2350's flash holds an image that may start, and why not.
+//!
+//! `specs/` has the rules one by one (`Rules`), the entry (`Entry`), a valid image as a conjunction
+//! and the first failing rule (`Valid`), and what it means that two windows hold the same image
+//! (`SameImage`).
+#![tactic(auto)]
+
+pub mod examples;
+pub mod laws;
+mod why;
+
+pub use image_def::Started;
+pub use why::{EntryFault, Why};
