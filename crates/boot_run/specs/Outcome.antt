@@ -1,0 +1,101 @@
+-- What a run is to answer, put and write, as a function of its words and files. This project's own.
+use Rattle.std.specs.Prelude.{ℕ, Bool, true, false, if◌then◌else◌, List, [], ◌∷◌, Option, Some, None, codes}
+use Rattle.pico_board.specs.declared.boot.Cpu.{Cpu}
+use Rattle.pico_board.specs.declared.boot.BootKind.{BootKind}
+use Rattle.pico_board.specs.Content.{Content}
+use Rattle.pico_board.specs.Files.{File, file_of}
+use Rattle.boot_rules.specs.declared.decision.Decision.{Decision}
+use Rattle.boot_rules.specs.declared.decision.Decision.TheVariants.{Start, Bootsel as FallsToBootsel}
+use Rattle.boot_rules.specs.Choosing.{decision_in}
+use Rattle.boot_rules.specs.Built.{is_built}
+use Rattle.boot_run.specs.declared.status.Status.{Status}
+use Rattle.boot_run.specs.declared.status.Status.TheVariants.{Done, Words, Input, Bootsel, ReadFault, WriteFault, OutputFault, Memory}
+use Rattle.boot_run.specs.Commands.{Command, Boot, command_of}
+use Rattle.boot_run.specs.Forms.{flash_fault, content_of}
+use Rattle.boot_run.specs.Texts.{decision_line, input_line}
+
+-- the status, the text that is put, and the files that are written
+pub record Outcome : Type 0 where
+  pub status : Status
+  pub text : List ℕ
+  pub files : List File
+
+-- words that are no command
+abbrev pub not_understood : Outcome
+not_understood = record { status = Words; text = codes "words not understood\n"; files = [] }
+
+-- an input file that the files lack
+abbrev pub unread : Outcome
+unread = record { status = ReadFault; text = []; files = [] }
+
+-- an input file, by its word, that is refused
+abbrev pub refused : List ℕ → List ℕ → Outcome
+refused name fault = record { status = Input; text = input_line name fault; files = [] }
+
+-- the status of a boot that is decided
+abbrev pub decided_status : Decision → Status
+decided_status (Start choice) = Done
+decided_status (FallsToBootsel fall) = Bootsel
+
+abbrev pub decided : Decision → Outcome
+decided d = record { status = decided_status d; text = decision_line d; files = [] }
+
+-- a boot on a content, whose flash file has this name; for now only contents whose blocks are all of the
+-- one plain kind are served
+abbrev pub content_outcome : List ℕ → Cpu → BootKind → Content → Outcome
+content_outcome flash cpu kind c =
+    if is_built c.flash then decided (decision_in c cpu kind) else refused flash (codes "not-built")
+
+-- a boot on a flash file that has its form and an empty OTP file
+abbrev pub built_outcome : List ℕ → Cpu → BootKind → List ℕ → Outcome
+built_outcome flash cpu kind f = content_outcome flash cpu kind (content_of f)
+
+-- a boot on a flash file that has its form; for now only an empty OTP file is served
+abbrev pub formed_outcome : List ℕ → List ℕ → Cpu → BootKind → List ℕ → List ℕ → Outcome
+formed_outcome flash otp cpu kind f [] = built_outcome flash cpu kind f
+formed_outcome flash otp cpu kind f (b ∷ bytes) = refused otp (codes "not-built")
+
+-- a fault of the flash file's form comes first
+abbrev pub judged_outcome : List ℕ → List ℕ → Cpu → BootKind → List ℕ → List ℕ → Option (List ℕ) → Outcome
+judged_outcome flash otp cpu kind f o (Some fault) = refused flash fault
+judged_outcome flash otp cpu kind f o None = formed_outcome flash otp cpu kind f o
+
+-- a boot on the bytes of its two files
+abbrev pub boot_outcome : List ℕ → List ℕ → Cpu → BootKind → List ℕ → List ℕ → Outcome
+boot_outcome flash otp cpu kind f o = judged_outcome flash otp cpu kind f o (flash_fault f)
+
+-- a boot on the files that are found under its two names
+abbrev pub read_outcome : List ℕ → List ℕ → Cpu → BootKind → Option (List ℕ) → Option (List ℕ) → Outcome
+read_outcome flash otp cpu kind (Some f) (Some o) = boot_outcome flash otp cpu kind f o
+read_outcome flash otp cpu kind (Some f) None = unread
+read_outcome flash otp cpu kind None o = unread
+
+-- a command on these files
+abbrev pub command_outcome : List File → Command → Outcome
+command_outcome files (Boot flash otp cpu kind) =
+    read_outcome flash otp cpu kind (file_of files flash) (file_of files otp)
+
+-- the outcome of the words on these files
+abbrev pub worded_outcome : Option Command → List File → Outcome
+worded_outcome None files = not_understood
+worded_outcome (Some command) files = command_outcome files command
+
+abbrev pub outcome : List (List ℕ) → List File → Outcome
+outcome words files = worded_outcome (command_of words) files
+
+-- the outcome, where the words are no command or the store tells its files
+abbrev pub known_outcome : Option Command → Option (List File) → Option Outcome
+known_outcome None files = Some not_understood
+known_outcome (Some command) None = None
+known_outcome (Some command) (Some files) = Some (command_outcome files command)
+
+-- a status with which the whole text was put
+abbrev pub is_finished : Status → Bool
+is_finished Done = true
+is_finished Words = true
+is_finished Input = true
+is_finished Bootsel = true
+is_finished ReadFault = false
+is_finished WriteFault = false
+is_finished OutputFault = false
+is_finished Memory = false

@@ -1,0 +1,108 @@
+//! The lines that the program prints.
+
+ghost use Rattle.std.specs.Prelude.{◌≡◌, IfOk, string_bytes};
+ghost use Rattle.boot_run.specs.Texts.{hex_word, window_text, entry_text, version_text, start_text, rollback_text, yes_or_no, fall_text, decision_line, input_line};
+
+use block_codec::Version;
+use boot_rules::{Decision, Fall, Started};
+use pico_board::Window;
+use std::alloc::{AllocError, Global};
+
+/// The rollback version, or `none`.
+fn rollback_word(alloc: Global, rollback: Option<u16>) -> Result<String, AllocError>
+    ensures { IfOk result (λ t. string_bytes t ≡ rollback_text rollback) }
+{
+    match rollback {
+        Some(version) => format!(in alloc; "{version}"),
+        None => format!(in alloc; "none"),
+    }
+}
+
+/// `yes` or `no`.
+fn yes_word(yes: bool) -> &'static str
+    ensures { result.now ≡ yes_or_no yes }
+{
+    if yes { "yes" } else { "no" }
+}
+
+/// A number as 0x and eight hexadecimal digits.
+fn hex_text(alloc: Global, n: u32) -> Result<String, AllocError>
+    ensures { IfOk result (λ t. string_bytes t ≡ hex_word n) }
+{
+    format!(in alloc; "0x{n:08x}")
+}
+
+/// A window: its start and its length.
+fn place_text(alloc: Global, window: Window) -> Result<String, AllocError>
+    ensures { IfOk result (λ t. string_bytes t ≡ window_text window) }
+{
+    let start = hex_text(alloc, window.start)?;
+    let len = hex_text(alloc, window.len)?;
+    format!(in alloc; "window={start}+{len}")
+}
+
+/// Where an image starts.
+fn entry_words(alloc: Global, image: &Started) -> Result<String, AllocError>
+    ensures { IfOk result (λ t. string_bytes t ≡ entry_text image.now) }
+{
+    let block = hex_text(alloc, image.block)?;
+    let pc = hex_text(alloc, image.pc)?;
+    let sp = hex_text(alloc, image.sp)?;
+    let limit = hex_text(alloc, image.limit)?;
+    format!(in alloc; "block={block} pc={pc} sp={sp} limit={limit}")
+}
+
+/// A version.
+fn version_words(alloc: Global, version: Version) -> Result<String, AllocError>
+    ensures { IfOk result (λ t. string_bytes t ≡ version_text version) }
+{
+    let major = version.major;
+    let minor = version.minor;
+    format!(in alloc; "version={major}.{minor}")
+}
+
+/// An image that starts.
+fn started_text(alloc: Global, image: &Started) -> Result<String, AllocError>
+    ensures { IfOk result (λ t. string_bytes t ≡ start_text image.now) }
+{
+    let place = place_text(alloc, image.window)?;
+    let entry = entry_words(alloc, image)?;
+    let version = version_words(alloc, image.version)?;
+    let rollback = rollback_word(alloc, image.rollback)?;
+    let trial = yes_word(image.trial);
+    format!(in alloc; "start {place} {entry} {version} rollback={rollback} trial={trial}")
+}
+
+/// Why a boot falls to BOOTSEL.
+fn fall_word(fall: Fall) -> &'static str
+    ensures { result.now ≡ fall_text fall }
+{
+    match fall {
+        Fall::Requested => "bootsel requested",
+        Fall::FlashOff => "bootsel flash-off",
+        Fall::NoImage => "bootsel no-image",
+    }
+}
+
+/// The line of a decision.
+pub fn decision_text(alloc: Global, decision: &Decision) -> Result<String, AllocError>
+    ensures { IfOk result (λ t. string_bytes t ≡ decision_line decision.now) }
+{
+    match decision {
+        Decision::Start(choice) => {
+            let text = started_text(alloc, &choice.image)?;
+            format!(in alloc; "{text}\n")
+        }
+        Decision::Bootsel(fall) => {
+            let text = fall_word(*fall);
+            format!(in alloc; "{text}\n")
+        }
+    }
+}
+
+/// The line of an input file, by its word, and its fault.
+pub fn fault_text(alloc: Global, name: &str, fault: &str) -> Result<String, AllocError>
+    ensures { IfOk result (λ t. string_bytes t ≡ input_line name.now fault.now) }
+{
+    format!(in alloc; "input {name}: {fault}\n")
+}
