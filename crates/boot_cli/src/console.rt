@@ -38,9 +38,12 @@ fn write_whole<R: Print>(output: &R, bytes: &[u8]) -> bool {
 
 impl<R: Print> Sink for Console<'_, R> {
     ghost use Rattle.std.specs.Prelude.{None, false};
-    ghost use Rattle.pico_board.specs.Puts.{SinkState};
+    ghost use Rattle.pico_board.specs.Puts.{SinkState, Put};
 
     ghost state = { λ console. record { bytes = None; faults = console.faults; steady = false } };
+
+    // It keeps no record of its puts.
+    ghost history = { λ console puts. Unit {0} };
 
     fn put(&mut self, bytes: &[u8]) -> Result<(), SinkFail> {
         if write_whole(self.output, bytes) {

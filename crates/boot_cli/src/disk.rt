@@ -77,9 +77,12 @@ fn write_whole<F: Write>(file: &mut F, bytes: &[u8]) -> Result<(), StoreFail> {
 
 impl<R: Files> Store for Disk<'_, R> {
     ghost use Rattle.std.specs.Prelude.{None, false};
-    ghost use Rattle.pico_board.specs.Files.{StoreState};
+    ghost use Rattle.pico_board.specs.Files.{StoreState, Access};
 
     ghost state = { λ disk. record { files = None; read_faults = disk.read_faults; write_faults = disk.write_faults; steady = false } };
+
+    // It keeps no record of its calls.
+    ghost history = { λ disk calls. Unit {0} };
 
     fn read(&mut self, name: &str, limit: u32, into: &mut Vec<u8>) -> Result<(), StoreFail> {
         let outcome = match fs::open(self.files, name) {

@@ -1,18 +1,16 @@
 -- The status of a boot's outcome is Input exactly where an input is refused, and Bootsel exactly where the rules name a fall.
-use Rattle.std.proofs.Common.{subst, ◌≡◌, ◌⊎◌, ◌↔◌, ◌≢◌, ℕ, suc, ◌≤◌, Bool, true, false, nat_lt, cond, List, [], ◌∷◌, length, Option, Some, None, codes, refl, sym, ◌∙◌, ap, inl, inr, arith}
-use Rattle.std.proofs.lemmas.Bool.{le-ltb, ltb-true, ltb-false, cases_Bool}
+use Rattle.std.proofs.Common.{subst, ◌≡◌, ◌↔◌, ℕ, suc, ◌≤◌, Bool, true, false, nat_lt, cond, List, [], ◌∷◌, length, Option, Some, None, codes, refl, sym, ◌∙◌, ap, inl, inr, arith}
+use Rattle.std.proofs.lemmas.Bool.{ltb-true, ltb-false}
 use Rattle.pico_board.specs.declared.Cpu.TheVariants.{Arm}
 use Rattle.pico_board.specs.declared.BootKind.TheVariants.{Normal}
 use Rattle.boot_rules.specs.declared.Decision.{Decision}
 use Rattle.boot_rules.specs.declared.Decision.TheVariants.{Start, Bootsel as FallsToBootsel}
-use Rattle.boot_rules.specs.declared.Fall.{Fall}
 use Rattle.boot_rules.specs.Built.{IsBuilt, is_built}
 use Rattle.boot_rules.specs.Choosing.{decision_in}
 use Rattle.boot_rules.specs.Chosen.{Chosen}
 use Rattle.boot_rules.proofs.BuiltLemmas.{built-all, all-built}
 use Rattle.boot_rules.proofs.DecisionLemmas.{decision-chosen, chosen-decision}
-use Rattle.boot_run.specs.declared.status.Status.{Status}
-use Rattle.boot_run.specs.declared.status.Status.TheVariants.{Done, Input, Bootsel}
+use Rattle.boot_run.specs.declared.status.Status.TheVariants.{Input, Bootsel}
 use Rattle.boot_run.specs.Forms.{flash_limit, flash_fault, filled, content_of, IsFlashFile}
 use Rattle.boot_run.specs.Causes.{IsRefused, Falls}
 use Rattle.boot_run.specs.Outcome.{Outcome, refused, decided, decided_status, boot_outcome, judged_outcome, formed_outcome}

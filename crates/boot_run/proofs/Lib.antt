@@ -1,3 +1,5 @@
 pub mod FormLemmas
 pub mod OutcomeLemmas
+pub mod CourseLemmas
+pub mod EndLemmas
 pub mod CauseLemmas

@@ -11,7 +11,7 @@ use Rattle.boot_rules.specs.Built.{is_built}
 use Rattle.boot_run.specs.declared.status.Status.{Status}
 use Rattle.boot_run.specs.declared.status.Status.TheVariants.{Done, Words, Input, Bootsel, ReadFault, WriteFault, OutputFault, Memory}
 use Rattle.boot_run.specs.Commands.{Command, Boot, command_of}
-use Rattle.boot_run.specs.Forms.{flash_fault, content_of}
+use Rattle.boot_run.specs.Forms.{flash_limit, otp_limit, flash_fault, content_of}
 use Rattle.boot_run.specs.Texts.{decision_line, input_line}
 
 -- the status, the text that is put, and the files that are written
@@ -64,30 +64,36 @@ judged_outcome flash otp cpu kind f o None = formed_outcome flash otp cpu kind f
 abbrev pub boot_outcome : List ℕ → List ℕ → Cpu → BootKind → List ℕ → List ℕ → Outcome
 boot_outcome flash otp cpu kind f o = judged_outcome flash otp cpu kind f o (flash_fault f)
 
--- a boot on the files that are found under its two names
-abbrev pub read_outcome : List ℕ → List ℕ → Cpu → BootKind → Option (List ℕ) → Option (List ℕ) → Outcome
-read_outcome flash otp cpu kind (Some f) (Some o) = boot_outcome flash otp cpu kind f o
-read_outcome flash otp cpu kind (Some f) None = unread
-read_outcome flash otp cpu kind None o = unread
+-- what a command does: it reads its input files, one after another, each up to one byte past its limit, and has its outcome by their bytes
+pub data Plan : Type 0 where
+  Ends : (o : Outcome) → Plan
+  Opens : (name : List ℕ) → (limit : ℕ) → (next : List ℕ → Plan) → Plan
 
--- a command on these files
-abbrev pub command_outcome : List File → Command → Outcome
-command_outcome files (Boot flash otp cpu kind) =
-    read_outcome flash otp cpu kind (file_of files flash) (file_of files otp)
+-- the plan of a command, and that of words that are no command
+abbrev pub plan_of : Option Command → Plan
+plan_of None = Ends not_understood
+plan_of (Some (Boot flash otp cpu kind)) =
+    Opens flash flash_limit (λ f. Opens otp otp_limit (λ o. Ends (boot_outcome flash otp cpu kind f o)))
+
+-- the outcome where the bytes of a name are asked for
+abbrev pub opened_outcome : Option (List ℕ) → (List ℕ → Outcome) → Outcome
+opened_outcome None next = unread
+opened_outcome (Some bytes) next = next bytes
+
+-- the outcome of a plan on these files
+abbrev pub plan_outcome : List File → Plan → Outcome
+plan_outcome files (Ends o) = o
+plan_outcome files (Opens name limit next) = opened_outcome (file_of files name) (λ bytes. plan_outcome files (next bytes))
 
 -- the outcome of the words on these files
-abbrev pub worded_outcome : Option Command → List File → Outcome
-worded_outcome None files = not_understood
-worded_outcome (Some command) files = command_outcome files command
-
 abbrev pub outcome : List (List ℕ) → List File → Outcome
-outcome words files = worded_outcome (command_of words) files
+outcome words files = plan_outcome files (plan_of (command_of words))
 
 -- the outcome, where the words are no command or the store tells its files
 abbrev pub known_outcome : Option Command → Option (List File) → Option Outcome
 known_outcome None files = Some not_understood
 known_outcome (Some command) None = None
-known_outcome (Some command) (Some files) = Some (command_outcome files command)
+known_outcome (Some command) (Some files) = Some (plan_outcome files (plan_of (Some command)))
 
 -- a status with which the whole text was put
 abbrev pub is_finished : Status → Bool

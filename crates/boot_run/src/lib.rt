@@ -4,6 +4,7 @@
 mod ends;
 pub mod examples;
 mod forms;
+pub mod laws;
 mod program;
 mod status;
 #[cfg(test)]

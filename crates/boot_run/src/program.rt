@@ -1,11 +1,11 @@
 //! The top call.
 
-ghost use Rattle.std.specs.Prelude.{◌≡◌, ◌≢◌, ◌⊎◌, ◌↔◌, ℕ, ◌≤◌, List, [], ◌∷◌, map, string_bytes, IsTrue, Some, None, true, false};
+ghost use Rattle.std.specs.Prelude.{◌≡◌, ◌≢◌, ◌⊎◌, ◌↔◌, ℕ, ◌≤◌, List, [], ◌∷◌, map, string_bytes, IsTrue, Some, None, Err, true, false};
 ghost use Rattle.pico_board.specs.declared.boot.Cpu.TheVariants.{Arm};
 ghost use Rattle.pico_board.specs.declared.boot.BootKind.TheVariants.{Normal};
 ghost use Rattle.pico_board.specs.Board.{Rose};
 ghost use Rattle.pico_board.specs.Files.{File, file_of, Lacks};
-ghost use Rattle.pico_board.specs.Puts.{IsPut, IsPutInPart};
+ghost use Rattle.pico_board.specs.Puts.{IsPut, IsPutInPart, Put, Takes};
 ghost use Rattle.boot_rules.specs.declared.Decision.{Decision};
 ghost use Rattle.boot_rules.specs.declared.Decision.TheVariants.{Start};
 ghost use Rattle.slot_choice.specs.declared.Choice.{Choice};
@@ -15,7 +15,8 @@ ghost use Rattle.boot_run.specs.Commands.{Command, Boot, command_of};
 ghost use Rattle.boot_run.specs.Forms.{IsFlashFile, filled, content_of};
 ghost use Rattle.boot_run.specs.Causes.{IsRefused, Falls};
 ghost use Rattle.boot_run.specs.Texts.{decision_line};
-ghost use Rattle.boot_run.specs.Outcome.{Outcome, boot_outcome, known_outcome, decided_status, is_finished};
+ghost use Rattle.boot_run.specs.Outcome.{Outcome, plan_of, known_outcome, decided_status, is_finished};
+ghost use Rattle.boot_run.specs.Courses.{Runs};
 ghost use Rattle.image_check.specs.NotBelow.{NotBelow};
 
 use crate::ends::{put_text, read_file, read_status};
@@ -23,7 +24,7 @@ use crate::forms::{FLASH_LIMIT, OTP_LIMIT};
 use crate::status::Status;
 use crate::words::{BootWords, boot_words};
 use crate::work::boot_answer;
-use pico_board::{Sink, Store};
+use pico_board::{Sink, SinkFail, Store};
 use std::alloc::Global;
 
 /// A boot on the files that the words name.
@@ -33,26 +34,8 @@ fn run_boot<S: Store, K: Sink>(
     store: &mut S,
     out: &mut K,
 ) -> Status
-    ensures finished { (o : Outcome) → is_finished result ≡ true
-        → known_outcome (Some (Boot words.entry.flash.now words.entry.otp.now Arm Normal)) (S.state store.old).files ≡ Some o
-        → (result ≡ o.status) × IsPut (K.state out.old).bytes o.text (K.state out.new).bytes }
-    ensures unfinished { (o : Outcome) → is_finished result ≡ false
-        → known_outcome (Some (Boot words.entry.flash.now words.entry.otp.now Arm Normal)) (S.state store.old).files ≡ Some o
-        → IsPutInPart (K.state out.old).bytes o.text (K.state out.new).bytes }
-    ensures of_bytes { is_finished result ≡ true → (f : List ℕ) × (g : List ℕ)
-        × (result ≡ (boot_outcome words.entry.flash.now words.entry.otp.now Arm Normal f g).status)
-        × IsPut (K.state out.old).bytes (boot_outcome words.entry.flash.now words.entry.otp.now Arm Normal f g).text (K.state out.new).bytes }
-    ensures files { (S.state store.new).files ≡ (S.state store.old).files }
-    ensures read_fault { result ≡ Status.ReadFault → Rose (S.state store.old).read_faults (S.state store.new).read_faults }
-    ensures nothing_put { result ≡ Status.ReadFault → K.state out.new ≡ K.state out.old }
-    ensures lacks { result ≡ Status.ReadFault → IsTrue (S.state store.old).steady
-        → Lacks (S.state store.old).files words.entry.flash.now ⊎ Lacks (S.state store.old).files words.entry.otp.now }
-    ensures no_write { result ≢ Status.WriteFault }
-    ensures no_words { result ≢ Status.Words }
-    ensures output_fault { result ≡ Status.OutputFault → Rose (K.state out.old).faults (K.state out.new).faults }
-    ensures put_last { (o : Outcome) → result ≡ Status.OutputFault
-        → known_outcome (Some (Boot words.entry.flash.now words.entry.otp.now Arm Normal)) (S.state store.old).files ≡ Some o → is_finished o.status ≡ true }
-    ensures steady { IsTrue (K.state out.old).steady → result ≢ Status.OutputFault }
+    ensures { Runs S.state S.history K.state K.history
+        (plan_of (Some (Boot words.entry.flash.now words.entry.otp.now Arm Normal))) store.old out.old result store.new out.new }
 {
     let flash = match read_file(alloc, store, words.flash, FLASH_LIMIT) {
         Ok(bytes) => bytes,
@@ -68,39 +51,15 @@ fn run_boot<S: Store, K: Sink>(
     }
 }
 
-/// What [`run`] does, by the outcome alone.
+/// What [`run`] does, by its course alone.
 fn run_words<S: Store, K: Sink>(
     alloc: Global,
     words: &Vec<String>,
     store: &mut S,
     out: &mut K,
 ) -> Status
-    ensures finished { (o : Outcome) → is_finished result ≡ true
-        → known_outcome (command_of (map string_bytes words.now.items)) (S.state store.old).files ≡ Some o
-        → (result ≡ o.status) × IsPut (K.state out.old).bytes o.text (K.state out.new).bytes }
-    ensures unfinished { (o : Outcome) → is_finished result ≡ false
-        → known_outcome (command_of (map string_bytes words.now.items)) (S.state store.old).files ≡ Some o
-        → IsPutInPart (K.state out.old).bytes o.text (K.state out.new).bytes }
-    ensures of_bytes { (flash otp : List ℕ) → is_finished result ≡ true
-        → command_of (map string_bytes words.now.items) ≡ Some (Boot flash otp Arm Normal) → (f : List ℕ) × (g : List ℕ)
-        × (result ≡ (boot_outcome flash otp Arm Normal f g).status)
-        × IsPut (K.state out.old).bytes (boot_outcome flash otp Arm Normal f g).text (K.state out.new).bytes }
-    ensures files { (S.state store.new).files ≡ (S.state store.old).files }
-    ensures words { result ≡ Status.Words → command_of (map string_bytes words.now.items) ≡ None }
-    ensures no_command { command_of (map string_bytes words.now.items) ≡ None
-        → (result ≡ Status.Words) ⊎ ((result ≡ Status.OutputFault) ⊎ (result ≡ Status.Memory)) }
-    ensures read_fault { result ≡ Status.ReadFault → Rose (S.state store.old).read_faults (S.state store.new).read_faults }
-    ensures nothing_put { result ≡ Status.ReadFault → K.state out.new ≡ K.state out.old }
-    ensures no_write { result ≢ Status.WriteFault }
-    ensures output_fault { result ≡ Status.OutputFault → Rose (K.state out.old).faults (K.state out.new).faults }
-    ensures put_last { (o : Outcome) → result ≡ Status.OutputFault
-        → known_outcome (command_of (map string_bytes words.now.items)) (S.state store.old).files ≡ Some o → is_finished o.status ≡ true }
-    ensures complete { (is_finished result ≡ true) ⊎ ((result ≡ Status.Memory)
-        ⊎ (Rose (S.state store.old).read_faults (S.state store.new).read_faults ⊎ Rose (K.state out.old).faults (K.state out.new).faults)) }
-    ensures steady_reads { (flash otp : List ℕ) → result ≡ Status.ReadFault → IsTrue (S.state store.old).steady
-        → command_of (map string_bytes words.now.items) ≡ Some (Boot flash otp Arm Normal)
-        → Lacks (S.state store.old).files flash ⊎ Lacks (S.state store.old).files otp }
-    ensures steady_puts { IsTrue (K.state out.old).steady → result ≢ Status.OutputFault }
+    ensures { Runs S.state S.history K.state K.history
+        (plan_of (command_of (map string_bytes words.now.items))) store.old out.old result store.new out.new }
 {
     match boot_words(words) {
         Some(boot) => run_boot(alloc, boot, store, out),
@@ -139,27 +98,35 @@ pub fn run<S: Store, K: Sink>(
     ensures finished { (o : Outcome) → is_finished result ≡ true
         → known_outcome (command_of (map string_bytes words.now.items)) (S.state store.old).files ≡ Some o
         → (result ≡ o.status) × IsPut (K.state out.old).bytes o.text (K.state out.new).bytes }
-    ensures unfinished { (o : Outcome) → is_finished result ≡ false
-        → known_outcome (command_of (map string_bytes words.now.items)) (S.state store.old).files ≡ Some o
-        → IsPutInPart (K.state out.old).bytes o.text (K.state out.new).bytes }
-    // Also where the files are not told, the status and the text are those of some bytes under the two names.
-    ensures of_bytes { (flash otp : List ℕ) → is_finished result ≡ true
-        → command_of (map string_bytes words.now.items) ≡ Some (Boot flash otp Arm Normal) → (f : List ℕ) × (g : List ℕ)
-        × (result ≡ (boot_outcome flash otp Arm Normal f g).status)
-        × IsPut (K.state out.old).bytes (boot_outcome flash otp Arm Normal f g).text (K.state out.new).bytes }
     ensures files { (S.state store.new).files ≡ (S.state store.old).files }
+
+    // On any store and any sink, also such as tell nothing: the run makes these calls and no others, in this order. It reads the command's
+    // input files one after another, until a read fails; then it puts the text of the outcome by the bytes that were read, in one call. The
+    // status is that of the read or the put that failed, and otherwise that of the outcome; or there was no memory before the put.
+    ensures course { Runs S.state S.history K.state K.history
+        (plan_of (command_of (map string_bytes words.now.items))) store.old out.old result store.new out.new }
 
     // Causes.
     ensures words { result ≡ Status.Words → command_of (map string_bytes words.now.items) ≡ None }
     ensures no_command { command_of (map string_bytes words.now.items) ≡ None
         → (result ≡ Status.Words) ⊎ ((result ≡ Status.OutputFault) ⊎ (result ≡ Status.Memory)) }
     ensures read_fault { result ≡ Status.ReadFault → Rose (S.state store.old).read_faults (S.state store.new).read_faults }
-    ensures nothing_put { result ≡ Status.ReadFault → K.state out.new ≡ K.state out.old }
     ensures no_write { result ≢ Status.WriteFault }
     ensures output_fault { result ≡ Status.OutputFault → Rose (K.state out.old).faults (K.state out.new).faults }
     // The put comes last: where the files are told and lack a name, there is none.
     ensures put_last { (o : Outcome) → result ≡ Status.OutputFault
         → known_outcome (command_of (map string_bytes words.now.items)) (S.state store.old).files ≡ Some o → is_finished o.status ≡ true }
+
+    // What an early end leaves. After a read fault nothing is put; after an output fault a prefix of the text; and after want of memory a
+    // prefix of it where the put itself answered that there was none, and otherwise nothing.
+    ensures after_read_fault { result ≡ Status.ReadFault → out.new ≡ out.old }
+    ensures after_output_fault { result ≡ Status.OutputFault → (text : List ℕ)
+        × Takes K.state K.history out.old (record { bytes = text; answer = Err SinkFail.Fault }) out.new }
+    ensures after_memory { result ≡ Status.Memory → (out.new ≡ out.old) ⊎ ((text : List ℕ)
+        × Takes K.state K.history out.old (record { bytes = text; answer = Err SinkFail.Memory }) out.new) }
+    ensures unfinished { (o : Outcome) → is_finished result ≡ false
+        → known_outcome (command_of (map string_bytes words.now.items)) (S.state store.old).files ≡ Some o
+        → IsPutInPart (K.state out.old).bytes o.text (K.state out.new).bytes }
 
     // Completeness.
     ensures complete { (is_finished result ≡ true) ⊎ ((result ≡ Status.Memory)

@@ -236,9 +236,11 @@ struct Cramped {}
 
 impl Store for Cramped {
     ghost use Rattle.std.specs.Prelude.{None, false};
-    ghost use Rattle.pico_board.specs.Files.{StoreState};
+    ghost use Rattle.pico_board.specs.Files.{StoreState, Access};
 
     ghost state = { λ cramped. record { files = None; read_faults = 0; write_faults = 0; steady = false } };
+
+    ghost history = { λ cramped calls. Unit {0} };
 
     fn read(&mut self, _name: &str, _limit: u32, _into: &mut Vec<u8>) -> Result<(), StoreFail> {
         Err(StoreFail::Memory)
@@ -251,9 +253,11 @@ impl Store for Cramped {
 
 impl Sink for Cramped {
     ghost use Rattle.std.specs.Prelude.{None, false};
-    ghost use Rattle.pico_board.specs.Puts.{SinkState};
+    ghost use Rattle.pico_board.specs.Puts.{SinkState, Put};
 
     ghost state = { λ cramped. record { bytes = None; faults = 0; steady = false } };
+
+    ghost history = { λ cramped puts. Unit {0} };
 
     fn put(&mut self, _bytes: &[u8]) -> Result<(), SinkFail> {
         Err(SinkFail::Memory)

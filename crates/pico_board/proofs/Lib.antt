@@ -6,6 +6,7 @@ pub mod Counts
 pub mod Cuttings
 pub mod FileLists
 pub mod Gates
+pub mod Histories
 pub mod Phases
 pub mod Raises
 pub mod Ranges

@@ -1,7 +1,11 @@
 -- The files of a store, and what its reads and writes do to them. This project's own.
-use Rattle.std.specs.Prelude.{◌≡◌, ◌≢◌, ⊤, ℕ, ◌+◌, ◌≤◌, Bool, IsTrue, Option, None, Some, IsSomeAnd, if◌then◌else◌, List, [], ◌∷◌, length, take}
+use Rattle.std.specs.Prelude.{◌≡◌, ◌≢◌, ⊤, ℕ, ◌+◌, ◌≤◌, Bool, IsTrue, Option, None, Some, IsSomeAnd, Result, Ok, Err, OnOk, OnErr, if◌then◌else◌, List, [], ◌∷◌, length, take}
 use Rattle.std.specs.Bool.{OnTrue}
 use Rattle.std.specs.Str.{bytes_eq}
+use Rattle.pico_board.specs.declared.store.StoreFail.{StoreFail}
+use Rattle.pico_board.specs.declared.store.StoreFail.TheVariants.{Fault}
+use Rattle.pico_board.specs.Board.{Rose}
+use Rattle.pico_board.specs.Histories.{Extends}
 
 -- a file: its name and its bytes
 pub record File : Type 0 where
@@ -20,6 +24,16 @@ pub record StoreState : Type 0 where
   pub read_faults : ℕ
   pub write_faults : ℕ
   pub steady : Bool
+
+-- a call of a store: its arguments, and what it answered, where a read that succeeded answers the bytes that it read
+pub data Access : Type 0 where
+  Reads : (name : List ℕ) → (limit : ℕ) → (answer : Result (List ℕ) StoreFail) → Access
+  Writes : (name bytes : List ℕ) → (answer : Result (Unit {0}) StoreFail) → Access
+
+-- what a read answered that left these bytes
+abbrev pub read_answer : Result (Unit {0}) StoreFail → List ℕ → Result (List ℕ) StoreFail
+read_answer (Ok done) bytes = Ok bytes
+read_answer (Err fail) bytes = Err fail
 
 -- neither count falls, and a store that tells that it never fails by itself goes on telling so
 pub record GoesOn (s t : StoreState) : Type 0 where
@@ -57,3 +71,33 @@ abbrev pub IsKeptBut : Option (List File) → List ℕ → Option (List File) �
 IsKeptBut None name new = new ≡ None
 IsKeptBut (Some old) name None = ⊥
 IsKeptBut (Some old) name (Some new) = KeepsOthers old name new
+
+-- what a store shows after a read: its files are as they were
+pub record ShowsRead (s : StoreState) (name : List ℕ) (limit : ℕ) (answer : Result (List ℕ) StoreFail) (t : StoreState) : Type 0 where
+  pub bytes : (bytes : List ℕ) → answer ≡ Ok bytes → IsReadOf s.files name limit bytes
+  pub fault : answer ≡ Err Fault → Rose s.read_faults t.read_faults
+  pub steady : IsTrue s.steady → answer ≡ Err Fault → Lacks s.files name
+  pub files : t.files ≡ s.files
+
+-- what a store shows after a write
+pub record ShowsWrite (s : StoreState) (name bytes : List ℕ) (answer : Result (Unit {0}) StoreFail) (t : StoreState) : Type 0 where
+  pub ok : OnOk answer (IsWritten s.files name bytes t.files)
+  pub err : OnErr answer (IsKeptBut s.files name t.files)
+  pub fault : answer ≡ Err Fault → Rose s.write_faults t.write_faults
+  pub steady : IsTrue s.steady → answer ≢ Err Fault
+
+-- what a store shows after a call
+abbrev pub Shows : StoreState → Access → StoreState → Type 0
+Shows s (Reads name limit answer) t = ShowsRead s name limit answer t
+Shows s (Writes name bytes answer) t = ShowsWrite s name bytes answer t
+
+-- the old store answers the call, and is then the new one
+pub record Serves {S : Type 0} (state : S → StoreState) (history : S → List Access → Type 0) (old : S) (call : Access) (new : S) : Type 0 where
+  pub shows : Shows (state old) call (state new)
+  pub counts : GoesOn (state old) (state new)
+  pub recorded : Extends history old (call ∷ []) new
+
+-- the old store answers these calls and no other, in their order, and is then the new one
+abbrev pub ServesAll : {S : Type 0} → (S → StoreState) → (S → List Access → Type 0) → S → List Access → S → Type 0
+ServesAll state history old [] new = new ≡ old
+ServesAll state history old (call ∷ calls) new = (mid : _) × Serves state history old call mid × ServesAll state history mid calls new

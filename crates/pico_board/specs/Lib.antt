@@ -10,3 +10,4 @@ pub mod MemBoard
 pub mod MemFiles
 pub mod Files
 pub mod Puts
+pub mod Histories

@@ -1,11 +1,12 @@
 -- What a store in memory and a sink in memory show. This project's own.
-use Rattle.std.specs.Prelude.{◌≡◌, ℕ, ◌<◌, ◌&&◌, ◌==◌, Bool, None, Some, List, Vec, String, string_bytes, length, map, take, slice_index_or}
-use Rattle.std.specs.List.{list_any}
+use Rattle.std.specs.Prelude.{◌≡◌, ℕ, ◌-◌, ◌^◌, ◌<◌, ◌&&◌, ◌==◌, min, Bool, true, false, None, Some, Result, Ok, Err, List, [], Vec, String, string_bytes, length, map, take, count_by, slice_index_or}
+use Rattle.std.specs.List.{list_any, flat_map}
 use Rattle.std.specs.declared.alloc.Global.{Global}
 use Rattle.pico_board.specs.declared.mem_store.MemStore.{MemStore}
 use Rattle.pico_board.specs.declared.mem_sink.MemSink.{MemSink}
-use Rattle.pico_board.specs.Files.{File, StoreState, file_of}
-use Rattle.pico_board.specs.Puts.{SinkState}
+use Rattle.pico_board.specs.declared.sink.SinkFail.{SinkFail}
+use Rattle.pico_board.specs.Files.{File, StoreState, Access, Reads, Writes, file_of}
+use Rattle.pico_board.specs.Puts.{SinkState, Put}
 
 -- the number is in the list of calls that are to fail
 abbrev pub is_listed : List ℕ → ℕ → Bool
@@ -46,6 +47,25 @@ store_state store = record {
   steady = (length store.bad_reads.items == 0) && (length store.bad_writes.items == 0);
 }
 
+-- a call is a read
+abbrev pub is_read : Access → Bool
+is_read (Reads name limit answer) = true
+is_read (Writes name bytes answer) = false
+
+-- a call is a write
+abbrev pub is_write : Access → Bool
+is_write (Reads name limit answer) = false
+is_write (Writes name bytes answer) = true
+
+-- a count that rises by one from 0 on, and stands still at the last value of its 64 bits
+abbrev pub counted_to : ℕ → ℕ
+counted_to n = min n (2 ^ 64 - 1)
+
+-- a store in memory has answered these calls: it has counted as many reads and as many writes
+pub record HasAnswered (store : MemStore) (calls : List Access) : Type 0 where
+  pub reads : reads_of store ≡ counted_to (count_by is_read calls)
+  pub writes : writes_of store ≡ counted_to (count_by is_write calls)
+
 -- the number of the next put, and the numbers of those that are to fail
 abbrev pub puts_of : MemSink → ℕ
 puts_of sink = sink.puts
@@ -60,6 +80,20 @@ put_bytes sink = sink.bytes.items
 -- a sink with no put that is to fail never fails by itself
 abbrev pub sink_state : MemSink → SinkState
 sink_state sink = record { bytes = Some (put_bytes sink); faults = sink.faults; steady = length sink.bad_puts.items == 0 }
+
+-- what a put that was answered so appended
+abbrev pub appended : List ℕ → Result (Unit {0}) SinkFail → List ℕ
+appended bytes (Ok done) = bytes
+appended bytes (Err fail) = []
+
+-- what a put appended
+abbrev pub appended_by : Put → List ℕ
+appended_by put = appended put.bytes put.answer
+
+-- a sink in memory has answered these puts: it has counted as many, and its bytes are those of the ones that succeeded
+pub record HasTaken (sink : MemSink) (puts : List Put) : Type 0 where
+  pub number : puts_of sink ≡ counted_to (length puts)
+  pub bytes : put_bytes sink ≡ flat_map appended_by puts
 
 -- i is the place of the first file of the name
 pub record IsFirstOf (entries : List (String Global × Vec ℕ Global)) (name : List ℕ) (i : ℕ) : Type 0 where

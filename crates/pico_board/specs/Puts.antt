@@ -1,6 +1,10 @@
 -- The bytes that were put into a sink. This project's own.
-use Rattle.std.specs.Prelude.{◌≡◌, ℕ, ◌≤◌, Bool, IsTrue, Option, None, Some, List, ◌++◌, length, take}
+use Rattle.std.specs.Prelude.{◌≡◌, ◌≢◌, ℕ, ◌≤◌, Bool, IsTrue, Option, None, Some, Result, Ok, Err, List, [], ◌∷◌, ◌++◌, length, take}
 use Rattle.std.specs.Bool.{OnTrue}
+use Rattle.pico_board.specs.declared.sink.SinkFail.{SinkFail}
+use Rattle.pico_board.specs.declared.sink.SinkFail.TheVariants.{Fault}
+use Rattle.pico_board.specs.Board.{Rose}
+use Rattle.pico_board.specs.Histories.{Extends}
 
 -- what is known of a sink: the bytes put so far, where it tells them; how often it was at fault; and whether it tells that it never
 -- fails by itself
@@ -8,6 +12,11 @@ pub record SinkState : Type 0 where
   pub bytes : Option (List ℕ)
   pub faults : ℕ
   pub steady : Bool
+
+-- a put: its bytes, and what it answered
+pub record Put : Type 0 where
+  pub bytes : List ℕ
+  pub answer : Result (Unit {0}) SinkFail
 
 -- the count does not fall, and a sink that tells that it never fails by itself goes on telling so
 pub record PutsOn (s t : SinkState) : Type 0 where
@@ -23,3 +32,22 @@ IsPut (Some old) bytes new = new ≡ Some (old ++ bytes)
 abbrev pub IsPutInPart : Option (List ℕ) → List ℕ → Option (List ℕ) → Type 0
 IsPutInPart None bytes new = new ≡ None
 IsPutInPart (Some old) bytes new = (n : ℕ) × (n ≤ length bytes) × (new ≡ Some (old ++ take n bytes))
+
+-- told bytes are told afterwards, with those of the put appended, or a prefix of them where it failed
+abbrev pub IsPutBy : Option (List ℕ) → List ℕ → Result (Unit {0}) SinkFail → Option (List ℕ) → Type 0
+IsPutBy old bytes (Ok done) new = IsPut old bytes new
+IsPutBy old bytes (Err fail) new = IsPutInPart old bytes new
+
+-- The old sink takes the put, and is then the new one. Its count of faults rose where the put answers a fault, which none does on a
+-- sink that tells that it never fails by itself.
+pub record Takes {K : Type 0} (state : K → SinkState) (history : K → List Put → Type 0) (old : K) (put : Put) (new : K) : Type 0 where
+  pub bytes : IsPutBy (state old).bytes put.bytes put.answer (state new).bytes
+  pub counts : PutsOn (state old) (state new)
+  pub fault : put.answer ≡ Err Fault → Rose (state old).faults (state new).faults
+  pub steady : IsTrue (state old).steady → put.answer ≢ Err Fault
+  pub recorded : Extends history old (put ∷ []) new
+
+-- the old sink takes these puts and no other, in their order, and is then the new one
+abbrev pub TakesAll : {K : Type 0} → (K → SinkState) → (K → List Put → Type 0) → K → List Put → K → Type 0
+TakesAll state history old [] new = new ≡ old
+TakesAll state history old (put ∷ puts) new = (mid : _) × Takes state history old put mid × TakesAll state history mid puts new

@@ -1,8 +1,9 @@
 //! A sink in memory.
 
-ghost use Rattle.std.specs.Prelude.{◌≡◌, ◌++◌, ◌↔◌, ◌+◌, ◌-◌, ◌^◌, [], min, IsErrOf, IsTrue, OnErr, OnOk, Some};
+ghost use Rattle.std.specs.Prelude.{◌≡◌, ◌++◌, ◌↔◌, ◌+◌, ◌-◌, ◌^◌, List, [], ◌∷◌, min, IsErrOf, IsTrue, OnErr, OnOk, Some};
 ghost use Rattle.pico_board.specs.Board.{Rose};
-ghost use Rattle.pico_board.specs.Puts.{PutsOn, IsPut, IsPutInPart};
+ghost use Rattle.pico_board.specs.Puts.{Put, PutsOn, IsPut, IsPutInPart};
+ghost use Rattle.pico_board.specs.Histories.{Extends};
 
 use crate::sink::{Sink, SinkFail};
 use std::alloc::Global;
@@ -17,7 +18,7 @@ pub struct MemSink {
 }
 
 impl MemSink {
-    ghost use Rattle.pico_board.specs.MemFiles.{sink_state, put_bytes, puts_of, bad_puts_of};
+    ghost use Rattle.pico_board.specs.MemFiles.{sink_state, put_bytes, puts_of, bad_puts_of, HasTaken};
 
     /// An empty sink. Puts are numbered from 0; a put whose number is listed is at fault and appends nothing.
     pub fn make(alloc: Global, bad_puts: Vec<u64>) -> MemSink
@@ -26,6 +27,7 @@ impl MemSink {
         ensures puts { puts_of result ≡ 0 }
         ensures listed { bad_puts_of result ≡ bad_puts.items }
         ensures steady { IsTrue (sink_state result).steady ↔ (bad_puts.items ≡ []) }
+        ensures unused { HasTaken result [] }
     {
         MemSink {
             bytes: Vec::new(alloc),
@@ -44,9 +46,11 @@ impl MemSink {
 }
 
 impl Sink for MemSink {
-    ghost use Rattle.pico_board.specs.MemFiles.{sink_state, put_bytes, puts_of, bad_puts_of, is_listed};
+    ghost use Rattle.pico_board.specs.MemFiles.{sink_state, put_bytes, puts_of, bad_puts_of, is_listed, HasTaken};
 
     ghost state = { sink_state };
+
+    ghost history = { HasTaken };
 
     fn put(&mut self, bytes: &[u8]) -> Result<(), SinkFail>
         ensures ok { OnOk result (IsPut (sink_state self.old).bytes bytes.now (sink_state self.new).bytes) }
@@ -54,6 +58,7 @@ impl Sink for MemSink {
         ensures counts { PutsOn (sink_state self.old) (sink_state self.new) }
         ensures fault { IsErrOf result SinkFail.Fault → Rose (sink_state self.old).faults (sink_state self.new).faults }
         ensures steady { IsTrue (sink_state self.old).steady → ¬ (IsErrOf result SinkFail.Fault) }
+        ensures recorded { Extends HasTaken self.old (record { bytes = bytes.now; answer = result } ∷ []) self.new }
         // A fault comes exactly at the listed puts, and no failed put appends anything.
         ensures listed { IsErrOf result SinkFail.Fault ↔ IsTrue (is_listed (bad_puts_of self.old) (puts_of self.old)) }
         ensures nothing { OnErr result (put_bytes self.new ≡ put_bytes self.old) }

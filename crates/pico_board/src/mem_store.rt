@@ -1,8 +1,9 @@
 //! A store in memory.
 
-ghost use Rattle.std.specs.Prelude.{◌≡◌, ◌⊎◌, ◌↔◌, ℕ, ◌+◌, ◌-◌, ◌^◌, ◌≤◌, [], min, IsErrOf, IsTrue, MatchOption, None, OnErr, OnOk, Some, length, take};
+ghost use Rattle.std.specs.Prelude.{◌≡◌, ◌⊎◌, ◌↔◌, ℕ, ◌+◌, ◌-◌, ◌^◌, ◌≤◌, List, [], ◌∷◌, min, IsErrOf, IsTrue, MatchOption, None, OnErr, OnOk, Some, length, take};
 ghost use Rattle.pico_board.specs.Board.{Rose};
-ghost use Rattle.pico_board.specs.Files.{GoesOn, HasWritten, IsReadOf, Lacks, IsWritten, IsKeptBut, file_of};
+ghost use Rattle.pico_board.specs.Files.{Access, Reads, Writes, read_answer, GoesOn, HasWritten, IsReadOf, Lacks, IsWritten, IsKeptBut, file_of};
+ghost use Rattle.pico_board.specs.Histories.{Extends};
 ghost use Rattle.pico_board.specs.MemFiles.{IsFirstOf, files_from};
 
 use crate::store::{Store, StoreFail};
@@ -22,7 +23,7 @@ pub struct MemStore {
 }
 
 impl MemStore {
-    ghost use Rattle.pico_board.specs.MemFiles.{store_state, files_of, reads_of, writes_of, bad_reads_of, bad_writes_of};
+    ghost use Rattle.pico_board.specs.MemFiles.{store_state, files_of, reads_of, writes_of, bad_reads_of, bad_writes_of, HasAnswered};
 
     /// A store with these files; of two files of one name the first counts. Reads and writes are numbered from 0,
     /// each by themselves; a call whose number is listed is at fault and changes no file.
@@ -40,6 +41,7 @@ impl MemStore {
         ensures bad_reads { bad_reads_of result ≡ bad_reads.items }
         ensures bad_writes { bad_writes_of result ≡ bad_writes.items }
         ensures steady { IsTrue (store_state result).steady ↔ ((bad_reads.items ≡ []) × (bad_writes.items ≡ [])) }
+        ensures unused { HasAnswered result [] }
     {
         MemStore {
             alloc,
@@ -66,9 +68,11 @@ impl MemStore {
 }
 
 impl Store for MemStore {
-    ghost use Rattle.pico_board.specs.MemFiles.{store_state, files_of, reads_of, writes_of, bad_reads_of, bad_writes_of, is_listed};
+    ghost use Rattle.pico_board.specs.MemFiles.{store_state, files_of, reads_of, writes_of, bad_reads_of, bad_writes_of, is_listed, HasAnswered};
 
     ghost state = { store_state };
+
+    ghost history = { HasAnswered };
 
     fn read(&mut self, name: &str, limit: u32, into: &mut Vec<u8>) -> Result<(), StoreFail>
         requires { into.old.items ≡ [] }
@@ -80,6 +84,7 @@ impl Store for MemStore {
             → Rose (store_state self.old).read_faults (store_state self.new).read_faults }
         ensures steady { IsTrue (store_state self.old).steady → IsErrOf result StoreFail.Fault
             → Lacks (store_state self.old).files name.now }
+        ensures recorded { Extends HasAnswered self.old (Reads name.now limit (read_answer result into.new.items) ∷ []) self.new }
         // A fault comes exactly at the listed reads, and for a missing name.
         ensures exact { IsErrOf result StoreFail.Fault
             ↔ (IsTrue (is_listed (bad_reads_of self.old) (reads_of self.old))
@@ -109,6 +114,7 @@ impl Store for MemStore {
         ensures fault { IsErrOf result StoreFail.Fault
             → Rose (store_state self.old).write_faults (store_state self.new).write_faults }
         ensures steady { IsTrue (store_state self.old).steady → ¬ (IsErrOf result StoreFail.Fault) }
+        ensures recorded { Extends HasAnswered self.old (Writes name.now bytes.now result ∷ []) self.new }
         // A fault comes exactly at the listed writes, and no failed write changes a file.
         ensures exact { IsErrOf result StoreFail.Fault ↔ IsTrue (is_listed (bad_writes_of self.old) (writes_of self.old)) }
         ensures nothing { OnErr result (files_of self.new ≡ files_of self.old) }

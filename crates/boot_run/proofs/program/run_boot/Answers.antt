@@ -1,43 +1,51 @@
-use Rattle.std.proofs.Common.{◌≡◌, ◌∙◌, ap, subst, List, ℕ, true}
+use Rattle.std.proofs.Common.{List, ℕ, ap, refl, inl, inr}
 use Rattle.pico_board.specs.declared.Cpu.TheVariants.{Arm}
 use Rattle.pico_board.specs.declared.BootKind.TheVariants.{Normal}
-use Rattle.pico_board.specs.Files.{IsReadOf}
-use Rattle.boot_run.specs.Forms.{otp_limit}
-use Rattle.boot_run.specs.Outcome.{Outcome, boot_outcome, is_finished}
-use Rattle.boot_run.proofs.OutcomeLemmas.{known-answer, put-finished, put-unfinished, boot-finished}
+use Rattle.boot_run.specs.Forms.{flash_limit, otp_limit}
+use Rattle.boot_run.specs.Outcome.{boot_outcome}
+use Rattle.boot_run.specs.Courses.{stopped, unread_course, read_course, put_course}
+use Rattle.boot_run.proofs.CourseLemmas.{puts-outcome}
 use Rattle.boot_run.proofs.program.run_boot.Goals as goal
 
-pub returns-in-Ok-boot_answer-clause-finished : goal.returns-in-Ok-boot_answer-clause-finished
-returns-in-Ok-boot_answer-clause-finished g c = λ o ends known.
-    let otp = c.read_file-2.ensures.bytes c.in-Ok-read_file.bytes c.in-Ok-read_file.is in
-    let told = subst (λ files. IsReadOf files c.args.words.otp.now otp_limit c.in-Ok-read_file.bytes.items) c.read_file.ensures.files otp in
-    let same = known-answer c.args.words.flash.now c.args.words.otp.now _ o c.in-Ok.bytes.items c.in-Ok-read_file.bytes.items known
-    (c.read_file.ensures.bytes c.in-Ok.bytes c.in-Ok.is) told in
-    let read = ap (λ (bytes : List ℕ). boot_outcome c.args.words.flash.now c.args.words.otp.now Arm Normal c.in-Ok.bytes.items bytes) c.deref.ensures.value in
-    put-finished o _ c.in-Ok-boot_answer.answer c.put_text.result _ _ _
-    (read ∙ same) c.in-Ok-boot_answer.ensures c.as_bytes.ensures.value c.put_text.ensures.finished c.put_text.ensures.put ends
+pub returns-in-Err : goal.returns-in-Err
+returns-in-Err g c = record {
+  course = unread_course c.args.words.flash.now flash_limit c.in-Err.fail;
+  follows = inr (inl (c.in-Err.fail, refl));
+  ends = c.read_status.ensures;
+  calls = (c.read_file.new.store, c.in-Err.ensures, refl);
+  puts = refl;
+}
 
-pub returns-in-Ok-boot_answer-clause-unfinished : goal.returns-in-Ok-boot_answer-clause-unfinished
-returns-in-Ok-boot_answer-clause-unfinished g c = λ o ends known.
-    let otp = c.read_file-2.ensures.bytes c.in-Ok-read_file.bytes c.in-Ok-read_file.is in
-    let told = subst (λ files. IsReadOf files c.args.words.otp.now otp_limit c.in-Ok-read_file.bytes.items) c.read_file.ensures.files otp in
-    let same = known-answer c.args.words.flash.now c.args.words.otp.now _ o c.in-Ok.bytes.items c.in-Ok-read_file.bytes.items known
-    (c.read_file.ensures.bytes c.in-Ok.bytes c.in-Ok.is) told in
-    let read = ap (λ (bytes : List ℕ). boot_outcome c.args.words.flash.now c.args.words.otp.now Arm Normal c.in-Ok.bytes.items bytes) c.deref.ensures.value in
-    put-unfinished o _ c.in-Ok-boot_answer.answer c.put_text.result _ _ _
-    (read ∙ same) c.in-Ok-boot_answer.ensures c.as_bytes.ensures.value c.put_text.ensures.part ends
+pub returns-in-Err-read_file : goal.returns-in-Err-read_file
+returns-in-Err-read_file g c = record {
+  course = read_course c.args.words.flash.now flash_limit c.in-Ok.bytes.items (unread_course c.args.words.otp.now otp_limit c.in-Err-read_file.fail);
+  follows = inr (inr (c.in-Ok.bytes.items, _, refl, inr (inl (c.in-Err-read_file.fail, refl))));
+  ends = c.read_status-in-Err-read_file.ensures;
+  calls = (c.read_file.new.store, c.in-Ok.ensures, (c.read_file-2.new.store, c.in-Err-read_file.ensures, refl));
+  puts = refl;
+}
 
-pub returns-in-Ok-boot_answer-clause-put_last : goal.returns-in-Ok-boot_answer-clause-put_last
-returns-in-Ok-boot_answer-clause-put_last g c = λ o fault known.
-    let otp = c.read_file-2.ensures.bytes c.in-Ok-read_file.bytes c.in-Ok-read_file.is in
-    let told = subst (λ files. IsReadOf files c.args.words.otp.now otp_limit c.in-Ok-read_file.bytes.items) c.read_file.ensures.files otp in
-    let same = known-answer c.args.words.flash.now c.args.words.otp.now _ o c.in-Ok.bytes.items c.in-Ok-read_file.bytes.items known
-    (c.read_file.ensures.bytes c.in-Ok.bytes c.in-Ok.is) told in
-    subst (λ (x : Outcome). is_finished x.status ≡ true) same (boot-finished c.args.words.flash.now c.args.words.otp.now c.in-Ok.bytes.items c.in-Ok-read_file.bytes.items)
-
-pub returns-in-Ok-boot_answer-clause-of_bytes : goal.returns-in-Ok-boot_answer-clause-of_bytes
-returns-in-Ok-boot_answer-clause-of_bytes g c = λ ends.
+pub returns-in-Ok-boot_answer : goal.returns-in-Ok-boot_answer
+returns-in-Ok-boot_answer g c =
+    let o = boot_outcome c.args.words.flash.now c.args.words.otp.now Arm Normal c.in-Ok.bytes.items c.in-Ok-read_file.bytes.items in
     let read = ap (λ (bytes : List ℕ). boot_outcome c.args.words.flash.now c.args.words.otp.now Arm Normal c.in-Ok.bytes.items bytes) c.deref.ensures.value in
-    let done = put-finished (boot_outcome c.args.words.flash.now c.args.words.otp.now Arm Normal c.in-Ok.bytes.items c.in-Ok-read_file.bytes.items) _ c.in-Ok-boot_answer.answer c.put_text.result _ _ _
-    read c.in-Ok-boot_answer.ensures c.as_bytes.ensures.value c.put_text.ensures.finished c.put_text.ensures.put ends in
-    (c.in-Ok.bytes.items, c.in-Ok-read_file.bytes.items, done.0, done.1)
+    let once = puts-outcome g.K.Sink.state g.K.Sink.history o _ c.in-Ok-boot_answer.answer _ _ c.args.out.now c.put_text.new.out
+    read c.in-Ok-boot_answer.ensures c.as_bytes.ensures.value c.put_text.ensures in
+    record {
+      course = read_course c.args.words.flash.now flash_limit c.in-Ok.bytes.items
+          (read_course c.args.words.otp.now otp_limit c.in-Ok-read_file.bytes.items (put_course o once.answer));
+      follows = inr (inr (c.in-Ok.bytes.items, _, refl, inr (inr (c.in-Ok-read_file.bytes.items, _, refl, inr (once.answer, refl)))));
+      ends = once.ends;
+      calls = (c.read_file.new.store, c.in-Ok.ensures, (c.read_file-2.new.store, c.in-Ok-read_file.ensures, refl));
+      puts = (c.put_text.new.out, once.takes, refl);
+    }
+
+pub returns : goal.returns
+returns g c = record {
+  course = read_course c.args.words.flash.now flash_limit c.in-Ok.bytes.items
+      (read_course c.args.words.otp.now otp_limit c.in-Ok-read_file.bytes.items stopped);
+  follows = inr (inr (c.in-Ok.bytes.items, _, refl, inr (inr (c.in-Ok-read_file.bytes.items, _, refl, inl refl))));
+  ends = refl;
+  calls = (c.read_file.new.store, c.in-Ok.ensures, (c.read_file-2.new.store, c.in-Ok-read_file.ensures, refl));
+  puts = refl;
+}
