@@ -5,8 +5,9 @@ mod tests;
 
 ghost use Rattle.std.specs.Prelude.{◌≡◌};
 
+use crate::pieces::write_whole;
 use pico_board::{Sink, SinkFail};
-use std::io::Print;
+use std::io::{self, Print};
 
 /// Standard output. Each error of the system, and each write that takes no byte, counts as a fault.
 #[derive(Drop)]
@@ -24,21 +25,8 @@ impl<'a, R: Print> Console<'a, R> {
     }
 }
 
-/// Writes all the bytes; false where the system answers an error, or takes no byte of what is left.
-fn write_whole<R: Print>(output: &R, bytes: &[u8]) -> bool {
-    let mut rest = bytes;
-    while !rest.is_empty() {
-        match output.write_some(rest) {
-            Ok(0) | Err(_) => return false,
-            Ok(count) => rest = &rest[count..],
-        }
-    }
-    true
-}
-
 impl<R: Print> Sink for Console<'_, R> {
     ghost use Rattle.std.specs.Prelude.{None, false};
-    ghost use Rattle.pico_board.specs.Puts.{SinkState, Put};
 
     ghost state = { λ console. record { bytes = None; faults = console.faults; steady = false } };
 
@@ -46,7 +34,7 @@ impl<R: Print> Sink for Console<'_, R> {
     ghost history = { λ console puts. Unit {0} };
 
     fn put(&mut self, bytes: &[u8]) -> Result<(), SinkFail> {
-        if write_whole(self.output, bytes) {
+        if write_whole(&mut io::writer(self.output), bytes) {
             Ok(())
         } else {
             self.faults = self.faults.saturating_add(1);

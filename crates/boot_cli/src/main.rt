@@ -3,32 +3,38 @@
 
 mod console;
 mod disk;
+mod pieces;
 #[cfg(test)]
 mod tests;
 
 use boot_run::{Status, run};
 use console::Console;
 use disk::Disk;
+use std::alloc::AllocError;
 use std::env::{self, Env};
 use std::fs::Files;
-use std::io::{self, ErrorKind, Print};
+use std::io::{ErrorKind, Print};
 use std::process::ExitCode;
 
-/// The words after the program's name.
-fn words<R: Env + AllocGlobal>(rt: &R) -> io::Result<Vec<String>> {
+/// The words after the program's name. Words that are not all UTF-8 are no command, and are given as none.
+fn words<R: Env + AllocGlobal>(rt: &R) -> Result<Vec<String>, AllocError> {
     let mut words = Vec::new(rt.alloc());
-    for word in env::args(rt)?.skip(1) {
-        words.push(word)?;
+    match env::args(rt) {
+        Ok(given) => {
+            for word in given.skip(1) {
+                words.push(word)?;
+            }
+        }
+        Err(error) if error.kind() == ErrorKind::OutOfMemory => return Err(AllocError),
+        Err(_) => {}
     }
     Ok(words)
 }
 
-/// Runs on real files and standard output. Words that are not all UTF-8 are no command.
+/// Runs on real files and standard output.
 fn run_program<R: Env + Files + Print + AllocGlobal>(rt: &R) -> Status {
-    let words = match words(rt) {
-        Ok(words) => words,
-        Err(error) if error.kind() == ErrorKind::OutOfMemory => return Status::Memory,
-        Err(_) => Vec::new(rt.alloc()),
+    let Ok(words) = words(rt) else {
+        return Status::Memory;
     };
     let mut store = Disk::new(rt);
     let mut out = Console::new(rt);

@@ -9,11 +9,13 @@ use Rattle.boot_rules.specs.Built.{IsBuilt, is_built}
 use Rattle.boot_rules.specs.Choosing.{decision_in}
 use Rattle.boot_rules.specs.Chosen.{Chosen}
 use Rattle.boot_rules.proofs.BuiltLemmas.{built-all, all-built}
-use Rattle.boot_rules.proofs.DecisionLemmas.{decision-chosen, chosen-decision}
+use Rattle.boot_rules.proofs.DecisionLemmas.{decision-chosen, chosen-decision, chosen-not_below}
+use Rattle.boot_run.specs.declared.status.Status.{Status}
 use Rattle.boot_run.specs.declared.status.Status.TheVariants.{Input, Bootsel}
 use Rattle.boot_run.specs.Forms.{flash_limit, flash_fault, filled, content_of, IsFlashFile}
-use Rattle.boot_run.specs.Causes.{IsRefused, Falls}
+use Rattle.boot_run.specs.Causes.{IsRefused, Falls, IsBootOf}
 use Rattle.boot_run.specs.Outcome.{Outcome, refused, decided, decided_status, boot_outcome, judged_outcome, formed_outcome}
+use Rattle.boot_run.proofs.OutcomeLemmas.{decided-outcome, status-exactly}
 
 -- a fault of the form says that there is none
 formless : (f fault : List ℕ) → flash_fault f ≡ Some fault → IsFlashFile f → ⊥
@@ -94,3 +96,18 @@ falls-bootsel flash otp f g o (served form empty built is) h =
 pub bootsel-exactly : (flash otp f g : List ℕ) → ((boot_outcome flash otp Arm Normal f g).status ≡ Bootsel) ↔ Falls f g
 bootsel-exactly flash otp f g =
     (bootsel-falls flash otp f g _ (outcome-case flash otp f g), falls-bootsel flash otp f g _ (outcome-case flash otp f g))
+
+-- the outcome of a boot is one by the rules
+pub boot-of : (flash otp f g : List ℕ) (status : Status) → status ≡ (boot_outcome flash otp Arm Normal f g).status
+    → IsBootOf f g status (boot_outcome flash otp Arm Normal f g).text
+boot-of flash otp f g status is = record {
+  input = status-exactly status _ Input (IsRefused f g) is (input-exactly flash otp f g);
+  bootsel = status-exactly status _ Bootsel (Falls f g) is (bootsel-exactly flash otp f g);
+  decides = λ d form empty built chosen.
+      let same : boot_outcome flash otp Arm Normal f g ≡ decided d =
+      ap (λ h. boot_outcome flash otp Arm Normal f h) empty ∙ decided-outcome flash otp f d form built chosen in (
+        is ∙ ap (λ (o : Outcome). o.status) same,
+        ap (λ (o : Outcome). o.text) same,
+        λ choice starts. chosen-not_below (content_of f) Arm Normal choice (subst (λ (e : Decision). Chosen (content_of f) Arm Normal e) starts chosen),
+      );
+}

@@ -1,19 +1,23 @@
 -- How a run that follows a plan ends: five ways, and what each says of the store and of the sink.
-use Rattle.std.proofs.Common.{◌≡◌, ◌⊎◌, ℕ, ◌≤◌, IsTrue, Result, Ok, Err, Option, List, [], ◌∷◌, string_bytes, refl, sym, ◌∙◌, ap, subst, inl, inr, arith}
+use Rattle.std.proofs.Common.{◌≡◌, ◌⊎◌, ℕ, ◌≤◌, IsTrue, Result, Ok, Err, true, false, Option, Some, List, [], ◌∷◌, string_bytes, refl, sym, ◌∙◌, ap, subst, inl, inr, arith}
 use Rattle.std.proofs.lemmas.Bool.{OnTrue_at}
 use Rattle.pico_board.specs.Board.{Rose}
+use Rattle.pico_board.specs.declared.Cpu.{Cpu}
+use Rattle.pico_board.specs.declared.BootKind.{BootKind}
+use Rattle.pico_board.specs.declared.StoreFail.{StoreFail}
 use Rattle.pico_board.specs.declared.StoreFail.TheVariants.{Fault as StoreFault, Memory as StoreMemory}
 use Rattle.pico_board.specs.declared.SinkFail.{SinkFail}
 use Rattle.pico_board.specs.declared.SinkFail.TheVariants.{Fault as SinkFault, Memory as SinkMemory}
-use Rattle.pico_board.specs.Files.{File, StoreState, Access, GoesOn, IsReadOf, Lacks, ServesAll}
+use Rattle.pico_board.specs.Files.{File, StoreState, Access, Reads, GoesOn, IsReadOf, Lacks, ServesAll}
 use Rattle.pico_board.specs.Puts.{SinkState, Put, Takes, TakesAll}
 use Rattle.boot_run.specs.declared.status.Status.{Status}
 use Rattle.boot_run.specs.declared.status.Status.TheVariants.{ReadFault, OutputFault, Memory}
-use Rattle.boot_run.specs.Outcome.{Outcome, Plan, Ends, Opens}
+use Rattle.boot_run.specs.Commands.{Command, Boot}
+use Rattle.boot_run.specs.Forms.{flash_limit, otp_limit}
+use Rattle.boot_run.specs.Outcome.{Outcome, Plan, Ends, Opens, boot_outcome, plan_of, is_finished}
 use Rattle.boot_run.specs.declared.work.Answer.{Answer}
 use Rattle.boot_run.specs.Answers.{IsAnswer}
-use Rattle.boot_run.specs.Courses.{Course, Follows, Runs, PutsOnce, read_course, put_status}
-use Rattle.boot_run.proofs.OutcomeLemmas.{Reaches}
+use Rattle.boot_run.specs.Courses.{Course, Follows, Reaches, Runs, PutsOnce, read_course, unread_status, put_status}
 
 -- the plan opens an input
 abbrev pub IsOpening : Plan → Type 0
@@ -71,7 +75,7 @@ module _ {S : Type 0} (state : S → StoreState) (served : S → List Access →
   course-ends (Opens name limit next) course old new (inr (inr (bytes, rest, is, follows))) =
       subst (EndsBetween old new (Opens name limit next)) (sym is) (λ serves.
       let later = course-ends (next bytes) rest serves.0 new follows serves.2 in (
-        ending-read (state old) (state serves.0) (state new) name limit next bytes rest (serves.1.shows.bytes bytes refl) serves.1.shows.files serves.1.counts later.0,
+        ending-read (state old) (state serves.0) (state new) name limit next bytes rest serves.1.shows.bytes serves.1.shows.files serves.1.counts later.0,
         later.1 ∙ serves.1.shows.files,
       ))
 
@@ -126,3 +130,64 @@ puts-outcome shown taken o wanted answer text result old new same is bytes once 
   ends = once.ends ∙ ap (λ s. put_status s once.answer) (is.status ∙ ap (λ (x : Outcome). x.status) same);
   takes = subst (λ t. Takes shown taken old (record { bytes = t; answer = once.answer }) new) (bytes ∙ (is.text ∙ ap (λ (x : Outcome). x.text) same)) once.takes;
 }
+
+-- the course of a boot that put its whole text
+record BootCourse (flash otp : List ℕ) (cpu : Cpu) (kind : BootKind) (course : Course) : Type 0 where
+  f : List ℕ
+  g : List ℕ
+  calls : course.calls ≡ (Reads flash flash_limit (Ok f) ∷ Reads otp otp_limit (Ok g) ∷ [])
+  puts : course.puts ≡ (record { bytes = (boot_outcome flash otp cpu kind f g).text; answer = Ok tt } ∷ [])
+  status : course.status ≡ (boot_outcome flash otp cpu kind f g).status
+
+no-memory-finished : (status : Status) → status ≡ Memory → is_finished status ≡ true → ⊥
+no-memory-finished status is ends = let e : false ≡ true = sym (ap is_finished is) ∙ ends in cc
+
+unread-finished : (fail : StoreFail) (status : Status) → status ≡ unread_status fail → is_finished status ≡ true → ⊥
+unread-finished StoreFault status is ends = let e : false ≡ true = sym (ap is_finished is) ∙ ends in cc
+unread-finished StoreMemory status is ends = let e : false ≡ true = sym (ap is_finished is) ∙ ends in cc
+
+put-finished : (wanted : Status) (answer : Result (Unit {0}) SinkFail) → is_finished (put_status wanted answer) ≡ true → answer ≡ Ok tt
+put-finished wanted (Ok done) ends = refl
+put-finished wanted (Err SinkFault) ends = cc
+put-finished wanted (Err SinkMemory) ends = cc
+
+boot-course : (flash otp : List ℕ) (cpu : Cpu) (kind : BootKind) (course : Course) → Follows (plan_of (Some (Boot flash otp cpu kind))) course
+    → is_finished course.status ≡ true → BootCourse flash otp cpu kind course
+boot-course flash otp cpu kind course (inl is) ends = absurd (no-memory-finished course.status (ap (λ (c : Course). c.status) is) ends)
+boot-course flash otp cpu kind course (inr (inl (fail, is))) ends = absurd (unread-finished fail course.status (ap (λ (c : Course). c.status) is) ends)
+boot-course flash otp cpu kind course (inr (inr (f, rest, is, inl none))) ends =
+    absurd (no-memory-finished course.status (ap (λ (c : Course). c.status) is ∙ ap (λ (c : Course). c.status) none) ends)
+boot-course flash otp cpu kind course (inr (inr (f, rest, is, inr (inl (fail, not))))) ends =
+    absurd (unread-finished fail course.status (ap (λ (c : Course). c.status) is ∙ ap (λ (c : Course). c.status) not) ends)
+boot-course flash otp cpu kind course (inr (inr (f, rest, is, inr (inr (g, last, then, inl none))))) ends =
+    absurd (no-memory-finished course.status (ap (λ (c : Course). c.status) is ∙ (ap (λ (c : Course). c.status) then ∙ ap (λ (c : Course). c.status) none)) ends)
+boot-course flash otp cpu kind course (inr (inr (f, rest, is, inr (inr (g, last, then, inr (answer, put)))))) ends =
+    let o = boot_outcome flash otp cpu kind f g in
+    let status : course.status ≡ put_status o.status answer = ap (λ (c : Course). c.status) is ∙ (ap (λ (c : Course). c.status) then ∙ ap (λ (c : Course). c.status) put) in
+    let ok : answer ≡ Ok tt = put-finished o.status answer (sym (ap is_finished status) ∙ ends) in
+    record {
+      f = f;
+      g = g;
+      calls = ap (λ (c : Course). c.calls) is ∙ ap (λ calls. Reads flash flash_limit (Ok f) ∷ calls)
+          (ap (λ (c : Course). c.calls) then ∙ ap (λ calls. Reads otp otp_limit (Ok g) ∷ calls) (ap (λ (c : Course). c.calls) put));
+      puts = ap (λ (c : Course). c.puts) is ∙ (ap (λ (c : Course). c.puts) then ∙ (ap (λ (c : Course). c.puts) put
+          ∙ ap (λ (a : Result (Unit {0}) SinkFail). let one : Put = record { bytes = o.text; answer = a } in one ∷ []) ok));
+      status = status ∙ ap (put_status o.status) ok;
+    }
+
+module _ {S K : Type 0} {state : S → StoreState} {served : S → List Access → Type 0} {shown : K → SinkState} {taken : K → List Put → Type 0}
+    (words : Option Command) {old new : S} {before after : K} {status : Status} where
+  -- a boot that puts its whole text read its two files, and put the text of the outcome by their bytes
+  pub run-boots : Runs state served shown taken (plan_of words) old before status new after → (flash otp : List ℕ) (cpu : Cpu) (kind : BootKind)
+      → is_finished status ≡ true → words ≡ Some (Boot flash otp cpu kind) → (f : List ℕ) × (g : List ℕ)
+      × ServesAll state served old (Reads flash flash_limit (Ok f) ∷ Reads otp otp_limit (Ok g) ∷ []) new
+      × (status ≡ (boot_outcome flash otp cpu kind f g).status)
+      × Takes shown taken before (record { bytes = (boot_outcome flash otp cpu kind f g).text; answer = Ok tt }) after
+  run-boots runs flash otp cpu kind ends command =
+      let boot = boot-course flash otp cpu kind runs.course (subst (λ w. Follows (plan_of w) runs.course) command runs.follows) (sym (ap is_finished runs.ends) ∙ ends) in (
+        boot.f,
+        boot.g,
+        subst (λ calls. ServesAll state served old calls new) boot.calls runs.calls,
+        runs.ends ∙ boot.status,
+        took-one state served shown taken runs.course.puts _ before after boot.puts runs.puts,
+      )

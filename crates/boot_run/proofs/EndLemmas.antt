@@ -11,7 +11,8 @@ use Rattle.boot_run.specs.declared.status.Status.{Status}
 use Rattle.boot_run.specs.declared.status.Status.TheVariants.{Words, ReadFault, WriteFault, OutputFault, Memory}
 use Rattle.boot_run.specs.Commands.{Command, Boot}
 use Rattle.boot_run.specs.Outcome.{Outcome, plan_of, known_outcome, not_understood, is_finished}
-use Rattle.boot_run.proofs.OutcomeLemmas.{Reaches, reached-known, reached-finished, reached-words}
+use Rattle.boot_run.specs.Courses.{Reaches}
+use Rattle.boot_run.proofs.OutcomeLemmas.{reached-known, reached-finished, reached-words}
 use Rattle.boot_run.proofs.CourseLemmas.{IsOpening, Misses, RunEnd, no_room, unread, whole, failed, put_no_room}
 
 -- nothing is a prefix of every text
@@ -35,7 +36,7 @@ misses-boot words flash otp files command misses =
 
 module _ {S K : Type 0} {state : S → StoreState} {served : S → List Access → Type 0} {shown : K → SinkState} {taken : K → List Put → Type 0}
     (words : Option Command) {old new : S} {before after : K} {status : Status} where
-  pub end-finished : RunEnd state served shown taken (plan_of words) old before status new after → (o : Outcome) → is_finished status ≡ true → known_outcome words (state old).files ≡ Some o
+  pub end-finished : RunEnd state served shown taken (plan_of words) old before status new after → (o : Outcome) → is_finished status ≡ true → known_outcome (plan_of words) (state old).files ≡ Some o
       → (status ≡ o.status) × IsPut (shown before).bytes o.text (shown after).bytes
   end-finished (no_room same is) o ends known = absurd (not-finished status _ ends is refl)
   end-finished (unread same is opening rose misses) o ends known = absurd (not-finished status _ ends is refl)
@@ -45,7 +46,7 @@ module _ {S K : Type 0} {state : S → StoreState} {served : S → List Access �
   end-finished (failed reached reaches takes is) o ends known = absurd (not-finished status _ ends is refl)
   end-finished (put_no_room reached reaches takes is) o ends known = absurd (not-finished status _ ends is refl)
 
-  pub end-unfinished : RunEnd state served shown taken (plan_of words) old before status new after → (o : Outcome) → is_finished status ≡ false → known_outcome words (state old).files ≡ Some o
+  pub end-unfinished : RunEnd state served shown taken (plan_of words) old before status new after → (o : Outcome) → is_finished status ≡ false → known_outcome (plan_of words) (state old).files ≡ Some o
       → IsPutInPart (shown before).bytes o.text (shown after).bytes
   end-unfinished (no_room same is) o ends known =
       subst (λ k. IsPutInPart (shown before).bytes o.text (shown k).bytes) (sym same) (nothing-in-part (shown before).bytes o.text)
@@ -97,7 +98,7 @@ module _ {S K : Type 0} {state : S → StoreState} {served : S → List Access �
   end-output_fault (failed reached reaches takes is) h = (reached, reaches, takes)
   end-output_fault (put_no_room reached reaches takes is) h = let e : Memory ≡ OutputFault = sym is ∙ h in cc
 
-  pub end-put_last : RunEnd state served shown taken (plan_of words) old before status new after → (o : Outcome) → status ≡ OutputFault → known_outcome words (state old).files ≡ Some o → is_finished o.status ≡ true
+  pub end-put_last : RunEnd state served shown taken (plan_of words) old before status new after → (o : Outcome) → status ≡ OutputFault → known_outcome (plan_of words) (state old).files ≡ Some o → is_finished o.status ≡ true
   end-put_last ends o h known =
       let put = end-output_fault ends h in
       subst (λ (x : Outcome). is_finished x.status ≡ true) (reached-known words (state old).files put.0 o put.1 known) (reached-finished words (state old).files put.0 put.1)

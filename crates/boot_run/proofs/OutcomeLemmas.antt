@@ -19,7 +19,8 @@ use Rattle.boot_rules.specs.Chosen.{Chosen}
 use Rattle.boot_rules.proofs.BuiltLemmas.{all-built}
 use Rattle.boot_rules.proofs.DecisionLemmas.{chosen-decision}
 use Rattle.boot_run.specs.Forms.{flash_limit, otp_limit, flash_fault, filled, content_of, IsFlashFile}
-use Rattle.boot_run.specs.Outcome.{Outcome, refused, decided, formed_outcome, judged_outcome, boot_outcome, Plan, Ends, Opens, plan_of, plan_outcome, opened_outcome, known_outcome, is_finished}
+use Rattle.boot_run.specs.Courses.{Reaches}
+use Rattle.boot_run.specs.Outcome.{Outcome, refused, decided, formed_outcome, judged_outcome, boot_outcome, plan_of, plan_outcome, opened_outcome, known_outcome, is_finished}
 
 -- a test of a length that is cut above the limit
 cut-test : (limit m n : ℕ) → limit ≤ m → nat_lt limit (suc (min m n)) ≡ nat_lt limit (suc n)
@@ -87,14 +88,9 @@ boot-known flash otp cpu kind files f g read_f read_g = go (file_of files flash)
     go (Some x) None is_x is_y cut_f cut_g = absurd cut_g
     go None b is_x is_y cut_f cut_g = absurd cut_f
 
--- an outcome that the plan may have, where each input that it opens reads as these files say
-abbrev pub Reaches : Option (List File) → Plan → Outcome → Type 0
-Reaches files (Ends o) reached = reached ≡ o
-Reaches files (Opens name limit next) reached = (bytes : List ℕ) × IsReadOf files name limit bytes × Reaches files (next bytes) reached
-
--- on told files it is the one that is known
+-- on told files the outcome that a plan reaches is the one that is known
 pub reached-known : (words : Option Command) (files : Option (List File)) (reached o : Outcome)
-    → Reaches files (plan_of words) reached → known_outcome words files ≡ Some o → reached ≡ o
+    → Reaches files (plan_of words) reached → known_outcome (plan_of words) files ≡ Some o → reached ≡ o
 reached-known None files reached o reaches known = cc
 reached-known (Some (Boot flash otp cpu kind)) None reached o reaches known = cc
 reached-known (Some (Boot flash otp cpu kind)) (Some files) reached o (f, read_f, (g, read_g, same)) known =
@@ -156,10 +152,10 @@ decided-outcome flash otp f d form built chosen =
 -- the outcome on told files that have both names
 pub files-known : (words : Option Command) (told : Option (List File)) (flash otp f g : List ℕ) (files : List File)
     → words ≡ Some (Boot flash otp Arm Normal) → told ≡ Some files → file_of files flash ≡ Some f → file_of files otp ≡ Some g
-    → known_outcome words told ≡ Some (boot_outcome flash otp Arm Normal f g)
+    → known_outcome (plan_of words) told ≡ Some (boot_outcome flash otp Arm Normal f g)
 files-known words told flash otp f g files is_command is_told is_flash is_otp =
-    ap (λ (w : Option Command). known_outcome w told) is_command
-    ∙ (ap (known_outcome (Some (Boot flash otp Arm Normal))) is_told
+    ap (λ (w : Option Command). known_outcome (plan_of w) told) is_command
+    ∙ (ap (known_outcome (plan_of (Some (Boot flash otp Arm Normal)))) is_told
     ∙ ap Some (
     ap (λ a. opened_outcome a (λ x. opened_outcome (file_of files otp) (λ y. boot_outcome flash otp Arm Normal x y))) is_flash
     ∙ ap (λ b. opened_outcome b (λ y. boot_outcome flash otp Arm Normal f y)) is_otp))
@@ -167,7 +163,7 @@ files-known words told flash otp f g files is_command is_told is_flash is_otp =
 -- the same of a flash file that is served
 pub decided-known : (words : Option Command) (told : Option (List File)) (flash otp f : List ℕ) (files : List File) (d : Decision)
     → words ≡ Some (Boot flash otp Arm Normal) → told ≡ Some files → file_of files flash ≡ Some f → file_of files otp ≡ Some []
-    → IsFlashFile f → IsBuilt (filled f) → Chosen (content_of f) Arm Normal d → known_outcome words told ≡ Some (decided d)
+    → IsFlashFile f → IsBuilt (filled f) → Chosen (content_of f) Arm Normal d → known_outcome (plan_of words) told ≡ Some (decided d)
 decided-known words told flash otp f files d is_command is_told is_flash is_otp form built chosen =
     files-known words told flash otp f [] files is_command is_told is_flash is_otp ∙ ap Some (decided-outcome flash otp f d form built chosen)
 

@@ -1,17 +1,18 @@
 -- The course of a run: what it does to its store and its sink, call by call, and how it ends. This project's own.
-use Rattle.std.specs.Prelude.{◌≡◌, ◌⊎◌, ℕ, Result, Ok, Err, List, [], ◌∷◌, Vec}
+use Rattle.std.specs.Prelude.{◌≡◌, ◌⊎◌, ℕ, Option, Result, Ok, Err, List, [], ◌∷◌, Vec}
 use Rattle.std.specs.declared.alloc.Global.{Global}
 use Rattle.pico_board.specs.declared.StoreFail.{StoreFail}
 use Rattle.pico_board.specs.declared.StoreFail.TheVariants.{Fault as StoreFault, Memory as StoreMemory}
 use Rattle.pico_board.specs.declared.SinkFail.{SinkFail}
 use Rattle.pico_board.specs.declared.SinkFail.TheVariants.{Fault as SinkFault, Memory as SinkMemory}
-use Rattle.pico_board.specs.Files.{StoreState, Access, Reads, ServesAll}
+use Rattle.pico_board.specs.Files.{File, StoreState, Access, Reads, IsReadOf, ServesAll}
 use Rattle.pico_board.specs.Puts.{SinkState, Put, Takes, TakesAll}
 use Rattle.boot_run.specs.declared.status.Status.{Status}
 use Rattle.boot_run.specs.declared.status.Status.TheVariants.{ReadFault, OutputFault, Memory}
 use Rattle.boot_run.specs.Outcome.{Outcome, Plan, Ends, Opens}
 
--- the calls of the store and those of the sink, each in their order, and the status
+-- The calls of the store and those of the sink, each in their order, and the status. No order is kept between a call of the store and one
+-- of the sink; a put whose text depends on what is read comes after the read.
 pub record Course : Type 0 where
   pub calls : List Access
   pub puts : List Put
@@ -52,7 +53,13 @@ Follows (Opens name limit next) course =
     ⊎ (((fail : StoreFail) × (course ≡ unread_course name limit fail))
     ⊎ ((bytes : List ℕ) × (rest : Course) × (course ≡ read_course name limit bytes rest) × Follows (next bytes) rest))
 
--- a run that ends with this status had a course of the plan, which the old store and the old sink answered, and are then the new ones
+-- an outcome of the plan, where each input that it opens is read as these files say
+abbrev pub Reaches : Option (List File) → Plan → Outcome → Type 0
+Reaches files (Ends o) reached = reached ≡ o
+Reaches files (Opens name limit next) reached = (bytes : List ℕ) × IsReadOf files name limit bytes × Reaches files (next bytes) reached
+
+-- A run that ends with this status has a course of the plan: the old store answers its calls and is then the new one, and the sink before
+-- takes its puts and is then the one after.
 pub record Runs {S K : Type 0} (state : S → StoreState) (served : S → List Access → Type 0) (shown : K → SinkState) (taken : K → List Put → Type 0)
     (plan : Plan) (old : S) (before : K) (status : Status) (new : S) (after : K) : Type 0 where
   pub course : Course
@@ -66,8 +73,8 @@ abbrev pub read_of : Result (Vec ℕ Global) StoreFail → Result (List ℕ) Sto
 read_of (Ok bytes) = Ok bytes.items
 read_of (Err fail) = Err fail
 
--- the text was put in one call, and the status is this one where it succeeded
-pub record PutsOnce {K : Type 0} (shown : K → SinkState) (taken : K → List Put → Type 0) (old : K) (text : List ℕ) (status result : Status) (new : K) : Type 0 where
+-- the text was put in one call, and the status is the wanted one where the put succeeded
+pub record PutsOnce {K : Type 0} (shown : K → SinkState) (taken : K → List Put → Type 0) (before : K) (text : List ℕ) (wanted status : Status) (after : K) : Type 0 where
   pub answer : Result (Unit {0}) SinkFail
-  pub ends : result ≡ put_status status answer
-  pub takes : Takes shown taken old (record { bytes = text; answer = answer }) new
+  pub ends : status ≡ put_status wanted answer
+  pub takes : Takes shown taken before (record { bytes = text; answer = answer }) after

@@ -1,11 +1,10 @@
 //! Worked examples of the texts, as laws that compute.
 
-ghost use Rattle.std.specs.Prelude.{◌≡◌, [], Some, None, codes, true, false};
-ghost use Rattle.slot_choice.specs.declared.Choice.{Choice};
+ghost use Rattle.std.specs.Prelude.{◌≡◌, codes};
 ghost use Rattle.slot_choice.specs.declared.Member.TheVariants.{A};
 ghost use Rattle.boot_rules.specs.declared.Decision.TheVariants.{Start, Bootsel};
 ghost use Rattle.boot_rules.specs.declared.Fall.TheVariants.{Requested, FlashOff, NoImage};
-ghost use Rattle.boot_run.specs.Texts.{hex_word, version_text, decision_line, input_line};
+ghost use Rattle.boot_run.specs.Texts.{hex_word, decision_line, input_line};
 ghost use Rattle.boot_run.specs.Examples.{minimal_choice};
 
 /// A number has 0x and eight lower-case hexadecimal digits.

@@ -1,7 +1,7 @@
 //! The forms of input files.
 
-ghost use Rattle.std.specs.Prelude.{◌≡◌, ◌≤◌, ◌<◌, length, IfSome, IfNone, IfOk, OnOk, Some, None, max};
-ghost use Rattle.boot_run.specs.Forms.{flash_limit, flash_fault, filled, filled_length, zero_rows, IsFlashFile};
+ghost use Rattle.std.specs.Prelude.{◌≡◌, ◌≤◌, ◌<◌, length, IfSome, IfNone, IfOk, OnOk, Some, None};
+ghost use Rattle.boot_run.specs.Forms.{flash_fault, filled, filled_length, zero_rows};
 
 use std::alloc::{AllocError, Global};
 

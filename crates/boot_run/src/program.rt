@@ -1,22 +1,22 @@
 //! The top call.
 
-ghost use Rattle.std.specs.Prelude.{◌≡◌, ◌≢◌, ◌⊎◌, ◌↔◌, ℕ, ◌≤◌, List, [], ◌∷◌, map, string_bytes, IsTrue, Some, None, Err, true, false};
+ghost use Rattle.std.specs.Prelude.{◌≡◌, ◌≢◌, ◌⊎◌, ◌↔◌, ℕ, List, [], ◌∷◌, map, string_bytes, IsTrue, Some, None, Ok, Err, true, false};
 ghost use Rattle.pico_board.specs.declared.boot.Cpu.TheVariants.{Arm};
 ghost use Rattle.pico_board.specs.declared.boot.BootKind.TheVariants.{Normal};
 ghost use Rattle.pico_board.specs.Board.{Rose};
-ghost use Rattle.pico_board.specs.Files.{File, file_of, Lacks};
-ghost use Rattle.pico_board.specs.Puts.{IsPut, IsPutInPart, Put, Takes};
+ghost use Rattle.pico_board.specs.Files.{File, Reads, ServesAll, file_of, Lacks};
+ghost use Rattle.pico_board.specs.Puts.{IsPut, IsPutInPart, Takes};
 ghost use Rattle.boot_rules.specs.declared.Decision.{Decision};
 ghost use Rattle.boot_rules.specs.declared.Decision.TheVariants.{Start};
 ghost use Rattle.slot_choice.specs.declared.Choice.{Choice};
 ghost use Rattle.boot_rules.specs.Built.{IsBuilt};
 ghost use Rattle.boot_rules.specs.Chosen.{Chosen};
-ghost use Rattle.boot_run.specs.Commands.{Command, Boot, command_of};
-ghost use Rattle.boot_run.specs.Forms.{IsFlashFile, filled, content_of};
-ghost use Rattle.boot_run.specs.Causes.{IsRefused, Falls};
+ghost use Rattle.boot_run.specs.Commands.{Boot, command_of};
+ghost use Rattle.boot_run.specs.Forms.{IsFlashFile, flash_limit, otp_limit, filled, content_of};
+ghost use Rattle.boot_run.specs.Causes.{IsRefused, Falls, IsBootOf};
 ghost use Rattle.boot_run.specs.Texts.{decision_line};
-ghost use Rattle.boot_run.specs.Outcome.{Outcome, plan_of, known_outcome, decided_status, is_finished};
-ghost use Rattle.boot_run.specs.Courses.{Runs};
+ghost use Rattle.boot_run.specs.Outcome.{Outcome, boot_outcome, plan_of, known_outcome, decided_status, is_finished};
+ghost use Rattle.boot_run.specs.Courses.{Reaches, Runs};
 ghost use Rattle.image_check.specs.NotBelow.{NotBelow};
 
 use crate::ends::{put_text, read_file, read_status};
@@ -79,8 +79,9 @@ pub fn run<S: Store, K: Sink>(
     store: &mut S,
     out: &mut K,
 ) -> Status
-    // The boot clause: on told files whose flash has its form and whose blocks are all plain, with an empty OTP file, the text and the status
-    // are those of the one decision that the rules name, and an image that starts is not below its rollback rows.
+    // The boot clause, of a run that puts its whole text: on told files whose flash has its form and whose blocks are all plain, with an empty
+    // OTP file, the text and the status are those of the one decision that the rules name, and an image that starts is not below its
+    // rollback rows.
     ensures decides { (flash otp f : List ℕ) (files : List File) (d : Decision) → is_finished result ≡ true
         → command_of (map string_bytes words.now.items) ≡ Some (Boot flash otp Arm Normal) → (S.state store.old).files ≡ Some files
         → file_of files flash ≡ Some f → file_of files otp ≡ Some [] → IsFlashFile f → IsBuilt (filled f)
@@ -94,15 +95,23 @@ pub fn run<S: Store, K: Sink>(
         → command_of (map string_bytes words.now.items) ≡ Some (Boot flash otp Arm Normal) → (S.state store.old).files ≡ Some files
         → file_of files flash ≡ Some f → file_of files otp ≡ Some g → (result ≡ Status.Bootsel) ↔ Falls f g }
 
-    // Where the words are no command or the files are told, the status and the text are those of the outcome.
+    // The same on every store, also one that tells no files, by the bytes that it answers to the two reads.
+    ensures boots { (flash otp : List ℕ) → is_finished result ≡ true
+        → command_of (map string_bytes words.now.items) ≡ Some (Boot flash otp Arm Normal) → (f : List ℕ) × (g : List ℕ)
+        × ServesAll S.state S.history store.old (Reads flash flash_limit (Ok f) ∷ Reads otp otp_limit (Ok g) ∷ []) store.new
+        × IsBootOf f g result (boot_outcome flash otp Arm Normal f g).text
+        × Takes K.state K.history out.old (record { bytes = (boot_outcome flash otp Arm Normal f g).text; answer = Ok tt }) out.new }
+
+    // Where the words are no command or the files are told, the status and the text of a run that puts its whole text are those of the
+    // outcome.
     ensures finished { (o : Outcome) → is_finished result ≡ true
-        → known_outcome (command_of (map string_bytes words.now.items)) (S.state store.old).files ≡ Some o
+        → known_outcome (plan_of (command_of (map string_bytes words.now.items))) (S.state store.old).files ≡ Some o
         → (result ≡ o.status) × IsPut (K.state out.old).bytes o.text (K.state out.new).bytes }
     ensures files { (S.state store.new).files ≡ (S.state store.old).files }
 
-    // On any store and any sink, also such as tell nothing: the run makes these calls and no others, in this order. It reads the command's
-    // input files one after another, until a read fails; then it puts the text of the outcome by the bytes that were read, in one call. The
-    // status is that of the read or the put that failed, and otherwise that of the outcome; or there was no memory before the put.
+    // On every store and every sink, whatever they tell: the run makes these calls and no others. It reads the command's input files in their
+    // order, and ends at the first read that fails. Where all were read, it puts the text of the outcome by their bytes, in one call. The
+    // status is that of the read or the put that failed, or that of the outcome. At each point before the put there may be no memory.
     ensures course { Runs S.state S.history K.state K.history
         (plan_of (command_of (map string_bytes words.now.items))) store.old out.old result store.new out.new }
 
@@ -113,19 +122,22 @@ pub fn run<S: Store, K: Sink>(
     ensures read_fault { result ≡ Status.ReadFault → Rose (S.state store.old).read_faults (S.state store.new).read_faults }
     ensures no_write { result ≢ Status.WriteFault }
     ensures output_fault { result ≡ Status.OutputFault → Rose (K.state out.old).faults (K.state out.new).faults }
-    // The put comes last: where the files are told and lack a name, there is none.
+    // Where the files are told and lack a name, it does not come.
     ensures put_last { (o : Outcome) → result ≡ Status.OutputFault
-        → known_outcome (command_of (map string_bytes words.now.items)) (S.state store.old).files ≡ Some o → is_finished o.status ≡ true }
+        → known_outcome (plan_of (command_of (map string_bytes words.now.items))) (S.state store.old).files ≡ Some o → is_finished o.status ≡ true }
 
-    // What an early end leaves. After a read fault nothing is put; after an output fault a prefix of the text; and after want of memory a
-    // prefix of it where the put itself answered that there was none, and otherwise nothing.
+    // What an early end leaves; nothing is ever written. After a read fault nothing is put; after an output fault a prefix of the text of an
+    // outcome that the plan has on what was read; and after want of memory a prefix of it where the put itself answered that there was none,
+    // and otherwise nothing.
     ensures after_read_fault { result ≡ Status.ReadFault → out.new ≡ out.old }
-    ensures after_output_fault { result ≡ Status.OutputFault → (text : List ℕ)
-        × Takes K.state K.history out.old (record { bytes = text; answer = Err SinkFail.Fault }) out.new }
-    ensures after_memory { result ≡ Status.Memory → (out.new ≡ out.old) ⊎ ((text : List ℕ)
-        × Takes K.state K.history out.old (record { bytes = text; answer = Err SinkFail.Memory }) out.new) }
+    ensures after_output_fault { result ≡ Status.OutputFault → (o : Outcome)
+        × Reaches (S.state store.old).files (plan_of (command_of (map string_bytes words.now.items))) o
+        × Takes K.state K.history out.old (record { bytes = o.text; answer = Err SinkFail.Fault }) out.new }
+    ensures after_memory { result ≡ Status.Memory → (out.new ≡ out.old) ⊎ ((o : Outcome)
+        × Reaches (S.state store.old).files (plan_of (command_of (map string_bytes words.now.items))) o
+        × Takes K.state K.history out.old (record { bytes = o.text; answer = Err SinkFail.Memory }) out.new) }
     ensures unfinished { (o : Outcome) → is_finished result ≡ false
-        → known_outcome (command_of (map string_bytes words.now.items)) (S.state store.old).files ≡ Some o
+        → known_outcome (plan_of (command_of (map string_bytes words.now.items))) (S.state store.old).files ≡ Some o
         → IsPutInPart (K.state out.old).bytes o.text (K.state out.new).bytes }
 
     // Completeness.

@@ -236,7 +236,6 @@ struct Cramped {}
 
 impl Store for Cramped {
     ghost use Rattle.std.specs.Prelude.{None, false};
-    ghost use Rattle.pico_board.specs.Files.{StoreState, Access};
 
     ghost state = { λ cramped. record { files = None; read_faults = 0; write_faults = 0; steady = false } };
 
@@ -253,7 +252,6 @@ impl Store for Cramped {
 
 impl Sink for Cramped {
     ghost use Rattle.std.specs.Prelude.{None, false};
-    ghost use Rattle.pico_board.specs.Puts.{SinkState, Put};
 
     ghost state = { λ cramped. record { bytes = None; faults = 0; steady = false } };
 

@@ -4,7 +4,7 @@ ghost use Rattle.std.specs.Prelude.{◌≡◌, ◌≤◌, length, IfOk, IsTrue};
 ghost use Rattle.pico_board.specs.declared.boot.Cpu.TheVariants.{Arm};
 ghost use Rattle.pico_board.specs.declared.boot.BootKind.TheVariants.{Normal};
 ghost use Rattle.pico_board.specs.MemBoard.{state_of, new_state};
-ghost use Rattle.boot_run.specs.Forms.{flash_limit, filled, zero_rows};
+ghost use Rattle.boot_run.specs.Forms.{zero_rows};
 ghost use Rattle.boot_run.specs.Outcome.{refused, decided, decided_status, content_outcome, built_outcome, boot_outcome};
 ghost use Rattle.boot_run.specs.Answers.{IsAnswer};
 

@@ -1,10 +1,11 @@
 -- The state of a board, and what a step and a list of steps do to it. This project's own.
-use Rattle.std.specs.Prelude.{◌≡◌, ℕ, ◌+◌, ◌-◌, ◌^◌, ◌≤◌, min, Bool, true, Option, None, Some, List, [], ◌∷◌, ◌++◌, length}
+use Rattle.std.specs.Prelude.{◌≡◌, ℕ, ◌+◌, ◌-◌, ◌^◌, ◌≤◌, min, Bool, true, Option, None, Some, List, [], ◌∷◌, length}
 use Rattle.std.specs.Bool.{OnTrue, OnFalse}
 use Rattle.std.specs.Option.{option_map}
 use Rattle.pico_board.specs.Content.{Content}
 use Rattle.pico_board.specs.Steps.{Step, after, after_all, Torn, CutOf}
 use Rattle.pico_board.specs.Cuts.{Cut, Told, told, told_all}
+use Rattle.pico_board.specs.Histories.{Extends}
 
 -- what is known of a board: its content, whether it is powered, how often power was lost, and its armed cut, where the outer
 -- option is None for a board that does not tell it and the inner one is None where no cut is armed
@@ -45,7 +46,7 @@ pub record Does {B : Type 0} (state : B → State) (history : B → List Step �
   pub later : (state old).cuts ≤ (state new).cuts
   pub rose : OnFalse ok (Rose (state old).cuts (state new).cuts)
   pub told : IsTold (state old).armed (state old).content step ok (state new)
-  pub recorded : OnTrue ok ((h : List Step) → history old h → history new (h ++ step ∷ []))
+  pub recorded : OnTrue ok (Extends history old (step ∷ []) new)
 
 -- The old board does the steps, in their order, and is then the new one: where the answer is Ok, all of them completed; otherwise
 -- power was lost in one of them. The rest is as for one step.
@@ -57,7 +58,7 @@ pub record DoesAll {B : Type 0} (state : B → State) (history : B → List Step
   pub later : (state old).cuts ≤ (state new).cuts
   pub rose : OnFalse ok (Rose (state old).cuts (state new).cuts)
   pub told : IsToldAll (state old).armed (state old).content steps ok (state new)
-  pub recorded : OnTrue ok ((h : List Step) → history old h → history new (h ++ steps))
+  pub recorded : OnTrue ok (Extends history old steps new)
 
 -- the state with another cut armed, where the board tells it
 abbrev pub with_cut : State → Cut → State

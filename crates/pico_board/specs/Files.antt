@@ -1,5 +1,5 @@
 -- The files of a store, and what its reads and writes do to them. This project's own.
-use Rattle.std.specs.Prelude.{◌≡◌, ◌≢◌, ⊤, ℕ, ◌+◌, ◌≤◌, Bool, IsTrue, Option, None, Some, IsSomeAnd, Result, Ok, Err, OnOk, OnErr, if◌then◌else◌, List, [], ◌∷◌, length, take}
+use Rattle.std.specs.Prelude.{◌≡◌, ◌≢◌, ⊤, ℕ, ◌+◌, ◌≤◌, Bool, IsTrue, Option, None, Some, IsSomeAnd, Result, Ok, Err, IfOk, OnOk, OnErr, if◌then◌else◌, List, [], ◌∷◌, length, take}
 use Rattle.std.specs.Bool.{OnTrue}
 use Rattle.std.specs.Str.{bytes_eq}
 use Rattle.pico_board.specs.declared.store.StoreFail.{StoreFail}
@@ -41,12 +41,13 @@ pub record GoesOn (s t : StoreState) : Type 0 where
   pub writes : s.write_faults ≤ t.write_faults
   pub steady : OnTrue s.steady (IsTrue t.steady)
 
--- what was read is the first `limit + 1` bytes of the file of this name, which the told files have, or all where it has fewer
+-- what was read is the first `limit + 1` bytes of the file of this name, which the told files have, or all where it has fewer; where no
+-- files are told, it is at most so many bytes
 abbrev pub IsReadOf : Option (List File) → List ℕ → ℕ → List ℕ → Type 0
 IsReadOf None name limit read = length read ≤ limit + 1
 IsReadOf (Some files) name limit read = IsSomeAnd (file_of files name) (λ bytes. read ≡ take (limit + 1) bytes)
 
--- the told files lack the name
+-- where files are told, they lack the name
 abbrev pub Lacks : Option (List File) → List ℕ → Type 0
 Lacks None name = ⊤
 Lacks (Some files) name = file_of files name ≡ None
@@ -72,14 +73,16 @@ IsKeptBut None name new = new ≡ None
 IsKeptBut (Some old) name None = ⊥
 IsKeptBut (Some old) name (Some new) = KeepsOthers old name new
 
--- what a store shows after a read: its files are as they were
+-- what a store shows after a read that answered so: the bytes are those of the file, its count of faults rose where it was at fault, which
+-- happens only for a name that it lacks where it tells that it never fails by itself, and its files are as they were
 pub record ShowsRead (s : StoreState) (name : List ℕ) (limit : ℕ) (answer : Result (List ℕ) StoreFail) (t : StoreState) : Type 0 where
-  pub bytes : (bytes : List ℕ) → answer ≡ Ok bytes → IsReadOf s.files name limit bytes
+  pub bytes : IfOk answer (IsReadOf s.files name limit)
   pub fault : answer ≡ Err Fault → Rose s.read_faults t.read_faults
   pub steady : IsTrue s.steady → answer ≡ Err Fault → Lacks s.files name
   pub files : t.files ≡ s.files
 
--- what a store shows after a write
+-- what a store shows after a write that answered so: the bytes are those of the name, or nothing is known of it; other names stay; and its
+-- count of faults rose where it was at fault, which never happens where it tells that it never fails by itself
 pub record ShowsWrite (s : StoreState) (name bytes : List ℕ) (answer : Result (Unit {0}) StoreFail) (t : StoreState) : Type 0 where
   pub ok : OnOk answer (IsWritten s.files name bytes t.files)
   pub err : OnErr answer (IsKeptBut s.files name t.files)
@@ -97,7 +100,7 @@ pub record Serves {S : Type 0} (state : S → StoreState) (history : S → List 
   pub counts : GoesOn (state old) (state new)
   pub recorded : Extends history old (call ∷ []) new
 
--- the old store answers these calls and no other, in their order, and is then the new one
+-- the old store answers these calls, in their order, and is then the new one; its history has no other
 abbrev pub ServesAll : {S : Type 0} → (S → StoreState) → (S → List Access → Type 0) → S → List Access → S → Type 0
 ServesAll state history old [] new = new ≡ old
 ServesAll state history old (call ∷ calls) new = (mid : _) × Serves state history old call mid × ServesAll state history mid calls new

@@ -47,7 +47,7 @@ pub record Takes {K : Type 0} (state : K → SinkState) (history : K → List Pu
   pub steady : IsTrue (state old).steady → put.answer ≢ Err Fault
   pub recorded : Extends history old (put ∷ []) new
 
--- the old sink takes these puts and no other, in their order, and is then the new one
+-- the old sink takes these puts, in their order, and is then the new one; its history has no other
 abbrev pub TakesAll : {K : Type 0} → (K → SinkState) → (K → List Put → Type 0) → K → List Put → K → Type 0
 TakesAll state history old [] new = new ≡ old
 TakesAll state history old (put ∷ puts) new = (mid : _) × Takes state history old put mid × TakesAll state history mid puts new

@@ -1,6 +1,6 @@
 //! The board: a flash and an OTP that are read, and written by steps of which each completes or is torn by a lost supply.
 
-ghost use Rattle.std.specs.Prelude.{◌≡◌, ℕ, ◌+◌, ◌*◌, ◌^◌, ◌<◌, ◌≤◌, List, length, IsTrue, is_ok, slice_index, slice_range};
+ghost use Rattle.std.specs.Prelude.{◌≡◌, ◌+◌, ◌*◌, ◌^◌, ◌<◌, ◌≤◌, List, length, IsTrue, is_ok, slice_index, slice_range};
 ghost use Rattle.pico_board.specs.Content.{IsContent};
 ghost use Rattle.pico_board.specs.Steps.{Step, Erase, Program, Raise};
 ghost use Rattle.pico_board.specs.Cuts.{IsPattern, cut_with};

@@ -1,6 +1,6 @@
 //! A board in memory.
 
-ghost use Rattle.std.specs.Prelude.{◌≡◌, ◌≢◌, ◌↔◌, ℕ, ◌+◌, ◌*◌, ◌^◌, ◌<◌, ◌≤◌, All, IfOk, IsErrOf, IsTrue, MatchOption, is_ok, length, slice_index, slice_range};
+ghost use Rattle.std.specs.Prelude.{◌≡◌, ◌≢◌, ◌↔◌, ℕ, ◌+◌, ◌*◌, ◌^◌, ◌<◌, ◌≤◌, All, IfOk, IsErrOf, IsTrue, MatchOption, is_ok, length};
 ghost use Rattle.pico_board.specs.Content.{IsContent, IsFlashLength};
 ghost use Rattle.pico_board.specs.Rows.{IsFirstWide};
 ghost use Rattle.pico_board.specs.Steps.{Erase, Program, Raise};

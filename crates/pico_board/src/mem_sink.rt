@@ -1,8 +1,8 @@
 //! A sink in memory.
 
-ghost use Rattle.std.specs.Prelude.{◌≡◌, ◌++◌, ◌↔◌, ◌+◌, ◌-◌, ◌^◌, List, [], ◌∷◌, min, IsErrOf, IsTrue, OnErr, OnOk, Some};
+ghost use Rattle.std.specs.Prelude.{◌≡◌, ◌↔◌, ◌+◌, ◌-◌, ◌^◌, [], ◌∷◌, min, IsErrOf, IsTrue, OnErr, OnOk};
 ghost use Rattle.pico_board.specs.Board.{Rose};
-ghost use Rattle.pico_board.specs.Puts.{Put, PutsOn, IsPut, IsPutInPart};
+ghost use Rattle.pico_board.specs.Puts.{PutsOn, IsPut, IsPutInPart};
 ghost use Rattle.pico_board.specs.Histories.{Extends};
 
 use crate::sink::{Sink, SinkFail};

@@ -1,8 +1,8 @@
 //! A store in memory.
 
-ghost use Rattle.std.specs.Prelude.{◌≡◌, ◌⊎◌, ◌↔◌, ℕ, ◌+◌, ◌-◌, ◌^◌, ◌≤◌, List, [], ◌∷◌, min, IsErrOf, IsTrue, MatchOption, None, OnErr, OnOk, Some, length, take};
+ghost use Rattle.std.specs.Prelude.{◌≡◌, ◌⊎◌, ◌↔◌, ◌+◌, ◌-◌, ◌^◌, ◌≤◌, [], ◌∷◌, min, IsErrOf, IsTrue, MatchOption, None, OnErr, OnOk, Some, length, take};
 ghost use Rattle.pico_board.specs.Board.{Rose};
-ghost use Rattle.pico_board.specs.Files.{Access, Reads, Writes, read_answer, GoesOn, HasWritten, IsReadOf, Lacks, IsWritten, IsKeptBut, file_of};
+ghost use Rattle.pico_board.specs.Files.{Reads, Writes, read_answer, GoesOn, HasWritten, IsReadOf, Lacks, IsWritten, IsKeptBut, file_of};
 ghost use Rattle.pico_board.specs.Histories.{Extends};
 ghost use Rattle.pico_board.specs.MemFiles.{IsFirstOf, files_from};
 

@@ -1,6 +1,6 @@
 //! The atomic writes of a board, as data, and lists of them.
 
-ghost use Rattle.std.specs.Prelude.{◌≡◌, All, length, IsTrue, is_ok};
+ghost use Rattle.std.specs.Prelude.{All, length, IsTrue, is_ok};
 ghost use Rattle.pico_board.specs.Steps.{IsStepIn};
 ghost use Rattle.pico_board.specs.Board.{Does, DoesAll};
 

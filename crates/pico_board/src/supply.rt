@@ -1,6 +1,6 @@
 //! The supply of a board in memory: its power, its armed cut, and what it counts.
 
-ghost use Rattle.std.specs.Prelude.{◌≡◌, ℕ, ◌+◌, ◌-◌, ◌^◌, ◌<◌, ◌≤◌, min, true, false, All, IfOk, IsTrue, length, None, Some, option_map, vec_capacity};
+ghost use Rattle.std.specs.Prelude.{◌≡◌, ◌+◌, ◌-◌, ◌^◌, ◌<◌, ◌≤◌, min, true, false, All, IfOk, IsTrue, length, None, Some, option_map, vec_capacity};
 
 use std::alloc::{AllocError, Global};
 

@@ -1,4 +1,4 @@
-use Rattle.std.proofs.Common.{subst, refl, inl, inr}
+use Rattle.std.proofs.Common.{subst, refl}
 use Rattle.boot_rules.specs.declared.Decision.{Decision}
 use Rattle.boot_rules.specs.Chosen.{Chosen}
 use Rattle.pico_board.specs.declared.Cpu.TheVariants.{Arm}
@@ -6,8 +6,8 @@ use Rattle.pico_board.specs.declared.BootKind.TheVariants.{Normal}
 use Rattle.boot_run.specs.Forms.{content_of}
 use Rattle.boot_rules.proofs.DecisionLemmas.{chosen-not_below}
 use Rattle.boot_run.proofs.OutcomeLemmas.{decided-known, files-known, status-exactly}
-use Rattle.boot_run.proofs.CauseLemmas.{input-exactly, bootsel-exactly}
-use Rattle.boot_run.proofs.CourseLemmas.{run-end, run-files}
+use Rattle.boot_run.proofs.CauseLemmas.{input-exactly, bootsel-exactly, boot-of}
+use Rattle.boot_run.proofs.CourseLemmas.{run-end, run-files, run-boots}
 use Rattle.boot_run.proofs.EndLemmas.{end-finished, end-unfinished, end-words, end-no_command, end-read_fault, end-no_write, end-output_fault, end-put_last, end-memory, end-complete, end-steady_reads, end-steady_puts}
 use Rattle.boot_run.proofs.program.run.Goals as goal
 
@@ -60,11 +60,10 @@ pub returns-clause-after_read_fault : goal.returns-clause-after_read_fault
 returns-clause-after_read_fault g c = λ fault. (end-read_fault _ (run-end c.run_words.ensures) fault).0
 
 pub returns-clause-after_output_fault : goal.returns-clause-after_output_fault
-returns-clause-after_output_fault g c = λ fault. let put = end-output_fault _ (run-end c.run_words.ensures) fault in (put.0.text, put.2)
+returns-clause-after_output_fault g c = end-output_fault _ (run-end c.run_words.ensures)
 
 pub returns-clause-after_memory : goal.returns-clause-after_memory
-returns-clause-after_memory g c = λ memory.
-    elim (end-memory _ (run-end c.run_words.ensures) memory) [ inl same ↦ inl same | inr put ↦ inr (put.0.text, put.2) ]
+returns-clause-after_memory g c = end-memory _ (run-end c.run_words.ensures)
 
 pub returns-clause-complete : goal.returns-clause-complete
 returns-clause-complete g c = end-complete _ (run-end c.run_words.ensures)
@@ -74,3 +73,8 @@ returns-clause-steady_reads g c = end-steady_reads _ (run-end c.run_words.ensure
 
 pub returns-clause-steady_puts : goal.returns-clause-steady_puts
 returns-clause-steady_puts g c = end-steady_puts _ (run-end c.run_words.ensures)
+
+pub returns-clause-boots : goal.returns-clause-boots
+returns-clause-boots g c = λ flash otp ends command.
+    let boot = run-boots _ c.run_words.ensures flash otp Arm Normal ends command in
+    (boot.0, boot.1, boot.2, boot-of flash otp boot.0 boot.1 _ boot.3, boot.4)

@@ -1,0 +1,73 @@
+//! Bytes in pieces: a reader until it ends, and a writer until it has taken all.
+
+#[cfg(test)]
+mod tests;
+
+ghost use Rattle.std.specs.Prelude.{◌≡◌, ◌⊎◌, ◌<◌, ◌≤◌, [], length, take, true, false, Ok, IsTrue, IsFalse, IfSome, OnOk};
+ghost use Rattle.std.specs.Io.KnownBytes.{Appends, IsAtEnd};
+ghost use Rattle.boot_cli.specs.Pieces.{TakesFrom, AppendsInPart};
+
+use pico_board::StoreFail;
+use std::io::{Read, Write};
+
+/// Reads the next bytes, at most so many in all and at most 4096 now, to the end of `into`. The answer is whether there may be more. An
+/// error of the reader is a fault.
+fn read_piece<R: Read>(reader: &mut R, most: usize, into: &mut Vec<u8>) -> Result<bool, StoreFail>
+    requires { length into.old.items ≤ most }
+    ensures room { OnOk result (length into.new.items ≤ most) }
+    ensures next { OnOk result (TakesFrom (R.remaining reader.old) into.old.items (R.remaining reader.new) into.new.items) }
+    ensures more { result ≡ Ok true → length into.old.items < length into.new.items }
+    ensures last { result ≡ Ok false → (length into.new.items ≡ most) ⊎ IsAtEnd (R.remaining reader.new) }
+{
+    let mut buffer = [0u8; 4096];
+    let room = (most - into.len()).min(buffer.len());
+    if room == 0 {
+        return Ok(false);
+    }
+    let Ok(count) = reader.read(&mut buffer[..room]) else {
+        return Err(StoreFail::Fault);
+    };
+    match into.extend_from_slice(&buffer[..count]) {
+        Ok(()) => Ok(count > 0),
+        Err(_) => Err(StoreFail::Memory),
+    }
+}
+
+/// Reads into an empty vector until the reader ends, but at most so many bytes. A read of no byte is the end. Nothing is said of `into`
+/// after an error.
+pub fn read_up_to<R: Read>(reader: &mut R, most: usize, into: &mut Vec<u8>) -> Result<(), StoreFail>
+    requires { into.old.items ≡ [] }
+    ensures room { OnOk result (length into.new.items ≤ most) }
+    // Where the reader's bytes are known, these are the first of them, or all where it has fewer.
+    ensures front { OnOk result (IfSome (R.remaining reader.old) (λ bytes. into.new.items ≡ take most bytes)) }
+{
+    while read_piece(reader, most, into)? {}
+    Ok(())
+}
+
+/// Writes some of the bytes, and answers how many the writer took: none where it answers an error.
+fn write_piece<W: Write>(writer: &mut W, bytes: &[u8]) -> usize
+    ensures most { result ≤ length bytes.now }
+    ensures taken { Appends (W.contents writer.old) (W.contents writer.new) (take result bytes.now) }
+{
+    match writer.write(bytes) {
+        Ok(count) => count,
+        Err(_) => 0,
+    }
+}
+
+/// Writes all the bytes, and answers whether the writer took them: not where it answers an error, or takes no byte of what is left.
+pub fn write_whole<W: Write>(writer: &mut W, bytes: &[u8]) -> bool
+    ensures whole { IsTrue result → Appends (W.contents writer.old) (W.contents writer.new) bytes.now }
+    ensures part { IsFalse result → AppendsInPart (W.contents writer.old) (W.contents writer.new) bytes.now }
+{
+    let mut rest = bytes;
+    while !rest.is_empty() {
+        let count = write_piece(writer, rest);
+        if count == 0 {
+            return false;
+        }
+        rest = &rest[count..];
+    }
+    true
+}
