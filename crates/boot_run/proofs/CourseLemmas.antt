@@ -1,10 +1,7 @@
 -- How a run that follows a plan ends: five ways, and what each says of the store and of the sink.
-use Rattle.std.proofs.Common.{◌≡◌, ◌⊎◌, ℕ, ◌≤◌, IsTrue, Result, Ok, Err, true, false, Option, Some, List, [], ◌∷◌, string_bytes, refl, sym, ◌∙◌, ap, subst, inl, inr, arith}
+use Rattle.std.proofs.Common.{◌≡◌, ◌⊎◌, ℕ, ◌≤◌, IsTrue, Result, Ok, Err, Option, List, [], ◌∷◌, string_bytes, refl, sym, ◌∙◌, ap, subst, inl, inr, arith}
 use Rattle.std.proofs.lemmas.Bool.{OnTrue_at}
 use Rattle.pico_board.specs.Board.{Rose}
-use Rattle.pico_board.specs.declared.Cpu.{Cpu}
-use Rattle.pico_board.specs.declared.BootKind.{BootKind}
-use Rattle.pico_board.specs.declared.StoreFail.{StoreFail}
 use Rattle.pico_board.specs.declared.StoreFail.TheVariants.{Fault as StoreFault, Memory as StoreMemory}
 use Rattle.pico_board.specs.declared.SinkFail.{SinkFail}
 use Rattle.pico_board.specs.declared.SinkFail.TheVariants.{Fault as SinkFault, Memory as SinkMemory}
@@ -12,12 +9,10 @@ use Rattle.pico_board.specs.Files.{File, StoreState, Access, Reads, GoesOn, IsRe
 use Rattle.pico_board.specs.Puts.{SinkState, Put, Takes, TakesAll}
 use Rattle.boot_run.specs.declared.status.Status.{Status}
 use Rattle.boot_run.specs.declared.status.Status.TheVariants.{ReadFault, OutputFault, Memory}
-use Rattle.boot_run.specs.Commands.{Command, Boot}
-use Rattle.boot_run.specs.Forms.{flash_limit, otp_limit}
-use Rattle.boot_run.specs.Outcome.{Outcome, Plan, Ends, Opens, boot_outcome, plan_of, is_finished}
+use Rattle.boot_run.specs.Outcome.{Outcome, Plan, Ends, Opens}
 use Rattle.boot_run.specs.declared.work.Answer.{Answer}
 use Rattle.boot_run.specs.Answers.{IsAnswer}
-use Rattle.boot_run.specs.Courses.{Course, Follows, Reaches, Runs, PutsOnce, read_course, unread_status, put_status}
+use Rattle.boot_run.specs.Courses.{Course, Follows, Reaches, Runs, PutsOnce, read_course, put_status}
 
 -- the plan opens an input
 abbrev pub IsOpening : Plan → Type 0
@@ -29,12 +24,18 @@ abbrev pub Misses : Option (List File) → Plan → Type 0
 Misses files (Ends o) = ⊥
 Misses files (Opens name limit next) = Lacks files name ⊎ ((bytes : List ℕ) × Misses files (next bytes))
 
+-- these calls read each input of the plan, which then ends with this outcome
+abbrev pub ReadsAll : Plan → List Access → Outcome → Type 0
+ReadsAll (Ends o) calls reached = (calls ≡ []) × (reached ≡ o)
+ReadsAll (Opens name limit next) calls reached =
+    (bytes : List ℕ) × (rest : List Access) × (calls ≡ (Reads name limit (Ok bytes) ∷ rest)) × ReadsAll (next bytes) rest reached
+
 -- how a course of the plan ends, on a store that showed s and then shows t
 pub data Ending (s t : StoreState) (plan : Plan) (course : Course) : Type 0 where
   no_memory : course.puts ≡ [] → course.status ≡ Memory → Ending s t plan course
   not_read : course.puts ≡ [] → course.status ≡ ReadFault → IsOpening plan → Rose s.read_faults t.read_faults
       → (IsTrue s.steady → Misses s.files plan) → Ending s t plan course
-  was_put : (o : Outcome) → Reaches s.files plan o → (answer : Result (Unit {0}) SinkFail)
+  was_put : (o : Outcome) → Reaches s.files plan o → ReadsAll plan course.calls o → (answer : Result (Unit {0}) SinkFail)
       → course.puts ≡ (record { bytes = o.text; answer = answer } ∷ []) → course.status ≡ put_status o.status answer → Ending s t plan course
 
 -- an input was read before
@@ -45,8 +46,8 @@ ending-read s m t name limit next bytes rest read same on (no_memory none is) = 
 ending-read s m t name limit next bytes rest read same on (not_read none is opening rose misses) =
     not_read none is tt (let before : s.read_faults ≤ m.read_faults = on.reads in omega (arith, before, rose))
     (λ steady. inr (bytes, subst (λ files. Misses files (next bytes)) same (misses (OnTrue_at steady on.steady))))
-ending-read s m t name limit next bytes rest read same on (was_put o reaches answer puts is) =
-    was_put o (bytes, read, subst (λ files. Reaches files (next bytes) o) same reaches) answer puts is
+ending-read s m t name limit next bytes rest read same on (was_put o reaches reads answer puts is) =
+    was_put o (bytes, read, subst (λ files. Reaches files (next bytes) o) same reaches) (bytes, rest.calls, refl, reads) answer puts is
 
 module _ {S : Type 0} (state : S → StoreState) (served : S → List Access → Type 0) where
   -- what is said of a course, where the old store answers its calls and is then the new one
@@ -59,7 +60,7 @@ module _ {S : Type 0} (state : S → StoreState) (served : S → List Access →
       subst (EndsBetween old new (Ends o)) (sym is) (λ (serves : new ≡ old). (no_memory refl refl, ap (λ x. (state x).files) serves))
   course-ends (Ends o) course old new (inr (answer, is)) =
       subst (EndsBetween old new (Ends o)) (sym is)
-      (λ (serves : new ≡ old). (was_put o refl answer refl refl, ap (λ x. (state x).files) serves))
+      (λ (serves : new ≡ old). (was_put o refl (refl, refl) answer refl refl, ap (λ x. (state x).files) serves))
   course-ends (Opens name limit next) course old new (inl is) =
       subst (EndsBetween old new (Opens name limit next)) (sym is) (λ (serves : new ≡ old). (no_memory refl refl, ap (λ x. (state x).files) serves))
   course-ends (Opens name limit next) course old new (inr (inl (StoreFault, is))) =
@@ -85,7 +86,7 @@ module _ {S : Type 0} (state : S → StoreState) (served : S → List Access →
       no_room : after ≡ before → status ≡ Memory → RunEnd plan old before status new after
       unread : after ≡ before → status ≡ ReadFault → IsOpening plan → Rose (state old).read_faults (state new).read_faults
           → (IsTrue (state old).steady → Misses (state old).files plan) → RunEnd plan old before status new after
-      whole : (o : Outcome) → Reaches (state old).files plan o → (done : Unit {0})
+      whole : (o : Outcome) → Reaches (state old).files plan o → (calls : List Access) → ReadsAll plan calls o → ServesAll state served old calls new → (done : Unit {0})
           → Takes shown taken before (record { bytes = o.text; answer = Ok done }) after → status ≡ o.status → RunEnd plan old before status new after
       failed : (o : Outcome) → Reaches (state old).files plan o
           → Takes shown taken before (record { bytes = o.text; answer = Err SinkFault }) after → status ≡ OutputFault → RunEnd plan old before status new after
@@ -101,22 +102,22 @@ module _ {S : Type 0} (state : S → StoreState) (served : S → List Access →
         subst (λ x. Takes shown taken before put x) (sym all.2) all.1
 
     ending-run : (plan : Plan) (course : Course) (old new : S) (before after : K) (status : Status) → Ending (state old) (state new) plan course
-        → status ≡ course.status → TakesAll shown taken before course.puts after → RunEnd plan old before status new after
-    ending-run plan course old new before after status (no_memory none is) same takes = no_room (took-none course.puts before after none takes) (same ∙ is)
-    ending-run plan course old new before after status (not_read none is opening rose misses) same takes =
+        → status ≡ course.status → ServesAll state served old course.calls new → TakesAll shown taken before course.puts after → RunEnd plan old before status new after
+    ending-run plan course old new before after status (no_memory none is) same serves takes = no_room (took-none course.puts before after none takes) (same ∙ is)
+    ending-run plan course old new before after status (not_read none is opening rose misses) same serves takes =
         unread (took-none course.puts before after none takes) (same ∙ is) opening rose misses
-    ending-run plan course old new before after status (was_put o reaches (Ok done) puts is) same takes =
-        whole o reaches done (took-one course.puts _ before after puts takes) (same ∙ is)
-    ending-run plan course old new before after status (was_put o reaches (Err SinkFault) puts is) same takes =
+    ending-run plan course old new before after status (was_put o reaches reads (Ok done) puts is) same serves takes =
+        whole o reaches course.calls reads serves done (took-one course.puts _ before after puts takes) (same ∙ is)
+    ending-run plan course old new before after status (was_put o reaches reads (Err SinkFault) puts is) same serves takes =
         failed o reaches (took-one course.puts _ before after puts takes) (same ∙ is)
-    ending-run plan course old new before after status (was_put o reaches (Err SinkMemory) puts is) same takes =
+    ending-run plan course old new before after status (was_put o reaches reads (Err SinkMemory) puts is) same serves takes =
         put_no_room o reaches (took-one course.puts _ before after puts takes) (same ∙ is)
 
 module _ {S K : Type 0} {state : S → StoreState} {served : S → List Access → Type 0} {shown : K → SinkState} {taken : K → List Put → Type 0}
     {plan : Plan} {old new : S} {before after : K} {status : Status} where
   pub run-end : Runs state served shown taken plan old before status new after → RunEnd state served shown taken plan old before status new after
   run-end runs =
-      ending-run state served shown taken plan runs.course old new before after status (course-ends state served plan runs.course old new runs.follows runs.calls).0 runs.ends runs.puts
+      ending-run state served shown taken plan runs.course old new before after status (course-ends state served plan runs.course old new runs.follows runs.calls).0 runs.ends runs.calls runs.puts
 
   pub run-files : Runs state served shown taken plan old before status new after → (state new).files ≡ (state old).files
   run-files runs = (course-ends state served plan runs.course old new runs.follows runs.calls).1
@@ -130,64 +131,3 @@ puts-outcome shown taken o wanted answer text result old new same is bytes once 
   ends = once.ends ∙ ap (λ s. put_status s once.answer) (is.status ∙ ap (λ (x : Outcome). x.status) same);
   takes = subst (λ t. Takes shown taken old (record { bytes = t; answer = once.answer }) new) (bytes ∙ (is.text ∙ ap (λ (x : Outcome). x.text) same)) once.takes;
 }
-
--- the course of a boot that put its whole text
-record BootCourse (flash otp : List ℕ) (cpu : Cpu) (kind : BootKind) (course : Course) : Type 0 where
-  f : List ℕ
-  g : List ℕ
-  calls : course.calls ≡ (Reads flash flash_limit (Ok f) ∷ Reads otp otp_limit (Ok g) ∷ [])
-  puts : course.puts ≡ (record { bytes = (boot_outcome flash otp cpu kind f g).text; answer = Ok tt } ∷ [])
-  status : course.status ≡ (boot_outcome flash otp cpu kind f g).status
-
-no-memory-finished : (status : Status) → status ≡ Memory → is_finished status ≡ true → ⊥
-no-memory-finished status is ends = let e : false ≡ true = sym (ap is_finished is) ∙ ends in cc
-
-unread-finished : (fail : StoreFail) (status : Status) → status ≡ unread_status fail → is_finished status ≡ true → ⊥
-unread-finished StoreFault status is ends = let e : false ≡ true = sym (ap is_finished is) ∙ ends in cc
-unread-finished StoreMemory status is ends = let e : false ≡ true = sym (ap is_finished is) ∙ ends in cc
-
-put-finished : (wanted : Status) (answer : Result (Unit {0}) SinkFail) → is_finished (put_status wanted answer) ≡ true → answer ≡ Ok tt
-put-finished wanted (Ok done) ends = refl
-put-finished wanted (Err SinkFault) ends = cc
-put-finished wanted (Err SinkMemory) ends = cc
-
-boot-course : (flash otp : List ℕ) (cpu : Cpu) (kind : BootKind) (course : Course) → Follows (plan_of (Some (Boot flash otp cpu kind))) course
-    → is_finished course.status ≡ true → BootCourse flash otp cpu kind course
-boot-course flash otp cpu kind course (inl is) ends = absurd (no-memory-finished course.status (ap (λ (c : Course). c.status) is) ends)
-boot-course flash otp cpu kind course (inr (inl (fail, is))) ends = absurd (unread-finished fail course.status (ap (λ (c : Course). c.status) is) ends)
-boot-course flash otp cpu kind course (inr (inr (f, rest, is, inl none))) ends =
-    absurd (no-memory-finished course.status (ap (λ (c : Course). c.status) is ∙ ap (λ (c : Course). c.status) none) ends)
-boot-course flash otp cpu kind course (inr (inr (f, rest, is, inr (inl (fail, not))))) ends =
-    absurd (unread-finished fail course.status (ap (λ (c : Course). c.status) is ∙ ap (λ (c : Course). c.status) not) ends)
-boot-course flash otp cpu kind course (inr (inr (f, rest, is, inr (inr (g, last, then, inl none))))) ends =
-    absurd (no-memory-finished course.status (ap (λ (c : Course). c.status) is ∙ (ap (λ (c : Course). c.status) then ∙ ap (λ (c : Course). c.status) none)) ends)
-boot-course flash otp cpu kind course (inr (inr (f, rest, is, inr (inr (g, last, then, inr (answer, put)))))) ends =
-    let o = boot_outcome flash otp cpu kind f g in
-    let status : course.status ≡ put_status o.status answer = ap (λ (c : Course). c.status) is ∙ (ap (λ (c : Course). c.status) then ∙ ap (λ (c : Course). c.status) put) in
-    let ok : answer ≡ Ok tt = put-finished o.status answer (sym (ap is_finished status) ∙ ends) in
-    record {
-      f = f;
-      g = g;
-      calls = ap (λ (c : Course). c.calls) is ∙ ap (λ calls. Reads flash flash_limit (Ok f) ∷ calls)
-          (ap (λ (c : Course). c.calls) then ∙ ap (λ calls. Reads otp otp_limit (Ok g) ∷ calls) (ap (λ (c : Course). c.calls) put));
-      puts = ap (λ (c : Course). c.puts) is ∙ (ap (λ (c : Course). c.puts) then ∙ (ap (λ (c : Course). c.puts) put
-          ∙ ap (λ (a : Result (Unit {0}) SinkFail). let one : Put = record { bytes = o.text; answer = a } in one ∷ []) ok));
-      status = status ∙ ap (put_status o.status) ok;
-    }
-
-module _ {S K : Type 0} {state : S → StoreState} {served : S → List Access → Type 0} {shown : K → SinkState} {taken : K → List Put → Type 0}
-    (words : Option Command) {old new : S} {before after : K} {status : Status} where
-  -- a boot that puts its whole text read its two files, and put the text of the outcome by their bytes
-  pub run-boots : Runs state served shown taken (plan_of words) old before status new after → (flash otp : List ℕ) (cpu : Cpu) (kind : BootKind)
-      → is_finished status ≡ true → words ≡ Some (Boot flash otp cpu kind) → (f : List ℕ) × (g : List ℕ)
-      × ServesAll state served old (Reads flash flash_limit (Ok f) ∷ Reads otp otp_limit (Ok g) ∷ []) new
-      × (status ≡ (boot_outcome flash otp cpu kind f g).status)
-      × Takes shown taken before (record { bytes = (boot_outcome flash otp cpu kind f g).text; answer = Ok tt }) after
-  run-boots runs flash otp cpu kind ends command =
-      let boot = boot-course flash otp cpu kind runs.course (subst (λ w. Follows (plan_of w) runs.course) command runs.follows) (sym (ap is_finished runs.ends) ∙ ends) in (
-        boot.f,
-        boot.g,
-        subst (λ calls. ServesAll state served old calls new) boot.calls runs.calls,
-        runs.ends ∙ boot.status,
-        took-one state served shown taken runs.course.puts _ before after boot.puts runs.puts,
-      )

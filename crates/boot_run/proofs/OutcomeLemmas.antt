@@ -20,7 +20,7 @@ use Rattle.boot_rules.proofs.BuiltLemmas.{all-built}
 use Rattle.boot_rules.proofs.DecisionLemmas.{chosen-decision}
 use Rattle.boot_run.specs.Forms.{flash_limit, otp_limit, flash_fault, filled, content_of, IsFlashFile}
 use Rattle.boot_run.specs.Courses.{Reaches}
-use Rattle.boot_run.specs.Outcome.{Outcome, refused, decided, formed_outcome, judged_outcome, boot_outcome, plan_of, plan_outcome, opened_outcome, known_outcome, is_finished}
+use Rattle.boot_run.specs.Outcome.{Outcome, refused, decided, formed_outcome, judged_outcome, boot_outcome, Plan, Ends, Opens, plan_of, plan_outcome, opened_outcome, known_outcome, is_finished}
 
 -- a test of a length that is cut above the limit
 cut-test : (limit m n : ℕ) → limit ≤ m → nat_lt limit (suc (min m n)) ≡ nat_lt limit (suc n)
@@ -87,6 +87,11 @@ boot-known flash otp cpu kind files f g read_f read_g = go (file_of files flash)
         ∙ ap (λ b. opened_outcome b (λ w. boot_outcome flash otp cpu kind x w)) is_y)))
     go (Some x) None is_x is_y cut_f cut_g = absurd cut_g
     go None b is_x is_y cut_f cut_g = absurd cut_f
+
+-- told files have an outcome
+pub known-told : (plan : Plan) (files : List File) → known_outcome plan (Some files) ≡ Some (plan_outcome files plan)
+known-told (Ends o) files = refl
+known-told (Opens name limit next) files = refl
 
 -- on told files the outcome that a plan reaches is the one that is known
 pub reached-known : (words : Option Command) (files : Option (List File)) (reached o : Outcome)

@@ -10,7 +10,7 @@ use Rattle.boot_rules.specs.Choosing.{decision_in}
 use Rattle.boot_rules.specs.Built.{is_built}
 use Rattle.boot_run.specs.declared.status.Status.{Status}
 use Rattle.boot_run.specs.declared.status.Status.TheVariants.{Done, Words, Input, Bootsel, ReadFault, WriteFault, OutputFault, Memory}
-use Rattle.boot_run.specs.Commands.{Command, Boot}
+use Rattle.boot_run.specs.Commands.{Command, Boot, command_of}
 use Rattle.boot_run.specs.Forms.{flash_limit, otp_limit, flash_fault, content_of}
 use Rattle.boot_run.specs.Texts.{decision_line, input_line}
 
@@ -84,6 +84,10 @@ opened_outcome (Some bytes) next = next bytes
 abbrev pub plan_outcome : List File → Plan → Outcome
 plan_outcome files (Ends o) = o
 plan_outcome files (Opens name limit next) = opened_outcome (file_of files name) (λ bytes. plan_outcome files (next bytes))
+
+-- the outcome of the words on these files
+abbrev pub outcome : List (List ℕ) → List File → Outcome
+outcome words files = plan_outcome files (plan_of (command_of words))
 
 -- the outcome of a plan, where it opens no input or the store tells its files
 abbrev pub known_outcome : Plan → Option (List File) → Option Outcome

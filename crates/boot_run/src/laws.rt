@@ -1,6 +1,7 @@
-//! What the outcome of a boot is by the bytes of its two files, whichever store they were read from.
+//! Which outcome is known on told files, and what that of a boot is by the bytes of its two files.
 
-ghost use Rattle.std.specs.Prelude.{◌≡◌, ◌↔◌, ◌+◌, ℕ, List, [], take};
+ghost use Rattle.std.specs.Prelude.{◌≡◌, ◌↔◌, ◌+◌, ℕ, List, [], Some, take};
+ghost use Rattle.pico_board.specs.Files.{File};
 ghost use Rattle.pico_board.specs.declared.boot.Cpu.TheVariants.{Arm};
 ghost use Rattle.pico_board.specs.declared.boot.BootKind.TheVariants.{Normal};
 ghost use Rattle.boot_rules.specs.declared.Decision.{Decision};
@@ -9,7 +10,14 @@ ghost use Rattle.boot_rules.specs.Chosen.{Chosen};
 ghost use Rattle.boot_run.specs.declared.status.Status.TheVariants.{Input, Bootsel};
 ghost use Rattle.boot_run.specs.Causes.{IsRefused, Falls};
 ghost use Rattle.boot_run.specs.Forms.{IsFlashFile, flash_limit, otp_limit, filled, content_of};
-ghost use Rattle.boot_run.specs.Outcome.{boot_outcome, decided};
+ghost use Rattle.boot_run.specs.Commands.{command_of};
+ghost use Rattle.boot_run.specs.Outcome.{boot_outcome, decided, plan_of, known_outcome, outcome};
+
+/// Where the files are told, the outcome that is known is that of the words on them.
+pub fn told_files_have_the_outcome()
+    ensures { (words : List (List ℕ)) (files : List File)
+        → known_outcome (plan_of (command_of words)) (Some files) ≡ Some (outcome words files) }
+{}
 
 /// The outcome by the bytes that a run reads, which `run` puts and answers on every store.
 pub fn outcomes_of_a_boot()

@@ -7,8 +7,8 @@ use Rattle.boot_run.specs.Forms.{content_of}
 use Rattle.boot_rules.proofs.DecisionLemmas.{chosen-not_below}
 use Rattle.boot_run.proofs.OutcomeLemmas.{decided-known, files-known, status-exactly}
 use Rattle.boot_run.proofs.CauseLemmas.{input-exactly, bootsel-exactly, boot-of}
-use Rattle.boot_run.proofs.CourseLemmas.{run-end, run-files, run-boots}
-use Rattle.boot_run.proofs.EndLemmas.{end-finished, end-unfinished, end-words, end-no_command, end-read_fault, end-no_write, end-output_fault, end-put_last, end-memory, end-complete, end-steady_reads, end-steady_puts}
+use Rattle.boot_run.proofs.CourseLemmas.{run-end, run-files}
+use Rattle.boot_run.proofs.EndLemmas.{end-finished, end-unfinished, end-words, end-no_command, end-read_fault, end-no_write, end-output_fault, end-put_last, end-memory, end-complete, end-steady_reads, end-steady_puts, end-boots}
 use Rattle.boot_run.proofs.program.run.Goals as goal
 
 pub returns-clause-finished : goal.returns-clause-finished
@@ -76,5 +76,5 @@ returns-clause-steady_puts g c = end-steady_puts _ (run-end c.run_words.ensures)
 
 pub returns-clause-boots : goal.returns-clause-boots
 returns-clause-boots g c = λ flash otp ends command.
-    let boot = run-boots _ c.run_words.ensures flash otp Arm Normal ends command in
+    let boot = end-boots _ (run-end c.run_words.ensures) flash otp Arm Normal ends command in
     (boot.0, boot.1, boot.2, boot-of flash otp boot.0 boot.1 _ boot.3, boot.4)
