@@ -9,3 +9,4 @@ pub mod WriteLemmas
 pub mod AtLemmas
 pub mod HighByteLemmas
 pub mod PageLemmas
+mod KindLemmas

@@ -1,18 +1,29 @@
 -- What image definitions and partition tables read alike in items: kinds under both spellings,
 -- VERSION, HASH_DEF and HASH_VALUE (RP2350 Datasheet, chapter 5, Bootrom, "Common block items").
-use Rattle.std.specs.Prelude.{ℕ, ◌+◌, ◌/◌, ◌==◌, ◌&&◌, if◌then◌else◌, List, slice_index, slice_range, filter, Option, Some, None}
+use Rattle.std.specs.Prelude.{ℕ, ◌+◌, ◌/◌, ◌==◌, ◌&&◌, if◌then◌else◌, List, slice_index, slice_range, filter, find, Bool, Option, Some, None}
 use Rattle.block_codec.specs.declared.items.Item.{Item}
+use Rattle.block_codec.specs.declared.kinds.TheConstants.{LOAD_MAP, HASH_VALUE, PARTITION_TABLE, LONG_LOAD_MAP, LONG_HASH_VALUE, LONG_PARTITION_TABLE}
 use Rattle.block_codec.specs.declared.versions.Version.{Version}
 use Rattle.block_codec.specs.Words.{bytes_of, low_half, high_half}
 
 -- the first spelling of a type byte: LOAD_MAP, HASH_VALUE and PARTITION_TABLE have a second one,
 -- with the top bit set; each other type byte is its own
-abbrev pub kind_of : ℕ → ℕ
-kind_of kind = if kind == 0x86 then 0x06 else (if kind == 0xcb then 0x4b else (if kind == 0x8a then 0x0a else kind))
+abbrev pub first_spelling : ℕ → ℕ
+first_spelling kind =
+    if kind == LONG_LOAD_MAP then LOAD_MAP
+    else (if kind == LONG_HASH_VALUE then HASH_VALUE else (if kind == LONG_PARTITION_TABLE then PARTITION_TABLE else kind))
 
--- the items of a kind, in order; the kind is given by its first spelling
+-- an item is of this kind, which is named by its first spelling
+abbrev pub is_of_kind : ℕ → Item → Bool
+is_of_kind kind item = first_spelling item.kind == kind
+
+-- the items of a kind, in order
 abbrev pub items_of_kind : ℕ → List Item → List Item
-items_of_kind kind items = filter (λ (item : Item). kind_of item.kind == kind) items
+items_of_kind kind items = filter (is_of_kind kind) items
+
+-- the first item of a kind
+abbrev pub item_of_kind : ℕ → List Item → Option Item
+item_of_kind kind items = find (is_of_kind kind) items
 
 -- the size in words of a VERSION item that lists this many rollback rows
 abbrev pub version_words : ℕ → ℕ

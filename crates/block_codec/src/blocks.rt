@@ -98,7 +98,7 @@ impl Block {
     }
 
     /// A word of one of the block's items, counted from its header as 0.
-    pub(crate) fn item_word(&self, item: &Item, k: u32) -> u32
+    pub fn item_word(&self, item: &Item, k: u32) -> u32
         requires of_block { Contains (items_of self.now.items) item.now }
         requires within { k < item.now.words }
         ensures { result ≡ slice_index (block_words self.now) (item.now.first + k) }

@@ -8,6 +8,7 @@ mod blocks;
 mod definition;
 mod error;
 mod items;
+pub mod kinds;
 pub mod laws;
 mod reading;
 mod versions;

@@ -1,6 +1,6 @@
 -- The definition that a block gives, or its first fault (RP2350 Datasheet, chapter 5, "Image
 -- definition items"; the faults and their order are this project's own).
-use Rattle.std.specs.Prelude.{ℕ, ◌+◌, ◌*◌, ◌%◌, pos, Bool, not, ◌&&◌, ◌||◌, if◌then◌else◌, ◌==◌, nat_le, List, [], length, slice_index, find, position, is_some, Option, Some, None, Result, Ok, Err, option_map, option_and_then, unwrap_or}
+use Rattle.std.specs.Prelude.{ℕ, ◌+◌, ◌*◌, ◌%◌, pos, Bool, not, ◌&&◌, ◌||◌, if◌then◌else◌, ◌==◌, nat_le, List, [], length, slice_index, position, is_some, Option, Some, None, Result, Ok, Err, option_map, option_and_then, unwrap_or}
 use Rattle.std.specs.List.{list_any}
 use Rattle.std.specs.Option.{option_map_or}
 use Rattle.std.specs.Int.{w32, cast_signed}
@@ -10,16 +10,12 @@ use Rattle.block_codec.specs.declared.definition.Def.{Def}
 use Rattle.block_codec.specs.declared.definition.EntryPoint.{EntryPoint}
 use Rattle.block_codec.specs.Items.{items_of}
 use Rattle.block_codec.specs.Blocks.{BlockView, block_words}
-use Rattle.block_codec.specs.Kinds.{kind_of, version_of, hash_count_of, digest_of}
+use Rattle.block_codec.specs.Kinds.{first_spelling, is_of_kind, item_of_kind, version_of, hash_count_of, digest_of}
 use Rattle.block_codec.specs.FirstFault.{first_fault}
 use Rattle.image_def.specs.declared.definition.DefFault.{DefFault}
 use Rattle.image_def.specs.declared.definition.DefFault.TheVariants.{Repeated, BadItem}
 use Rattle.image_def.specs.Flags.{flags_of}
 use Rattle.image_def.specs.Rows.{rollback_in, rows_in, row_fault}
-
--- an item is of this kind, in either of its spellings
-abbrev pub is_of_kind : ℕ → Item → Bool
-is_of_kind kind item = kind_of item.kind == kind
 
 -- the kinds that an image definition reads; all others are passed over
 abbrev pub is_read_kind : ℕ → Bool
@@ -34,7 +30,7 @@ is_right_version words item =
 -- an item of a kind that is read has the size, and the header byte, of its kind
 abbrev pub is_well_formed : List ℕ → Item → Bool
 is_well_formed words item =
-    let kind = kind_of item.kind in
+    let kind = first_spelling item.kind in
     if kind == 0x42 then item.words == 1
     else if kind == 0x03 then item.words == 2
     else if kind == 0x44 then item.words == 3 || item.words == 4
@@ -47,7 +43,7 @@ is_well_formed words item =
 -- the fault of an item behind the items before it
 abbrev pub item_fault : List ℕ → List Item → Item → Option DefFault
 item_fault words before item =
-    let kind = kind_of item.kind in
+    let kind = first_spelling item.kind in
     if not (is_read_kind kind) then None
     else if list_any (is_of_kind kind) before then Some (Repeated kind)
     else if not (is_well_formed words item) then Some (BadItem kind)
@@ -62,18 +58,14 @@ hash_fault (Some place) (Some count) size = if nat_le count place then None else
 hash_fault None (Some count) size = if nat_le count size then None else Some (BadItem 0x47)
 hash_fault None None size = None
 
--- the only item of a kind
-abbrev pub item_of : ℕ → List Item → Option Item
-item_of kind items = find (is_of_kind kind) items
-
 -- the number of block words that are hashed, where a HASH_DEF item names it
 abbrev pub hash_count_in : List ℕ → List Item → Option ℕ
-hash_count_in words items = option_and_then (hash_count_of words) (item_of 0x47 items)
+hash_count_in words items = option_and_then (hash_count_of words) (item_of_kind 0x47 items)
 
 -- the first fault of a block: that of the least item that has one, or else the one for after all items
 abbrev pub def_fault : List ℕ → List Item → Option DefFault
 def_fault words items =
-    let after_all = hash_fault (option_map (λ item. item.first) (item_of 0x4b items)) (hash_count_in words items) (length words) in
+    let after_all = hash_fault (option_map (λ item. item.first) (item_of_kind 0x4b items)) (hash_count_in words items) (length words) in
     option_map_or Some (first_fault (item_fault words) items) after_all
 
 -- PC and SP of an ENTRY_POINT item, and its limit, or 0 where it has none
@@ -91,17 +83,17 @@ no_version = record { major = 0; minor = 0 }
 -- each field is that of the only item of its kind
 abbrev pub def_record : List ℕ → List Item → Def
 def_record words items = record {
-  flags = option_map_or flags_of (item_of 0x42 items) 0;
-  image_word = option_map_or (λ item. item.first) (item_of 0x42 items) 0;
-  vector = option_map (λ item. slice_index words (item.first + 1)) (item_of 0x03 items);
-  entry_point = option_map (entry_point_in words) (item_of 0x44 items);
-  delta = option_map_or (λ item. cast_signed w32 (slice_index words (item.first + 1))) (item_of 0x05 items) (pos 0);
+  flags = option_map_or flags_of (item_of_kind 0x42 items) 0;
+  image_word = option_map_or (λ item. item.first) (item_of_kind 0x42 items) 0;
+  vector = option_map (λ item. slice_index words (item.first + 1)) (item_of_kind 0x03 items);
+  entry_point = option_map (entry_point_in words) (item_of_kind 0x44 items);
+  delta = option_map_or (λ item. cast_signed w32 (slice_index words (item.first + 1))) (item_of_kind 0x05 items) (pos 0);
   map_item = position (is_of_kind 0x06) items;
   hash_words = unwrap_or (hash_count_in words items) 0;
-  digest = option_and_then (digest_of words) (item_of 0x4b items);
-  version = unwrap_or (option_and_then (version_of words) (item_of 0x48 items)) no_version;
-  rollback = option_and_then (rollback_in words) (item_of 0x48 items);
-  rows = record { items = option_map_or (rows_in words) (item_of 0x48 items) [] };
+  digest = option_and_then (digest_of words) (item_of_kind 0x4b items);
+  version = unwrap_or (option_and_then (version_of words) (item_of_kind 0x48 items)) no_version;
+  rollback = option_and_then (rollback_in words) (item_of_kind 0x48 items);
+  rows = record { items = option_map_or (rows_in words) (item_of_kind 0x48 items) [] };
 }
 
 -- the value, unless there is a fault

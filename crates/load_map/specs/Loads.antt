@@ -1,7 +1,7 @@
 -- The entries of a LOAD_MAP item. Source: RP2350 Datasheet, chapter 5, Bootrom, "Load map".
 use Rattle.std.specs.Prelude.{ℕ, zero, suc, ◌+◌, ◌*◌, ◌%◌, ◌==◌, ◌&&◌, nat_le, Bool, List, [], ◌∷◌, slice_index}
 use Rattle.block_codec.specs.declared.Item.{Item}
-use Rattle.block_codec.specs.Kinds.{kind_of}
+use Rattle.block_codec.specs.Kinds.{first_spelling}
 
 -- the three words of an entry: the place of its storage, or 0 for a clear entry; the runtime address; and its size, or the end of
 -- its storage
@@ -20,7 +20,7 @@ is_absolute item = nat_le 128 item.high
 
 -- the item is a LOAD_MAP, in either spelling, with three words for each entry
 abbrev pub is_load_map : Item → Bool
-is_load_map item = kind_of item.kind == 0x06 && item.words == 1 + 3 * entry_count item
+is_load_map item = first_spelling item.kind == 0x06 && item.words == 1 + 3 * entry_count item
 
 -- k entries of three words each, of which the first begins at a place among a block's words
 abbrev pub entries_from : List ℕ → ℕ → ℕ → List Entry

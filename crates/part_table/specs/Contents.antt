@@ -1,5 +1,5 @@
 -- What a block with a PARTITION_TABLE item says.
-use Rattle.std.specs.Prelude.{ℕ, Bool, true, false, ◌+◌, ◌%◌, ◌==◌, ◌||◌, List, [], ◌∷◌, length, take, nat_le, nat_lt, not, if◌then◌else◌, slice_range, find, is_none, unwrap_or, bytes_eq}
+use Rattle.std.specs.Prelude.{ℕ, Bool, true, false, ◌+◌, ◌%◌, ◌==◌, ◌||◌, List, [], ◌∷◌, length, take, nat_le, nat_lt, not, if◌then◌else◌, slice_range, is_none, unwrap_or, bytes_eq}
 use Rattle.std.specs.Prelude.{Option, None, Some, option_map, option_and_then}
 use Rattle.std.specs.List.{list_any}
 use Rattle.std.specs.Option.{option_map_or}
@@ -7,7 +7,7 @@ use Rattle.sha2.specs.Sha256.{sha256}
 use Rattle.block_codec.specs.declared.items.Item.{Item}
 use Rattle.block_codec.specs.declared.versions.Version.{Version}
 use Rattle.block_codec.specs.Words.{bytes_of}
-use Rattle.block_codec.specs.Kinds.{kind_of, items_of_kind, version_of, hash_count_of, digest_of}
+use Rattle.block_codec.specs.Kinds.{item_of_kind, items_of_kind, version_of, hash_count_of, digest_of}
 use Rattle.part_table.specs.declared.table.Table.{Table}
 use Rattle.part_table.specs.Fields.{has_bit}
 use Rattle.part_table.specs.Partitions.{partitions_in}
@@ -27,10 +27,6 @@ hash_def_kind = 0x47
 -- a HASH_VALUE item has the type byte 0x4b, or 0xcb with a long size (RP2350 Datasheet, chapter 5, Bootrom)
 abbrev pub hash_value_kind : ℕ
 hash_value_kind = 0x4b
-
--- the item of a kind is the first item with a type byte of that kind; where it counts it is the only one (this project's own)
-abbrev pub item_of_kind : ℕ → List Item → Option Item
-item_of_kind kind items = find (λ x. kind_of x.kind == kind) items
 
 -- the body of an item is its words after the header (RP2350 Datasheet, chapter 5, Bootrom)
 abbrev pub body_of : List ℕ → Item → List ℕ

@@ -8,7 +8,8 @@ use Rattle.block_codec.specs.Blocks.{BlockView, block_words}
 use Rattle.part_table.specs.declared.table.Table.{Table}
 use Rattle.part_table.specs.declared.table.TableFault.{TableFault}
 use Rattle.part_table.specs.declared.table.TableFault.TheVariants.{BadItem, Hash}
-use Rattle.part_table.specs.Contents.{table_kind, item_of_kind, table_in, has_wrong_digest}
+use Rattle.block_codec.specs.Kinds.{item_of_kind}
+use Rattle.part_table.specs.Contents.{table_kind, table_in, has_wrong_digest}
 use Rattle.part_table.specs.Faults.{table_fault}
 
 -- a block has a table where it has a PARTITION_TABLE item (RP2350 Datasheet, chapter 5, Bootrom)
