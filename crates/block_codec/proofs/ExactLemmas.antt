@@ -103,3 +103,12 @@ item_word-room u v xs item k whole same is among lt =
     let inside = (IsItemOf-from_contains u.items item whole.whole here).inside in
     let long = ap length is in
     omega arith
+
+-- and so it does of the words that callers see
+pub item_word-within : (u v : BlockView) (xs : List ℕ) (item : Item) (k : ℕ) → IsWhole u → u ≡ v → xs ≡ u.items
+    → Contains (items_of v.items) item → k < item.words → item.first + k < length v.items + 4
+item_word-within u v xs item k whole same is among lt =
+    let room = item_word-room u v xs item k whole same is among lt in
+    let long = ap length is in
+    let more = ap (λ (b : BlockView). length b.items) same in
+    omega arith

@@ -101,7 +101,9 @@ impl Block {
     pub fn item_word(&self, item: &Item, k: u32) -> u32
         requires of_block { Contains (items_of self.now.items) item.now }
         requires within { k < item.now.words }
-        ensures { result ≡ slice_index (block_words self.now) (item.now.first + k) }
+        ensures value { result ≡ slice_index (block_words self.now) (item.now.first + k) }
+        ensures within { item.now.first + k < length self.now.items + 4 }
+        ensures whole { IsWhole self.now }
     {
         word_in(self.items.as_slice(), self.link, item.first + k)
     }

@@ -9,6 +9,7 @@ ghost use Rattle.block_codec.specs.Words.{bytes_of};
 
 use crate::blocks::Block;
 use crate::items::Item;
+use crate::writing::put;
 use arrayvec::ArrayVec;
 
 /// The type byte of an IMAGE_TYPE item.
@@ -65,12 +66,12 @@ pub fn hash_count(block: &Block, item: &Item) -> Option<u32>
 fn digest_bytes(block: &Block, item: &Item) -> ArrayVec<u8, 32>
     requires of_block { Contains (items_of block.now.items) item.now }
     requires size { item.now.words ≡ 9 }
-    ensures { result.items ≡ bytes_of (slice_range (block_words block.now) (item.now.first + 1) (item.now.first + 9)) }
+    ensures value { result.items ≡ bytes_of (slice_range (block_words block.now) (item.now.first + 1) (item.now.first + 9)) }
+    ensures len { length result.items ≡ 32 }
 {
     let mut bytes = ArrayVec::new();
     for k in 1..9u32 {
-        let word = block.item_word(item, k);
-        bytes.try_extend_from_slice(&word.to_le_bytes()).unwrap();
+        put(&mut bytes, block.item_word(item, k));
     }
     bytes
 }

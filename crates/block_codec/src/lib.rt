@@ -7,6 +7,7 @@
 mod blocks;
 mod definition;
 mod error;
+pub mod examples;
 mod items;
 pub mod kinds;
 pub mod laws;

@@ -32,8 +32,8 @@ fn first_bad(items: &[u32]) -> Option<u32>
 
 /// Appends the four bytes of a word.
 #[tactic(auto, unfolding(crate::specs::Words::word_bytes))]
-fn put(bytes: &mut ArrayVec<u8, 640>, word: u32)
-    requires { length bytes.old.items ≤ 636 }
+pub(crate) fn put<const N: usize>(bytes: &mut ArrayVec<u8, N>, word: u32)
+    requires { length bytes.old.items + 4 ≤ N }
     ensures items { bytes.new.items ≡ bytes.old.items ++ word_bytes word }
     ensures len { length bytes.new.items ≡ length bytes.old.items + 4 }
 {
