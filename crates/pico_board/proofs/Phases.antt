@@ -38,13 +38,13 @@ outside_of at n xs ys i same (inl below) = same.below i below
 outside_of at n xs ys i same (inr above) = same.above i above
 
 -- a step elsewhere, done or torn, keeps the sector
-elsewhere-after : (c : Content) (s : ℕ) (step : Step) → IsElsewhere s step → IsSameSector s c (after c step)
+pub elsewhere-after : (c : Content) (s : ℕ) (step : Step) → IsElsewhere s step → IsSameSector s c (after c step)
 elsewhere-after c s (Erase t) ne i lt = changed-outside (λ i b. 255) (4096 * t) 4096 c.flash (4096 * s + i) (sector_apart s t i ne lt)
 elsewhere-after c s (Program p d) away i lt =
     changed-outside (λ i b. bit_and b (slice_index d i)) (256 * p) 256 c.flash (4096 * s + i) (page_from_sector s p i away lt)
 elsewhere-after c s (Raise r b) never i lt = absurd never
 
-elsewhere-torn : (c : Content) (s : ℕ) (step : Step) (d : Content) → IsElsewhere s step → Torn c step d → IsSameSector s c d
+pub elsewhere-torn : (c : Content) (s : ℕ) (step : Step) (d : Content) → IsElsewhere s step → Torn c step d → IsSameSector s c d
 elsewhere-torn c s (Erase t) d ne torn i lt = outside_of (4096 * t) 4096 c.flash d.flash (4096 * s + i) torn.outside (sector_apart s t i ne lt)
 elsewhere-torn c s (Program p bytes) d away torn i lt = outside_of (256 * p) 256 c.flash d.flash (4096 * s + i) torn.outside (page_from_sector s p i away lt)
 elsewhere-torn c s (Raise r b) d never torn i lt = absurd never
@@ -212,7 +212,7 @@ blank_elsewhere c s elsewhere inside apart =
     IsBlank-kept s (after c (Erase s)) (after_all (after c (Erase s)) elsewhere) (IsBlank-erase c s inside) (elsewhere-after_all (after c (Erase s)) s elsewhere apart)
 
 -- the first sector of a gated list lies in the flash where the window does
-first_inside : (c : Content) (steps : List Step) (w : Window) (s : ℕ) (elsewhere last : List Step) → IsGated steps w s elsewhere last
+pub first_inside : (c : Content) (steps : List Step) (w : Window) (s : ℕ) (elsewhere last : List Step) → IsGated steps w s elsewhere last
     → w.start + w.len ≤ length c.flash → 4096 * s + 4096 ≤ length c.flash
 first_inside c steps w s elsewhere last gated inside =
     let confined : Confined (Erase s ∷ (elsewhere ++ last)) w = subst (λ (xs : List Step). Confined xs w) gated.whole gated.confined in

@@ -89,13 +89,24 @@ pub fn phases_of_a_gated_list()
     ensures cut { (c : Content) (steps : List Step) (w : Window) (s : ℕ) (elsewhere last : List Step) (d : Content)
         → IsGated steps w s elsewhere last → w.start + w.len ≤ length c.flash → CutOf c steps d
         → TornErase c s d ⊎ (IsBlank s d ⊎ ((p : ℕ) × IsClosing (after_all c steps) s p d)) }
-    ensures settled { (c : Content) (steps : List Step) (w : Window) (s : ℕ) (elsewhere last : List Step) (d : Content)
-        → IsGated steps w s elsewhere last → CutOf c steps d
-        → (d ≡ c) ⊎ ((d ≡ after_all c steps) ⊎ (IsBlank s d ⊎ Unfinished c steps w d)) }
     ensures unfinished { (c : Content) (steps : List Step) (w : Window) (s : ℕ) (elsewhere last : List Step) (d : Content)
         → IsGated steps w s elsewhere last → w.start + w.len ≤ length c.flash → CutOf c steps d → Unfinished c steps w d
         → TornErase c s d ⊎ ((p : ℕ) × IsClosing (after_all c steps) s p d) }
     ensures prefix { (c : Content) (steps : List Step) (w : Window) (s : ℕ) (elsewhere last xs ys : List Step)
         → IsGated steps w s elsewhere last → w.start + w.len ≤ length c.flash → steps ≡ xs ++ ys
         → (xs ≡ []) ⊎ (IsBlank s (after_all c xs) ⊎ IsPartial (after_all c steps) s (after_all c xs)) }
+{}
+
+/// Which cuts of a gated list of a window inside the flash leave no unfinished content: those in any
+/// step but the first and the final programs, one before the first step, and one before the first of
+/// the final programs.
+pub fn cuts_that_leave_nothing_unfinished()
+    ensures elsewhere { (c : Content) (steps : List Step) (w : Window) (s : ℕ) (elsewhere last : List Step)
+        (k : ℕ) (step : Step) (d : Content)
+        → IsGated steps w s elsewhere last → w.start + w.len ≤ length c.flash
+        → 1 ≤ k → k ≤ length elsewhere → IsCutAt c steps k step d → ¬ (Unfinished c steps w d) }
+    ensures before_all { (c : Content) (steps : List Step) (w : Window) → ¬ (Unfinished c steps w c) }
+    ensures before_final { (c : Content) (steps : List Step) (w : Window) (s : ℕ) (elsewhere last : List Step)
+        → IsGated steps w s elsewhere last → w.start + w.len ≤ length c.flash
+        → ¬ (Unfinished c steps w (after_all c (take (1 + length elsewhere) steps))) }
 {}

@@ -1,5 +1,5 @@
 -- The cut falls in the erase, in a step elsewhere, or in a last program.
-use Rattle.pico_board.proofs.Phases.{phase, prefix_phase, settled_or_unfinished, unfinished_phase}
+use Rattle.pico_board.proofs.Phases.{phase, prefix_phase, unfinished_phase}
 use Rattle.pico_board.proofs.laws.phases_of_a_gated_list.Goals as goal
 
 pub returns-clause-cut : goal.returns-clause-cut
@@ -10,6 +10,3 @@ returns-clause-unfinished c = unfinished_phase
 
 pub returns-clause-prefix : goal.returns-clause-prefix
 returns-clause-prefix c = prefix_phase
-
-pub returns-clause-settled : goal.returns-clause-settled
-returns-clause-settled c = λ before steps window s elsewhere last left gated cut. settled_or_unfinished before steps window s elsewhere last left gated
