@@ -1,6 +1,6 @@
 -- The first fault of a list whose elements are judged in order, each by the elements before it:
 -- this project's own way to say "the first of these applies" (rows, items, entries, partitions).
-use Rattle.std.specs.Prelude.{◌≡◌, ℕ, ◌<◌, List, [], ◌∷◌, ◌++◌, take, slice_get, Option, Some, None}
+use Rattle.std.specs.Prelude.{◌≡◌, ℕ, ◌<◌, List, [], ◌∷◌, ◌++◌, take, slice_get, Option, Some, None, Result, Ok, Err}
 use Rattle.std.specs.Option.{option_or}
 
 -- the first fault among the elements, where the list `before` was judged already
@@ -11,6 +11,11 @@ first_from judge before (x ∷ xs) = option_or (judge before x) (first_from judg
 -- the first fault of a list
 abbrev pub first_fault : {X F : Type 0} → (List X → X → Option F) → List X → Option F
 first_fault judge xs = first_from judge [] xs
+
+-- the value, unless there is a fault
+abbrev pub ok_unless : {A F : Type 0} → Option F → A → Result A F
+ok_unless None value = Ok value
+ok_unless (Some fault) value = Err fault
 
 module _ {X F : Type 0} (judge : List X → X → Option F) where
   -- the element at place i has the fault f, and none before it has one
