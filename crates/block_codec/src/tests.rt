@@ -160,27 +160,36 @@ fn writes_blocks(rt: HostRuntime) -> Result<(), Fail> {
     Ok(())
 }
 
-/// The words of a digest, and the bytes that they stand for.
+/// The bytes of a digest.
 const DIGEST: [u8; 32] = [
     1, 2, 3, 4, 5, 6, 7, 8, 9, 10, 11, 12, 13, 14, 15, 16, 17, 18, 19, 20, 21, 22, 23, 24, 25, 26,
     27, 28, 29, 30, 31, 32,
 ];
 
 #[test]
-fn reads_hash_items(rt: HostRuntime) -> Result<(), Fail> {
-    let mut items = Vec::new(rt.alloc());
-    items.extend_from_slice(&[0x01000247, 0xffff0009, 0x000009cb])?;
-    for k in 0..8u32 {
-        items.push(0x04030201 + k * 0x04040404)?;
-    }
-    let mut bytes = Vec::new(rt.alloc());
-    write_block(rt.alloc(), items.as_slice(), 0, &mut bytes)?;
+fn reads_hash_counts(rt: HostRuntime) -> Result<(), Fail> {
+    let bytes = bytes_from(
+        rt.alloc(),
+        &[0xffffded3, 0x01000247, 0xffff0009, 0x2ff, 0, 0xab123579],
+    )?;
     let block = read_block(bytes.as_slice(), 0).ok_or("none")?;
-    let (count, value) = (block.item(0), block.item(1));
-    assert_eq!(rt; kinds::kind_of(value.kind), kinds::HASH_VALUE);
-    assert_eq!(rt; kinds::hash_count(&block, &count), Some(9));
-    assert_eq!(rt; kinds::hash_count(&block, &value), None);
-    assert_eq!(rt; kinds::digest(&block, &value), Some(DIGEST));
-    assert_eq!(rt; kinds::digest(&block, &count), None);
+    assert_eq!(rt; block.count(), 1);
+    let item = block.item(0);
+    assert_eq!(rt; kinds::kind_of(item.kind), kinds::HASH_DEF);
+    assert_eq!(rt; kinds::hash_count(&block, &item), Some(9));
+    Ok(())
+}
+
+#[test]
+fn reads_digests(rt: HostRuntime) -> Result<(), Fail> {
+    let mut bytes = bytes_from(rt.alloc(), &[0xffffded3, 0x9cb])?;
+    bytes.extend_from_slice(&DIGEST)?;
+    let end = bytes_from(rt.alloc(), &[0x9ff, 0, 0xab123579])?;
+    bytes.extend_from_slice(end.as_slice())?;
+    let block = read_block(bytes.as_slice(), 0).ok_or("none")?;
+    assert_eq!(rt; block.count(), 1);
+    let item = block.item(0);
+    assert_eq!(rt; kinds::kind_of(item.kind), kinds::HASH_VALUE);
+    assert_eq!(rt; kinds::digest(&block, &item), Some(DIGEST));
     Ok(())
 }
