@@ -1,9 +1,7 @@
 //! A sink in memory.
 
 ghost use Rattle.std.specs.Prelude.{◌≡◌, ◌↔◌, ◌+◌, ◌-◌, ◌^◌, [], ◌∷◌, min, IsErrOf, IsTrue, OnErr, OnOk};
-ghost use Rattle.pico_board.specs.Board.{Rose};
-ghost use Rattle.pico_board.specs.Puts.{PutsOn, IsPut, IsPutInPart};
-ghost use Rattle.pico_board.specs.Histories.{Extends};
+ghost use Rattle.pico_board.specs.Puts.{Takes};
 
 use crate::sink::{Sink, SinkFail};
 use std::alloc::Global;
@@ -53,12 +51,7 @@ impl Sink for MemSink {
     ghost history = { HasTaken };
 
     fn put(&mut self, bytes: &[u8]) -> Result<(), SinkFail>
-        ensures ok { OnOk result (IsPut (sink_state self.old).bytes bytes.now (sink_state self.new).bytes) }
-        ensures err { OnErr result (IsPutInPart (sink_state self.old).bytes bytes.now (sink_state self.new).bytes) }
-        ensures counts { PutsOn (sink_state self.old) (sink_state self.new) }
-        ensures fault { IsErrOf result SinkFail.Fault → Rose (sink_state self.old).faults (sink_state self.new).faults }
-        ensures steady { IsTrue (sink_state self.old).steady → ¬ (IsErrOf result SinkFail.Fault) }
-        ensures recorded { Extends HasTaken self.old (record { bytes = bytes.now; answer = result } ∷ []) self.new }
+        ensures taken { Takes sink_state HasTaken self.old (record { bytes = bytes.now; answer = result }) self.new }
         // A fault comes exactly at the listed puts, and no failed put appends anything.
         ensures listed { IsErrOf result SinkFail.Fault ↔ IsTrue (is_listed (bad_puts_of self.old) (puts_of self.old)) }
         ensures nothing { OnErr result (put_bytes self.new ≡ put_bytes self.old) }

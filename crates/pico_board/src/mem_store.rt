@@ -1,9 +1,7 @@
 //! A store in memory.
 
 ghost use Rattle.std.specs.Prelude.{◌≡◌, ◌⊎◌, ◌↔◌, ◌+◌, ◌-◌, ◌^◌, ◌≤◌, [], ◌∷◌, min, IsErrOf, IsTrue, MatchOption, None, OnErr, OnOk, Some, length, take};
-ghost use Rattle.pico_board.specs.Board.{Rose};
-ghost use Rattle.pico_board.specs.Files.{Reads, Writes, read_answer, GoesOn, HasWritten, IsReadOf, Lacks, IsWritten, IsKeptBut, file_of};
-ghost use Rattle.pico_board.specs.Histories.{Extends};
+ghost use Rattle.pico_board.specs.Files.{Reads, Writes, Serves, read_answer, HasWritten, file_of};
 ghost use Rattle.pico_board.specs.MemFiles.{IsFirstOf, files_from};
 
 use crate::store::{Store, StoreFail};
@@ -76,15 +74,9 @@ impl Store for MemStore {
 
     fn read(&mut self, name: &str, limit: u32, into: &mut Vec<u8>) -> Result<(), StoreFail>
         requires { into.old.items ≡ [] }
-        ensures bytes { OnOk result (IsReadOf (store_state self.old).files name.now limit into.new.items) }
+        ensures served { Serves store_state HasAnswered self.old
+            (Reads name.now limit (read_answer result into.new.items)) self.new }
         ensures length { OnOk result (length into.new.items ≤ limit + 1) }
-        ensures files { (store_state self.new).files ≡ (store_state self.old).files }
-        ensures counts { GoesOn (store_state self.old) (store_state self.new) }
-        ensures fault { IsErrOf result StoreFail.Fault
-            → Rose (store_state self.old).read_faults (store_state self.new).read_faults }
-        ensures steady { IsTrue (store_state self.old).steady → IsErrOf result StoreFail.Fault
-            → Lacks (store_state self.old).files name.now }
-        ensures recorded { Extends HasAnswered self.old (Reads name.now limit (read_answer result into.new.items) ∷ []) self.new }
         // A fault comes exactly at the listed reads, and for a missing name.
         ensures exact { IsErrOf result StoreFail.Fault
             ↔ (IsTrue (is_listed (bad_reads_of self.old) (reads_of self.old))
@@ -108,13 +100,7 @@ impl Store for MemStore {
     }
 
     fn write(&mut self, name: &str, bytes: &[u8]) -> Result<(), StoreFail>
-        ensures ok { OnOk result (IsWritten (store_state self.old).files name.now bytes.now (store_state self.new).files) }
-        ensures err { OnErr result (IsKeptBut (store_state self.old).files name.now (store_state self.new).files) }
-        ensures counts { GoesOn (store_state self.old) (store_state self.new) }
-        ensures fault { IsErrOf result StoreFail.Fault
-            → Rose (store_state self.old).write_faults (store_state self.new).write_faults }
-        ensures steady { IsTrue (store_state self.old).steady → ¬ (IsErrOf result StoreFail.Fault) }
-        ensures recorded { Extends HasAnswered self.old (Writes name.now bytes.now result ∷ []) self.new }
+        ensures served { Serves store_state HasAnswered self.old (Writes name.now bytes.now result) self.new }
         // A fault comes exactly at the listed writes, and no failed write changes a file.
         ensures exact { IsErrOf result StoreFail.Fault ↔ IsTrue (is_listed (bad_writes_of self.old) (writes_of self.old)) }
         ensures nothing { OnErr result (files_of self.new ≡ files_of self.old) }

@@ -1,9 +1,7 @@
 //! The sink of a program's text.
 
-ghost use Rattle.std.specs.Prelude.{List, [], ◌∷◌, OnOk, OnErr, IsErrOf, IsTrue};
-ghost use Rattle.pico_board.specs.Board.{Rose};
-ghost use Rattle.pico_board.specs.Puts.{SinkState, Put, PutsOn, IsPut, IsPutInPart};
-ghost use Rattle.pico_board.specs.Histories.{Extends};
+ghost use Rattle.std.specs.Prelude.{List};
+ghost use Rattle.pico_board.specs.Puts.{SinkState, Put, Takes};
 
 use thiserror::Error;
 
@@ -28,10 +26,5 @@ pub trait Sink {
 
     /// Appends the bytes, or a prefix of them after an error.
     fn put(&mut self, bytes: &[u8]) -> Result<(), SinkFail>
-        ensures ok { OnOk result (IsPut (state self.old).bytes bytes.now (state self.new).bytes) }
-        ensures err { OnErr result (IsPutInPart (state self.old).bytes bytes.now (state self.new).bytes) }
-        ensures counts { PutsOn (state self.old) (state self.new) }
-        ensures fault { IsErrOf result SinkFail.Fault → Rose (state self.old).faults (state self.new).faults }
-        ensures steady { IsTrue (state self.old).steady → ¬ (IsErrOf result SinkFail.Fault) }
-        ensures recorded { Extends history self.old (record { bytes = bytes.now; answer = result } ∷ []) self.new };
+        ensures { Takes state history self.old (record { bytes = bytes.now; answer = result }) self.new };
 }
