@@ -55,10 +55,10 @@ ones-or a b =
     ones_step (bit_or a b) ∙ rw (low, half) refl
 
 -- the lowest clear bits of a number whose lowest bit is clear, or set
-lowest-even : (p n v : ℕ) → v % 2 ≡ 0 → lowest_clear_among (suc p) (suc n) v ≡ 1 + 2 * lowest_clear_among p n (v / 2)
+pub lowest-even : (p n v : ℕ) → v % 2 ≡ 0 → lowest_clear_among (suc p) (suc n) v ≡ 1 + 2 * lowest_clear_among p n (v / 2)
 lowest-even p n v even = rw (eq-eqb (v % 2) 0 even) refl
 
-lowest-odd : (p n v : ℕ) → (v % 2 ≡ 0 → ⊥) → lowest_clear_among (suc p) (suc n) v ≡ 2 * lowest_clear_among p (suc n) (v / 2)
+pub lowest-odd : (p n v : ℕ) → (v % 2 ≡ 0 → ⊥) → lowest_clear_among (suc p) (suc n) v ≡ 2 * lowest_clear_among p (suc n) (v / 2)
 lowest-odd p n v odd = rw (ne_eqb (v % 2) 0 odd) refl
 
 -- they are below 2 ^ p

@@ -1,5 +1,5 @@
 -- What rollback rows count after their raises.
-use Rattle.std.proofs.Common.{◌≡◌, ℕ, suc, ◌+◌, ◌-◌, ◌*◌, ◌^◌, ◌<◌, ◌≤◌, List, [], ◌∷◌, length, arith, refl, sym, ap, subst, ◌∙◌, inl, inr, add-one, lit<}
+use Rattle.std.proofs.Common.{◌≡◌, ℕ, zero, suc, drop, ◌+◌, ◌-◌, ◌*◌, ◌^◌, ◌<◌, ◌≤◌, List, [], ◌∷◌, length, arith, refl, sym, ap, subst, ◌∙◌, inl, inr, add-one, lit<}
 use Rattle.std.specs.Prelude.{◌⊎◌, min, max, bit_or, slice_index, AllPairs, All}
 use Rattle.std.specs.List.{AllByRecursion}
 use Rattle.std.specs.Int.Count.{ones, ones-le}
@@ -31,6 +31,11 @@ apart-in_turn (r ∷ rows) apart = (
   apart-in_turn rows (λ i j d before within. apart (suc i) (suc j) d (omega arith) (omega arith)),
 )
 
+pub apart-drop : (i : ℕ) (rows : List ℕ) → ApartInTurn rows → ApartInTurn (drop i rows)
+apart-drop zero rows apart = apart
+apart-drop (suc i) [] apart = tt
+apart-drop (suc i) (r ∷ rows) apart = apart-drop i rows apart.1
+
 -- row i is in none of the triples of the listed rows
 abbrev pub IsOutsideAll : ℕ → List ℕ → Type 0
 IsOutsideAll i rows = AllByRecursion (IsOutside i) rows
@@ -55,7 +60,7 @@ same-trans : {a b c : List ℕ} {r : ℕ} → SameTriple a b r → SameTriple b 
 same-trans one two = record { first = two.first ∙ one.first; second = two.second ∙ one.second; third = two.third ∙ one.third }
 
 -- the triples of the rows after r are as before it was raised
-same-after : (b r : ℕ) (otp old new : List ℕ) → LiftsTriple b r old new → (rows : List ℕ) → ApartFrom r rows → AllByRecursion (SameTriple otp old) rows → AllByRecursion (SameTriple otp new) rows
+pub same-after : (b r : ℕ) (otp old new : List ℕ) → LiftsTriple b r old new → (rows : List ℕ) → ApartFrom r rows → AllByRecursion (SameTriple otp old) rows → AllByRecursion (SameTriple otp new) rows
 same-after b r otp old new lifts [] apart same = tt
 same-after b r otp old new lifts (s ∷ rows) apart same =
     (same-trans same.0 (same-from_outside old new s (λ k small. lifts.others (s + k) (by_side k small apart.0))), same-after b r otp old new lifts rows apart.1 same.1)
@@ -121,7 +126,7 @@ inside-range : (rows : List ℕ) → (n : ℕ) → n ≡ 4096 → AllByRecursion
 inside-range [] n is range = tt
 inside-range (r ∷ rows) n is range = (omega (arith, range.0.1), inside-range rows n is range.1)
 
-same-refl : (otp : List ℕ) (rows : List ℕ) → AllByRecursion (SameTriple otp otp) rows
+pub same-refl : (otp : List ℕ) (rows : List ℕ) → AllByRecursion (SameTriple otp otp) rows
 same-refl otp [] = tt
 same-refl otp (r ∷ rows) = (record { first = refl; second = refl; third = refl }, same-refl otp rows)
 

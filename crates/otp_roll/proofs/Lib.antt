@@ -1,5 +1,7 @@
-pub mod Examples
 pub mod Bits
-pub mod Raised
 pub mod Counted
+pub mod Digits
+pub mod Examples
+pub mod Raised
+pub mod OnTheWay
 pub mod Rising

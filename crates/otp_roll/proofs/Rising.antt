@@ -1,139 +1,154 @@
--- Raises only add bits: a list of them, and a cut of it, which stays between what was before and what all of it leaves.
-use Rattle.std.proofs.Common.{◌≡◌, ℕ, ◌+◌, ◌-◌, ◌<◌, ◌≤◌, List, [], ◌∷◌, ◌++◌, length, arith, refl, inl, inr, get_or-set_same, get_or-set_other}
-use Rattle.std.specs.Prelude.{◌⊎◌, min, bit_or, slice_index, slice_set}
+-- What raises leave, done or torn: no count falls, no row outside the listed triples changes, and no torn raise adds a bit to a
+-- majority that the finished one does not add.
+use Rattle.std.proofs.Common.{◌≡◌, ℕ, ◌+◌, ◌-◌, ◌^◌, ◌<◌, ◌≤◌, ◌≢◌, List, [], ◌∷◌, ◌++◌, length, arith, refl, ap, subst, sym, ◌∙◌, bit_xor, inl, inr}
+use Rattle.std.specs.Prelude.{◌⊎◌, min, slice_index}
+use Rattle.std.specs.List.{AllByRecursion}
 use Rattle.std.specs.Int.{bit_at}
+use Rattle.std.specs.Int.Bits.{and_le_l}
 use Rattle.std.specs.Int.Count.{ones}
-use Rattle.std.proofs.lemmas.Bool.{cases_lt, cases_eq, eq-eqb, ne_eqb}
-use Rattle.std.proofs.lemmas.List.{get_or_past}
+use Rattle.std.proofs.lemmas.Bool.{cases_eq, cases_lt, eq-eqb, ne_eqb}
 use Rattle.std.proofs.lemmas.List.Sums.{sum_by-cons}
-use Rattle.std.proofs.lemmas.Nat.Bits.{bit_at_or, same_from_bits}
+use Rattle.std.proofs.lemmas.Nat.Bits.{same_from_bits}
+use Rattle.std.proofs.lemmas.List.{get_or-set_other}
 use Rattle.pico_board.specs.Content.{Content}
-use Rattle.pico_board.specs.Steps.{after, after_all, CutOf, TornRaise}
+use Rattle.pico_board.specs.Steps.{Torn, CutOf, MayLeave, IsRaise, IsRaisedIn, IsStepIn, HasBitsOf, after, after_all}
 use Rattle.pico_board.specs.declared.Step.{Step}
 use Rattle.pico_board.specs.declared.Step.TheVariants.{Erase, Program, Raise}
-use Rattle.otp_roll.specs.Rows.{majority, count, Rises}
-use Rattle.otp_roll.specs.Raises.{lacking, raise_lacking, raise_triple, raise_each, raises, StaysBetween, lowest_clear, clear_count}
-use Rattle.otp_roll.proofs.Bits.{ones-mono, majority-mono}
-
-pub Rises-refl : (otp : List ℕ) → Rises otp otp
-Rises-refl otp = record { bits = λ i k. omega arith }
-
-pub Rises-trans : {a b c : List ℕ} → Rises a b → Rises b c → Rises a c
-Rises-trans one two = record { bits = λ i k. omega (arith, one.bits i k, two.bits i k) }
+use Rattle.pico_board.proofs.Raises.{IsRaisedIn-torn, IsRaisedIn-CutOf, HasBitsOf-after_all}
+use Rattle.otp_roll.specs.Rows.{majority, count, Rises, IsOutside, first_row, last_row}
+use Rattle.otp_roll.specs.Raises.{lacking, raise_lacking, raise_triple, raise_row, raise_each, raises, taken, lowest_clear, clear_count, IsElsewhere}
+use Rattle.otp_roll.proofs.Bits.{ones-mono, majority-mono, lowest_clear-lt}
 
 -- each majority has every bit that it had
-pub majority-Rises : {old new : List ℕ} → Rises old new → (r k : ℕ) → bit_at (majority old r) k ≤ bit_at (majority new r) k
+pub majority-Rises : {old new : List ℕ} → Rises old new → (r : ℕ) → HasBitsOf (majority new r) (majority old r)
 majority-Rises rises r k = majority-mono _ _ _ _ _ _ k (rises.bits r k) (rises.bits (r + 1) k) (rises.bits (r + 2) k)
 
 -- a count never falls where bits are only raised
 pub count-Rises : {old new : List ℕ} → Rises old new → (rows : List ℕ) → count old rows ≤ count new rows
 count-Rises rises [] = omega arith
 count-Rises {old} {new} rises (r ∷ rows) =
-    let one = ones-mono (majority old r) (majority new r) (λ k. majority-Rises rises r k) in
+    let one = ones-mono (majority old r) (majority new r) (majority-Rises rises r) in
     omega (arith, sum_by-cons (λ s. ones (majority old s)) r rows, sum_by-cons (λ s. ones (majority new s)) r rows, one, count-Rises rises rows)
 
--- each step is a raise
-abbrev pub AreRaises : List Step → Type 0
-AreRaises [] = Unit {0}
-AreRaises (Erase s ∷ steps) = ⊥
-AreRaises (Program p d ∷ steps) = ⊥
-AreRaises (Raise r b ∷ steps) = AreRaises steps
+-- what holds of each raise of a row of the listed triples, by bits of a row, holds of each of the raises
+module _ (P : Step → Type 0) where
+  pub all-append : (xs ys : List Step) → AllByRecursion P xs → AllByRecursion P ys → AllByRecursion P (xs ++ ys)
+  all-append [] ys first second = second
+  all-append (x ∷ xs) ys first second = (first.0, all-append xs ys first.1 second)
 
-pub AreRaises-append : (xs ys : List Step) → AreRaises xs → AreRaises ys → AreRaises (xs ++ ys)
-AreRaises-append [] ys first second = second
-AreRaises-append (Erase s ∷ xs) ys first second = absurd first
-AreRaises-append (Program p d ∷ xs) ys first second = absurd first
-AreRaises-append (Raise r b ∷ xs) ys first second = AreRaises-append xs ys first second
+  pub all-lacking : (b v r : ℕ) → P (Raise r (lacking b v)) → AllByRecursion P (raise_lacking b v r)
+  all-lacking b v r holds = by_need (cases_eq (lacking b v) 0)
+    where
+      by_need : (lacking b v ≡ 0) ⊎ (lacking b v ≡ 0 → ⊥) → AllByRecursion P (raise_lacking b v r)
+      by_need (inl none) = rw (eq-eqb (lacking b v) 0 none) tt
+      by_need (inr some) = rw (ne_eqb (lacking b v) 0 some) (holds, tt)
 
-AreRaises-lacking : (b v r : ℕ) → AreRaises (raise_lacking b v r)
-AreRaises-lacking b v r = by_need (cases_eq (lacking b v) 0)
+  all-triple : (otp : List ℕ) (b r : ℕ) → ((k v : ℕ) → k < 3 → P (Raise (r + k) (lacking b v))) → AllByRecursion P (raise_triple otp b r)
+  all-triple otp b r holds =
+      all-append (raise_lacking b (slice_index otp r) r) _
+      (all-lacking b (slice_index otp r) r (subst (λ i. P (Raise i (lacking b (slice_index otp r)))) (let e : r + 0 ≡ r = omega arith in e) (holds 0 (slice_index otp r) (omega arith))))
+      (all-append (raise_lacking b (slice_index otp (r + 1)) (r + 1)) _
+      (all-lacking b (slice_index otp (r + 1)) (r + 1) (holds 1 _ (omega arith)))
+      (all-lacking b (slice_index otp (r + 2)) (r + 2) (holds 2 _ (omega arith))))
+
+  lacking-lt : (b v : ℕ) → b < 2 ^ 24 → lacking b v < 2 ^ 24
+  lacking-lt b v small = omega (arith, and_le_l b (bit_xor v 0xff_ffff))
+
+  pub all-each : (otp : List ℕ) (wanted : ℕ) (rows : List ℕ) → AllByRecursion (λ r. (k b : ℕ) → k < 3 → b < 2 ^ 24 → P (Raise (r + k) b)) rows
+      → AllByRecursion P (raise_each otp wanted rows)
+  all-each otp wanted [] holds = tt
+  all-each otp wanted (r ∷ rows) holds =
+      let bits : ℕ = lowest_clear (taken otp wanted r) (majority otp r) in
+      all-append (raise_row otp wanted r) _
+      (all-triple otp (lowest_clear (taken otp wanted r) (majority otp r)) r
+      (λ k v few. holds.0 k (lacking (lowest_clear (taken otp wanted r) (majority otp r)) v) few
+      (lacking-lt (lowest_clear (taken otp wanted r) (majority otp r)) v (lowest_clear-lt (taken otp wanted r) (majority otp r)))))
+      (all-each otp (wanted - taken otp wanted r) rows holds.1)
+
+all-rows : (P Q : ℕ → Type 0) → ((r : ℕ) → P r → Q r) → (rows : List ℕ) → AllByRecursion P rows → AllByRecursion Q rows
+all-rows P Q from [] all = tt
+all-rows P Q from (r ∷ rows) all = (from r all.0, all-rows P Q from rows all.1)
+
+every-row : (Q : ℕ → Type 0) → ((r : ℕ) → Q r) → (rows : List ℕ) → AllByRecursion Q rows
+every-row Q from [] = tt
+every-row Q from (r ∷ rows) = (from r, every-row Q from rows)
+
+-- all of them are raises
+pub raises-raise : (otp rows : List ℕ) (version : ℕ) → AllByRecursion IsRaise (raises otp rows version)
+raises-raise otp rows version = all-each IsRaise otp (version - count otp rows) rows (every-row _ (λ r k b few small. tt) rows)
+
+-- of rows of the OTP, by bits of a row
+pub raises-inside : (n : ℕ) (otp rows : List ℕ) (version : ℕ) → AllByRecursion (λ r. (first_row ≤ r) × (r ≤ last_row)) rows
+    → AllByRecursion (IsStepIn n) (raises otp rows version)
+raises-inside n otp rows version range =
+    all-each (IsStepIn n) otp (version - count otp rows) rows
+    (all-rows (λ r. (first_row ≤ r) × (r ≤ last_row)) _ (λ r in_range k b few small. (omega (arith, in_range.1), small)) rows range)
+
+-- and none is one of a row outside the listed triples
+pub raises-elsewhere : (i : ℕ) (otp rows : List ℕ) (version : ℕ) → AllByRecursion (IsOutside i) rows → AllByRecursion (IsElsewhere i) (raises otp rows version)
+raises-elsewhere i otp rows version outside =
+    all-each (IsElsewhere i) otp (version - count otp rows) rows (all-rows (IsOutside i) _ apart rows outside)
   where
-    by_need : (lacking b v ≡ 0) ⊎ (lacking b v ≡ 0 → ⊥) → AreRaises (raise_lacking b v r)
-    by_need (inl none) = rw (eq-eqb (lacking b v) 0 none) tt
-    by_need (inr some) = rw (ne_eqb (lacking b v) 0 some) tt
+    apart : (r : ℕ) → IsOutside i r → (k b : ℕ) → k < 3 → b < 2 ^ 24 → i ≢ r + k
+    apart r (inl below) k b few small = omega arith
+    apart r (inr above) k b few small = omega arith
 
-AreRaises-triple : (otp : List ℕ) (b r : ℕ) → AreRaises (raise_triple otp b r)
-AreRaises-triple otp b r =
-    AreRaises-append (raise_lacking b (slice_index otp r) r) (raise_lacking b (slice_index otp (r + 1)) (r + 1) ++ raise_lacking b (slice_index otp (r + 2)) (r + 2)) (AreRaises-lacking b (slice_index otp r) r)
-    (AreRaises-append (raise_lacking b (slice_index otp (r + 1)) (r + 1)) (raise_lacking b (slice_index otp (r + 2)) (r + 2)) (AreRaises-lacking b (slice_index otp (r + 1)) (r + 1)) (AreRaises-lacking b (slice_index otp (r + 2)) (r + 2)))
+-- a row that no step raises is as it was after all of them, and in a cut of them
+row-after : (c : Content) (step : Step) (i : ℕ) → IsElsewhere i step → slice_index (after c step).otp i ≡ slice_index c.otp i
+row-after c (Erase s) i other = refl
+row-after c (Program p d) i other = refl
+row-after c (Raise r b) i other = get_or-set_other c.otp r i _ 0 other
 
-pub AreRaises-each : (otp : List ℕ) (rows : List ℕ) (wanted : ℕ) → AreRaises (raise_each otp wanted rows)
-AreRaises-each otp [] wanted = tt
-AreRaises-each otp (r ∷ rows) wanted =
-    AreRaises-append (raise_triple otp (lowest_clear (min (clear_count otp r) wanted) (majority otp r)) r) (raise_each otp _ rows) (AreRaises-triple otp (lowest_clear (min (clear_count otp r) wanted) (majority otp r)) r) (AreRaises-each otp rows _)
+pub row-after_all : (c : Content) (steps : List Step) (i : ℕ) → AllByRecursion (IsElsewhere i) steps → slice_index (after_all c steps).otp i ≡ slice_index c.otp i
+row-after_all c [] i other = refl
+row-after_all c (step ∷ steps) i other = row-after_all (after c step) steps i other.1 ∙ row-after c step i other.0
 
--- one raise
-Rises-raise : (otp : List ℕ) (r b : ℕ) → Rises otp (slice_set otp r (bit_or (slice_index otp r) b))
-Rises-raise otp r b = record { bits = λ i k. by_place i k (cases_eq i r) (cases_lt r (length otp)) }
+row-torn : (c : Content) (step : Step) (d : Content) (i : ℕ) → IsElsewhere i step → Torn c step d → slice_index d.otp i ≡ slice_index c.otp i
+row-torn c (Erase s) d i other torn = ap (λ (otp : List ℕ). slice_index otp i) torn.rows
+row-torn c (Program p bytes) d i other torn = ap (λ (otp : List ℕ). slice_index otp i) torn.rows
+row-torn c (Raise r b) d i other torn = by_side (cases_lt i r)
   where
-    by_place : (i k : ℕ) → (i ≡ r) ⊎ (i ≡ r → ⊥) → (r < length otp) ⊎ (length otp ≤ r) → bit_at (slice_index otp i) k ≤ bit_at (slice_index (slice_set otp r (bit_or (slice_index otp r) b)) i) k
-    by_place i k (inr other) within = rw (get_or-set_other otp r i (bit_or (slice_index otp r) b) 0 other) (omega arith)
-    by_place i k (inl same) (inl within) =
-        rw (same, get_or-set_same otp r (bit_or (slice_index otp r) b) 0 within, bit_at_or (slice_index otp r) b k) (omega arith)
-    by_place i k (inl same) (inr past) = rw (same, get_or_past otp r 0 past) (omega arith)
+    by_side : (i < r) ⊎ (r ≤ i) → slice_index d.otp i ≡ slice_index c.otp i
+    by_side (inl below) = torn.outside.below i below
+    by_side (inr from) = torn.outside.above i (omega (arith, other))
 
-pub Rises-after : (c : Content) (steps : List Step) → AreRaises steps → Rises c.otp (after_all c steps).otp
-Rises-after c [] are = Rises-refl c.otp
-Rises-after c (Erase s ∷ steps) are = absurd are
-Rises-after c (Program p d ∷ steps) are = absurd are
-Rises-after c (Raise r b ∷ steps) are = Rises-trans (Rises-raise c.otp r b) (Rises-after (after c (Raise r b)) steps are)
+row-cut : (c : Content) (steps : List Step) (d : Content) (i : ℕ) → AllByRecursion (IsElsewhere i) steps → CutOf c steps d → slice_index d.otp i ≡ slice_index c.otp i
+row-cut c [] d i other cut = absurd cut
+row-cut c (step ∷ steps) d i other (inl torn) = row-torn c step d i other.0 torn
+row-cut c (step ∷ steps) d i other (inr cut) = row-cut (after c step) steps d i other.1 cut ∙ row-after c step i other.0
 
-between-torn : (c : Content) (r b : ℕ) (d : Content) → TornRaise c r b d → StaysBetween c d (after c (Raise r b))
-between-torn c r b d torn = record {
-  flash = torn.bytes;
-  above = record { bits = λ i k. above_at i k (cases_lt i r) (cases_lt i (r + 1)) };
-  below = record { bits = λ i k. below_at i k (cases_lt i r) (cases_lt i (r + 1)) };
-}
-  where
-    grown : Rises c.otp (slice_set c.otp r (bit_or (slice_index c.otp r) b))
-    grown = Rises-raise c.otp r b
+pub row-left : (c : Content) (steps : List Step) (d : Content) (i : ℕ) → AllByRecursion (IsElsewhere i) steps → MayLeave c steps d → slice_index d.otp i ≡ slice_index c.otp i
+row-left c steps d i other (inl done) = ap (λ (e : Content). slice_index e.otp i) done ∙ row-after_all c steps i other
+row-left c steps d i other (inr cut) = row-cut c steps d i other cut
 
-    above_row : (k : ℕ) → (bit_at (slice_index d.otp r) k ≡ bit_at (slice_index c.otp r) k) ⊎ (bit_at (slice_index d.otp r) k ≡ bit_at (slice_index (slice_set c.otp r (bit_or (slice_index c.otp r) b)) r) k) → bit_at (slice_index c.otp r) k ≤ bit_at (slice_index d.otp r) k
-    above_row k (inl old) = omega arith
-    above_row k (inr new) = omega (arith, grown.bits r k)
+-- the flash is as it was
+flash-after_all : (c : Content) (steps : List Step) → AllByRecursion IsRaise steps → (after_all c steps).flash ≡ c.flash
+flash-after_all c [] all = refl
+flash-after_all c (Erase s ∷ steps) all = absurd all.0
+flash-after_all c (Program p d ∷ steps) all = absurd all.0
+flash-after_all c (Raise r b ∷ steps) all = flash-after_all (after c (Raise r b)) steps all.1
 
-    below_row : (k : ℕ) → (bit_at (slice_index d.otp r) k ≡ bit_at (slice_index c.otp r) k) ⊎ (bit_at (slice_index d.otp r) k ≡ bit_at (slice_index (slice_set c.otp r (bit_or (slice_index c.otp r) b)) r) k) → bit_at (slice_index d.otp r) k ≤ bit_at (slice_index (slice_set c.otp r (bit_or (slice_index c.otp r) b)) r) k
-    below_row k (inl old) = omega (arith, grown.bits r k)
-    below_row k (inr new) = omega arith
+pub flash-left : (c : Content) (steps : List Step) (d : Content) → AllByRecursion IsRaise steps → MayLeave c steps d → d.flash ≡ c.flash
+flash-left c steps d all (inl done) = ap (λ (e : Content). e.flash) done ∙ flash-after_all c steps all
+flash-left c steps d all (inr cut) = (IsRaisedIn-CutOf c steps d all cut).flash
 
-    above_at : (i k : ℕ) → (i < r) ⊎ (r ≤ i) → (i < r + 1) ⊎ (r + 1 ≤ i) → bit_at (slice_index c.otp i) k ≤ bit_at (slice_index d.otp i) k
-    above_at i k (inl below) side = rw (torn.outside.below i below) (omega arith)
-    above_at i k (inr from) (inr past) = rw (torn.outside.above i past) (omega arith)
-    above_at i k (inr from) (inl here) = let same : i ≡ r = omega arith in rw same (above_row k (torn.between k))
+-- what is between two lists of rows
+pub former-Rises : {c d z : Content} → IsRaisedIn c d z → Rises c.otp d.otp
+former-Rises raised = record { bits = raised.former }
 
-    below_at : (i k : ℕ) → (i < r) ⊎ (r ≤ i) → (i < r + 1) ⊎ (r + 1 ≤ i) → bit_at (slice_index d.otp i) k ≤ bit_at (slice_index (slice_set c.otp r (bit_or (slice_index c.otp r) b)) i) k
-    below_at i k (inl below) side = rw (torn.outside.below i below) (grown.bits i k)
-    below_at i k (inr from) (inr past) = rw (torn.outside.above i past) (grown.bits i k)
-    below_at i k (inr from) (inl here) = let same : i ≡ r = omega arith in rw same (below_row k (torn.between k))
+pub later-Rises : {c d z : Content} → IsRaisedIn c d z → Rises d.otp z.otp
+later-Rises raised = record { bits = raised.later }
 
-pub between-CutOf : (c : Content) (steps : List Step) (d : Content) → AreRaises steps → CutOf c steps d → StaysBetween c d (after_all c steps)
-between-CutOf c [] d are cut = absurd cut
-between-CutOf c (Erase s ∷ steps) d are cut = absurd are
-between-CutOf c (Program p bytes ∷ steps) d are cut = absurd are
-between-CutOf c (Raise r b ∷ steps) d are (inl torn) =
-    let first = between-torn c r b d torn in
-    record { flash = first.flash; above = first.above; below = Rises-trans first.below (Rises-after (after c (Raise r b)) steps are) }
-between-CutOf c (Raise r b ∷ steps) d are (inr cut) =
-    let later = between-CutOf (after c (Raise r b)) steps d are cut in
-    record { flash = later.flash; above = Rises-trans (Rises-raise c.otp r b) later.above; below = later.below }
-
--- a row that all raises leave as it was is as it was in between
-pub same-between : (old mid new : List ℕ) → Rises old mid → Rises mid new → (i : ℕ) → slice_index new i ≡ slice_index old i → slice_index mid i ≡ slice_index old i
-same-between old mid new above below i same =
-    same_from_bits (slice_index mid i) (slice_index old i) (λ k. let most = rw same at (below.bits i k) in omega (arith, above.bits i k, most))
+pub cut-raises : (c d : Content) (rows : List ℕ) (version : ℕ) → CutOf c (raises c.otp rows version) d → IsRaisedIn c d (after_all c (raises c.otp rows version))
+cut-raises c d rows version cut = IsRaisedIn-CutOf c (raises c.otp rows version) d (raises-raise c.otp rows version) cut
 
 -- nothing is raised where none is wanted
-raise_each-none : (otp : List ℕ) (rows : List ℕ) → raise_each otp 0 rows ≡ []
+pub raise_each-none : (otp : List ℕ) (rows : List ℕ) → raise_each otp 0 rows ≡ []
 unfolding lowest_clear
 raise_each-none otp [] = refl
 raise_each-none otp (r ∷ rows) =
-    let none : min (clear_count otp r) 0 ≡ 0 = omega arith in rw none (raise_each-none otp rows)
+    let none : taken otp 0 r ≡ 0 = omega arith in rw none (raise_each-none otp rows)
 
 pub raises-none : (otp rows : List ℕ) (version : ℕ) → version ≤ count otp rows → raises otp rows version ≡ []
 raises-none otp rows version reached =
     let none : version - count otp rows ≡ 0 = omega arith in rw none (raise_each-none otp rows)
-
--- the count of a content in which power was lost during the raises
-pub between-raises : (c d : Content) (rows : List ℕ) (version : ℕ) → CutOf c (raises c.otp rows version) d → StaysBetween c d (after_all c (raises c.otp rows version))
-between-raises c d rows version cut =
-    between-CutOf c (raises c.otp rows version) d (AreRaises-each c.otp rows (version - count c.otp rows)) cut

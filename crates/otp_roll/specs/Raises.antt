@@ -1,17 +1,17 @@
 -- The raises that take listed rollback rows to a version, as a list of steps over the OTP before the first of them.
 -- This project's own.
-use Rattle.std.specs.Prelude.{◌≡◌, ℕ, zero, suc, ◌+◌, ◌-◌, ◌*◌, ◌/◌, ◌%◌, ◌==◌, if◌then◌else◌, min, List, [], ◌∷◌, ◌++◌, slice_index, bit_and, bit_xor, count_ones}
-use Rattle.pico_board.specs.Content.{Content}
+use Rattle.std.specs.Prelude.{ℕ, zero, suc, ◌≡◌, ◌⊎◌, ◌+◌, ◌-◌, ◌*◌, ◌/◌, ◌%◌, ◌==◌, ◌≢◌, ⊤, if◌then◌else◌, min, List, [], ◌∷◌, ◌++◌, slice_index, bit_and, bit_xor, count_ones}
 use Rattle.pico_board.specs.declared.Step.{Step}
-use Rattle.pico_board.specs.declared.Step.TheVariants.{Raise}
-use Rattle.otp_roll.specs.Rows.{majority, count, Rises}
+use Rattle.pico_board.specs.declared.Step.TheVariants.{Erase, Program, Raise}
+use Rattle.otp_roll.specs.Rows.{majority, count}
 
 -- the n lowest of the clear bits among the first `places` bits of v, or all of them where they are fewer than n
 abbrev pub lowest_clear_among : ℕ → ℕ → ℕ → ℕ
 lowest_clear_among zero n v = 0
 lowest_clear_among (suc places) zero v = 0
 lowest_clear_among (suc places) (suc n) v =
-    if v % 2 == 0 then 1 + 2 * lowest_clear_among places n (v / 2) else 2 * lowest_clear_among places (suc n) (v / 2)
+    if v % 2 == 0 then 1 + 2 * lowest_clear_among places n (v / 2)
+    else 2 * lowest_clear_among places (suc n) (v / 2)
 
 -- the n lowest clear bits of a row, which has 24 bits
 unfoldable pub lowest_clear : ℕ → ℕ → ℕ
@@ -33,22 +33,35 @@ raise_lacking b v r = if lacking b v == 0 then [] else Raise r (lacking b v) ∷
 abbrev pub raise_triple : List ℕ → ℕ → ℕ → List Step
 raise_triple otp b r =
     raise_lacking b (slice_index otp r) r
-    ++ (raise_lacking b (slice_index otp (r + 1)) (r + 1) ++ raise_lacking b (slice_index otp (r + 2)) (r + 2))
+    ++ (raise_lacking b (slice_index otp (r + 1)) (r + 1)
+    ++ raise_lacking b (slice_index otp (r + 2)) (r + 2))
 
--- the listed rows in order: each takes the lowest clear bits of its majority, as many as are still wanted or the majority has, and
--- then nothing where none is wanted
+-- how many bits the listed row r takes of those that are wanted: as many as its majority has clear ones
+abbrev pub taken : List ℕ → ℕ → ℕ → ℕ
+taken otp wanted r = min (clear_count otp r) wanted
+
+-- a listed row takes the lowest clear bits of its majority
+abbrev pub raise_row : List ℕ → ℕ → ℕ → List Step
+raise_row otp wanted r = raise_triple otp (lowest_clear (taken otp wanted r) (majority otp r)) r
+
+-- the listed rows in order, until no bit is wanted any more
 abbrev pub raise_each : List ℕ → ℕ → List ℕ → List Step
 raise_each otp wanted [] = []
 raise_each otp wanted (r ∷ rows) =
-    let taken = min (clear_count otp r) wanted in
-    raise_triple otp (lowest_clear taken (majority otp r)) r ++ raise_each otp (wanted - taken) rows
+    raise_row otp wanted r ++ raise_each otp (wanted - taken otp wanted r) rows
 
 -- the raises that take the count of the rows to the version; none where the count is at the version already, or no row is listed
 abbrev pub raises : List ℕ → List ℕ → ℕ → List Step
 raises otp rows version = raise_each otp (version - count otp rows) rows
 
--- d has the flash of c and, in each OTP row, every bit that c has and only bits that e has
-pub record StaysBetween (c d e : Content) : Type 0 where
-  pub flash : d.flash ≡ c.flash
-  pub above : Rises c.otp d.otp
-  pub below : Rises d.otp e.otp
+-- the step is no raise of row i
+abbrev pub IsElsewhere : ℕ → Step → Type 0
+IsElsewhere i (Erase s) = ⊤
+IsElsewhere i (Program p d) = ⊤
+IsElsewhere i (Raise r b) = i ≢ r
+
+-- the step raises a row of the triple of row r
+abbrev pub IsRaiseIn : ℕ → Step → Type 0
+IsRaiseIn r (Erase s) = ⊥
+IsRaiseIn r (Program p d) = ⊥
+IsRaiseIn r (Raise i b) = (i ≡ r) ⊎ ((i ≡ r + 1) ⊎ (i ≡ r + 2))

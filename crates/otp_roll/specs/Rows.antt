@@ -1,7 +1,7 @@
 -- Rollback rows of the OTP and what counts as raised in them. The rows stand three by three, as the RP2350 Datasheet has rollback
 -- versions in OTP (chapter 5, Bootrom, and chapter 13, OTP: a vote of three copies); the count over listed rows is this project's own.
 use Rattle.std.specs.Prelude.{◌≡◌, ◌⊎◌, ℕ, ◌+◌, ◌*◌, ◌<◌, ◌≤◌, List, length, All, AllPairs, slice_index, bit_and, bit_or, count_ones, sum_by}
-use Rattle.std.specs.Int.{bit_at}
+use Rattle.pico_board.specs.Steps.{HasBitsOf}
 
 -- the number whose set bits are those that at least two of three numbers have
 abbrev pub majority_of : ℕ → ℕ → ℕ → ℕ
@@ -25,10 +25,17 @@ count otp rows = sum_by (λ r. count_ones (majority otp r)) rows
 abbrev pub AreApart : ℕ → ℕ → Type 0
 AreApart r s = (r + 3 ≤ s) ⊎ (s + 3 ≤ r)
 
--- what an image may list: at most 32 rows from 0x0c0 to 0xefd, of which any two differ by at least 3
+-- the least and the greatest row that an image may list
+abbrev pub first_row : ℕ
+first_row = 0x0c0
+
+abbrev pub last_row : ℕ
+last_row = 0xefd
+
+-- what an image may list: at most 32 rows from the first one to the last one, of which any two differ by at least 3
 pub record AreRollbackRows (rows : List ℕ) : Type 0 where
   pub few : length rows ≤ 32
-  pub in_range : All (λ r. (0x0c0 ≤ r) × (r ≤ 0xefd)) rows
+  pub in_range : All (λ r. (first_row ≤ r) × (r ≤ last_row)) rows
   pub apart : AllPairs AreApart rows
 
 -- a rollback version is at most 24 times the number of its rows
@@ -41,4 +48,4 @@ IsOutside i r = (i < r) ⊎ (r + 3 ≤ i)
 
 -- the new rows have every bit of the old ones
 pub record Rises (old new : List ℕ) : Type 0 where
-  pub bits : (i k : ℕ) → bit_at (slice_index old i) k ≤ bit_at (slice_index new i) k
+  pub bits : (i : ℕ) → HasBitsOf (slice_index new i) (slice_index old i)

@@ -3,10 +3,10 @@
 ghost use Rattle.std.specs.Prelude.{◌≡◌, ◌↔◌, ◌⊎◌, ℕ, ◌+◌, ◌-◌, ◌^◌, ◌<◌, ◌≤◌, min, max, List, [], ◌∷◌, All, slice_index, bit_or, count_ones};
 ghost use Rattle.std.specs.Int.{bit_at};
 ghost use Rattle.otp_roll.specs.Rows.{AreRollbackRows, HoldsTriple, IsOutside, IsRollbackVersion, Rises, majority, count};
-ghost use Rattle.otp_roll.specs.Raises.{StaysBetween, lowest_clear, raises};
+ghost use Rattle.otp_roll.specs.Raises.{lowest_clear, raises};
 ghost use Rattle.otp_roll.specs.Flags.{slot_size};
 ghost use Rattle.pico_board.specs.Content.{Content, IsContent};
-ghost use Rattle.pico_board.specs.Steps.{CutOf, after_all};
+ghost use Rattle.pico_board.specs.Steps.{CutOf, IsRaisedIn, after_all};
 ghost use Rattle.pico_board.specs.declared.Step.TheVariants.{Raise};
 
 /// A bit is in the majority of a triple exactly where at least two of its rows have it.
@@ -40,7 +40,7 @@ pub fn raises_reach_the_version()
 
 /// What the loss of power leaves in the raises stays bit by bit between the rows before them and after them.
 pub fn a_cut_of_raises_stays_between()
-    ensures { (c d : Content) (rows : List ℕ) (version : ℕ) → CutOf c (raises c.otp rows version) d → StaysBetween c d (after_all c (raises c.otp rows version)) }
+    ensures { (c d : Content) (rows : List ℕ) (version : ℕ) → CutOf c (raises c.otp rows version) d → IsRaisedIn c d (after_all c (raises c.otp rows version)) }
 {}
 
 /// Where the three rows from 0x0c0 on hold 0x000003, two bits count, and a version of 3 raises bit 2 in each row.
