@@ -1,17 +1,17 @@
 -- What rollback rows count after their raises.
-use Rattle.std.proofs.Common.{◌≡◌, ℕ, zero, suc, drop, ◌+◌, ◌-◌, ◌*◌, ◌^◌, ◌<◌, ◌≤◌, List, [], ◌∷◌, length, arith, refl, sym, ap, subst, ◌∙◌, inl, inr, add-one, lit<}
+use Rattle.std.proofs.Common.{◌≡◌, ℕ, zero, suc, drop, ◌+◌, ◌-◌, ◌*◌, ◌^◌, ◌<◌, ◌≤◌, List, [], ◌∷◌, ◌++◌, length, append_assoc, arith, refl, sym, ap, subst, ◌∙◌, inl, inr, add-one, lit<}
 use Rattle.std.specs.Prelude.{◌⊎◌, min, max, bit_or, slice_index, AllPairs, All}
 use Rattle.std.specs.List.{AllByRecursion}
 use Rattle.std.specs.Int.Count.{ones, ones-le}
 use Rattle.std.proofs.lemmas.List.Elements.{recursion_from_All}
-use Rattle.std.proofs.lemmas.List.Sums.{sum_by-cons}
+use Rattle.std.proofs.lemmas.List.Sums.{sum_by-cons, sum_by-append}
 use Rattle.std.proofs.lemmas.List.{get_or_past}
 use Rattle.std.proofs.lemmas.Bool.{cases_lt}
 use Rattle.pico_board.specs.Content.{Content, IsContent}
 use Rattle.pico_board.specs.Steps.{after_all}
 use Rattle.pico_board.proofs.Steps.{after_all-append}
 use Rattle.otp_roll.specs.Rows.{majority, count, AreApart, IsOutside, AreRollbackRows, IsRollbackVersion}
-use Rattle.otp_roll.specs.Raises.{raises, raise_triple, raise_each, lowest_clear, clear_count}
+use Rattle.otp_roll.specs.Raises.{raises, raise_triple, raise_row, raise_each, taken, lowest_clear, clear_count}
 use Rattle.otp_roll.proofs.Bits.{majority-or, majority-lt, lowest_clear-lt, ones-lowest_clear}
 use Rattle.otp_roll.proofs.Raised.{SameTriple, majority-same, LiftsTriple, after-raise_triple}
 
@@ -114,13 +114,13 @@ counts-each (r ∷ rows) c otp wanted apart inside small same =
     let parts = after_all-append c (raise_triple otp bits r) (raise_each otp (wanted - taken) rows) in
     subst (λ (d : Content). Counts otp wanted (r ∷ rows) c.otp d.otp) (sym parts) (counts-step r rows otp c.otp one.otp _ wanted taken refl small apart.0 same.0 lifts rest)
 
--- every row of a content has 24 bits, and past its end there is 0
-rows-small : (c : Content) → IsContent c → (i : ℕ) → slice_index c.otp i < 2 ^ 24
-rows-small c is_content i = by_place (cases_lt i (length c.otp))
+-- every row has 24 bits, and past the end there is 0
+pub rows-small : (otp : List ℕ) → All (λ v. v < 2 ^ 24) otp → (i : ℕ) → slice_index otp i < 2 ^ 24
+rows-small otp narrow i = by_place (cases_lt i (length otp))
   where
-    by_place : (i < length c.otp) ⊎ (length c.otp ≤ i) → slice_index c.otp i < 2 ^ 24
-    by_place (inl within) = is_content.otp_rows i 0 within
-    by_place (inr past) = rw (get_or_past c.otp i 0 past) (lit< tt)
+    by_place : (i < length otp) ⊎ (length otp ≤ i) → slice_index otp i < 2 ^ 24
+    by_place (inl within) = narrow i 0 within
+    by_place (inr past) = rw (get_or_past otp i 0 past) (lit< tt)
 
 inside-range : (rows : List ℕ) → (n : ℕ) → n ≡ 4096 → AllByRecursion (λ r. (0x0c0 ≤ r) × (r ≤ 0xefd)) rows → AllByRecursion (λ r. r + 2 < n) rows
 inside-range [] n is range = tt
@@ -134,20 +134,35 @@ same-refl otp (r ∷ rows) = (record { first = refl; second = refl; third = refl
 pub counts-raises : (c : Content) (rows : List ℕ) (version : ℕ) → IsContent c → AreRollbackRows rows → Counts c.otp (version - count c.otp rows) rows c.otp (after_all c (raises c.otp rows version)).otp
 counts-raises c rows version is_content listed =
     counts-each rows c c.otp (version - count c.otp rows) (apart-in_turn rows listed.apart)
-    (inside-range rows (length c.otp) is_content.otp_length (recursion_from_All _ rows listed.in_range)) (rows-small c is_content) (same-refl c.otp rows)
+    (inside-range rows (length c.otp) is_content.otp_length (recursion_from_All _ rows listed.in_range)) (rows-small c.otp is_content.otp_rows) (same-refl c.otp rows)
 
 -- the count is then the greater of the version and the former count
 pub count-raises : (c : Content) (rows : List ℕ) (version : ℕ) → IsContent c → AreRollbackRows rows → IsRollbackVersion version rows → count (after_all c (raises c.otp rows version)).otp rows ≡ max version (count c.otp rows)
 count-raises c rows version is_content listed is_version =
     let left = counts-raises c rows version is_content listed in
-    omega (arith, left.counted, count-le c.otp (rows-small c is_content) rows)
+    omega (arith, left.counted, count-le c.otp (rows-small c.otp is_content.otp_rows) rows)
 
--- a row outside the listed triples is as before
-pub raises-others : (c : Content) (rows : List ℕ) (version i : ℕ) → IsContent c → AreRollbackRows rows → All (λ r. IsOutside i r) rows → slice_index (after_all c (raises c.otp rows version)).otp i ≡ slice_index c.otp i
-raises-others c rows version i is_content listed outside =
-    (counts-raises c rows version is_content listed).others i (recursion_from_All (IsOutside i) rows outside)
+-- the raises of rows that follow others: the first ones are raised for what the last ones lack, and then these for what is left
+each-append : (otp : List ℕ) → ((i : ℕ) → slice_index otp i < 2 ^ 24) → (xs ys : List ℕ) (wanted : ℕ)
+    → raise_each otp wanted (xs ++ ys) ≡ raise_each otp wanted xs ++ raise_each otp (wanted - (24 * length xs - count otp xs)) ys
+each-append otp small [] ys wanted =
+    let none : wanted ≡ wanted - (24 * 0 - 0) = omega arith in ap (λ w. raise_each otp w ys) none
+each-append otp small (r ∷ xs) ys wanted =
+    let rest = each-append otp small xs ys (wanted - taken otp wanted r) in
+    let few = ones-le 24 (majority otp r) (majority-lt _ _ _ (small r) (small (r + 1))) in
+    let left : (wanted - taken otp wanted r) - (24 * length xs - count otp xs) ≡ wanted - (24 * length (r ∷ xs) - count otp (r ∷ xs)) =
+    omega (arith, sum_by-cons (λ s. ones (majority otp s)) r xs, few, count-le otp small xs, add-one (length xs)) in
+    ap (λ steps. raise_row otp wanted r ++ steps) rest
+    ∙ sym (append_assoc (raise_row otp wanted r) (raise_each otp (wanted - taken otp wanted r) xs) (raise_each otp ((wanted - taken otp wanted r) - (24 * length xs - count otp xs)) ys))
+    ∙ ap (λ w. (raise_row otp wanted r ++ raise_each otp (wanted - taken otp wanted r) xs) ++ raise_each otp w ys) left
 
--- so are rows below the listed range, as 0x048 and 0x055
-pub raises-below : (c : Content) (rows : List ℕ) (version i : ℕ) → IsContent c → AreRollbackRows rows → i < 0x0c0 → slice_index (after_all c (raises c.otp rows version)).otp i ≡ slice_index c.otp i
-raises-below c rows version i is_content listed low =
-    raises-others c rows version i is_content listed (λ k r within. let in_range = listed.in_range k r within in inl (omega arith))
+pub raises-append : (otp : List ℕ) (xs ys : List ℕ) (version : ℕ) → All (λ v. v < 2 ^ 24) otp
+    → raises otp (xs ++ ys) version ≡ raises otp xs (version - count otp ys) ++ raises otp ys (version - 24 * length xs)
+raises-append otp xs ys version narrow =
+    let both = sum_by-append (λ r. ones (majority otp r)) xs ys in
+    let first : version - count otp (xs ++ ys) ≡ (version - count otp ys) - count otp xs = omega (arith, both) in
+    let second : ((version - count otp ys) - count otp xs) - (24 * length xs - count otp xs) ≡ (version - 24 * length xs) - count otp ys =
+    omega (arith, count-le otp (rows-small otp narrow) xs) in
+    ap (λ w. raise_each otp w (xs ++ ys)) first
+    ∙ each-append otp (rows-small otp narrow) xs ys ((version - count otp ys) - count otp xs)
+    ∙ ap (λ w. raise_each otp ((version - count otp ys) - count otp xs) xs ++ raise_each otp w ys) second

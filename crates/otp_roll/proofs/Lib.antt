@@ -1,7 +1,7 @@
 pub mod Bits
 pub mod Counted
 pub mod Digits
-pub mod Examples
-pub mod Raised
 pub mod OnTheWay
+pub mod Raised
 pub mod Rising
+pub mod WrittenRows

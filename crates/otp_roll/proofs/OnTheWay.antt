@@ -8,9 +8,9 @@ use Rattle.pico_board.specs.Steps.{after_all}
 use Rattle.pico_board.specs.declared.Step.{Step}
 use Rattle.pico_board.proofs.Steps.{DoesAll-none, DoesAll-append, DoesAll-append_cut}
 use Rattle.otp_roll.specs.Rows.{majority, count}
-use Rattle.otp_roll.specs.Raises.{raise_lacking, raise_triple, raise_row, raise_each, raises, taken, lowest_clear, IsElsewhere}
+use Rattle.otp_roll.specs.Raises.{raise_lacking, raise_triple, raise_row, raise_each, raises, taken, lowest_clear}
 use Rattle.otp_roll.proofs.Bits.{lowest_clear-lt}
-use Rattle.otp_roll.proofs.Rising.{all-lacking, row-after_all}
+use Rattle.otp_roll.proofs.Rising.{IsElsewhere, all-lacking, row-after_all}
 use Rattle.otp_roll.proofs.Raised.{SameTriple, LiftsTriple, after-raise_triple}
 use Rattle.otp_roll.proofs.Counted.{ApartInTurn, same-after, same-refl}
 
@@ -53,7 +53,7 @@ module _ {B : Type 0} (state : B → State) (history : B → List Step → Type 
   triple-third old mid late new b r ok one two three =
       let here = moved mid late new b _ (r + 1) (r + 2) ok (omega arith) two three in
       let there = subst (λ w. DoesAll state history late (raise_lacking b w (r + 2)) ok new)
-          (lacking-other old mid b _ r (r + 2) (omega arith) one) here in
+      (lacking-other old mid b _ r (r + 2) (omega arith) one) here in
       DoesAll-append one (DoesAll-append (moved old mid late b _ r (r + 1) true (omega arith) one two) there)
 
   -- the listed rows up to here are raised: the others' triples are as at the start, and whatever raises those raises all
@@ -93,7 +93,7 @@ module _ {B : Type 0} (state : B → State) (history : B → List Step → Type 
       let start : List ℕ = (state first).content.otp in
       let before : List ℕ = (state now).content.otp in
       let one : DoesAll state history now (raise_row (state first).content.otp wanted r) true new =
-          subst (λ steps. DoesAll state history now steps true new) (raise_row-same (state first).content.otp (state now).content.otp wanted r way.same.0) does in
+      subst (λ steps. DoesAll state history now steps true new) (raise_row-same (state first).content.otp (state now).content.otp wanted r way.same.0) does in
       let number_is : number ≡ taken (state first).content.otp wanted r = is ∙ taken-same (state first).content.otp (state now).content.otp wanted r way.same.0 in
       let bits : ℕ = lowest_clear (taken (state first).content.otp wanted r) (majority (state first).content.otp r) in
       let lifted = after-raise_triple (state now).content (state first).content.otp (lowest_clear (taken (state first).content.otp wanted r) (majority (state first).content.otp r)) r (lowest_clear-lt _ _) inside way.same.0 in

@@ -1,12 +1,13 @@
 -- What raises leave, done or torn: no count falls, no row outside the listed triples changes, and no torn raise adds a bit to a
 -- majority that the finished one does not add.
 use Rattle.std.proofs.Common.{◌≡◌, ℕ, ◌+◌, ◌-◌, ◌^◌, ◌<◌, ◌≤◌, ◌≢◌, List, [], ◌∷◌, ◌++◌, length, arith, refl, ap, subst, sym, ◌∙◌, bit_xor, inl, inr}
-use Rattle.std.specs.Prelude.{◌⊎◌, min, slice_index}
+use Rattle.std.specs.Prelude.{◌⊎◌, ⊤, All, Contains, min, slice_index}
 use Rattle.std.specs.List.{AllByRecursion}
 use Rattle.std.specs.Int.{bit_at}
 use Rattle.std.specs.Int.Bits.{and_le_l}
 use Rattle.std.specs.Int.Count.{ones}
 use Rattle.std.proofs.lemmas.Bool.{cases_eq, cases_lt, eq-eqb, ne_eqb}
+use Rattle.std.proofs.lemmas.List.Elements.{All-contains, All-contains_itself, All-from_recursion, recursion_from_All, Contains-append_right}
 use Rattle.std.proofs.lemmas.List.Sums.{sum_by-cons}
 use Rattle.std.proofs.lemmas.Nat.Bits.{same_from_bits}
 use Rattle.std.proofs.lemmas.List.{get_or-set_other}
@@ -16,7 +17,7 @@ use Rattle.pico_board.specs.declared.Step.{Step}
 use Rattle.pico_board.specs.declared.Step.TheVariants.{Erase, Program, Raise}
 use Rattle.pico_board.proofs.Raises.{IsRaisedIn-torn, IsRaisedIn-CutOf, HasBitsOf-after_all}
 use Rattle.otp_roll.specs.Rows.{majority, count, Rises, IsOutside, first_row, last_row}
-use Rattle.otp_roll.specs.Raises.{lacking, raise_lacking, raise_triple, raise_row, raise_each, raises, taken, lowest_clear, clear_count, IsElsewhere}
+use Rattle.otp_roll.specs.Raises.{lacking, raise_lacking, raise_triple, raise_row, raise_each, raises, taken, lowest_clear}
 use Rattle.otp_roll.proofs.Bits.{ones-mono, majority-mono, lowest_clear-lt}
 
 -- each majority has every bit that it had
@@ -29,6 +30,23 @@ count-Rises rises [] = omega arith
 count-Rises {old} {new} rises (r ∷ rows) =
     let one = ones-mono (majority old r) (majority new r) (majority-Rises rises r) in
     omega (arith, sum_by-cons (λ s. ones (majority old s)) r rows, sum_by-cons (λ s. ones (majority new s)) r rows, one, count-Rises rises rows)
+
+-- the step is no raise of row i
+abbrev pub IsElsewhere : ℕ → Step → Type 0
+IsElsewhere i (Erase s) = ⊤
+IsElsewhere i (Program p d) = ⊤
+IsElsewhere i (Raise r b) = i ≢ r
+
+-- no step is one where none of its raises is
+pub elsewhere-from : (i : ℕ) (steps : List Step) → ((r b : ℕ) → Contains steps (Raise r b) → i ≢ r) → AllByRecursion (IsElsewhere i) steps
+elsewhere-from i [] none = tt
+elsewhere-from i (step ∷ steps) none =
+    (at-head step (λ r b is. none r b (0, omega arith, is)), elsewhere-from i steps (λ r b among. none r b (Contains-append_right (step ∷ []) steps (Raise r b) among)))
+  where
+    at-head : (x : Step) → ((r b : ℕ) → x ≡ Raise r b → i ≢ r) → IsElsewhere i x
+    at-head (Erase s) other = tt
+    at-head (Program p d) other = tt
+    at-head (Raise r b) other = other r b refl
 
 -- what holds of each raise of a row of the listed triples, by bits of a row, holds of each of the raises
 module _ (P : Step → Type 0) where
@@ -84,6 +102,25 @@ raises-inside n otp rows version range =
     all-each (IsStepIn n) otp (version - count otp rows) rows
     (all-rows (λ r. (first_row ≤ r) × (r ≤ last_row)) _ (λ r in_range k b few small. (omega (arith, in_range.1), small)) rows range)
 
+-- the step is a raise of a row of the triple of a listed row
+abbrev IsListed : List ℕ → Step → Type 0
+IsListed rows (Erase s) = ⊥
+IsListed rows (Program p d) = ⊥
+IsListed rows (Raise i b) = (r : ℕ) × Contains rows r × ¬ (IsOutside i r)
+
+in-triple : (r k : ℕ) → k < 3 → ¬ (IsOutside (r + k) r)
+in-triple r k few (inl below) = omega arith
+in-triple r k few (inr above) = omega arith
+
+pub raises-listed : (otp rows : List ℕ) (version i b : ℕ) → Contains (raises otp rows version) (Raise i b)
+    → (r : ℕ) × Contains rows r × ¬ (IsOutside i r)
+raises-listed otp rows version i b among =
+    All-contains (IsListed rows) (raises otp rows version) (Raise i b)
+    (All-from_recursion (IsListed rows) (raises otp rows version)
+    (all-each (IsListed rows) otp (version - count otp rows) rows
+    (all-rows (Contains rows) _ (λ r listed k bits few small. (r, listed, in-triple r k few)) rows
+    (recursion_from_All (Contains rows) rows (All-contains_itself rows))))) among
+
 -- and none is one of a row outside the listed triples
 pub raises-elsewhere : (i : ℕ) (otp rows : List ℕ) (version : ℕ) → AllByRecursion (IsOutside i) rows → AllByRecursion (IsElsewhere i) (raises otp rows version)
 raises-elsewhere i otp rows version outside =
@@ -132,15 +169,30 @@ pub flash-left : (c : Content) (steps : List Step) (d : Content) → AllByRecurs
 flash-left c steps d all (inl done) = ap (λ (e : Content). e.flash) done ∙ flash-after_all c steps all
 flash-left c steps d all (inr cut) = (IsRaisedIn-CutOf c steps d all cut).flash
 
--- what is between two lists of rows
+-- what is between two contents, bit by bit, and so in each majority and in each count
 pub former-Rises : {c d z : Content} → IsRaisedIn c d z → Rises c.otp d.otp
 former-Rises raised = record { bits = raised.former }
 
 pub later-Rises : {c d z : Content} → IsRaisedIn c d z → Rises d.otp z.otp
 later-Rises raised = record { bits = raised.later }
 
-pub cut-raises : (c d : Content) (rows : List ℕ) (version : ℕ) → CutOf c (raises c.otp rows version) d → IsRaisedIn c d (after_all c (raises c.otp rows version))
+pub cut-raises : (c d : Content) (rows : List ℕ) (version : ℕ) → CutOf c (raises c.otp rows version) d
+    → IsRaisedIn c d (after_all c (raises c.otp rows version))
 cut-raises c d rows version cut = IsRaisedIn-CutOf c (raises c.otp rows version) d (raises-raise c.otp rows version) cut
+
+pub count-between : (c d z : Content) (rows : List ℕ) → IsRaisedIn c d z → (count c.otp rows ≤ count d.otp rows) × (count d.otp rows ≤ count z.otp rows)
+count-between c d z rows raised = (count-Rises (former-Rises raised) rows, count-Rises (later-Rises raised) rows)
+
+pub majority-between : (c d z : Content) (r : ℕ) → IsRaisedIn c d z
+    → HasBitsOf (majority d.otp r) (majority c.otp r) × HasBitsOf (majority z.otp r) (majority d.otp r)
+majority-between c d z r raised = (majority-Rises (former-Rises raised) r, majority-Rises (later-Rises raised) r)
+
+-- the boot flags and the slot size stand outside all that may be listed
+pub low-row : (c : Content) (rows : List ℕ) (version : ℕ) (d : Content) (i : ℕ) → i < first_row
+    → AllByRecursion (λ r. (first_row ≤ r) × (r ≤ last_row)) rows → MayLeave c (raises c.otp rows version) d
+    → slice_index d.otp i ≡ slice_index c.otp i
+low-row c rows version d i low range left =
+    row-left c (raises c.otp rows version) d i (raises-elsewhere i c.otp rows version (all-rows (λ r. (first_row ≤ r) × (r ≤ last_row)) _ (λ r in_range. inl (omega (arith, in_range.0))) rows range)) left
 
 -- nothing is raised where none is wanted
 pub raise_each-none : (otp : List ℕ) (rows : List ℕ) → raise_each otp 0 rows ≡ []

@@ -1,8 +1,8 @@
 -- The raises that take listed rollback rows to a version, as a list of steps over the OTP before the first of them.
 -- This project's own.
-use Rattle.std.specs.Prelude.{ℕ, zero, suc, ◌≡◌, ◌⊎◌, ◌+◌, ◌-◌, ◌*◌, ◌/◌, ◌%◌, ◌==◌, ◌≢◌, ⊤, if◌then◌else◌, min, List, [], ◌∷◌, ◌++◌, slice_index, bit_and, bit_xor, count_ones}
+use Rattle.std.specs.Prelude.{ℕ, zero, suc, ◌+◌, ◌-◌, ◌*◌, ◌/◌, ◌%◌, ◌==◌, if◌then◌else◌, min, List, [], ◌∷◌, ◌++◌, slice_index, bit_and, bit_xor, count_ones}
 use Rattle.pico_board.specs.declared.Step.{Step}
-use Rattle.pico_board.specs.declared.Step.TheVariants.{Erase, Program, Raise}
+use Rattle.pico_board.specs.declared.Step.TheVariants.{Raise}
 use Rattle.otp_roll.specs.Rows.{majority, count}
 
 -- the n lowest of the clear bits among the first `places` bits of v, or all of them where they are fewer than n
@@ -53,15 +53,3 @@ raise_each otp wanted (r ∷ rows) =
 -- the raises that take the count of the rows to the version; none where the count is at the version already, or no row is listed
 abbrev pub raises : List ℕ → List ℕ → ℕ → List Step
 raises otp rows version = raise_each otp (version - count otp rows) rows
-
--- the step is no raise of row i
-abbrev pub IsElsewhere : ℕ → Step → Type 0
-IsElsewhere i (Erase s) = ⊤
-IsElsewhere i (Program p d) = ⊤
-IsElsewhere i (Raise r b) = i ≢ r
-
--- the step raises a row of the triple of row r
-abbrev pub IsRaiseIn : ℕ → Step → Type 0
-IsRaiseIn r (Erase s) = ⊥
-IsRaiseIn r (Program p d) = ⊥
-IsRaiseIn r (Raise i b) = (i ≡ r) ⊎ ((i ≡ r + 1) ⊎ (i ≡ r + 2))

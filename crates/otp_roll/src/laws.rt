@@ -1,73 +1,112 @@
-//! Laws of rollback rows, and worked examples of them.
+//! Laws of rollback rows: what counts, what is raised, and what raises leave, done or torn.
 
-ghost use Rattle.std.specs.Prelude.{◌≡◌, ◌↔◌, ◌⊎◌, ℕ, ◌+◌, ◌-◌, ◌^◌, ◌<◌, ◌≤◌, min, max, List, [], ◌∷◌, All, slice_index, bit_or, count_ones};
+ghost use Rattle.std.specs.Prelude.{◌≡◌, ◌≢◌, ◌↔◌, ◌⊎◌, ℕ, ◌+◌, ◌-◌, ◌*◌, ◌^◌, ◌<◌, ◌≤◌, min, max, List, [], ◌∷◌, ◌++◌, All, Contains, length, slice_index, bit_or, count_ones};
 ghost use Rattle.std.specs.Int.{bit_at};
-ghost use Rattle.otp_roll.specs.Rows.{AreRollbackRows, HoldsTriple, IsOutside, IsRollbackVersion, Rises, majority, count};
+ghost use Rattle.std.specs.List.{AllByRecursion};
+ghost use Rattle.otp_roll.specs.Rows.{AreApart, AreRollbackRows, IsOutside, IsRollbackVersion, Rises, majority, count};
 ghost use Rattle.otp_roll.specs.Raises.{lowest_clear, raises};
-ghost use Rattle.otp_roll.specs.Flags.{slot_size};
+ghost use Rattle.otp_roll.specs.Flags.{flash_off, rollback_required, slot_size};
 ghost use Rattle.pico_board.specs.Content.{Content, IsContent};
-ghost use Rattle.pico_board.specs.Steps.{CutOf, IsRaisedIn, after_all};
+ghost use Rattle.pico_board.specs.Steps.{CutOf, HasBitsOf, IsRaise, IsRaisedIn, IsStepIn, MayLeave, Torn, after, after_all};
+ghost use Rattle.pico_board.specs.declared.Step.{Step};
 ghost use Rattle.pico_board.specs.declared.Step.TheVariants.{Raise};
 
 /// A bit is in the majority of a triple exactly where at least two of its rows have it.
 pub fn a_majority_is_what_two_rows_have()
-    ensures { (otp : List ℕ) (r k : ℕ) → (bit_at (majority otp r) k ≡ 1) ↔ (2 ≤ bit_at (slice_index otp r) k + bit_at (slice_index otp (r + 1)) k + bit_at (slice_index otp (r + 2)) k) }
+    ensures { (otp : List ℕ) (r k : ℕ) → (bit_at (majority otp r) k ≡ 1)
+        ↔ (2 ≤ bit_at (slice_index otp r) k + bit_at (slice_index otp (r + 1)) k + bit_at (slice_index otp (r + 2)) k) }
 {}
 
-/// The `n` lowest clear bits of a row are clear in it, every bit below one of them is set or one of them, and they are `n`, or all
-/// that are clear where those are fewer.
+/// A triple has its row and the two after it, and the triples of two listed rows share no row.
+pub fn a_triple_has_three_rows()
+    ensures outside { (i r : ℕ) → IsOutside i r ↔ ((i ≢ r) × (i ≢ r + 1) × (i ≢ r + 2)) }
+    ensures apart { (r s : ℕ) → AreApart r s ↔ ((i : ℕ) → IsOutside i r ⊎ IsOutside i s) }
+{}
+
+/// The `n` lowest clear bits of a row are clear in it, every bit below one of them is set or one of them, and they
+/// are `n`, or all that are clear where those are fewer.
 pub fn the_lowest_clear_bits_of_a_row()
     ensures clear { (n v k : ℕ) → bit_at (lowest_clear n v) k ≡ 1 → bit_at v k ≡ 0 }
-    ensures lowest { (n v j k : ℕ) → j < k → bit_at (lowest_clear n v) k ≡ 1 → (bit_at v j ≡ 1) ⊎ (bit_at (lowest_clear n v) j ≡ 1) }
-    ensures number { (n v : ℕ) → v < 2 ^ 24 → count_ones (bit_or v (lowest_clear n v)) ≡ count_ones v + min n (24 - count_ones v) }
+    ensures lowest { (n v j k : ℕ) → j < k → bit_at (lowest_clear n v) k ≡ 1
+        → (bit_at v j ≡ 1) ⊎ (bit_at (lowest_clear n v) j ≡ 1) }
+    ensures number { (n v : ℕ) → v < 2 ^ 24
+        → count_ones (bit_or v (lowest_clear n v)) ≡ count_ones v + min n (24 - count_ones v) }
 {}
 
-/// A count never falls where OTP bits are only raised.
+/// No majority loses a bit, and no count falls, where OTP bits are only raised.
 pub fn a_count_never_falls()
-    ensures { (old new rows : List ℕ) → Rises old new → count old rows ≤ count new rows }
+    ensures count { (old new rows : List ℕ) → Rises old new → count old rows ≤ count new rows }
+    ensures majority { (old new : List ℕ) (r : ℕ) → Rises old new → HasBitsOf (majority new r) (majority old r) }
 {}
 
-/// Nothing is raised where the count is at the version already.
+/// Nothing is raised where the count is at the version already, or no row is listed.
 pub fn no_raise_at_the_version()
-    ensures { (otp rows : List ℕ) (version : ℕ) → version ≤ count otp rows → raises otp rows version ≡ [] }
+    ensures reached { (otp rows : List ℕ) (version : ℕ) → version ≤ count otp rows → raises otp rows version ≡ [] }
+    ensures no_rows { (otp : List ℕ) (version : ℕ) → raises otp [] version ≡ [] }
 {}
 
-/// After the raises the count is the greater of the version and the former count, and rows outside the listed triples are as before.
+/// Of rows that follow others the first ones are raised to what the last ones do not count themselves, and then the
+/// last ones to what the first ones cannot hold.
+pub fn raises_of_appended_rows()
+    ensures { (otp xs ys : List ℕ) (version : ℕ) → All (λ v. v < 2 ^ 24) otp
+        → raises otp (xs ++ ys) version
+        ≡ raises otp xs (version - count otp ys) ++ raises otp ys (version - 24 * length xs) }
+{}
+
+/// Each of the steps is a raise of a row of a listed triple, inside the OTP, by bits of a row.
+pub fn raises_are_of_listed_triples()
+    ensures raises { (otp rows : List ℕ) (version : ℕ) → AllByRecursion IsRaise (raises otp rows version) }
+    ensures listed { (otp rows : List ℕ) (version i bits : ℕ) → Contains (raises otp rows version) (Raise i bits)
+        → (r : ℕ) × Contains rows r × ¬ (IsOutside i r) }
+    ensures inside { (n : ℕ) (otp rows : List ℕ) (version : ℕ) → AreRollbackRows rows
+        → All (IsStepIn n) (raises otp rows version) }
+{}
+
+/// After the raises the count is the greater of the version and the former count.
 pub fn raises_reach_the_version()
-    ensures count { (c : Content) (rows : List ℕ) (version : ℕ) → IsContent c → AreRollbackRows rows → IsRollbackVersion version rows → count (after_all c (raises c.otp rows version)).otp rows ≡ max version (count c.otp rows) }
-    ensures others { (c : Content) (rows : List ℕ) (version i : ℕ) → IsContent c → AreRollbackRows rows → All (λ r. IsOutside i r) rows → slice_index (after_all c (raises c.otp rows version)).otp i ≡ slice_index c.otp i }
+    ensures { (c : Content) (rows : List ℕ) (version : ℕ) → IsContent c → AreRollbackRows rows
+        → IsRollbackVersion version rows
+        → count (after_all c (raises c.otp rows version)).otp rows ≡ max version (count c.otp rows) }
 {}
 
-/// What the loss of power leaves in the raises stays bit by bit between the rows before them and after them.
+/// A row that no step of a list raises is as it was, whether the list is done or torn.
+pub fn rows_that_no_step_raises_stay()
+    ensures { (c : Content) (steps : List Step) (d : Content) (i : ℕ)
+        → ((r bits : ℕ) → Contains steps (Raise r bits) → i ≢ r) → MayLeave c steps d
+        → slice_index d.otp i ≡ slice_index c.otp i }
+{}
+
+/// Raises, done or torn, leave the flash, every row outside the listed triples, and so the boot flags and the slot
+/// size.
+pub fn raises_leave_the_rest()
+    ensures flash { (c : Content) (rows : List ℕ) (version : ℕ) (d : Content)
+        → MayLeave c (raises c.otp rows version) d → d.flash ≡ c.flash }
+    ensures rows { (c : Content) (rows : List ℕ) (version i : ℕ) (d : Content) → All (IsOutside i) rows
+        → MayLeave c (raises c.otp rows version) d → slice_index d.otp i ≡ slice_index c.otp i }
+    ensures required { (c : Content) (rows : List ℕ) (version : ℕ) (d : Content) → AreRollbackRows rows
+        → MayLeave c (raises c.otp rows version) d → rollback_required d.otp ≡ rollback_required c.otp }
+    ensures flash_off { (c : Content) (rows : List ℕ) (version : ℕ) (d : Content) → AreRollbackRows rows
+        → MayLeave c (raises c.otp rows version) d → flash_off d.otp ≡ flash_off c.otp }
+    ensures slot_size { (c : Content) (rows : List ℕ) (version n : ℕ) (d : Content) → AreRollbackRows rows
+        → MayLeave c (raises c.otp rows version) d → slot_size d.otp n ≡ slot_size c.otp n }
+{}
+
+/// What the loss of power leaves in the raises stays bit by bit between the rows before them and after them, and so
+/// does each majority and each count.
 pub fn a_cut_of_raises_stays_between()
-    ensures { (c d : Content) (rows : List ℕ) (version : ℕ) → CutOf c (raises c.otp rows version) d → IsRaisedIn c d (after_all c (raises c.otp rows version)) }
+    ensures bits { (c d : Content) (rows : List ℕ) (version : ℕ) → CutOf c (raises c.otp rows version) d
+        → IsRaisedIn c d (after_all c (raises c.otp rows version)) }
+    ensures majority { (c d : Content) (rows : List ℕ) (version r : ℕ) → CutOf c (raises c.otp rows version) d
+        → HasBitsOf (majority d.otp r) (majority c.otp r)
+        × HasBitsOf (majority (after_all c (raises c.otp rows version)).otp r) (majority d.otp r) }
+    ensures count { (c d : Content) (rows others : List ℕ) (version : ℕ) → CutOf c (raises c.otp rows version) d
+        → (count c.otp others ≤ count d.otp others)
+        × (count d.otp others ≤ count (after_all c (raises c.otp rows version)).otp others) }
 {}
 
-/// Where the three rows from 0x0c0 on hold 0x000003, two bits count, and a version of 3 raises bit 2 in each row.
-pub fn three_equal_rows()
-    ensures majority { (otp : List ℕ) → HoldsTriple otp 0x0c0 3 3 3 → majority otp 0x0c0 ≡ 3 }
-    ensures count { (otp : List ℕ) → HoldsTriple otp 0x0c0 3 3 3 → count otp (0x0c0 ∷ []) ≡ 2 }
-    ensures raises { (otp : List ℕ) → HoldsTriple otp 0x0c0 3 3 3 → raises otp (0x0c0 ∷ []) 3 ≡ Raise 0x0c0 4 ∷ Raise 0x0c1 4 ∷ Raise 0x0c2 4 ∷ [] }
-{}
-
-/// Two rows of 0x00000f and one of 0x000007 count 4, which a version of 3 is below.
-pub fn two_rows_are_a_majority()
-    ensures majority { (otp : List ℕ) → HoldsTriple otp 0x0c0 0xf 0xf 7 → majority otp 0x0c0 ≡ 0xf }
-    ensures count { (otp : List ℕ) → HoldsTriple otp 0x0c0 0xf 0xf 7 → count otp (0x0c0 ∷ []) ≡ 4 }
-{}
-
-/// Rows of 0x00000f, 0x000007 and 0x000003 count 3, and a version of 3 raises nothing.
-pub fn one_row_alone_counts_as_nothing()
-    ensures majority { (otp : List ℕ) → HoldsTriple otp 0x0c0 0xf 7 3 → majority otp 0x0c0 ≡ 7 }
-    ensures count { (otp : List ℕ) → HoldsTriple otp 0x0c0 0xf 7 3 → count otp (0x0c0 ∷ []) ≡ 3 }
-    ensures raises { (otp : List ℕ) → HoldsTriple otp 0x0c0 0xf 7 3 → raises otp (0x0c0 ∷ []) 3 ≡ [] }
-{}
-
-/// In a flash of 262,144 bytes 5 in row 0x055 stands for slots of 131,072 bytes, and 6 for ones of 4096 bytes, since two of
-/// 262,144 bytes don't fit. Bits 4 and above of the row are not read.
-pub fn two_slots_fit_or_not()
-    ensures five { (otp : List ℕ) → slice_index otp 0x055 ≡ 5 → slot_size otp 262144 ≡ 131072 }
-    ensures six { (otp : List ℕ) → slice_index otp 0x055 ≡ 6 → slot_size otp 262144 ≡ 4096 }
-    ensures twelve { (otp : List ℕ) → slice_index otp 0x055 ≡ 12 → slot_size otp 16777216 ≡ 4096 }
-    ensures high_bits { (otp : List ℕ) → slice_index otp 0x055 ≡ 0xff_fff5 → slot_size otp 262144 ≡ 131072 }
+/// A torn raise adds to a majority only bits that the finished raise adds.
+pub fn a_torn_raise_adds_no_other_bit()
+    ensures { (c : Content) (row bits : ℕ) (d : Content) (r : ℕ) → Torn c (Raise row bits) d
+        → HasBitsOf (majority d.otp r) (majority c.otp r)
+        × HasBitsOf (majority (after c (Raise row bits)).otp r) (majority d.otp r) }
 {}

@@ -2,10 +2,13 @@
 //! version. Beside them the flags of the boot and the slot size, which stand in the OTP too.
 #![tactic(auto)]
 
+pub mod examples;
 mod flags;
 pub mod laws;
 mod raising;
 mod rows;
+#[cfg(test)]
+mod tests;
 
 pub use flags::{BOOT_FLAGS, SLOT_SIZE_ROW, flash_off, required, slot_size};
 pub use raising::raise_to;

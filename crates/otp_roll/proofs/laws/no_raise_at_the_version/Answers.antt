@@ -1,5 +1,5 @@
 use Rattle.otp_roll.proofs.Rising.{raises-none}
 use Rattle.otp_roll.proofs.laws.no_raise_at_the_version.Goals as goal
 
-pub returns : goal.returns
-returns c = raises-none
+pub returns-clause-reached : goal.returns-clause-reached
+returns-clause-reached c = raises-none

@@ -51,6 +51,6 @@ returns-clause-count g c =
     let past : length c.args.rows.now.items ≤ c.loop-row.row-index = subst (λ (xs : List ℕ). length xs ≤ c.loop-row.row-index) c.deref-row-items.ensures.0 c.loop-row-test.false in
     let end = drop_all c.loop-row.row-index c.args.rows.now.items past in
     let does = way-end g.B.Board.state g.B.Board.history _ _ _ c.loop-row.wanted _
-        (subst (λ left. IsOnTheWay g.B.Board.state g.B.Board.history c.args.board.now c.args.rows.now.items c.args.version c.loop-row.wanted left c.loop-row.board) end c.loop-row.invariant) in
+    (subst (λ left. IsOnTheWay g.B.Board.state g.B.Board.history c.args.board.now c.args.rows.now.items c.args.version c.loop-row.wanted left c.loop-row.board) end c.loop-row.invariant) in
     ap (λ (z : Content). count z.otp c.args.rows.now.items) does.done
     ∙ count-raises (g.B.Board.state c.args.board.now).content c.args.rows.now.items c.args.version (g.met.B.Board.is_content c.args.board.now) c.requires.rows c.requires.version

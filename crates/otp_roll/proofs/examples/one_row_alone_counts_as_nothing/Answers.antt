@@ -1,5 +1,5 @@
-use Rattle.otp_roll.proofs.Examples.{count-one_alone, raises-one_alone}
-use Rattle.otp_roll.proofs.laws.one_row_alone_counts_as_nothing.Goals as goal
+use Rattle.otp_roll.proofs.WrittenRows.{count-one_alone, raises-one_alone}
+use Rattle.otp_roll.proofs.examples.one_row_alone_counts_as_nothing.Goals as goal
 
 pub returns-clause-count : goal.returns-clause-count
 returns-clause-count c = count-one_alone

@@ -1,5 +1,5 @@
-use Rattle.otp_roll.proofs.Examples.{count-three_equal, raises-three_equal}
-use Rattle.otp_roll.proofs.laws.three_equal_rows.Goals as goal
+use Rattle.otp_roll.proofs.WrittenRows.{count-three_equal, raises-three_equal}
+use Rattle.otp_roll.proofs.examples.three_equal_rows.Goals as goal
 
 pub returns-clause-count : goal.returns-clause-count
 returns-clause-count c = count-three_equal

@@ -1,0 +1,5 @@
+use Rattle.otp_roll.proofs.Counted.{raises-append}
+use Rattle.otp_roll.proofs.laws.raises_of_appended_rows.Goals as goal
+
+pub returns : goal.returns
+returns c = raises-append
