@@ -1,6 +1,7 @@
 //! The calls over a board in memory, with values that were worked out by hand.
 
-ghost use Rattle.std.specs.Prelude.{◌≡◌, [], ◌∷◌};
+ghost use Rattle.std.specs.Prelude.{◌≡◌, [], ◌∷◌, IfOk, IsTrue};
+ghost use Rattle.pico_board.specs.MemBoard.{state_of};
 
 use crate::{count, flash_off, raise_to, required, slot_size};
 use arrayvec::ArrayVec;
@@ -9,7 +10,9 @@ use std::alloc::Global;
 use std::test::Fail;
 
 /// A board of 262,144 flash bytes, with these values in a triple, in the boot flags and in the row of the slot size.
-fn board(alloc: Global, triple: [u32; 3], flags: u32, slot: u32) -> Result<MemBoard, Fail> {
+fn board(alloc: Global, triple: [u32; 3], flags: u32, slot: u32) -> Result<MemBoard, Fail>
+    ensures { IfOk result (λ made. IsTrue (state_of made).powered) }
+{
     let flash = vec![in alloc; 0xff_u8; 262144]?;
     let mut otp = vec![in alloc; 0_u32; 4096]?;
     otp[0x0c0] = triple[0];
