@@ -37,7 +37,8 @@ found-start n v = record { all = start-of 24 n v; low = omega arith; place = ome
 
 -- the place is taken
 taken-all : (p n k v : ℕ) → v / 2 ^ k % 2 ≡ 0
-    → 2 ^ k * lowest_clear_among (suc p) (suc n) (v / 2 ^ k) ≡ 2 ^ k + 2 ^ (k + 1) * lowest_clear_among p n (v / 2 ^ (k + 1))
+    → 2 ^ k * lowest_clear_among (suc p) (suc n) (v / 2 ^ k)
+    ≡ 2 ^ k + 2 ^ (k + 1) * lowest_clear_among p n (v / 2 ^ (k + 1))
 taken-all p n k v clear =
     ap (λ x. 2 ^ k * x) (lowest-even p n (v / 2 ^ k) clear)
     ∙ doubled (2 ^ k) (lowest_clear_among p n (v / 2 ^ k / 2))
@@ -46,7 +47,8 @@ taken-all p n k v clear =
 
 -- it has a set bit
 passed-all : (p n k v : ℕ) → (v / 2 ^ k % 2 ≡ 0 → ⊥)
-    → 2 ^ k * lowest_clear_among (suc p) (suc n) (v / 2 ^ k) ≡ 2 ^ (k + 1) * lowest_clear_among p (suc n) (v / 2 ^ (k + 1))
+    → 2 ^ k * lowest_clear_among (suc p) (suc n) (v / 2 ^ k)
+    ≡ 2 ^ (k + 1) * lowest_clear_among p (suc n) (v / 2 ^ (k + 1))
 passed-all p n k v set =
     ap (λ x. 2 ^ k * x) (lowest-odd p n (v / 2 ^ k) set)
     ∙ doubled_odd (2 ^ k) (lowest_clear_among p (suc n) (v / 2 ^ k / 2))
@@ -54,13 +56,16 @@ passed-all p n k v set =
     ∙ ap (λ x. x * lowest_clear_among p (suc n) (v / 2 ^ (k + 1))) (sym (twice k))
 
 -- none is wanted any more
-none-all : (p q k v : ℕ) → 2 ^ k * lowest_clear_among p 0 (v / 2 ^ k) ≡ 2 ^ (k + 1) * lowest_clear_among q 0 (v / 2 ^ (k + 1))
+none-all : (p q k v : ℕ) → 2 ^ k * lowest_clear_among p 0 (v / 2 ^ k)
+    ≡ 2 ^ (k + 1) * lowest_clear_among q 0 (v / 2 ^ (k + 1))
 none-all p q k v =
-    ap (λ x. 2 ^ k * x) (lowest-zero p (v / 2 ^ k)) ∙ (omega arith) ∙ ap (λ x. 2 ^ (k + 1) * x) (sym (lowest-zero q (v / 2 ^ (k + 1))))
+    ap (λ x. 2 ^ k * x) (lowest-zero p (v / 2 ^ k)) ∙ (omega arith)
+    ∙ ap (λ x. 2 ^ (k + 1) * x) (sym (lowest-zero q (v / 2 ^ (k + 1))))
 
 -- the same of the places that are left
 left-taken : (k n v : ℕ) → k < 24 → 0 < n → v / 2 ^ k % 2 ≡ 0
-    → 2 ^ k * lowest_clear_among (24 - k) n (v / 2 ^ k) ≡ 2 ^ k + 2 ^ (k + 1) * lowest_clear_among (24 - (k + 1)) (n - 1) (v / 2 ^ (k + 1))
+    → 2 ^ k * lowest_clear_among (24 - k) n (v / 2 ^ k)
+    ≡ 2 ^ k + 2 ^ (k + 1) * lowest_clear_among (24 - (k + 1)) (n - 1) (v / 2 ^ (k + 1))
 left-taken k n v inside some clear =
     let places : 24 - k ≡ suc (24 - (k + 1)) = omega arith in
     let more : n ≡ suc (n - 1) = omega arith in
@@ -69,14 +74,16 @@ left-taken k n v inside some clear =
     ∙ taken-all (24 - (k + 1)) (n - 1) k v clear
 
 left-passed : (k n v : ℕ) → k < 24 → (n ≡ 0) ⊎ (v / 2 ^ k % 2 ≡ 0 → ⊥)
-    → 2 ^ k * lowest_clear_among (24 - k) n (v / 2 ^ k) ≡ 2 ^ (k + 1) * lowest_clear_among (24 - (k + 1)) n (v / 2 ^ (k + 1))
+    → 2 ^ k * lowest_clear_among (24 - k) n (v / 2 ^ k)
+    ≡ 2 ^ (k + 1) * lowest_clear_among (24 - (k + 1)) n (v / 2 ^ (k + 1))
 left-passed k zero v inside either = none-all (24 - k) (24 - (k + 1)) k v
 left-passed k (suc n) v inside (inl none) = absurd (omega arith)
 left-passed k (suc n) v inside (inr set) =
     let places : 24 - k ≡ suc (24 - (k + 1)) = omega arith in
     ap (λ p. 2 ^ k * lowest_clear_among p (suc n) (v / 2 ^ k)) places ∙ passed-all (24 - (k + 1)) n k v set
 
-pub found-taken : (n v bits k wanted more fewer : ℕ) → IsFound n v bits k wanted → k < 24 → 0 < wanted → v / 2 ^ k % 2 ≡ 0
+pub found-taken : (n v bits k wanted more fewer : ℕ) → IsFound n v bits k wanted → k < 24 → 0 < wanted
+    → v / 2 ^ k % 2 ≡ 0
     → more ≡ bits + 2 ^ k → fewer ≡ wanted - 1 → IsFound n v more (k + 1) fewer
 found-taken n v bits k wanted more fewer found inside some clear sum rest = rw (sum, rest) (record {
   all = omega (arith, found.all, left-taken k wanted v inside some clear);
@@ -84,7 +91,8 @@ found-taken n v bits k wanted more fewer found inside some clear sum rest = rw (
   place = omega arith;
 })
 
-pub found-passed : (n v bits k wanted more fewer : ℕ) → IsFound n v bits k wanted → k < 24 → (wanted ≡ 0) ⊎ (v / 2 ^ k % 2 ≡ 0 → ⊥)
+pub found-passed : (n v bits k wanted more fewer : ℕ) → IsFound n v bits k wanted → k < 24
+    → (wanted ≡ 0) ⊎ (v / 2 ^ k % 2 ≡ 0 → ⊥)
     → more ≡ bits → fewer ≡ wanted → IsFound n v more (k + 1) fewer
 found-passed n v bits k wanted more fewer found inside either same rest = rw (same, rest) (record {
   all = omega (arith, found.all, left-passed k wanted v inside either);
@@ -96,7 +104,8 @@ end-of : (p w v x : ℕ) → p ≡ 0 → x * lowest_clear_among p w v ≡ 0
 end-of p w v x is = ap (λ q. x * lowest_clear_among q w v) is ∙ omega arith
 
 pub found-end : (n v bits k wanted : ℕ) → IsFound n v bits k wanted → 24 ≤ k → bits ≡ lowest_clear n v
-found-end n v bits k wanted found past = omega (arith, found.all, end-of (24 - k) wanted (v / 2 ^ k) (2 ^ k) (omega arith))
+found-end n v bits k wanted found past =
+    omega (arith, found.all, end-of (24 - k) wanted (v / 2 ^ k) (2 ^ k) (omega arith))
 
 -- the bit at a place, as the code reads it
 pub bit-clear : (v k : ℕ) → bit_and (v / 2 ^ k) 1 ≡ v / 2 ^ k % 2

@@ -10,7 +10,8 @@ use Rattle.otp_roll.specs.Raises.{raises, lowest_clear, raise_lacking}
 -- the raises of one listed row, over the values of its triple
 abbrev raises_of : (r a b c version : ℕ) → List Step
 raises_of r a b c version =
-    let bits = lowest_clear (min (24 - ones (majority_of a b c)) (version - (0 + ones (majority_of a b c)))) (majority_of a b c) in
+    let bits = lowest_clear (min (24 - ones (majority_of a b c)) (version - (0 + ones (majority_of a b c))))
+    (majority_of a b c) in
     (raise_lacking bits a r ++ (raise_lacking bits b (r + 1) ++ raise_lacking bits c (r + 2))) ++ []
 
 module _ (otp : List ℕ) (r a b c : ℕ) (holds : HoldsTriple otp r a b c) where
@@ -42,14 +43,16 @@ pub raises-two : (otp : List ℕ) (r s a b c m x y z n version : ℕ) → HoldsT
     → ones (majority_of a b c) ≡ m → ones (majority_of x y z) ≡ n
     → raises otp (r ∷ s ∷ []) version ≡ raises_of_two r s a b c m x y z n version
 raises-two otp r s a b c m x y z n version first second first_ones second_ones =
-    rw (first.first, first.second, first.third, second.first, second.second, second.third, first_ones, second_ones) refl
+    rw (first.first, first.second, first.third, second.first, second.second, second.third, first_ones, second_ones)
+    refl
 
 -- the worked examples
 pub count-three_equal : (otp : List ℕ) → HoldsTriple otp 0x0c0 3 3 3 → count otp (0x0c0 ∷ []) ≡ 2
 unfolding ones ones_in
 count-three_equal otp holds = count-triple otp 0x0c0 3 3 3 holds
 
-pub raises-three_equal : (otp : List ℕ) → HoldsTriple otp 0x0c0 3 3 3 → raises otp (0x0c0 ∷ []) 3 ≡ Raise 0x0c0 4 ∷ Raise 0x0c1 4 ∷ Raise 0x0c2 4 ∷ []
+pub raises-three_equal : (otp : List ℕ) → HoldsTriple otp 0x0c0 3 3 3
+    → raises otp (0x0c0 ∷ []) 3 ≡ Raise 0x0c0 4 ∷ Raise 0x0c1 4 ∷ Raise 0x0c2 4 ∷ []
 unfolding ones ones_in lowest_clear
 raises-three_equal otp holds = raises-triple otp 0x0c0 3 3 3 holds 3
 
@@ -82,24 +85,32 @@ ones-none : ones 0 ≡ 0
 unfolding ones_in
 ones-none = ones-digits 1 0 (lit< tt)
 
-module _ (otp : List ℕ) (first : HoldsTriple otp 0x0c3 0xff_fff5 0xff_fffd 0xff_fff5) (second : HoldsTriple otp 0x0c0 0 1 0) where
+module _ (otp : List ℕ) (first : HoldsTriple otp 0x0c3 0xff_fff5 0xff_fffd 0xff_fff5)
+    (second : HoldsTriple otp 0x0c0 0 1 0) where
   pub raises-one_bit : raises otp (0x0c3 ∷ 0x0c0 ∷ []) 23 ≡ Raise 0x0c3 2 ∷ Raise 0x0c4 2 ∷ Raise 0x0c5 2 ∷ []
   unfolding lowest_clear
-  raises-one_bit = raises-two otp 0x0c3 0x0c0 0xff_fff5 0xff_fffd 0xff_fff5 22 0 1 0 0 23 first second ones-22 ones-none
+  raises-one_bit = raises-two otp 0x0c3 0x0c0 0xff_fff5 0xff_fffd 0xff_fff5 22 0 1 0 0 23 first second ones-22
+      ones-none
 
   pub raises-two_bits : raises otp (0x0c3 ∷ 0x0c0 ∷ []) 24 ≡ Raise 0x0c3 0xa ∷ Raise 0x0c4 2 ∷ Raise 0x0c5 0xa ∷ []
   unfolding lowest_clear
-  raises-two_bits = raises-two otp 0x0c3 0x0c0 0xff_fff5 0xff_fffd 0xff_fff5 22 0 1 0 0 24 first second ones-22 ones-none
+  raises-two_bits = raises-two otp 0x0c3 0x0c0 0xff_fff5 0xff_fffd 0xff_fff5 22 0 1 0 0 24 first second ones-22
+      ones-none
 
-  pub raises-three_bits : raises otp (0x0c3 ∷ 0x0c0 ∷ []) 25 ≡ Raise 0x0c3 0xa ∷ Raise 0x0c4 2 ∷ Raise 0x0c5 0xa ∷ Raise 0x0c0 1 ∷ Raise 0x0c2 1 ∷ []
+  pub raises-three_bits : raises otp (0x0c3 ∷ 0x0c0 ∷ []) 25
+      ≡ Raise 0x0c3 0xa ∷ Raise 0x0c4 2 ∷ Raise 0x0c5 0xa ∷ Raise 0x0c0 1 ∷ Raise 0x0c2 1 ∷ []
   unfolding lowest_clear
-  raises-three_bits = raises-two otp 0x0c3 0x0c0 0xff_fff5 0xff_fffd 0xff_fff5 22 0 1 0 0 25 first second ones-22 ones-none
+  raises-three_bits = raises-two otp 0x0c3 0x0c0 0xff_fff5 0xff_fffd 0xff_fff5 22 0 1 0 0 25 first second ones-22
+      ones-none
 
 module _ (otp : List ℕ) (first : HoldsTriple otp 0x0c0 0xff_ffff 0xff_ffff 0) where
-  pub raises-next : HoldsTriple otp 0x0c3 0 0 0 → raises otp (0x0c0 ∷ 0x0c3 ∷ []) 25 ≡ Raise 0x0c3 1 ∷ Raise 0x0c4 1 ∷ Raise 0x0c5 1 ∷ []
+  pub raises-next : HoldsTriple otp 0x0c3 0 0 0
+      → raises otp (0x0c0 ∷ 0x0c3 ∷ []) 25 ≡ Raise 0x0c3 1 ∷ Raise 0x0c4 1 ∷ Raise 0x0c5 1 ∷ []
   unfolding lowest_clear
   raises-next second = raises-two otp 0x0c0 0x0c3 0xff_ffff 0xff_ffff 0 24 0 0 0 0 25 first second ones-24 ones-none
 
-  pub raises-last : HoldsTriple otp 0x0c3 0x7f_ffff 0x7f_ffff 0xff_ffff → raises otp (0x0c0 ∷ 0x0c3 ∷ []) 48 ≡ Raise 0x0c3 0x80_0000 ∷ Raise 0x0c4 0x80_0000 ∷ []
+  pub raises-last : HoldsTriple otp 0x0c3 0x7f_ffff 0x7f_ffff 0xff_ffff
+      → raises otp (0x0c0 ∷ 0x0c3 ∷ []) 48 ≡ Raise 0x0c3 0x80_0000 ∷ Raise 0x0c4 0x80_0000 ∷ []
   unfolding lowest_clear
-  raises-last second = raises-two otp 0x0c0 0x0c3 0xff_ffff 0xff_ffff 0 24 0x7f_ffff 0x7f_ffff 0xff_ffff 23 48 first second ones-24 ones-23
+  raises-last second = raises-two otp 0x0c0 0x0c3 0xff_ffff 0xff_ffff 0 24 0x7f_ffff 0x7f_ffff 0xff_ffff 23 48 first
+      second ones-24 ones-23

@@ -1,5 +1,5 @@
--- What single OTP rows say of the boot. Source: RP2350 Datasheet, chapter 13, OTP, rows BOOT_FLAGS0 and
--- FLASH_PARTITION_SLOT_SIZE; their bits as read here are this project's own.
+-- What single OTP rows say of the boot. Source: RP2350 Datasheet, chapter 13, OTP, rows
+-- BOOT_FLAGS0 and FLASH_PARTITION_SLOT_SIZE; their bits as read here are this project's own.
 use Rattle.std.specs.Prelude.{ℕ, ◌*◌, ◌/◌, ◌%◌, ◌^◌, ◌==◌, ◌&&◌, nat_le, Bool, if◌then◌else◌, List, slice_index}
 use Rattle.otp_roll.specs.declared.flags.TheConstants.{BOOT_FLAGS, SLOT_SIZE_ROW}
 
@@ -11,8 +11,8 @@ rollback_required otp = slice_index otp BOOT_FLAGS % 2 == 1
 abbrev pub flash_off : List ℕ → Bool
 flash_off otp = slice_index otp BOOT_FLAGS / 2 % 2 == 1
 
--- the slot size that a number n stands for: 4096 * 2^n where n is at most 11 and two such slots fit into a flash of this
--- length, and otherwise 4096
+-- the slot size that a number n stands for: 4096 * 2^n where n is at most 11 and two such slots
+-- fit into a flash of this length, and otherwise 4096
 abbrev pub slot_size_of : ℕ → ℕ → ℕ
 slot_size_of n flash_len =
     if nat_le n 11 && nat_le (2 * (4096 * 2 ^ n)) flash_len then 4096 * 2 ^ n else 4096

@@ -1,11 +1,12 @@
--- The raises that take listed rollback rows to a version, as a list of steps over the OTP before the first of them.
--- This project's own.
+-- The raises that take listed rollback rows to a version, as a list of steps over the OTP before
+-- the first of them. This project's own.
 use Rattle.std.specs.Prelude.{ℕ, zero, suc, ◌+◌, ◌-◌, ◌*◌, ◌/◌, ◌%◌, ◌==◌, if◌then◌else◌, min, List, [], ◌∷◌, ◌++◌, slice_index, bit_and, bit_xor, count_ones}
 use Rattle.pico_board.specs.declared.Step.{Step}
 use Rattle.pico_board.specs.declared.Step.TheVariants.{Raise}
 use Rattle.otp_roll.specs.Rows.{majority, count}
 
--- the n lowest of the clear bits among the first `places` bits of v, or all of them where they are fewer than n
+-- the n lowest of the clear bits among the first `places` bits of v, or all of them where they
+-- are fewer than n
 abbrev pub lowest_clear_among : ℕ → ℕ → ℕ → ℕ
 lowest_clear_among zero n v = 0
 lowest_clear_among (suc places) zero v = 0
@@ -36,7 +37,8 @@ raise_triple otp b r =
     ++ (raise_lacking b (slice_index otp (r + 1)) (r + 1)
     ++ raise_lacking b (slice_index otp (r + 2)) (r + 2))
 
--- how many bits the listed row r takes of those that are wanted: as many as its majority has clear ones
+-- how many bits the listed row r takes of those that are wanted: as many as its majority has
+-- clear ones
 abbrev pub taken : List ℕ → ℕ → ℕ → ℕ
 taken otp wanted r = min (clear_count otp r) wanted
 
@@ -50,6 +52,7 @@ raise_each otp wanted [] = []
 raise_each otp wanted (r ∷ rows) =
     raise_row otp wanted r ++ raise_each otp (wanted - taken otp wanted r) rows
 
--- the raises that take the count of the rows to the version; none where the count is at the version already, or no row is listed
+-- the raises that take the count of the rows to the version; none where the count is at the
+-- version already, or no row is listed
 abbrev pub raises : List ℕ → List ℕ → ℕ → List Step
 raises otp rows version = raise_each otp (version - count otp rows) rows

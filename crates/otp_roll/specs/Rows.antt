@@ -1,5 +1,6 @@
--- Rollback rows of the OTP and what counts as raised in them. The rows stand three by three, as the RP2350 Datasheet has rollback
--- versions in OTP (chapter 5, Bootrom, and chapter 13, OTP: a vote of three copies); the count over listed rows is this project's own.
+-- Rollback rows of the OTP and what counts as raised in them. The rows stand three by three, as
+-- the RP2350 Datasheet has rollback versions in OTP (chapter 5, Bootrom, and chapter 13, OTP: a
+-- vote of three copies); the count over listed rows is this project's own.
 use Rattle.std.specs.Prelude.{◌≡◌, ◌⊎◌, ℕ, ◌+◌, ◌*◌, ◌<◌, ◌≤◌, List, length, All, AllPairs, slice_index, bit_and, bit_or, count_ones, sum_by}
 use Rattle.pico_board.specs.Steps.{HasBitsOf}
 
@@ -9,7 +10,8 @@ majority_of a b c = bit_or (bit_and a b) (bit_or (bit_and a c) (bit_and b c))
 
 -- the majority of the triple of rows r, r + 1 and r + 2
 abbrev pub majority : List ℕ → ℕ → ℕ
-majority otp r = majority_of (slice_index otp r) (slice_index otp (r + 1)) (slice_index otp (r + 2))
+majority otp r =
+    majority_of (slice_index otp r) (slice_index otp (r + 1)) (slice_index otp (r + 2))
 
 -- the triple of row r holds these three values
 pub record HoldsTriple (otp : List ℕ) (r a b c : ℕ) : Type 0 where
@@ -32,7 +34,8 @@ first_row = 0x0c0
 abbrev pub last_row : ℕ
 last_row = 0xefd
 
--- what an image may list: at most 32 rows from the first one to the last one, of which any two differ by at least 3
+-- what an image may list: at most 32 rows from the first one to the last one, of which any two
+-- differ by at least 3
 pub record AreRollbackRows (rows : List ℕ) : Type 0 where
   pub few : length rows ≤ 32
   pub in_range : All (λ r. (first_row ≤ r) × (r ≤ last_row)) rows

@@ -7,7 +7,8 @@ ghost use Rattle.otp_roll.specs.Raises.{raises};
 ghost use Rattle.otp_roll.specs.Flags.{flash_off, rollback_required, slot_size};
 ghost use Rattle.pico_board.specs.declared.Step.TheVariants.{Raise};
 
-/// Where the three rows from 0x0c0 on hold 0x000003, two bits count, and a version of 3 raises bit 2 in each row.
+/// Where the three rows from 0x0c0 on hold 0x000003, two bits count, and a version of 3 raises
+/// bit 2 in each row.
 pub fn three_equal_rows()
     ensures majority { (otp : List ℕ) → HoldsTriple otp 0x0c0 3 3 3 → majority otp 0x0c0 ≡ 3 }
     ensures count { (otp : List ℕ) → HoldsTriple otp 0x0c0 3 3 3 → count otp (0x0c0 ∷ []) ≡ 2 }
@@ -17,7 +18,8 @@ pub fn three_equal_rows()
 
 /// Two rows of 0x00000f and one of 0x000007 count 4, which a version of 3 is below.
 pub fn two_rows_are_a_majority()
-    ensures majority { (otp : List ℕ) → HoldsTriple otp 0x0c0 0xf 0xf 7 → majority otp 0x0c0 ≡ 0xf }
+    ensures majority { (otp : List ℕ) → HoldsTriple otp 0x0c0 0xf 0xf 7
+        → majority otp 0x0c0 ≡ 0xf }
     ensures count { (otp : List ℕ) → HoldsTriple otp 0x0c0 0xf 0xf 7 → count otp (0x0c0 ∷ []) ≡ 4 }
 {}
 
@@ -25,33 +27,41 @@ pub fn two_rows_are_a_majority()
 pub fn one_row_alone_counts_as_nothing()
     ensures majority { (otp : List ℕ) → HoldsTriple otp 0x0c0 0xf 7 3 → majority otp 0x0c0 ≡ 7 }
     ensures count { (otp : List ℕ) → HoldsTriple otp 0x0c0 0xf 7 3 → count otp (0x0c0 ∷ []) ≡ 3 }
-    ensures raises { (otp : List ℕ) → HoldsTriple otp 0x0c0 0xf 7 3 → raises otp (0x0c0 ∷ []) 3 ≡ [] }
+    ensures raises { (otp : List ℕ) → HoldsTriple otp 0x0c0 0xf 7 3
+        → raises otp (0x0c0 ∷ []) 3 ≡ [] }
 {}
 
-/// Two listed rows, of which the first in the list is the greater. Its majority lacks bits 1 and 3, and of its three
-/// rows the middle one has bit 3; the other's majority lacks all, and its middle row has bit 0. A version that wants
-/// one bit more takes bit 1 of the first row alone, two bits take both, and a third one is bit 0 of the second row.
+/// Two listed rows, of which the first in the list is the greater. Its majority lacks bits 1 and
+/// 3, and of its three rows the middle one has bit 3; the other's majority lacks all, and its
+/// middle row has bit 0. A version that wants one bit more takes bit 1 of the first row alone,
+/// two bits take both, and a third one is bit 0 of the second row.
 pub fn raises_go_in_the_order_of_the_list()
-    ensures one { (otp : List ℕ) → HoldsTriple otp 0x0c3 0xff_fff5 0xff_fffd 0xff_fff5 → HoldsTriple otp 0x0c0 0 1 0
+    ensures one { (otp : List ℕ) → HoldsTriple otp 0x0c3 0xff_fff5 0xff_fffd 0xff_fff5
+        → HoldsTriple otp 0x0c0 0 1 0
         → raises otp (0x0c3 ∷ 0x0c0 ∷ []) 23 ≡ Raise 0x0c3 2 ∷ Raise 0x0c4 2 ∷ Raise 0x0c5 2 ∷ [] }
-    ensures two { (otp : List ℕ) → HoldsTriple otp 0x0c3 0xff_fff5 0xff_fffd 0xff_fff5 → HoldsTriple otp 0x0c0 0 1 0
-        → raises otp (0x0c3 ∷ 0x0c0 ∷ []) 24 ≡ Raise 0x0c3 0xa ∷ Raise 0x0c4 2 ∷ Raise 0x0c5 0xa ∷ [] }
-    ensures three { (otp : List ℕ) → HoldsTriple otp 0x0c3 0xff_fff5 0xff_fffd 0xff_fff5 → HoldsTriple otp 0x0c0 0 1 0
+    ensures two { (otp : List ℕ) → HoldsTriple otp 0x0c3 0xff_fff5 0xff_fffd 0xff_fff5
+        → HoldsTriple otp 0x0c0 0 1 0
+        → raises otp (0x0c3 ∷ 0x0c0 ∷ []) 24
+        ≡ Raise 0x0c3 0xa ∷ Raise 0x0c4 2 ∷ Raise 0x0c5 0xa ∷ [] }
+    ensures three { (otp : List ℕ) → HoldsTriple otp 0x0c3 0xff_fff5 0xff_fffd 0xff_fff5
+        → HoldsTriple otp 0x0c0 0 1 0
         → raises otp (0x0c3 ∷ 0x0c0 ∷ []) 25
         ≡ Raise 0x0c3 0xa ∷ Raise 0x0c4 2 ∷ Raise 0x0c5 0xa ∷ Raise 0x0c0 1 ∷ Raise 0x0c2 1 ∷ [] }
 {}
 
-/// A row whose majority has all 24 bits takes none, and the next one takes what is wanted. A version of all the bits
-/// of two rows raises the highest bit too.
+/// A row whose majority has all 24 bits takes none, and the next one takes what is wanted. A
+/// version of all the bits of two rows raises the highest bit too.
 pub fn full_rows_take_no_bit()
-    ensures next { (otp : List ℕ) → HoldsTriple otp 0x0c0 0xff_ffff 0xff_ffff 0 → HoldsTriple otp 0x0c3 0 0 0
+    ensures next { (otp : List ℕ) → HoldsTriple otp 0x0c0 0xff_ffff 0xff_ffff 0
+        → HoldsTriple otp 0x0c3 0 0 0
         → raises otp (0x0c0 ∷ 0x0c3 ∷ []) 25 ≡ Raise 0x0c3 1 ∷ Raise 0x0c4 1 ∷ Raise 0x0c5 1 ∷ [] }
     ensures last { (otp : List ℕ) → HoldsTriple otp 0x0c0 0xff_ffff 0xff_ffff 0
         → HoldsTriple otp 0x0c3 0x7f_ffff 0x7f_ffff 0xff_ffff
         → raises otp (0x0c0 ∷ 0x0c3 ∷ []) 48 ≡ Raise 0x0c3 0x80_0000 ∷ Raise 0x0c4 0x80_0000 ∷ [] }
 {}
 
-/// Rows from 0x0c0 to 0xefd may be listed, at most 32 of them, in any order, of which two differ by at least 3.
+/// Rows from 0x0c0 to 0xefd may be listed, at most 32 of them, in any order, of which two differ
+/// by at least 3.
 pub fn rows_that_may_be_listed()
     ensures first { AreRollbackRows (0x0c0 ∷ []) }
     ensures below { ¬ (AreRollbackRows (0x0bf ∷ [])) }
@@ -60,7 +70,8 @@ pub fn rows_that_may_be_listed()
     ensures three { AreRollbackRows (0x0c3 ∷ 0x0c0 ∷ []) }
     ensures two { ¬ (AreRollbackRows (0x0c0 ∷ 0x0c2 ∷ [])) }
     ensures downwards { ¬ (AreRollbackRows (0x0c2 ∷ 0x0c0 ∷ [])) }
-    ensures number { (n : ℕ) → AreRollbackRows (map (λ i. 0x0c0 + 3 * i) (range_with_len 0 n)) ↔ (n ≤ 32) }
+    ensures number { (n : ℕ) → AreRollbackRows (map (λ i. 0x0c0 + 3 * i) (range_with_len 0 n))
+        ↔ (n ≤ 32) }
 {}
 
 /// A version may be 24 for each listed row.
@@ -81,20 +92,24 @@ pub fn boot_flags()
         → (rollback_required otp ≡ true) × (flash_off otp ≡ true) }
 {}
 
-/// In a flash of 262,144 bytes 5 in row 0x055 stands for slots of 131,072 bytes, and 6 for ones of 4096 bytes, since
-/// two of 262,144 bytes don't fit. Bits 4 and above of the row are not read.
+/// In a flash of 262,144 bytes 5 in row 0x055 stands for slots of 131,072 bytes, and 6 for ones
+/// of 4096 bytes, since two of 262,144 bytes don't fit. Bits 4 and above of the row are not read.
 pub fn two_slots_fit_or_not()
     ensures five { (otp : List ℕ) → slice_index otp 0x055 ≡ 5 → slot_size otp 262144 ≡ 131072 }
     ensures six { (otp : List ℕ) → slice_index otp 0x055 ≡ 6 → slot_size otp 262144 ≡ 4096 }
-    ensures one_byte_short { (otp : List ℕ) → slice_index otp 0x055 ≡ 5 → slot_size otp 262143 ≡ 4096 }
+    ensures one_byte_short { (otp : List ℕ) → slice_index otp 0x055 ≡ 5
+        → slot_size otp 262143 ≡ 4096 }
     ensures zero { (otp : List ℕ) → slice_index otp 0x055 ≡ 0 → slot_size otp 262144 ≡ 4096 }
-    ensures high_bits { (otp : List ℕ) → slice_index otp 0x055 ≡ 0xff_fff5 → slot_size otp 262144 ≡ 131072 }
+    ensures high_bits { (otp : List ℕ) → slice_index otp 0x055 ≡ 0xff_fff5
+        → slot_size otp 262144 ≡ 131072 }
 {}
 
 /// The greatest number that stands for a slot size is 11, which wants the greatest flash.
 pub fn the_greatest_slots()
-    ensures eleven { (otp : List ℕ) → slice_index otp 0x055 ≡ 11 → slot_size otp 16777216 ≡ 8388608 }
-    ensures eleven_short { (otp : List ℕ) → slice_index otp 0x055 ≡ 11 → slot_size otp 16777215 ≡ 4096 }
+    ensures eleven { (otp : List ℕ) → slice_index otp 0x055 ≡ 11
+        → slot_size otp 16777216 ≡ 8388608 }
+    ensures eleven_short { (otp : List ℕ) → slice_index otp 0x055 ≡ 11
+        → slot_size otp 16777215 ≡ 4096 }
     ensures twelve { (otp : List ℕ) → slice_index otp 0x055 ≡ 12 → slot_size otp 33554432 ≡ 4096 }
     ensures fifteen { (otp : List ℕ) → slice_index otp 0x055 ≡ 15 → slot_size otp 16777216 ≡ 4096 }
 {}

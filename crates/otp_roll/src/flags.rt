@@ -1,5 +1,5 @@
-//! The boot flags and the slot size in the OTP (RP2350 Datasheet, chapter 13, OTP, rows BOOT_FLAGS0 and
-//! FLASH_PARTITION_SLOT_SIZE).
+//! The boot flags and the slot size in the OTP (RP2350 Datasheet, chapter 13, OTP, rows
+//! BOOT_FLAGS0 and FLASH_PARTITION_SLOT_SIZE).
 
 ghost use Rattle.std.specs.Prelude.{◌≡◌, IsTrue, length};
 ghost use Rattle.otp_roll.specs.Flags.{flash_off, rollback_required, slot_size};

@@ -9,7 +9,8 @@ use pico_board::{Bench, Board, MemBoard, PowerLost};
 use std::alloc::Global;
 use std::test::Fail;
 
-/// A board of 262,144 flash bytes, with these values in a triple, in the boot flags and in the row of the slot size.
+/// A board of 262,144 flash bytes, with these values in a triple, in the boot flags and in the
+/// row of the slot size.
 fn board(alloc: Global, triple: [u32; 3], flags: u32, slot: u32) -> Result<MemBoard, Fail>
     ensures { IfOk result (λ made. IsTrue (state_of made).powered) }
 {
@@ -32,6 +33,15 @@ fn one_row() -> ArrayVec<u16, 32>
     rows
 }
 
+/// The three rows from 0x0c0 on.
+fn triple(board: &MemBoard) -> [u32; 3]
+    requires { IsTrue (state_of board.now).powered }
+{
+    let first = board.otp_read(0x0c0);
+    let second = board.otp_read(0x0c1);
+    [first, second, board.otp_read(0x0c2)]
+}
+
 #[test]
 fn rows_rise_to_the_version(rt: HostRuntime) -> Result<(), Fail> {
     let mut board = board(rt.alloc(), [3, 3, 3], 0, 0)?;
@@ -40,14 +50,7 @@ fn rows_rise_to_the_version(rt: HostRuntime) -> Result<(), Fail> {
     assert_eq!(rt; raise_to(&mut board, &rows, 3), Ok(()));
     assert_eq!(rt; count(&board, &rows), 3);
     assert_eq!(rt; board.steps(), 3);
-    assert_eq!(rt;
-        (
-            board.otp_read(0x0c0),
-            board.otp_read(0x0c1),
-            board.otp_read(0x0c2)
-        ),
-        (7, 7, 7)
-    );
+    assert_eq!(rt; triple(&board), [7, 7, 7]);
     Ok(())
 }
 
@@ -59,24 +62,10 @@ fn a_cut_leaves_the_first_raises(rt: HostRuntime) -> Result<(), Fail> {
     assert_eq!(rt; raise_to(&mut board, &rows, 3), Err(PowerLost));
     assert!(rt; !board.powered());
     board.power_on();
-    assert_eq!(rt;
-        (
-            board.otp_read(0x0c0),
-            board.otp_read(0x0c1),
-            board.otp_read(0x0c2)
-        ),
-        (7, 3, 3)
-    );
+    assert_eq!(rt; triple(&board), [7, 3, 3]);
     assert_eq!(rt; count(&board, &rows), 2);
     assert_eq!(rt; raise_to(&mut board, &rows, 3), Ok(()));
-    assert_eq!(rt;
-        (
-            board.otp_read(0x0c0),
-            board.otp_read(0x0c1),
-            board.otp_read(0x0c2)
-        ),
-        (7, 7, 7)
-    );
+    assert_eq!(rt; triple(&board), [7, 7, 7]);
     Ok(())
 }
 

@@ -17,8 +17,10 @@ row-side n i d within = get_or-map-range_with_len (λ k. 0x0c0 + 3 * k) 0 n i i 
 may-be : (n : ℕ) → n ≤ 32 → AreRollbackRows (side_by_side n)
 may-be n few = record {
   few = omega (arith, length-side n);
-  in_range = λ i d within. let here = row-side n i d (omega (arith, length-side n)) in (omega (arith, here), omega (arith, here, length-side n));
-  apart = λ i j d before within. let here = row-side n i d (omega (arith, length-side n)) in let there = row-side n j d (omega (arith, length-side n)) in inl (omega (arith, here, there));
+  in_range = λ i d within. let here =
+      row-side n i d (omega (arith, length-side n)) in (omega (arith, here), omega (arith, here, length-side n));
+  apart = λ i j d before within. let here = row-side n i d (omega (arith, length-side n)) in let there =
+      row-side n j d (omega (arith, length-side n)) in inl (omega (arith, here, there));
 }
 
 pub returns-clause-number : goal.returns-clause-number

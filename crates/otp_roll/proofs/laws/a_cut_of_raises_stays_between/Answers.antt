@@ -8,4 +8,5 @@ pub returns-clause-majority : goal.returns-clause-majority
 returns-clause-majority c = λ old d rows version r cut. majority-between _ _ _ r (cut-raises old d rows version cut)
 
 pub returns-clause-count : goal.returns-clause-count
-returns-clause-count c = λ old d rows others version cut. count-between _ _ _ others (cut-raises old d rows version cut)
+returns-clause-count c = λ old d rows others version cut. count-between _ _ _ others
+    (cut-raises old d rows version cut)

@@ -5,4 +5,5 @@ use Rattle.otp_roll.proofs.raising.raise_to.Given as goal
 
 abbrev pub invariant-loop-row : goal.invariant-loop-row
 invariant-loop-row g l =
-    IsOnTheWay g.B.Board.state g.B.Board.history l.fn.board l.rows.items l.version l.wanted (drop l.row-index l.rows.items) l.board
+    IsOnTheWay g.B.Board.state g.B.Board.history l.fn.board l.rows.items l.version l.wanted
+    (drop l.row-index l.rows.items) l.board
