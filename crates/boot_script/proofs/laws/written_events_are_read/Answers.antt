@@ -1,0 +1,5 @@
+use Rattle.boot_script.proofs.ReadBack.{back-at}
+use Rattle.boot_script.proofs.laws.written_events_are_read.Goals as goal
+
+pub returns : goal.returns
+returns c = back-at

@@ -1,0 +1,54 @@
+-- The events of a script as plain data. This project's own.
+use Rattle.std.specs.Prelude.{ℕ, Bool, List, ◌≡◌, ◌<◌, ◌^◌, ⊤, length}
+use Rattle.pico_board.specs.Cuts.{IsPattern}
+use Rattle.pico_board.specs.declared.boot.BootKind.{BootKind}
+use Rattle.pico_board.specs.declared.boot.BootKind.TheVariants.{Normal, Bootsel, Update}
+use Rattle.boot_script.specs.declared.event.Event.{Event}
+use Rattle.boot_script.specs.declared.event.Event.TheVariants as rust
+
+-- what happens to a board in a script
+pub data Happening : Type 0 where
+  End : Happening
+  Command : (command payload : List ℕ) → Happening
+  Uf2 : (block : List ℕ) → Happening
+  Cut : (left : ℕ) → (within : Bool) → (pattern : List ℕ) → Happening
+  PowerOn : Happening
+  Reset : (kind : BootKind) → Happening
+  Buy : Happening
+
+-- an event as plain data
+abbrev pub event_from : Event → Happening
+event_from rust.End = End
+event_from (rust.Command command payload) = Command command.now payload.now
+event_from (rust.Uf2 block) = Uf2 block.now
+event_from (rust.Cut left within pattern) = Cut left within pattern.now
+event_from rust.PowerOn = PowerOn
+event_from (rust.Reset kind) = Reset kind
+event_from rust.Buy = Buy
+
+-- the base of a reset, which only an update boot has
+abbrev pub base_of : BootKind → ℕ
+base_of Normal = 0
+base_of Bootsel = 0
+base_of (Update base) = base
+
+-- the parts of an event have the sizes of its record
+abbrev pub IsWellFormed : Happening → Type 0
+IsWellFormed End = ⊤
+IsWellFormed (Command command payload) = (length command ≡ 32) × (length payload < 2 ^ 32)
+IsWellFormed (Uf2 block) = length block ≡ 512
+IsWellFormed (Cut left within pattern) = (left < 2 ^ 32) × IsPattern within pattern
+IsWellFormed PowerOn = ⊤
+IsWellFormed (Reset kind) = base_of kind < 2 ^ 32
+IsWellFormed Buy = ⊤
+
+-- an event that is written to a script, and that the machine serves: a payload is shorter than a
+-- script may be, and a pattern is as a bench asks
+abbrev pub IsWritable : Happening → Type 0
+IsWritable End = ⊤
+IsWritable (Command command payload) = length payload < 2 ^ 26
+IsWritable (Uf2 block) = ⊤
+IsWritable (Cut left within pattern) = IsPattern within pattern
+IsWritable PowerOn = ⊤
+IsWritable (Reset kind) = ⊤
+IsWritable Buy = ⊤
