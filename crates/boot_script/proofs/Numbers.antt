@@ -1,11 +1,12 @@
 -- Little-endian numbers of four bytes and of two.
-use Rattle.std.proofs.Common.{◌≡◌, ℕ, zero, suc, ◌+◌, ◌*◌, ◌/◌, ◌%◌, ◌^◌, ◌<◌, ◌≤◌, List, [], ◌∷◌, ◌++◌, length, take, drop, get_or, arith, refl, ap, ◌∙◌}
+use Rattle.std.proofs.Common.{◌≡◌, ℕ, zero, suc, ◌+◌, ◌*◌, ◌/◌, ◌%◌, ◌<◌, ◌≤◌, List, [], ◌∷◌, length, take, drop, get_or, arith, refl}
 use Rattle.byteorder.specs.Endian.{little_number, little_bytes}
 
 abbrev pub AreBytes : List ℕ → Type 0
 AreBytes xs = (i : ℕ) → get_or xs i 0 < 256
 
-pub word-cells : (a b c d : ℕ) → a < 256 → b < 256 → c < 256 → d < 256 → little_bytes 4 (a + 256 * (b + 256 * (c + 256 * (d + 0)))) ≡ a ∷ b ∷ c ∷ d ∷ []
+pub word-cells : (a b c d : ℕ) → a < 256 → b < 256 → c < 256 → d < 256
+    → little_bytes 4 (a + 256 * (b + 256 * (c + 256 * (d + 0)))) ≡ a ∷ b ∷ c ∷ d ∷ []
 word-cells a b c d a_low b_low c_low d_low =
     let first : (a + 256 * (b + 256 * (c + 256 * (d + 0)))) % 256 ≡ a = omega arith in
     let second : (a + 256 * (b + 256 * (c + 256 * (d + 0)))) / 256 % 256 ≡ b = omega arith in

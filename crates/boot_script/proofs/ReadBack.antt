@@ -1,6 +1,6 @@
 -- What is written of an event is read again, whatever follows it.
-use Rattle.std.proofs.Common.{◌≡◌, ℕ, ◌+◌, ◌*◌, ◌^◌, ◌<◌, ◌≤◌, ◌==◌, Bool, true, false, List, [], ◌∷◌, ◌++◌, length, take, drop, arith, refl, sym, ap, subst, ◌∙◌, append_assoc, length-append}
-use Rattle.std.specs.Prelude.{Result, Ok, Err, if◌then◌else◌, slice_index}
+use Rattle.std.proofs.Common.{◌≡◌, ℕ, ◌+◌, ◌^◌, ◌<◌, ◌≤◌, ◌==◌, Bool, true, false, List, ◌∷◌, ◌++◌, length, take, drop, arith, refl, ap, subst, ◌∙◌, append_assoc, length-append}
+use Rattle.std.specs.Prelude.{Ok, slice_index}
 use Rattle.std.proofs.lemmas.Bool.{le-ltb, le-leb, eq-eqb}
 use Rattle.std.proofs.Math.Seq.{take-append_seam, drop-append_seam}
 use Rattle.byteorder.specs.Endian.{little_number, little_bytes}
@@ -8,8 +8,6 @@ use Rattle.byteorder.specs.Numbers.{little_number-reads_back}
 use Rattle.pico_board.specs.Cuts.{IsPattern}
 use Rattle.pico_board.specs.declared.boot.BootKind.{BootKind}
 use Rattle.pico_board.specs.declared.boot.BootKind.TheVariants.{Normal, Bootsel, Update}
-use Rattle.boot_script.specs.declared.event.ScriptFault.{ScriptFault}
-use Rattle.boot_script.specs.declared.event.ScriptFault.TheVariants.{Kind, Short, Pattern}
 use Rattle.boot_script.specs.Events.{Happening, End, Command, Uf2, Cut, PowerOn, Reset, Buy, IsWellFormed, base_of}
 use Rattle.boot_script.specs.Written.{written, part_of, kind_of}
 use Rattle.boot_script.specs.Reading.{with_rest, payload_in, command_in, uf2_in, cut_in, is_cut, reset_in, reset_of, reset_event, event_in, and_next, event_at}
@@ -23,14 +21,17 @@ pub payload_in-is : (at : ℕ) (command bs : List ℕ) → 4 ≤ length bs
     → payload_in at command bs ≡ with_rest at (little_number 4 bs) (drop 4 bs) (Command command)
 payload_in-is at command bs long = rw (le-ltb (length bs) 4 long) refl
 
-pub command_in-is : (at : ℕ) (bs : List ℕ) → 32 ≤ length bs → command_in at bs ≡ payload_in at (take 32 bs) (drop 32 bs)
+pub command_in-is : (at : ℕ) (bs : List ℕ) → 32 ≤ length bs
+    → command_in at bs ≡ payload_in at (take 32 bs) (drop 32 bs)
 command_in-is at bs long = rw (le-ltb (length bs) 32 long) refl
 
 pub uf2_in-is : (at : ℕ) (bs : List ℕ) → 512 ≤ length bs → uf2_in at bs ≡ Ok (Uf2 (take 512 bs))
 uf2_in-is at bs long = rw (le-ltb (length bs) 512 long) refl
 
-pub cut_in-is : (at : ℕ) (bs : List ℕ) → 7 ≤ length bs → is_cut (slice_index bs 4) (little_number 2 (drop 5 bs)) ≡ true
-    → cut_in at bs ≡ with_rest at (little_number 2 (drop 5 bs)) (drop 7 bs) (Cut (little_number 4 bs) (slice_index bs 4 == 1))
+pub cut_in-is : (at : ℕ) (bs : List ℕ) → 7 ≤ length bs
+    → is_cut (slice_index bs 4) (little_number 2 (drop 5 bs)) ≡ true
+    → cut_in at bs ≡ with_rest at (little_number 2 (drop 5 bs)) (drop 7 bs)
+    (Cut (little_number 4 bs) (slice_index bs 4 == 1))
 cut_in-is at bs long fits = rw (le-ltb (length bs) 7 long, fits) refl
 
 pub reset_in-is : (at : ℕ) (bs : List ℕ) → 5 ≤ length bs
@@ -49,13 +50,17 @@ payload-back : (at : ℕ) (command payload rest : List ℕ) → length payload <
     → payload_in at command (little_bytes 4 (length payload) ++ (payload ++ rest)) ≡ Ok (Command command payload)
 payload-back at command payload rest few =
     payload_in-is at command (little_bytes 4 (length payload) ++ (payload ++ rest)) (omega arith)
-    ∙ with_rest-front at (little_number 4 (little_bytes 4 (length payload) ++ (payload ++ rest))) payload rest (Command command)
+    ∙ with_rest-front at (little_number 4 (little_bytes 4 (length payload) ++ (payload ++ rest))) payload rest
+    (Command command)
     (little_number-reads_back 4 (length payload) (payload ++ rest) few)
 
-pub command-front : (at : ℕ) (command xs : List ℕ) → length command ≡ 32 → command_in at (command ++ xs) ≡ payload_in at command xs
+pub command-front : (at : ℕ) (command xs : List ℕ) → length command ≡ 32
+    → command_in at (command ++ xs) ≡ payload_in at command xs
 command-front at command xs long =
-    let front : take 32 (command ++ xs) ≡ command = subst (λ n. take n (command ++ xs) ≡ command) long (take-append_seam command xs) in
-    let behind : drop 32 (command ++ xs) ≡ xs = subst (λ n. drop n (command ++ xs) ≡ xs) long (drop-append_seam command xs) in
+    let front : take 32 (command ++ xs) ≡ command =
+    subst (λ n. take n (command ++ xs) ≡ command) long (take-append_seam command xs) in
+    let behind : drop 32 (command ++ xs) ≡ xs =
+    subst (λ n. drop n (command ++ xs) ≡ xs) long (drop-append_seam command xs) in
     command_in-is at (command ++ xs) (omega (arith, length-append command xs, long))
     ∙ ap (λ c. payload_in at c (drop 32 (command ++ xs))) front ∙ ap (λ ys. payload_in at command ys) behind
 
@@ -68,10 +73,12 @@ command-back at command payload rest long few =
 
 pub uf2-back : (at : ℕ) (block rest : List ℕ) → length block ≡ 512 → uf2_in at (block ++ rest) ≡ Ok (Uf2 block)
 uf2-back at block rest long =
-    let front : take 512 (block ++ rest) ≡ block = subst (λ n. take n (block ++ rest) ≡ block) long (take-append_seam block rest) in
+    let front : take 512 (block ++ rest) ≡ block =
+    subst (λ n. take n (block ++ rest) ≡ block) long (take-append_seam block rest) in
     uf2_in-is at (block ++ rest) (omega (arith, length-append block rest, long)) ∙ ap (λ b. Ok (Uf2 b)) front
 
-fits-cut : (within : Bool) (pattern : List ℕ) → IsPattern within pattern → is_cut (part_of within) (length pattern) ≡ true
+fits-cut : (within : Bool) (pattern : List ℕ) → IsPattern within pattern
+    → is_cut (part_of within) (length pattern) ≡ true
 fits-cut true pattern fits = rw (le-leb 1 (length pattern) fits.0, le-leb (length pattern) 4096 fits.1) refl
 fits-cut false pattern fits = eq-eqb (length pattern) 0 fits
 
@@ -84,14 +91,18 @@ part-back true = refl
 part-back false = refl
 
 cut-back : (at left : ℕ) (within : Bool) (pattern rest : List ℕ) → left < 2 ^ 32 → IsPattern within pattern
-    → cut_in at ((little_bytes 4 left ++ (part_of within ∷ (little_bytes 2 (length pattern) ++ pattern))) ++ rest) ≡ Ok (Cut left within pattern)
+    → cut_in at ((little_bytes 4 left ++ (part_of within ∷ (little_bytes 2 (length pattern) ++ pattern))) ++ rest)
+    ≡ Ok (Cut left within pattern)
 cut-back at left within pattern rest low fits =
     let size = little_number-reads_back 2 (length pattern) (pattern ++ rest) (few-cut within pattern fits) in
-    let steps = little_number-reads_back 4 left (part_of within ∷ (little_bytes 2 (length pattern) ++ (pattern ++ rest))) low in
-    cut_in-is at (little_bytes 4 left ++ (part_of within ∷ (little_bytes 2 (length pattern) ++ (pattern ++ rest)))) (omega arith)
+    let steps = little_number-reads_back 4 left
+    (part_of within ∷ (little_bytes 2 (length pattern) ++ (pattern ++ rest))) low in
+    cut_in-is at (little_bytes 4 left ++ (part_of within ∷ (little_bytes 2 (length pattern) ++ (pattern ++ rest))))
+    (omega arith)
     (ap (λ n. is_cut (part_of within) n) size ∙ fits-cut within pattern fits)
     ∙ with_rest-front at (little_number 2 (little_bytes 2 (length pattern) ++ (pattern ++ rest))) pattern rest
-    (Cut (little_number 4 (little_bytes 4 left ++ (part_of within ∷ (little_bytes 2 (length pattern) ++ (pattern ++ rest))))) (part_of within == 1)) size
+    (Cut (little_number 4 (little_bytes 4 left
+    ++ (part_of within ∷ (little_bytes 2 (length pattern) ++ (pattern ++ rest))))) (part_of within == 1)) size
     ∙ ap (λ n. Ok (Cut n (part_of within == 1) pattern)) steps ∙ ap (λ w. Ok (Cut left w pattern)) (part-back within)
 
 reset-back : (at : ℕ) (kind : BootKind) (rest : List ℕ) → base_of kind < 2 ^ 32

@@ -1,7 +1,7 @@
 -- Why no event is read, by the bytes.
 use Rattle.std.proofs.Common.{◌≡◌, ℕ, zero, suc, ◌+◌, ◌<◌, ◌≤◌, ◌==◌, Bool, true, false, List, [], ◌∷◌, length, take, drop, arith, refl, sym, ap, subst, ◌∙◌, inl, inr}
-use Rattle.std.specs.Prelude.{◌⊎◌, Result, Ok, Err, Option, Some, None, slice_index}
-use Rattle.std.proofs.lemmas.Bool.{cases_lt, cases_eq, ne_eqb, eq-eqb}
+use Rattle.std.specs.Prelude.{◌⊎◌, Err, Option, Some, None, slice_index}
+use Rattle.std.proofs.lemmas.Bool.{cases_lt}
 use Rattle.std.proofs.lemmas.Bool.Decides.{nat_tests}
 use Rattle.std.proofs.lemmas.Grind.{common_steps}
 use Rattle.std.proofs.lemmas.List.{length-drop}
@@ -9,9 +9,9 @@ use Rattle.byteorder.specs.Endian.{little_number}
 use Rattle.pico_board.specs.declared.boot.BootKind.{BootKind}
 use Rattle.boot_script.specs.declared.event.ScriptFault.{ScriptFault}
 use Rattle.boot_script.specs.declared.event.ScriptFault.TheVariants.{Kind, Short, Pattern}
-use Rattle.boot_script.specs.Events.{Happening, Command, Cut}
+use Rattle.boot_script.specs.Events.{Command, Cut}
 use Rattle.boot_script.specs.Reading.{with_rest, payload_in, command_in, uf2_in, cut_in, is_cut, reset_in, reset_of, reset_event, event_in}
-use Rattle.boot_script.specs.Faults.{HasFixed, HasNoKind, LacksFixed, IsReset, IsCut, HasBadReset, HasBadCut, LacksRest, IsFault}
+use Rattle.boot_script.specs.Faults.{HasNoKind, LacksFixed, IsReset, IsCut, HasBadReset, HasBadCut, LacksRest, IsFault}
 use Rattle.boot_script.proofs.ReadBack.{with_rest-is, payload_in-is, command_in-is, uf2_in-is, cut_in-is, reset_in-is}
 use Rattle.boot_script.proofs.Spelled.{with_rest-short, payload_in-short, command_in-short, uf2_in-short, cut_in-short, cut_in-bad, reset_in-short, no-kind, is_cut-before, is_cut-within, is_cut-none}
 
@@ -38,21 +38,27 @@ command-fault : (at : ℕ) (bs : List ℕ) (f : ScriptFault) → command_in at b
     → (f ≡ Short at) × ((length bs < 36) ⊎ ((36 ≤ length bs) × (length bs < 36 + little_number 4 (drop 32 bs))))
 command-fault at bs f read = by_front (cases_lt (length bs) 32)
   where
-    by_rest : 36 ≤ length bs → (length (drop 4 (drop 32 bs)) < little_number 4 (drop 32 bs)) ⊎ (little_number 4 (drop 32 bs) ≤ length (drop 4 (drop 32 bs)))
+    by_rest : 36 ≤ length bs → (length (drop 4 (drop 32 bs)) < little_number 4 (drop 32 bs))
+        ⊎ (little_number 4 (drop 32 bs) ≤ length (drop 4 (drop 32 bs)))
         → with_rest at (little_number 4 (drop 32 bs)) (drop 4 (drop 32 bs)) (Command (take 32 bs)) ≡ Err f
         → (f ≡ Short at) × ((length bs < 36) ⊎ ((36 ≤ length bs) × (length bs < 36 + little_number 4 (drop 32 bs))))
     by_rest there (inl short) answer =
-        let one = with_rest-short at (little_number 4 (drop 32 bs)) (drop 4 (drop 32 bs)) (Command (take 32 bs)) short in
+        let one = with_rest-short at (little_number 4 (drop 32 bs)) (drop 4 (drop 32 bs))
+        (Command (take 32 bs)) short in
         (cc, inr (there, omega (arith, short, length-drop 4 (drop 32 bs), length-drop 32 bs)))
     by_rest there (inr long) answer =
-        let one = with_rest-is at (little_number 4 (drop 32 bs)) (drop 4 (drop 32 bs)) (Command (take 32 bs)) long in absurd (cc)
+        let one = with_rest-is at (little_number 4 (drop 32 bs)) (drop 4 (drop 32 bs))
+        (Command (take 32 bs)) long in absurd (cc)
 
-    by_size : 32 ≤ length bs → (length (drop 32 bs) < 4) ⊎ (4 ≤ length (drop 32 bs)) → payload_in at (take 32 bs) (drop 32 bs) ≡ Err f
+    by_size : 32 ≤ length bs → (length (drop 32 bs) < 4) ⊎ (4 ≤ length (drop 32 bs))
+        → payload_in at (take 32 bs) (drop 32 bs) ≡ Err f
         → (f ≡ Short at) × ((length bs < 36) ⊎ ((36 ≤ length bs) × (length bs < 36 + little_number 4 (drop 32 bs))))
     by_size there (inl short) answer =
-        let one = payload_in-short at (take 32 bs) (drop 32 bs) short in (cc, inl (omega (arith, short, length-drop 32 bs)))
+        let one = payload_in-short at (take 32 bs) (drop 32 bs) short in
+        (cc, inl (omega (arith, short, length-drop 32 bs)))
     by_size there (inr long) answer =
-        by_rest (omega (arith, long, length-drop 32 bs)) (cases_lt (length (drop 4 (drop 32 bs))) (little_number 4 (drop 32 bs)))
+        by_rest (omega (arith, long, length-drop 32 bs))
+        (cases_lt (length (drop 4 (drop 32 bs))) (little_number 4 (drop 32 bs)))
         (sym (payload_in-is at (take 32 bs) (drop 32 bs) long) ∙ answer)
 
     by_front : (length bs < 32) ⊎ (32 ≤ length bs)
@@ -65,12 +71,15 @@ command-lacks at bs short = by_front (cases_lt (length bs) 32)
   where
     by_front : (length bs < 32) ⊎ (32 ≤ length bs) → command_in at bs ≡ Err (Short at)
     by_front (inl few) = command_in-short at bs few
-    by_front (inr there) = command_in-is at bs there ∙ payload_in-short at (take 32 bs) (drop 32 bs) (omega (arith, length-drop 32 bs))
+    by_front (inr there) = command_in-is at bs there
+        ∙ payload_in-short at (take 32 bs) (drop 32 bs) (omega (arith, length-drop 32 bs))
 
-command-runs_out : (at : ℕ) (bs : List ℕ) → 36 ≤ length bs → length bs < 36 + little_number 4 (drop 32 bs) → command_in at bs ≡ Err (Short at)
+command-runs_out : (at : ℕ) (bs : List ℕ) → 36 ≤ length bs → length bs < 36 + little_number 4 (drop 32 bs)
+    → command_in at bs ≡ Err (Short at)
 command-runs_out at bs there short =
     command_in-is at bs (omega arith) ∙ payload_in-is at (take 32 bs) (drop 32 bs) (omega (arith, length-drop 32 bs))
-    ∙ with_rest-short at (little_number 4 (drop 32 bs)) (drop 4 (drop 32 bs)) (Command (take 32 bs)) (omega (arith, length-drop 4 (drop 32 bs), length-drop 32 bs))
+    ∙ with_rest-short at (little_number 4 (drop 32 bs)) (drop 4 (drop 32 bs)) (Command (take 32 bs))
+    (omega (arith, length-drop 4 (drop 32 bs), length-drop 32 bs))
 
 -- the faults of a UF2 block, of a cut and of a reset
 uf2-fault : (at : ℕ) (bs : List ℕ) (f : ScriptFault) → uf2_in at bs ≡ Err f → (f ≡ Short at) × (length bs < 512)
@@ -84,24 +93,30 @@ abbrev CutFault : ℕ → List ℕ → ScriptFault → Type 0
 CutFault at bs f =
     ((f ≡ Short at) × (length bs < 7))
     ⊎ (((f ≡ Pattern at) × (7 ≤ length bs) × (is_cut (slice_index bs 4) (little_number 2 (drop 5 bs)) ≡ false))
-    ⊎ ((f ≡ Short at) × (7 ≤ length bs) × (is_cut (slice_index bs 4) (little_number 2 (drop 5 bs)) ≡ true) × (length bs < 7 + little_number 2 (drop 5 bs))))
+    ⊎ ((f ≡ Short at) × (7 ≤ length bs) × (is_cut (slice_index bs 4) (little_number 2 (drop 5 bs)) ≡ true)
+    × (length bs < 7 + little_number 2 (drop 5 bs))))
 
 cut-fault : (at : ℕ) (bs : List ℕ) (f : ScriptFault) → cut_in at bs ≡ Err f → CutFault at bs f
 cut-fault at bs f read = by_size (cases_lt (length bs) 7)
   where
     by_rest : 7 ≤ length bs → is_cut (slice_index bs 4) (little_number 2 (drop 5 bs)) ≡ true
         → (length (drop 7 bs) < little_number 2 (drop 5 bs)) ⊎ (little_number 2 (drop 5 bs) ≤ length (drop 7 bs))
-        → with_rest at (little_number 2 (drop 5 bs)) (drop 7 bs) (Cut (little_number 4 bs) (slice_index bs 4 == 1)) ≡ Err f → CutFault at bs f
+        → with_rest at (little_number 2 (drop 5 bs)) (drop 7 bs) (Cut (little_number 4 bs) (slice_index bs 4 == 1))
+        ≡ Err f → CutFault at bs f
     by_rest there fits (inl short) answer =
-        let one = with_rest-short at (little_number 2 (drop 5 bs)) (drop 7 bs) (Cut (little_number 4 bs) (slice_index bs 4 == 1)) short in
+        let one = with_rest-short at (little_number 2 (drop 5 bs)) (drop 7 bs)
+        (Cut (little_number 4 bs) (slice_index bs 4 == 1)) short in
         inr (inr (cc, there, fits, omega (arith, short, length-drop 7 bs)))
     by_rest there fits (inr long) answer =
-        let one = with_rest-is at (little_number 2 (drop 5 bs)) (drop 7 bs) (Cut (little_number 4 bs) (slice_index bs 4 == 1)) long in absurd (cc)
+        let one = with_rest-is at (little_number 2 (drop 5 bs)) (drop 7 bs)
+        (Cut (little_number 4 bs) (slice_index bs 4 == 1)) long in absurd (cc)
 
-    by_fit : 7 ≤ length bs → (b : Bool) → is_cut (slice_index bs 4) (little_number 2 (drop 5 bs)) ≡ b → CutFault at bs f
+    by_fit : 7 ≤ length bs → (b : Bool) → is_cut (slice_index bs 4) (little_number 2 (drop 5 bs)) ≡ b
+        → CutFault at bs f
     by_fit there false bad = let one = cut_in-bad at bs there bad in inr (inl (cc, there, bad))
     by_fit there true fits =
-        by_rest there fits (cases_lt (length (drop 7 bs)) (little_number 2 (drop 5 bs))) (sym (cut_in-is at bs there fits) ∙ read)
+        by_rest there fits (cases_lt (length (drop 7 bs)) (little_number 2 (drop 5 bs)))
+        (sym (cut_in-is at bs there fits) ∙ read)
 
     by_size : (length bs < 7) ⊎ (7 ≤ length bs) → CutFault at bs f
     by_size (inl short) = let one = cut_in-short at bs short in inl (cc, short)
@@ -115,7 +130,8 @@ ResetFault at bs f =
 reset-fault : (at : ℕ) (bs : List ℕ) (f : ScriptFault) → reset_in at bs ≡ Err f → ResetFault at bs f
 reset-fault at bs f read = by_size (cases_lt (length bs) 5)
   where
-    by_boot : 5 ≤ length bs → (found : Option BootKind) → reset_of (slice_index bs 0) (little_number 4 (drop 1 bs)) ≡ found
+    by_boot : 5 ≤ length bs → (found : Option BootKind)
+        → reset_of (slice_index bs 0) (little_number 4 (drop 1 bs)) ≡ found
         → reset_event at found ≡ Err f → ResetFault at bs f
     by_boot there None is answer = inr (cc, there, is)
     by_boot there (Some boot) is answer = absurd (cc)
@@ -144,9 +160,11 @@ fault-why at (suc zero ∷ bs) f read =
     )
 fault-why at (suc (suc zero) ∷ bs) f read =
     let why = uf2-fault at bs f read in
-    subst (λ g. IsFault at (2 ∷ bs) g) (sym why.0) (refl, inr (inl (record { some = omega arith; kind = omega arith; short = omega (arith, why.1) })))
+    subst (λ g. IsFault at (2 ∷ bs) g) (sym why.0)
+    (refl, inr (inl (record { some = omega arith; kind = omega arith; short = omega (arith, why.1) })))
 fault-why at (suc (suc (suc zero)) ∷ bs) f read = elim (cut-fault at bs f read) [
-  | inl why ↦ subst (λ g. IsFault at (3 ∷ bs) g) (sym why.0) (refl, inr (inl (record { some = omega arith; kind = omega arith; short = omega (arith, why.1) })))
+  | inl why ↦ subst (λ g. IsFault at (3 ∷ bs) g) (sym why.0)
+      (refl, inr (inl (record { some = omega arith; kind = omega arith; short = omega (arith, why.1) })))
   | inr (inl why) ↦ subst (λ g. IsFault at (3 ∷ bs) g) (sym why.0) (
     refl,
     record {
@@ -166,7 +184,8 @@ fault-why at (suc (suc (suc zero)) ∷ bs) f read = elim (cut-fault at bs f read
 ]
 fault-why at (suc (suc (suc (suc zero))) ∷ bs) f read = absurd (cc)
 fault-why at (suc (suc (suc (suc (suc zero)))) ∷ bs) f read = elim (reset-fault at bs f read) [
-  | inl why ↦ subst (λ g. IsFault at (5 ∷ bs) g) (sym why.0) (refl, inr (inl (record { some = omega arith; kind = omega arith; short = omega (arith, why.1) })))
+  | inl why ↦ subst (λ g. IsFault at (5 ∷ bs) g) (sym why.0)
+      (refl, inr (inl (record { some = omega arith; kind = omega arith; short = omega (arith, why.1) })))
   | inr why ↦ subst (λ g. IsFault at (5 ∷ bs) g) (sym why.0) (
     refl,
     inr (record {
@@ -180,26 +199,32 @@ fault-why at (suc (suc (suc (suc (suc (suc zero))))) ∷ bs) f read = absurd (cc
 fault-why at (suc (suc (suc (suc (suc (suc (suc kind)))))) ∷ bs) f read =
     let one = no-kind at (suc (suc (suc (suc (suc (suc (suc kind))))))) bs (omega arith) in
     let same : Kind at ≡ f = cc in
-    subst (λ g. IsFault at (suc (suc (suc (suc (suc (suc (suc kind)))))) ∷ bs) g) same (refl, inl (record { some = omega arith; kind = omega arith }))
+    subst (λ g. IsFault at (suc (suc (suc (suc (suc (suc (suc kind)))))) ∷ bs) g) same
+    (refl, inl (record { some = omega arith; kind = omega arith }))
 
 -- and comes wherever its rule says so
 cut-runs_out : (at : ℕ) (bs : List ℕ) → 7 ≤ length bs → is_cut (slice_index bs 4) (little_number 2 (drop 5 bs)) ≡ true
     → length bs < 7 + little_number 2 (drop 5 bs) → cut_in at bs ≡ Err (Short at)
 cut-runs_out at bs there fits short =
     cut_in-is at bs there fits
-    ∙ with_rest-short at (little_number 2 (drop 5 bs)) (drop 7 bs) (Cut (little_number 4 bs) (slice_index bs 4 == 1)) (omega (arith, length-drop 7 bs))
+    ∙ with_rest-short at (little_number 2 (drop 5 bs)) (drop 7 bs) (Cut (little_number 4 bs) (slice_index bs 4 == 1))
+    (omega (arith, length-drop 7 bs))
 
-cut-bad : (at : ℕ) (bs : List ℕ) → 7 ≤ length bs → ¬ (IsCut (slice_index bs 4) (little_number 2 (drop 5 bs))) → cut_in at bs ≡ Err (Pattern at)
+cut-bad : (at : ℕ) (bs : List ℕ) → 7 ≤ length bs → ¬ (IsCut (slice_index bs 4) (little_number 2 (drop 5 bs)))
+    → cut_in at bs ≡ Err (Pattern at)
 cut-bad at bs there bad = by_fit _ refl
   where
-    by_fit : (b : Bool) → is_cut (slice_index bs 4) (little_number 2 (drop 5 bs)) ≡ b → cut_in at bs ≡ Err (Pattern at)
+    by_fit : (b : Bool) → is_cut (slice_index bs 4) (little_number 2 (drop 5 bs)) ≡ b
+        → cut_in at bs ≡ Err (Pattern at)
     by_fit false wrong = cut_in-bad at bs there wrong
     by_fit true fits = absurd (bad (IsCut-true _ _ fits))
 
-reset-bad : (at : ℕ) (bs : List ℕ) → 5 ≤ length bs → ¬ (IsReset (slice_index bs 0) (little_number 4 (drop 1 bs))) → reset_in at bs ≡ Err (Kind at)
+reset-bad : (at : ℕ) (bs : List ℕ) → 5 ≤ length bs → ¬ (IsReset (slice_index bs 0) (little_number 4 (drop 1 bs)))
+    → reset_in at bs ≡ Err (Kind at)
 reset-bad at bs there bad = by_boot _ refl
   where
-    by_boot : (found : Option BootKind) → reset_of (slice_index bs 0) (little_number 4 (drop 1 bs)) ≡ found → reset_in at bs ≡ Err (Kind at)
+    by_boot : (found : Option BootKind) → reset_of (slice_index bs 0) (little_number 4 (drop 1 bs)) ≡ found
+        → reset_in at bs ≡ Err (Kind at)
     by_boot None is = reset_in-is at bs there ∙ ap (λ x. reset_event at x) is
     by_boot (Some boot) is = absurd (bad (IsReset-boot _ _ boot is))
 
@@ -233,10 +258,12 @@ fixed-fault at (suc (suc (suc (suc (suc (suc (suc kind)))))) ∷ bs) lacks = abs
 rest-fault : (at : ℕ) (bs : List ℕ) → LacksRest bs → event_in at bs ≡ Err (Short at)
 rest-fault at [] lacks = absurd (omega (arith, lacks.fixed.some))
 rest-fault at (zero ∷ bs) lacks = absurd (omega (arith, lacks.short))
-rest-fault at (suc zero ∷ bs) lacks = command-runs_out at bs (omega (arith, lacks.fixed.long)) (omega (arith, lacks.short))
+rest-fault at (suc zero ∷ bs) lacks =
+    command-runs_out at bs (omega (arith, lacks.fixed.long)) (omega (arith, lacks.short))
 rest-fault at (suc (suc zero) ∷ bs) lacks = absurd (omega (arith, lacks.fixed.long, lacks.short))
 rest-fault at (suc (suc (suc zero)) ∷ bs) lacks =
-    cut-runs_out at bs (omega (arith, lacks.fixed.long)) (IsCut-fits _ _ (lacks.fits refl)) (omega (arith, lacks.short))
+    cut-runs_out at bs (omega (arith, lacks.fixed.long)) (IsCut-fits _ _ (lacks.fits refl))
+    (omega (arith, lacks.short))
 rest-fault at (suc (suc (suc (suc zero))) ∷ bs) lacks = absurd (omega (arith, lacks.short))
 rest-fault at (suc (suc (suc (suc (suc zero)))) ∷ bs) lacks = absurd (omega (arith, lacks.fixed.long, lacks.short))
 rest-fault at (suc (suc (suc (suc (suc (suc zero))))) ∷ bs) lacks = absurd (omega (arith, lacks.short))
@@ -245,7 +272,8 @@ rest-fault at (suc (suc (suc (suc (suc (suc (suc kind)))))) ∷ bs) lacks = absu
 pub fault-comes : (at : ℕ) (bs : List ℕ) (f : ScriptFault) → IsFault at bs f → event_in at bs ≡ Err f
 fault-comes at bs (Kind place) (same, inl none) = kind-fault at bs none ∙ ap (λ p. Err (Kind p)) (sym same)
 fault-comes at bs (Kind place) (same, inr bad) = reset-fault_of at bs bad ∙ ap (λ p. Err (Kind p)) (sym same)
-fault-comes at bs (Short place) (same, inl empty) = ap (λ xs. event_in at xs) empty ∙ ap (λ p. Err (Short p)) (sym same)
+fault-comes at bs (Short place) (same, inl empty) =
+    ap (λ xs. event_in at xs) empty ∙ ap (λ p. Err (Short p)) (sym same)
 fault-comes at bs (Short place) (same, inr (inl lacks)) = fixed-fault at bs lacks ∙ ap (λ p. Err (Short p)) (sym same)
 fault-comes at bs (Short place) (same, inr (inr lacks)) = rest-fault at bs lacks ∙ ap (λ p. Err (Short p)) (sym same)
 fault-comes at bs (Pattern place) (same, bad) = cut-fault_of at bs bad ∙ ap (λ p. Err (Pattern p)) (sym same)

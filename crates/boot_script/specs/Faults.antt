@@ -65,8 +65,8 @@ pub record LacksRest (bs : List ℕ) : Type 0 where
   pub fits : slice_index bs 0 ≡ CUT → IsCut (slice_index bs 5) (little_number 2 (drop 6 bs))
   pub short : length bs < fixed_size (slice_index bs 0) + rest_size bs
 
--- the fault of the bytes that stand at the offset: the first byte is judged first, then whether the
--- fixed bytes are there, then their values, and whether a payload or a pattern is there last
+-- the fault of the bytes that stand at the offset: the first byte is judged first, then whether
+-- the fixed bytes are there, then their values, and whether a payload or a pattern is there last
 abbrev pub IsFault : ℕ → List ℕ → ScriptFault → Type 0
 IsFault at bs (Kind place) = (place ≡ at) × (HasNoKind bs ⊎ HasBadReset bs)
 IsFault at bs (Short place) = (place ≡ at) × ((bs ≡ []) ⊎ (LacksFixed bs ⊎ LacksRest bs))

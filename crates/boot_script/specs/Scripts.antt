@@ -1,8 +1,8 @@
 -- The events of a script, one after another. This project's own.
-use Rattle.std.specs.Prelude.{ℕ, zero, suc, Bool, true, false, Result, Ok, Err, List, [], ◌∷◌, ◌++◌, ◌≡◌, ◌+◌, ◌-◌, if◌then◌else◌, length, drop, flat_map}
+use Rattle.std.specs.Prelude.{ℕ, zero, suc, Bool, true, false, Result, Ok, Err, List, [], ◌∷◌, ◌++◌, ◌≡◌, ◌+◌, ◌-◌, if◌then◌else◌, length, drop}
 use Rattle.boot_script.specs.declared.event.ScriptFault.{ScriptFault}
 use Rattle.boot_script.specs.declared.event.ScriptFault.TheVariants.{Kind, Short, Pattern}
-use Rattle.boot_script.specs.Events.{Happening, End, Command, Uf2, Cut, PowerOn, Reset, Buy, IsWellFormed}
+use Rattle.boot_script.specs.Events.{Happening, End, IsWellFormed}
 use Rattle.boot_script.specs.Written.{written}
 use Rattle.boot_script.specs.Reading.{event_in}
 
@@ -12,7 +12,8 @@ is_end End = true
 is_end e = false
 
 -- events before those that are read of the rest
-abbrev pub behind : List Happening → Result (List Happening) ScriptFault → Result (List Happening) ScriptFault
+abbrev pub behind : List Happening → Result (List Happening) ScriptFault
+    → Result (List Happening) ScriptFault
 behind es (Ok others) = Ok (es ++ others)
 behind es (Err fault) = Err fault
 
@@ -29,8 +30,8 @@ abbrev pub events_within : ℕ → ℕ → List ℕ → Result (List Happening) 
 events_within zero at bs = Err (Short at)
 events_within (suc k) at bs = then_others at bs (event_in at bs) (events_within k)
 
--- the events from an offset on before the first end, or the first fault; since each has a byte, one
--- step more than there are bytes is enough
+-- the events from an offset on before the first end, or the first fault; since each has a byte,
+-- one step more than there are bytes is enough
 abbrev pub events_from : List ℕ → ℕ → Result (List Happening) ScriptFault
 events_from bytes at = events_within (suc (length bytes - at)) at (drop at bytes)
 

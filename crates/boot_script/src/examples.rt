@@ -1,5 +1,5 @@
-//! Worked examples of scripts: the bytes of each event, both sides of each bound, and bytes with two
-//! faults.
+//! Worked examples of scripts: the bytes of each event, both sides of each bound, and bytes with
+//! two faults.
 
 ghost use Rattle.std.specs.Prelude.{◌≡◌, ℕ, ◌+◌, Err, List, [], ◌∷◌, ◌++◌, Ok, false, length, true};
 ghost use Rattle.pico_board.specs.declared.BootKind.TheVariants.{Bootsel, Normal, Update};
@@ -42,8 +42,8 @@ pub fn uf2_blocks()
         → event_at (2 ∷ block) 0 ≡ Err (Short 0) }
 {}
 
-/// A cut before its step has no pattern, and one within it has 1 to 4096 bytes. The steps have four
-/// bytes and the length of the pattern has two, the lowest first.
+/// A cut before its step has no pattern, and one within it has 1 to 4096 bytes. The steps have
+/// four bytes and the length of the pattern has two, the lowest first.
 pub fn cuts()
     ensures before { event_at (3 ∷ 2 ∷ 1 ∷ 0 ∷ 0 ∷ 0 ∷ 0 ∷ 0 ∷ []) 0 ≡ Ok (Cut 258 false [], 8) }
     ensures within { event_at (3 ∷ 0 ∷ 0 ∷ 0 ∷ 1 ∷ 1 ∷ 2 ∷ 0 ∷ 0xa5 ∷ 0x5a ∷ 0xff ∷ []) 0
@@ -53,7 +53,8 @@ pub fn cuts()
     ensures no_byte { event_at (3 ∷ 0 ∷ 0 ∷ 0 ∷ 0 ∷ 1 ∷ 0 ∷ 0 ∷ 0xa5 ∷ []) 0 ≡ Err (Pattern 0) }
     ensures before_with_one { event_at (3 ∷ 0 ∷ 0 ∷ 0 ∷ 0 ∷ 0 ∷ 1 ∷ 0 ∷ 0xa5 ∷ []) 0
         ≡ Err (Pattern 0) }
-    ensures part_of_two { event_at (3 ∷ 0 ∷ 0 ∷ 0 ∷ 0 ∷ 2 ∷ 1 ∷ 0 ∷ 0xa5 ∷ []) 0 ≡ Err (Pattern 0) }
+    ensures part_of_two { event_at (3 ∷ 0 ∷ 0 ∷ 0 ∷ 0 ∷ 2 ∷ 1 ∷ 0 ∷ 0xa5 ∷ []) 0
+        ≡ Err (Pattern 0) }
     ensures part_of_two_alone { event_at (3 ∷ 0 ∷ 0 ∷ 0 ∷ 0 ∷ 2 ∷ 0 ∷ 0 ∷ []) 0 ≡ Err (Pattern 0) }
 {}
 
@@ -63,7 +64,8 @@ pub fn resets()
     ensures normal_base { event_at (5 ∷ 0 ∷ 0 ∷ 0 ∷ 0 ∷ 1 ∷ []) 0 ≡ Err (Kind 0) }
     ensures bootsel { event_at (5 ∷ 2 ∷ 0 ∷ 0 ∷ 0 ∷ 0 ∷ []) 0 ≡ Ok (Reset Bootsel, 6) }
     ensures bootsel_base { event_at (5 ∷ 2 ∷ 1 ∷ 0 ∷ 0 ∷ 0 ∷ []) 0 ≡ Err (Kind 0) }
-    ensures update { event_at (5 ∷ 4 ∷ 0 ∷ 0 ∷ 2 ∷ 0x10 ∷ []) 0 ≡ Ok (Reset (Update 0x10020000), 6) }
+    ensures update { event_at (5 ∷ 4 ∷ 0 ∷ 0 ∷ 2 ∷ 0x10 ∷ []) 0
+        ≡ Ok (Reset (Update 0x10020000), 6) }
     ensures update_zero { event_at (5 ∷ 4 ∷ 0 ∷ 0 ∷ 0 ∷ 0 ∷ []) 0 ≡ Ok (Reset (Update 0), 6) }
     ensures one { event_at (5 ∷ 1 ∷ 0 ∷ 0 ∷ 0 ∷ 0 ∷ []) 0 ≡ Err (Kind 0) }
     ensures three { event_at (5 ∷ 3 ∷ 0 ∷ 0 ∷ 0 ∷ 0 ∷ []) 0 ≡ Err (Kind 0) }
@@ -80,7 +82,8 @@ pub fn the_first_of_two_faults()
     ensures before_and_rest { event_at (3 ∷ 0 ∷ 0 ∷ 0 ∷ 0 ∷ 0 ∷ 1 ∷ 0 ∷ []) 0 ≡ Err (Pattern 0) }
     ensures long_and_rest { event_at (3 ∷ 0 ∷ 0 ∷ 0 ∷ 0 ∷ 1 ∷ 1 ∷ 0x10 ∷ []) 0 ≡ Err (Pattern 0) }
     ensures longest { event_at (3 ∷ 0 ∷ 0 ∷ 0 ∷ 0 ∷ 1 ∷ 0 ∷ 0x10 ∷ []) 0 ≡ Err (Short 0) }
-    ensures one_byte_short { event_at (3 ∷ 0 ∷ 0 ∷ 0 ∷ 0 ∷ 1 ∷ 2 ∷ 0 ∷ 0xa5 ∷ []) 0 ≡ Err (Short 0) }
+    ensures one_byte_short { event_at (3 ∷ 0 ∷ 0 ∷ 0 ∷ 0 ∷ 1 ∷ 2 ∷ 0 ∷ 0xa5 ∷ []) 0
+        ≡ Err (Short 0) }
 {}
 
 /// Events of a script, up to its end, whose later bytes are not read.

@@ -1,5 +1,5 @@
-//! Laws of scripts: which bytes an event has, which fault comes, and the events of bytes one after
-//! another.
+//! Laws of scripts: which bytes an event has, which fault comes, and the events of bytes one
+//! after another.
 
 ghost use Rattle.std.specs.Prelude.{◌≡◌, ◌↔◌, ℕ, ◌+◌, ◌<◌, ◌≤◌, All, Err, List, [], ◌∷◌, ◌++◌, Ok, drop, false, flat_map, length, take, true};
 ghost use Rattle.std.specs.List.{AllByRecursion};
@@ -52,7 +52,8 @@ pub fn events_of_a_concatenation()
         ≡ behind es (later (length (flat_map written es)) (events bytes)) }
 {}
 
-/// The events of a script are those that were written before its end, and no other bytes have them.
+/// The events of a script are those that were written before its end, and no other bytes have
+/// them.
 pub fn a_script_has_the_events_that_were_written()
     ensures read { (es : List Happening) (rest : List ℕ) → AllByRecursion IsInside es
         → events (flat_map written es ++ (written End ++ rest)) ≡ Ok es }

@@ -22,9 +22,10 @@ fn a_script_is_written_and_read(rt: HostRuntime) -> Result<(), Fail> {
     write_event(alloc, &Event::Buy, &mut out)?;
     assert_eq!(rt;
         out.as_slice(),
-        &[
+        [
             4, 5, 4, 0, 0, 2, 0x10, 3, 2, 1, 0, 0, 1, 2, 0, 0xa5, 0x5a, 6
         ]
+        .as_slice()
     );
     write_event(alloc, &Event::Command(&command, &[1, 2, 3]), &mut out)?;
     write_event(alloc, &Event::Uf2(&block), &mut out)?;

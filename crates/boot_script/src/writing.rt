@@ -19,7 +19,8 @@ use std::alloc::{AllocError, Global};
 pub fn write_event(alloc: Global, event: &Event<'_>, out: &mut Vec<u8>) -> Result<(), AllocError>
     requires { IsWritable (event_from event.now) }
     ensures ok { OnOk result (out.new.items ≡ out.old.items ++ written (event_from event.now)) }
-    ensures again { (rest : List ℕ) → OnOk result (event_at (out.new.items ++ rest) (length out.old.items)
+    ensures again { (rest : List ℕ)
+        → OnOk result (event_at (out.new.items ++ rest) (length out.old.items)
         ≡ Ok (event_from event.now, length out.new.items)) }
     ensures err { OnErr result (IsKept out.old.items out.new.items) }
 {
@@ -60,7 +61,8 @@ fn write_uf2(block: &[u8; 512], out: &mut Vec<u8>) -> Result<(), AllocError>
 /// Appends the bytes of a command.
 fn write_command(command: &[u8; 32], payload: &[u8], out: &mut Vec<u8>) -> Result<(), AllocError>
     requires { IsWritable (Command command.now payload.now) }
-    ensures ok { OnOk result (out.new.items ≡ out.old.items ++ written (Command command.now payload.now)) }
+    ensures ok { OnOk result (out.new.items
+        ≡ out.old.items ++ written (Command command.now payload.now)) }
     ensures err { OnErr result (IsKept out.old.items out.new.items) }
     ensures size { length command.now ≡ 32 }
 {
@@ -73,7 +75,8 @@ fn write_command(command: &[u8; 32], payload: &[u8], out: &mut Vec<u8>) -> Resul
 /// Appends the bytes of a cut.
 fn write_cut(left: u32, within: bool, pattern: &[u8], out: &mut Vec<u8>) -> Result<(), AllocError>
     requires { IsPattern within pattern.now }
-    ensures ok { OnOk result (out.new.items ≡ out.old.items ++ written (Cut left within pattern.now)) }
+    ensures ok { OnOk result (out.new.items
+        ≡ out.old.items ++ written (Cut left within pattern.now)) }
     ensures err { OnErr result (IsKept out.old.items out.new.items) }
 {
     out.extend_from_slice(&[CUT])?;

@@ -1,11 +1,10 @@
 -- What the calls that raise do to a board: one row, the triple of a listed row, and the listed rows one after
 -- another.
-use Rattle.std.proofs.Common.{◌≡◌, ℕ, ◌+◌, ◌-◌, ◌^◌, ◌<◌, ◌≤◌, ◌≢◌, Bool, true, false, List, [], ◌∷◌, ◌++◌, length, arith, refl, sym, ap, subst, ◌∙◌}
+use Rattle.std.proofs.Common.{◌≡◌, ℕ, ◌+◌, ◌-◌, ◌<◌, ◌≢◌, Bool, true, false, List, [], ◌∷◌, length, arith, refl, sym, ap, subst, ◌∙◌}
 use Rattle.std.specs.Prelude.{slice_index}
 use Rattle.std.specs.List.{AllByRecursion}
 use Rattle.pico_board.specs.Content.{Content}
 use Rattle.pico_board.specs.Board.{State, DoesAll}
-use Rattle.pico_board.specs.Steps.{after_all}
 use Rattle.pico_board.specs.declared.Step.{Step}
 use Rattle.pico_board.proofs.Steps.{DoesAll-none, DoesAll-append, DoesAll-append_cut}
 use Rattle.otp_roll.specs.Rows.{majority, count}

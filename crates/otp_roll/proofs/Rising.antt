@@ -1,22 +1,20 @@
 -- What raises leave, done or torn: no count falls, no row outside the listed triples changes, and no torn raise adds
 -- a bit to a
 -- majority that the finished one does not add.
-use Rattle.std.proofs.Common.{◌≡◌, ℕ, ◌+◌, ◌-◌, ◌^◌, ◌<◌, ◌≤◌, ◌≢◌, List, [], ◌∷◌, ◌++◌, length, arith, refl, ap, subst, sym, ◌∙◌, bit_xor, inl, inr}
-use Rattle.std.specs.Prelude.{◌⊎◌, ⊤, All, Contains, min, slice_index}
+use Rattle.std.proofs.Common.{◌≡◌, ℕ, ◌+◌, ◌-◌, ◌^◌, ◌<◌, ◌≤◌, ◌≢◌, List, [], ◌∷◌, ◌++◌, arith, refl, ap, subst, ◌∙◌, bit_xor, inl, inr}
+use Rattle.std.specs.Prelude.{◌⊎◌, ⊤, Contains, slice_index}
 use Rattle.std.specs.List.{AllByRecursion}
-use Rattle.std.specs.Int.{bit_at}
 use Rattle.std.specs.Int.Bits.{and_le_l}
 use Rattle.std.specs.Int.Count.{ones}
 use Rattle.std.proofs.lemmas.Bool.{cases_eq, cases_lt, eq-eqb, ne_eqb}
 use Rattle.std.proofs.lemmas.List.Elements.{All-contains, All-contains_itself, All-from_recursion, recursion_from_All, Contains-append_right}
 use Rattle.std.proofs.lemmas.List.Sums.{sum_by-cons}
-use Rattle.std.proofs.lemmas.Nat.Bits.{same_from_bits}
 use Rattle.std.proofs.lemmas.List.{get_or-set_other}
 use Rattle.pico_board.specs.Content.{Content}
 use Rattle.pico_board.specs.Steps.{Torn, CutOf, MayLeave, IsRaise, IsRaisedIn, IsStepIn, HasBitsOf, after, after_all}
 use Rattle.pico_board.specs.declared.Step.{Step}
 use Rattle.pico_board.specs.declared.Step.TheVariants.{Erase, Program, Raise}
-use Rattle.pico_board.proofs.Raises.{IsRaisedIn-torn, IsRaisedIn-CutOf, HasBitsOf-after_all}
+use Rattle.pico_board.proofs.Raises.{IsRaisedIn-CutOf}
 use Rattle.otp_roll.specs.Rows.{majority, count, Rises, IsOutside, first_row, last_row}
 use Rattle.otp_roll.specs.Raises.{lacking, raise_lacking, raise_triple, raise_row, raise_each, raises, taken, lowest_clear}
 use Rattle.otp_roll.proofs.Bits.{ones-mono, majority-mono, lowest_clear-lt}

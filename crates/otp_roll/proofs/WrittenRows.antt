@@ -1,5 +1,5 @@
 -- Majorities, counts and raises of triples whose three rows are written out.
-use Rattle.std.proofs.Common.{◌≡◌, ℕ, zero, suc, ◌+◌, ◌-◌, ◌*◌, ◌/◌, ◌%◌, ◌^◌, ◌<◌, List, [], ◌∷◌, ◌++◌, refl, ap, ◌∙◌, arith, pow-suc, lit<}
+use Rattle.std.proofs.Common.{◌≡◌, ℕ, zero, suc, ◌+◌, ◌-◌, ◌/◌, ◌%◌, ◌^◌, ◌<◌, List, [], ◌∷◌, ◌++◌, refl, ap, ◌∙◌, arith, pow-suc, lit<}
 use Rattle.std.specs.Prelude.{min}
 use Rattle.std.specs.Int.Count.{ones, ones_in, ones_step}
 use Rattle.pico_board.specs.declared.Step.{Step}

@@ -1,4 +1,4 @@
-use Rattle.std.proofs.Common.{◌≡◌, ℕ, ◌+◌, ◌++◌, List, [], ◌∷◌, length, arith, ap, ◌∙◌}
+use Rattle.std.proofs.Common.{[], ◌∷◌, arith, ap, ◌∙◌}
 use Rattle.std.specs.Prelude.{Ok}
 use Rattle.boot_script.specs.Events.{Uf2}
 use Rattle.boot_script.specs.Reading.{and_next}

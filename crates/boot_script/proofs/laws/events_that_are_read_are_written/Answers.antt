@@ -1,18 +1,16 @@
-use Rattle.std.proofs.Common.{◌≡◌, ℕ, ◌+◌, ◌<◌, ◌≤◌, List, ◌++◌, length, take, drop, arith, sym, ap, subst, ◌∙◌, inl, inr, lit<}
-use Rattle.std.specs.Prelude.{◌⊎◌, All, Result, Ok, Err}
-use Rattle.std.proofs.lemmas.Bool.{cases_lt}
-use Rattle.std.proofs.lemmas.List.{take-append-drop, drop-drop, length-drop, get_or_past}
+use Rattle.std.proofs.Common.{◌≡◌, ℕ, ◌+◌, ◌≤◌, List, ◌++◌, length, take, drop, arith, sym, ap, ◌∙◌}
+use Rattle.std.proofs.lemmas.List.{take-append-drop, drop-drop, length-drop}
 use Rattle.std.proofs.Math.Seq.{drop-append_seam}
-use Rattle.boot_script.specs.declared.event.ScriptFault.{ScriptFault}
 use Rattle.boot_script.specs.Events.{Happening, IsWellFormed}
 use Rattle.boot_script.specs.Written.{written}
-use Rattle.boot_script.specs.Reading.{and_next, event_in, event_at}
-use Rattle.boot_script.proofs.Numbers.{AreBytes, bytes-drop}
+use Rattle.boot_script.proofs.Numbers.{bytes-drop}
 use Rattle.boot_script.proofs.Spelled.{IsSpelled, event-spelled, spelled-inside, are-bytes, read-at}
 use Rattle.boot_script.proofs.laws.events_that_are_read_are_written.Goals as goal
 
-found : (bytes : List ℕ) (at : ℕ) (e : Happening) (next : ℕ) → at ≤ length bytes → next ≡ at + length (written e) → IsSpelled (drop at bytes) e
-    → IsWellFormed e × (next ≡ at + length (written e)) × (next ≤ length bytes) × (bytes ≡ take at bytes ++ (written e ++ drop next bytes))
+found : (bytes : List ℕ) (at : ℕ) (e : Happening) (next : ℕ) → at ≤ length bytes → next ≡ at + length (written e)
+    → IsSpelled (drop at bytes) e
+    → IsWellFormed e × (next ≡ at + length (written e)) × (next ≤ length bytes)
+    × (bytes ≡ take at bytes ++ (written e ++ drop next bytes))
 found bytes at e next inside is spelled =
     let behind : drop next bytes ≡ spelled.rest =
     ap (λ n. drop n bytes) is ∙ sym (drop-drop (length (written e)) at bytes)
@@ -20,10 +18,12 @@ found bytes at e next inside is spelled =
       spelled.well,
       is,
       omega (arith, is, spelled-inside (drop at bytes) e spelled, length-drop at bytes),
-      sym (take-append-drop at bytes) ∙ ap (λ xs. take at bytes ++ xs) (spelled.bytes ∙ ap (λ xs. written e ++ xs) (sym behind)),
+      sym (take-append-drop at bytes)
+          ∙ ap (λ xs. take at bytes ++ xs) (spelled.bytes ∙ ap (λ xs. written e ++ xs) (sym behind)),
     )
 
 pub returns : goal.returns
 returns c = λ bytes at e next small inside read.
     let one = read-at bytes at e next read in
-    found bytes at e next inside one.1 (event-spelled at (drop at bytes) e (bytes-drop at bytes (are-bytes bytes small)) one.0)
+    found bytes at e next inside one.1
+    (event-spelled at (drop at bytes) e (bytes-drop at bytes (are-bytes bytes small)) one.0)

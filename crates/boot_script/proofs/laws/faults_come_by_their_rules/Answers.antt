@@ -1,4 +1,4 @@
-use Rattle.std.proofs.Common.{◌≡◌, drop, ap, ◌∙◌}
+use Rattle.std.proofs.Common.{drop, ap}
 use Rattle.boot_script.specs.Reading.{and_next}
 use Rattle.boot_script.proofs.Spelled.{fault-at}
 use Rattle.boot_script.proofs.WhyNot.{fault-why, fault-comes}

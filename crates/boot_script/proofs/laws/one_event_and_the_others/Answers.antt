@@ -1,4 +1,4 @@
-use Rattle.std.proofs.Common.{◌≡◌, [], ◌∷◌, sym, ap, refl, ◌∙◌}
+use Rattle.std.proofs.Common.{[], ◌∷◌, sym, ap, refl, ◌∙◌}
 use Rattle.boot_script.specs.Events.{End}
 use Rattle.boot_script.specs.Scripts.{behind, events_from}
 use Rattle.boot_script.proofs.Spelled.{read-at, fault-at}

@@ -1,8 +1,8 @@
-use Rattle.std.proofs.Common.{◌≡◌, ℕ, ◌+◌, ◌-◌, ◌^◌, ◌<◌, ◌≤◌, List, length, take, drop, get_or, arith, refl, sym, subst, ap, ◌∙◌}
+use Rattle.std.proofs.Common.{◌≡◌, ℕ, ◌+◌, ◌-◌, ◌≤◌, List, length, take, drop, arith, sym, ap, ◌∙◌}
 use Rattle.std.specs.Prelude.{Result, Ok}
 use Rattle.std.proofs.lemmas.List.{take_rest, length-drop}
 use Rattle.boot_script.specs.declared.event.ScriptFault.{ScriptFault}
-use Rattle.boot_script.specs.Events.{Happening, IsWritable, event_from}
+use Rattle.boot_script.specs.Events.{Happening, event_from}
 use Rattle.boot_script.specs.Written.{written}
 use Rattle.boot_script.specs.Reading.{event_in}
 use Rattle.boot_script.proofs.Numbers.{AreBytes, bytes-drop}
@@ -11,28 +11,46 @@ use Rattle.boot_script.proofs.reading.next_event.Goals as goal
 
 -- the event that was read stands at the offset
 stands : (bytes : List ℕ) (at : ℕ) (e : Happening) → AreBytes bytes
-    → ◌≡◌ {A = Result Happening ScriptFault} (Ok e) (event_in at (take (length bytes - at) (drop at bytes))) → IsSpelled (drop at bytes) e
-stands bytes at e are read = event-spelled at (drop at bytes) e (bytes-drop at bytes are) (ap (λ bs. event_in at bs) (sym (take_rest bytes at)) ∙ sym read)
+    → ◌≡◌ {A = Result Happening ScriptFault} (Ok e) (event_in at (take (length bytes - at) (drop at bytes)))
+    → IsSpelled (drop at bytes) e
+stands bytes at e are read =
+    event-spelled at (drop at bytes) e (bytes-drop at bytes are)
+    (ap (λ bs. event_in at bs) (sym (take_rest bytes at)) ∙ sym read)
 
-ends : (bytes : List ℕ) (at n : ℕ) (e : Happening) → at ≤ length bytes → n ≡ length (written e) → IsSpelled (drop at bytes) e → at + n ≤ length bytes
-ends bytes at n e inside size spelled = omega (arith, size, spelled-inside (drop at bytes) e spelled, length-drop at bytes)
+ends : (bytes : List ℕ) (at n : ℕ) (e : Happening) → at ≤ length bytes → n ≡ length (written e)
+    → IsSpelled (drop at bytes) e → at + n ≤ length bytes
+ends bytes at n e inside size spelled =
+    omega (arith, size, spelled-inside (drop at bytes) e spelled, length-drop at bytes)
 
 pub overflow_cast-result : goal.overflow_cast-result
 overflow_cast-result c =
-    let spelled = stands c.args.bytes.now c.args.at (event_from c.in_ok-event.event) (λ i. omega (arith, c.type_inv.bytes i)) c.in_ok-event.ensures.exact in
-    omega (arith, ends c.args.bytes.now c.args.at c.size.result _ c.requires.inside c.size.ensures spelled, c.requires.few)
+    let spelled = stands c.args.bytes.now c.args.at (event_from c.in_ok-event.event)
+    (λ i. omega (arith, c.type_inv.bytes i)) c.in_ok-event.ensures.exact in
+    omega (
+      arith,
+      ends c.args.bytes.now c.args.at c.size.result _ c.requires.inside c.size.ensures spelled,
+      c.requires.few,
+    )
 
 pub overflow_add-result : goal.overflow_add-result
 overflow_add-result c =
-    let spelled = stands c.args.bytes.now c.args.at (event_from c.in_ok-event.event) (λ i. omega (arith, c.type_inv.bytes i)) c.in_ok-event.ensures.exact in
-    omega (arith, ends c.args.bytes.now c.args.at c.size.result _ c.requires.inside c.size.ensures spelled, c.requires.few)
+    let spelled = stands c.args.bytes.now c.args.at (event_from c.in_ok-event.event)
+    (λ i. omega (arith, c.type_inv.bytes i)) c.in_ok-event.ensures.exact in
+    omega (
+      arith,
+      ends c.args.bytes.now c.args.at c.size.result _ c.requires.inside c.size.ensures spelled,
+      c.requires.few,
+    )
 
 pub returns-clause-inside : goal.returns-clause-inside
 returns-clause-inside c =
-    let spelled = stands c.args.bytes.now c.args.at (event_from c.in_ok-event.event) (λ i. omega (arith, c.type_inv.bytes i)) c.in_ok-event.ensures.exact in
+    let spelled = stands c.args.bytes.now c.args.at (event_from c.in_ok-event.event)
+    (λ i. omega (arith, c.type_inv.bytes i)) c.in_ok-event.ensures.exact in
     ends c.args.bytes.now c.args.at c.size.result _ c.requires.inside c.size.ensures spelled
 
 pub returns-clause-writable : goal.returns-clause-writable
 returns-clause-writable c = λ few.
-    let spelled = stands c.args.bytes.now c.args.at (event_from c.in_ok-event.event) (λ i. omega (arith, c.type_inv.bytes i)) c.in_ok-event.ensures.exact in
-    spelled-writable (drop c.args.at c.args.bytes.now) _ (omega (arith, few, length-drop c.args.at c.args.bytes.now)) spelled
+    let spelled = stands c.args.bytes.now c.args.at (event_from c.in_ok-event.event)
+    (λ i. omega (arith, c.type_inv.bytes i)) c.in_ok-event.ensures.exact in
+    spelled-writable (drop c.args.at c.args.bytes.now) _
+    (omega (arith, few, length-drop c.args.at c.args.bytes.now)) spelled

@@ -1,16 +1,17 @@
-use Rattle.std.proofs.Common.{◌≡◌, ℕ, ◌+◌, ◌++◌, List, length, arith, sym, ap, subst, ◌∙◌, append_assoc, length-append}
-use Rattle.std.specs.Prelude.{Result, Ok}
-use Rattle.std.proofs.Math.Seq.{drop-append_seam}
-use Rattle.boot_script.specs.Events.{Happening, IsWellFormed, event_from}
+use Rattle.std.proofs.Common.{◌≡◌, ℕ, ◌+◌, ◌++◌, List, length, sym, ap, ◌∙◌, append_assoc, length-append}
+use Rattle.std.specs.Prelude.{Ok}
+use Rattle.boot_script.specs.Events.{Happening, IsWellFormed}
 use Rattle.boot_script.specs.Written.{written}
-use Rattle.boot_script.specs.Reading.{event_at, event_in, and_next}
+use Rattle.boot_script.specs.Reading.{event_at}
 use Rattle.boot_script.proofs.ReadBack.{back-at}
 use Rattle.boot_script.proofs.writing.write_event.Goals as goal
 
-again : (old new rest : List ℕ) (e : Happening) → IsWellFormed e → new ≡ old ++ written e → event_at (new ++ rest) (length old) ≡ Ok (e, length new)
+again : (old new rest : List ℕ) (e : Happening) → IsWellFormed e → new ≡ old ++ written e
+    → event_at (new ++ rest) (length old) ≡ Ok (e, length new)
 again old new rest e well is =
     let size : length old + length (written e) ≡ length new = sym (ap length is ∙ length-append old (written e)) in
-    ap (λ bs. event_at (bs ++ rest) (length old)) is ∙ ap (λ bs. event_at bs (length old)) (append_assoc old (written e) rest)
+    ap (λ bs. event_at (bs ++ rest) (length old)) is
+    ∙ ap (λ bs. event_at bs (length old)) (append_assoc old (written e) rest)
     ∙ back-at old rest e well ∙ ap (λ n. Ok (e, n)) size
 
 pub returns-in-Ok-clause-again : goal.returns-in-Ok-clause-again

@@ -1,7 +1,7 @@
-use Rattle.std.proofs.Common.{◌≡◌, ℕ, ◌+◌, ◌-◌, ◌*◌, ◌<◌, ◌≤◌, List, length, get_or, map, arith, ◌∙◌, sym, inl, inr, subst}
+use Rattle.std.proofs.Common.{◌≡◌, ℕ, ◌+◌, ◌*◌, ◌<◌, ◌≤◌, List, length, get_or, map, arith, inl}
 use Rattle.std.specs.List.{range_with_len}
 use Rattle.std.proofs.lemmas.List.FromFn.{length-map-range_with_len, get_or-map-range_with_len}
-use Rattle.otp_roll.specs.Rows.{AreRollbackRows, AreApart}
+use Rattle.otp_roll.specs.Rows.{AreRollbackRows}
 use Rattle.otp_roll.proofs.examples.rows_that_may_be_listed.Goals as goal
 
 -- n rows from the first one on, with no row between their triples

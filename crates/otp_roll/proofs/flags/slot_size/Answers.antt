@@ -1,9 +1,8 @@
-use Rattle.std.proofs.Common.{◌≡◌, ◌+◌, ◌*◌, ◌^◌, ◌%◌, ◌≤◌, ℕ, length, arith, refl, ap, sym, subst, ◌∙◌}
-use Rattle.std.specs.Prelude.{bit_and, slice_index}
+use Rattle.std.proofs.Common.{◌≡◌, ◌*◌, ◌^◌, ◌%◌, ◌≤◌, ℕ, arith, refl, ap, sym, ◌∙◌}
 use Rattle.std.proofs.Math.Nat.{pow-le-pow_right}
 use Rattle.std.proofs.lemmas.Nat.{and_mask}
 use Rattle.std.proofs.lemmas.Bool.{le-leb}
-use Rattle.otp_roll.specs.Flags.{slot_size_of, slot_size}
+use Rattle.otp_roll.specs.Flags.{slot_size_of}
 use Rattle.otp_roll.proofs.flags.slot_size.Goals as goal
 
 size-small : (n : ℕ) → n ≤ 11 → 4096 * 2 ^ n % 4294967296 ≡ 4096 * 2 ^ n

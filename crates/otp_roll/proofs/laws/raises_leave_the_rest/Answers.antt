@@ -1,4 +1,4 @@
-use Rattle.std.proofs.Common.{◌≡◌, ℕ, ◌/◌, ◌%◌, ◌==◌, arith, ap, lit<}
+use Rattle.std.proofs.Common.{◌/◌, ◌%◌, ◌==◌, ap, lit<}
 use Rattle.std.proofs.lemmas.List.Elements.{recursion_from_All}
 use Rattle.otp_roll.specs.Raises.{raises}
 use Rattle.otp_roll.specs.Flags.{slot_size_of}

@@ -1,10 +1,9 @@
-use Rattle.std.proofs.Common.{◌≡◌, true, false, ◌+◌, ◌-◌, ◌≤◌, ℕ, min, List, ap, subst, sym, arith, ◌∙◌}
+use Rattle.std.proofs.Common.{◌≡◌, true, false, ◌-◌, ℕ, min, List, ap, subst, ◌∙◌}
 use Rattle.std.specs.Int.Count.{ones, ones-le}
-use Rattle.std.specs.Result.{is_ok}
 use Rattle.std.proofs.lemmas.Result.{err_from_is_err_and}
 use Rattle.pico_board.specs.Board.{DoesAll}
 use Rattle.otp_roll.specs.Rows.{majority}
-use Rattle.otp_roll.specs.Raises.{lowest_clear, raise_row, raise_triple, taken}
+use Rattle.otp_roll.specs.Raises.{lowest_clear, raise_triple, taken}
 use Rattle.otp_roll.proofs.OnTheWay.{triple-third}
 use Rattle.otp_roll.proofs.raising.raise_row.Goals as goal
 

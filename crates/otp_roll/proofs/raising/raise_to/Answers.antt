@@ -1,13 +1,10 @@
-use Rattle.std.proofs.Common.{◌≡◌, ℕ, ◌+◌, ◌-◌, ◌<◌, ◌≤◌, List, [], ◌∷◌, length, drop, get_or, ap, subst, sym, arith, ◌∙◌}
+use Rattle.std.proofs.Common.{◌≡◌, ℕ, ◌+◌, ◌<◌, ◌≤◌, List, ◌∷◌, length, drop, get_or, ap, subst, sym, arith, ◌∙◌}
 use Rattle.std.proofs.lemmas.List.{drop_all, drop_more}
 use Rattle.std.proofs.lemmas.Result.{err_from_is_err_and}
-use Rattle.std.proofs.lemmas.List.Elements.{recursion_from_All}
-use Rattle.pico_board.specs.Board.{DoesAll}
 use Rattle.pico_board.specs.Content.{Content}
-use Rattle.otp_roll.specs.Rows.{AreRollbackRows, count, first_row, last_row}
-use Rattle.otp_roll.specs.Raises.{raises}
+use Rattle.otp_roll.specs.Rows.{AreRollbackRows, count}
 use Rattle.otp_roll.proofs.Counted.{ApartInTurn, apart-in_turn, apart-drop, count-raises}
-use Rattle.otp_roll.proofs.OnTheWay.{IsOnTheWay, way-start, way-step, way-lost, way-end}
+use Rattle.otp_roll.proofs.OnTheWay.{IsOnTheWay, way-step, way-lost, way-end}
 use Rattle.otp_roll.proofs.raising.raise_to.Goals as goal
 
 -- the rows from here on are this one and the later ones

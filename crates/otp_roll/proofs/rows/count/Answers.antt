@@ -1,4 +1,4 @@
-use Rattle.std.proofs.Common.{◌≡◌, ℕ, ◌+◌, ◌*◌, ◌<◌, ◌≤◌, List, length, take, arith, ap, subst, get_or}
+use Rattle.std.proofs.Common.{◌≡◌, ℕ, ◌+◌, ◌<◌, List, length, take, arith, ap, subst, get_or}
 use Rattle.std.specs.Int.Count.{ones, ones-le}
 use Rattle.std.proofs.lemmas.List.Sums.{sum_by_more}
 use Rattle.otp_roll.specs.Rows.{majority, count}
