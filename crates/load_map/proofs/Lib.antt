@@ -1,2 +1,4 @@
 pub mod SoundLoads
 pub mod LongerWindow
+mod Entries
+mod Feeding

@@ -7,12 +7,14 @@ use Rattle.std.proofs.lemmas.Grind.{common_steps}
 use Rattle.std.proofs.lemmas.Bool.Decides.{nat_tests}
 use Rattle.std.proofs.lemmas.Option.{none-some}
 use Rattle.block_codec.specs.Blocks.{BlockView, block_words}
-use Rattle.block_codec.specs.declared.Item.{Item}
-use Rattle.block_codec.specs.FirstFault.{first_from, first_fault}
-use Rattle.load_map.specs.Loads.{Entry, entries_of, is_absolute}
-use Rattle.load_map.specs.Reading.{Setting, offset_within, stored_at, relative_load, absolute_load, clear_load, load_of, entry_fault, loads_or_fault, loads_of, setting_of}
+use Rattle.block_codec.specs.declared.items.Item.{Item}
+use Rattle.block_codec.specs.FirstFault.{first_from, first_fault, ok_unless}
+use Rattle.load_map.specs.declared.entry.Entry.{Entry}
+use Rattle.load_map.specs.Loads.{entries_of, is_absolute}
+use Rattle.load_map.specs.declared.setting.Setting.{Setting}
+use Rattle.load_map.specs.Reading.{offset_within, stored_at, relative_load, absolute_load, clear_load, load_of, entry_fault, loads_or_fault, loads_of, setting_of}
 use Rattle.load_map.specs.declared.load.Load.{Load}
-use Rattle.load_map.proofs.SoundLoads.{chosen, no-fault, no-first, fault_else-Ok, none_load}
+use Rattle.load_map.proofs.SoundLoads.{chosen, no-fault, no-first, ok_unless-Ok, none_load}
 
 -- the same setting in a window of m bytes
 abbrev pub longer : Setting → ℕ → Setting
@@ -69,7 +71,7 @@ from-longer s m b absolute more (entry ∷ entries) before none =
 
 pub loads-longer : (s : Setting) (m : ℕ) (b : BlockView) (absolute : Bool) (entries : List Entry) (loads : List Load) → s.len ≤ m → loads_or_fault s b absolute entries ≡ Ok loads → loads_or_fault (longer s m) b absolute entries ≡ Ok loads
 loads-longer s m b absolute entries loads more is =
-    let parts = fault_else-Ok (first_fault (entry_fault s b absolute) entries) (filter_map (load_of s absolute) entries) loads is in
+    let parts = ok_unless-Ok (first_fault (entry_fault s b absolute) entries) (filter_map (load_of s absolute) entries) loads is in
     let wide = from-longer s m b absolute more entries [] parts.0 in
     rw (wide.0, wide.1) (rw parts.1 refl)
 

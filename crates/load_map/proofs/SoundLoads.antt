@@ -8,10 +8,12 @@ use Rattle.std.proofs.lemmas.Bool.Decides.{nat_tests}
 use Rattle.std.proofs.lemmas.Option.{none-some, same_Some}
 use Rattle.std.proofs.lemmas.Grind.{common_steps}
 use Rattle.block_codec.specs.Blocks.{BlockView, block_size, block_words}
-use Rattle.block_codec.specs.declared.Item.{Item}
-use Rattle.block_codec.specs.FirstFault.{first_from, first_fault}
-use Rattle.load_map.specs.Loads.{Entry, entries_of, is_absolute}
-use Rattle.load_map.specs.Reading.{Setting, offset_within, stored_at, relative_load, absolute_load, clear_load, load_of, is_runtime_right, covers_block, load_fault, entry_fault, fault_else, loads_or_fault, loads_of, setting_of}
+use Rattle.block_codec.specs.declared.items.Item.{Item}
+use Rattle.block_codec.specs.FirstFault.{first_from, first_fault, ok_unless}
+use Rattle.load_map.specs.declared.entry.Entry.{Entry}
+use Rattle.load_map.specs.Loads.{entries_of, is_absolute}
+use Rattle.load_map.specs.declared.setting.Setting.{Setting}
+use Rattle.load_map.specs.Reading.{offset_within, stored_at, relative_load, absolute_load, clear_load, load_of, is_runtime_right, covers_block, load_fault, entry_fault, loads_or_fault, loads_of, setting_of}
 use Rattle.load_map.specs.Stored.{IsStoredIn, AreStoredIn, IsClearOf, AreClearOf, AreRuntimeRight}
 use Rattle.load_map.specs.declared.load.Load.{Load}
 use Rattle.load_map.specs.declared.load.MapFault.{MapFault}
@@ -112,13 +114,13 @@ sound-from s b absolute before (entry ∷ entries) none =
       right = (here.2, rest.right);
     })
 
-pub fault_else-Ok : (fault : Option MapFault) (loads given : List Load) → fault_else fault loads ≡ Ok given → (fault ≡ None) × (loads ≡ given)
-fault_else-Ok None loads given is = (refl, cc)
-fault_else-Ok (Some fault) loads given is = cc
+pub ok_unless-Ok : (fault : Option MapFault) (loads given : List Load) → ok_unless fault loads ≡ Ok given → (fault ≡ None) × (loads ≡ given)
+ok_unless-Ok None loads given is = (refl, cc)
+ok_unless-Ok (Some fault) loads given is = cc
 
 pub sound-loads : (s : Setting) (b : BlockView) (absolute : Bool) (entries : List Entry) (loads : List Load) → loads_or_fault s b absolute entries ≡ Ok loads → AreSoundLoads s b loads
 sound-loads s b absolute entries loads is =
-    let parts = fault_else-Ok (first_fault (entry_fault s b absolute) entries) (filter_map (load_of s absolute) entries) loads is in
+    let parts = ok_unless-Ok (first_fault (entry_fault s b absolute) entries) (filter_map (load_of s absolute) entries) loads is in
     subst (λ ls. AreSoundLoads s b ls) parts.1 (sound-from s b absolute [] entries parts.0)
 
 pub sound-loads_of : (base n : ℕ) (in_place : Bool) (b : BlockView) (item : Item) (loads : List Load) → loads_of base in_place n b item ≡ Ok loads → AreSoundLoads (setting_of base in_place n b item) b loads

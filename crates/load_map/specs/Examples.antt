@@ -2,7 +2,7 @@
 use Rattle.std.specs.Prelude.{ℕ, pos, List, [], ◌∷◌, Some, None}
 use Rattle.block_codec.specs.Blocks.{BlockView}
 use Rattle.block_codec.specs.Items.{item_at}
-use Rattle.block_codec.specs.declared.Item.{Item}
+use Rattle.block_codec.specs.declared.items.Item.{Item}
 use Rattle.load_map.specs.declared.load.Load.{Load}
 
 -- a block at offset 0x100 that closes its loop by itself and has an IMAGE_TYPE item for Arm, and then these item words

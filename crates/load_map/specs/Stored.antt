@@ -3,7 +3,8 @@
 use Rattle.std.specs.Prelude.{◌⊎◌, ◌≡◌, ℕ, ◌+◌, ◌≤◌, true, List, Option, None, Some}
 use Rattle.std.specs.List.{AllByRecursion}
 use Rattle.block_codec.specs.Blocks.{BlockView, block_size}
-use Rattle.load_map.specs.Reading.{Setting, is_runtime_right}
+use Rattle.load_map.specs.Reading.{is_runtime_right}
+use Rattle.load_map.specs.declared.setting.Setting.{Setting}
 use Rattle.load_map.specs.declared.load.Load.{Load}
 
 -- a storage of this size lies in a window of n bytes; a clear entry has none

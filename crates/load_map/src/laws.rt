@@ -9,7 +9,7 @@ ghost use Rattle.load_map.specs.Reading.{loads_of, setting_of};
 ghost use Rattle.load_map.specs.Stored.{AreClearOf, AreRuntimeRight, AreStoredIn};
 ghost use Rattle.load_map.specs.declared.load.Load.{Load};
 ghost use Rattle.block_codec.specs.Blocks.{BlockView};
-ghost use Rattle.block_codec.specs.declared.Item.{Item};
+ghost use Rattle.block_codec.specs.declared.items.Item.{Item};
 
 use crate::load::MapFault;
 

@@ -2,7 +2,17 @@
 //! digest covers.
 #![tactic(auto)]
 
+mod addresses;
+mod digest;
+mod entry;
+mod given;
 pub mod laws;
 mod load;
+mod reading;
+mod setting;
 
+pub use addresses::{FLASH_START, SRAM_END, SRAM_START};
+pub use digest::covered_digest;
+pub use given::{loaded_word, loaded_word_at};
 pub use load::{Load, Loads, MapFault};
+pub use reading::{read_map, read_map_at};

@@ -4,7 +4,7 @@ use arrayvec::ArrayVec;
 use thiserror::Error;
 
 /// What one load map entry has loaded (RP2350 Datasheet, chapter 5, Bootrom, "Load map").
-#[derive(Clone, Copy, Debug, PartialEq, Eq)]
+#[derive(Clone, Copy, Debug, Default, PartialEq, Eq)]
 pub struct Load {
     /// The offset in the window at which the entry's bytes are stored; None for a clear entry, whose bytes are 0.
     pub storage: Option<u32>,
