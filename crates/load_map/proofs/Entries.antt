@@ -12,16 +12,11 @@ use Rattle.load_map.specs.Loads.{entry_at, entries_from}
 use Rattle.arrayvec.specs.ArrayVec.{ArrayVec}
 use Rattle.load_map.specs.Reading.{load_of, load_fault, entry_fault, loads_or_fault, listed}
 use Rattle.load_map.specs.Stored.{AreStoredIn}
-use Rattle.load_map.proofs.SoundLoads.{sound-loads}
+use Rattle.load_map.proofs.SoundLoads.{length-entries, sound-loads}
 use Rattle.load_map.specs.declared.entry.Entry.{Entry}
 use Rattle.load_map.specs.declared.load.Load.{Load}
 use Rattle.load_map.specs.declared.load.MapFault.{MapFault}
 use Rattle.load_map.specs.declared.setting.Setting.{Setting}
-
--- as many entries as were asked for
-pub length-entries : (words : List ℕ) (place n : ℕ) → length (entries_from words place n) ≡ n
-length-entries words place zero = refl
-length-entries words place (suc n) = ap suc (length-entries words (place + 3) n)
 
 -- the entry at place i, three words an entry
 pub entry-here : (words : List ℕ) (place n i : ℕ) → i < n → slice_get (entries_from words place n) i ≡ Some (entry_at words (place + 3 * i))

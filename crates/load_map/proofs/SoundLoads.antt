@@ -1,5 +1,5 @@
 -- What the loads of a load map without a fault have in common, and that a longer window leaves them as they are.
-use Rattle.std.proofs.Common.{◌≡◌, ℕ, ◌+◌, ◌-◌, ◌<◌, ◌≤◌, Bool, true, false, List, [], ◌∷◌, ◌++◌, length, cond, arith, refl, subst, inl, inr}
+use Rattle.std.proofs.Common.{◌≡◌, ℕ, ◌+◌, ◌-◌, ◌<◌, ◌≤◌, Bool, true, false, List, [], ◌∷◌, ◌++◌, length, cond, arith, refl, sym, ap, suc, zero, ◌*◌, ◌∙◌, subst, inl, inr}
 use Rattle.std.specs.Prelude.{ℤ, pos, negsuc, ◌+ℤ◌, ◌&&◌, ◌==◌, ◌⊎◌, not, min, max, nat_le, nat_lt, Option, None, Some, Ok, filter_map}
 use Rattle.std.specs.Option.{option_map, option_or}
 use Rattle.std.specs.Int.{cast_signed, w32}
@@ -11,13 +11,18 @@ use Rattle.block_codec.specs.Blocks.{BlockView, block_size, block_words}
 use Rattle.block_codec.specs.declared.items.Item.{Item}
 use Rattle.block_codec.specs.FirstFault.{first_from, first_fault, ok_unless}
 use Rattle.load_map.specs.declared.entry.Entry.{Entry}
-use Rattle.load_map.specs.Loads.{entries_of, is_absolute}
+use Rattle.load_map.specs.Loads.{entries_of, entries_from, entry_count, is_absolute}
 use Rattle.load_map.specs.declared.setting.Setting.{Setting}
 use Rattle.load_map.specs.Reading.{offset_within, stored_at, relative_load, absolute_load, clear_load, load_of, is_runtime_right, covers_block, load_fault, entry_fault, loads_or_fault, loads_of, setting_of}
 use Rattle.load_map.specs.Stored.{IsStoredIn, AreStoredIn, IsClearOf, AreClearOf, AreRuntimeRight}
 use Rattle.load_map.specs.declared.load.Load.{Load}
 use Rattle.load_map.specs.declared.load.MapFault.{MapFault}
 use Rattle.load_map.specs.declared.load.MapFault.TheVariants.{Runtime, CoversBlock}
+
+-- as many entries as were asked for
+pub length-entries : (words : List ℕ) (place n : ℕ) → length (entries_from words place n) ≡ n
+length-entries words place zero = refl
+length-entries words place (suc n) = ap suc (length-entries words (place + 3) n)
 
 within-offset : (n : ℕ) (z : ℤ) (size x : ℕ) → offset_within n z size ≡ Some x → x + size ≤ n
 within-offset n (pos y) size x is = grind (arith, common_steps)
@@ -126,3 +131,18 @@ sound-loads s b absolute entries loads is =
 pub sound-loads_of : (base n : ℕ) (in_place : Bool) (b : BlockView) (item : Item) (loads : List Load) → loads_of base in_place n b item ≡ Ok loads → AreSoundLoads (setting_of base in_place n b item) b loads
 sound-loads_of base n in_place b item loads is =
     sound-loads (setting_of base in_place n b item) b (is_absolute item) (entries_of (block_words b) item) loads is
+
+-- an entry without a fault gives one load
+counted-from : (s : Setting) (b : BlockView) (absolute : Bool) (before entries : List Entry) → first_from (entry_fault s b absolute) before entries ≡ None → length (filter_map (load_of s absolute) entries) ≡ length entries
+counted-from s b absolute before [] none = refl
+counted-from s b absolute before (entry ∷ entries) none =
+    let parts = no-first (entry_fault s b absolute before entry) (first_from (entry_fault s b absolute) (before ++ entry ∷ []) entries) none in
+    let here = no-fault s b (length before) (load_of s absolute entry) parts.0 in
+    rw here.1 (ap suc (counted-from s b absolute (before ++ entry ∷ []) entries parts.1))
+
+pub counted-loads_of : (base n : ℕ) (in_place : Bool) (b : BlockView) (item : Item) (loads : List Load) → loads_of base in_place n b item ≡ Ok loads → length loads ≡ entry_count item
+counted-loads_of base n in_place b item loads is =
+    let s = setting_of base in_place n b item in
+    let entries = entries_of (block_words b) item in
+    let parts = ok_unless-Ok (first_fault (entry_fault s b (is_absolute item)) entries) (filter_map (load_of s (is_absolute item)) entries) loads is in
+    ap length (sym parts.1) ∙ (counted-from s b (is_absolute item) [] entries parts.0 ∙ length-entries (block_words b) (item.first + 1) (entry_count item))
