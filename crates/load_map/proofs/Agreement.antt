@@ -14,6 +14,9 @@ use Rattle.load_map.specs.Given.{byte_at, holds, in_window, loaded_byte, stored_
 use Rattle.load_map.specs.declared.load.Load.{Load}
 use Rattle.load_map.proofs.LastLoad.{Contains-later, last-in}
 
+pub AgreeOn-refl : (loads : List Load) (w : List ℕ) → AgreeOn loads w w
+AgreeOn-refl loads w = record { long = refl; same = λ load i within stored. refl }
+
 Agree-rest : (load : Load) (loads : List Load) (w v : List ℕ) → AgreeOn (load ∷ loads) w v → AgreeOn loads w v
 Agree-rest load loads w v agree = record {
   long = agree.long;

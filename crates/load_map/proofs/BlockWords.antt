@@ -1,6 +1,6 @@
 -- The loads depend on the offset, the size and the entries' words of the block alone; a trial bit is none of these, and is not covered.
 use Rattle.std.proofs.Common.{◌≡◌, ◌≢◌, ◌⊎◌, ℕ, zero, suc, ◌+◌, ◌-◌, ◌*◌, ◌/◌, ◌%◌, ◌^◌, ◌<◌, ◌≤◌, Bool, true, false, List, [], ◌∷◌, ◌++◌, length, take, get_or, set, arith, refl, sym, ap, subst, ◌∙◌, inl, inr, cond}
-use Rattle.std.specs.Prelude.{Option, None, Some, slice_index, slice_set, slice_get, filter_map}
+use Rattle.std.specs.Prelude.{◌&&◌, ◌==◌, Option, None, Some, slice_index, slice_set, slice_get, filter_map}
 use Rattle.std.specs.Option.{option_or}
 use Rattle.std.proofs.lemmas.List.{length-set, set-set, get_or-set_same, get_or-set_other}
 use Rattle.std.proofs.lemmas.Bool.{cases_lt}
@@ -8,12 +8,12 @@ use Rattle.std.proofs.lemmas.Option.{none-some, same_Some}
 use Rattle.block_codec.specs.Blocks.{BlockView, block_words, block_size}
 use Rattle.block_codec.specs.Items.{size_of, item_at, items_from, items_of}
 use Rattle.block_codec.specs.declared.items.Item.{Item}
-use Rattle.block_codec.proofs.FrameLemmas.{length-frame}
+use Rattle.block_codec.proofs.FrameLemmas.{eqb_true, length-frame}
 use Rattle.block_codec.proofs.HighByteLemmas.{frame-set_item, changed_item}
 use Rattle.block_codec.specs.HighByte.{changed_block}
 use Rattle.load_map.specs.Agree.{HaveSameEntries, SameButTrial}
 use Rattle.load_map.specs.Covered.{masked_words, without_trial}
-use Rattle.load_map.specs.Loads.{entry_at, entries_from, entries_of, entry_count, is_absolute}
+use Rattle.load_map.specs.Loads.{is_load_map, entry_at, entries_from, entries_of, entry_count, is_absolute}
 use Rattle.block_codec.specs.FirstFault.{first_from}
 use Rattle.load_map.specs.Reading.{loads_of, loads_or_fault, setting_of, entry_fault, load_fault, load_of, covers_block}
 use Rattle.load_map.specs.declared.load.Load.{Load}
@@ -26,6 +26,9 @@ masked-here words k lt = get_or-set_same words k (without_trial (slice_index wor
 
 pub masked-other : (words : List ℕ) (k j : ℕ) → j ≢ k → slice_index (masked_words words k) j ≡ slice_index words j
 masked-other words k j other = get_or-set_other words k j (without_trial (slice_index words k)) 0 other
+
+pub masked-count : (words : List ℕ) (k : ℕ) → length (masked_words words k) ≡ length words
+masked-count words k = length-set words k (without_trial (slice_index words k))
 
 -- words in front of the masked one
 pub masked-front : (words : List ℕ) (k n : ℕ) → n ≤ k → take n (masked_words words k) ≡ take n words
@@ -134,3 +137,11 @@ trial-loads_of base n in_place b c i j image map other at_i at_j size some same 
               let less : j < i = omega (arith, after, other) in
               let order = items-in-order 1 0 b.items j i map image less at_j at_i in omega (arith, order, is, to, size)
         ]
+
+and-right : (x y : Bool) → (x && y) ≡ true → y ≡ true
+and-right true y is = is
+and-right false y is = cc
+
+-- a LOAD_MAP item has three words for each entry
+pub map-words : (map : Item) → is_load_map map ≡ true → map.words ≡ 1 + 3 * entry_count map
+map-words map is = eqb_true map.words (1 + 3 * entry_count map) (and-right _ (map.words == 1 + 3 * entry_count map) is)

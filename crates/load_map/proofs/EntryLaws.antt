@@ -102,6 +102,10 @@ right-in-sram s load allowed from to =
     or-right (is_used_in_place s.base load.storage load.runtime) (not s.in_place && in_sram load.runtime load.size)
     (rw (allowed, le-leb SRAM_START load.runtime from, le-leb (load.runtime + load.size) SRAM_END to) refl)
 
+pub right-loaded : (s : Setting) (load : Load) → IsUsedInPlace s.base load.storage load.runtime ⊎ IsLoadedToSram s.in_place load → is_runtime_right s load ≡ true
+right-loaded s load (inl here) = right-in-place s load here
+right-loaded s load (inr (allowed, from, to)) = right-in-sram s load allowed from to
+
 -- a storage that covers the block has a byte in common with it
 pub shared-byte : (b : BlockView) (x size : ℕ) → covers_block b (Some x) size ≡ true → (k : ℕ) × IsShared b x size k
 shared-byte b x size covers =

@@ -3,6 +3,7 @@ pub mod LongerWindow
 pub mod EntryLaws
 pub mod LastLoad
 pub mod Agreement
+pub mod GivenLaws
 pub mod BlockWords
-mod Entries
+pub mod Entries
 mod Feeding

@@ -5,6 +5,7 @@
 mod addresses;
 mod digest;
 mod entry;
+pub mod examples;
 mod given;
 pub mod laws;
 mod load;
