@@ -1,11 +1,11 @@
--- The loads depend on the offset, the size and the entries' words of the block alone; a trial bit is none of these, and is not covered.
-use Rattle.std.proofs.Common.{◌≡◌, ◌≢◌, ◌⊎◌, ℕ, zero, suc, ◌+◌, ◌-◌, ◌*◌, ◌/◌, ◌%◌, ◌^◌, ◌<◌, ◌≤◌, Bool, true, false, List, [], ◌∷◌, ◌++◌, length, take, get_or, set, arith, refl, sym, ap, subst, ◌∙◌, inl, inr, cond}
-use Rattle.std.specs.Prelude.{◌&&◌, ◌==◌, Option, None, Some, slice_index, slice_set, slice_get, filter_map}
-use Rattle.std.specs.Option.{option_or}
+-- The loads depend on the offset, the size and the entries' words of the block alone; a trial bit is none of these,
+-- and is not covered.
+use Rattle.std.proofs.Common.{◌≡◌, ◌≢◌, ℕ, zero, suc, ◌+◌, ◌-◌, ◌*◌, ◌/◌, ◌%◌, ◌<◌, ◌≤◌, Bool, true, false, List, [], ◌∷◌, ◌++◌, length, take, get_or, set, arith, refl, sym, ap, subst, ◌∙◌, inl, inr}
+use Rattle.std.specs.Prelude.{◌&&◌, ◌==◌, Option, None, Some, slice_index, slice_set, slice_get}
 use Rattle.std.proofs.lemmas.List.{length-set, set-set, get_or-set_same, get_or-set_other}
 use Rattle.std.proofs.lemmas.Bool.{cases_lt}
 use Rattle.std.proofs.lemmas.Option.{none-some, same_Some}
-use Rattle.block_codec.specs.Blocks.{BlockView, block_words, block_size}
+use Rattle.block_codec.specs.Blocks.{BlockView, block_words}
 use Rattle.block_codec.specs.Items.{size_of, item_at, items_from, items_of}
 use Rattle.block_codec.specs.declared.items.Item.{Item}
 use Rattle.block_codec.proofs.FrameLemmas.{eqb_true, length-frame}
@@ -13,7 +13,7 @@ use Rattle.block_codec.proofs.HighByteLemmas.{frame-set_item, changed_item}
 use Rattle.block_codec.specs.HighByte.{changed_block}
 use Rattle.load_map.specs.Agree.{HaveSameEntries, SameButTrial}
 use Rattle.load_map.specs.Covered.{masked_words, without_trial}
-use Rattle.load_map.specs.Loads.{is_load_map, entry_at, entries_from, entries_of, entry_count, is_absolute}
+use Rattle.load_map.specs.Loads.{is_load_map, entries_from, entries_of, entry_count, is_absolute}
 use Rattle.block_codec.specs.FirstFault.{first_from}
 use Rattle.load_map.specs.Reading.{loads_of, loads_or_fault, setting_of, entry_fault, load_fault, load_of, covers_block}
 use Rattle.load_map.specs.declared.load.Load.{Load}
@@ -21,7 +21,8 @@ use Rattle.load_map.specs.declared.setting.Setting.{Setting}
 use Rattle.load_map.specs.declared.entry.Entry.{Entry}
 
 -- a word of the masked words
-pub masked-here : (words : List ℕ) (k : ℕ) → k < length words → slice_index (masked_words words k) k ≡ without_trial (slice_index words k)
+pub masked-here : (words : List ℕ) (k : ℕ) → k < length words
+    → slice_index (masked_words words k) k ≡ without_trial (slice_index words k)
 masked-here words k lt = get_or-set_same words k (without_trial (slice_index words k)) 0 lt
 
 pub masked-other : (words : List ℕ) (k j : ℕ) → j ≢ k → slice_index (masked_words words k) j ≡ slice_index words j
@@ -41,26 +42,33 @@ masked-front words k n front = take-set words k n (without_trial (slice_index wo
     take-set (w ∷ ws) (suc i) (suc m) x le = ap (λ rest. w ∷ rest) (take-set ws i m x (omega (arith, le)))
 
 -- the words but the one at place k are the same
-pub same-others : (k : ℕ) (b c : BlockView) → SameButTrial k b c → (j : ℕ) → j ≢ k → slice_index (block_words c) j ≡ slice_index (block_words b) j
+pub same-others : (k : ℕ) (b c : BlockView) → SameButTrial k b c → (j : ℕ) → j ≢ k
+    → slice_index (block_words c) j ≡ slice_index (block_words b) j
 same-others k b c same j other =
-    sym (masked-other (block_words c) k j other) ∙ ap (λ words. slice_index words j) same.words ∙ masked-other (block_words b) k j other
+    sym (masked-other (block_words c) k j other) ∙ ap (λ words. slice_index words j) same.words
+    ∙ masked-other (block_words b) k j other
 
 -- a block with another word among its items that is the same without its trial bit
-pub SameButTrial-set : (b : BlockView) (k u : ℕ) → k < length b.items → without_trial u ≡ without_trial (slice_index (block_words b) (suc k)) →
+pub SameButTrial-set : (b : BlockView) (k u : ℕ) → k < length b.items
+    → without_trial u ≡ without_trial (slice_index (block_words b) (suc k)) →
     SameButTrial (suc k) b (record { at = b.at; items = slice_set b.items k u; link = b.link })
 SameButTrial-set b k u lt bit = record {
   at = refl;
   size = length-set b.items k u;
   words =
-    let words = block_words b in
-    let long = length-frame b.items b.link in
-    let changed : set words (suc k) u ≡ block_words (record { at = b.at; items = slice_set b.items k u; link = b.link }) = frame-set_item b.items b.link k u lt in
-    let new : get_or (set words (suc k) u) (suc k) 0 ≡ u = get_or-set_same words (suc k) u 0 (omega (arith, long, lt)) in
-    subst (λ ws. masked_words ws (suc k) ≡ masked_words words (suc k)) changed
-    (rw new (set-set words (suc k) u (without_trial u) ∙ ap (λ x. set words (suc k) x) bit));
+      let words = block_words b in
+      let long = length-frame b.items b.link in
+      let changed : set words (suc k) u ≡ block_words
+      (record { at = b.at; items = slice_set b.items k u; link = b.link }) = frame-set_item b.items b.link k u lt in
+      let new : get_or (set words (suc k) u) (suc k) 0 ≡ u = get_or-set_same words (suc k) u 0 (omega (arith, long, lt))
+      in
+      subst (λ ws. masked_words ws (suc k) ≡ masked_words words (suc k)) changed
+      (rw new (set-set words (suc k) u (without_trial u) ∙ ap (λ x. set words (suc k) x) bit));
 }
 
-same-entries : (ws us : List ℕ) (place n : ℕ) → ((j : ℕ) → place ≤ j → j < place + 3 * n → slice_index us j ≡ slice_index ws j) → entries_from us place n ≡ entries_from ws place n
+same-entries : (ws us : List ℕ) (place n : ℕ)
+    → ((j : ℕ) → place ≤ j → j < place + 3 * n → slice_index us j ≡ slice_index ws j)
+    → entries_from us place n ≡ entries_from ws place n
 same-entries ws us place zero same = refl
 same-entries ws us place (suc n) same =
     let one = same place (omega arith) (omega arith) in
@@ -69,31 +77,45 @@ same-entries ws us place (suc n) same =
     let rest = same-entries ws us (place + 3) n (λ j from to. same j (omega (arith, from)) (omega (arith, to))) in
     rw (one, two, three, rest) refl
 
-same-covers : (b c : BlockView) (storage : Option ℕ) (size : ℕ) → c.at ≡ b.at → length c.items ≡ length b.items → covers_block c storage size ≡ covers_block b storage size
+same-covers : (b c : BlockView) (storage : Option ℕ) (size : ℕ) → c.at ≡ b.at → length c.items ≡ length b.items
+    → covers_block c storage size ≡ covers_block b storage size
 same-covers b c None size at long = refl
 same-covers b c (Some x) size at long = rw (at, long) refl
 
-same-load_fault : (s : Setting) (b c : BlockView) (i : ℕ) (given : Option Load) → c.at ≡ b.at → length c.items ≡ length b.items → load_fault s c i given ≡ load_fault s b i given
+same-load_fault : (s : Setting) (b c : BlockView) (i : ℕ) (given : Option Load) → c.at ≡ b.at
+    → length c.items ≡ length b.items → load_fault s c i given ≡ load_fault s b i given
 same-load_fault s b c i None at long = refl
 same-load_fault s b c i (Some load) at long = rw (same-covers b c load.storage load.size at long) refl
 
-same-first : (s : Setting) (b c : BlockView) (absolute : Bool) (before entries : List Entry) → c.at ≡ b.at → length c.items ≡ length b.items → first_from (entry_fault s c absolute) before entries ≡ first_from (entry_fault s b absolute) before entries
+same-first : (s : Setting) (b c : BlockView) (absolute : Bool) (before entries : List Entry) → c.at ≡ b.at
+    → length c.items ≡ length b.items
+    → first_from (entry_fault s c absolute) before entries ≡ first_from (entry_fault s b absolute) before entries
 same-first s b c absolute before [] at long = refl
 same-first s b c absolute before (entry ∷ entries) at long =
-    rw (same-load_fault s b c (length before) (load_of s absolute entry) at long, same-first s b c absolute (before ++ entry ∷ []) entries at long) refl
+    rw (
+      same-load_fault s b c (length before) (load_of s absolute entry) at long,
+      same-first s b c absolute
+          (before ++ entry ∷ []) entries at long,
+    ) refl
 
-same-faults : (s : Setting) (b c : BlockView) (absolute : Bool) (entries : List Entry) → c.at ≡ b.at → length c.items ≡ length b.items → loads_or_fault s c absolute entries ≡ loads_or_fault s b absolute entries
+same-faults : (s : Setting) (b c : BlockView) (absolute : Bool) (entries : List Entry) → c.at ≡ b.at
+    → length c.items ≡ length b.items → loads_or_fault s c absolute entries ≡ loads_or_fault s b absolute entries
 same-faults s b c absolute entries at long = rw (same-first s b c absolute [] entries at long) refl
 
-pub same-loads_of : (base n : ℕ) (in_place : Bool) (b c : BlockView) (item : Item) → HaveSameEntries item b c → loads_of base in_place n c item ≡ loads_of base in_place n b item
+pub same-loads_of : (base n : ℕ) (in_place : Bool) (b c : BlockView) (item : Item) → HaveSameEntries item b c
+    → loads_of base in_place n c item ≡ loads_of base in_place n b item
 same-loads_of base n in_place b c item same =
-    let entries = same-entries (block_words b) (block_words c) (item.first + 1) (entry_count item) (λ j from to. same.words j (omega (arith, from)) (omega (arith, to))) in
+    let entries = same-entries (block_words b) (block_words c) (item.first + 1) (entry_count item)
+    (λ j from to. same.words j (omega (arith, from)) (omega (arith, to))) in
     ap (λ es. loads_or_fault (setting_of base in_place n c item) c (is_absolute item) es) entries
-    ∙ (same-faults (setting_of base in_place n c item) b c (is_absolute item) (entries_of (block_words b) item) same.at same.size
-    ∙ ap (λ at. loads_or_fault (record { base = base; in_place = in_place; len = n; item_at = at + 4 * item.first }) b (is_absolute item) (entries_of (block_words b) item)) same.at)
+    ∙ (same-faults (setting_of base in_place n c item) b c (is_absolute item) (entries_of (block_words b) item)
+    same.at same.size
+    ∙ ap (λ at. loads_or_fault (record { base = base; in_place = in_place; len = n; item_at = at + 4 * item.first }) b
+    (is_absolute item) (entries_of (block_words b) item)) same.at)
 
 -- items stand one behind the other
-later-from : (place k : ℕ) (ws : List ℕ) (i : ℕ) (item : Item) → slice_get (items_from place k ws) i ≡ Some item → place + k ≤ item.first
+later-from : (place k : ℕ) (ws : List ℕ) (i : ℕ) (item : Item) → slice_get (items_from place k ws) i ≡ Some item
+    → place + k ≤ item.first
 later-from place k [] i item at = absurd (none-some item at)
 later-from place (suc k) (w ∷ ws) i item at = let later = later-from (place + 1) k ws i item at in omega (arith, later)
 later-from place zero (h ∷ ws) zero item at =
@@ -102,26 +124,36 @@ later-from place zero (h ∷ ws) zero item at =
 later-from place zero (h ∷ ws) (suc i) item at =
     let later = later-from (place + 1) (size_of h - 1) ws i item at in omega (arith, later)
 
-pub items-in-order : (place k : ℕ) (ws : List ℕ) (i j : ℕ) (one two : Item) → i < j → slice_get (items_from place k ws) i ≡ Some one → slice_get (items_from place k ws) j ≡ Some two → one.first + one.words ≤ two.first
+pub items-in-order : (place k : ℕ) (ws : List ℕ) (i j : ℕ) (one two : Item) → i < j
+    → slice_get (items_from place k ws) i ≡ Some one → slice_get (items_from place k ws) j ≡ Some two
+    → one.first + one.words ≤ two.first
 items-in-order place k [] i j one two lt at_i at_j = absurd (none-some one at_i)
-items-in-order place (suc k) (w ∷ ws) i j one two lt at_i at_j = items-in-order (place + 1) k ws i j one two lt at_i at_j
+items-in-order place (suc k) (w ∷ ws) i j one two lt at_i at_j = items-in-order (place + 1) k ws i j one two lt at_i
+    at_j
 items-in-order place zero (h ∷ ws) i zero one two lt at_i at_j = absurd (omega (arith, lt))
 items-in-order place zero (h ∷ ws) zero (suc j) one two lt at_i at_j =
     let later = later-from (place + 1) (size_of h - 1) ws j two at_j in
     let same = same_Some (item_at place h) one at_i in
-    subst (λ (x : Item). x.first + x.words ≤ two.first) same (let end : place + size_of h ≤ two.first = omega (arith, later) in end)
+    subst (λ (x : Item). x.first + x.words ≤ two.first) same
+    (let end : place + size_of h ≤ two.first = omega (arith, later) in end)
 items-in-order place zero (h ∷ ws) (suc i) (suc j) one two lt at_i at_j =
     items-in-order (place + 1) (size_of h - 1) ws i j one two (omega (arith, lt)) at_i at_j
 
 -- a changed block whose changed word is the same without its trial bit
-pub SameButTrial-changed : (a u : ℕ) (b : BlockView) → a % 4 ≡ b.at % 4 → b.at + 4 ≤ a → a < b.at + 4 + 4 * length b.items → without_trial u ≡ without_trial (slice_index (block_words b) ((a - b.at) / 4)) → SameButTrial ((a - b.at) / 4) b (changed_block a u b)
+pub SameButTrial-changed : (a u : ℕ) (b : BlockView) → a % 4 ≡ b.at % 4 → b.at + 4 ≤ a
+    → a < b.at + 4 + 4 * length b.items
+    → without_trial u ≡ without_trial (slice_index (block_words b) ((a - b.at) / 4))
+    → SameButTrial ((a - b.at) / 4) b (changed_block a u b)
 SameButTrial-changed a u b aligned from to bit =
     let place : (a - b.at) / 4 ≡ suc ((a - (b.at + 4)) / 4) = omega (arith, aligned, from) in
     let lt : (a - (b.at + 4)) / 4 < length b.items = omega (arith, aligned, from, to) in
     rw (changed_item a u b from to, place) (SameButTrial-set b ((a - (b.at + 4)) / 4) u lt (rw place at bit))
 
 -- the loads of a LOAD_MAP item of a block are the same where the trial bit of another item's header differs
-pub trial-loads_of : (base n : ℕ) (in_place : Bool) (b c : BlockView) (i j : ℕ) (image map : Item) → i ≢ j → slice_get (items_of b.items) i ≡ Some image → slice_get (items_of b.items) j ≡ Some map → map.words ≡ 1 + 3 * entry_count map → 1 ≤ image.words → SameButTrial image.first b c → loads_of base in_place n c map ≡ loads_of base in_place n b map
+pub trial-loads_of : (base n : ℕ) (in_place : Bool) (b c : BlockView) (i j : ℕ) (image map : Item) → i ≢ j
+    → slice_get (items_of b.items) i ≡ Some image → slice_get (items_of b.items) j ≡ Some map
+    → map.words ≡ 1 + 3 * entry_count map → 1 ≤ image.words → SameButTrial image.first b c
+    → loads_of base in_place n c map ≡ loads_of base in_place n b map
 trial-loads_of base n in_place b c i j image map other at_i at_j size some same =
     same-loads_of base n in_place b c map (record {
       at = same.at;
@@ -132,7 +164,8 @@ trial-loads_of base n in_place b c i j image map other at_i at_j size some same 
     apart : (k : ℕ) → map.first < k → k ≤ map.first + 3 * entry_count map → k ≢ image.first
     apart k from to is =
         elim (cases_lt i j) [
-          | inl before ↦ let order = items-in-order 1 0 b.items i j image map before at_i at_j in omega (arith, order, is, from, some)
+          | inl before ↦ let order = items-in-order 1 0 b.items i j image map before at_i at_j in omega
+              (arith, order, is, from, some)
           | inr after ↦
               let less : j < i = omega (arith, after, other) in
               let order = items-in-order 1 0 b.items j i map image less at_j at_i in omega (arith, order, is, to, size)

@@ -15,7 +15,8 @@ use Rattle.load_map.specs.declared.load.MapFault.{MapFault}
 use Rattle.load_map.specs.declared.load.MapFault.TheVariants.{Storage, Runtime, CoversBlock}
 use Rattle.load_map.specs.declared.setting.Setting.{Setting}
 
--- the offset in a window of n bytes of a range of `size` bytes that begins at a signed offset; None
+-- the offset in a window of n bytes of a range of `size` bytes that begins at a signed offset;
+-- None
 -- where the range leaves the window
 abbrev pub offset_within : ℕ → ℤ → ℕ → Option ℕ
 offset_within n (pos x) size = if nat_le (x + size) n then Some x else None
@@ -36,7 +37,8 @@ relative_load s entry =
 -- that at which it ends
 abbrev pub absolute_load : Setting → Entry → Option Load
 absolute_load s entry =
-    if nat_le s.base entry.place && nat_le entry.place entry.extent && nat_le entry.extent (s.base + s.len)
+    if nat_le s.base entry.place && nat_le entry.place entry.extent && nat_le entry.extent
+    (s.base + s.len)
     then Some (stored_at entry (entry.extent - entry.place) (entry.place - s.base))
     else None
 
@@ -56,7 +58,8 @@ abbrev pub is_used_in_place : ℕ → Option ℕ → ℕ → Bool
 is_used_in_place base None runtime = false
 is_used_in_place base (Some x) runtime = runtime == base + x
 
--- the load is used where it is stored, or, of an image that may have others, lies in SRAM as a whole
+-- the load is used where it is stored, or, of an image that may have others, lies in SRAM as a
+-- whole
 abbrev pub is_runtime_right : Setting → Load → Bool
 is_runtime_right s load =
     is_used_in_place s.base load.storage load.runtime

@@ -21,7 +21,8 @@ fn add_range<V: View>(hasher: &mut Sha256, view: &V, piece: &mut [u8], start: u3
     requires some { 0 < length piece.old }
     requires few { length piece.old ≤ 4096 }
     requires inside { start + size ≤ length (V.bytes view.now) }
-    ensures { (m : List ℕ) → Holds256 hasher.old m → Holds256 hasher.new (m ++ slice_range (V.bytes view.now) start (start + size)) }
+    ensures { (m : List ℕ) → Holds256 hasher.old m
+        → Holds256 hasher.new (m ++ slice_range (V.bytes view.now) start (start + size)) }
 {
     let mut done = 0;
     while done < size {
@@ -39,7 +40,8 @@ fn add_load<V: View>(hasher: &mut Sha256, view: &V, piece: &mut [u8], load: &Loa
     requires some { 0 < length piece.old }
     requires few { length piece.old ≤ 4096 }
     requires stored { IsStoredIn (length (V.bytes view.now)) load.now.storage load.now.size }
-    ensures { (m : List ℕ) → Holds256 hasher.old m → Holds256 hasher.new (m ++ covered_load (V.bytes view.now) load.now) }
+    ensures { (m : List ℕ) → Holds256 hasher.old m
+        → Holds256 hasher.new (m ++ covered_load (V.bytes view.now) load.now) }
 {
     match load.storage {
         None => hasher.update(&load.size.to_le_bytes()),
@@ -52,7 +54,8 @@ fn add_loads<V: View>(hasher: &mut Sha256, view: &V, piece: &mut [u8], loads: &[
     requires some { 0 < length piece.old }
     requires few { length piece.old ≤ 4096 }
     requires stored { AreStoredIn (length (V.bytes view.now)) loads.now }
-    ensures { (m : List ℕ) → Holds256 hasher.old m → Holds256 hasher.new (m ++ flat_map (covered_load (V.bytes view.now)) loads.now) }
+    ensures { (m : List ℕ) → Holds256 hasher.old m
+        → Holds256 hasher.new (m ++ flat_map (covered_load (V.bytes view.now)) loads.now) }
 {
     for load in loads {
         add_load(hasher, view, piece, load);
@@ -76,7 +79,9 @@ fn masked_word(block: &Block, image_word: u32, k: u32) -> u32
 #[tactic(auto, unfolding(block_codec::specs::Words::word_bytes))]
 fn add_words(hasher: &mut Sha256, block: &Block, image_word: u32, count: u32)
     requires { count ≤ length block.now.items + 4 }
-    ensures { (m : List ℕ) → Holds256 hasher.old m → Holds256 hasher.new (m ++ bytes_of (take count (masked_words (block_words block.now) image_word))) }
+    ensures { (m : List ℕ) → Holds256 hasher.old m
+        → Holds256 hasher.new
+        (m ++ bytes_of (take count (masked_words (block_words block.now) image_word))) }
 {
     for k in 0..count {
         let word = masked_word(block, image_word, k);
@@ -86,7 +91,13 @@ fn add_words(hasher: &mut Sha256, block: &Block, image_word: u32, count: u32)
 
 /// The digest of the covered bytes, streamed through `piece`.
 #[tactic(auto, unfolding(crate::specs::Covered::covered_digest))]
-fn digest_through<V: View>(view: &V, piece: &mut [u8], block: &Block, def: &Def, loads: &Loads) -> [u8; 32]
+fn digest_through<V: View>(
+    view: &V,
+    piece: &mut [u8],
+    block: &Block,
+    def: &Def,
+    loads: &Loads,
+) -> [u8; 32]
     requires some { 0 < length piece.old }
     requires few { length piece.old ≤ 4096 }
     requires stored { AreStoredIn (length (V.bytes view.now)) loads.now.items }

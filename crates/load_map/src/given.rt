@@ -30,7 +30,8 @@ fn holds(load: &Load, address: u64) -> bool
 fn last_holding(loads: &[Load], address: u64) -> Option<Load>
     ensures last { result ≡ find (holds address) (reverse loads.now) }
     ensures held { IfSome result (λ load. IsTrue (holds address load)) }
-    ensures stored { (n : ℕ) → AreStoredIn n loads.now → IfSome result (λ load. IsStoredIn n load.storage load.size) }
+    ensures stored { (n : ℕ) → AreStoredIn n loads.now
+        → IfSome result (λ load. IsStoredIn n load.storage load.size) }
 {
     let mut last = None;
     for load in loads {

@@ -39,7 +39,9 @@ fn read_entries(setting: &Setting, block: &Block, item: &Item) -> Result<Loads, 
     requires of_block { Contains (items_of block.now.items) item.now }
     requires map { IsTrue (is_load_map item.now) }
     requires few { entry_count item.now ≤ 51 }
-    ensures { listed result ≡ loads_or_fault setting.now block.now (is_absolute item.now) (entries_of (block_words block.now) item.now) }
+    ensures { listed result
+        ≡ loads_or_fault setting.now block.now (is_absolute item.now)
+        (entries_of (block_words block.now) item.now) }
 {
     let absolute = is_absolute(item);
     let mut loads = Loads::new();
@@ -62,10 +64,8 @@ pub fn read_map_at(
     in_place: bool,
 ) -> Result<Loads, MapFault>
     requires map { IsMapAt block.now item }
-    ensures exact {
-        (map : Item) → slice_get (items_of block.now.items) item ≡ Some map
-        → listed result ≡ loads_of base in_place window_len block.now map
-    }
+    ensures exact { (map : Item) → slice_get (items_of block.now.items) item ≡ Some map
+        → listed result ≡ loads_of base in_place window_len block.now map }
     ensures stored { IfOk result (λ loads. AreStoredIn window_len loads.items) }
     ensures few { IfOk result (λ loads. length loads.items ≤ 51) }
 {
@@ -83,10 +83,8 @@ pub fn read_map_at(
 /// `window_len` bytes in flash, or the first fault.
 pub fn read_map(block: &Block, item: u32, window_len: u32) -> Result<Loads, MapFault>
     requires map { IsMapAt block.now item }
-    ensures exact {
-        (map : Item) → slice_get (items_of block.now.items) item ≡ Some map
-        → listed result ≡ loads_of flash_base false window_len block.now map
-    }
+    ensures exact { (map : Item) → slice_get (items_of block.now.items) item ≡ Some map
+        → listed result ≡ loads_of flash_base false window_len block.now map }
     ensures stored { IfOk result (λ loads. AreStoredIn window_len loads.items) }
     ensures few { IfOk result (λ loads. length loads.items ≤ 51) }
 {

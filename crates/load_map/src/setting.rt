@@ -55,15 +55,14 @@ fn absolute_load(setting: &Setting, entry: &Entry) -> Option<Load>
     ensures { result ≡ absolute_load setting.now entry.now }
 {
     let end = u64::from(setting.base) + u64::from(setting.len);
-    if setting.base <= entry.place && entry.place <= entry.extent && u64::from(entry.extent) <= end {
-        Some(Load {
-            storage: Some(entry.place - setting.base),
-            runtime: entry.runtime,
-            size: entry.extent - entry.place,
-        })
-    } else {
-        None
+    if entry.place < setting.base || entry.extent < entry.place || u64::from(entry.extent) > end {
+        return None;
     }
+    Some(Load {
+        storage: Some(entry.place - setting.base),
+        runtime: entry.runtime,
+        size: entry.extent - entry.place,
+    })
 }
 
 /// The load of an entry; None where its storage is outside the window or ends before it starts.

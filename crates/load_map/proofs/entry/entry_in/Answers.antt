@@ -1,4 +1,3 @@
-use Rattle.std.proofs.Common.{◌≡◌}
 use Rattle.block_codec.specs.Blocks.{block_words}
 use Rattle.load_map.proofs.Entries.{entry-read}
 use Rattle.load_map.proofs.entry.entry_in.Goals as goal

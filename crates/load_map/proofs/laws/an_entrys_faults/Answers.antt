@@ -9,7 +9,9 @@ pub returns-clause-runtime : goal.returns-clause-runtime
 returns-clause-runtime c = fault-runtime
 
 pub returns-clause-covers : goal.returns-clause-covers
-returns-clause-covers c = λ s b absolute before entry load is right covers. fault-covers s b absolute before entry load true is right covers
+returns-clause-covers c = λ s b absolute before entry load is right covers. fault-covers s b absolute before entry
+    load true is right covers
 
 pub returns-clause-none : goal.returns-clause-none
-returns-clause-none c = λ s b absolute before entry load is right covers. fault-covers s b absolute before entry load false is right covers
+returns-clause-none c = λ s b absolute before entry load is right covers. fault-covers s b absolute before entry load
+    false is right covers

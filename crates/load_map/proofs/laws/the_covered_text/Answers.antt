@@ -7,7 +7,8 @@ use Rattle.std.proofs.Common.{take}
 use Rattle.load_map.proofs.laws.the_covered_text.Goals as goal
 
 pub returns-clause-load : goal.returns-clause-load
-returns-clause-load c = λ w load loads b n k. append_assoc (covered_load w load) (flat_map (covered_load w) loads) (bytes_of (take n (masked_words (block_words b) k)))
+returns-clause-load c = λ w load loads b n k. append_assoc (covered_load w load) (flat_map (covered_load w) loads)
+    (bytes_of (take n (masked_words (block_words b) k)))
 
 pub returns-clause-words : goal.returns-clause-words
 returns-clause-words c = λ w b n k. refl

@@ -1,4 +1,3 @@
-use Rattle.std.proofs.Common.{inl, inr}
 use Rattle.load_map.proofs.EntryLaws.{runtime-right, right-loaded}
 use Rattle.load_map.proofs.laws.where_a_load_is_right.Goals as goal
 

@@ -9,6 +9,7 @@ use Rattle.load_map.proofs.reading.read_entries.Given as goal
 abbrev pub invariant-loop-i : goal.invariant-loop-i
 invariant-loop-i l = record {
   sound : AreSound (entry_fault l.setting l.block (is_absolute l.item)) (entries_of (block_words l.block) l.item) l.i;
-  so_far : l.loads.items ≡ filter_map (load_of l.setting (is_absolute l.item)) (take l.i (entries_of (block_words l.block) l.item));
+  so_far : l.loads.items ≡ filter_map (load_of l.setting (is_absolute l.item))
+      (take l.i (entries_of (block_words l.block) l.item));
   few : length l.loads.items ≤ l.i;
 }

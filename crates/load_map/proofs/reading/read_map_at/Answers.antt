@@ -1,4 +1,3 @@
-use Rattle.std.proofs.Common.{◌≡◌, ap, ◌∙◌}
 use Rattle.block_codec.specs.Blocks.{block_words}
 use Rattle.load_map.specs.Loads.{entries_of, is_absolute}
 use Rattle.load_map.specs.Reading.{setting_of}
@@ -9,5 +8,6 @@ pub returns-clause-stored : goal.returns-clause-stored
 returns-clause-stored c =
     let b = c.args.block.now in
     let map = c.item-map.result in
-    stored-answer (setting_of c.args.base c.args.in_place c.args.window_len b map) b (is_absolute map) (entries_of (block_words b) map)
+    stored-answer (setting_of c.args.base c.args.in_place c.args.window_len b map) b (is_absolute map)
+    (entries_of (block_words b) map)
     c.read_entries.result (rw c.at.ensures.value at c.read_entries.ensures)
