@@ -3,11 +3,16 @@ use Rattle.std.proofs.Common.{◌≡◌, ℕ, zero, suc, ◌+◌, ◌*◌, ◌<�
 use Rattle.std.specs.Prelude.{Option, None, Some, Result, Ok, Err, IfOk, filter_map, slice_index, slice_get}
 use Rattle.std.proofs.lemmas.List.{take_more, take_all, length-take-le}
 use Rattle.std.proofs.lemmas.List.Elements.{filter_map-append}
+use Rattle.std.proofs.lemmas.Bool.{eq-eqb}
 use Rattle.std.proofs.lemmas.Option.{slice_get_within, get_or_from_slice_get}
 use Rattle.block_codec.specs.Blocks.{BlockView}
 use Rattle.block_codec.specs.FirstFault.{AreSound}
 use Rattle.block_codec.proofs.FirstFault.{sound_more, none_from_sound_at, first_at, fault_from_first}
-use Rattle.load_map.specs.Loads.{entry_at, entries_from}
+use Rattle.block_codec.specs.Items.{items_of}
+use Rattle.block_codec.specs.Kinds.{is_of_kind}
+use Rattle.block_codec.specs.declared.items.Item.{Item}
+use Rattle.block_codec.specs.declared.kinds.TheConstants.{LOAD_MAP}
+use Rattle.load_map.specs.Loads.{IsMapAt, entry_at, entry_count, entries_from}
 use Rattle.arrayvec.specs.ArrayVec.{ArrayVec}
 use Rattle.load_map.specs.Reading.{load_of, load_fault, entry_fault, loads_or_fault, listed}
 use Rattle.load_map.specs.Stored.{AreStoredIn}
@@ -16,6 +21,11 @@ use Rattle.load_map.specs.declared.entry.Entry.{Entry}
 use Rattle.load_map.specs.declared.load.Load.{Load}
 use Rattle.load_map.specs.declared.load.MapFault.{MapFault}
 use Rattle.load_map.specs.declared.setting.Setting.{Setting}
+
+-- an item of a block that is a LOAD_MAP with three words for each entry
+pub IsMapAt-from : (b : BlockView) (k : ℕ) (item : Item) → slice_get (items_of b.items) k ≡ Some item
+    → is_of_kind LOAD_MAP item ≡ true → item.words ≡ 1 + 3 * entry_count item → IsMapAt b k
+IsMapAt-from b k item at kind size = rw at (rw (kind, eq-eqb item.words (1 + 3 * entry_count item) size) refl)
 
 -- the entry at place i, three words an entry
 pub entry-here : (words : List ℕ) (place n i : ℕ) → i < n

@@ -80,8 +80,8 @@ fn masked_word(block: &Block, image_word: u32, k: u32) -> u32
 fn add_words(hasher: &mut Sha256, block: &Block, image_word: u32, count: u32)
     requires { count ≤ length block.now.items + 4 }
     ensures { (m : List ℕ) → Holds256 hasher.old m
-        → Holds256 hasher.new
-        (m ++ bytes_of (take count (masked_words (block_words block.now) image_word))) }
+        → Holds256 hasher.new (m ++ bytes_of (take count
+        (masked_words (block_words block.now) image_word))) }
 {
     for k in 0..count {
         let word = masked_word(block, image_word, k);
@@ -110,9 +110,10 @@ fn digest_through<V: View>(
     hasher.finalize()
 }
 
-/// The SHA-256 of the bytes that an image's digest covers: of each load in order its storage bytes,
-/// or its size where it is a clear entry, and then the first words of the definition's block, as
-/// many as are hashed, with the trial bit read as 0. An image without a load map has no loads.
+/// The SHA-256 of the bytes that an image's digest covers: of each load in order its storage
+/// bytes, or its size where it is a clear entry, and then the first words of the definition's
+/// block, as many as are hashed, with the trial bit read as 0. An image without a load map has no
+/// loads.
 ///
 /// The covered bytes stream through one free sector of the pool, and no memory is taken.
 pub fn covered_digest<V: View>(

@@ -1,5 +1,5 @@
-//! Worked examples of load maps. The block stands at offset 0x100 of a window of 8192 bytes and its
-//! LOAD_MAP item at 0x108, from which relative storages count.
+//! Worked examples of load maps. The block stands at offset 0x100 of a window of 8192 bytes and
+//! its LOAD_MAP item at 0x108, from which relative storages count.
 
 ghost use Rattle.std.specs.Prelude.{◌≡◌, [], ◌∷◌, Ok, Err, Some, None};
 ghost use Rattle.pico_board.specs.Content.{flash_base};
@@ -15,9 +15,11 @@ use crate::load::MapFault;
 pub fn entries_in_order()
     ensures none { in_flash 0x0000_0106 [] ≡ Ok [] }
     ensures none_absolute { in_flash 0x8000_0106 [] ≡ Ok [] }
-    ensures relative { in_flash 0x0200_0706 (0 ∷ 0x2000_0000 ∷ 0x10 ∷ 0xf8 ∷ 0x2000_0100 ∷ 0x20 ∷ [])
+    ensures relative { in_flash 0x0200_0706
+        (0 ∷ 0x2000_0000 ∷ 0x10 ∷ 0xf8 ∷ 0x2000_0100 ∷ 0x20 ∷ [])
         ≡ Ok (cleared 0x2000_0000 0x10 ∷ stored 0x200 0x2000_0100 0x20 ∷ []) }
-    ensures absolute { in_flash 0x8200_0706 (0x1000_0200 ∷ 0x2000_0100 ∷ 0x1000_0220 ∷ 0 ∷ 0x2000_0000 ∷ 0x10 ∷ [])
+    ensures absolute { in_flash 0x8200_0706
+        (0x1000_0200 ∷ 0x2000_0100 ∷ 0x1000_0220 ∷ 0 ∷ 0x2000_0000 ∷ 0x10 ∷ [])
         ≡ Ok (stored 0x200 0x2000_0100 0x20 ∷ cleared 0x2000_0000 0x10 ∷ []) }
     ensures other_form { in_flash 0x8100_0406 (0xf8 ∷ 0x2000_0000 ∷ 0x20 ∷ [])
         ≡ Err (MapFault.Storage 0) }
@@ -33,18 +35,19 @@ pub fn the_first_fault_is_told()
         ≡ Err (MapFault.Runtime 0) }
     ensures storage_covers { in_flash 0x0100_0406 (0xffff_fef8 ∷ 0x2000_0000 ∷ 0x2001 ∷ [])
         ≡ Err (MapFault.Storage 0) }
-    ensures covers_storage { in_flash 0x0200_0706 (0x27 ∷ 0x2000_0000 ∷ 0x1 ∷ 0x1ef8 ∷ 0x2000_0000 ∷ 0x1 ∷ [])
+    ensures covers_storage { in_flash 0x0200_0706
+        (0x27 ∷ 0x2000_0000 ∷ 0x1 ∷ 0x1ef8 ∷ 0x2000_0000 ∷ 0x1 ∷ [])
         ≡ Err (MapFault.CoversBlock 0) }
-    ensures runtime_storage { in_flash 0x0200_0706 (0xf8 ∷ 0x1fff_ffff ∷ 0x1 ∷ 0x1ef8 ∷ 0x2000_0000 ∷ 0x1 ∷ [])
-        ≡ Err (MapFault.Runtime 0) }
+    ensures runtime_storage { in_flash 0x0200_0706
+        (0xf8 ∷ 0x1fff_ffff ∷ 0x1 ∷ 0x1ef8 ∷ 0x2000_0000 ∷ 0x1 ∷ []) ≡ Err (MapFault.Runtime 0) }
     ensures covers_runtime { in_flash 0x0200_0706 (0x27 ∷ 0x2000_0000 ∷ 0x1 ∷ 0 ∷ 0 ∷ 0 ∷ [])
         ≡ Err (MapFault.CoversBlock 0) }
-    ensures second_storage { in_flash 0x0200_0706 (0 ∷ 0x2000_0000 ∷ 0x1 ∷ 0x1ef8 ∷ 0x2000_0000 ∷ 0x1 ∷ [])
-        ≡ Err (MapFault.Storage 1) }
-    ensures second_runtime { in_flash 0x0200_0706 (0 ∷ 0x2000_0000 ∷ 0x1 ∷ 0 ∷ 0x1fff_ffff ∷ 0x1 ∷ [])
-        ≡ Err (MapFault.Runtime 1) }
-    ensures second_covers { in_flash 0x0200_0706 (0 ∷ 0x2000_0000 ∷ 0x1 ∷ 0x27 ∷ 0x2000_0000 ∷ 0x1 ∷ [])
-        ≡ Err (MapFault.CoversBlock 1) }
+    ensures second_storage { in_flash 0x0200_0706
+        (0 ∷ 0x2000_0000 ∷ 0x1 ∷ 0x1ef8 ∷ 0x2000_0000 ∷ 0x1 ∷ []) ≡ Err (MapFault.Storage 1) }
+    ensures second_runtime { in_flash 0x0200_0706
+        (0 ∷ 0x2000_0000 ∷ 0x1 ∷ 0 ∷ 0x1fff_ffff ∷ 0x1 ∷ []) ≡ Err (MapFault.Runtime 1) }
+    ensures second_covers { in_flash 0x0200_0706
+        (0 ∷ 0x2000_0000 ∷ 0x1 ∷ 0x27 ∷ 0x2000_0000 ∷ 0x1 ∷ []) ≡ Err (MapFault.CoversBlock 1) }
 {}
 
 /// A relative storage may begin with the window's first byte and end with its last. An empty one
@@ -92,8 +95,8 @@ pub fn an_absolute_storage()
         ≡ Err (MapFault.Storage 0) }
 {}
 
-/// A load goes into SRAM as a whole; an empty one may stand at either end. A clear entry has to
-/// be in SRAM even where it is empty. Nothing wraps.
+/// A load goes into SRAM as a whole; an empty one may stand at either end. A clear entry has to be
+/// in SRAM even where it is empty. Nothing wraps.
 #[tactic(auto, unfolding(block_codec::specs::Blocks::frame, block_codec::specs::Items::size_of))]
 pub fn a_load_into_sram()
     ensures first { in_flash 0x0100_0406 (0xf8 ∷ 0x2000_0000 ∷ 0x10 ∷ [])
@@ -124,8 +127,8 @@ pub fn a_load_into_sram()
         ≡ Err (MapFault.Runtime 0) }
 {}
 
-/// A load that is used where it is stored is right in flash, and in a RAM image, which may have
-/// no other loads.
+/// A load that is used where it is stored is right in flash, and in a RAM image, which may have no
+/// other loads.
 #[tactic(auto, unfolding(block_codec::specs::Blocks::frame, block_codec::specs::Items::size_of))]
 pub fn a_load_that_is_used_in_place()
     ensures flash { in_flash 0x0100_0406 (0xf8 ∷ 0x1000_0200 ∷ 0x20 ∷ [])
@@ -179,35 +182,34 @@ pub fn bytes_at_addresses()
     ensures last_of_window { byte_at flash_base (7 ∷ 8 ∷ []) [] 0x1000_0001 ≡ Some 8 }
     ensures past_window { byte_at flash_base (7 ∷ 8 ∷ []) [] 0x1000_0002 ≡ None }
     ensures below_window { byte_at flash_base (7 ∷ 8 ∷ []) [] 0x0fff_ffff ≡ None }
-    ensures over_window { byte_at flash_base (7 ∷ 8 ∷ []) (stored 0 0x1000_0001 1 ∷ []) 0x1000_0001
-        ≡ Some 8 }
-    ensures window_in_ram { byte_at 0x2000_0000 (7 ∷ 8 ∷ []) (cleared 0x2000_0000 4 ∷ []) 0x2000_0001
-        ≡ Some 8 }
-    ensures behind_window { byte_at 0x2000_0000 (7 ∷ 8 ∷ []) (cleared 0x2000_0000 4 ∷ []) 0x2000_0002
-        ≡ Some 0 }
+    ensures over_window { byte_at flash_base (7 ∷ 8 ∷ [])
+        (stored 0 0x1000_0001 1 ∷ []) 0x1000_0001 ≡ Some 8 }
+    ensures window_in_ram { byte_at 0x2000_0000 (7 ∷ 8 ∷ [])
+        (cleared 0x2000_0000 4 ∷ []) 0x2000_0001 ≡ Some 8 }
+    ensures behind_window { byte_at 0x2000_0000 (7 ∷ 8 ∷ [])
+        (cleared 0x2000_0000 4 ∷ []) 0x2000_0002 ≡ Some 0 }
     ensures last_load { byte_at flash_base (7 ∷ 8 ∷ []) two_loads 0x2000_0000 ≡ Some 8 }
     ensures earlier_load { byte_at flash_base (7 ∷ 8 ∷ []) turned_loads 0x2000_0000 ≡ Some 0 }
     ensures clear { byte_at flash_base (7 ∷ 8 ∷ []) two_loads 0x2000_0001 ≡ Some 0 }
     ensures last_of_load { byte_at flash_base (7 ∷ 8 ∷ []) two_loads 0x2000_0003 ≡ Some 0 }
     ensures past_load { byte_at flash_base (7 ∷ 8 ∷ []) two_loads 0x2000_0004 ≡ None }
-    ensures below_load { byte_at flash_base (7 ∷ 8 ∷ []) (stored 0 0x2000_0001 2 ∷ []) 0x2000_0000
-        ≡ None }
-    ensures second_byte { byte_at flash_base (7 ∷ 8 ∷ []) (stored 0 0x2000_0001 2 ∷ []) 0x2000_0002
-        ≡ Some 8 }
-    ensures last_of_sram { byte_at flash_base (7 ∷ 8 ∷ []) (stored 0 0x2008_1fff 2 ∷ []) 0x2008_1fff
-        ≡ Some 7 }
+    ensures below_load { byte_at flash_base (7 ∷ 8 ∷ [])
+        (stored 0 0x2000_0001 2 ∷ []) 0x2000_0000 ≡ None }
+    ensures second_byte { byte_at flash_base (7 ∷ 8 ∷ [])
+        (stored 0 0x2000_0001 2 ∷ []) 0x2000_0002 ≡ Some 8 }
+    ensures last_of_sram { byte_at flash_base (7 ∷ 8 ∷ [])
+        (stored 0 0x2008_1fff 2 ∷ []) 0x2008_1fff ≡ Some 7 }
     ensures past_sram { byte_at flash_base (7 ∷ 8 ∷ []) (stored 0 0x2008_1fff 2 ∷ []) 0x2008_2000
         ≡ None }
-    ensures below_sram { byte_at flash_base (7 ∷ 8 ∷ []) (stored 0 0x1fff_ffff 2 ∷ []) 0x1fff_ffff
-        ≡ None }
+    ensures below_sram { byte_at flash_base (7 ∷ 8 ∷ [])
+        (stored 0 0x1fff_ffff 2 ∷ []) 0x1fff_ffff ≡ None }
 {}
 
 /// A word has its lowest byte first, at any address, and may come from more than one load. It is
 /// not given where one of its bytes is not.
 #[tactic(auto, unfolding(block_codec::specs::Words::word_of))]
 pub fn words_at_addresses()
-    ensures window { word_at flash_base (1 ∷ 2 ∷ 3 ∷ 4 ∷ 5 ∷ []) [] 0x1000_0001
-        ≡ Some 0x0504_0302 }
+    ensures window { word_at flash_base (1 ∷ 2 ∷ 3 ∷ 4 ∷ 5 ∷ []) [] 0x1000_0001 ≡ Some 0x0504_0302 }
     ensures past { word_at flash_base (1 ∷ 2 ∷ 3 ∷ 4 ∷ 5 ∷ []) [] 0x1000_0002 ≡ None }
     ensures before { word_at flash_base (1 ∷ 2 ∷ 3 ∷ 4 ∷ 5 ∷ []) [] 0x0fff_ffff ≡ None }
     ensures loads { word_at flash_base (1 ∷ 2 ∷ 3 ∷ 4 ∷ 5 ∷ []) mixed_loads 0x2000_0000
@@ -217,8 +219,8 @@ pub fn words_at_addresses()
     ensures ram { word_at 0x2000_0000 (1 ∷ 2 ∷ 3 ∷ 4 ∷ []) [] 0x2000_0000 ≡ Some 0x0403_0201 }
 {}
 
-/// The trial bit is read as 0 in the covered words, wherever its word stands, and no other bit
-/// is. A clear entry is covered by its size, four bytes with the lowest first, and another by its
+/// The trial bit is read as 0 in the covered words, wherever its word stands, and no other bit is.
+/// A clear entry is covered by its size, four bytes with the lowest first, and another by its
 /// bytes; the loads come first, in order, and the words follow.
 #[tactic(auto, unfolding(block_codec::specs::Blocks::frame, block_codec::specs::Words::word_bytes))]
 pub fn covered_texts()
@@ -230,7 +232,8 @@ pub fn covered_texts()
     ensures loads { covered (7 ∷ 8 ∷ []) two_loads trial_block 0 1 ≡ 4 ∷ 0 ∷ 0 ∷ 0 ∷ 8 ∷ [] }
     ensures sizes { covered [] (cleared 0x2000_0000 0x0102_0304 ∷ []) trial_block 0 1
         ≡ 4 ∷ 3 ∷ 2 ∷ 1 ∷ [] }
-    ensures order { covered (5 ∷ 6 ∷ 7 ∷ 8 ∷ []) (stored 2 0 2 ∷ stored 0 0 1 ∷ []) trial_block 1 1
+    ensures order { covered (5 ∷ 6 ∷ 7 ∷ 8 ∷ [])
+        (stored 2 0 2 ∷ stored 0 0 1 ∷ []) trial_block 1 1
         ≡ 7 ∷ 8 ∷ 5 ∷ 0xd3 ∷ 0xde ∷ 0xff ∷ 0xff ∷ [] }
     ensures empty { covered [] [] trial_block 0 1 ≡ [] }
 {}

@@ -80,8 +80,8 @@ fn byte_at<V: View>(view: &V, loads: &[Load], base: u32, address: u64) -> Option
     Some(loaded_byte(view, &load, address))
 }
 
-/// The little-endian word at an address, in a window whose first byte is seen at the address `base`
-/// and whose load map was obeyed; None exactly where one of its bytes is not given.
+/// The little-endian word at an address, in a window whose first byte is seen at the address
+/// `base` and whose load map was obeyed; None exactly where one of its bytes is not given.
 #[tactic(auto, unfolding(block_codec::specs::Words::word_of))]
 pub fn loaded_word_at<V: View>(view: &V, loads: &Loads, base: u32, address: u32) -> Option<u32>
     requires stored { AreStoredIn (length (V.bytes view.now)) loads.now.items }

@@ -25,10 +25,11 @@ ghost use Rattle.load_map.specs.declared.setting.Setting.{Setting};
 
 use crate::load::MapFault;
 
-/// A LOAD_MAP item has as many entries as bits 0 to 6 of its fourth header byte say, of three words
-/// each, one behind the other.
+/// A LOAD_MAP item has as many entries as bits 0 to 6 of its fourth header byte say, of three
+/// words each, one behind the other.
 pub fn three_words_an_entry()
-    ensures count { (words : List ℕ) (item : Item) → length (entries_of words item) ≡ item.high % 128 }
+    ensures count { (words : List ℕ) (item : Item)
+        → length (entries_of words item) ≡ item.high % 128 }
     ensures words { (words : List ℕ) (item : Item) (i : ℕ) → i < item.high % 128
         → slice_get (entries_of words item) i ≡ Some (record {
           place = slice_index words (item.first + 1 + 3 * i);
@@ -37,11 +38,10 @@ pub fn three_words_an_entry()
         }) }
 {}
 
-/// What an entry loads. One whose first word is 0 is a clear entry of the size in its third word. A
-/// relative one is stored from the signed offset in its first word on, counted from the first byte
-/// of
-/// the LOAD_MAP item, and an absolute one between two addresses; it loads nothing where that range
-/// leaves the window, starts below its first address or ends before it starts.
+/// What an entry loads. One whose first word is 0 is a clear entry of the size in its third word.
+/// A relative one is stored from the signed offset in its first word on, counted from the first
+/// byte of the LOAD_MAP item, and an absolute one between two addresses; it loads nothing where
+/// that range leaves the window, starts below its first address or ends before it starts.
 pub fn what_an_entry_loads()
     ensures clear { (s : Setting) (absolute : Bool) (entry : Entry) → entry.place ≡ 0
         → load_of s absolute entry
@@ -58,12 +58,13 @@ pub fn what_an_entry_loads()
     ensures absolute { (s : Setting) (entry : Entry) → entry.place ≢ 0 → s.base ≤ entry.place
         → entry.place ≤ entry.extent → entry.extent ≤ s.base + s.len
         → load_of s true entry ≡ Some (record {
-          storage = Some (entry.place - s.base);
+          storage = Some
+              (entry.place - s.base);
           runtime = entry.runtime;
           size = entry.extent - entry.place;
         }) }
-    ensures outside { (s : Setting) (entry : Entry) → entry.place ≢ 0
-        → (entry.place < s.base) ⊎ (entry.extent < entry.place) ⊎ (s.base + s.len < entry.extent)
+    ensures outside { (s : Setting) (entry : Entry) → entry.place ≢ 0 → (entry.place < s.base)
+        ⊎ (entry.extent < entry.place) ⊎ (s.base + s.len < entry.extent)
         → load_of s true entry ≡ None }
 {}
 
@@ -84,53 +85,55 @@ pub fn what_covers_a_block()
 /// The faults of an entry: its storage is judged first, then its runtime address, then whether it
 /// covers the block.
 pub fn an_entrys_faults()
-    ensures storage { (s : Setting) (b : BlockView) (absolute : Bool) (before : List Entry) (entry : Entry)
-        → load_of s absolute entry ≡ None
+    ensures storage { (s : Setting) (b : BlockView) (absolute : Bool) (before : List Entry)
+        (entry : Entry) → load_of s absolute entry ≡ None
         → entry_fault s b absolute before entry ≡ Some (MapFault.Storage (length before)) }
-    ensures runtime { (s : Setting) (b : BlockView) (absolute : Bool) (before : List Entry) (entry : Entry)
-        (load : Load) → load_of s absolute entry ≡ Some load → is_runtime_right s load ≡ false
-        → entry_fault s b absolute before entry ≡ Some (MapFault.Runtime (length before)) }
-    ensures covers { (s : Setting) (b : BlockView) (absolute : Bool) (before : List Entry) (entry : Entry)
-        (load : Load) → load_of s absolute entry ≡ Some load → is_runtime_right s load ≡ true
-        → covers_block b load.storage load.size ≡ true
+    ensures runtime { (s : Setting) (b : BlockView) (absolute : Bool) (before : List Entry)
+        (entry : Entry) (load : Load) → load_of s absolute entry ≡ Some load
+        → is_runtime_right s load ≡ false → entry_fault s b absolute before entry
+        ≡ Some (MapFault.Runtime (length before)) }
+    ensures covers { (s : Setting) (b : BlockView) (absolute : Bool) (before : List Entry)
+        (entry : Entry) (load : Load) → load_of s absolute entry ≡ Some load
+        → is_runtime_right s load ≡ true → covers_block b load.storage load.size ≡ true
         → entry_fault s b absolute before entry ≡ Some (MapFault.CoversBlock (length before)) }
-    ensures none { (s : Setting) (b : BlockView) (absolute : Bool) (before : List Entry) (entry : Entry)
-        (load : Load) → load_of s absolute entry ≡ Some load → is_runtime_right s load ≡ true
-        → covers_block b load.storage load.size ≡ false
+    ensures none { (s : Setting) (b : BlockView) (absolute : Bool) (before : List Entry)
+        (entry : Entry) (load : Load) → load_of s absolute entry ≡ Some load
+        → is_runtime_right s load ≡ true → covers_block b load.storage load.size ≡ false
         → entry_fault s b absolute before entry ≡ None }
 {}
 
-/// A load map's fault is that of the first entry that has one; without a fault it gives the load of
-/// each entry, in order.
+/// A load map's fault is that of the first entry that has one; without a fault it gives the load
+/// of each entry, in order.
 pub fn the_first_fault()
-    ensures fault { (base n : ℕ) (in_place : Bool) (b : BlockView) (item : Item) (fault : MapFault)
-        → (loads_of base in_place n b item ≡ Err fault)
-        ↔ ((i : ℕ) × IsFirst (entry_fault (setting_of base in_place n b item) b (is_absolute item))
-        (entries_of (block_words b) item) i fault) }
-    ensures sound { (base n : ℕ) (in_place : Bool) (b : BlockView) (item : Item) (loads : List Load)
-        → loads_of base in_place n b item ≡ Ok loads
+    ensures fault { (base n : ℕ) (in_place : Bool) (b : BlockView) (item : Item)
+        (fault : MapFault) → (loads_of base in_place n b item ≡ Err fault)
+        ↔ ((i : ℕ) × IsFirst (entry_fault (setting_of base in_place n b item) b
+        (is_absolute item)) (entries_of (block_words b) item) i fault) }
+    ensures sound { (base n : ℕ) (in_place : Bool) (b : BlockView) (item : Item)
+        (loads : List Load) → loads_of base in_place n b item ≡ Ok loads
         → AreSound (entry_fault (setting_of base in_place n b item) b (is_absolute item))
         (entries_of (block_words b) item) (entry_count item) }
     ensures loads { (base n : ℕ) (in_place : Bool) (b : BlockView) (item : Item)
         → AreSound (entry_fault (setting_of base in_place n b item) b (is_absolute item))
         (entries_of (block_words b) item) (entry_count item)
-        → loads_of base in_place n b item
-        ≡ Ok (filter_map (load_of (setting_of base in_place n b item) (is_absolute item))
+        → loads_of base in_place n b item ≡ Ok
+        (filter_map (load_of (setting_of base in_place n b item) (is_absolute item))
         (entries_of (block_words b) item)) }
 {}
 
 /// The loads of a map without a fault, one for each entry, are stored in the window, share no byte
 /// with the map's block, and are used where they are stored or lie in SRAM as a whole.
 pub fn loads_without_a_fault()
-    ensures stored { (base n : ℕ) (in_place : Bool) (b : BlockView) (item : Item) (loads : List Load)
-        → loads_of base in_place n b item ≡ Ok loads → AreStoredIn n loads }
-    ensures clear { (base n : ℕ) (in_place : Bool) (b : BlockView) (item : Item) (loads : List Load)
-        → loads_of base in_place n b item ≡ Ok loads → AreClearOf b loads }
-    ensures right { (base n : ℕ) (in_place : Bool) (b : BlockView) (item : Item) (loads : List Load)
-        → loads_of base in_place n b item ≡ Ok loads
+    ensures stored { (base n : ℕ) (in_place : Bool) (b : BlockView) (item : Item)
+        (loads : List Load) → loads_of base in_place n b item ≡ Ok loads → AreStoredIn n loads }
+    ensures clear { (base n : ℕ) (in_place : Bool) (b : BlockView) (item : Item)
+        (loads : List Load) → loads_of base in_place n b item ≡ Ok loads → AreClearOf b loads }
+    ensures right { (base n : ℕ) (in_place : Bool) (b : BlockView) (item : Item)
+        (loads : List Load) → loads_of base in_place n b item ≡ Ok loads
         → AreRuntimeRight (setting_of base in_place n b item) loads }
-    ensures count { (base n : ℕ) (in_place : Bool) (b : BlockView) (item : Item) (loads : List Load)
-        → loads_of base in_place n b item ≡ Ok loads → length loads ≡ entry_count item }
+    ensures count { (base n : ℕ) (in_place : Bool) (b : BlockView) (item : Item)
+        (loads : List Load) → loads_of base in_place n b item ≡ Ok loads
+        → length loads ≡ entry_count item }
 {}
 
 /// A map without a fault has the same loads in a longer window.
@@ -141,48 +144,47 @@ pub fn a_longer_window_has_the_same_loads()
 {}
 
 /// Loads depend on the block's offset and size, the words of the map's entries and the length of
-/// the
-/// window alone; so the trial bit in the header of another item changes none.
+/// the window alone; so the trial bit in the header of another item changes none.
 pub fn what_loads_depend_on()
-    ensures entries { (base n : ℕ) (in_place : Bool) (b c : BlockView) (item : Item) → HaveSameEntries item b c
-        → loads_of base in_place n c item ≡ loads_of base in_place n b item }
-    ensures trial { (base n : ℕ) (in_place : Bool) (b c : BlockView) (i j : ℕ) (image map : Item) → i ≢ j
-        → slice_get (items_of b.items) i ≡ Some image → slice_get (items_of b.items) j ≡ Some map
-        → 1 ≤ image.words → is_load_map map ≡ true → SameButTrial image.first b c
-        → loads_of base in_place n c map ≡ loads_of base in_place n b map }
+    ensures entries { (base n : ℕ) (in_place : Bool) (b c : BlockView) (item : Item)
+        → HaveSameEntries item b c → loads_of base in_place n c item
+        ≡ loads_of base in_place n b item }
+    ensures trial { (base n : ℕ) (in_place : Bool) (b c : BlockView) (i j : ℕ) (image map : Item)
+        → i ≢ j → slice_get (items_of b.items) i ≡ Some image
+        → slice_get (items_of b.items) j ≡ Some map → 1 ≤ image.words → is_load_map map ≡ true
+        → SameButTrial image.first b c → loads_of base in_place n c map
+        ≡ loads_of base in_place n b map }
 {}
 
 /// The byte at an address is the window's where one is seen there; otherwise, in SRAM, it is given
-/// by
-/// the last load whose runtime range holds the address, as its storage byte, or 0 of a clear entry;
-/// otherwise it is not given.
+/// by the last load whose runtime range holds the address, as its storage byte, or 0 of a clear
+/// entry; otherwise it is not given.
 pub fn the_byte_at_an_address()
-    ensures window { (base : ℕ) (w : List ℕ) (loads : List Load) (a : ℕ) → base ≤ a → a < base + length w
-        → byte_at base w loads a ≡ Some (slice_index w (a - base)) }
+    ensures window { (base : ℕ) (w : List ℕ) (loads : List Load) (a : ℕ) → base ≤ a
+        → a < base + length w → byte_at base w loads a ≡ Some (slice_index w (a - base)) }
     ensures stored { (base : ℕ) (w : List ℕ) (loads : List Load) (a i x : ℕ) (load : Load)
         → (a < base) ⊎ (base + length w ≤ a) → SRAM_START ≤ a → a < SRAM_END
         → slice_get loads i ≡ Some load → load.runtime ≤ a → a < load.runtime + load.size
-        → ((j : ℕ) (later : Load) → i < j → slice_get loads j ≡ Some later → holds a later ≡ false)
-        → load.storage ≡ Some x
+        → ((j : ℕ) (later : Load) → i < j → slice_get loads j ≡ Some later
+        → holds a later ≡ false) → load.storage ≡ Some x
         → byte_at base w loads a ≡ Some (slice_index w (x + (a - load.runtime))) }
     ensures clear { (base : ℕ) (w : List ℕ) (loads : List Load) (a i : ℕ) (load : Load)
         → (a < base) ⊎ (base + length w ≤ a) → SRAM_START ≤ a → a < SRAM_END
         → slice_get loads i ≡ Some load → load.runtime ≤ a → a < load.runtime + load.size
-        → ((j : ℕ) (later : Load) → i < j → slice_get loads j ≡ Some later → holds a later ≡ false)
-        → load.storage ≡ None → byte_at base w loads a ≡ Some 0 }
-    ensures not_loaded { (base : ℕ) (w : List ℕ) (loads : List Load) (a : ℕ)
-        → (a < base) ⊎ (base + length w ≤ a)
-        → ((i : ℕ) (load : Load) → slice_get loads i ≡ Some load → holds a load ≡ false)
-        → byte_at base w loads a ≡ None }
-    ensures elsewhere { (base : ℕ) (w : List ℕ) (loads : List Load) (a : ℕ)
-        → (a < base) ⊎ (base + length w ≤ a) → (a < SRAM_START) ⊎ (SRAM_END ≤ a)
+        → ((j : ℕ) (later : Load) → i < j → slice_get loads j ≡ Some later
+        → holds a later ≡ false) → load.storage ≡ None → byte_at base w loads a ≡ Some 0 }
+    ensures not_loaded { (base : ℕ) (w : List ℕ) (loads : List Load) (a : ℕ) → (a < base)
+        ⊎ (base + length w ≤ a) → ((i : ℕ) (load : Load) → slice_get loads i ≡ Some load
+        → holds a load ≡ false) → byte_at base w loads a ≡ None }
+    ensures elsewhere { (base : ℕ) (w : List ℕ) (loads : List Load) (a : ℕ) → (a < base)
+        ⊎ (base + length w ≤ a) → (a < SRAM_START) ⊎ (SRAM_END ≤ a)
         → byte_at base w loads a ≡ None }
 {}
 
 /// A load's runtime range holds the addresses from its runtime address on, as many as its size.
 pub fn the_addresses_of_a_load()
-    ensures { (a : ℕ) (load : Load)
-        → (holds a load ≡ true) ↔ ((load.runtime ≤ a) × (a < load.runtime + load.size)) }
+    ensures { (a : ℕ) (load : Load) → (holds a load ≡ true)
+        ↔ ((load.runtime ≤ a) × (a < load.runtime + load.size)) }
 {}
 
 /// A word is given exactly where its four bytes are, the lowest first.
@@ -196,11 +198,11 @@ pub fn the_word_at_an_address()
 {}
 
 /// Given bytes depend on the window's byte at their place and on the bytes where the loads are
-/// stored
-/// alone.
+/// stored alone.
 pub fn what_given_bytes_depend_on()
     ensures byte { (base : ℕ) (w v : List ℕ) (loads : List Load) (a : ℕ) → AgreeOn loads w v
-        → (in_window base (length w) a ≡ true → slice_index v (a - base) ≡ slice_index w (a - base))
+        → (in_window base (length w) a ≡ true
+        → slice_index v (a - base) ≡ slice_index w (a - base))
         → byte_at base v loads a ≡ byte_at base w loads a }
     ensures word { (base : ℕ) (w v : List ℕ) (loads : List Load) (a : ℕ) → AgreeOn loads w v
         → ((k : ℕ) → k < 4 → in_window base (length w) (a + k) ≡ true
@@ -208,9 +210,9 @@ pub fn what_given_bytes_depend_on()
         → word_at base v loads a ≡ word_at base w loads a }
 {}
 
-/// The covered text is that of each load in order, and then that of the block's words, of which the
-/// IMAGE_TYPE word has its trial bit read as 0. The digest is the SHA-256 of that text, with the
-/// number of words and the place of the IMAGE_TYPE word of the definition.
+/// The covered text is that of each load in order, and then that of the block's words, of which
+/// the IMAGE_TYPE word has its trial bit read as 0. The digest is the SHA-256 of that text, with
+/// the number of words and the place of the IMAGE_TYPE word of the definition.
 pub fn the_covered_text()
     ensures load { (w : List ℕ) (load : Load) (loads : List Load) (b : BlockView) (n k : ℕ)
         → covered w (load ∷ loads) b n k ≡ covered_load w load ++ covered w loads b n k }
@@ -228,27 +230,28 @@ pub fn the_trial_bit_is_masked()
     ensures others { (words : List ℕ) (k j : ℕ) → j ≢ k
         → slice_index (masked_words words k) j ≡ slice_index words j }
     ensures count { (words : List ℕ) (k : ℕ) → length (masked_words words k) ≡ length words }
-    ensures behind { (words : List ℕ) (k n : ℕ) → n ≤ k → take n (masked_words words k) ≡ take n words }
+    ensures behind { (words : List ℕ) (k n : ℕ) → n ≤ k
+        → take n (masked_words words k) ≡ take n words }
 {}
 
 /// The covered bytes and their digest depend on the bytes where the loads are stored and on the
 /// block's words without the trial bit alone, wherever the IMAGE_TYPE word stands and however many
 /// words are hashed.
 pub fn what_covered_bytes_depend_on()
-    ensures text { (w v : List ℕ) (loads : List Load) (b c : BlockView) (n k : ℕ) → AgreeOn loads w v
-        → SameButTrial k b c → covered v loads c n k ≡ covered w loads b n k }
-    ensures digest { (w v : List ℕ) (loads : List Load) (b c : BlockView) (def other : Def) → AgreeOn loads w v
-        → SameButTrial def.image_word b c → other.hash_words ≡ def.hash_words
-        → other.image_word ≡ def.image_word
-        → covered_digest v c other loads ≡ covered_digest w b def loads }
+    ensures text { (w v : List ℕ) (loads : List Load) (b c : BlockView) (n k : ℕ)
+        → AgreeOn loads w v → SameButTrial k b c → covered v loads c n k ≡ covered w loads b n k }
+    ensures digest { (w v : List ℕ) (loads : List Load) (b c : BlockView) (def other : Def)
+        → AgreeOn loads w v → SameButTrial def.image_word b c → other.hash_words ≡ def.hash_words
+        → other.image_word ≡ def.image_word → covered_digest v c other loads
+        ≡ covered_digest w b def loads }
 {}
 
-/// Windows agree with themselves, and a block with a changed word is the same but for the trial bit
-/// where that word is the same without it.
+/// Windows agree with themselves, and a block with a changed word is the same but for the trial
+/// bit where that word is the same without it.
 pub fn a_changed_trial_bit()
     ensures window { (loads : List Load) (w : List ℕ) → AgreeOn loads w w }
     ensures block { (a u : ℕ) (b : BlockView) → a % 4 ≡ b.at % 4 → b.at + 4 ≤ a
-        → a < b.at + 4 + 4 * length b.items
-        → u % 2 ^ 31 ≡ slice_index (block_words b) ((a - b.at) / 4) % 2 ^ 31
+        → a < b.at + 4 + 4 * length b.items → u % 2 ^ 31
+        ≡ slice_index (block_words b) ((a - b.at) / 4) % 2 ^ 31
         → SameButTrial ((a - b.at) / 4) b (changed_block a u b) }
 {}

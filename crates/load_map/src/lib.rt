@@ -1,6 +1,5 @@
 //! Load maps: what an image's LOAD_MAP item has loaded into SRAM, the bytes that it gives there,
-//! and the bytes that the image's
-//! digest covers.
+//! and the bytes that the image's digest covers.
 #![tactic(auto)]
 
 mod addresses;
@@ -18,3 +17,6 @@ pub use digest::covered_digest;
 pub use given::{loaded_word, loaded_word_at};
 pub use load::{Load, Loads, MapFault};
 pub use reading::{read_map, read_map_at};
+
+#[cfg(test)]
+mod tests;

@@ -16,21 +16,18 @@ pub struct Load {
 }
 
 /// The entries of a load map, in order: at most 51, since a block has at most 156 item words, of
-/// which an
-/// entry has three beside the item's header.
+/// which an entry has three beside the item's header.
 pub type Loads = ArrayVec<Load, 51>;
 
 /// Why a load map is refused: the first rule that its first faulty entry breaks, with the entry's
-/// index. The rules are this
-/// project's own.
+/// index. The rules are this project's own.
 #[derive(Clone, Copy, Debug, PartialEq, Eq, Error)]
 pub enum MapFault {
     /// The entry's storage leaves the window, or ends before it starts.
     #[error("load map entry {0} is stored outside the window")]
     Storage(u32),
-    /// The entry's bytes are neither loaded into SRAM as a whole nor used where they are stored; of
-    /// an image that is to run where it
-    /// is stored, they are not used where they are stored.
+    /// The entry's bytes are neither loaded into SRAM as a whole nor used where they are stored;
+    /// of an image that is to run where it is stored, they are not used where they are stored.
     #[error("load map entry {0} is loaded to a wrong address")]
     Runtime(u32),
     /// The entry's storage shares a byte with the block that has the load map.

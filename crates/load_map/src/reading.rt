@@ -39,8 +39,7 @@ fn read_entries(setting: &Setting, block: &Block, item: &Item) -> Result<Loads, 
     requires of_block { Contains (items_of block.now.items) item.now }
     requires map { IsTrue (is_load_map item.now) }
     requires few { entry_count item.now ≤ 51 }
-    ensures { listed result
-        ≡ loads_or_fault setting.now block.now (is_absolute item.now)
+    ensures { listed result ≡ loads_or_fault setting.now block.now (is_absolute item.now)
         (entries_of (block_words block.now) item.now) }
 {
     let absolute = is_absolute(item);
