@@ -1,5 +1,6 @@
 ghost use Rattle.std.specs.Prelude.{◌≡◌, ◌≤◌, true, length};
 ghost use Rattle.load_map.specs.Loads.{IsMapAt, is_load_map};
+ghost use Rattle.load_map.specs.Stored.{AreStoredIn};
 
 use super::*;
 use arrayvec::ArrayVec;
@@ -7,7 +8,7 @@ use block_codec::{Block, Def, Item, Version, kinds, read_block, write_block};
 use pico_board::SliceView;
 use sector_pool::SectorPool;
 use sha2::{Digest, Sha256};
-use std::alloc::{AllocError, Global};
+use std::alloc::Global;
 use std::process::Abort;
 use std::test::Fail;
 
@@ -37,7 +38,9 @@ fn window(alloc: Global, items: &[u32]) -> Result<Vec<u8>, Fail> {
 
 /// The block at offset 0x100 of the window.
 fn block_in(window: &[u8]) -> Result<Block, Fail> {
-    let block = window.get(0x100..).and_then(|piece| read_block(piece, 0x100));
+    let block = window
+        .get(0x100..)
+        .and_then(|piece| read_block(piece, 0x100));
     Ok(block.ok_or("no block")?)
 }
 
@@ -64,8 +67,7 @@ fn def_of(hash_words: u32, image_word: u32) -> Def
 fn is_load_map(item: &Item) -> bool
     ensures { result ≡ is_load_map item.now }
 {
-    kinds::kind_of(item.kind) == kinds::LOAD_MAP
-        && item.words == 1 + 3 * u32::from(item.high % 128)
+    kinds::kind_of(item.kind) == kinds::LOAD_MAP && item.words == 1 + 3 * u32::from(item.high % 128)
 }
 
 /// Whether the block has a load map as its second item.
@@ -127,7 +129,14 @@ fn reads_the_loads_of_a_map(rt: HostRuntime) -> Result<(), Fail> {
     ];
     assert_eq!(rt; loads.len(), 5);
     for (load, (storage, runtime, size)) in loads.as_slice().iter().zip(expected) {
-        assert_eq!(rt; *load, Load { storage, runtime, size });
+        assert_eq!(rt;
+            *load,
+            Load {
+                storage,
+                runtime,
+                size
+            }
+        );
     }
     Ok(())
 }
@@ -137,8 +146,14 @@ fn tells_the_first_fault(rt: HostRuntime) -> Result<(), Fail> {
     let bytes = window(rt.alloc(), &ITEMS)?;
     let block = block_in(bytes.as_slice())?;
     assert!(rt; has_map(&block));
-    assert_eq!(rt; read_map(&block, 1, 0x3fff).err(), Some(MapFault::Storage(2)));
-    assert_eq!(rt; read_map(&block, 1, 0x1000).err(), Some(MapFault::Storage(1)));
+    assert_eq!(rt;
+        read_map(&block, 1, 0x3fff).err(),
+        Some(MapFault::Storage(2))
+    );
+    assert_eq!(rt;
+        read_map(&block, 1, 0x1000).err(),
+        Some(MapFault::Storage(1))
+    );
     let in_ram = read_map_at(&block, 1, 0x4000, 0x20000000, true);
     assert_eq!(rt; in_ram.err(), Some(MapFault::Runtime(0)));
     let in_sram = read_map_at(&block, 1, 0x4000, 0x20000000, false).map_err(|_| "a fault")?;
@@ -169,36 +184,73 @@ fn gives_words_of_the_window_and_of_loads(rt: HostRuntime) -> Result<(), Fail> {
         let base = 0x10000000;
         assert_eq!(rt; loaded_word_at(&view, &loads, base, address), word);
     }
-    assert_eq!(rt; loaded_word_at(&view, &loads, 0x20000000, 0x20000000), Some(0x03020100));
+    assert_eq!(rt;
+        loaded_word_at(&view, &loads, 0x20000000, 0x20000000),
+        Some(0x03020100)
+    );
     Ok(())
+}
+
+/// The digest of what is covered, by the call and by the whole text.
+fn both_digests(
+    rt: &impl Abort,
+    alloc: Global,
+    window: &[u8],
+    pool: &mut SectorPool,
+    block: &Block,
+    def: &Def,
+    loads: &Loads,
+) -> Result<([u8; 32], [u8; 32]), Fail>
+    requires short { length window.now ≤ 16777216 }
+    requires stored { AreStoredIn (length window.now) loads.now.items }
+{
+    assert!(rt; def.hash_words <= block.size() / 4);
+    assert!(rt; pool.free() == 1);
+    let digest = covered_digest(&view_of(window), pool, block, def, loads);
+    let text = whole_text(alloc, window, block, def, loads)?;
+    Ok((digest, Sha256::digest(text.as_slice())))
 }
 
 #[test]
 fn the_digest_is_that_of_the_whole_text(rt: HostRuntime) -> Result<(), Fail> {
     let bytes = window(rt.alloc(), &ITEMS)?;
-    let block = block_in(bytes.as_slice())?;
+    let window = bytes.as_slice();
+    let block = block_in(window)?;
     assert!(rt; has_map(&block));
-    assert!(rt; bytes.len() == 0x4000);
-    let view = view_of(bytes.as_slice());
+    assert!(rt; window.len() == 0x4000);
     let loads = read_map(&block, 1, 0x4000).map_err(|_| "a fault")?;
-    let none = Loads::new();
     let mut pool = SectorPool::make(rt.alloc(), 1)?;
-    for (hash_words, image_word, maps, first) in [
-        (21, 1, true, [0xa1, 0xfe, 0xae, 0x40]),
-        (3, 1, true, [0x3d, 0x90, 0x50, 0x77]),
-        (3, 5, true, [0x8c, 0x3e, 0x4d, 0xf2]),
-        (0, 1, true, [0x4a, 0x33, 0x99, 0x13]),
-        (3, 1, false, [0x48, 0x29, 0x67, 0x0e]),
+    for (hash_words, image_word, first) in [
+        (21, 1, [0xa1, 0xfe, 0xae, 0x40]),
+        (3, 1, [0x3d, 0x90, 0x50, 0x77]),
+        (3, 5, [0x8c, 0x3e, 0x4d, 0xf2]),
+        (0, 1, [0x4a, 0x33, 0x99, 0x13]),
     ] {
         let def = def_of(hash_words, image_word);
-        let loads = if maps { &loads } else { &none };
-        assert!(rt; hash_words <= block.size() / 4);
-        assert!(rt; pool.free() == 1);
-        let digest = covered_digest(&view, &mut pool, &block, &def, loads);
+        let (digest, whole) = both_digests(
+            &rt,
+            rt.alloc(),
+            window,
+            &mut pool,
+            &block,
+            &def,
+            &loads,
+        )?;
         assert_eq!(rt; &digest[..4], first.as_slice());
-        let text = whole_text(rt.alloc(), bytes.as_slice(), &block, &def, loads)?;
-        assert_eq!(rt; digest, Sha256::digest(text.as_slice()));
+        assert_eq!(rt; digest, whole);
     }
+    let def = def_of(3, 1);
+    let (digest, whole) = both_digests(
+        &rt,
+        rt.alloc(),
+        window,
+        &mut pool,
+        &block,
+        &def,
+        &Loads::new(),
+    )?;
+    assert_eq!(rt; &digest[..4], [0x48, 0x29, 0x67, 0x0e].as_slice());
+    assert_eq!(rt; digest, whole);
     assert_eq!(rt; pool.free(), 1);
     Ok(())
 }
