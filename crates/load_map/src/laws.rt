@@ -255,3 +255,19 @@ pub fn a_changed_trial_bit()
         ≡ slice_index (block_words b) ((a - b.at) / 4) % 2 ^ 31
         → SameButTrial ((a - b.at) / 4) b (changed_block a u b) }
 {}
+
+/// A window with more bytes behind it covers the same bytes; and where it ends below SRAM, as in
+/// flash, each byte and each word that was given is given as it was.
+pub fn a_longer_window_gives_and_covers_the_same()
+    ensures text { (w f : List ℕ) (loads : List Load) (b : BlockView) (n k : ℕ)
+        → AreStoredIn (length w) loads → covered (w ++ f) loads b n k ≡ covered w loads b n k }
+    ensures digest { (w f : List ℕ) (loads : List Load) (b : BlockView) (def : Def)
+        → AreStoredIn (length w) loads
+        → covered_digest (w ++ f) b def loads ≡ covered_digest w b def loads }
+    ensures byte { (base : ℕ) (w f : List ℕ) (loads : List Load) (a x : ℕ)
+        → AreStoredIn (length w) loads → base + length (w ++ f) ≤ SRAM_START
+        → byte_at base w loads a ≡ Some x → byte_at base (w ++ f) loads a ≡ Some x }
+    ensures word { (base : ℕ) (w f : List ℕ) (loads : List Load) (a x : ℕ)
+        → AreStoredIn (length w) loads → base + length (w ++ f) ≤ SRAM_START
+        → word_at base w loads a ≡ Some x → word_at base (w ++ f) loads a ≡ Some x }
+{}
