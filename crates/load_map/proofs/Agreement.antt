@@ -1,15 +1,17 @@
 -- The bytes that loads give, and the covered bytes, depend on the stored bytes and on those of the window's own places
 -- alone.
-use Rattle.std.proofs.Common.{◌≡◌, ℕ, ◌+◌, ◌-◌, ◌<◌, ◌≤◌, Bool, true, false, List, [], ◌∷◌, length, arith, refl, ap, subst, cond}
-use Rattle.std.specs.Prelude.{Option, None, Some, find, reverse, slice_index}
+use Rattle.std.proofs.Common.{◌≡◌, zero, suc, ◌⊎◌, sym, subst, ◌∙◌, inl, inr, ◌≤◌, ℕ, ◌+◌, ◌-◌, ◌<◌, Bool, true, false, List, [], ◌∷◌, length, arith, refl, ap, cond}
+use Rattle.std.specs.Prelude.{Contains, ◌≢◌, slice_set, Option, None, Some, find, reverse, slice_index}
 use Rattle.std.specs.List.{flat_map}
 use Rattle.std.specs.Option.{option_map}
 use Rattle.std.proofs.lemmas.Bool.Decides.{nat_tests}
+use Rattle.std.proofs.lemmas.List.{length-set, get_or-set_other}
+use Rattle.std.proofs.lemmas.Option.{none-some, same_Some}
 use Rattle.pico_board.proofs.Confinement.{slice_range_ext}
 use Rattle.block_codec.specs.Blocks.{BlockView}
 use Rattle.block_codec.specs.declared.definition.Def.{Def}
 use Rattle.load_map.specs.Addresses.{is_sram}
-use Rattle.load_map.specs.Agree.{AgreeOn, SameButTrial}
+use Rattle.load_map.specs.Agree.{AgreeOn, IsStoredAt, SameButTrial}
 use Rattle.load_map.specs.Covered.{covered, covered_digest, covered_load, covered_piece}
 use Rattle.load_map.specs.Given.{byte_at, holds, in_window, loaded_byte, stored_byte, word_at}
 use Rattle.load_map.specs.declared.load.Load.{Load}
@@ -98,3 +100,30 @@ same-word base w v loads address agree here =
     let three = same-byte base w v loads (address + 2) agree (here 2 (omega arith)) in
     let four = same-byte base w v loads (address + 3) agree (here 3 (omega arith)) in
     rw (one, two, three, four) refl
+
+-- a byte where the load is not stored may differ
+set-apart : (w : List ℕ) (load : Load) (i x : ℕ) → ((k : ℕ) → IsStoredAt load k → k ≢ i)
+    → AgreeOn (load ∷ []) w (slice_set w i x)
+set-apart w load i x apart = record {
+  long = length-set w i x;
+  same = λ other k within stored. get_or-set_other w i k x 0
+      (apart k (subst (λ l. IsStoredAt l k) (sym (single other within)) stored));
+}
+  where
+    single : (other : Load) → Contains (load ∷ []) other → load ≡ other
+    single other (zero, lt, is) = is
+    single other (suc k, lt, is) = absurd (omega (arith, lt))
+
+pub AgreeOn-set : (w : List ℕ) (load : Load) (start i x : ℕ) → load.storage ≡ Some start → (i < start)
+    ⊎ (start + load.size ≤ i) → AgreeOn (load ∷ []) w (slice_set w i x)
+AgreeOn-set w load start i x is apart = set-apart w load i x (λ k stored same. elsewhere k stored same apart)
+  where
+    elsewhere : (k : ℕ) → IsStoredAt load k → k ≡ i → (i < start) ⊎ (start + load.size ≤ i) → ⊥
+    elsewhere k (first, at, from, to) same (inl before) =
+        let begins : first ≡ start = same_Some first start (sym at ∙ is) in omega (arith, begins, from, same, before)
+    elsewhere k (first, at, from, to) same (inr behind) =
+        let begins : first ≡ start = same_Some first start (sym at ∙ is) in omega (arith, begins, to, same, behind)
+
+pub AgreeOn-clear : (w : List ℕ) (load : Load) (i x : ℕ) → load.storage ≡ None
+    → AgreeOn (load ∷ []) w (slice_set w i x)
+AgreeOn-clear w load i x clear = set-apart w load i x (λ k stored same. none-some stored.0 (sym clear ∙ stored.1))

@@ -1,6 +1,6 @@
 -- The loads depend on the offset, the size and the entries' words of the block alone; a trial bit is none of these,
 -- and is not covered.
-use Rattle.std.proofs.Common.{◌≡◌, ◌≢◌, ℕ, zero, suc, ◌+◌, ◌-◌, ◌*◌, ◌/◌, ◌%◌, ◌<◌, ◌≤◌, Bool, true, false, List, [], ◌∷◌, ◌++◌, length, take, get_or, set, arith, refl, sym, ap, subst, ◌∙◌, inl, inr}
+use Rattle.std.proofs.Common.{◌≡◌, ◌≢◌, ℕ, zero, suc, ◌+◌, ◌-◌, ◌*◌, ◌/◌, ◌%◌, ◌<◌, ◌≤◌, Bool, true, false, List, [], ◌∷◌, ◌++◌, length, take, get_or, set, arith, refl, sym, ap, subst, ◌∙◌, inl, inr, ◌⊎◌}
 use Rattle.std.specs.Prelude.{◌&&◌, ◌==◌, Option, None, Some, slice_index, slice_set, slice_get}
 use Rattle.std.proofs.lemmas.List.{length-set, set-set, get_or-set_same, get_or-set_other}
 use Rattle.std.proofs.lemmas.Bool.{cases_lt}
@@ -11,9 +11,14 @@ use Rattle.block_codec.specs.declared.items.Item.{Item}
 use Rattle.block_codec.proofs.FrameLemmas.{eqb_true, length-frame}
 use Rattle.block_codec.proofs.HighByteLemmas.{frame-set_item, changed_item}
 use Rattle.block_codec.specs.HighByte.{changed_block}
+use Rattle.block_codec.specs.Kinds.{first_spelling, is_of_kind}
+use Rattle.block_codec.specs.declared.kinds.TheConstants.{LOAD_MAP}
+use Rattle.std.proofs.lemmas.Grind.{common_steps}
+use Rattle.std.proofs.lemmas.Bool.Decides.{nat_tests}
+use Rattle.load_map.proofs.Entries.{IsMapAt-from}
 use Rattle.load_map.specs.Agree.{HaveSameEntries, SameButTrial}
 use Rattle.load_map.specs.Covered.{masked_words, without_trial}
-use Rattle.load_map.specs.Loads.{is_load_map, entries_from, entries_of, entry_count, is_absolute}
+use Rattle.load_map.specs.Loads.{IsMapAt, is_load_map, entries_from, entries_of, entry_count, is_absolute}
 use Rattle.block_codec.specs.FirstFault.{first_from}
 use Rattle.load_map.specs.Reading.{loads_of, loads_or_fault, setting_of, entry_fault, load_fault, load_of, covers_block}
 use Rattle.load_map.specs.declared.load.Load.{Load}
@@ -60,7 +65,8 @@ SameButTrial-set b k u lt bit = record {
       let long = length-frame b.items b.link in
       let changed : set words (suc k) u ≡ block_words
       (record { at = b.at; items = slice_set b.items k u; link = b.link }) = frame-set_item b.items b.link k u lt in
-      let new : get_or (set words (suc k) u) (suc k) 0 ≡ u = get_or-set_same words (suc k) u 0 (omega (arith, long, lt))
+      let new : get_or (set words (suc k) u) (suc k) 0 ≡ u = get_or-set_same words (suc k) u 0
+      (omega (arith, long, lt))
       in
       subst (λ ws. masked_words ws (suc k) ≡ masked_words words (suc k)) changed
       (rw new (set-set words (suc k) u (without_trial u) ∙ ap (λ x. set words (suc k) x) bit));
@@ -175,6 +181,51 @@ and-right : (x y : Bool) → (x && y) ≡ true → y ≡ true
 and-right true y is = is
 and-right false y is = cc
 
+and-left : (x y : Bool) → (x && y) ≡ true → x ≡ true
+and-left true y is = refl
+and-left false y is = cc
+
 -- a LOAD_MAP item has three words for each entry
 pub map-words : (map : Item) → is_load_map map ≡ true → map.words ≡ 1 + 3 * entry_count map
 map-words map is = eqb_true map.words (1 + 3 * entry_count map) (and-right _ (map.words == 1 + 3 * entry_count map) is)
+
+-- a word that is none of the entries' may differ
+pub HaveSameEntries-set : (b : BlockView) (item : Item) (k u : ℕ) → k < length b.items → (k + 1 ≤ item.first)
+    ⊎ (item.first + 3 * entry_count item < k + 1)
+    → HaveSameEntries item b (record { at = b.at; items = slice_set b.items k u; link = b.link })
+HaveSameEntries-set b item k u lt apart = record {
+  at = refl;
+  size = length-set b.items k u;
+  words = λ j from to.
+      subst (λ ws. slice_index ws j ≡ slice_index (block_words b) j) (frame-set_item b.items b.link k u lt)
+      (get_or-set_other (block_words b) (suc k) j u 0 (λ same. elsewhere j from to same apart));
+}
+  where
+    elsewhere : (j : ℕ) → item.first < j → j ≤ item.first + 3 * entry_count item → j ≡ suc k → (k + 1 ≤ item.first)
+        ⊎ (item.first + 3 * entry_count item < k + 1) → ⊥
+    elsewhere j from to same (inl before) = omega (arith, from, same, before)
+    elsewhere j from to same (inr behind) = omega (arith, to, same, behind)
+
+spelled : (kind : ℕ) → (first_spelling kind == LOAD_MAP) ≡ true → (kind ≡ 0x06) ⊎ (kind ≡ 0x86)
+spelled kind is = grind (arith, common_steps, nat_tests)
+
+load-map-parts : (item : Item) → is_load_map item ≡ true
+    → ((item.kind ≡ 0x06) ⊎ (item.kind ≡ 0x86)) × (item.words ≡ 1 + 3 * (item.high % 128))
+load-map-parts item is = (
+  spelled item.kind
+      (and-left (is_of_kind LOAD_MAP item) (item.words == 1 + 3 * entry_count item) is),
+  map-words item is,
+)
+
+-- where a load map stands
+pub map-parts : (b : BlockView) (k : ℕ) (item : Item) → slice_get (items_of b.items) k ≡ Some item → IsMapAt b k
+    → ((item.kind ≡ 0x06) ⊎ (item.kind ≡ 0x86)) × (item.words ≡ 1 + 3 * (item.high % 128))
+map-parts b k item at is = load-map-parts item (rw at at is)
+
+kind-spelled : (item : Item) → (item.kind ≡ 0x06) ⊎ (item.kind ≡ 0x86) → is_of_kind LOAD_MAP item ≡ true
+kind-spelled item (inl short) = rw short refl
+kind-spelled item (inr long) = rw long refl
+
+pub map-from-parts : (b : BlockView) (k : ℕ) (item : Item) → slice_get (items_of b.items) k ≡ Some item
+    → ((item.kind ≡ 0x06) ⊎ (item.kind ≡ 0x86)) × (item.words ≡ 1 + 3 * (item.high % 128)) → IsMapAt b k
+map-from-parts b k item at (kind, size) = IsMapAt-from b k item at (kind-spelled item kind) size

@@ -2,7 +2,7 @@
 use Rattle.std.proofs.Common.{◌≡◌, ◌≢◌, ◌⊎◌, ℕ, ◌+◌, ◌-◌, ◌<◌, ◌≤◌, Bool, true, false, List, length, arith, refl, sym, ap, ◌∙◌, inl, inr, cond}
 use Rattle.std.specs.Prelude.{pos, negsuc, ◌+ℤ◌, ◌&&◌, ◌||◌, not, min, max, nat_le, Option, None, Some, Ok, Err, filter_map}
 use Rattle.std.specs.Int.{cast_signed, w32}
-use Rattle.std.proofs.lemmas.Bool.{ne_eqb, le-leb, lt-ltb}
+use Rattle.std.proofs.lemmas.Bool.{false_from_ne_true, ne_eqb, le-leb, lt-ltb}
 use Rattle.std.proofs.lemmas.Bool.Decides.{nat_tests}
 use Rattle.std.proofs.lemmas.Option.{none-some, same_Some}
 use Rattle.block_codec.specs.Blocks.{BlockView, block_size}
@@ -17,7 +17,8 @@ use Rattle.load_map.specs.declared.load.MapFault.{MapFault}
 use Rattle.load_map.specs.declared.load.MapFault.TheVariants.{Storage, Runtime, CoversBlock}
 use Rattle.load_map.specs.declared.setting.Setting.{Setting}
 use Rattle.load_map.specs.declared.addresses.TheConstants.{SRAM_START, SRAM_END}
-use Rattle.load_map.proofs.SoundLoads.{ok_unless-Ok}
+use Rattle.load_map.specs.Stored.{IsClearOf}
+use Rattle.load_map.proofs.SoundLoads.{clear-of, ok_unless-Ok}
 
 ok_unless-Err : {A : Type 0} (fault : Option MapFault) (value : A) (given : MapFault)
     → ok_unless fault value ≡ Err given → fault ≡ Some given
@@ -136,6 +137,16 @@ shared-byte b x size covers =
 pub covering-byte : (b : BlockView) (x size k : ℕ) → IsShared b x size k → covers_block b (Some x) size ≡ true
 covering-byte b x size k (from, to, after, before) =
     lt-ltb (max x b.at) (min (x + size) (b.at + block_size b)) (omega (arith, from, to, after, before))
+
+-- a storage without a byte in common with the block is clear of it
+pub apart-clear : (b : BlockView) (x size : ℕ) → ((k : ℕ) → IsShared b x size k → ⊥) → IsClearOf b (Some x) size
+apart-clear b x size apart = clear-of b (Some x) size (false_from_ne_true (covers_block b (Some x) size)
+    (λ covers. let shared = shared-byte b x size covers in apart shared.0 shared.1))
+
+pub clear-apart : (b : BlockView) (x size : ℕ) → IsClearOf b (Some x) size → (k : ℕ) → IsShared b x size k → ⊥
+clear-apart b x size (inl empty) k (from, to, after, before) = omega (arith, empty, from, to)
+clear-apart b x size (inr (inl ahead)) k (from, to, after, before) = omega (arith, ahead, to, after)
+clear-apart b x size (inr (inr behind)) k (from, to, after, before) = omega (arith, behind, from, before)
 
 -- the faults of one entry, in their order
 pub fault-storage : (s : Setting) (b : BlockView) (absolute : Bool) (before : List Entry) (entry : Entry)

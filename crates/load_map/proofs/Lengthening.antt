@@ -1,6 +1,6 @@
 -- A window with more bytes behind it gives and covers the same bytes.
-use Rattle.std.proofs.Common.{◌≡◌, ◌⊎◌, ℕ, ◌+◌, ◌-◌, ◌<◌, ◌≤◌, Bool, true, false, List, [], ◌∷◌, ◌++◌, length, take, drop, arith, refl, sym, ap, subst, ◌∙◌, inl, inr, cond}
-use Rattle.std.specs.Prelude.{Option, None, Some, find, reverse, slice_index, slice_range, nat_le, nat_lt, ◌&&◌}
+use Rattle.std.proofs.Common.{◌≡◌, ℕ, ◌+◌, ◌-◌, ◌<◌, ◌≤◌, Bool, true, false, List, [], ◌∷◌, ◌++◌, length, drop, arith, refl, ap, ◌∙◌, cond}
+use Rattle.std.specs.Prelude.{Option, None, Some, find, reverse, slice_index, slice_range}
 use Rattle.std.specs.List.{flat_map}
 use Rattle.std.specs.Option.{option_map}
 use Rattle.std.proofs.lemmas.Bool.{le-leb, lt-ltb}
@@ -14,12 +14,13 @@ use Rattle.load_map.specs.Addresses.{is_sram}
 use Rattle.load_map.specs.Covered.{covered, covered_digest, covered_load, covered_piece}
 use Rattle.load_map.specs.Given.{byte_at, holds, in_window, loaded_byte, stored_byte, word_at, word_if_given}
 use Rattle.load_map.specs.Stored.{AreStoredIn, IsStoredIn}
-use Rattle.load_map.specs.declared.addresses.TheConstants.{SRAM_START, SRAM_END}
+use Rattle.load_map.specs.declared.addresses.TheConstants.{SRAM_START}
 use Rattle.load_map.specs.declared.load.Load.{Load}
 use Rattle.load_map.proofs.LastLoad.{last-in}
 use Rattle.load_map.proofs.GivenLaws.{holds-range}
 
-range-longer : (w f : List ℕ) (x size : ℕ) → x + size ≤ length w → slice_range (w ++ f) x (x + size) ≡ slice_range w x (x + size)
+range-longer : (w f : List ℕ) (x size : ℕ) → x + size ≤ length w
+    → slice_range (w ++ f) x (x + size) ≡ slice_range w x (x + size)
 range-longer w f x size within =
     rw (drop-append-le x w f (omega (arith, within)))
     (take-append-le (x + size - x) (drop x w) f (let long = length-drop x w in omega (arith, within, long)))
@@ -70,7 +71,8 @@ last-longer w f loads a x stored (Some load) found is =
     let range = (holds-range a load).0 held.0 in
     let here = All-contains (λ (l : Load). IsStoredIn (length w) l.storage l.size) loads load
     (All-from_recursion (λ (l : Load). IsStoredIn (length w) l.storage l.size) loads stored) held.1 in
-    ap (λ y. Some y) (stored-longer w f load.storage load.size (a - load.runtime) here (omega (arith, range.0, range.1)))
+    ap (λ y. Some y) (stored-longer w f load.storage load.size (a - load.runtime) here
+    (omega (arith, range.0, range.1)))
     ∙ is
 
 -- what SRAM gives behind a window that ends below it
@@ -95,7 +97,8 @@ byte-longer base w f loads a x stored below = by_window (in_window base (length 
     by_window true inside is = window-longer base w f loads a x inside (same_Some (slice_index w (a - base)) x is)
     by_window false outside is = sram-longer base w f loads a x stored below (is_sram a) refl is
 
-word-from : (a b c d e g h i : Option ℕ) (x : ℕ) → ((y : ℕ) → a ≡ Some y → e ≡ Some y) → ((y : ℕ) → b ≡ Some y → g ≡ Some y)
+word-from : (a b c d e g h i : Option ℕ) (x : ℕ) → ((y : ℕ) → a ≡ Some y → e ≡ Some y)
+    → ((y : ℕ) → b ≡ Some y → g ≡ Some y)
     → ((y : ℕ) → c ≡ Some y → h ≡ Some y) → ((y : ℕ) → d ≡ Some y → i ≡ Some y)
     → word_if_given a b c d ≡ Some x → word_if_given e g h i ≡ Some x
 word-from None b c d e g h i x one two three four is = absurd (none-some x is)
@@ -111,6 +114,7 @@ word-longer base w f loads a x stored below is =
     word-from (byte_at base w loads a) (byte_at base w loads (a + 1)) (byte_at base w loads (a + 2))
     (byte_at base w loads (a + 3)) (byte_at base (w ++ f) loads a) (byte_at base (w ++ f) loads (a + 1))
     (byte_at base (w ++ f) loads (a + 2)) (byte_at base (w ++ f) loads (a + 3)) x
-    (λ y at. byte-longer base w f loads a y stored below at) (λ y at. byte-longer base w f loads (a + 1) y stored below at)
+    (λ y at. byte-longer base w f loads a y stored below at)
+    (λ y at. byte-longer base w f loads (a + 1) y stored below at)
     (λ y at. byte-longer base w f loads (a + 2) y stored below at)
     (λ y at. byte-longer base w f loads (a + 3) y stored below at) is

@@ -1,6 +1,6 @@
 //! Laws of load maps, each the contract of a function without a body.
 
-ghost use Rattle.std.specs.Prelude.{◌≡◌, ◌≢◌, ◌↔◌, ◌⊎◌, ℕ, pos, negsuc, ◌+ℤ◌, ◌+◌, ◌-◌, ◌*◌, ◌/◌, ◌%◌, ◌^◌, ◌<◌, ◌≤◌, ◌++◌, ◌∷◌, [], Bool, false, true, List, length, take, filter_map, slice_get, slice_index, Ok, Err, Some, None};
+ghost use Rattle.std.specs.Prelude.{◌≡◌, ◌≢◌, ◌↔◌, ◌⊎◌, ℕ, pos, negsuc, ◌+ℤ◌, ◌+◌, ◌-◌, ◌*◌, ◌/◌, ◌%◌, ◌^◌, ◌<◌, ◌≤◌, ◌++◌, ◌∷◌, [], Bool, false, true, List, length, take, filter_map, slice_get, slice_index, slice_set, Ok, Err, Some, None};
 ghost use Rattle.std.specs.Int.{cast_signed, w32};
 ghost use Rattle.sha2.specs.Sha256.{sha256};
 ghost use Rattle.block_codec.specs.Blocks.{BlockView, block_words};
@@ -15,9 +15,9 @@ ghost use Rattle.load_map.specs.Agree.{AgreeOn, HaveSameEntries, SameButTrial};
 ghost use Rattle.load_map.specs.Covered.{covered, covered_digest, covered_load, masked_words};
 ghost use Rattle.load_map.specs.Faults.{IsLoadedToSram, IsShared, IsUsedInPlace};
 ghost use Rattle.load_map.specs.Given.{byte_at, holds, in_window, word_at};
-ghost use Rattle.load_map.specs.Loads.{entries_of, entry_count, is_absolute, is_load_map};
+ghost use Rattle.load_map.specs.Loads.{IsMapAt, entries_of, entry_count, is_absolute, is_load_map};
 ghost use Rattle.load_map.specs.Reading.{covers_block, entry_fault, is_runtime_right, load_of, loads_of, setting_of};
-ghost use Rattle.load_map.specs.Stored.{AreClearOf, AreRuntimeRight, AreStoredIn};
+ghost use Rattle.load_map.specs.Stored.{AreClearOf, AreRuntimeRight, AreStoredIn, IsClearOf, IsStoredIn};
 ghost use Rattle.load_map.specs.declared.addresses.TheConstants.{SRAM_END, SRAM_START};
 ghost use Rattle.load_map.specs.declared.entry.Entry.{Entry};
 ghost use Rattle.load_map.specs.declared.load.Load.{Load};
@@ -36,6 +36,14 @@ pub fn three_words_an_entry()
           runtime = slice_index words (item.first + 1 + 3 * i + 1);
           extent = slice_index words (item.first + 1 + 3 * i + 2);
         }) }
+{}
+
+/// A LOAD_MAP item has either spelling of its type byte, and three words for each entry behind its
+/// header.
+pub fn a_load_map_item()
+    ensures { (b : BlockView) (k : ℕ) (item : Item) → slice_get (items_of b.items) k ≡ Some item
+        → IsMapAt b k
+        ↔ (((item.kind ≡ 0x06) ⊎ (item.kind ≡ 0x86)) × (item.words ≡ 1 + 3 * (item.high % 128))) }
 {}
 
 /// What an entry loads. One whose first word is 0 is a clear entry of the size in its third word.
@@ -134,6 +142,15 @@ pub fn loads_without_a_fault()
     ensures count { (base n : ℕ) (in_place : Bool) (b : BlockView) (item : Item)
         (loads : List Load) → loads_of base in_place n b item ≡ Ok loads
         → length loads ≡ entry_count item }
+{}
+
+/// A storage lies in a window where it ends in it, and is clear of a block where they have no byte
+/// in common; a clear entry has no storage.
+pub fn where_storages_lie()
+    ensures inside { (n x size : ℕ) → IsStoredIn n (Some x) size ↔ (x + size ≤ n) }
+    ensures apart { (b : BlockView) (x size : ℕ)
+        → IsClearOf b (Some x) size ↔ ((k : ℕ) → IsShared b x size k → ⊥) }
+    ensures clear { (b : BlockView) (n size : ℕ) → IsStoredIn n None size × IsClearOf b None size }
 {}
 
 /// A map without a fault has the same loads in a longer window.
@@ -270,4 +287,17 @@ pub fn a_longer_window_gives_and_covers_the_same()
     ensures word { (base : ℕ) (w f : List ℕ) (loads : List Load) (a x : ℕ)
         → AreStoredIn (length w) loads → base + length (w ++ f) ≤ SRAM_START
         → word_at base w loads a ≡ Some x → word_at base (w ++ f) loads a ≡ Some x }
+{}
+
+/// Windows agree on loads though a byte differs where none of them is stored, and blocks have the
+/// same entries though a word differs that is none of theirs.
+pub fn what_agreement_leaves_out()
+    ensures byte { (w : List ℕ) (load : Load) (start i x : ℕ) → load.storage ≡ Some start
+        → (i < start) ⊎ (start + load.size ≤ i) → AgreeOn (load ∷ []) w (slice_set w i x) }
+    ensures clear { (w : List ℕ) (load : Load) (i x : ℕ) → load.storage ≡ None
+        → AgreeOn (load ∷ []) w (slice_set w i x) }
+    ensures word { (b : BlockView) (item : Item) (k u : ℕ) → k < length b.items
+        → (k + 1 ≤ item.first) ⊎ (item.first + 3 * entry_count item < k + 1)
+        → HaveSameEntries item b
+        (record { at = b.at; items = slice_set b.items k u; link = b.link }) }
 {}
