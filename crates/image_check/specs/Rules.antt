@@ -16,8 +16,7 @@ use Rattle.image_def.specs.Suits.{has_image_type, last_suiting}
 use Rattle.image_def.specs.Definition.{def_of}
 use Rattle.load_map.specs.declared.load.Load.{Load}
 use Rattle.load_map.specs.Reading.{loads_of}
-use Rattle.load_map.specs.Covered.{covered}
-use Rattle.sha2.specs.Sha256.{sha256}
+use Rattle.load_map.specs.Covered.{covered_digest}
 use Rattle.otp_roll.specs.Rows.{count}
 use Rattle.otp_roll.specs.Flags.{rollback_required}
 use Rattle.image_check.specs.declared.why.Why.{Why}
@@ -68,10 +67,6 @@ map_answer base in_place size b def =
 -- entry: it is found and is right
 abbrev pub entry_answer : ℕ → List ℕ → Cpu → BlockView → Def → List Load → Result EntryPoint Why
 entry_answer base bytes cpu b def loads = fault_as Entry (entry_of base bytes cpu b def loads)
-
--- the SHA-256 of the covered bytes
-unfoldable pub covered_digest : List ℕ → BlockView → Def → List Load → List ℕ
-covered_digest bytes b def loads = sha256 (covered bytes loads b def.hash_words def.image_word)
 
 -- digest: where there is a HASH_VALUE, it is the SHA-256 of the covered bytes
 abbrev pub digest_fault : List ℕ → BlockView → Def → List Load → Option (List ℕ) → Option Why

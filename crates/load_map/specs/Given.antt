@@ -1,4 +1,5 @@
--- What the bytes of a window and of the SRAM are once an image's load map was obeyed. Source: RP2350 Datasheet, chapter 5, Bootrom,
+-- What the bytes of a window and of the SRAM are once an image's load map was obeyed. Source:
+-- RP2350 Datasheet, chapter 5, Bootrom,
 -- "Load map"; that the last entry decides is this project's own.
 use Rattle.std.specs.Prelude.{ℕ, ◌+◌, ◌-◌, ◌&&◌, nat_le, nat_lt, Bool, if◌then◌else◌, List, [], ◌∷◌, length, slice_index, find, reverse, Option, None, Some}
 use Rattle.std.specs.Option.{option_map}
@@ -23,12 +24,14 @@ loaded_byte window address load = stored_byte window load.storage (address - loa
 abbrev pub in_window : ℕ → ℕ → ℕ → Bool
 in_window base n address = nat_le base address && nat_lt address (base + n)
 
--- the byte at an address: the window's byte where one is seen there; otherwise, in SRAM, the byte of the last load whose runtime range
+-- the byte at an address: the window's byte where one is seen there; otherwise, in SRAM, the byte
+-- of the last load whose runtime range
 -- holds the address; and otherwise none
 abbrev pub byte_at : ℕ → List ℕ → List Load → ℕ → Option ℕ
 byte_at base window loads address =
     if in_window base (length window) address then Some (slice_index window (address - base))
-    else (if is_sram address then option_map (loaded_byte window address) (find (holds address) (reverse loads)) else None)
+    else (if is_sram address then option_map (loaded_byte window address)
+    (find (holds address) (reverse loads)) else None)
 
 -- the word of four bytes, where each of them is given
 abbrev pub word_if_given : Option ℕ → Option ℕ → Option ℕ → Option ℕ → Option ℕ

@@ -1,7 +1,9 @@
 pub mod Addresses
 pub mod Loads
 pub mod Reading
+pub mod Faults
 pub mod Stored
 pub mod Given
 pub mod Covered
+pub mod Agree
 pub mod Examples

@@ -1,9 +1,11 @@
--- Loads that lie in a window and keep off a block: what a load map without a fault has, and what reading its loads asks for. This
+-- Loads that lie in a window and keep off a block: what a load map without a fault has, and what
+-- reading its loads asks for. This
 -- project's own.
 use Rattle.std.specs.Prelude.{◌⊎◌, ◌≡◌, ℕ, ◌+◌, ◌≤◌, true, List, Option, None, Some}
 use Rattle.std.specs.List.{AllByRecursion}
 use Rattle.block_codec.specs.Blocks.{BlockView, block_size}
-use Rattle.load_map.specs.Reading.{Setting, is_runtime_right}
+use Rattle.load_map.specs.Reading.{is_runtime_right}
+use Rattle.load_map.specs.declared.setting.Setting.{Setting}
 use Rattle.load_map.specs.declared.load.Load.{Load}
 
 -- a storage of this size lies in a window of n bytes; a clear entry has none
@@ -15,7 +17,8 @@ IsStoredIn n (Some x) size = x + size ≤ n
 abbrev pub AreStoredIn : ℕ → List Load → Type 0
 AreStoredIn n loads = AllByRecursion (λ (load : Load). IsStoredIn n load.storage load.size) loads
 
--- a storage of this size shares no byte with the block: it is empty, ends before the block or begins after it
+-- a storage of this size shares no byte with the block: it is empty, ends before the block or
+-- begins after it
 abbrev pub IsClearOf : BlockView → Option ℕ → ℕ → Type 0
 IsClearOf b None size = Unit {0}
 IsClearOf b (Some x) size = (size ≡ 0) ⊎ (x + size ≤ b.at) ⊎ (b.at + block_size b ≤ x)

@@ -1,8 +1,22 @@
-//! Load maps: what an image's LOAD_MAP item has loaded into SRAM, the bytes that it gives there, and the bytes that the image's
-//! digest covers.
+//! Load maps: what an image's LOAD_MAP item has loaded into SRAM, the bytes that it gives there,
+//! and the bytes that the image's digest covers.
 #![tactic(auto)]
 
+mod addresses;
+mod digest;
+mod entry;
+pub mod examples;
+mod given;
 pub mod laws;
 mod load;
+mod reading;
+mod setting;
 
+pub use addresses::{FLASH_START, SRAM_END, SRAM_START};
+pub use digest::covered_digest;
+pub use given::{loaded_word, loaded_word_at};
 pub use load::{Load, Loads, MapFault};
+pub use reading::{read_map, read_map_at};
+
+#[cfg(test)]
+mod tests;

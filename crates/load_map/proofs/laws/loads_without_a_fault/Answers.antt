@@ -1,4 +1,4 @@
-use Rattle.load_map.proofs.SoundLoads.{sound-loads_of}
+use Rattle.load_map.proofs.SoundLoads.{sound-loads_of, counted-loads_of}
 use Rattle.load_map.proofs.laws.loads_without_a_fault.Goals as goal
 
 pub returns-clause-stored : goal.returns-clause-stored
@@ -9,3 +9,6 @@ returns-clause-clear c = λ base n in_place b item loads is. (sound-loads_of bas
 
 pub returns-clause-right : goal.returns-clause-right
 returns-clause-right c = λ base n in_place b item loads is. (sound-loads_of base n in_place b item loads is).right
+
+pub returns-clause-count : goal.returns-clause-count
+returns-clause-count c = counted-loads_of
