@@ -4,8 +4,8 @@ use Rattle.std.specs.Prelude.{ℕ, ◌+◌, Bool, ◌||◌, ◌&&◌, if◌then�
 use Rattle.std.specs.List.{list_any}
 use Rattle.block_codec.specs.declared.items.Item.{Item}
 use Rattle.block_codec.specs.Words.{low_half, high_half}
-use Rattle.image_def.specs.declared.definition.DefFault.{DefFault}
-use Rattle.image_def.specs.declared.definition.DefFault.TheVariants.{BadRow, RepeatedRow}
+use Rattle.image_def.specs.declared.fault.DefFault.{DefFault}
+use Rattle.image_def.specs.declared.fault.DefFault.TheVariants.{BadRow, RepeatedRow}
 
 -- the halves of words in order, low half first
 abbrev pub halves_of : List ℕ → List ℕ

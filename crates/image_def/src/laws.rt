@@ -2,7 +2,7 @@
 
 ghost use Rattle.std.specs.Prelude.{◌≡◌, pos, Some, None, Ok, Err, [], ◌∷◌, true, false};
 ghost use Rattle.block_codec.specs.Blocks.{BlockView};
-ghost use Rattle.image_def.specs.declared.definition.DefFault.TheVariants.{Repeated, BadItem, BadRow, RepeatedRow};
+ghost use Rattle.image_def.specs.declared.fault.DefFault.TheVariants.{Repeated, BadItem, BadRow, RepeatedRow};
 ghost use Rattle.pico_board.specs.declared.boot.Cpu.TheVariants.{Arm, Riscv};
 ghost use Rattle.image_def.specs.Definition.{def_of, no_version};
 ghost use Rattle.image_def.specs.Suits.{does_suit};
