@@ -1,18 +1,17 @@
 -- The fault of an item, and what is true of items without one.
-use Rattle.std.proofs.Common.{◌≡◌, ◌≢◌, ◌⊎◌, ℕ, zero, suc, ◌+◌, ◌*◌, ◌%◌, ◌<◌, ◌≤◌, ◌||◌, ◌&&◌, not, Bool, true, false, cond, eqb, List, [], ◌∷◌, ◌++◌, length, take, Option, Some, None, refl, sym, ap, subst, ◌∙◌, inl, inr, arith}
-use Rattle.std.proofs.lemmas.Bool.{eqb-true, leb-true, eq-eqb, ne_eqb, and_parts, or_cases, true≢false}
+use Rattle.std.proofs.Common.{◌≡◌, ◌≢◌, ℕ, ◌*◌, ◌≤◌, ◌&&◌, not, Bool, true, false, cond, eqb, List, length, take, Option, Some, None, refl, sym, ap, subst, ◌∙◌, inl, inr, arith}
+use Rattle.std.proofs.lemmas.Bool.{eqb-true, leb-true, eq-eqb, ne_eqb, and_parts, or_cases}
 use Rattle.std.proofs.lemmas.Bool.Decides.{nat_tests}
-use Rattle.std.proofs.lemmas.Option.{slice_get_within, none-some, same_Some}
+use Rattle.std.proofs.lemmas.Option.{slice_get_within}
 use Rattle.std.proofs.Math.Dec.{leb}
-use Rattle.std.specs.List.{slice_get, list_any, Contains}
+use Rattle.std.specs.List.{list_any, Contains}
 use Rattle.std.specs.Option.{is_some, unwrap_or, option_map}
 use Rattle.block_codec.specs.declared.items.Item.{Item}
-use Rattle.block_codec.specs.declared.kinds.TheConstants.{IMAGE_TYPE, VECTOR_TABLE, ENTRY_POINT, WINDOW_DELTA, LOAD_MAP, HASH_DEF, VERSION, HASH_VALUE}
+use Rattle.block_codec.specs.declared.kinds.TheConstants.{VECTOR_TABLE, ENTRY_POINT, WINDOW_DELTA, HASH_DEF, VERSION, HASH_VALUE}
 use Rattle.block_codec.specs.Blocks.{BlockView, block_words}
 use Rattle.block_codec.specs.Items.{items_of}
 use Rattle.block_codec.specs.Kinds.{first_spelling, is_of_kind, item_of_kind, version_words, version_of}
 use Rattle.block_codec.specs.FirstFault.{first_fault, AreSound}
-use Rattle.block_codec.proofs.FirstFault.{sound_from_none}
 use Rattle.image_def.specs.declared.fault.DefFault.{DefFault}
 use Rattle.image_def.specs.declared.fault.DefFault.TheVariants.{Repeated, BadItem}
 use Rattle.image_def.specs.Found.{is_read_kind, IsHeld, IsVersion}
@@ -27,13 +26,13 @@ judged read some right version kind rows =
 
 module _ (words : List ℕ) (before : List Item) (item : Item) (kind : ℕ) (is : kind ≡ first_spelling item.kind) (read : is_read_kind kind ≡ true) where
   at_kind : item_fault words before item
-    ≡ judged (is_read_kind kind) (list_any (is_of_kind kind) before) (is_well_formed words item) (eqb kind VERSION) kind (first_fault row_fault (rows_in words item))
+      ≡ judged (is_read_kind kind) (list_any (is_of_kind kind) before) (is_well_formed words item) (eqb kind VERSION) kind (first_fault row_fault (rows_in words item))
   at_kind =
       ap (λ k. judged (is_read_kind k) (list_any (is_of_kind k) before) (is_well_formed words item) (eqb k VERSION) k (first_fault row_fault (rows_in words item)))
       (sym is)
 
   read_kind : item_fault words before item
-    ≡ judged true (list_any (is_of_kind kind) before) (is_well_formed words item) (eqb kind VERSION) kind (first_fault row_fault (rows_in words item))
+      ≡ judged true (list_any (is_of_kind kind) before) (is_well_formed words item) (eqb kind VERSION) kind (first_fault row_fault (rows_in words item))
   read_kind =
       at_kind
       ∙ ap (λ b. judged b (list_any (is_of_kind kind) before) (is_well_formed words item) (eqb kind VERSION) kind (first_fault row_fault (rows_in words item))) read
@@ -43,7 +42,7 @@ module _ (words : List ℕ) (before : List Item) (item : Item) (kind : ℕ) (is 
       sym (read_kind ∙ ap (λ b. judged true b (is_well_formed words item) (eqb kind VERSION) kind (first_fault row_fault (rows_in words item))) some)
 
   first_one : list_any (is_of_kind kind) before ≡ false → item_fault words before item
-    ≡ judged true false (is_well_formed words item) (eqb kind VERSION) kind (first_fault row_fault (rows_in words item))
+      ≡ judged true false (is_well_formed words item) (eqb kind VERSION) kind (first_fault row_fault (rows_in words item))
   first_one none =
       read_kind ∙ ap (λ b. judged true b (is_well_formed words item) (eqb kind VERSION) kind (first_fault row_fault (rows_in words item))) none
 
@@ -52,7 +51,7 @@ module _ (words : List ℕ) (before : List Item) (item : Item) (kind : ℕ) (is 
       sym (first_one none ∙ ap (λ b. judged true false b (eqb kind VERSION) kind (first_fault row_fault (rows_in words item))) wrong)
 
   right_one : list_any (is_of_kind kind) before ≡ false → is_well_formed words item ≡ true → item_fault words before item
-    ≡ judged true false true (eqb kind VERSION) kind (first_fault row_fault (rows_in words item))
+      ≡ judged true false true (eqb kind VERSION) kind (first_fault row_fault (rows_in words item))
   right_one none right =
       first_one none ∙ ap (λ b. judged true false b (eqb kind VERSION) kind (first_fault row_fault (rows_in words item))) right
 
@@ -66,12 +65,12 @@ module _ (words : List ℕ) (before : List Item) (item : Item) (kind : ℕ) (is 
 
 -- what an item without a fault has
 faultless : (read some right version : Bool) (kind : ℕ) (rows : Option DefFault) → judged read some right version kind rows ≡ None → read ≡ true
-  → (some ≡ false) × (right ≡ true) × (version ≡ true → rows ≡ None)
+    → (some ≡ false) × (right ≡ true) × (version ≡ true → rows ≡ None)
 faultless read some right version kind rows none is = grind arith
 
 pub faultless_item : (words : List ℕ) (before : List Item) (item : Item) → item_fault words before item ≡ None → is_read_kind (first_spelling item.kind) ≡ true
-  → (list_any (is_of_kind (first_spelling item.kind)) before ≡ false) × (is_well_formed words item ≡ true)
-  × (eqb (first_spelling item.kind) VERSION ≡ true → first_fault row_fault (rows_in words item) ≡ None)
+    → (list_any (is_of_kind (first_spelling item.kind)) before ≡ false) × (is_well_formed words item ≡ true)
+    × (eqb (first_spelling item.kind) VERSION ≡ true → first_fault row_fault (rows_in words item) ≡ None)
 faultless_item words before item none read =
     faultless (is_read_kind (first_spelling item.kind)) _ _ _ (first_spelling item.kind) (first_fault row_fault (rows_in words item)) none read
 
@@ -86,7 +85,7 @@ pub record IsSoundItem (words : List ℕ) (items : List Item) (kind : ℕ) (item
   pub rows : kind ≡ VERSION → first_fault row_fault (rows_in words item) ≡ None
 
 pub sound_item : (words : List ℕ) (items : List Item) (kind : ℕ) (item : Item) → AreSound (item_fault words) items (length items)
-  → is_read_kind kind ≡ true → item_of_kind kind items ≡ Some item → IsSoundItem words items kind item
+    → is_read_kind kind ≡ true → item_of_kind kind items ≡ Some item → IsSoundItem words items kind item
 sound_item words items kind item sound read is =
     let at = find-place (is_of_kind kind) items item is in
     let same : first_spelling item.kind ≡ kind = eqb-true (first_spelling item.kind) kind (find-passes (is_of_kind kind) items item is) in
@@ -156,7 +155,7 @@ module _ (b : BlockView) (sound : AreSound (item_fault (block_words b)) (items_o
 
 -- the fault for after all items, where there is a HASH_DEF and no HASH_VALUE
 pub last-counted : (words : List ℕ) (items : List Item) (count : ℕ) → item_of_kind HASH_VALUE items ≡ None → hash_count_in words items ≡ Some count
-  → last_fault words items ≡ cond (leb count (length words)) None (Some (BadItem HASH_DEF))
+    → last_fault words items ≡ cond (leb count (length words)) None (Some (BadItem HASH_DEF))
 last-counted words items count none some =
     ap (λ o. hashed_fault (option_map (λ (item : Item). item.first) o) (hash_count_in words items) (length words)) none
     ∙ ap (λ o. hashed_fault None o (length words)) some

@@ -1,12 +1,11 @@
 -- The items of each kind, item by item.
-use Rattle.std.proofs.Common.{◌≡◌, ◌≢◌, ◌⊎◌, ℕ, zero, suc, ◌+◌, ◌<◌, ◌≤◌, ◌||◌, Bool, true, false, cond, eqb, List, [], ◌∷◌, ◌++◌, length, take, get_or, Option, Some, None, refl, sym, ap, subst, ◌∙◌, inl, inr, arith}
-use Rattle.std.proofs.lemmas.Bool.{cases_Bool, cases_eq, ne_eqb, eqb-true, eq-eqb, true≢false}
+use Rattle.std.proofs.Common.{◌≡◌, ◌≢◌, ℕ, zero, suc, ◌+◌, ◌||◌, Bool, true, false, cond, eqb, List, [], ◌∷◌, ◌++◌, length, take, get_or, Option, Some, None, refl, sym, ap, subst, ◌∙◌, inl, inr, arith}
+use Rattle.std.proofs.lemmas.Bool.{cases_eq, ne_eqb, eqb-true, eq-eqb, true≢false}
 use Rattle.std.proofs.lemmas.Bool.Decides.{nat_tests}
-use Rattle.std.proofs.lemmas.Grind.{common_steps}
 use Rattle.std.proofs.lemmas.List.{take_more, length-take-le}
 use Rattle.std.proofs.lemmas.List.Folds.{find-append}
 use Rattle.std.proofs.lemmas.Iterator.Adapters.{position_from-zero}
-use Rattle.std.proofs.lemmas.Option.{slice_get_within, slice_get-get_or, none-some, same_Some, get_or_from_slice_get}
+use Rattle.std.proofs.lemmas.Option.{slice_get_within, none-some, same_Some, get_or_from_slice_get}
 use Rattle.std.specs.List.{slice_get, find, list_any, position, position_from, Contains}
 use Rattle.std.specs.Option.{is_some, option_or}
 use Rattle.block_codec.specs.declared.items.Item.{Item}
@@ -60,8 +59,8 @@ module _ {X : Type 0} (p : X → Bool) where
   from-more i (x ∷ xs) y none = go (p x) refl (from-more (i + 1) xs y)
     where
       go : (b : Bool) → p x ≡ b
-        → ((p y ≡ true → list_any p xs ≡ false) → position_from p (i + 1) (xs ++ y ∷ []) ≡ cond (p y) (Some (i + 1 + length xs)) (position_from p (i + 1) xs))
-        → cond b (Some i) (position_from p (i + 1) (xs ++ y ∷ [])) ≡ cond (p y) (Some (i + suc (length xs))) (cond b (Some i) (position_from p (i + 1) xs))
+          → ((p y ≡ true → list_any p xs ≡ false) → position_from p (i + 1) (xs ++ y ∷ []) ≡ cond (p y) (Some (i + 1 + length xs)) (position_from p (i + 1) xs))
+          → cond b (Some i) (position_from p (i + 1) (xs ++ y ∷ [])) ≡ cond (p y) (Some (i + suc (length xs))) (cond b (Some i) (position_from p (i + 1) xs))
       go true e rest = ap (λ c. cond c (Some (i + suc (length xs))) (Some i)) (sym (not_both (p y) (ap (λ c. c || list_any p xs) e) none))
       go false e rest =
           rest (λ t. ap (λ c. c || list_any p xs) (sym e) ∙ none t)
@@ -122,23 +121,23 @@ NoneBefore before item =
     is_read_kind (first_spelling item.kind) ≡ true → list_any (is_of_kind (first_spelling item.kind)) before ≡ false
 
 none_of : (kind : ℕ) (before : List Item) (item : Item) → is_read_kind kind ≡ true → NoneBefore before item
-  → is_of_kind kind item ≡ true → list_any (is_of_kind kind) before ≡ false
+    → is_of_kind kind item ≡ true → list_any (is_of_kind kind) before ≡ false
 none_of kind before item read none is =
     let same : first_spelling item.kind ≡ kind = eqb-true (first_spelling item.kind) kind is in
     subst (λ k. list_any (is_of_kind k) before ≡ false) same (none (subst (λ k. is_read_kind k ≡ true) (sym same) read))
 
 slot : (kind : ℕ) (before : List Item) (item : Item) → is_read_kind kind ≡ true → NoneBefore before item
-  → item_of_kind kind (before ++ item ∷ []) ≡ cond (is_of_kind kind item) (Some item) (item_of_kind kind before)
+    → item_of_kind kind (before ++ item ∷ []) ≡ cond (is_of_kind kind item) (Some item) (item_of_kind kind before)
 slot kind before item read none = find-more (is_of_kind kind) before item (none_of kind before item read none)
 
 same_found : (a b c d f g h a' b' c' d' f' g' h' : Option Item) (e e' : Option ℕ) → a ≡ a' → b ≡ b' → c ≡ c' → d ≡ d' → e ≡ e' → f ≡ f' → g ≡ g' → h ≡ h'
-  → ◌≡◌ {A = Found}
-  (record { image_type = a; vector_table = b; entry_point = c; window_delta = d; load_map = e; hash_def = f; version = g; hash_value = h })
-  (record { image_type = a'; vector_table = b'; entry_point = c'; window_delta = d'; load_map = e'; hash_def = f'; version = g'; hash_value = h' })
+    → ◌≡◌ {A = Found}
+    (record { image_type = a; vector_table = b; entry_point = c; window_delta = d; load_map = e; hash_def = f; version = g; hash_value = h })
+    (record { image_type = a'; vector_table = b'; entry_point = c'; window_delta = d'; load_map = e'; hash_def = f'; version = g'; hash_value = h' })
 same_found a b c d f g h a' b' c' d' f' g' h' e e' p q r s t u v w = cc
 
 pub found-more : (before : List Item) (item : Item) → NoneBefore before item
-  → found_in (before ++ item ∷ []) ≡ with_item (length before) item (found_in before)
+    → found_in (before ++ item ∷ []) ≡ with_item (length before) item (found_in before)
 found-more before item none =
     same_found _ _ _ _ _ _ _ _ _ _ _ _ _ _ _ _
     (slot IMAGE_TYPE before item refl none) (slot VECTOR_TABLE before item refl none)
@@ -148,7 +147,7 @@ found-more before item none =
 
 -- the items found among the first ones, with the next one
 pub found_step : (items : List Item) (i : ℕ) (item : Item) → slice_get items i ≡ Some item → NoneBefore (take i items) item
-  → with_item i item (found_in (take i items)) ≡ found_in (take (i + 1) items)
+    → with_item i item (found_in (take i items)) ≡ found_in (take (i + 1) items)
 found_step items i item at none =
     let lt = slice_get_within items i item at in
     let long : length (take i items) ≡ i = length-take-le i items (omega (arith, lt)) in
@@ -172,7 +171,7 @@ here_place k kind before e =
     subst (λ i. is_some (position (is_of_kind k) before) ≡ list_any (is_of_kind i) before) (sym e) (is_some-position (is_of_kind k) before)
 
 last_kind : (kind : ℕ) → is_read_kind kind ≡ true → kind ≢ IMAGE_TYPE → kind ≢ VECTOR_TABLE → kind ≢ ENTRY_POINT → kind ≢ WINDOW_DELTA
-  → kind ≢ LOAD_MAP → kind ≢ HASH_DEF → kind ≢ VERSION → kind ≡ HASH_VALUE
+    → kind ≢ LOAD_MAP → kind ≢ HASH_DEF → kind ≢ VERSION → kind ≡ HASH_VALUE
 last_kind kind read a b c d e f g = grind (arith, nat_tests)
 
 -- an item of a kind that is read was found where one is among the items
@@ -189,5 +188,5 @@ has-found kind before read =
     here_some HASH_VALUE kind before (last_kind kind read n0 n1 n2 n3 n4 n5 n6))))))))
 
 pub has_is : (kind : ℕ) (found : Found) (before : List Item) (some : Bool) → found ≡ found_in before → is_read_kind kind ≡ true
-  → some ≡ has_kind kind found → some ≡ list_any (is_of_kind kind) before
+    → some ≡ has_kind kind found → some ≡ list_any (is_of_kind kind) before
 has_is kind found before some is read e = e ∙ ap (has_kind kind) is ∙ has-found kind before read

@@ -1,6 +1,6 @@
 -- The definition that a block gives, or its first fault (RP2350 Datasheet, chapter 5, "Image
 -- definition items"; the faults and their order are this project's own).
-use Rattle.std.specs.Prelude.{ℕ, ◌+◌, pos, if◌then◌else◌, ◌==◌, List, [], slice_index, position, Option, Result, option_map, option_and_then, unwrap_or}
+use Rattle.std.specs.Prelude.{ℕ, ◌+◌, pos, if◌then◌else◌, ◌==◌, List, [], slice_index, position, Result, option_map, option_and_then, unwrap_or}
 use Rattle.std.specs.Option.{option_map_or}
 use Rattle.std.specs.Int.{w32, cast_signed}
 use Rattle.block_codec.specs.declared.items.Item.{Item}

@@ -42,15 +42,15 @@ has_kind kind found =
 abbrev pub with_item : ℕ → Item → Found → Found
 with_item index item found =
     let kind = first_spelling item.kind in record {
-  image_type = if kind == IMAGE_TYPE then Some item else found.image_type;
-  vector_table = if kind == VECTOR_TABLE then Some item else found.vector_table;
-  entry_point = if kind == ENTRY_POINT then Some item else found.entry_point;
-  window_delta = if kind == WINDOW_DELTA then Some item else found.window_delta;
-  load_map = if kind == LOAD_MAP then Some index else found.load_map;
-  hash_def = if kind == HASH_DEF then Some item else found.hash_def;
-  version = if kind == VERSION then Some item else found.version;
-  hash_value = if kind == HASH_VALUE then Some item else found.hash_value;
-}
+      image_type = if kind == IMAGE_TYPE then Some item else found.image_type;
+      vector_table = if kind == VECTOR_TABLE then Some item else found.vector_table;
+      entry_point = if kind == ENTRY_POINT then Some item else found.entry_point;
+      window_delta = if kind == WINDOW_DELTA then Some item else found.window_delta;
+      load_map = if kind == LOAD_MAP then Some index else found.load_map;
+      hash_def = if kind == HASH_DEF then Some item else found.hash_def;
+      version = if kind == VERSION then Some item else found.version;
+      hash_value = if kind == HASH_VALUE then Some item else found.hash_value;
+    }
 
 -- the item is one of the block's, and has at least so many words
 pub record IsHeld (b : BlockView) (words : ℕ) (item : Item) : Type 0 where

@@ -63,7 +63,11 @@ fn entry_point_of(block: &Block, item: Option<Item>) -> Option<EntryPoint>
         Some(item) => Some(EntryPoint {
             pc: block.item_word(&item, 1),
             sp: block.item_word(&item, 2),
-            limit: if item.words == 4 { block.item_word(&item, 3) } else { 0 },
+            limit: if item.words == 4 {
+                block.item_word(&item, 3)
+            } else {
+                0
+            },
         }),
         None => None,
     }

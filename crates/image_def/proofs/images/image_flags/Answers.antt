@@ -1,9 +1,7 @@
-use Rattle.std.proofs.Common.{rules, ◌≡◌, ◌∙◌, ◌==◌, true, false, Some, None, ap, sym, arith}
-use Rattle.std.specs.List.{find}
+use Rattle.std.proofs.Common.{◌≡◌, ◌∙◌, ◌==◌, Some, ap, sym}
 use Rattle.std.specs.Option.{option_map, is_some}
 use Rattle.std.proofs.lemmas.Bool.{eq-eqb, ne_eqb, true≢false}
 use Rattle.block_codec.specs.Items.{items_of}
-use Rattle.block_codec.specs.declared.items.Item.{Item}
 use Rattle.image_def.specs.Flags.{flags_of}
 use Rattle.image_def.specs.Suits.{image_type_of}
 use Rattle.image_def.proofs.FoundLemmas.{find_here, find_past}

@@ -1,4 +1,4 @@
-use Rattle.std.proofs.Common.{◌≡◌, ◌∙◌, ◌/◌, ap, sym, cond, length, None, Some, arith}
+use Rattle.std.proofs.Common.{◌∙◌, ap, sym, cond, length, None, Some, arith}
 use Rattle.std.proofs.lemmas.Bool.{le-leb, lt-leb}
 use Rattle.block_codec.specs.Blocks.{block_words}
 use Rattle.block_codec.specs.Items.{items_of}

@@ -1,10 +1,6 @@
-use Rattle.std.proofs.Common.{◌≡◌, ◌∙◌, ap, sym, List, true, false}
-use Rattle.std.specs.List.{list_any}
+use Rattle.std.proofs.Common.{◌∙◌, ap, sym}
 use Rattle.block_codec.specs.Blocks.{block_words}
 use Rattle.block_codec.specs.FirstFault.{first_fault}
-use Rattle.block_codec.specs.Kinds.{is_of_kind}
-use Rattle.block_codec.specs.declared.items.Item.{Item}
-use Rattle.image_def.specs.Found.{found_in, has_kind}
 use Rattle.image_def.specs.Rows.{row_fault}
 use Rattle.image_def.proofs.FoundLemmas.{has_is}
 use Rattle.image_def.proofs.FaultLemmas.{fault-repeated, fault-bad, fault-rows, fault-none}

@@ -1,5 +1,4 @@
-use Rattle.std.proofs.Common.{◌≡◌, ◌∙◌, ap, sym, length, take, take_all, Ok, Err, Some, arith}
-use Rattle.std.proofs.lemmas.List.{take_more, length-take-le}
+use Rattle.std.proofs.Common.{◌∙◌, ap, sym, take, take_all, Ok, arith}
 use Rattle.block_codec.specs.Blocks.{block_words}
 use Rattle.block_codec.specs.Items.{items_of}
 use Rattle.block_codec.specs.FirstFault.{ok_unless}

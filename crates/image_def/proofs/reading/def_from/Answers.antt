@@ -1,4 +1,4 @@
-use Rattle.std.proofs.Common.{◌≡◌, ◌∙◌, ap, sym, refl, List, Option, Some, None, length}
+use Rattle.std.proofs.Common.{◌≡◌, ap, sym, Option, Some, None}
 use Rattle.std.specs.Option.{IfSome}
 use Rattle.block_codec.specs.declared.items.Item.{Item}
 use Rattle.block_codec.specs.Blocks.{block_words}

@@ -1,4 +1,4 @@
-use Rattle.std.proofs.Common.{◌≡◌, ◌∙◌, Some, ap, sym, subst, ◌+◌, length, get_or, take}
+use Rattle.std.proofs.Common.{◌∙◌, sym, get_or}
 use Rattle.std.proofs.lemmas.Option.{slice_get-get_or}
 use Rattle.block_codec.proofs.FirstFault.{sound_more, none_from_sound_at, first_at, fault_from_first}
 use Rattle.image_def.specs.Rows.{row_fault}
