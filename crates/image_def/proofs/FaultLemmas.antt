@@ -2,9 +2,10 @@
 use Rattle.std.proofs.Common.{◌≡◌, ◌≢◌, ℕ, ◌*◌, ◌≤◌, ◌&&◌, not, Bool, true, false, cond, eqb, List, length, take, Option, Some, None, refl, sym, ap, subst, ◌∙◌, inl, inr, arith}
 use Rattle.std.proofs.lemmas.Bool.{eqb-true, leb-true, eq-eqb, ne_eqb, and_parts, or_cases}
 use Rattle.std.proofs.lemmas.Bool.Decides.{nat_tests}
-use Rattle.std.proofs.lemmas.Option.{slice_get_within}
+use Rattle.std.proofs.lemmas.Option.{slice_get_within, get_or_from_slice_get}
 use Rattle.std.proofs.Math.Dec.{leb}
 use Rattle.std.specs.List.{list_any, Contains}
+use Rattle.std.specs.List.{slice_get}
 use Rattle.std.specs.Option.{is_some, unwrap_or, option_map}
 use Rattle.block_codec.specs.declared.items.Item.{Item}
 use Rattle.block_codec.specs.declared.kinds.TheConstants.{VECTOR_TABLE, ENTRY_POINT, WINDOW_DELTA, HASH_DEF, VERSION, HASH_VALUE}
@@ -17,7 +18,7 @@ use Rattle.image_def.specs.declared.fault.DefFault.TheVariants.{Repeated, BadIte
 use Rattle.image_def.specs.Found.{is_read_kind, IsHeld, IsVersion}
 use Rattle.image_def.specs.Rows.{rollback_in, rows_in, row_fault}
 use Rattle.image_def.specs.Faults.{hashed_fault, hash_count_in, last_fault, is_right_version, is_well_formed, is_well_formed_as, item_fault}
-use Rattle.image_def.proofs.FoundLemmas.{NoneBefore, find-place, find-passes, find-contains}
+use Rattle.image_def.proofs.FoundLemmas.{NoneBefore, find-place, find-passes}
 
 -- the order of an item's faults, by its tests
 abbrev judged : Bool → Bool → Bool → Bool → ℕ → Option DefFault → Option DefFault
@@ -63,6 +64,11 @@ module _ (words : List ℕ) (before : List Item) (item : Item) (kind : ℕ) (is 
   fault-none none right other =
       sym (right_one none right ∙ ap (λ b. judged true false true b kind (first_fault row_fault (rows_in words item))) (ne_eqb kind VERSION other))
 
+pub fault-unread : (words : List ℕ) (before : List Item) (item : Item) → is_read_kind (first_spelling item.kind) ≡ false → item_fault words before item ≡ None
+fault-unread words before item unread =
+    ap (λ b. judged b (list_any (is_of_kind (first_spelling item.kind)) before) (is_well_formed words item) (eqb (first_spelling item.kind) VERSION) (first_spelling item.kind)
+    (first_fault row_fault (rows_in words item))) unread
+
 -- what an item without a fault has
 faultless : (read some right version : Bool) (kind : ℕ) (rows : Option DefFault) → judged read some right version kind rows ≡ None → read ≡ true
     → (some ≡ false) × (right ≡ true) × (version ≡ true → rows ≡ None)
@@ -84,19 +90,25 @@ pub record IsSoundItem (words : List ℕ) (items : List Item) (kind : ℕ) (item
   pub right : is_well_formed_as kind words item ≡ true
   pub rows : kind ≡ VERSION → first_fault row_fault (rows_in words item) ≡ None
 
-pub sound_item : (words : List ℕ) (items : List Item) (kind : ℕ) (item : Item) → AreSound (item_fault words) items (length items)
-    → is_read_kind kind ≡ true → item_of_kind kind items ≡ Some item → IsSoundItem words items kind item
-sound_item words items kind item sound read is =
-    let at = find-place (is_of_kind kind) items item is in
-    let same : first_spelling item.kind ≡ kind = eqb-true (first_spelling item.kind) kind (find-passes (is_of_kind kind) items item is) in
-    let none = sound at.0 item (slice_get_within items at.0 item at.1) at.1 in
-    let facts = faultless_item words (take at.0 items) item none (subst (λ k. is_read_kind k ≡ true) (sym same) read) in
+pub sound_at : (words : List ℕ) (items : List Item) (kind i : ℕ) (item : Item) → AreSound (item_fault words) items (length items)
+    → is_read_kind kind ≡ true → slice_get items i ≡ Some item → is_of_kind kind item ≡ true → IsSoundItem words items kind item
+sound_at words items kind i item sound read at is =
+    let same : first_spelling item.kind ≡ kind = eqb-true (first_spelling item.kind) kind is in
+    let lt = slice_get_within items i item at in
+    let none = sound i item lt at in
+    let facts = faultless_item words (take i items) item none (subst (λ k. is_read_kind k ≡ true) (sym same) read) in
     record {
-      of_items = find-contains (is_of_kind kind) items item is;
+      of_items = (i, lt, get_or_from_slice_get items i item item at);
       kind_is = same;
       right = subst (λ k. is_well_formed_as k words item ≡ true) same facts.1;
       rows = λ e. facts.2 (eq-eqb (first_spelling item.kind) VERSION (same ∙ e));
     }
+
+pub sound_item : (words : List ℕ) (items : List Item) (kind : ℕ) (item : Item) → AreSound (item_fault words) items (length items)
+    → is_read_kind kind ≡ true → item_of_kind kind items ≡ Some item → IsSoundItem words items kind item
+sound_item words items kind item sound read is =
+    let at = find-place (is_of_kind kind) items item is in
+    sound_at words items kind at.0 item sound read at.1 (find-passes (is_of_kind kind) items item is)
 
 version_kind : (kind : ℕ) → first_spelling kind ≡ VERSION → kind ≡ VERSION
 version_kind kind e = grind (arith, nat_tests)

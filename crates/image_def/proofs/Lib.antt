@@ -1,3 +1,5 @@
 pub mod FoundLemmas
 pub mod FaultLemmas
+pub mod RelationLemmas
+pub mod GuaranteeLemmas
 mod RowLemmas

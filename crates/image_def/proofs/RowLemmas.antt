@@ -4,7 +4,7 @@ use Rattle.std.proofs.lemmas.List.{get_or-drop}
 use Rattle.block_codec.specs.declared.items.Item.{Item}
 use Rattle.image_def.specs.Rows.{halves_of, version_tail}
 
-length-halves : (ws : List ℕ) → length (halves_of ws) ≡ 2 * length ws
+pub length-halves : (ws : List ℕ) → length (halves_of ws) ≡ 2 * length ws
 length-halves [] = refl
 length-halves (w ∷ ws) = let rest = length-halves ws in omega (arith, rest)
 

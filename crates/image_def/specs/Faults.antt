@@ -1,6 +1,6 @@
 -- The faults of the items of a block, and the first of them (RP2350 Datasheet, chapter 5, "Image
 -- definition items"; the faults and their order are this project's own).
-use Rattle.std.specs.Prelude.{◌≡◌, ◌⊎◌, ℕ, ◌+◌, ◌*◌, ◌%◌, Bool, true, not, ◌&&◌, ◌||◌, if◌then◌else◌, ◌==◌, nat_le, List, length, is_some, Option, Some, None, option_map, option_and_then, unwrap_or}
+use Rattle.std.specs.Prelude.{◌≡◌, ◌⊎◌, ℕ, ◌+◌, ◌*◌, ◌%◌, Bool, true, false, not, ◌&&◌, ◌||◌, if◌then◌else◌, ◌==◌, nat_le, List, length, slice_get, is_some, Option, Some, None, option_map, option_and_then, unwrap_or}
 use Rattle.std.specs.List.{list_any}
 use Rattle.std.specs.Option.{option_or}
 use Rattle.block_codec.specs.declared.items.Item.{Item}
@@ -48,6 +48,10 @@ item_fault words before item =
     else if kind == VERSION then first_fault row_fault (rows_in words item)
     else None
 
+-- the fault of the least item of a block that has one
+abbrev pub first_item_fault : BlockView → Option DefFault
+first_item_fault b = first_fault (item_fault (block_words b)) (items_of b.items)
+
 -- the fault for after all items, by the place of the HASH_VALUE item, the number of words that the
 -- HASH_DEF item names, and the number of the block's words
 abbrev pub hashed_fault : Option ℕ → Option ℕ → ℕ → Option DefFault
@@ -74,7 +78,34 @@ last_fault words items =
 abbrev pub def_fault : List ℕ → List Item → Option DefFault
 def_fault words items = option_or (first_fault (item_fault words) items) (last_fault words items)
 
--- the same as a relation: f is the fault of the least item that has one, judged by the items before
+-- before an item comes one of this kind
+abbrev pub IsRepeated : ℕ → List Item → Type 0
+IsRepeated kind before = (j : ℕ) × (other : Item) × (slice_get before j ≡ Some other) × (is_of_kind kind other ≡ true)
+
+-- an item of a kind that is read, the first of that kind, has the right size and header byte; the
+-- kind is VERSION
+pub record ListsRows (words : List ℕ) (before : List Item) (item : Item) : Type 0 where
+  pub kind : is_of_kind VERSION item ≡ true
+  pub first : IsRepeated VERSION before → ⊥
+  pub right : is_right_version words item ≡ true
+
+-- f is the fault of an item behind the items before it: it stands again; or it is the first of its
+-- kind and wrong; or it is a right VERSION item, and f is the first fault of its rows
+abbrev pub IsItemFault : List ℕ → List Item → Item → DefFault → Type 0
+IsItemFault words before item (Repeated kind) =
+    (is_read_kind kind ≡ true) × (is_of_kind kind item ≡ true) × IsRepeated kind before
+IsItemFault words before item (BadItem kind) =
+    (is_read_kind kind ≡ true) × (is_of_kind kind item ≡ true) × (IsRepeated kind before → ⊥)
+    × (is_well_formed_as kind words item ≡ false)
+IsItemFault words before item f =
+    ListsRows words before item × ((i : ℕ) × IsFirst row_fault (rows_in words item) i f)
+
+-- no item has a fault, and there is none for after all items
+pub record IsFaultless (b : BlockView) : Type 0 where
+  pub items : AreSound (item_fault (block_words b)) (items_of b.items) (length (items_of b.items))
+  pub after : last_fault (block_words b) (items_of b.items) ≡ None
+
+-- f is the first fault of a block: that of the least item that has one, judged by the items before
 -- it; or no item has one, and f is the one for after all items
 abbrev pub IsDefFault : BlockView → DefFault → Type 0
 IsDefFault b f =

@@ -4,4 +4,5 @@ pub mod Rows
 pub mod Found
 pub mod Faults
 pub mod Definition
+pub mod Guarantees
 pub mod Examples

@@ -4,7 +4,7 @@ ghost use Rattle.std.specs.Prelude.{◌≡◌, ◌↔◌, ◌<◌, ◌^◌, fals
 ghost use Rattle.image_def.specs.Flags.{flags_of};
 ghost use Rattle.image_def.specs.Suits.{has_image_type, image_flags_of, suits_flags, does_suit};
 
-use block_codec::kinds::IMAGE_TYPE;
+use block_codec::kinds::{IMAGE_TYPE, kind_of};
 use block_codec::{Block, Item};
 use pico_board::Cpu;
 
@@ -36,7 +36,7 @@ pub fn image_flags(block: &Block) -> Option<u16>
 {
     for i in 0..block.count() {
         let item = block.item(i);
-        if item.kind == IMAGE_TYPE {
+        if kind_of(item.kind) == IMAGE_TYPE {
             return Some(flags(&item));
         }
     }

@@ -2,9 +2,9 @@
 
 ghost use Rattle.std.specs.Prelude.{◌≡◌, List, Contains, length, IfSome};
 ghost use Rattle.block_codec.specs.Items.{items_of};
-ghost use Rattle.block_codec.specs.Blocks.{block_words};
-ghost use Rattle.block_codec.specs.FirstFault.{first_fault, ok_unless};
-ghost use Rattle.image_def.specs.Faults.{is_right_version, is_well_formed, item_fault, hash_count_in, last_fault};
+ghost use Rattle.block_codec.specs.Blocks.{block_words, IsWhole};
+ghost use Rattle.block_codec.specs.FirstFault.{ok_unless};
+ghost use Rattle.image_def.specs.Faults.{is_right_version, is_well_formed, item_fault, first_item_fault, hash_count_in, last_fault};
 ghost use Rattle.image_def.specs.Found.{found_in};
 
 use crate::fault::DefFault;
@@ -73,7 +73,8 @@ fn fault_of(block: &Block, found: &Found, item: &Item) -> Option<DefFault>
 
 /// The items of a block by their kinds, or the first fault of one of them.
 pub(crate) fn find_items(block: &Block) -> Result<Found, DefFault>
-    ensures { result ≡ ok_unless (first_fault (item_fault (block_words block.now)) (items_of block.now.items)) (found_in (items_of block.now.items)) }
+    ensures value { result ≡ ok_unless (first_item_fault block.now) (found_in (items_of block.now.items)) }
+    ensures whole { IsWhole block.now }
 {
     let mut found = Found::new();
     for i in 0..block.count() {

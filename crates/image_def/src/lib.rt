@@ -6,6 +6,7 @@
 //! what a block says.
 #![tactic(auto)]
 
+pub mod examples;
 mod fault;
 mod found;
 mod images;

@@ -1,17 +1,17 @@
 //! The definition that a block gives.
 
-ghost use Rattle.std.specs.Prelude.{◌≡◌, ◌≤◌, true, pos, None, option_map, option_and_then, unwrap_or, IfSome, []};
+ghost use Rattle.std.specs.Prelude.{◌≡◌, ◌≤◌, true, pos, None, option_map, option_and_then, unwrap_or, IfSome, IfOk, IfErr, []};
 ghost use Rattle.std.specs.Option.{option_map_or};
 ghost use Rattle.std.specs.Int.{w32, cast_signed};
 ghost use Rattle.block_codec.specs.Items.{items_of};
-ghost use Rattle.block_codec.specs.Blocks.{block_words};
-ghost use Rattle.block_codec.specs.FirstFault.{first_fault};
+ghost use Rattle.block_codec.specs.Blocks.{block_words, IsWhole};
 ghost use Rattle.block_codec.specs.Kinds.{version_of};
 ghost use Rattle.image_def.specs.Suits.{has_image_type};
 ghost use Rattle.image_def.specs.Rows.{rollback_in, rows_in};
 ghost use Rattle.image_def.specs.Found.{found_in, IsHeld, IsVersion};
-ghost use Rattle.image_def.specs.Faults.{item_fault};
+ghost use Rattle.image_def.specs.Faults.{first_item_fault, IsDefFault};
 ghost use Rattle.image_def.specs.Flags.{flags_of};
+ghost use Rattle.image_def.specs.Guarantees.{IsDefinition};
 ghost use Rattle.image_def.specs.Definition.{second_word, entry_point_in, no_version, def_record, def_of};
 
 use crate::fault::DefFault;
@@ -132,7 +132,7 @@ fn rows_of(block: &Block, item: Option<Item>) -> ArrayVec<u16, 32>
 /// What the items of a block say, none of which has a fault.
 fn def_from(block: &Block, found: &Found) -> Def
     requires found { found.now ≡ found_in (items_of block.now.items) }
-    requires sound { first_fault (item_fault (block_words block.now)) (items_of block.now.items) ≡ None }
+    requires sound { first_item_fault block.now ≡ None }
     ensures { result ≡ def_record (block_words block.now) (items_of block.now.items) }
 {
     Def {
@@ -150,15 +150,26 @@ fn def_from(block: &Block, found: &Found) -> Def
     }
 }
 
-/// The definition of a block that has an IMAGE_TYPE item, or its first fault.
+/// The definition of a block, or its first fault.
 #[tactic(auto, unfolding(crate::specs::Definition::def_of))]
-pub fn read_def(block: &Block) -> Result<Def, DefFault>
-    requires { has_image_type block.now ≡ true }
-    ensures { result ≡ def_of block.now }
+fn read_items(block: &Block) -> Result<Def, DefFault>
+    ensures value { result ≡ def_of block.now }
+    ensures whole { IsWhole block.now }
 {
     let found = find_items(block)?;
     match fault_after(block, &found) {
         Some(fault) => Err(fault),
         None => Ok(def_from(block, &found)),
     }
+}
+
+/// The definition of a block that has an IMAGE_TYPE item, or its first fault: that of the least item
+/// that has one, judged by the items before it, and otherwise the one for after all items.
+pub fn read_def(block: &Block) -> Result<Def, DefFault>
+    requires { has_image_type block.now ≡ true }
+    ensures value { result ≡ def_of block.now }
+    ensures sound { IfOk result (λ def. IsDefinition block.now def) }
+    ensures fault { IfErr result (λ fault. IsDefFault block.now fault) }
+{
+    read_items(block)
 }

@@ -9,8 +9,8 @@ use Rattle.image_def.proofs.FoundLemmas.{found_step}
 use Rattle.image_def.proofs.FaultLemmas.{none_before}
 use Rattle.image_def.proofs.judging.find_items.Goals as goal
 
-pub returns-in-Some : goal.returns-in-Some
-returns-in-Some c =
+pub returns-in-Some-clause-value : goal.returns-in-Some-clause-value
+returns-in-Some-clause-value c =
     let items = items_of c.args.block.now.items in
     let judge = item_fault (block_words c.args.block.now) in
     let fault = sym (c.fault_of.ensures (take c.loop-i.i items) c.loop-i.invariant.found) ∙ c.in-Some.is in
@@ -28,8 +28,8 @@ loop-i-preserved c =
       sound = sound_more judge items c.loop-i.i c.item-item.result c.loop-i.invariant.sound c.item-item.ensures.value none;
     }
 
-pub returns : goal.returns
-returns c =
+pub returns-clause-value : goal.returns-clause-value
+returns-clause-value c =
     let items = items_of c.args.block.now.items in
     let judge = item_fault (block_words c.args.block.now) in
     let all = c.loop-i-test.false in
