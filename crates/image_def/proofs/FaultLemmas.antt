@@ -21,7 +21,7 @@ use Rattle.image_def.specs.Faults.{hashed_fault, hash_count_in, last_fault, is_r
 use Rattle.image_def.proofs.FoundLemmas.{NoneBefore, find-place, find-passes}
 
 -- the order of an item's faults, by its tests
-abbrev judged : Bool → Bool → Bool → Bool → ℕ → Option DefFault → Option DefFault
+abbrev pub judged : Bool → Bool → Bool → Bool → ℕ → Option DefFault → Option DefFault
 judged read some right version kind rows =
     cond (not read) None (cond some (Some (Repeated kind)) (cond (not right) (Some (BadItem kind)) (cond version rows None)))
 

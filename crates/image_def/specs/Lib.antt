@@ -5,4 +5,5 @@ pub mod Found
 pub mod Faults
 pub mod Definition
 pub mod Guarantees
+pub mod Trial
 pub mod Examples

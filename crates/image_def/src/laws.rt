@@ -1,16 +1,19 @@
 //! Laws of image definitions, each the contract of a function without a body.
 
-ghost use Rattle.std.specs.Prelude.{◌≡◌, ◌≢◌, ◌↔◌, ℕ, List, true, None, Some, Ok, Err, slice_get};
+ghost use Rattle.std.specs.Prelude.{◌≡◌, ◌≢◌, ◌↔◌, ℕ, List, true, None, Some, Ok, Err, ◌+◌, ◌-◌, ◌*◌, ◌%◌, ◌^◌, slice_get, slice_index};
 ghost use Rattle.block_codec.specs.declared.definition.Def.{Def};
 ghost use Rattle.block_codec.specs.declared.items.Item.{Item};
-ghost use Rattle.block_codec.specs.Blocks.{BlockView, block_words};
+ghost use Rattle.block_codec.specs.Blocks.{BlockView, block_words, block_size};
 ghost use Rattle.block_codec.specs.Items.{AreItems, items_of};
 ghost use Rattle.block_codec.specs.Kinds.{is_of_kind};
 ghost use Rattle.image_def.specs.Definition.{def_of, def_record};
 ghost use Rattle.image_def.specs.Faults.{item_fault, IsItemFault, IsFaultless, IsDefFault};
 ghost use Rattle.image_def.specs.Found.{is_read_kind};
 ghost use Rattle.image_def.specs.Guarantees.{IsDefinition};
-ghost use Rattle.image_def.specs.Suits.{has_image_type};
+ghost use Rattle.image_def.specs.Suits.{image_type_of, has_image_type, image_flags_of, does_suit};
+ghost use Rattle.image_def.specs.Trial.{trial_cleared, untried_answer};
+ghost use Rattle.block_codec.specs.HighByte.{changed_block};
+ghost use Rattle.pico_board.specs.declared.boot.Cpu.{Cpu};
 
 use crate::fault::DefFault;
 
@@ -38,4 +41,20 @@ pub fn one_item_of_each_kind()
     ensures { (b : BlockView) (def : Def) (kind i j : ℕ) (item other : Item) → def_of b ≡ Ok def → is_read_kind kind ≡ true
         → slice_get (items_of b.items) i ≡ Some item → is_of_kind kind item ≡ true
         → slice_get (items_of b.items) j ≡ Some other → is_of_kind kind other ≡ true → i ≡ j }
+{}
+
+/// A block whose trial bit is cleared, as a buy leaves it, gives the same definition but for that bit
+/// of its flags, or the same fault; it has the same size and suits the same processors.
+pub fn trial_bit_cleared()
+    ensures definition { (b : BlockView) → AreItems b.items → has_image_type b ≡ true
+        → def_of (trial_cleared b) ≡ untried_answer (def_of b) }
+    ensures flags { (b : BlockView) (flags : ℕ) → AreItems b.items → image_flags_of b ≡ Some flags
+        → image_flags_of (trial_cleared b) ≡ Some (flags % 2 ^ 15) }
+    ensures suits { (b : BlockView) (cpu : Cpu) → AreItems b.items → has_image_type b ≡ true
+        → does_suit cpu (trial_cleared b) ≡ does_suit cpu b }
+    ensures size { (b : BlockView) → AreItems b.items → has_image_type b ≡ true
+        → block_size (trial_cleared b) ≡ block_size b }
+    ensures changed { (b : BlockView) (item : Item) → AreItems b.items → image_type_of b ≡ Some item
+        → changed_block (b.at + 4 * item.first) (slice_index b.items (item.first - 1) % 2 ^ 31) b
+        ≡ trial_cleared b }
 {}
