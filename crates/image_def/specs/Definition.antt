@@ -1,6 +1,6 @@
 -- The definition that a block gives, or its first fault (RP2350 Datasheet, chapter 5, "Image
 -- definition items"; the faults and their order are this project's own).
-use Rattle.std.specs.Prelude.{ℕ, ◌+◌, pos, if◌then◌else◌, ◌==◌, List, [], slice_index, position, Result, option_map, option_and_then, unwrap_or}
+use Rattle.std.specs.Prelude.{ℕ, ℤ, ◌+◌, pos, if◌then◌else◌, ◌==◌, List, [], slice_index, position, Result, option_map, option_and_then, unwrap_or}
 use Rattle.std.specs.Option.{option_map_or}
 use Rattle.std.specs.Int.{w32, cast_signed}
 use Rattle.block_codec.specs.declared.items.Item.{Item}
@@ -21,6 +21,10 @@ use Rattle.image_def.specs.Faults.{hash_count_in, def_fault}
 abbrev pub second_word : List ℕ → Item → ℕ
 second_word words item = slice_index words (item.first + 1)
 
+-- the signed delta of a ROLLING_WINDOW_DELTA item
+abbrev pub delta_in : List ℕ → Item → ℤ
+delta_in words item = cast_signed w32 (second_word words item)
+
 -- PC and SP of an ENTRY_POINT item, and its limit, or 0 where it has none
 abbrev pub entry_point_in : List ℕ → Item → EntryPoint
 entry_point_in words item = record {
@@ -40,7 +44,7 @@ def_record words items = record {
   image_word = option_map_or (λ item. item.first) (item_of_kind IMAGE_TYPE items) 0;
   vector = option_map (second_word words) (item_of_kind VECTOR_TABLE items);
   entry_point = option_map (entry_point_in words) (item_of_kind ENTRY_POINT items);
-  delta = option_map_or (λ item. cast_signed w32 (second_word words item)) (item_of_kind WINDOW_DELTA items) (pos 0);
+  delta = option_map_or (delta_in words) (item_of_kind WINDOW_DELTA items) (pos 0);
   map_item = position (is_of_kind LOAD_MAP) items;
   hash_words = unwrap_or (hash_count_in words items) 0;
   digest = option_and_then (digest_of words) (item_of_kind HASH_VALUE items);

@@ -54,11 +54,12 @@ digest_words =
     ∷ 0x13121110 ∷ 0x17161514 ∷ 0x1b1a1918 ∷ 0x1f1e1d1c ∷ []
 
 -- the block of an item of each kind: one that is passed over, IMAGE_TYPE with the trial bit,
--- VECTOR_TABLE, ENTRY_POINT with a limit, ROLLING_WINDOW_DELTA, LOAD_MAP, HASH_DEF, VERSION with three
--- rows, and HASH_VALUE, which begins at word 21
+-- VECTOR_TABLE, ENTRY_POINT with a limit, ROLLING_WINDOW_DELTA, LOAD_MAP, HASH_DEF, VERSION with
+-- three rows, and HASH_VALUE, which begins at word 21
 abbrev pub full_block : BlockView
 full_block = block_with (
-    0x000001fe ∷ 0x90210142 ∷ 0x00000203 ∷ 0x10000200 ∷ 0x00000444 ∷ 0x10000301 ∷ 0x20001000 ∷ 0x20000800
+    0x000001fe ∷ 0x90210142 ∷ 0x00000203 ∷ 0x10000200
+    ∷ 0x00000444 ∷ 0x10000301 ∷ 0x20001000 ∷ 0x20000800
     ∷ 0x00000205 ∷ 0xfffff000 ∷ 0x01000406 ∷ 0 ∷ 0x20000000 ∷ 16 ∷ 0x01000247 ∷ 21
     ∷ 0x03000448 ∷ 0x00070009 ∷ 0x00c00048 ∷ 0x0efd00d0 ∷ 0x0000094b ∷ digest_words)
 
@@ -90,3 +91,7 @@ many_rows =
     0x00c600c3 ∷ 0x00cc00c9 ∷ 0x00d200cf ∷ 0x00d800d5 ∷ 0x00de00db ∷ 0x00e400e1 ∷ 0x00ea00e7
     ∷ 0x00f000ed ∷ 0x00f600f3 ∷ 0x00fc00f9 ∷ 0x010200ff ∷ 0x01080105 ∷ 0x010e010b ∷ 0x01140111
     ∷ 0x011a0117 ∷ 0x0120011d ∷ []
+
+-- a HASH_VALUE item of this header with a digest of zeros
+abbrev pub value_item : ℕ → List ℕ
+value_item header = header ∷ replicate 8 0

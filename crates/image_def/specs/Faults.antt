@@ -56,7 +56,8 @@ first_item_fault b = first_fault (item_fault (block_words b)) (items_of b.items)
 -- HASH_DEF item names, and the number of the block's words
 abbrev pub hashed_fault : Option ℕ → Option ℕ → ℕ → Option DefFault
 hashed_fault (Some place) None size = Some (BadItem HASH_VALUE)
-hashed_fault (Some place) (Some count) size = if nat_le count place then None else Some (BadItem HASH_DEF)
+hashed_fault (Some place) (Some count) size =
+    if nat_le count place then None else Some (BadItem HASH_DEF)
 hashed_fault None (Some count) size = if nat_le count size then None else Some (BadItem HASH_DEF)
 hashed_fault None None size = None
 
@@ -80,7 +81,8 @@ def_fault words items = option_or (first_fault (item_fault words) items) (last_f
 
 -- before an item comes one of this kind
 abbrev pub IsRepeated : ℕ → List Item → Type 0
-IsRepeated kind before = (j : ℕ) × (other : Item) × (slice_get before j ≡ Some other) × (is_of_kind kind other ≡ true)
+IsRepeated kind before =
+    (j : ℕ) × (other : Item) × (slice_get before j ≡ Some other) × (is_of_kind kind other ≡ true)
 
 -- an item of a kind that is read, the first of that kind, has the right size and header byte; the
 -- kind is VERSION

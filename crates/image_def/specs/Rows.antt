@@ -17,7 +17,8 @@ version_tail words item = halves_of (drop (item.first + 2) words)
 
 -- the rollback version, which an item without rows lacks
 abbrev pub rollback_in : List ℕ → Item → Option ℕ
-rollback_in words item = if item.high == 0 then None else Some (slice_index (version_tail words item) 0)
+rollback_in words item =
+    if item.high == 0 then None else Some (slice_index (version_tail words item) 0)
 
 -- the listed rows, whose number is the header's fourth byte
 abbrev pub rows_in : List ℕ → Item → List ℕ

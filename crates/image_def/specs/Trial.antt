@@ -1,5 +1,5 @@
--- A block whose trial bit is cleared, as a buy leaves it (RP2350 Datasheet, chapter 5, Bootrom, "Try
--- before you buy").
+-- A block whose trial bit is cleared, as a buy leaves it (RP2350 Datasheet, chapter 5, Bootrom,
+-- "Try before you buy").
 use Rattle.std.specs.Prelude.{ℕ, ◌-◌, ◌%◌, ◌^◌, slice_index, slice_set, Result, Ok, Err}
 use Rattle.std.specs.Option.{option_map_or}
 use Rattle.block_codec.specs.declared.definition.Def.{Def}

@@ -1,4 +1,5 @@
 //! Worked examples of the definitions, as laws that compute.
+#![tactic(auto, unfolding(crate::specs::Definition::def_of, block_codec::specs::Blocks::frame, block_codec::specs::Items::size_of, block_codec::specs::Words::word_bytes))]
 
 ghost use Rattle.std.specs.Prelude.{ℕ, ◌≡◌, pos, negsuc, Some, None, Ok, Err, [], ◌∷◌, ◌++◌, true, false};
 ghost use Rattle.std.specs.Result.{result_err};
@@ -10,10 +11,10 @@ ghost use Rattle.image_def.specs.Definition.{def_of, no_version};
 ghost use Rattle.image_def.specs.Flags.{flags_of, image_kind, security_of, processor_of, chip_of, is_trial};
 ghost use Rattle.image_def.specs.Rows.{is_near};
 ghost use Rattle.image_def.specs.Suits.{has_image_type, image_flags_of, suits_flags, does_suit, last_suiting};
-ghost use Rattle.image_def.specs.Examples.{block_with, arm_item, riscv_item, arm_block, arm_fault, arm_def, padded_block, full_block, full_def, digest_words, digest_bytes, many_rows};
+ghost use Rattle.image_def.specs.Trial.{trial_cleared};
+ghost use Rattle.image_def.specs.Examples.{block_with, arm_item, riscv_item, arm_block, arm_fault, arm_def, padded_block, full_block, full_def, digest_words, digest_bytes, many_rows, value_item};
 
 /// The flags are the third and the fourth byte of the header, and each field has its bits.
-#[tactic(auto, unfolding(block_codec::specs::Items::size_of))]
 pub fn bits_of_flags()
     ensures bytes { flags_of (item_at 1 0xabcd0142) ≡ 0xabcd }
     ensures kind { image_kind 0x9321 ≡ 1 }
@@ -32,7 +33,6 @@ pub fn bits_of_flags()
 
 /// The flags of a block are those of its first IMAGE_TYPE item, of whatever size. The type byte has
 /// one spelling.
-#[tactic(auto, unfolding(block_codec::specs::Items::size_of))]
 pub fn first_image_type()
     ensures none { image_flags_of (block_with []) ≡ None }
     ensures first { image_flags_of (block_with (arm_item ∷ riscv_item ∷ [])) ≡ Some 0x1021 }
@@ -45,8 +45,8 @@ pub fn first_image_type()
     ensures other_spelling { has_image_type (block_with (0x000001c2 ∷ [])) ≡ false }
 {}
 
-/// An image suits Arm cores where its kind is 1, its security 2, its processor 0 and its chip 1; the
-/// other bits are not read.
+/// An image suits Arm cores where its kind is 1, its security 2, its processor 0 and its chip 1;
+/// the other bits are not read.
 pub fn flags_for_arm()
     ensures executable_secure { suits_flags Arm 0x1021 ≡ true }
     ensures no_kind { suits_flags Arm 0x1020 ≡ false }
@@ -68,8 +68,8 @@ pub fn flags_for_arm()
     ensures bit_11 { suits_flags Arm 0x1821 ≡ true }
 {}
 
-/// An image suits RISC-V cores where its kind is 1, its processor 1 and its chip 1; its security and
-/// the other bits are not read.
+/// An image suits RISC-V cores where its kind is 1, its processor 1 and its chip 1; its security
+/// and the other bits are not read.
 pub fn flags_for_riscv()
     ensures executable { suits_flags Riscv 0x1101 ≡ true }
     ensures non_secure { suits_flags Riscv 0x1111 ≡ true }
@@ -90,7 +90,6 @@ pub fn flags_for_riscv()
 {}
 
 /// A block suits its own processor alone, by its first IMAGE_TYPE item, and has at most 384 bytes.
-#[tactic(auto, unfolding(block_codec::specs::Items::size_of))]
 pub fn blocks_that_suit()
     ensures arm { does_suit Arm (arm_block []) ≡ true }
     ensures not_riscv { does_suit Riscv (arm_block []) ≡ false }
@@ -106,32 +105,34 @@ pub fn blocks_that_suit()
 {}
 
 /// The definition among the blocks of a loop is the last that suits the processor.
-#[tactic(auto, unfolding(block_codec::specs::Items::size_of))]
 pub fn last_block_that_suits()
-    ensures last { last_suiting Arm (padded_block 0 arm_item 0 ∷ padded_block 64 arm_item 0 ∷ padded_block 128 riscv_item 0 ∷ [])
+    ensures last { last_suiting Arm (padded_block 0 arm_item 0 ∷ padded_block 64 arm_item 0
+        ∷ padded_block 128 riscv_item 0 ∷ [])
         ≡ Some (padded_block 64 arm_item 0) }
-    ensures riscv { last_suiting Riscv (padded_block 0 riscv_item 0 ∷ padded_block 64 riscv_item 1 ∷ padded_block 128 arm_item 0 ∷ [])
+    ensures riscv { last_suiting Riscv (padded_block 0 riscv_item 0 ∷ padded_block 64 riscv_item 1
+        ∷ padded_block 128 arm_item 0 ∷ [])
         ≡ Some (padded_block 64 riscv_item 1) }
     ensures none { last_suiting Arm (padded_block 0 riscv_item 0 ∷ padded_block 64 arm_item 92 ∷ [])
         ≡ None }
 {}
 
 /// Each item is a field of the definition, and an item that is not there leaves its default.
-#[tactic(auto, unfolding(crate::specs::Definition::def_of, block_codec::specs::Blocks::frame, block_codec::specs::Items::size_of, block_codec::specs::Words::word_bytes))]
 pub fn fields_of_definitions()
     ensures least { def_of (arm_block []) ≡ Ok arm_def }
     ensures full { def_of full_block ≡ Ok full_def }
-    ensures two_ignored { def_of (arm_block (0x00000209 ∷ 7 ∷ 0x0000010a ∷ 0x00000209 ∷ 7 ∷ 0x0000010a ∷ 0x0000010c ∷ 0x000001fe ∷ []))
+    ensures others { def_of (arm_block (0x00000209 ∷ 7 ∷ 0x0000010a ∷ 0x00000209 ∷ 7 ∷ 0x0000010a
+        ∷ 0x0000010c ∷ 0x000001fe ∷ []))
         ≡ Ok arm_def }
-    ensures other_spellings { def_of (arm_block (0x00000183 ∷ 0x00000185 ∷ 0x000001c2 ∷ 0x000001c4 ∷ 0x000001c7 ∷ 0x000001c8 ∷ []))
+    ensures other_spellings { def_of (arm_block (0x00000183 ∷ 0x00000185 ∷ 0x000001c2 ∷ 0x000001c4 ∷ 0x000001c7
+        ∷ 0x000001c8 ∷ []))
         ≡ Ok arm_def }
 {}
 
 /// An ENTRY_POINT item of three words has no limit, and the header bytes that nothing names are not
 /// read.
-#[tactic(auto, unfolding(crate::specs::Definition::def_of, block_codec::specs::Blocks::frame, block_codec::specs::Items::size_of, block_codec::specs::Words::word_bytes))]
 pub fn entry_without_limit()
-    ensures { def_of (arm_block (0xabcd0344 ∷ 0x10000301 ∷ 0x20001000 ∷ 0xabcd0203 ∷ 5 ∷ 0xabcd0205 ∷ 0xffffffff ∷ []))
+    ensures { def_of (arm_block (0xabcd0344 ∷ 0x10000301 ∷ 0x20001000 ∷ 0xabcd0203 ∷ 5 ∷ 0xabcd0205
+        ∷ 0xffffffff ∷ []))
         ≡ Ok (record {
           flags = 0x1021;
           image_word = 1;
@@ -148,7 +149,6 @@ pub fn entry_without_limit()
 {}
 
 /// A VERSION item without rows gives a version alone.
-#[tactic(auto, unfolding(crate::specs::Definition::def_of, block_codec::specs::Blocks::frame, block_codec::specs::Items::size_of, block_codec::specs::Words::word_bytes))]
 pub fn version_without_rows()
     ensures { def_of (arm_block (0x00ff0248 ∷ 0x00020003 ∷ []))
         ≡ Ok (record {
@@ -167,7 +167,6 @@ pub fn version_without_rows()
 {}
 
 /// With an even number of rows the last half word of a VERSION item is padding.
-#[tactic(auto, unfolding(crate::specs::Definition::def_of, block_codec::specs::Blocks::frame, block_codec::specs::Items::size_of, block_codec::specs::Words::word_bytes))]
 pub fn version_with_padding()
     ensures { def_of (arm_block (0x02ff0448 ∷ 0x00010000 ∷ 0x00c30003 ∷ 0xffff00c0 ∷ []))
         ≡ Ok (record {
@@ -185,8 +184,8 @@ pub fn version_with_padding()
         }) }
 {}
 
-/// A HASH_DEF without a HASH_VALUE leaves the image unhashed. Only the low half of its word is read.
-#[tactic(auto, unfolding(crate::specs::Definition::def_of, block_codec::specs::Blocks::frame, block_codec::specs::Items::size_of, block_codec::specs::Words::word_bytes))]
+/// A HASH_DEF without a HASH_VALUE leaves the image unhashed. Only the low half of its word is
+/// read.
 pub fn hash_without_value()
     ensures { def_of (arm_block (0x01ff0247 ∷ 0xffff0003 ∷ []))
         ≡ Ok (record {
@@ -204,11 +203,11 @@ pub fn hash_without_value()
         }) }
 {}
 
-/// LOAD_MAP and HASH_VALUE may have a size of two bytes, and the HASH_VALUE may come first. Bit 7 of the
-/// load map's fourth byte is no part of the number of entries.
-#[tactic(auto, unfolding(crate::specs::Definition::def_of, block_codec::specs::Blocks::frame, block_codec::specs::Items::size_of, block_codec::specs::Words::word_bytes))]
+/// LOAD_MAP and HASH_VALUE may have a size of two bytes, and the HASH_VALUE may come first. Bit 7
+/// of the load map's fourth byte is no part of the number of entries.
 pub fn long_spellings()
-    ensures { def_of (arm_block (0x000009cb ∷ (digest_words ++ (0x81000486 ∷ 1 ∷ 2 ∷ 3 ∷ 0x01000247 ∷ 2 ∷ []))))
+    ensures { def_of (arm_block (0x000009cb
+        ∷ (digest_words ++ (0x81000486 ∷ 1 ∷ 2 ∷ 3 ∷ 0x01000247 ∷ 2 ∷ []))))
         ≡ Ok (record {
           flags = 0x1021;
           image_word = 1;
@@ -226,7 +225,6 @@ pub fn long_spellings()
 
 /// An item of each kind that stands a second time, in either spelling, and behind other items, is a
 /// fault.
-#[tactic(auto, unfolding(crate::specs::Definition::def_of, block_codec::specs::Blocks::frame, block_codec::specs::Items::size_of, block_codec::specs::Words::word_bytes))]
 pub fn items_that_stand_twice()
     ensures image_type { arm_fault (riscv_item ∷ []) ≡ Some (Repeated 0x42) }
     ensures vector_table { arm_fault (0x00000203 ∷ 0 ∷ 0x000001fe ∷ 0x00000203 ∷ 0 ∷ [])
@@ -238,14 +236,13 @@ pub fn items_that_stand_twice()
     ensures load_map_long { arm_fault (0x00000106 ∷ 0x00000186 ∷ []) ≡ Some (Repeated 0x06) }
     ensures hash_def { arm_fault (0x01000247 ∷ 1 ∷ 0x01000247 ∷ 1 ∷ []) ≡ Some (Repeated 0x47) }
     ensures version { arm_fault (0x00000248 ∷ 0 ∷ 0x00000248 ∷ 0 ∷ []) ≡ Some (Repeated 0x48) }
-    ensures hash_value { arm_fault (0x01000247 ∷ 1 ∷ 0x0000094b ∷ 0 ∷ 0 ∷ 0 ∷ 0 ∷ 0 ∷ 0 ∷ 0 ∷ 0 ∷ 0x0000094b ∷ 0 ∷ 0 ∷ 0 ∷ 0 ∷ 0 ∷ 0 ∷ 0 ∷ 0 ∷ [])
+    ensures hash_value { arm_fault (0x01000247 ∷ 1 ∷ (value_item 0x0000094b ++ value_item 0x0000094b))
         ≡ Some (Repeated 0x4b) }
-    ensures hash_value_long { arm_fault (0x01000247 ∷ 1 ∷ 0x0000094b ∷ 0 ∷ 0 ∷ 0 ∷ 0 ∷ 0 ∷ 0 ∷ 0 ∷ 0 ∷ 0x000009cb ∷ 0 ∷ 0 ∷ 0 ∷ 0 ∷ 0 ∷ 0 ∷ 0 ∷ 0 ∷ [])
+    ensures hash_value_long { arm_fault (0x01000247 ∷ 1 ∷ (value_item 0x0000094b ++ value_item 0x000009cb))
         ≡ Some (Repeated 0x4b) }
 {}
 
 /// Each kind has its size, and one word more or less is a fault.
-#[tactic(auto, unfolding(crate::specs::Definition::def_of, block_codec::specs::Blocks::frame, block_codec::specs::Items::size_of, block_codec::specs::Words::word_bytes))]
 pub fn items_of_wrong_size()
     ensures image_type { result_err (def_of (block_with (0x10210242 ∷ 0 ∷ [])))
         ≡ Some (BadItem 0x42) }
@@ -266,13 +263,12 @@ pub fn items_of_wrong_size()
     ensures version_long { arm_fault (0x00000348 ∷ 0 ∷ 0 ∷ []) ≡ Some (BadItem 0x48) }
     ensures value_short { arm_fault (0x01000247 ∷ 1 ∷ 0x0000084b ∷ 0 ∷ 0 ∷ 0 ∷ 0 ∷ 0 ∷ 0 ∷ 0 ∷ [])
         ≡ Some (BadItem 0x4b) }
-    ensures value_long { arm_fault (0x01000247 ∷ 1 ∷ 0x00000a4b ∷ 0 ∷ 0 ∷ 0 ∷ 0 ∷ 0 ∷ 0 ∷ 0 ∷ 0 ∷ 0 ∷ [])
+    ensures value_long { arm_fault (0x01000247 ∷ 1 ∷ (value_item 0x00000a4b ++ (0 ∷ [])))
         ≡ Some (BadItem 0x4b) }
 {}
 
 /// A HASH_DEF names SHA-256 by the number 1, and a VERSION item has at most 32 rows and a rollback
 /// version of at most 24 for each of them.
-#[tactic(auto, unfolding(crate::specs::Definition::def_of, block_codec::specs::Blocks::frame, block_codec::specs::Items::size_of, block_codec::specs::Words::word_bytes))]
 pub fn contents_of_items()
     ensures no_hash { arm_fault (0x00000247 ∷ 1 ∷ []) ≡ Some (BadItem 0x47) }
     ensures other_hash { arm_fault (0x02000247 ∷ 1 ∷ []) ≡ Some (BadItem 0x47) }
@@ -293,7 +289,6 @@ pub fn contents_of_items()
 
 /// A listed row lies from 0x0c0 to 0xefd, and two rows differ by 3 or more, in whatever order and
 /// with rows between them.
-#[tactic(auto, unfolding(crate::specs::Definition::def_of, block_codec::specs::Blocks::frame, block_codec::specs::Items::size_of, block_codec::specs::Words::word_bytes))]
 pub fn bounds_of_rows()
     ensures below { arm_fault (0x01000348 ∷ 0 ∷ 0x00bf0000 ∷ []) ≡ Some (BadRow 0x0bf) }
     ensures first { arm_fault (0x01000348 ∷ 0 ∷ 0x00c00000 ∷ []) ≡ None }
@@ -314,28 +309,26 @@ pub fn bounds_of_rows()
 {}
 
 /// The hashed words end at or before the HASH_VALUE item; without one, at the end of the block.
-#[tactic(auto, unfolding(crate::specs::Definition::def_of, block_codec::specs::Blocks::frame, block_codec::specs::Items::size_of, block_codec::specs::Words::word_bytes))]
 pub fn bounds_of_hashed_words()
-    ensures at_value { arm_fault (0x01000247 ∷ 4 ∷ 0x0000094b ∷ 0 ∷ 0 ∷ 0 ∷ 0 ∷ 0 ∷ 0 ∷ 0 ∷ 0 ∷ [])
+    ensures at_value { arm_fault (0x01000247 ∷ 4 ∷ value_item 0x0000094b)
         ≡ None }
-    ensures past_value { arm_fault (0x01000247 ∷ 5 ∷ 0x0000094b ∷ 0 ∷ 0 ∷ 0 ∷ 0 ∷ 0 ∷ 0 ∷ 0 ∷ 0 ∷ [])
+    ensures past_value { arm_fault (0x01000247 ∷ 5 ∷ value_item 0x0000094b)
         ≡ Some (BadItem 0x47) }
-    ensures value_first { arm_fault (0x000009cb ∷ 0 ∷ 0 ∷ 0 ∷ 0 ∷ 0 ∷ 0 ∷ 0 ∷ 0 ∷ 0x01000247 ∷ 2 ∷ [])
+    ensures value_first { arm_fault (value_item 0x000009cb ++ (0x01000247 ∷ 2 ∷ []))
         ≡ None }
-    ensures past_first { arm_fault (0x000009cb ∷ 0 ∷ 0 ∷ 0 ∷ 0 ∷ 0 ∷ 0 ∷ 0 ∷ 0 ∷ 0x01000247 ∷ 3 ∷ [])
+    ensures past_first { arm_fault (value_item 0x000009cb ++ (0x01000247 ∷ 3 ∷ []))
         ≡ Some (BadItem 0x47) }
     ensures whole_block { arm_fault (0x01000247 ∷ 7 ∷ []) ≡ None }
     ensures past_block { arm_fault (0x01000247 ∷ 8 ∷ []) ≡ Some (BadItem 0x47) }
-    ensures no_count { arm_fault (0x0000094b ∷ 0 ∷ 0 ∷ 0 ∷ 0 ∷ 0 ∷ 0 ∷ 0 ∷ 0 ∷ [])
+    ensures no_count { arm_fault (value_item 0x0000094b)
         ≡ Some (BadItem 0x4b) }
-    ensures no_count_long { arm_fault (0x000009cb ∷ 0 ∷ 0 ∷ 0 ∷ 0 ∷ 0 ∷ 0 ∷ 0 ∷ 0 ∷ [])
+    ensures no_count_long { arm_fault (value_item 0x000009cb)
         ≡ Some (BadItem 0x4b) }
 {}
 
 /// Where two faults stand together the first is the answer: that of the least item, standing twice
 /// before a wrong size or content, that before rows, each row in order and its range before its
 /// nearness, and all of these before what is judged after all items.
-#[tactic(auto, unfolding(crate::specs::Definition::def_of, block_codec::specs::Blocks::frame, block_codec::specs::Items::size_of, block_codec::specs::Words::word_bytes))]
 pub fn order_of_faults()
     ensures twice_and_wrong { arm_fault (0x00000203 ∷ 0 ∷ 0x00000103 ∷ []) ≡ Some (Repeated 0x03) }
     ensures twice_and_row { arm_fault (0x00000248 ∷ 0 ∷ 0x01000348 ∷ 0 ∷ 0x00bf0000 ∷ [])
@@ -353,13 +346,22 @@ pub fn order_of_faults()
         ≡ Some (BadRow 0x0bf) }
     ensures twice_then_row { arm_fault (arm_item ∷ 0x01000348 ∷ 0 ∷ 0x00bf0000 ∷ [])
         ≡ Some (Repeated 0x42) }
-    ensures later_wrong_item { arm_fault (0x0000094b ∷ 0 ∷ 0 ∷ 0 ∷ 0 ∷ 0 ∷ 0 ∷ 0 ∷ 0 ∷ 0x00000105 ∷ [])
+    ensures later_wrong_item { arm_fault (value_item 0x0000094b ++ (0x00000105 ∷ []))
         ≡ Some (BadItem 0x05) }
-    ensures later_twice { arm_fault (0x0000094b ∷ 0 ∷ 0 ∷ 0 ∷ 0 ∷ 0 ∷ 0 ∷ 0 ∷ 0 ∷ arm_item ∷ [])
+    ensures later_twice { arm_fault (value_item 0x0000094b ++ (arm_item ∷ []))
         ≡ Some (Repeated 0x42) }
-    ensures later_row { arm_fault (0x0000094b ∷ 0 ∷ 0 ∷ 0 ∷ 0 ∷ 0 ∷ 0 ∷ 0 ∷ 0 ∷ 0x01000348 ∷ 0 ∷ 0x00bf0000 ∷ [])
+    ensures later_row { arm_fault (value_item 0x0000094b ++ (0x01000348 ∷ 0 ∷ 0x00bf0000 ∷ []))
         ≡ Some (BadRow 0x0bf) }
     ensures past_and_wrong { arm_fault (0x01000247 ∷ 99 ∷ 0x00000105 ∷ []) ≡ Some (BadItem 0x05) }
-    ensures wrong_count { arm_fault (0x02000247 ∷ 1 ∷ 0x0000094b ∷ 0 ∷ 0 ∷ 0 ∷ 0 ∷ 0 ∷ 0 ∷ 0 ∷ 0 ∷ [])
+    ensures wrong_count { arm_fault (0x02000247 ∷ 1 ∷ value_item 0x0000094b)
         ≡ Some (BadItem 0x47) }
+{}
+
+/// A cleared trial bit is the topmost of the first IMAGE_TYPE header.
+pub fn trial_bits()
+    ensures set { trial_cleared (block_with (0x90210142 ∷ [])) ≡ arm_block [] }
+    ensures clear { trial_cleared (arm_block []) ≡ arm_block [] }
+    ensures second { trial_cleared (block_with (0x00000203 ∷ 0x80000000 ∷ 0x90210142 ∷ 0x90210142 ∷ []))
+        ≡ block_with (0x00000203 ∷ 0x80000000 ∷ 0x10210142 ∷ 0x90210142 ∷ []) }
+    ensures other { trial_cleared (block_with (0x900001fe ∷ [])) ≡ block_with (0x900001fe ∷ []) }
 {}

@@ -55,7 +55,8 @@ fn is_right(block: &Block, item: &Item) -> bool
 /// The fault of an item behind those before it.
 fn fault_of(block: &Block, found: &Found, item: &Item) -> Option<DefFault>
     requires of_block { Contains (items_of block.now.items) item.now }
-    ensures { (before : List _) → found.now ≡ found_in before → result ≡ item_fault (block_words block.now) before item.now }
+    ensures { (before : List _) → found.now ≡ found_in before
+        → result ≡ item_fault (block_words block.now) before item.now }
 {
     let kind = kind_of(item.kind);
     if !is_read(kind) {
@@ -73,7 +74,8 @@ fn fault_of(block: &Block, found: &Found, item: &Item) -> Option<DefFault>
 
 /// The items of a block by their kinds, or the first fault of one of them.
 pub(crate) fn find_items(block: &Block) -> Result<Found, DefFault>
-    ensures value { result ≡ ok_unless (first_item_fault block.now) (found_in (items_of block.now.items)) }
+    ensures value { result
+        ≡ ok_unless (first_item_fault block.now) (found_in (items_of block.now.items)) }
     ensures whole { IsWhole block.now }
 {
     let mut found = Found::new();

@@ -21,16 +21,17 @@ use crate::fault::DefFault;
 /// gives a fault exactly where that is the first, by the relation over items in order.
 pub fn first_fault_exact()
     ensures defined { (b : BlockView) (def : Def)
-        → (def_of b ≡ Ok def) ↔ (IsFaultless b × (def_record (block_words b) (items_of b.items) ≡ def)) }
+        → (def_of b ≡ Ok def)
+        ↔ (IsFaultless b × (def_record (block_words b) (items_of b.items) ≡ def)) }
     ensures fault { (b : BlockView) (f : DefFault) → (def_of b ≡ Err f) ↔ IsDefFault b f }
     ensures item { (words : List ℕ) (before : List Item) (item : Item) (f : DefFault)
         → (item_fault words before item ≡ Some f) ↔ IsItemFault words before item f }
 {}
 
 /// Of each definition: its flags and place are those of the block's IMAGE_TYPE item; its load map's
-/// index is that of a LOAD_MAP item of the right size; the hashed words are in the block, and before
-/// the HASH_VALUE item, where there is one; its rows are rollback rows, at most 32; and there is a
-/// rollback version, within its bound, exactly where rows are listed.
+/// index is that of a LOAD_MAP item of the right size; the hashed words are in the block, and
+/// before the HASH_VALUE item, where there is one; its rows are rollback rows, at most 32; and
+/// there is a rollback version, within its bound, exactly where rows are listed.
 pub fn definitions_are_sound()
     ensures { (b : BlockView) (def : Def)
         → AreItems b.items → has_image_type b ≡ true → def_of b ≡ Ok def → IsDefinition b def }
@@ -38,13 +39,14 @@ pub fn definitions_are_sound()
 
 /// A block that gives a definition has at most one item of each kind that is read.
 pub fn one_item_of_each_kind()
-    ensures { (b : BlockView) (def : Def) (kind i j : ℕ) (item other : Item) → def_of b ≡ Ok def → is_read_kind kind ≡ true
+    ensures { (b : BlockView) (def : Def) (kind i j : ℕ) (item other : Item)
+        → def_of b ≡ Ok def → is_read_kind kind ≡ true
         → slice_get (items_of b.items) i ≡ Some item → is_of_kind kind item ≡ true
         → slice_get (items_of b.items) j ≡ Some other → is_of_kind kind other ≡ true → i ≡ j }
 {}
 
-/// A block whose trial bit is cleared, as a buy leaves it, gives the same definition but for that bit
-/// of its flags, or the same fault; it has the same size and suits the same processors.
+/// A block whose trial bit is cleared, as a buy leaves it, gives the same definition but for that
+/// bit of its flags, or the same fault; it has the same size and suits the same processors.
 pub fn trial_bit_cleared()
     ensures definition { (b : BlockView) → AreItems b.items → has_image_type b ≡ true
         → def_of (trial_cleared b) ≡ untried_answer (def_of b) }

@@ -21,3 +21,6 @@ pub use fault::DefFault;
 pub use images::{image_flags, suits};
 pub use reading::read_def;
 pub use started::Started;
+
+#[cfg(test)]
+mod tests;

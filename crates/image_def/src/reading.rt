@@ -2,17 +2,16 @@
 
 ghost use Rattle.std.specs.Prelude.{◌≡◌, ◌≤◌, true, pos, None, option_map, option_and_then, unwrap_or, IfSome, IfOk, IfErr, []};
 ghost use Rattle.std.specs.Option.{option_map_or};
-ghost use Rattle.std.specs.Int.{w32, cast_signed};
 ghost use Rattle.block_codec.specs.Items.{items_of};
 ghost use Rattle.block_codec.specs.Blocks.{block_words, IsWhole};
-ghost use Rattle.block_codec.specs.Kinds.{version_of};
+ghost use Rattle.block_codec.specs.Kinds.{version_of, digest_of};
 ghost use Rattle.image_def.specs.Suits.{has_image_type};
 ghost use Rattle.image_def.specs.Rows.{rollback_in, rows_in};
 ghost use Rattle.image_def.specs.Found.{found_in, IsHeld, IsVersion};
 ghost use Rattle.image_def.specs.Faults.{first_item_fault, IsDefFault};
 ghost use Rattle.image_def.specs.Flags.{flags_of};
 ghost use Rattle.image_def.specs.Guarantees.{IsDefinition};
-ghost use Rattle.image_def.specs.Definition.{second_word, entry_point_in, no_version, def_record, def_of};
+ghost use Rattle.image_def.specs.Definition.{second_word, delta_in, entry_point_in, no_version, def_record, def_of};
 
 use crate::fault::DefFault;
 use crate::found::Found;
@@ -76,7 +75,7 @@ fn entry_point_of(block: &Block, item: Option<Item>) -> Option<EntryPoint>
 /// The delta of a ROLLING_WINDOW_DELTA item, or 0.
 fn delta_of(block: &Block, item: Option<Item>) -> i32
     requires { IfSome item (λ item. IsHeld block.now 2 item) }
-    ensures { result ≡ option_map_or (λ item. cast_signed w32 (second_word (block_words block.now) item)) item (pos 0) }
+    ensures { result ≡ option_map_or (delta_in (block_words block.now)) item (pos 0) }
 {
     match item {
         Some(item) => block.item_word(&item, 1).cast_signed(),
@@ -87,7 +86,7 @@ fn delta_of(block: &Block, item: Option<Item>) -> i32
 /// The digest of a HASH_VALUE item.
 fn digest_of(block: &Block, item: Option<Item>) -> Option<[u8; 32]>
     requires { IfSome item (λ item. IsHeld block.now 0 item) }
-    ensures { result ≡ option_and_then (Rattle.block_codec.specs.Kinds.digest_of (block_words block.now)) item }
+    ensures { result ≡ option_and_then (digest_of (block_words block.now)) item }
 {
     match item {
         Some(item) => digest(block, &item),
@@ -98,7 +97,8 @@ fn digest_of(block: &Block, item: Option<Item>) -> Option<[u8; 32]>
 /// The version of a VERSION item, or 0.0.
 fn version_of(block: &Block, item: Option<Item>) -> Version
     requires { IfSome item (λ item. IsVersion block.now item) }
-    ensures { result ≡ unwrap_or (option_and_then (version_of (block_words block.now)) item) no_version }
+    ensures { result
+        ≡ unwrap_or (option_and_then (version_of (block_words block.now)) item) no_version }
 {
     let none = Version { major: 0, minor: 0 };
     match item {
@@ -163,8 +163,8 @@ fn read_items(block: &Block) -> Result<Def, DefFault>
     }
 }
 
-/// The definition of a block that has an IMAGE_TYPE item, or its first fault: that of the least item
-/// that has one, judged by the items before it, and otherwise the one for after all items.
+/// The definition of a block that has an IMAGE_TYPE item, or its first fault: that of the least
+/// item that has one, judged by the items before it, and otherwise the one for after all items.
 pub fn read_def(block: &Block) -> Result<Def, DefFault>
     requires { has_image_type block.now ≡ true }
     ensures value { result ≡ def_of block.now }
