@@ -23,64 +23,89 @@ use Rattle.image_def.proofs.FoundLemmas.{NoneBefore, find-place, find-passes}
 -- the order of an item's faults, by its tests
 abbrev pub judged : Bool → Bool → Bool → Bool → ℕ → Option DefFault → Option DefFault
 judged read some right version kind rows =
-    cond (not read) None (cond some (Some (Repeated kind)) (cond (not right) (Some (BadItem kind)) (cond version rows None)))
+    cond (not read) None (cond some (Some (Repeated kind))
+    (cond (not right) (Some (BadItem kind)) (cond version rows None)))
 
-module _ (words : List ℕ) (before : List Item) (item : Item) (kind : ℕ) (is : kind ≡ first_spelling item.kind) (read : is_read_kind kind ≡ true) where
+module _ (words : List ℕ) (before : List Item) (item : Item) (kind : ℕ) (is : kind ≡ first_spelling item.kind)
+    (read : is_read_kind kind ≡ true) where
   at_kind : item_fault words before item
-      ≡ judged (is_read_kind kind) (list_any (is_of_kind kind) before) (is_well_formed words item) (eqb kind VERSION) kind (first_fault row_fault (rows_in words item))
+      ≡ judged (is_read_kind kind) (list_any (is_of_kind kind) before) (is_well_formed words item)
+      (eqb kind VERSION) kind (first_fault row_fault (rows_in words item))
   at_kind =
-      ap (λ k. judged (is_read_kind k) (list_any (is_of_kind k) before) (is_well_formed words item) (eqb k VERSION) k (first_fault row_fault (rows_in words item)))
+      ap (λ k. judged (is_read_kind k) (list_any (is_of_kind k) before) (is_well_formed words item)
+      (eqb k VERSION) k (first_fault row_fault (rows_in words item)))
       (sym is)
 
   read_kind : item_fault words before item
-      ≡ judged true (list_any (is_of_kind kind) before) (is_well_formed words item) (eqb kind VERSION) kind (first_fault row_fault (rows_in words item))
+      ≡ judged true (list_any (is_of_kind kind) before) (is_well_formed words item) (eqb kind VERSION) kind
+      (first_fault row_fault (rows_in words item))
   read_kind =
       at_kind
-      ∙ ap (λ b. judged b (list_any (is_of_kind kind) before) (is_well_formed words item) (eqb kind VERSION) kind (first_fault row_fault (rows_in words item))) read
+      ∙ ap (λ b. judged b (list_any (is_of_kind kind) before) (is_well_formed words item) (eqb kind VERSION) kind
+      (first_fault row_fault (rows_in words item))) read
 
   pub fault-repeated : list_any (is_of_kind kind) before ≡ true → Some (Repeated kind) ≡ item_fault words before item
   fault-repeated some =
-      sym (read_kind ∙ ap (λ b. judged true b (is_well_formed words item) (eqb kind VERSION) kind (first_fault row_fault (rows_in words item))) some)
+      sym (read_kind ∙ ap (λ b. judged true b (is_well_formed words item) (eqb kind VERSION) kind
+      (first_fault row_fault (rows_in words item))) some)
 
   first_one : list_any (is_of_kind kind) before ≡ false → item_fault words before item
-      ≡ judged true false (is_well_formed words item) (eqb kind VERSION) kind (first_fault row_fault (rows_in words item))
+      ≡ judged true false (is_well_formed words item) (eqb kind VERSION) kind
+      (first_fault row_fault (rows_in words item))
   first_one none =
-      read_kind ∙ ap (λ b. judged true b (is_well_formed words item) (eqb kind VERSION) kind (first_fault row_fault (rows_in words item))) none
+      read_kind ∙ ap (λ b. judged true b (is_well_formed words item) (eqb kind VERSION) kind
+      (first_fault row_fault (rows_in words item))) none
 
-  pub fault-bad : list_any (is_of_kind kind) before ≡ false → is_well_formed words item ≡ false → Some (BadItem kind) ≡ item_fault words before item
+  pub fault-bad : list_any (is_of_kind kind) before ≡ false → is_well_formed words item ≡ false
+      → Some (BadItem kind) ≡ item_fault words before item
   fault-bad none wrong =
-      sym (first_one none ∙ ap (λ b. judged true false b (eqb kind VERSION) kind (first_fault row_fault (rows_in words item))) wrong)
+      sym (first_one none ∙ ap (λ b. judged true false b (eqb kind VERSION) kind
+      (first_fault row_fault (rows_in words item))) wrong)
 
-  right_one : list_any (is_of_kind kind) before ≡ false → is_well_formed words item ≡ true → item_fault words before item
+  right_one : list_any (is_of_kind kind) before ≡ false → is_well_formed words item ≡ true
+      → item_fault words before item
       ≡ judged true false true (eqb kind VERSION) kind (first_fault row_fault (rows_in words item))
   right_one none right =
-      first_one none ∙ ap (λ b. judged true false b (eqb kind VERSION) kind (first_fault row_fault (rows_in words item))) right
+      first_one none ∙ ap (λ b. judged true false b (eqb kind VERSION) kind
+      (first_fault row_fault (rows_in words item))) right
 
-  pub fault-rows : list_any (is_of_kind kind) before ≡ false → is_well_formed words item ≡ true → kind ≡ VERSION → first_fault row_fault (rows_in words item) ≡ item_fault words before item
+  pub fault-rows : list_any (is_of_kind kind) before ≡ false → is_well_formed words item ≡ true → kind ≡ VERSION
+      → first_fault row_fault (rows_in words item) ≡ item_fault words before item
   fault-rows none right version =
-      sym (right_one none right ∙ ap (λ b. judged true false true b kind (first_fault row_fault (rows_in words item))) (eq-eqb kind VERSION version))
+      sym (right_one none right ∙ ap
+      (λ b. judged true false true b kind (first_fault row_fault (rows_in words item)))
+      (eq-eqb kind VERSION version))
 
-  pub fault-none : list_any (is_of_kind kind) before ≡ false → is_well_formed words item ≡ true → kind ≢ VERSION → None ≡ item_fault words before item
+  pub fault-none : list_any (is_of_kind kind) before ≡ false → is_well_formed words item ≡ true → kind ≢ VERSION
+      → None ≡ item_fault words before item
   fault-none none right other =
-      sym (right_one none right ∙ ap (λ b. judged true false true b kind (first_fault row_fault (rows_in words item))) (ne_eqb kind VERSION other))
+      sym (right_one none right ∙ ap
+      (λ b. judged true false true b kind (first_fault row_fault (rows_in words item)))
+      (ne_eqb kind VERSION other))
 
-pub fault-unread : (words : List ℕ) (before : List Item) (item : Item) → is_read_kind (first_spelling item.kind) ≡ false → item_fault words before item ≡ None
+pub fault-unread : (words : List ℕ) (before : List Item) (item : Item)
+    → is_read_kind (first_spelling item.kind) ≡ false → item_fault words before item ≡ None
 fault-unread words before item unread =
-    ap (λ b. judged b (list_any (is_of_kind (first_spelling item.kind)) before) (is_well_formed words item) (eqb (first_spelling item.kind) VERSION) (first_spelling item.kind)
+    ap (λ b. judged b (list_any (is_of_kind (first_spelling item.kind)) before) (is_well_formed words item)
+    (eqb (first_spelling item.kind) VERSION) (first_spelling item.kind)
     (first_fault row_fault (rows_in words item))) unread
 
 -- what an item without a fault has
-faultless : (read some right version : Bool) (kind : ℕ) (rows : Option DefFault) → judged read some right version kind rows ≡ None → read ≡ true
+faultless : (read some right version : Bool) (kind : ℕ) (rows : Option DefFault)
+    → judged read some right version kind rows ≡ None → read ≡ true
     → (some ≡ false) × (right ≡ true) × (version ≡ true → rows ≡ None)
 faultless read some right version kind rows none is = grind arith
 
-pub faultless_item : (words : List ℕ) (before : List Item) (item : Item) → item_fault words before item ≡ None → is_read_kind (first_spelling item.kind) ≡ true
+pub faultless_item : (words : List ℕ) (before : List Item) (item : Item) → item_fault words before item ≡ None
+    → is_read_kind (first_spelling item.kind) ≡ true
     → (list_any (is_of_kind (first_spelling item.kind)) before ≡ false) × (is_well_formed words item ≡ true)
     × (eqb (first_spelling item.kind) VERSION ≡ true → first_fault row_fault (rows_in words item) ≡ None)
 faultless_item words before item none read =
-    faultless (is_read_kind (first_spelling item.kind)) _ _ _ (first_spelling item.kind) (first_fault row_fault (rows_in words item)) none read
+    faultless (is_read_kind (first_spelling item.kind)) _ _ _ (first_spelling item.kind)
+    (first_fault row_fault (rows_in words item)) none read
 
-pub none_before : (words : List ℕ) (before : List Item) (item : Item) → item_fault words before item ≡ None → NoneBefore before item
+pub none_before : (words : List ℕ) (before : List Item) (item : Item) → item_fault words before item ≡ None
+    → NoneBefore before item
 none_before words before item none read = (faultless_item words before item none read).0
 
 -- the item of a kind that is read, among items without a fault
@@ -90,8 +115,10 @@ pub record IsSoundItem (words : List ℕ) (items : List Item) (kind : ℕ) (item
   pub right : is_well_formed_as kind words item ≡ true
   pub rows : kind ≡ VERSION → first_fault row_fault (rows_in words item) ≡ None
 
-pub sound_at : (words : List ℕ) (items : List Item) (kind i : ℕ) (item : Item) → AreSound (item_fault words) items (length items)
-    → is_read_kind kind ≡ true → slice_get items i ≡ Some item → is_of_kind kind item ≡ true → IsSoundItem words items kind item
+pub sound_at : (words : List ℕ) (items : List Item) (kind i : ℕ) (item : Item)
+    → AreSound (item_fault words) items (length items)
+    → is_read_kind kind ≡ true → slice_get items i ≡ Some item → is_of_kind kind item ≡ true
+    → IsSoundItem words items kind item
 sound_at words items kind i item sound read at is =
     let same : first_spelling item.kind ≡ kind = eqb-true (first_spelling item.kind) kind is in
     let lt = slice_get_within items i item at in
@@ -104,7 +131,8 @@ sound_at words items kind i item sound read at is =
       rows = λ e. facts.2 (eq-eqb (first_spelling item.kind) VERSION (same ∙ e));
     }
 
-pub sound_item : (words : List ℕ) (items : List Item) (kind : ℕ) (item : Item) → AreSound (item_fault words) items (length items)
+pub sound_item : (words : List ℕ) (items : List Item) (kind : ℕ) (item : Item)
+    → AreSound (item_fault words) items (length items)
     → is_read_kind kind ≡ true → item_of_kind kind items ≡ Some item → IsSoundItem words items kind item
 sound_item words items kind item sound read is =
     let at = find-place (is_of_kind kind) items item is in
@@ -113,7 +141,8 @@ sound_item words items kind item sound read is =
 version_kind : (kind : ℕ) → first_spelling kind ≡ VERSION → kind ≡ VERSION
 version_kind kind e = grind (arith, nat_tests)
 
-pub version_size : (words : List ℕ) (item : Item) → is_some (version_of words item) ≡ true → item.words ≡ version_words item.high
+pub version_size : (words : List ℕ) (item : Item) → is_some (version_of words item) ≡ true
+    → item.words ≡ version_words item.high
 version_size words item e = grind (arith, nat_tests)
 
 -- what a right VERSION item has
@@ -133,7 +162,8 @@ right_version words item e =
       within = leb-true (unwrap_or (rollback_in words item) 0) (24 * item.high) p.1;
     }
 
-module _ (b : BlockView) (sound : AreSound (item_fault (block_words b)) (items_of b.items) (length (items_of b.items))) where
+module _ (b : BlockView) (sound : AreSound (item_fault (block_words b)) (items_of b.items)
+    (length (items_of b.items))) where
   pub held-vector : (item : Item) → item_of_kind VECTOR_TABLE (items_of b.items) ≡ Some item → IsHeld b 2 item
   held-vector item is =
       let s = sound_item (block_words b) (items_of b.items) VECTOR_TABLE item sound refl is in
@@ -150,8 +180,10 @@ module _ (b : BlockView) (sound : AreSound (item_fault (block_words b)) (items_o
   held-entry item is =
       let s = sound_item (block_words b) (items_of b.items) ENTRY_POINT item sound refl is in
       elim (or_cases (eqb item.words 3) (eqb item.words 4) s.right) [
-        | inl three ↦ let size : item.words ≡ 3 = eqb-true item.words 3 three in record { of_block = s.of_items; size = omega arith }
-        | inr four ↦ let size : item.words ≡ 4 = eqb-true item.words 4 four in record { of_block = s.of_items; size = omega arith }
+        | inl three ↦ let size : item.words ≡ 3 = eqb-true item.words 3 three in
+            record { of_block = s.of_items; size = omega arith }
+        | inr four ↦ let size : item.words ≡ 4 = eqb-true item.words 4 four in
+            record { of_block = s.of_items; size = omega arith }
       ]
 
   pub held-digest : (item : Item) → item_of_kind HASH_VALUE (items_of b.items) ≡ Some item → IsHeld b 0 item
@@ -166,7 +198,8 @@ module _ (b : BlockView) (sound : AreSound (item_fault (block_words b)) (items_o
       record { of_block = s.of_items; kind = version_kind item.kind s.kind_is; size = v.size; few = v.few }
 
 -- the fault for after all items, where there is a HASH_DEF and no HASH_VALUE
-pub last-counted : (words : List ℕ) (items : List Item) (count : ℕ) → item_of_kind HASH_VALUE items ≡ None → hash_count_in words items ≡ Some count
+pub last-counted : (words : List ℕ) (items : List Item) (count : ℕ) → item_of_kind HASH_VALUE items ≡ None
+    → hash_count_in words items ≡ Some count
     → last_fault words items ≡ cond (leb count (length words)) None (Some (BadItem HASH_DEF))
 last-counted words items count none some =
     ap (λ o. hashed_fault (option_map (λ (item : Item). item.first) o) (hash_count_in words items) (length words)) none

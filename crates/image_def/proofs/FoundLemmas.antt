@@ -28,7 +28,8 @@ module _ {X : Type 0} (p : X → Bool) where
   is_some-find [] = refl
   is_some-find (x ∷ xs) = go (p x) (is_some-find xs)
     where
-      go : (b : Bool) → is_some (find p xs) ≡ list_any p xs → is_some (cond b (Some x) (find p xs)) ≡ (b || list_any p xs)
+      go : (b : Bool) → is_some (find p xs) ≡ list_any p xs
+          → is_some (cond b (Some x) (find p xs)) ≡ (b || list_any p xs)
       go true rest = refl
       go false rest = rest
 
@@ -39,7 +40,8 @@ module _ {X : Type 0} (p : X → Bool) where
       go None f = refl
       go (Some x) f = absurd (true≢false f)
 
-  find-more : (xs : List X) (y : X) → (p y ≡ true → list_any p xs ≡ false) → find p (xs ++ y ∷ []) ≡ cond (p y) (Some y) (find p xs)
+  find-more : (xs : List X) (y : X) → (p y ≡ true → list_any p xs ≡ false)
+      → find p (xs ++ y ∷ []) ≡ cond (p y) (Some y) (find p xs)
   find-more xs y none = find-append p xs (y ∷ []) ∙ go (p y) refl
     where
       go : (b : Bool) → p y ≡ b → option_or (find p xs) (cond b (Some y) None) ≡ cond b (Some y) (find p xs)
@@ -50,18 +52,24 @@ module _ {X : Type 0} (p : X → Bool) where
   is_some-from i [] = refl
   is_some-from i (x ∷ xs) = go (p x) (is_some-from (i + 1) xs)
     where
-      go : (b : Bool) → is_some (position_from p (i + 1) xs) ≡ list_any p xs → is_some (cond b (Some i) (position_from p (i + 1) xs)) ≡ (b || list_any p xs)
+      go : (b : Bool) → is_some (position_from p (i + 1) xs) ≡ list_any p xs
+          → is_some (cond b (Some i) (position_from p (i + 1) xs)) ≡ (b || list_any p xs)
       go true rest = refl
       go false rest = rest
 
-  from-more : (i : ℕ) (xs : List X) (y : X) → (p y ≡ true → list_any p xs ≡ false) → position_from p i (xs ++ y ∷ []) ≡ cond (p y) (Some (i + length xs)) (position_from p i xs)
+  from-more : (i : ℕ) (xs : List X) (y : X) → (p y ≡ true → list_any p xs ≡ false)
+      → position_from p i (xs ++ y ∷ []) ≡ cond (p y) (Some (i + length xs)) (position_from p i xs)
   from-more i [] y none = ap (λ k. cond (p y) (Some k) None) (omega arith)
   from-more i (x ∷ xs) y none = go (p x) refl (from-more (i + 1) xs y)
     where
       go : (b : Bool) → p x ≡ b
-          → ((p y ≡ true → list_any p xs ≡ false) → position_from p (i + 1) (xs ++ y ∷ []) ≡ cond (p y) (Some (i + 1 + length xs)) (position_from p (i + 1) xs))
-          → cond b (Some i) (position_from p (i + 1) (xs ++ y ∷ [])) ≡ cond (p y) (Some (i + suc (length xs))) (cond b (Some i) (position_from p (i + 1) xs))
-      go true e rest = ap (λ c. cond c (Some (i + suc (length xs))) (Some i)) (sym (not_both (p y) (ap (λ c. c || list_any p xs) e) none))
+          → ((p y ≡ true → list_any p xs ≡ false)
+          → position_from p (i + 1) (xs ++ y ∷ []) ≡ cond (p y) (Some (i + 1 + length xs))
+          (position_from p (i + 1) xs))
+          → cond b (Some i) (position_from p (i + 1) (xs ++ y ∷ [])) ≡ cond (p y) (Some (i + suc (length xs)))
+          (cond b (Some i) (position_from p (i + 1) xs))
+      go true e rest = ap (λ c. cond c (Some (i + suc (length xs))) (Some i))
+          (sym (not_both (p y) (ap (λ c. c || list_any p xs) e) none))
       go false e rest =
           rest (λ t. ap (λ c. c || list_any p xs) (sym e) ∙ none t)
           ∙ ap (λ k. cond (p y) (Some k) (position_from p (i + 1) xs)) (omega arith)
@@ -70,10 +78,12 @@ module _ {X : Type 0} (p : X → Bool) where
   pub is_some-position : (xs : List X) → is_some (position p xs) ≡ list_any p xs
   is_some-position xs = ap is_some (position_from-zero p xs) ∙ is_some-from 0 xs
 
-  position-more : (xs : List X) (y : X) → (p y ≡ true → list_any p xs ≡ false) → position p (xs ++ y ∷ []) ≡ cond (p y) (Some (length xs)) (position p xs)
+  position-more : (xs : List X) (y : X) → (p y ≡ true → list_any p xs ≡ false)
+      → position p (xs ++ y ∷ []) ≡ cond (p y) (Some (length xs)) (position p xs)
   position-more xs y none =
       position_from-zero p (xs ++ y ∷ []) ∙ from-more 0 xs y none
-      ∙ ap (λ k. cond (p y) (Some k) (position_from p 0 xs)) (omega arith) ∙ ap (cond (p y) (Some (length xs))) (sym (position_from-zero p xs))
+      ∙ ap (λ k. cond (p y) (Some k) (position_from p 0 xs)) (omega arith)
+      ∙ ap (cond (p y) (Some (length xs))) (sym (position_from-zero p xs))
 
   pub find-passes : (xs : List X) (x : X) → find p xs ≡ Some x → p x ≡ true
   find-passes [] x e = absurd (none-some x e)
@@ -87,7 +97,8 @@ module _ {X : Type 0} (p : X → Bool) where
   find-place [] x e = absurd (none-some x e)
   find-place (y ∷ xs) x e = go (p y) e (find-place xs x)
     where
-      go : (b : Bool) → cond b (Some y) (find p xs) ≡ Some x → (find p xs ≡ Some x → (i : ℕ) × (slice_get xs i ≡ Some x)) → (i : ℕ) × (slice_get (y ∷ xs) i ≡ Some x)
+      go : (b : Bool) → cond b (Some y) (find p xs) ≡ Some x
+          → (find p xs ≡ Some x → (i : ℕ) × (slice_get xs i ≡ Some x)) → (i : ℕ) × (slice_get (y ∷ xs) i ≡ Some x)
       go true f rest = (0, f)
       go false f rest = let at = rest f in (suc at.0, at.1)
 
@@ -97,17 +108,20 @@ module _ {X : Type 0} (p : X → Bool) where
       (at.0, slice_get_within xs at.0 x at.1, get_or_from_slice_get xs at.0 x x at.1)
 
   -- the first elements, none of which passes, and one that does
-  pub find_here : (xs : List X) (i : ℕ) (x : X) → find p (take i xs) ≡ None → slice_get xs i ≡ Some x → p x ≡ true → find p xs ≡ Some x
+  pub find_here : (xs : List X) (i : ℕ) (x : X) → find p (take i xs) ≡ None → slice_get xs i ≡ Some x → p x ≡ true
+      → find p xs ≡ Some x
   find_here [] i x none at t = absurd (none-some x at)
   find_here (y ∷ xs) zero x none at t =
       subst (λ z. find p (z ∷ xs) ≡ Some x) (sym (same_Some y x at)) (ap (λ b. cond b (Some x) (find p xs)) t)
   find_here (y ∷ xs) (suc i) x none at t = go (p y) none (λ rest. find_here xs i x rest at t)
     where
-      go : (b : Bool) → cond b (Some y) (find p (take i xs)) ≡ None → (find p (take i xs) ≡ None → find p xs ≡ Some x) → cond b (Some y) (find p xs) ≡ Some x
+      go : (b : Bool) → cond b (Some y) (find p (take i xs)) ≡ None
+          → (find p (take i xs) ≡ None → find p xs ≡ Some x) → cond b (Some y) (find p xs) ≡ Some x
       go true f rest = absurd (none-some y (sym f))
       go false f rest = rest f
 
-  pub find_past : (xs : List X) (i : ℕ) (x : X) → find p (take i xs) ≡ None → slice_get xs i ≡ Some x → p x ≡ false → find p (take (i + 1) xs) ≡ None
+  pub find_past : (xs : List X) (i : ℕ) (x : X) → find p (take i xs) ≡ None → slice_get xs i ≡ Some x → p x ≡ false
+      → find p (take (i + 1) xs) ≡ None
   find_past xs i x none at f =
       let lt = slice_get_within xs i x at in
       let here : p (get_or xs i x) ≡ false = ap p (get_or_from_slice_get xs i x x at) ∙ f in
@@ -130,10 +144,31 @@ slot : (kind : ℕ) (before : List Item) (item : Item) → is_read_kind kind ≡
     → item_of_kind kind (before ++ item ∷ []) ≡ cond (is_of_kind kind item) (Some item) (item_of_kind kind before)
 slot kind before item read none = find-more (is_of_kind kind) before item (none_of kind before item read none)
 
-same_found : (a b c d f g h a' b' c' d' f' g' h' : Option Item) (e e' : Option ℕ) → a ≡ a' → b ≡ b' → c ≡ c' → d ≡ d' → e ≡ e' → f ≡ f' → g ≡ g' → h ≡ h'
+same_found : (a b c d f g h a' b' c' d' f' g' h' : Option Item) (e e' : Option ℕ) → a ≡ a' → b ≡ b' → c ≡ c'
+    → d ≡ d' → e ≡ e' → f ≡ f' → g ≡ g' → h ≡ h'
     → ◌≡◌ {A = Found}
-    (record { image_type = a; vector_table = b; entry_point = c; window_delta = d; load_map = e; hash_def = f; version = g; hash_value = h })
-    (record { image_type = a'; vector_table = b'; entry_point = c'; window_delta = d'; load_map = e'; hash_def = f'; version = g'; hash_value = h' })
+    (record {
+      image_type = a;
+      vector_table = b;
+      entry_point = c;
+      window_delta = d;
+      load_map = e;
+      hash_def =
+          f;
+      version = g;
+      hash_value = h;
+    })
+    (record {
+      image_type = a';
+      vector_table = b';
+      entry_point = c';
+      window_delta = d';
+      load_map = e';
+      hash_def =
+          f';
+      version = g';
+      hash_value = h';
+    })
 same_found a b c d f g h a' b' c' d' f' g' h' e e' p q r s t u v w = cc
 
 pub found-more : (before : List Item) (item : Item) → NoneBefore before item
@@ -146,36 +181,46 @@ found-more before item none =
     (slot HASH_DEF before item refl none) (slot VERSION before item refl none) (slot HASH_VALUE before item refl none)
 
 -- the items found among the first ones, with the next one
-pub found_step : (items : List Item) (i : ℕ) (item : Item) → slice_get items i ≡ Some item → NoneBefore (take i items) item
+pub found_step : (items : List Item) (i : ℕ) (item : Item) → slice_get items i ≡ Some item
+    → NoneBefore (take i items) item
     → with_item i item (found_in (take i items)) ≡ found_in (take (i + 1) items)
 found_step items i item at none =
     let lt = slice_get_within items i item at in
     let long : length (take i items) ≡ i = length-take-le i items (omega (arith, lt)) in
-    let more : take (i + 1) items ≡ take i items ++ item ∷ [] = take_more items i item lt ∙ ap (λ x. take i items ++ x ∷ []) (get_or_from_slice_get items i item item at) in
-    ap (λ k. with_item k item (found_in (take i items))) (sym long) ∙ sym (found-more (take i items) item none) ∙ ap found_in (sym more)
+    let more : take (i + 1) items ≡ take i items ++ item ∷ [] = take_more items i item lt
+    ∙ ap (λ x. take i items ++ x ∷ []) (get_or_from_slice_get items i item item at) in
+    ap (λ k. with_item k item (found_in (take i items))) (sym long) ∙ sym (found-more (take i items) item none)
+    ∙ ap found_in (sym more)
 
 -- one step of a chain of tests for a kind
-test : {X : Type 0} (kind k : ℕ) (a r : X) (t : ℕ → X) → (kind ≡ k → a ≡ t kind) → ((kind ≡ k → ⊥) → r ≡ t kind) → cond (eqb kind k) a r ≡ t kind
+test : {X : Type 0} (kind k : ℕ) (a r : X) (t : ℕ → X) → (kind ≡ k → a ≡ t kind) → ((kind ≡ k → ⊥) → r ≡ t kind)
+    → cond (eqb kind k) a r ≡ t kind
 test kind k a r t here other =
     elim (cases_eq kind k) [
       | inl e ↦ ap (λ b. cond b a r) (eq-eqb kind k e) ∙ here e
       | inr ne ↦ ap (λ b. cond b a r) (ne_eqb kind k ne) ∙ other ne
     ]
 
-here_some : (k kind : ℕ) (before : List Item) → kind ≡ k → is_some (item_of_kind k before) ≡ list_any (is_of_kind kind) before
+here_some : (k kind : ℕ) (before : List Item) → kind ≡ k
+    → is_some (item_of_kind k before) ≡ list_any (is_of_kind kind) before
 here_some k kind before e =
-    subst (λ i. is_some (item_of_kind k before) ≡ list_any (is_of_kind i) before) (sym e) (is_some-find (is_of_kind k) before)
+    subst (λ i. is_some (item_of_kind k before) ≡ list_any (is_of_kind i) before) (sym e)
+    (is_some-find (is_of_kind k) before)
 
-here_place : (k kind : ℕ) (before : List Item) → kind ≡ k → is_some (position (is_of_kind k) before) ≡ list_any (is_of_kind kind) before
+here_place : (k kind : ℕ) (before : List Item) → kind ≡ k
+    → is_some (position (is_of_kind k) before) ≡ list_any (is_of_kind kind) before
 here_place k kind before e =
-    subst (λ i. is_some (position (is_of_kind k) before) ≡ list_any (is_of_kind i) before) (sym e) (is_some-position (is_of_kind k) before)
+    subst (λ i. is_some (position (is_of_kind k) before) ≡ list_any (is_of_kind i) before) (sym e)
+    (is_some-position (is_of_kind k) before)
 
-last_kind : (kind : ℕ) → is_read_kind kind ≡ true → kind ≢ IMAGE_TYPE → kind ≢ VECTOR_TABLE → kind ≢ ENTRY_POINT → kind ≢ WINDOW_DELTA
+last_kind : (kind : ℕ) → is_read_kind kind ≡ true → kind ≢ IMAGE_TYPE → kind ≢ VECTOR_TABLE → kind ≢ ENTRY_POINT
+    → kind ≢ WINDOW_DELTA
     → kind ≢ LOAD_MAP → kind ≢ HASH_DEF → kind ≢ VERSION → kind ≡ HASH_VALUE
 last_kind kind read a b c d e f g = grind (arith, nat_tests)
 
 -- an item of a kind that is read was found where one is among the items
-pub has-found : (kind : ℕ) (before : List Item) → is_read_kind kind ≡ true → has_kind kind (found_in before) ≡ list_any (is_of_kind kind) before
+pub has-found : (kind : ℕ) (before : List Item) → is_read_kind kind ≡ true
+    → has_kind kind (found_in before) ≡ list_any (is_of_kind kind) before
 has-found kind before read =
     let t : ℕ → Bool = λ k. list_any (is_of_kind k) before in
     test kind IMAGE_TYPE _ _ t (here_some IMAGE_TYPE kind before) (λ n0.
@@ -187,6 +232,7 @@ has-found kind before read =
     test kind VERSION _ _ t (here_some VERSION kind before) (λ n6.
     here_some HASH_VALUE kind before (last_kind kind read n0 n1 n2 n3 n4 n5 n6))))))))
 
-pub has_is : (kind : ℕ) (found : Found) (before : List Item) (some : Bool) → found ≡ found_in before → is_read_kind kind ≡ true
+pub has_is : (kind : ℕ) (found : Found) (before : List Item) (some : Bool) → found ≡ found_in before
+    → is_read_kind kind ≡ true
     → some ≡ has_kind kind found → some ≡ list_any (is_of_kind kind) before
 has_is kind found before some is read e = e ∙ ap (has_kind kind) is ∙ has-found kind before read

@@ -37,7 +37,8 @@ use Rattle.image_def.specs.Suits.{has_image_type, image_type_of}
 use Rattle.image_def.specs.Guarantees.{IsImageItem, IsLoadMapItem, IsDigestItem, IsDefinition}
 
 -- a row without a fault, behind the rows before it
-row_judged : (before : List ℕ) (row : ℕ) → row_fault before row ≡ None → (0x0c0 ≤ row) × (row ≤ 0xefd) × (list_any (is_near row) before ≡ false)
+row_judged : (before : List ℕ) (row : ℕ) → row_fault before row ≡ None
+    → (0x0c0 ≤ row) × (row ≤ 0xefd) × (list_any (is_near row) before ≡ false)
 row_judged before row e = grind (arith, nat_tests)
 
 none_near : (p : ℕ → Bool) (xs : List ℕ) (k d : ℕ) → list_any p xs ≡ false → k < length xs → p (get_or xs k d) ≡ false
@@ -62,21 +63,26 @@ rollback_rows rows few none =
       in_range = λ k d lt. let j = row_judged (take k rows) (get_or rows k d) (each k d lt) in (j.0, j.1);
       apart = λ i j d lt inside.
           let long : length (take j rows) ≡ j = length-take-le j rows (omega (arith, inside)) in
-          let far = none_near (is_near (get_or rows j d)) (take j rows) i d (row_judged (take j rows) (get_or rows j d) (each j d inside)).2 (omega (arith, long, lt)) in
-          apart (get_or rows i d) (get_or rows j d) (subst (λ r. is_near (get_or rows j d) r ≡ false) (get_or-take j rows i d lt) far);
+          let far = none_near (is_near (get_or rows j d)) (take j rows) i d
+          (row_judged (take j rows) (get_or rows j d) (each j d inside)).2 (omega (arith, long, lt)) in
+          apart (get_or rows i d) (get_or rows j d)
+          (subst (λ r. is_near (get_or rows j d) r ≡ false) (get_or-take j rows i d lt) far);
     }
 
 length-tail : (words : List ℕ) (item : Item) → length (version_tail words item) ≡ 2 * (length words - (item.first + 2))
-length-tail words item = length-halves (drop (item.first + 2) words) ∙ ap (λ n. 2 * n) (length-drop (item.first + 2) words)
+length-tail words item = length-halves (drop (item.first + 2) words)
+    ∙ ap (λ n. 2 * n) (length-drop (item.first + 2) words)
 
 size_rows : (high words : ℕ) → words ≡ version_words high → high ≢ 0 → high + 5 ≤ 2 * words
 size_rows high words e some = grind (arith, nat_tests)
 
 -- a VERSION item of the right size that lies in the block has as many rows as its header says
-pub length-rows : (words : List ℕ) (item : Item) → item.words ≡ version_words item.high → item.first + item.words ≤ length words → length (rows_in words item) ≡ item.high
+pub length-rows : (words : List ℕ) (item : Item) → item.words ≡ version_words item.high
+    → item.first + item.words ≤ length words → length (rows_in words item) ≡ item.high
 length-rows words item size inside =
     let tail = length-tail words item in
-    let rest : length (drop 1 (version_tail words item)) ≡ length (version_tail words item) - 1 = length-drop 1 (version_tail words item) in
+    let rest : length (drop 1 (version_tail words item)) ≡ length (version_tail words item) - 1 =
+    length-drop 1 (version_tail words item) in
     elim (cases_eq item.high 0) [
       | inl zero_rows ↦ length-take-le item.high (drop 1 (version_tail words item)) (omega (arith, zero_rows))
       | inr some ↦
@@ -97,10 +103,13 @@ empty (x ∷ xs) e = absurd (omega (arith, e))
 rollback-none : (words : List ℕ) (item : Item) → item.high ≡ 0 → rollback_in words item ≡ None
 rollback-none words item e = ap (λ b. cond b None (Some (get_or (version_tail words item) 0 0))) (eq-eqb item.high 0 e)
 
-rollback-some : (words : List ℕ) (item : Item) → item.high ≢ 0 → rollback_in words item ≡ Some (get_or (version_tail words item) 0 0)
-rollback-some words item ne = ap (λ b. cond b None (Some (get_or (version_tail words item) 0 0))) (ne_eqb item.high 0 ne)
+rollback-some : (words : List ℕ) (item : Item) → item.high ≢ 0
+    → rollback_in words item ≡ Some (get_or (version_tail words item) 0 0)
+rollback-some words item ne = ap (λ b. cond b None (Some (get_or (version_tail words item) 0 0)))
+    (ne_eqb item.high 0 ne)
 
-none_listed : (words : List ℕ) (item : Item) → length (rows_in words item) ≡ item.high → (rollback_in words item ≡ None) ↔ (rows_in words item ≡ [])
+none_listed : (words : List ℕ) (item : Item) → length (rows_in words item) ≡ item.high
+    → (rollback_in words item ≡ None) ↔ (rows_in words item ≡ [])
 none_listed words item long =
     elim (cases_eq item.high 0) [
       | inl zero_rows ↦ (λ _. empty (rows_in words item) (long ∙ zero_rows), λ _. rollback-none words item zero_rows)
@@ -120,12 +129,23 @@ gives_rows words item v inside none =
     let long = length-rows words item v.size inside in
     record {
       are_rows = rollback_rows (rows_in words item) (omega (arith, long, v.few)) none;
-      within = within_some (rollback_in words item) (24 * item.high) (24 * length (rows_in words item)) v.within (ap (λ n. 24 * n) (sym long));
+      within = within_some (rollback_in words item) (24 * item.high) (24 * length (rows_in words item)) v.within
+          (ap (λ n. 24 * n) (sym long));
       listed = none_listed words item long;
     }
 
 gives_none : GivesRows [] None
-gives_none = record { are_rows = record { few = omega arith; in_range = λ k d lt. absurd (omega arith); apart = λ i j d lt inside. absurd (omega arith) }; within = tt; listed = (λ _. refl, λ _. refl) }
+gives_none = record {
+  are_rows =
+      record {
+        few = omega arith;
+        in_range = λ k d lt. absurd (omega arith);
+        apart =
+            λ i j d lt inside. absurd (omega arith);
+      };
+  within = tt;
+  listed = (λ _. refl, λ _. refl);
+}
 
 pub gives_slot : (words : List ℕ) (o : Option Item)
     → ((item : Item) → o ≡ Some item → GivesRows (rows_in words item) (rollback_in words item))
@@ -134,14 +154,18 @@ gives_slot words None each = gives_none
 gives_slot words (Some item) each = each item refl
 
 -- the 32 bytes of a digest
-digest_long : (words : List ℕ) (item : Item) (digest : List ℕ) → item.first + item.words ≤ length words → digest_of words item ≡ Some digest → length digest ≡ 32
+digest_long : (words : List ℕ) (item : Item) (digest : List ℕ) → item.first + item.words ≤ length words
+    → digest_of words item ≡ Some digest → length digest ≡ 32
 digest_long words item digest inside e = go (eqb item.words 9) refl e
   where
-    go : (b : Bool) → eqb item.words 9 ≡ b → cond b (Some (bytes_of (slice_range words (item.first + 1) (item.first + 9)))) None ≡ Some digest → length digest ≡ 32
+    go : (b : Bool) → eqb item.words 9 ≡ b
+        → cond b (Some (bytes_of (slice_range words (item.first + 1) (item.first + 9)))) None ≡ Some digest
+        → length digest ≡ 32
     go true t f =
         let size : item.words ≡ 9 = eqb-true item.words 9 t in
         let room = length-between words (item.first + 1) (item.first + 9) (omega (arith, inside, size)) in
-        ap length (sym (same_Some _ digest f)) ∙ length-bytes_of (slice_range words (item.first + 1) (item.first + 9)) ∙ omega (arith, room)
+        ap length (sym (same_Some _ digest f))
+        ∙ length-bytes_of (slice_range words (item.first + 1) (item.first + 9)) ∙ omega (arith, room)
     go false t f = absurd (none-some digest f)
 
 -- the fault for after all items does not come
@@ -177,13 +201,15 @@ module _ (b : BlockView) (whole : AreItems b.items) (none : IsFaultless b) where
       let long = length-frame b.items b.link in
       omega (arith, is.inside, long)
 
-  version_rows : GivesRows (option_map_or (rows_in words) (item_of_kind VERSION items) []) (option_and_then (rollback_in words) (item_of_kind VERSION items))
+  version_rows : GivesRows (option_map_or (rows_in words) (item_of_kind VERSION items) [])
+      (option_and_then (rollback_in words) (item_of_kind VERSION items))
   version_rows =
       gives_slot words (item_of_kind VERSION items) (λ item is.
       let s = sound_item words items VERSION item none.items refl is in
       gives_rows words item (right_version words item s.right) (item-inside item s.of_items) (s.rows refl))
 
-  map_there : (o : Option ℕ) → position (is_of_kind LOAD_MAP) items ≡ o → IfSome o (λ i. (item : Item) × IsLoadMapItem b i item)
+  map_there : (o : Option ℕ) → position (is_of_kind LOAD_MAP) items ≡ o
+      → IfSome o (λ i. (item : Item) × IsLoadMapItem b i item)
   map_there None e = tt
   map_there (Some i) e =
       let at = position-Some (is_of_kind LOAD_MAP) items i (item_at 0 0) e in
@@ -199,33 +225,54 @@ module _ (b : BlockView) (whole : AreItems b.items) (none : IsFaultless b) where
   hashed_inside : (o : Option Item) → item_of_kind HASH_VALUE items ≡ o → count ≤ length b.items + 4
   hashed_inside None e =
       let long = length-frame b.items b.link in
-      let most = sized (hash_count_in words items) (length words) (sym (ap (λ o. hashed_fault (option_map (λ (item : Item). item.first) o) (hash_count_in words items) (length words)) e) ∙ none.after) in
+      let most = sized (hash_count_in words items) (length words)
+      (sym (ap (λ o. hashed_fault (option_map (λ (item : Item). item.first) o) (hash_count_in words items)
+      (length words)) e) ∙ none.after) in
       omega (arith, long, most)
   hashed_inside (Some item) e =
       let s = sound_item words items HASH_VALUE item none.items refl e in
       let long = length-frame b.items b.link in
-      let most = placed item.first (hash_count_in words items) (length words) (sym (ap (λ o. hashed_fault (option_map (λ (item : Item). item.first) o) (hash_count_in words items) (length words)) e) ∙ none.after) in
+      let most = placed item.first (hash_count_in words items) (length words)
+      (sym (ap (λ o. hashed_fault (option_map (λ (item : Item). item.first) o) (hash_count_in words items)
+      (length words)) e) ∙ none.after) in
       let inside = item-inside item s.of_items in
       omega (arith, long, most, inside)
 
-  digest_there : (o : Option Item) → item_of_kind HASH_VALUE items ≡ o → IfSome (option_and_then (digest_of words) o) (λ d. (item : Item) × IsDigestItem b count d item)
+  digest_there : (o : Option Item) → item_of_kind HASH_VALUE items ≡ o
+      → IfSome (option_and_then (digest_of words) o) (λ d. (item : Item) × IsDigestItem b count d item)
   digest_there None e = tt
   digest_there (Some item) e =
       let s = sound_item words items HASH_VALUE item none.items refl e in
-      let most = placed item.first (hash_count_in words items) (length words) (sym (ap (λ o. hashed_fault (option_map (λ (item : Item). item.first) o) (hash_count_in words items) (length words)) e) ∙ none.after) in
+      let most = placed item.first (hash_count_in words items) (length words)
+      (sym (ap (λ o. hashed_fault (option_map (λ (item : Item). item.first) o) (hash_count_in words items)
+      (length words)) e) ∙ none.after) in
       go (digest_of words item) refl most (item-inside item s.of_items)
     where
-      go : (d : Option (List ℕ)) → digest_of words item ≡ d → count ≤ item.first → item.first + item.words ≤ length words → IfSome d (λ d. (item : Item) × IsDigestItem b count d item)
+      go : (d : Option (List ℕ)) → digest_of words item ≡ d → count ≤ item.first
+          → item.first + item.words ≤ length words → IfSome d (λ d. (item : Item) × IsDigestItem b count d item)
       go None is most inside = tt
-      go (Some bytes) is most inside = (item, record { first = e; is = is; long = digest_long words item bytes inside is; behind = most })
+      go (Some bytes) is most inside =
+          (item, record { first = e; is = is; long = digest_long words item bytes inside is; behind = most })
 
-  image_there : (o : Option Item) → image_type_of b ≡ o → is_some o ≡ true → (item : Item) × IsImageItem b (option_map_or flags_of o 0) (option_map_or (λ (item : Item). item.first) o 0) item
+  image_there : (o : Option Item) → image_type_of b ≡ o → is_some o ≡ true
+      → (item : Item) × IsImageItem b (option_map_or flags_of o 0)
+      (option_map_or (λ (item : Item). item.first) o 0) item
   image_there None e some = absurd (true≢false (sym some))
   image_there (Some item) e some =
       let s = sound_item words items IMAGE_TYPE item none.items refl e in
       let size : item.words ≡ 1 = eqb-true item.words 1 s.right in
-      let is = IsItemOf-from_contains b.items item whole s.of_items in
-      (item, record { first = e; size = size; flags_are = refl; stands = refl; above = is.first; inside = omega (arith, is.inside, size) })
+      let is = IsItemOf-from_contains b.items item whole s.of_items in (
+        item,
+        record {
+          first = e;
+          size = size;
+          flags_are = refl;
+          stands = refl;
+          above = is.first;
+          inside =
+              omega (arith, is.inside, size);
+        },
+      )
 
   flags_fit : (o : Option Item) → image_type_of b ≡ o → option_map_or flags_of o 0 < 2 ^ 16
   flags_fit None e = omega arith
@@ -249,12 +296,14 @@ module _ (b : BlockView) (whole : AreItems b.items) (none : IsFaultless b) where
     listed = version_rows.listed;
   }
 
-pub definition_from_ok : (b : BlockView) (def : Def) → AreItems b.items → has_image_type b ≡ true → def_of b ≡ Ok def → IsDefinition b def
+pub definition_from_ok : (b : BlockView) (def : Def) → AreItems b.items → has_image_type b ≡ true
+    → def_of b ≡ Ok def → IsDefinition b def
 definition_from_ok b def whole typed e =
     let p = faultless_from_ok b def e in
     subst (IsDefinition b) p.1 (definition b whole p.0 typed)
 
-pub if_definition : (b : BlockView) (r : Result Def DefFault) → AreItems b.items → has_image_type b ≡ true → r ≡ def_of b → IfOk r (λ def. IsDefinition b def)
+pub if_definition : (b : BlockView) (r : Result Def DefFault) → AreItems b.items → has_image_type b ≡ true
+    → r ≡ def_of b → IfOk r (λ def. IsDefinition b def)
 if_definition b (Ok def) whole typed e = definition_from_ok b def whole typed (sym e)
 if_definition b (Err f) whole typed e = tt
 

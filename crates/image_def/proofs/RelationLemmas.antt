@@ -38,7 +38,8 @@ or-some : {F : Type 0} (o p : Option F) (f : F) → option_or o p ≡ Some f →
 or-some None p f e = inr (refl, e)
 or-some (Some g) p f e = inl e
 
-get-take : {X : Type 0} (xs : List X) (i j : ℕ) (x : X) → i < j → slice_get xs i ≡ Some x → slice_get (take j xs) i ≡ Some x
+get-take : {X : Type 0} (xs : List X) (i j : ℕ) (x : X) → i < j → slice_get xs i ≡ Some x
+    → slice_get (take j xs) i ≡ Some x
 get-take [] i j x lt at = absurd (none-some x at)
 get-take (y ∷ xs) i zero x lt at = absurd (omega arith)
 get-take (y ∷ xs) zero (suc j) x lt at = at
@@ -46,7 +47,8 @@ get-take (y ∷ xs) (suc i) (suc j) x lt at = get-take xs i j x (omega arith) at
 
 module _ (b : BlockView) where
   -- a block that gives a definition has no fault, and the definition is what its items say
-  pub faultless_from_ok : (def : Def) → def_of b ≡ Ok def → IsFaultless b × (def_record (block_words b) (items_of b.items) ≡ def)
+  pub faultless_from_ok : (def : Def) → def_of b ≡ Ok def
+      → IsFaultless b × (def_record (block_words b) (items_of b.items) ≡ def)
   unfolding def_of
   faultless_from_ok def e =
       let words = block_words b in
@@ -60,7 +62,8 @@ module _ (b : BlockView) where
   ok_from_faultless none =
       let words = block_words b in
       let items = items_of b.items in
-      ap (λ o. ok_unless (option_or o (last_fault words items)) (def_record words items)) (none_from_sound_at (item_fault words) items (length items) (omega arith) none.items)
+      ap (λ o. ok_unless (option_or o (last_fault words items)) (def_record words items))
+      (none_from_sound_at (item_fault words) items (length items) (omega arith) none.items)
       ∙ ap (λ o. ok_unless o (def_record words items)) none.after
 
   pub fault_from_err : (f : DefFault) → def_of b ≡ Err f → IsDefFault b f
@@ -68,7 +71,8 @@ module _ (b : BlockView) where
   fault_from_err f e =
       let words = block_words b in
       let items = items_of b.items in
-      elim (or-some (first_fault (item_fault words) items) (last_fault words items) f (ok_unless-err (def_fault words items) (def_record words items) f e)) [
+      elim (or-some (first_fault (item_fault words) items) (last_fault words items) f
+      (ok_unless-err (def_fault words items) (def_record words items) f e)) [
         | inl first ↦ inl (first_from_fault (item_fault words) items f first)
         | inr last ↦ inr (sound_from_none (item_fault words) items last.0, last.1)
       ]
@@ -80,13 +84,16 @@ module _ (b : BlockView) where
       let items = items_of b.items in
       elim fault [
         | inl first ↦
-            ap (λ o. ok_unless (option_or o (last_fault words items)) (def_record words items)) (fault_from_first (item_fault words) items first.0 f first.1)
+            ap (λ o. ok_unless (option_or o (last_fault words items)) (def_record words items))
+            (fault_from_first (item_fault words) items first.0 f first.1)
         | inr last ↦
-            ap (λ o. ok_unless (option_or o (last_fault words items)) (def_record words items)) (none_from_sound_at (item_fault words) items (length items) (omega arith) last.0)
+            ap (λ o. ok_unless (option_or o (last_fault words items)) (def_record words items))
+            (none_from_sound_at (item_fault words) items (length items) (omega arith) last.0)
             ∙ ap (λ o. ok_unless o (def_record words items)) last.1
       ]
 
-any_at : {X : Type 0} (p : X → Bool) (xs : List X) (j : ℕ) (x : X) → slice_get xs j ≡ Some x → p x ≡ true → list_any p xs ≡ true
+any_at : {X : Type 0} (p : X → Bool) (xs : List X) (j : ℕ) (x : X) → slice_get xs j ≡ Some x → p x ≡ true
+    → list_any p xs ≡ true
 any_at p [] j x at is = absurd (none-some x at)
 any_at p (y ∷ xs) zero x at is = ap (λ b. b || list_any p xs) (ap p (same_Some y x at) ∙ is)
 any_at p (y ∷ xs) (suc j) x at is = go (p y) (any_at p xs j x at is)
@@ -119,35 +126,46 @@ lacked : (kind : ℕ) (before : List Item) → list_any (is_of_kind kind) before
 lacked kind before f some = true≢false (sym (repeated_true kind before some) ∙ f)
 
 -- a fault of a row is one of rows
-row_only : (before : List ℕ) (row : ℕ) (f : DefFault) → row_fault before row ≡ Some f → (f ≡ BadRow row) ⊎ (f ≡ RepeatedRow row)
+row_only : (before : List ℕ) (row : ℕ) (f : DefFault) → row_fault before row ≡ Some f
+    → (f ≡ BadRow row) ⊎ (f ≡ RepeatedRow row)
 row_only before row f e = grind (arith, nat_tests)
 
-rows_fault : (words : List ℕ) (before : List Item) (item : Item) (f : DefFault) → ListsRows words before item → ((i : ℕ) × IsFirst row_fault (rows_in words item) i f)
+rows_fault : (words : List ℕ) (before : List Item) (item : Item) (f : DefFault) → ListsRows words before item
+    → ((i : ℕ) × IsFirst row_fault (rows_in words item) i f)
     → item_fault words before item ≡ Some f
 rows_fault words before item f lists (i, first) =
     let same : VERSION ≡ first_spelling item.kind = sym (eqb-true (first_spelling item.kind) VERSION lists.kind) in
-    sym (fault-rows words before item VERSION same refl (lacks VERSION before lists.first) (subst (λ k. is_well_formed_as k words item ≡ true) same lists.right) refl)
+    sym (fault-rows words before item VERSION same refl (lacks VERSION before lists.first)
+    (subst (λ k. is_well_formed_as k words item ≡ true) same lists.right) refl)
     ∙ fault_from_first row_fault (rows_in words item) i f first
 
-pub item_fault_from : (words : List ℕ) (before : List Item) (item : Item) (f : DefFault) → IsItemFault words before item f → item_fault words before item ≡ Some f
+pub item_fault_from : (words : List ℕ) (before : List Item) (item : Item) (f : DefFault)
+    → IsItemFault words before item f → item_fault words before item ≡ Some f
 item_fault_from words before item (Repeated kind) (read, is, some) =
-    sym (fault-repeated words before item kind (sym (eqb-true (first_spelling item.kind) kind is)) read (repeated_true kind before some))
+    sym (fault-repeated words before item kind (sym (eqb-true (first_spelling item.kind) kind is)) read
+    (repeated_true kind before some))
 item_fault_from words before item (BadItem kind) (read, is, none, wrong) =
     let same : kind ≡ first_spelling item.kind = sym (eqb-true (first_spelling item.kind) kind is) in
-    sym (fault-bad words before item kind same read (lacks kind before none) (subst (λ k. is_well_formed_as k words item ≡ false) same wrong))
+    sym (fault-bad words before item kind same read (lacks kind before none)
+    (subst (λ k. is_well_formed_as k words item ≡ false) same wrong))
 item_fault_from words before item (BadRow row) fault = rows_fault words before item (BadRow row) fault.0 fault.1
-item_fault_from words before item (RepeatedRow row) fault = rows_fault words before item (RepeatedRow row) fault.0 fault.1
+item_fault_from words before item (RepeatedRow row) fault =
+    rows_fault words before item (RepeatedRow row) fault.0 fault.1
 
-row_relation : (words : List ℕ) (before : List Item) (item : Item) (f : DefFault) → ListsRows words before item → ((i : ℕ) × IsFirst row_fault (rows_in words item) i f)
+row_relation : (words : List ℕ) (before : List Item) (item : Item) (f : DefFault) → ListsRows words before item
+    → ((i : ℕ) × IsFirst row_fault (rows_in words item) i f)
     → IsItemFault words before item f
 row_relation words before item f lists (i, first) =
     let (row, at, fault) = first.here in
     elim (row_only (take i (rows_in words item)) row f fault) [
-      | inl bad ↦ subst (IsItemFault words before item) (sym bad) (lists, (i, subst (IsFirst row_fault (rows_in words item) i) bad first))
-      | inr near ↦ subst (IsItemFault words before item) (sym near) (lists, (i, subst (IsFirst row_fault (rows_in words item) i) near first))
+      | inl bad ↦ subst (IsItemFault words before item) (sym bad)
+          (lists, (i, subst (IsFirst row_fault (rows_in words item) i) bad first))
+      | inr near ↦ subst (IsItemFault words before item) (sym near)
+          (lists, (i, subst (IsFirst row_fault (rows_in words item) i) near first))
     ]
 
-pub item_fault_is : (words : List ℕ) (before : List Item) (item : Item) (f : DefFault) → item_fault words before item ≡ Some f → IsItemFault words before item f
+pub item_fault_is : (words : List ℕ) (before : List Item) (item : Item) (f : DefFault)
+    → item_fault words before item ≡ Some f → IsItemFault words before item f
 item_fault_is words before item f e =
     let kind = first_spelling item.kind in
     let own : is_of_kind kind item ≡ true = eq-eqb kind kind refl in
@@ -155,10 +173,13 @@ item_fault_is words before item f e =
       | inr unread ↦ absurd (none-some f (sym (fault-unread words before item unread) ∙ e))
       | inl read ↦ elim (cases_Bool (list_any (is_of_kind kind) before)) [
         | inl some ↦
-            subst (IsItemFault words before item) (same_Some (Repeated kind) f (fault-repeated words before item kind refl read some ∙ e)) (read, own, repeated_from kind before some)
+            subst (IsItemFault words before item)
+            (same_Some (Repeated kind) f (fault-repeated words before item kind refl read some ∙ e))
+            (read, own, repeated_from kind before some)
         | inr none ↦ elim (cases_Bool (is_well_formed words item)) [
           | inr wrong ↦
-              subst (IsItemFault words before item) (same_Some (BadItem kind) f (fault-bad words before item kind refl read none wrong ∙ e))
+              subst (IsItemFault words before item)
+              (same_Some (BadItem kind) f (fault-bad words before item kind refl read none wrong ∙ e))
               (read, own, lacked kind before none, wrong)
           | inl right ↦ elim (cases_eq kind VERSION) [
             | inr other ↦ absurd (none-some f (fault-none words before item kind refl read none right other ∙ e))
@@ -169,15 +190,18 @@ item_fault_is words before item f e =
                   first = subst (λ k. IsRepeated k before → ⊥) version (lacked kind before none);
                   right = subst (λ k. is_well_formed_as k words item ≡ true) version right;
                 })
-                (first_from_fault row_fault (rows_in words item) f (fault-rows words before item kind refl read none right version ∙ e))
+                (first_from_fault row_fault (rows_in words item) f
+                (fault-rows words before item kind refl read none right version ∙ e))
           ]
         ]
       ]
     ]
 
 -- of two items of a kind that is read, without faults, none stands before the other
-not_before : (words : List ℕ) (items : List Item) (kind i j : ℕ) (item other : Item) → AreSound (item_fault words) items (length items) → is_read_kind kind ≡ true
-    → slice_get items i ≡ Some item → is_of_kind kind item ≡ true → slice_get items j ≡ Some other → is_of_kind kind other ≡ true → i < j → ⊥
+not_before : (words : List ℕ) (items : List Item) (kind i j : ℕ) (item other : Item)
+    → AreSound (item_fault words) items (length items) → is_read_kind kind ≡ true
+    → slice_get items i ≡ Some item → is_of_kind kind item ≡ true → slice_get items j ≡ Some other
+    → is_of_kind kind other ≡ true → i < j → ⊥
 not_before words items kind i j item other sound read at is there too lt =
     let same : kind ≡ first_spelling other.kind = sym (eqb-true (first_spelling other.kind) kind too) in
     let none = sound j other (slice_get_within items j other there) there in
@@ -185,15 +209,19 @@ not_before words items kind i j item other sound read at is there too lt =
     none-some _ (sym none ∙ sym (fault-repeated words (take j items) other kind same read some))
 
 -- two items of a kind that is read are one
-pub one_of_kind : (b : BlockView) (def : Def) (kind i j : ℕ) (item other : Item) → def_of b ≡ Ok def → is_read_kind kind ≡ true
-    → slice_get (items_of b.items) i ≡ Some item → is_of_kind kind item ≡ true → slice_get (items_of b.items) j ≡ Some other → is_of_kind kind other ≡ true
+pub one_of_kind : (b : BlockView) (def : Def) (kind i j : ℕ) (item other : Item) → def_of b ≡ Ok def
+    → is_read_kind kind ≡ true
+    → slice_get (items_of b.items) i ≡ Some item → is_of_kind kind item ≡ true
+    → slice_get (items_of b.items) j ≡ Some other → is_of_kind kind other ≡ true
     → i ≡ j
 one_of_kind b def kind i j item other e read at is there too =
     let sound = (faultless_from_ok b def e).0.items in
     elim (cases_order i j) [
       | inl same ↦ same
       | inr ne ↦ elim ne [
-        | inl lt ↦ absurd (not_before (block_words b) (items_of b.items) kind i j item other sound read at is there too lt)
-        | inr lt ↦ absurd (not_before (block_words b) (items_of b.items) kind j i other item sound read there too at is lt)
+        | inl lt ↦ absurd (not_before (block_words b)
+            (items_of b.items) kind i j item other sound read at is there too lt)
+        | inr lt ↦ absurd (not_before (block_words b)
+            (items_of b.items) kind j i other item sound read there too at is lt)
       ]
     ]

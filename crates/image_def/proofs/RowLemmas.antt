@@ -36,7 +36,8 @@ tail-high words item k m e odd =
     ap (λ n. get_or words n 0 / 65536) place ∙ ap (λ w. w / 65536) (sym (get_or-drop (item.first + 2) words (k / 2) 0))
     ∙ sym (half-high (drop (item.first + 2) words) (k / 2) k (omega arith))
 
-pub tail-inside : (words : List ℕ) (item : Item) (k m : ℕ) → m ≡ 2 + k / 2 → item.first + m < length words → k < length (version_tail words item)
+pub tail-inside : (words : List ℕ) (item : Item) (k m : ℕ) → m ≡ 2 + k / 2 → item.first + m < length words
+    → k < length (version_tail words item)
 tail-inside words item k m e lt =
     let long = length-halves (drop (item.first + 2) words) in
     let left = length-drop (item.first + 2) words in

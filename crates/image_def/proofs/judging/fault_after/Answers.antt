@@ -15,7 +15,8 @@ returns-in-None-Some c =
     let long = length-frame c.args.block.now.items c.args.block.now.link in
     let count = c.in-None-Some.count in
     let past = lt-leb count (length words) (omega (arith, long, c.size.ensures.value, c.if-count-size.true)) in
-    sym (last-counted words (items_of c.args.block.now.items) count (sym (ap (λ (f : Found). f.hash_value) c.requires) ∙ c.in-None-Some.is-0)
+    sym (last-counted words (items_of c.args.block.now.items) count
+    (sym (ap (λ (f : Found). f.hash_value) c.requires) ∙ c.in-None-Some.is-0)
     (sym c.hashed_words-count.ensures ∙ c.in-None-Some.is-1) ∙ ap (λ b. cond b None (Some (BadItem HASH_DEF))) past)
 
 pub returns-in_default-2 : goal.returns-in_default-2
@@ -24,5 +25,6 @@ returns-in_default-2 c =
     let long = length-frame c.args.block.now.items c.args.block.now.link in
     let count = c.in-None-Some.count in
     let inside = le-leb count (length words) (omega (arith, long, c.size.ensures.value, c.if-count-size.false)) in
-    sym (last-counted words (items_of c.args.block.now.items) count (sym (ap (λ (f : Found). f.hash_value) c.requires) ∙ c.in-None-Some.is-0)
+    sym (last-counted words (items_of c.args.block.now.items) count
+    (sym (ap (λ (f : Found). f.hash_value) c.requires) ∙ c.in-None-Some.is-0)
     (sym c.hashed_words-count.ensures ∙ c.in-None-Some.is-1) ∙ ap (λ b. cond b None (Some (BadItem HASH_DEF))) inside)

@@ -9,4 +9,5 @@ pub returns-clause-fault : goal.returns-clause-fault
 returns-clause-fault c b f = (λ e. fault_from_err b f e, λ fault. err_from_fault b f fault)
 
 pub returns-clause-item : goal.returns-clause-item
-returns-clause-item c words before item f = (λ e. item_fault_is words before item f e, λ fault. item_fault_from words before item f fault)
+returns-clause-item c words before item f =
+    (λ e. item_fault_is words before item f e, λ fault. item_fault_from words before item f fault)

@@ -3,7 +3,8 @@ use Rattle.image_def.proofs.TrialLemmas.{image_there, flags_there, definition-cl
 use Rattle.image_def.proofs.laws.trial_bit_cleared.Goals as goal
 
 pub returns-clause-definition : goal.returns-clause-definition
-returns-clause-definition c b whole typed = let image = image_there b typed in definition-cleared b whole image.0 image.1
+returns-clause-definition c b whole typed = let image = image_there b typed in
+    definition-cleared b whole image.0 image.1
 
 pub returns-clause-flags : goal.returns-clause-flags
 returns-clause-flags c b flags whole is =
