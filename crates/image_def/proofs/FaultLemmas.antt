@@ -13,11 +13,12 @@ use Rattle.block_codec.specs.Blocks.{BlockView, block_words}
 use Rattle.block_codec.specs.Items.{items_of}
 use Rattle.block_codec.specs.Kinds.{first_spelling, is_of_kind, item_of_kind, version_words, version_of}
 use Rattle.block_codec.specs.FirstFault.{first_fault, AreSound}
+use Rattle.block_codec.proofs.FirstFault.{sound_from_none}
 use Rattle.image_def.specs.declared.fault.DefFault.{DefFault}
 use Rattle.image_def.specs.declared.fault.DefFault.TheVariants.{Repeated, BadItem}
 use Rattle.image_def.specs.Found.{is_read_kind, IsHeld, IsVersion}
 use Rattle.image_def.specs.Rows.{rollback_in, rows_in, row_fault}
-use Rattle.image_def.specs.Faults.{hashed_fault, hash_count_in, last_fault, is_right_version, is_well_formed, is_well_formed_as, item_fault}
+use Rattle.image_def.specs.Faults.{first_item_fault, hashed_fault, hash_count_in, last_fault, is_right_version, is_well_formed, is_well_formed_as, item_fault}
 use Rattle.image_def.proofs.FoundLemmas.{NoneBefore, find-place, find-passes}
 
 -- the order of an item's faults, by its tests
@@ -162,8 +163,10 @@ right_version words item e =
       within = leb-true (unwrap_or (rollback_in words item) 0) (24 * item.high) p.1;
     }
 
-module _ (b : BlockView) (sound : AreSound (item_fault (block_words b)) (items_of b.items)
-    (length (items_of b.items))) where
+module _ (b : BlockView) (none : first_item_fault b ≡ None) where
+  sound : AreSound (item_fault (block_words b)) (items_of b.items) (length (items_of b.items))
+  sound = sound_from_none (item_fault (block_words b)) (items_of b.items) none
+
   pub held-vector : (item : Item) → item_of_kind VECTOR_TABLE (items_of b.items) ≡ Some item → IsHeld b 2 item
   held-vector item is =
       let s = sound_item (block_words b) (items_of b.items) VECTOR_TABLE item sound refl is in
