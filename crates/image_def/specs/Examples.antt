@@ -4,7 +4,7 @@ use Rattle.std.specs.Result.{result_err}
 use Rattle.block_codec.specs.declared.definition.Def.{Def}
 use Rattle.block_codec.specs.Blocks.{BlockView}
 use Rattle.image_def.specs.declared.fault.DefFault.{DefFault}
-use Rattle.image_def.specs.Definition.{def_of, no_version}
+use Rattle.image_def.specs.Definition.{def_of}
 
 -- the block of these item words that stands at the window's start and closes a loop of one
 abbrev pub block_with : List ℕ → BlockView
@@ -37,7 +37,7 @@ arm_def = record {
   map_item = None;
   hash_words = 0;
   digest = None;
-  version = no_version;
+  version = record { major = 0; minor = 0 };
   rollback = None;
   rows = record { items = [] };
 }
