@@ -4,8 +4,8 @@ use Rattle.std.specs.Prelude.{ℕ, ◌+◌, Bool, ◌||◌, ◌&&◌, if◌then�
 use Rattle.std.specs.List.{list_any}
 use Rattle.block_codec.specs.declared.items.Item.{Item}
 use Rattle.block_codec.specs.Words.{low_half, high_half}
-use Rattle.image_def.specs.declared.definition.DefFault.{DefFault}
-use Rattle.image_def.specs.declared.definition.DefFault.TheVariants.{BadRow, RepeatedRow}
+use Rattle.image_def.specs.declared.fault.DefFault.{DefFault}
+use Rattle.image_def.specs.declared.fault.DefFault.TheVariants.{BadRow, RepeatedRow}
 
 -- the halves of words in order, low half first
 abbrev pub halves_of : List ℕ → List ℕ
@@ -17,7 +17,8 @@ version_tail words item = halves_of (drop (item.first + 2) words)
 
 -- the rollback version, which an item without rows lacks
 abbrev pub rollback_in : List ℕ → Item → Option ℕ
-rollback_in words item = if item.high == 0 then None else Some (slice_index (version_tail words item) 0)
+rollback_in words item =
+    if item.high == 0 then None else Some (slice_index (version_tail words item) 0)
 
 -- the listed rows, whose number is the header's fourth byte
 abbrev pub rows_in : List ℕ → Item → List ℕ

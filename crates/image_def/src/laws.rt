@@ -1,77 +1,62 @@
-//! Worked examples of the definitions, as laws that compute.
+//! Laws of image definitions, each the contract of a function without a body.
 
-ghost use Rattle.std.specs.Prelude.{◌≡◌, pos, Some, None, Ok, Err, [], ◌∷◌, true, false};
-ghost use Rattle.block_codec.specs.Blocks.{BlockView};
-ghost use Rattle.image_def.specs.declared.definition.DefFault.TheVariants.{Repeated, BadItem, BadRow, RepeatedRow};
-ghost use Rattle.pico_board.specs.declared.boot.Cpu.TheVariants.{Arm, Riscv};
-ghost use Rattle.image_def.specs.Definition.{def_of, no_version};
-ghost use Rattle.image_def.specs.Suits.{does_suit};
-ghost use Rattle.image_def.specs.Examples.{block_with};
+ghost use Rattle.std.specs.Prelude.{◌≡◌, ◌≢◌, ◌↔◌, ℕ, List, true, None, Some, Ok, Err, ◌+◌, ◌-◌, ◌*◌, ◌%◌, ◌^◌, slice_get, slice_index};
+ghost use Rattle.block_codec.specs.declared.definition.Def.{Def};
+ghost use Rattle.block_codec.specs.declared.items.Item.{Item};
+ghost use Rattle.block_codec.specs.Blocks.{BlockView, block_words, block_size};
+ghost use Rattle.block_codec.specs.Items.{AreItems, items_of};
+ghost use Rattle.block_codec.specs.Kinds.{is_of_kind};
+ghost use Rattle.image_def.specs.Definition.{def_of, def_record};
+ghost use Rattle.image_def.specs.Faults.{item_fault, IsItemFault, IsFaultless, IsDefFault};
+ghost use Rattle.image_def.specs.Found.{is_read_kind};
+ghost use Rattle.image_def.specs.Guarantees.{IsDefinition};
+ghost use Rattle.image_def.specs.Suits.{image_type_of, has_image_type, image_flags_of, does_suit};
+ghost use Rattle.image_def.specs.Trial.{trial_cleared, untried_answer};
+ghost use Rattle.block_codec.specs.HighByte.{changed_block};
+ghost use Rattle.pico_board.specs.declared.boot.Cpu.{Cpu};
 
-/// The one item word 0x10210142 says a secure executable for the Arm cores of the RP2350, and
-/// 0x11010142 one for its RISC-V cores; each suits its own processor alone.
-#[tactic(auto, unfolding(block_codec::specs::Items::size_of))]
-pub fn one_word_suits_its_processor()
-    ensures arm { does_suit Arm (block_with (0x10210142 ∷ [])) ≡ true }
-    ensures not_riscv { does_suit Riscv (block_with (0x10210142 ∷ [])) ≡ false }
-    ensures riscv { does_suit Riscv (block_with (0x11010142 ∷ [])) ≡ true }
-    ensures not_arm { does_suit Arm (block_with (0x11010142 ∷ [])) ≡ false }
+use crate::fault::DefFault;
+
+/// A block gives a definition exactly where it has no fault, and then what its items say; and it
+/// gives a fault exactly where that is the first, by the relation over items in order.
+pub fn first_fault_exact()
+    ensures defined { (b : BlockView) (def : Def)
+        → (def_of b ≡ Ok def)
+        ↔ (IsFaultless b × (def_record (block_words b) (items_of b.items) ≡ def)) }
+    ensures fault { (b : BlockView) (f : DefFault) → (def_of b ≡ Err f) ↔ IsDefFault b f }
+    ensures item { (words : List ℕ) (before : List Item) (item : Item) (f : DefFault)
+        → (item_fault words before item ≡ Some f) ↔ IsItemFault words before item f }
 {}
 
-/// The definition that the one item word 0x10210142 gives: no entry, no map, no hash, version 0.0.
-#[tactic(auto, unfolding(crate::specs::Definition::def_of, block_codec::specs::Blocks::frame, block_codec::specs::Items::size_of))]
-pub fn one_word_definition()
-    ensures { def_of (block_with (0x10210142 ∷ [])) ≡ Ok (record {
-      flags = 0x1021;
-      image_word = 1;
-      vector = None;
-      entry_point = None;
-      delta = pos 0;
-      map_item = None;
-      hash_words = 0;
-      digest = None;
-      version = no_version;
-      rollback = None;
-      rows = record { items = [] };
-    }) }
+/// Of each definition: its flags and place are those of the block's IMAGE_TYPE item; its load map's
+/// index is that of a LOAD_MAP item of the right size; the hashed words are in the block, and
+/// before the HASH_VALUE item, where there is one; its rows are rollback rows, at most 32; and
+/// there is a rollback version, within its bound, exactly where rows are listed.
+pub fn definitions_are_sound()
+    ensures { (b : BlockView) (def : Def)
+        → AreItems b.items → has_image_type b ≡ true → def_of b ≡ Ok def → IsDefinition b def }
 {}
 
-/// A second IMAGE_TYPE item is a fault, as is a load map that has fewer entries than its header says,
-/// and a HASH_DEF whose words reach into the HASH_VALUE item.
-#[tactic(auto, unfolding(crate::specs::Definition::def_of, block_codec::specs::Blocks::frame, block_codec::specs::Items::size_of))]
-pub fn faulty_items()
-    ensures repeated { def_of (block_with (0x10210142 ∷ 0x10210142 ∷ [])) ≡ Err (Repeated 0x42) }
-    ensures short_map { def_of (block_with (0x10210142 ∷ 0x02000406 ∷ 0 ∷ 0 ∷ 0 ∷ [])) ≡ Err (BadItem 0x06) }
-    ensures long_hash { def_of (block_with (0x10210142 ∷ 0x01000247 ∷ 5 ∷ 0x0000094b ∷ 0 ∷ 0 ∷ 0 ∷ 0 ∷ 0 ∷ 0 ∷ 0 ∷ 0 ∷ []))
-        ≡ Err (BadItem 0x47) }
-    ensures hash_without_count { def_of (block_with (0x10210142 ∷ 0x0000094b ∷ 0 ∷ 0 ∷ 0 ∷ 0 ∷ 0 ∷ 0 ∷ 0 ∷ 0 ∷ [])) ≡ Err (BadItem 0x4b) }
+/// A block that gives a definition has at most one item of each kind that is read.
+pub fn one_item_of_each_kind()
+    ensures { (b : BlockView) (def : Def) (kind i j : ℕ) (item other : Item)
+        → def_of b ≡ Ok def → is_read_kind kind ≡ true
+        → slice_get (items_of b.items) i ≡ Some item → is_of_kind kind item ≡ true
+        → slice_get (items_of b.items) j ≡ Some other → is_of_kind kind other ≡ true → i ≡ j }
 {}
 
-/// Listed rows lie from 0x0c0 to 0xefd, and their triples share no row. With one row the greatest
-/// rollback version is 24.
-#[tactic(auto, unfolding(crate::specs::Definition::def_of, block_codec::specs::Blocks::frame, block_codec::specs::Items::size_of))]
-pub fn faulty_rows()
-    ensures below { def_of (block_with (0x10210142 ∷ 0x01000348 ∷ 0x00010000 ∷ 0x00bf0003 ∷ [])) ≡ Err (BadRow 0x0bf) }
-    ensures above { def_of (block_with (0x10210142 ∷ 0x01000348 ∷ 0x00010000 ∷ 0x0efe0003 ∷ [])) ≡ Err (BadRow 0xefe) }
-    ensures near { def_of (block_with (0x10210142 ∷ 0x02000448 ∷ 0x00010000 ∷ 0x00c00003 ∷ 0x000000c2 ∷ []))
-        ≡ Err (RepeatedRow 0x0c2) }
-    ensures too_great { def_of (block_with (0x10210142 ∷ 0x01000348 ∷ 0x00010000 ∷ 0x00c00019 ∷ [])) ≡ Err (BadItem 0x48) }
-{}
-
-/// A VERSION item with one row: minor version, major version, rollback version and row.
-#[tactic(auto, unfolding(crate::specs::Definition::def_of, block_codec::specs::Blocks::frame, block_codec::specs::Items::size_of))]
-pub fn rollback_definition()
-    ensures { def_of (block_with (0x10210142 ∷ 0x01000348 ∷ 0x00010000 ∷ 0x00c00003 ∷ [])) ≡ Ok (record {
-      flags = 0x1021;
-      image_word = 1;
-      vector = None;
-      entry_point = None;
-      delta = pos 0;
-      map_item = None;
-      hash_words = 0;
-      digest = None;
-      version = record { major = 1; minor = 0 };
-      rollback = Some 3;
-      rows = record { items = 0x0c0 ∷ [] };
-    }) }
+/// A block whose trial bit is cleared, as a buy leaves it, gives the same definition but for that
+/// bit of its flags, or the same fault; it has the same size and suits the same processors.
+pub fn trial_bit_cleared()
+    ensures definition { (b : BlockView) → AreItems b.items → has_image_type b ≡ true
+        → def_of (trial_cleared b) ≡ untried_answer (def_of b) }
+    ensures flags { (b : BlockView) (flags : ℕ) → AreItems b.items → image_flags_of b ≡ Some flags
+        → image_flags_of (trial_cleared b) ≡ Some (flags % 2 ^ 15) }
+    ensures suits { (b : BlockView) (cpu : Cpu) → AreItems b.items → has_image_type b ≡ true
+        → does_suit cpu (trial_cleared b) ≡ does_suit cpu b }
+    ensures size { (b : BlockView) → AreItems b.items → has_image_type b ≡ true
+        → block_size (trial_cleared b) ≡ block_size b }
+    ensures changed { (b : BlockView) (item : Item) → AreItems b.items → image_type_of b ≡ Some item
+        → changed_block (b.at + 4 * item.first) (slice_index b.items (item.first - 1) % 2 ^ 31) b
+        ≡ trial_cleared b }
 {}

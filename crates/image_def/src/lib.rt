@@ -2,13 +2,26 @@
 //! what its items say.
 //!
 //! The definitions stand in `specs/`: `Flags` and `Suits` say which block is the definition,
-//! `Rows` what a VERSION item lists, and `Definition` what a block says, or its first fault.
+//! `Rows` what a VERSION item lists, `Faults` the first fault of a block's items, and `Definition`
+//! what a block says. `Guarantees` is what callers may rest on of each definition, and `Trial` what
+//! a cleared trial bit leaves.
 #![tactic(auto)]
 
-mod definition;
+pub mod examples;
+mod fault;
+mod found;
+mod images;
+mod judging;
 pub mod laws;
+mod reading;
+mod rows;
 mod started;
 
 pub use block_codec::{Def, EntryPoint};
-pub use definition::DefFault;
+pub use fault::DefFault;
+pub use images::{image_flags, suits};
+pub use reading::read_def;
 pub use started::Started;
+
+#[cfg(test)]
+mod tests;
