@@ -4,3 +4,6 @@ pub mod LinkFacts
 pub mod TableFacts
 pub mod WrittenFacts
 pub mod RoundTrip
+pub mod SearchFacts
+pub mod ReadFacts
+pub mod FaultFacts

@@ -13,7 +13,7 @@ use Rattle.part_table.specs.declared.table.TableFault.{TableFault}
 use Rattle.part_table.specs.declared.table.TableFault.TheVariants.{Permissions, Range}
 use Rattle.part_table.specs.Fields.{first_sector, last_sector, permissions_of}
 use Rattle.part_table.specs.Partitions.{part_at, no_partition}
-use Rattle.part_table.specs.Windows.{IsPlaced, window_of, shares_sector}
+use Rattle.part_table.specs.Windows.{IsPlaced, part_window, shares_sector}
 use Rattle.part_table.specs.Faults.{judge_permissions, judge_range, judge_overlap, is_out_of_range, overlap_fault}
 use Rattle.part_table.proofs.TestFacts.{fails, holds, mapped_none, none_passes}
 
@@ -31,7 +31,7 @@ pub in_range : (n m : ℕ) (before : List Partition) (p : Partition) → judge_r
 in_range n m before p none = range_test n m (first_sector p) (last_sector p) (fails (is_out_of_range n m p) (Range (length before)) none)
 
 -- its window
-pub window_placed : (n m : ℕ) (p : Partition) → m ≤ first_sector p → first_sector p ≤ last_sector p → last_sector p < n → IsPlaced (window_of p) n m
+pub window_placed : (n m : ℕ) (p : Partition) → m ≤ first_sector p → first_sector p ≤ last_sector p → last_sector p < n → IsPlaced (part_window p) n m
 window_placed n m p low some high = record {
   starts = omega arith;
   whole = omega arith;
@@ -49,7 +49,7 @@ apart_from a b c d a_b c_d (inr behind) = inr (omega arith)
 
 -- partitions that share no sector stand apart
 pub windows_apart : (p q : Partition) → first_sector p ≤ last_sector p → first_sector q ≤ last_sector q → shares_sector p q ≡ false
-    → AreApart (window_of p) (window_of q)
+    → AreApart (part_window p) (part_window q)
 windows_apart p q p_some q_some none =
     apart_from (first_sector p) (last_sector p) (first_sector q) (last_sector q) p_some q_some
     (share_test (first_sector p) (last_sector p) (first_sector q) (last_sector q) none p_some q_some)

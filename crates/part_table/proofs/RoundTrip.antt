@@ -9,17 +9,18 @@ use Rattle.std.proofs.lemmas.Slice.Eq.{bytes_eq-Decides}
 use Rattle.sha2.specs.Sha256.{sha256, digest_bytes}
 use Rattle.sha2.proofs.Facts256.{length-sha256}
 use Rattle.block_codec.specs.declared.items.Item.{Item}
+use Rattle.block_codec.specs.FirstFault.{ok_unless}
 use Rattle.block_codec.specs.Blocks.{frame, start_word, end_word, last_item}
 use Rattle.block_codec.specs.Items.{size_of, item_at, items_from, items_of}
 use Rattle.block_codec.specs.Words.{bytes_of, words_of, low_half, high_half}
 use Rattle.block_codec.proofs.ItemLemmas.{items_from-skip}
 use Rattle.block_codec.proofs.WordLemmas.{AreBytes, length-words_of}
 use Rattle.part_table.specs.declared.table.Table.{Table}
-use Rattle.part_table.specs.Contents.{table_from, table_in, has_wrong_digest}
+use Rattle.part_table.specs.Contents.{table_from, table_of_items, has_wrong_digest}
 use Rattle.part_table.specs.Fields.{has_bit}
 use Rattle.part_table.specs.Faults.{table_fault}
 use Rattle.part_table.specs.Partitions.{partitions_in}
-use Rattle.part_table.specs.TableOf.{judged, judged_in, hash_fault, table_of}
+use Rattle.part_table.specs.TableOf.{table_or_fault, wrong_hash_fault, table_of}
 use Rattle.part_table.specs.declared.partition.Partition.{Partition}
 use Rattle.part_table.specs.declared.table.TableFault.TheVariants.{Hash}
 use Rattle.block_codec.specs.declared.versions.Version.{Version}
@@ -143,7 +144,7 @@ module _ (first : ℕ) (body : List ℕ) (vw c : ℕ) (dw end : List ℕ) (size 
 
 -- what four items say
 read_four : (words : List ℕ) (size part : ℕ)
-    → table_in words (four_items size part)
+    → table_of_items words (four_items size part)
     ≡ (if nat_lt (1 + size + 2 + 2) (low_half (slice_index words (1 + size + 2 + 1))) then None
     else table_from (record { major = high_half (slice_index words (1 + size + 1)); minor = low_half (slice_index words (1 + size + 1)) })
     part (slice_range words (1 + 1) (1 + size)))
@@ -259,7 +260,7 @@ module _ (t : Table) (writable : IsWritableTable t) where
     placed : nat_lt (1 + size_of_item + 2 + 2) (low_half (slice_index all (1 + size_of_item + 2 + 1))) ≡ false
     placed = ap (λ k. nat_lt (1 + size_of_item + 2 + 2) k) count_low ∙ not_below (1 + size_of_item + 2 + 2) hashed_count (omega arith)
 
-    table_there : table_in all (four_items size_of_item part_of) ≡ Some t
+    table_there : table_of_items all (four_items size_of_item part_of) ≡ Some t
     table_there =
         read_four all size_of_item part_of
         ∙ ap (λ yes. if yes then None else table_from (record { major = high_half (slice_index all (1 + size_of_item + 1)); minor = low_half (slice_index all (1 + size_of_item + 1)) })
@@ -301,13 +302,13 @@ module _ (t : Table) (writable : IsWritableTable t) where
 
     -- words and items that are those of the block are judged as the table
     judged_back : (words : List ℕ) (items : List Item) (n m : ℕ) → words ≡ all → items ≡ four_items size_of_item part_of → table_fault t n m ≡ None
-        → judged_in (table_in words items) n m (hash_fault words items) ≡ Ok t
+        → table_or_fault (table_of_items words items) n m (wrong_hash_fault words items) ≡ Ok t
     judged_back words items n m same_words same_items none =
-        ap (λ ws. judged_in (table_in ws items) n m (hash_fault ws items)) same_words
-        ∙ ap (λ is. judged_in (table_in all is) n m (hash_fault all is)) same_items
-        ∙ ap (λ o. judged_in o n m (hash_fault all (four_items size_of_item part_of))) table_there
-        ∙ ap (λ yes. judged_in (Some t) n m (if yes then Some Hash else None)) digest_there
-        ∙ ap (λ f. judged t (option_or f None)) none
+        ap (λ ws. table_or_fault (table_of_items ws items) n m (wrong_hash_fault ws items)) same_words
+        ∙ ap (λ is. table_or_fault (table_of_items all is) n m (wrong_hash_fault all is)) same_items
+        ∙ ap (λ o. table_or_fault o n m (wrong_hash_fault all (four_items size_of_item part_of))) table_there
+        ∙ ap (λ yes. table_or_fault (Some t) n m (if yes then Some Hash else None)) digest_there
+        ∙ ap (λ f. ok_unless (option_or f None) t) none
 
 -- a table that was written is read as the same table, in each flash for which it has no fault
 pub table_back : (t : Table) (at n m : ℕ) → IsWritableTable t → table_fault t n m ≡ None

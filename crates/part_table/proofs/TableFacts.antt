@@ -9,6 +9,7 @@ use Rattle.pico_board.specs.declared.window.Window.{Window}
 use Rattle.std.proofs.lemmas.List.Folds.{find_at}
 use Rattle.std.proofs.lemmas.Option.{slice_get-get_or}
 use Rattle.pico_board.specs.Content.{AreApart}
+use Rattle.block_codec.specs.FirstFault.{ok_unless}
 use Rattle.block_codec.specs.Blocks.{BlockView, block_words}
 use Rattle.block_codec.specs.Items.{items_of}
 use Rattle.part_table.specs.declared.partition.Partition.{Partition}
@@ -19,9 +20,9 @@ use Rattle.part_table.specs.Partitions.{part_at, no_partition}
 use Rattle.part_table.specs.Windows.{IsPlaced, partition_window, has_sector, shares_sector}
 use Rattle.part_table.specs.Rights.{right_word}
 use Rattle.part_table.specs.Faults.{judge_permissions, judge_range, permissions_fault, range_fault, overlap_fault, link_fault, table_fault}
-use Rattle.part_table.specs.Contents.{table_in}
-use Rattle.part_table.specs.TableOf.{judged, judged_in, hash_fault, table_of}
-use Rattle.part_table.specs.Sound.{IsSound}
+use Rattle.part_table.specs.Contents.{table_of_items}
+use Rattle.part_table.specs.TableOf.{table_or_fault, wrong_hash_fault, table_of}
+use Rattle.part_table.specs.Sound.{IsSoundTable}
 use Rattle.part_table.proofs.TestFacts.{first_none, second_none, never_true, first_position}
 use Rattle.part_table.proofs.PartFacts.{part_none, in_range, window_placed, windows_apart, permissions_agree, no_share}
 
@@ -57,7 +58,7 @@ partition_placed t n m none i lt =
     window_placed n m (part_at t.parts.items i) sectors.0 sectors.1 sectors.2
 
 -- a table without faults is sound
-pub sound_from_faultless : (t : Table) (n m : ℕ) → table_fault t n m ≡ None → IsSound t n
+pub sound_from_faultless : (t : Table) (n m : ℕ) → table_fault t n m ≡ None → IsSoundTable t n
 sound_from_faultless t n m none =
     let parts : IsFaultless t.parts.items n m = faultless t n m none in
     record {
@@ -70,12 +71,12 @@ sound_from_faultless t n m none =
     }
 
 -- a table that is the answer has no fault
-judged_table : (t u : Table) (fault : Option TableFault) → judged u fault ≡ Ok t → (u ≡ t) × (fault ≡ None)
+judged_table : (t u : Table) (fault : Option TableFault) → ok_unless fault u ≡ Ok t → (u ≡ t) × (fault ≡ None)
 judged_table t u None e = (cc, refl)
 judged_table t u (Some f) e = cc
 
 -- what a table that was read is
-pub judged_ok : (o : Option Table) (n m : ℕ) (digest : Option TableFault) (t : Table) → judged_in o n m digest ≡ Ok t
+pub judged_ok : (o : Option Table) (n m : ℕ) (digest : Option TableFault) (t : Table) → table_or_fault o n m digest ≡ Ok t
     → (o ≡ Some t) × (table_fault t n m ≡ None) × (digest ≡ None)
 judged_ok None n m digest t e = cc
 judged_ok (Some u) n m digest t e =
@@ -88,24 +89,24 @@ judged_ok (Some u) n m digest t e =
 -- a table that a block reads as has no fault, and is sound
 pub faultless_from_table_of : (b : BlockView) (n m : ℕ) (t : Table) → table_of b n m ≡ Ok t → table_fault t n m ≡ None
 faultless_from_table_of b n m t e =
-    (judged_ok (table_in (block_words b) (items_of b.items)) n m (hash_fault (block_words b) (items_of b.items)) t e).1
+    (judged_ok (table_of_items (block_words b) (items_of b.items)) n m (wrong_hash_fault (block_words b) (items_of b.items)) t e).1
 
-pub sound_from_table_of : (b : BlockView) (n m : ℕ) (t : Table) → table_of b n m ≡ Ok t → IsSound t n
+pub sound_from_table_of : (b : BlockView) (n m : ℕ) (t : Table) → table_of b n m ≡ Ok t → IsSoundTable t n
 sound_from_table_of b n m t e = sound_from_faultless t n m (faultless_from_table_of b n m t e)
 
 -- the sectors of each partition of a sound table
-pub sound_sectors : (t : Table) (n : ℕ) → IsSound t n → (i : ℕ) → i < length t.parts.items
+pub sound_sectors : (t : Table) (n : ℕ) → IsSoundTable t n → (i : ℕ) → i < length t.parts.items
     → (first_sector (part_at t.parts.items i) ≤ last_sector (part_at t.parts.items i)) × (last_sector (part_at t.parts.items i) < n)
 sound_sectors t n sound i lt = sound.inside i no_partition lt
 
 -- each partition of a sound table is a window of whole sectors inside the flash
-pub sound_placed : (t : Table) (n : ℕ) → IsSound t n → (i : ℕ) → i < length t.parts.items → IsPlaced (partition_window t i) n 0
+pub sound_placed : (t : Table) (n : ℕ) → IsSoundTable t n → (i : ℕ) → i < length t.parts.items → IsPlaced (partition_window t i) n 0
 sound_placed t n sound i lt =
     let sectors : _ = sound_sectors t n sound i lt in
     window_placed n 0 (part_at t.parts.items i) (omega arith) sectors.0 sectors.1
 
 -- an earlier and a later partition of a sound table stand apart
-apart_in_order : (t : Table) (n : ℕ) → IsSound t n → (i j : ℕ) → i < j → j < length t.parts.items → AreApart (partition_window t i) (partition_window t j)
+apart_in_order : (t : Table) (n : ℕ) → IsSoundTable t n → (i j : ℕ) → i < j → j < length t.parts.items → AreApart (partition_window t i) (partition_window t j)
 apart_in_order t n sound i j before lt =
     windows_apart (part_at t.parts.items i) (part_at t.parts.items j)
     (sound_sectors t n sound i (omega arith)).0 (sound_sectors t n sound j lt).0
@@ -117,7 +118,7 @@ apart_sym v w (inl before) = inr before
 apart_sym v w (inr behind) = inl behind
 
 -- two partitions of a sound table stand apart
-pub partitions_apart : (t : Table) (n : ℕ) → IsSound t n → (i j : ℕ) → i < length t.parts.items → j < length t.parts.items → i ≢ j
+pub partitions_apart : (t : Table) (n : ℕ) → IsSoundTable t n → (i j : ℕ) → i < length t.parts.items → j < length t.parts.items → i ≢ j
     → AreApart (partition_window t i) (partition_window t j)
 partitions_apart t n sound i j i_lt j_lt differ =
     elim (cases_lt i j) [
@@ -130,7 +131,7 @@ both_hold : (a b c d s : ℕ) → (nat_le a s && nat_le s b) ≡ true → (nat_l
 both_hold a b c d s one two = grind (arith, nat_tests)
 
 -- no partition before the one that holds a sector holds it too
-only_holder : (t : Table) (n : ℕ) → IsSound t n → (i k s : ℕ) → i < length t.parts.items → k < i → has_sector s (part_at t.parts.items i) ≡ true
+only_holder : (t : Table) (n : ℕ) → IsSoundTable t n → (i k s : ℕ) → i < length t.parts.items → k < i → has_sector s (part_at t.parts.items i) ≡ true
     → has_sector s (part_at t.parts.items k) ≡ false
 only_holder t n sound i k s lt before holds =
     never_true (has_sector s (part_at t.parts.items k)) (λ yes.
@@ -139,7 +140,7 @@ only_holder t n sound i k s lt before holds =
     cc)
 
 -- the permissions of a sector of a partition of a sound table are those of that partition, in both its words
-pub partition_right : (t : Table) (n : ℕ) → IsSound t n → (i s : ℕ) → i < length t.parts.items → has_sector s (part_at t.parts.items i) ≡ true
+pub partition_right : (t : Table) (n : ℕ) → IsSoundTable t n → (i s : ℕ) → i < length t.parts.items → has_sector s (part_at t.parts.items i) ≡ true
     → right_word t s ≡ (part_at t.parts.items i).location
 partition_right t n sound i s lt holds =
     let first : position_or_len (has_sector s) t.parts.items ≡ i =
@@ -148,7 +149,7 @@ partition_right t n sound i s lt holds =
     find_at (has_sector s) t.parts.items ∙ ap (λ k. slice_get t.parts.items k) first ∙ slice_get-get_or t.parts.items i no_partition lt in
     ap (λ o. option_map_or (λ (p : Partition). p.location) o t.unpartitioned) found
 
-pub permissions_of_both : (t : Table) (n : ℕ) → IsSound t n → (i : ℕ) → i < length t.parts.items
+pub permissions_of_both : (t : Table) (n : ℕ) → IsSoundTable t n → (i : ℕ) → i < length t.parts.items
     → permissions_of (part_at t.parts.items i).location ≡ permissions_of (part_at t.parts.items i).flags
 permissions_of_both t n sound i lt =
     permissions_agree (take i t.parts.items) (part_at t.parts.items i) (part_none judge_permissions t.parts.items i lt sound.permissions)

@@ -154,3 +154,10 @@ found_place test xs x e =
           let same : found.1 ≡ x = same_Some found.1 x (sym found.2.sought ∙ e) in
           (found.0, found.2.at ∙ ap (λ y. Some y) same, subst (λ y. test y ≡ true) same found.2.passes)
     ]
+
+-- no place passes the test
+pub no_position : {X : Type 0} (test : X → Bool) (xs : List X) (d : X) → ((k : ℕ) → k < length xs → test (get_or xs k d) ≡ false) → position test xs ≡ None
+no_position test xs d none =
+    let past : position_or_len test xs ≡ length xs =
+    position_or_len_is test xs (length xs) d (omega arith) none (λ lt. absurd (omega (arith, lt))) in
+    no_place (position_or_len test xs) (length xs) (omega (arith, past))

@@ -1,5 +1,5 @@
 -- What was written for partitions is read as them.
-use Rattle.std.proofs.Common.{◌≡◌, ℕ, zero, suc, ◌+◌, ◌-◌, ◌*◌, ◌/◌, ◌%◌, ◌^◌, ◌<◌, ◌≤◌, true, nat_le, if◌then◌else◌, List, [], ◌∷◌, ◌++◌, length, take, drop, get_or, replicate, refl, sym, ◌∙◌, ap, subst, arith, Option, None, Some, is_some, option_map, append_assoc, length-append, get_or-drop, add-zero, IfSome}
+use Rattle.std.proofs.Common.{◌≡◌, ℕ, zero, suc, ◌+◌, ◌-◌, ◌*◌, ◌/◌, ◌%◌, ◌^◌, ◌<◌, ◌≤◌, true, nat_le, if◌then◌else◌, List, [], ◌∷◌, ◌++◌, length, take, drop, get_or, replicate, refl, sym, ◌∙◌, ap, subst, arith, Option, None, Some, is_some, option_map, option_and_then, append_assoc, length-append, get_or-drop, add-zero, IfSome}
 use Rattle.std.specs.List.{flat_map, slice_index, AllByRecursion}
 use Rattle.std.proofs.lemmas.Grind.{flat_map-append}
 use Rattle.std.proofs.lemmas.Bool.Decides.{nat_tests}
@@ -173,15 +173,20 @@ module _ (p : Partition) (writable : IsWritable p) (rest : List ℕ) where
 le_true : (a b : ℕ) → a ≤ b → nat_le a b ≡ true
 le_true a b le = grind (arith, nat_tests)
 
+-- what stands behind two words and so many more
+drop_two : (k first second : ℕ) (ws : List ℕ) → drop (2 + k) (first ∷ second ∷ ws) ≡ drop k ws
+drop_two k first second ws = let e : 2 + k ≡ suc (suc k) = omega arith in ap (λ n. drop n (first ∷ second ∷ ws)) e
+
 -- one partition and those behind it
 one_more : (n at flag_word : ℕ) (ws : List ℕ) (k : ℕ) (p : Partition) (parts : List Partition) (rest : List ℕ) → tail_words flag_word ws ≡ k → k ≤ length ws
     → drop k ws ≡ rest → partition_of at flag_word ws ≡ p → partitions_in n rest ≡ Some parts
     → partitions_in (suc n) (at ∷ flag_word ∷ ws) ≡ Some (p ∷ parts)
-one_more n at flag_word ws k p parts rest size room behind one more =
-    ap (λ yes. if yes then option_map (λ ps. partition_of at flag_word ws ∷ ps) (partitions_in n (drop (tail_words flag_word ws) ws)) else None)
-    (le_true (tail_words flag_word ws) (length ws) (omega arith))
+one_more n at flag_word ws k p parts rest size room past one more =
+    ap (λ fits. option_and_then (λ m. option_map (λ ps. partition_of at flag_word ws ∷ ps) (partitions_in n (drop m (at ∷ flag_word ∷ ws))))
+    (if fits then Some (2 + tail_words flag_word ws) else None)) (le_true (tail_words flag_word ws) (length ws) (omega arith))
+    ∙ ap (λ ys. option_map (λ ps. partition_of at flag_word ws ∷ ps) (partitions_in n ys)) (drop_two (tail_words flag_word ws) at flag_word ws)
     ∙ ap (λ m. option_map (λ ps. partition_of at flag_word ws ∷ ps) (partitions_in n (drop m ws))) size
-    ∙ ap (λ ys. option_map (λ ps. partition_of at flag_word ws ∷ ps) (partitions_in n ys)) behind
+    ∙ ap (λ ys. option_map (λ ps. partition_of at flag_word ws ∷ ps) (partitions_in n ys)) past
     ∙ ap (λ o. option_map (λ ps. partition_of at flag_word ws ∷ ps) o) more
     ∙ ap (λ q. Some (q ∷ parts)) one
 

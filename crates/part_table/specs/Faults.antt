@@ -71,9 +71,14 @@ overlap_fault parts = first_fault (judge_overlap parts) parts
 abbrev pub link_fault : List Partition → Option TableFault
 link_fault parts = first_fault (judge_link parts) parts
 
--- the first fault of a table in a flash of n sectors, of which m stand before the first free one, is sought over the whole table
--- for permissions, then range, then overlaps, then links (this project's own)
+-- the first fault of a table's partitions in a flash of n sectors, of which m stand before the first
+-- free one, is sought over the whole table for permissions, then range, then overlaps, then links
+-- (this project's own)
+abbrev pub parts_fault : List Partition → ℕ → ℕ → Option TableFault
+parts_fault parts n m =
+    option_or (permissions_fault parts)
+    (option_or (range_fault n m parts) (option_or (overlap_fault parts) (link_fault parts)))
+
+-- the first fault of a table is that of its partitions (this project's own)
 abbrev pub table_fault : Table → ℕ → ℕ → Option TableFault
-table_fault t n m =
-    option_or (permissions_fault t.parts.items)
-    (option_or (range_fault n m t.parts.items) (option_or (overlap_fault t.parts.items) (link_fault t.parts.items)))
+table_fault t n m = parts_fault t.parts.items n m

@@ -1,6 +1,6 @@
 -- The partitions of a list of words. The order and the layout of the id, the extra families and the name are this project's own.
 use Rattle.std.specs.Prelude.{ℕ, zero, suc, ◌+◌, ◌*◌, ◌/◌, ◌%◌, ◌^◌, List, [], ◌∷◌, length, take, drop, slice_index, slice_index_or, nat_le, if◌then◌else◌}
-use Rattle.std.specs.Prelude.{Option, None, Some, option_map}
+use Rattle.std.specs.Prelude.{Option, None, Some, option_map, option_and_then}
 use Rattle.arrayvec.specs.ArrayVec.{ArrayVec}
 use Rattle.block_codec.specs.Words.{bytes_of}
 use Rattle.part_table.specs.declared.partition.Partition.{Partition}
@@ -49,17 +49,25 @@ partition_of at flag_word ws = record {
   name = name_of flag_word ws;
 }
 
--- a list of words is read as n partitions, one behind the other, where these fill it exactly, and is refused otherwise (this
--- project's own)
+-- the partition at the front of a list of words takes its two words and those of its id, its extra
+-- families and its name; there is none where these are not all there (this project's own)
+abbrev pub partition_words : List ℕ → Option ℕ
+partition_words [] = None
+partition_words (location ∷ []) = None
+partition_words (location ∷ flags ∷ ws) =
+    if nat_le (tail_words flags ws) (length ws) then Some (2 + tail_words flags ws) else None
+
+-- the partition at the front of a list of words (this project's own)
+abbrev pub partition_from : List ℕ → Partition
+partition_from ws = partition_of (slice_index ws 0) (slice_index ws 1) (drop 2 ws)
+
+-- a list of words is read as n partitions, one behind the other, where these fill it exactly, and is
+-- refused otherwise (this project's own)
 abbrev pub partitions_in : ℕ → List ℕ → Option (List Partition)
 partitions_in zero [] = Some []
 partitions_in zero (w ∷ ws) = None
-partitions_in (suc n) [] = None
-partitions_in (suc n) (location ∷ []) = None
-partitions_in (suc n) (location ∷ flags ∷ ws) =
-    if nat_le (tail_words flags ws) (length ws)
-    then option_map (λ parts. partition_of location flags ws ∷ parts) (partitions_in n (drop (tail_words flags ws) ws))
-    else None
+partitions_in (suc n) ws =
+    option_and_then (λ size. option_map (λ parts. partition_from ws ∷ parts) (partitions_in n (drop size ws))) (partition_words ws)
 
 -- what stands for a partition past a table's end is a partition of no right, no link and no family (this project's own)
 abbrev pub no_partition : Partition

@@ -15,12 +15,12 @@ abbrev pub shares_sector : Partition → Partition → Bool
 shares_sector p q = nat_le (first_sector p) (last_sector q) && nat_le (first_sector q) (last_sector p)
 
 -- a partition is the window of its first to its last sector, of 4096 bytes each (RP2350 Datasheet, chapter 5, Bootrom)
-abbrev pub window_of : Partition → Window
-window_of p = record { start = 4096 * first_sector p; len = 4096 * (last_sector p + 1 - first_sector p) }
+abbrev pub part_window : Partition → Window
+part_window p = record { start = 4096 * first_sector p; len = 4096 * (last_sector p + 1 - first_sector p) }
 
 -- the window of a table's partition is that of the partition with that number (RP2350 Datasheet, chapter 5, Bootrom)
 abbrev pub partition_window : Table → ℕ → Window
-partition_window t i = window_of (part_at t.parts.items i)
+partition_window t i = part_window (part_at t.parts.items i)
 
 -- a window is of whole sectors, at least one, stands inside a flash of n sectors, and begins at sector m or behind it (this project's
 -- own)

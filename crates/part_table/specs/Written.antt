@@ -9,7 +9,7 @@ use Rattle.block_codec.specs.Blocks.{start_word, frame}
 use Rattle.block_codec.specs.Words.{bytes_of, words_of}
 use Rattle.part_table.specs.declared.partition.Partition.{Partition}
 use Rattle.part_table.specs.declared.table.Table.{Table}
-use Rattle.part_table.specs.Contents.{table_kind, version_kind, hash_def_kind, hash_value_kind}
+use Rattle.block_codec.specs.declared.kinds.TheConstants.{HASH_DEF, HASH_VALUE, PARTITION_TABLE, VERSION}
 use Rattle.part_table.specs.Fields.{has_id, family_count, has_name}
 
 -- a partition agrees with its flag word where this tells of its id, its extra families and its name (this project's own)
@@ -51,15 +51,15 @@ table_body t = t.unpartitioned ∷ flat_map partition_text t.parts.items
 -- chapter 5, Bootrom)
 abbrev pub table_item : Table → List ℕ
 table_item t =
-    header table_kind (1 + length (table_body t)) ((if t.singleton then 128 else 0) + length t.parts.items) ∷ table_body t
+    header PARTITION_TABLE (1 + length (table_body t)) ((if t.singleton then 128 else 0) + length t.parts.items) ∷ table_body t
 
 -- the VERSION item is written without rows, minor in the low half of its word and major in the high half (this project's own)
 abbrev pub version_item : Version → List ℕ
-version_item v = header version_kind 2 0 ∷ (v.minor + 65536 * v.major) ∷ []
+version_item v = header VERSION 2 0 ∷ (v.minor + 65536 * v.major) ∷ []
 
 -- the HASH_DEF item counts these words of the block, for SHA-256 (RP2350 Datasheet, chapter 5, Bootrom)
 abbrev pub hash_def_item : ℕ → List ℕ
-hash_def_item count = header hash_def_kind 2 1 ∷ count ∷ []
+hash_def_item count = header HASH_DEF 2 1 ∷ count ∷ []
 
 -- the words before the HASH_VALUE item are the start word, the table, its version and the HASH_DEF that counts them all (this
 -- project's own)
@@ -69,7 +69,7 @@ hashed_items t = table_item t ++ version_item t.version ++ hash_def_item (length
 -- the item words of a table's block are the hashed ones and the HASH_VALUE item with the SHA-256 of these and the start word (this
 -- project's own)
 abbrev pub written_items : Table → List ℕ
-written_items t = hashed_items t ++ header hash_value_kind 9 0 ∷ words_of (sha256 (bytes_of (start_word ∷ hashed_items t)))
+written_items t = hashed_items t ++ header HASH_VALUE 9 0 ∷ words_of (sha256 (bytes_of (start_word ∷ hashed_items t)))
 
 -- the block that is written for a table has link 0 (this project's own)
 abbrev pub written : Table → List ℕ

@@ -11,7 +11,7 @@ ghost use Rattle.part_table.specs.Fields.{link_type, permissions_of};
 ghost use Rattle.part_table.specs.Links.{is_second, is_second_of, owner_of, pair_of};
 ghost use Rattle.part_table.specs.Partitions.{part_at, partitions_in};
 ghost use Rattle.part_table.specs.Rights.{right_word};
-ghost use Rattle.part_table.specs.Sound.{IsSound};
+ghost use Rattle.part_table.specs.Sound.{IsSoundTable};
 ghost use Rattle.part_table.specs.TableOf.{table_of};
 ghost use Rattle.part_table.specs.Written.{IsWritable, IsWritableTable, partition_text, written_items, written_size};
 ghost use Rattle.part_table.specs.Windows.{IsPlaced, has_sector, partition_window};
@@ -19,7 +19,7 @@ ghost use Rattle.part_table.specs.Windows.{IsPlaced, has_sector, partition_windo
 /// A table that a block reads as has no fault of its partitions, and is sound for the same number of sectors.
 pub fn read_tables_are_sound()
     ensures faultless { (b : BlockView) (n m : ℕ) (t : Table) → table_of b n m ≡ Ok t → table_fault t n m ≡ None }
-    ensures sound { (t : Table) (n m : ℕ) → table_fault t n m ≡ None → IsSound t n }
+    ensures sound { (t : Table) (n m : ℕ) → table_fault t n m ≡ None → IsSoundTable t n }
 {}
 
 /// Each partition of a table without faults is a window of whole sectors, at least one, inside the flash and behind the sectors
@@ -27,19 +27,19 @@ pub fn read_tables_are_sound()
 pub fn partitions_are_placed()
     ensures placed { (t : Table) (n m : ℕ) → table_fault t n m ≡ None
         → (i : ℕ) → i < length t.parts.items → IsPlaced (partition_window t i) n m }
-    ensures sound { (t : Table) (n : ℕ) → IsSound t n
+    ensures sound { (t : Table) (n : ℕ) → IsSoundTable t n
         → (i : ℕ) → i < length t.parts.items → IsPlaced (partition_window t i) n 0 }
-    ensures apart { (t : Table) (n : ℕ) → IsSound t n
+    ensures apart { (t : Table) (n : ℕ) → IsSoundTable t n
         → (i j : ℕ) → i < length t.parts.items → j < length t.parts.items → i ≢ j
         → AreApart (partition_window t i) (partition_window t j) }
 {}
 
 /// The permissions of each sector of a partition are those of the partition, which has them in both its words.
 pub fn sectors_have_one_right()
-    ensures own { (t : Table) (n : ℕ) → IsSound t n
+    ensures own { (t : Table) (n : ℕ) → IsSoundTable t n
         → (i sector : ℕ) → i < length t.parts.items → has_sector sector (part_at t.parts.items i) ≡ true
         → right_word t sector ≡ (part_at t.parts.items i).location }
-    ensures both { (t : Table) (n : ℕ) → IsSound t n → (i : ℕ) → i < length t.parts.items
+    ensures both { (t : Table) (n : ℕ) → IsSoundTable t n → (i : ℕ) → i < length t.parts.items
         → permissions_of (part_at t.parts.items i).location ≡ permissions_of (part_at t.parts.items i).flags }
 {}
 

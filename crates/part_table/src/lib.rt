@@ -7,6 +7,9 @@
 
 pub mod examples;
 pub mod laws;
+mod contents;
+mod faults;
+mod items;
 mod partition;
 mod table;
 mod target;
