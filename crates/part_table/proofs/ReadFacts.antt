@@ -1,7 +1,7 @@
 -- What the readers of a table's words keep.
 use Rattle.std.proofs.Common.{◌≡◌, ℕ, zero, suc, ◌+◌, ◌-◌, ◌*◌, ◌/◌, ◌<◌, ◌≤◌, true, List, [], ◌∷◌, ◌++◌, length, take, drop, refl, sym, ◌∙◌, ap, subst, arith, Option, None, Some, option_map, option_and_then, append_assoc, length-drop, get_or, slice_range, if◌then◌else◌}
 use Rattle.std.proofs.lemmas.Grind.{flat_map-append}
-use Rattle.std.proofs.lemmas.List.{append-nil, drop_all, drop_more, drop-drop, take-append-drop, take-append-le, length-take-le}
+use Rattle.std.proofs.lemmas.List.{append-nil, take_more, drop_all, drop_more, drop-drop, take-append-drop, take-append-le, length-take-le}
 use Rattle.arrayvec.specs.ArrayVec.{ArrayVec}
 use Rattle.block_codec.specs.Words.{bytes_of, word_bytes}
 use Rattle.block_codec.proofs.WordLemmas.{length-bytes_of}
@@ -78,3 +78,10 @@ module _ (count : ℕ) (words : List ℕ) (ps : List Partition) (n at : ℕ)
 
   pub words_left : n ≡ 0 → at < length words → partitions_in count words ≡ None
   words_left left more = at_end left (get_or words at 0 ∷ drop (at + 1) words) (drop_more words at 0 more)
+
+-- the bytes of a word more
+pub bytes_more : (ws : List ℕ) (k : ℕ) → k < length ws → bytes_of (take k ws) ++ word_bytes (get_or ws k 0) ≡ bytes_of (take (k + 1) ws)
+bytes_more ws k lt =
+    ap (λ bs. bytes_of (take k ws) ++ bs) (sym (append-nil (word_bytes (get_or ws k 0))))
+    ∙ sym (flat_map-append word_bytes (take k ws) (get_or ws k 0 ∷ []))
+    ∙ ap (λ xs. bytes_of xs) (sym (take_more ws k 0 lt))

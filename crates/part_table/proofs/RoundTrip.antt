@@ -16,7 +16,7 @@ use Rattle.block_codec.specs.Words.{bytes_of, words_of, low_half, high_half}
 use Rattle.block_codec.proofs.ItemLemmas.{items_from-skip}
 use Rattle.block_codec.proofs.WordLemmas.{AreBytes, length-words_of}
 use Rattle.part_table.specs.declared.table.Table.{Table}
-use Rattle.part_table.specs.Contents.{table_from, table_of_items, has_wrong_digest}
+use Rattle.part_table.specs.Contents.{table_from, table_of_items, has_wrong_hash}
 use Rattle.part_table.specs.Fields.{has_bit}
 use Rattle.part_table.specs.Faults.{table_fault}
 use Rattle.part_table.specs.Partitions.{partitions_in}
@@ -151,7 +151,7 @@ read_four : (words : List ℕ) (size part : ℕ)
 read_four words size part = refl
 
 wrong_four : (words : List ℕ) (size part : ℕ)
-    → has_wrong_digest words (four_items size part)
+    → has_wrong_hash words (four_items size part)
     ≡ not (bytes_eq (bytes_of (slice_range words (1 + size + 2 + 2 + 1) (1 + size + 2 + 2 + 9)))
     (sha256 (bytes_of (take (low_half (slice_index words (1 + size + 2 + 1))) words))))
 wrong_four words size part = refl
@@ -293,7 +293,7 @@ module _ (t : Table) (writable : IsWritableTable t) where
         (before_digest (header 0x0a size_of_item part_of) (table_body t) version_word hashed_count digest_words end size_of_item refl hashed_count (omega arith)
         ∙ same_hashed)
 
-    digest_there : has_wrong_digest all (four_items size_of_item part_of) ≡ false
+    digest_there : has_wrong_hash all (four_items size_of_item part_of) ≡ false
     digest_there =
         wrong_four all size_of_item part_of
         ∙ ap (λ ws. not (bytes_eq ws (sha256 (bytes_of (take (low_half (slice_index all (1 + size_of_item + 2 + 1))) all))))) kept_digest

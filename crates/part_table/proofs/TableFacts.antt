@@ -1,5 +1,5 @@
 -- What holds of tables without faults, and of sound ones.
-use Rattle.std.proofs.Common.{◌≡◌, ◌≢◌, ℕ, ◌<◌, ◌≤◌, inl, inr, ◌&&◌, nat_le, true, false, List, length, take, refl, ◌∙◌, ap, subst, arith, Option, None, Some, Ok, slice_get, find}
+use Rattle.std.proofs.Common.{◌≡◌, ◌≢◌, ℕ, ◌<◌, ◌≤◌, inl, inr, ◌&&◌, nat_le, true, false, List, length, take, refl, ◌∙◌, ap, subst, arith, Option, None, Some, Result, Ok, Err, IfOk, Bool, sym, if◌then◌else◌, slice_get, find}
 use Rattle.std.specs.List.{position_or_len}
 use Rattle.std.specs.Option.{option_or, option_map_or}
 use Rattle.std.proofs.lemmas.Bool.{cases_lt}
@@ -19,8 +19,8 @@ use Rattle.part_table.specs.Fields.{first_sector, last_sector, permissions_of}
 use Rattle.part_table.specs.Partitions.{part_at, no_partition}
 use Rattle.part_table.specs.Windows.{IsPlaced, partition_window, has_sector, shares_sector}
 use Rattle.part_table.specs.Rights.{right_word}
-use Rattle.part_table.specs.Faults.{judge_permissions, judge_range, permissions_fault, range_fault, overlap_fault, link_fault, table_fault}
-use Rattle.part_table.specs.Contents.{table_of_items}
+use Rattle.part_table.specs.Faults.{judge_permissions, judge_range, permissions_fault, range_fault, overlap_fault, link_fault, parts_fault, table_fault}
+use Rattle.part_table.specs.Contents.{table_of_items, fields_of_items, has_bad_hash, ok_unless_bad, ok_or_bad}
 use Rattle.part_table.specs.TableOf.{table_or_fault, wrong_hash_fault, table_of}
 use Rattle.part_table.specs.Sound.{IsSoundTable}
 use Rattle.part_table.proofs.TestFacts.{first_none, second_none, never_true, first_position}
@@ -153,3 +153,27 @@ pub permissions_of_both : (t : Table) (n : ℕ) → IsSoundTable t n → (i : �
     → permissions_of (part_at t.parts.items i).location ≡ permissions_of (part_at t.parts.items i).flags
 permissions_of_both t n sound i lt =
     permissions_agree (take i t.parts.items) (part_at t.parts.items i) (part_none judge_permissions t.parts.items i lt sound.permissions)
+
+-- a value that was read without something bad
+pub not_bad : {A : Type 0} (bad : Bool) (value read : A) → Ok read ≡ ok_unless_bad bad value → bad ≡ false
+not_bad true value read e = cc
+not_bad false value read e = refl
+
+pub some_read : {A : Type 0} (o : Option A) (read : A) → Ok read ≡ ok_or_bad o → o ≡ Some read
+some_read None read e = cc
+some_read (Some value) read e = cc
+
+-- a fault of the partitions of a table that was read
+pub fault_of_parts : (b : BlockView) (n m : ℕ) (t : Table) (f : TableFault) → has_bad_hash (block_words b) (items_of b.items) ≡ false
+    → fields_of_items (block_words b) (items_of b.items) ≡ Some t → Some f ≡ parts_fault t.parts.items n m → Err f ≡ table_of b n m
+fault_of_parts b n m t f good fields fault =
+    let wrong : Option TableFault = wrong_hash_fault (block_words b) (items_of b.items) in
+    sym (ap (λ bad. table_or_fault (if bad then None else fields_of_items (block_words b) (items_of b.items)) n m wrong) good
+    ∙ ap (λ o. table_or_fault o n m wrong) fields
+    ∙ ap (λ g. ok_unless (option_or g wrong) t) (sym fault))
+
+-- what holds of each table that was read
+pub of_read : (b : BlockView) (n m : ℕ) (r : Result Table TableFault) (P : Table → Type 0) → r ≡ table_of b n m
+    → ((t : Table) → table_of b n m ≡ Ok t → P t) → IfOk r P
+of_read b n m (Ok t) P e holds = holds t (sym e)
+of_read b n m (Err f) P e holds = tt

@@ -8,6 +8,7 @@ use Rattle.block_codec.specs.declared.kinds.TheConstants.{HASH_DEF, HASH_VALUE, 
 use Rattle.block_codec.specs.declared.versions.Version.{Version}
 use Rattle.block_codec.specs.Words.{bytes_of}
 use Rattle.block_codec.specs.Kinds.{item_of_kind, items_of_kind, version_of, hash_count_of, digest_of}
+use Rattle.part_table.specs.declared.hashes.StatedHash.{StatedHash}
 use Rattle.part_table.specs.declared.table.Table.{Table}
 use Rattle.part_table.specs.declared.table.TableFault.{TableFault}
 use Rattle.part_table.specs.declared.table.TableFault.TheVariants.{BadItem}
@@ -66,37 +67,47 @@ has_bad_hash words items =
     || is_bad (digest_of words) HASH_VALUE items
     || is_misplaced (length words) (item_of_kind HASH_VALUE items) (hash_count words items)
 
--- a block has a bad item where it has two tables, its VERSION is bad or its hash is (this project's
--- own)
-abbrev pub has_bad_item : List ℕ → List Item → Bool
-has_bad_item words items =
-    is_repeated items PARTITION_TABLE || is_bad (version_of words) VERSION items || has_bad_hash words items
-
 -- a table's version is that of the VERSION item in its block, and 0.0 where there is none (this
 -- project's own)
 abbrev pub version_in : List ℕ → List Item → Version
 version_in words items =
     unwrap_or (said (version_of words) VERSION items) (record { major = 0; minor = 0 })
 
--- the table of a block's words and items is what its PARTITION_TABLE item says, and there is none
--- where the block has a bad item or no such item, or the table's fields do not fill that item
--- exactly (this project's own)
-abbrev pub table_of_items : List ℕ → List Item → Option Table
-table_of_items words items =
-    if has_bad_item words items then None
+-- the fields of a block's words and items are what its PARTITION_TABLE item says, with the version;
+-- there are none where one of these two kinds is bad, there is no such item, or its partitions do
+-- not fill it exactly (this project's own)
+abbrev pub fields_of_items : List ℕ → List Item → Option Table
+fields_of_items words items =
+    if is_repeated items PARTITION_TABLE || is_bad (version_of words) VERSION items then None
     else said (λ x. table_from (version_in words items) x.high (body_of words x)) PARTITION_TABLE items
 
--- a digest is wrong where it is not the SHA-256 of the block's first words, as many as the HASH_DEF
--- tells (RP2350 Datasheet, chapter 5, Bootrom)
-abbrev pub is_wrong_digest : List ℕ → ℕ → List ℕ → Bool
-is_wrong_digest words count digest = not (bytes_eq digest (sha256 (bytes_of (take count words))))
+-- the table of a block's words and items is its fields, where its hash is not bad (this project's
+-- own)
+abbrev pub table_of_items : List ℕ → List Item → Option Table
+table_of_items words items = if has_bad_hash words items then None else fields_of_items words items
 
--- a block has a wrong digest where its HASH_VALUE is one (RP2350 Datasheet, chapter 5, Bootrom)
-abbrev pub has_wrong_digest : List ℕ → List Item → Bool
-has_wrong_digest words items =
-    option_map_or (is_wrong_digest words (unwrap_or (hash_count words items) 0)) (said (digest_of words) HASH_VALUE items) false
+-- the hash that a block states is its HASH_VALUE's digest, with the number of the HASH_DEF (RP2350
+-- Datasheet, chapter 5, Bootrom)
+abbrev pub stated_hash : List ℕ → List Item → Option StatedHash
+stated_hash words items =
+    option_map (λ bytes. record { words = unwrap_or (hash_count words items) 0; digest = bytes })
+    (said (digest_of words) HASH_VALUE items)
+
+-- a stated hash is wrong where its digest is not the SHA-256 of the block's first words, as many as
+-- it tells (RP2350 Datasheet, chapter 5, Bootrom)
+abbrev pub is_wrong_hash : List ℕ → StatedHash → Bool
+is_wrong_hash words hash = not (bytes_eq hash.digest (sha256 (bytes_of (take hash.words words))))
+
+-- a block has a wrong hash where it states one that is wrong (RP2350 Datasheet, chapter 5, Bootrom)
+abbrev pub has_wrong_hash : List ℕ → List Item → Bool
+has_wrong_hash words items = option_map_or (is_wrong_hash words) (stated_hash words items) false
 
 -- the value, or BadItem where something is bad (this project's own)
 abbrev pub ok_unless_bad : {A : Type 0} → Bool → A → Result A TableFault
 ok_unless_bad true value = Err BadItem
 ok_unless_bad false value = Ok value
+
+-- the value that there is, and BadItem where there is none (this project's own)
+abbrev pub ok_or_bad : {A : Type 0} → Option A → Result A TableFault
+ok_or_bad None = Err BadItem
+ok_or_bad (Some value) = Ok value

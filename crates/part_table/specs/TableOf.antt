@@ -11,7 +11,7 @@ use Rattle.part_table.specs.declared.table.TableFault.TheVariants.{BadItem, Hash
 use Rattle.block_codec.specs.FirstFault.{ok_unless}
 use Rattle.block_codec.specs.Kinds.{item_of_kind}
 use Rattle.block_codec.specs.declared.kinds.TheConstants.{PARTITION_TABLE}
-use Rattle.part_table.specs.Contents.{table_of_items, has_wrong_digest}
+use Rattle.part_table.specs.Contents.{table_of_items, has_wrong_hash}
 use Rattle.part_table.specs.Faults.{table_fault}
 
 -- a block has a table where it has a PARTITION_TABLE item (RP2350 Datasheet, chapter 5, Bootrom)
@@ -20,7 +20,7 @@ has_table b = is_some (item_of_kind PARTITION_TABLE (items_of b.items))
 
 -- a digest that is wrong is the last fault (this project's own)
 abbrev pub wrong_hash_fault : List ℕ → List Item → Option TableFault
-wrong_hash_fault words items = if has_wrong_digest words items then Some Hash else None
+wrong_hash_fault words items = if has_wrong_hash words items then Some Hash else None
 
 -- a table that was read is judged by its partitions and then by its digest, and one that was not
 -- has a bad item (this project's own)

@@ -9,11 +9,14 @@ pub mod examples;
 pub mod laws;
 mod contents;
 mod faults;
+mod hashes;
 mod items;
 mod partition;
+mod reading;
 mod table;
 mod target;
 
 pub use partition::Partition;
+pub use reading::{has_table, read_table};
 pub use table::{Right, Table, TableFault, TableWriteFault};
 pub use target::Target;

@@ -1,6 +1,8 @@
 use crate::Partition;
+use crate::partition::has_bit;
 use arrayvec::ArrayVec;
 use block_codec::Version;
+use pico_board::Window;
 use thiserror::Error;
 
 /// A partition table, as its block says it.
@@ -58,4 +60,77 @@ pub enum TableWriteFault {
     /// There was no memory for the block.
     #[error("out of memory")]
     Memory,
+}
+
+impl Table {
+    ghost use Rattle.std.specs.Prelude.{◌≡◌, ◌+◌, ◌<◌, ◌≤◌, ◌^◌, length, None};
+    ghost use Rattle.part_table.specs.Families.{accepts, accepts_absolute};
+    ghost use Rattle.part_table.specs.Faults.{permissions_fault, overlap_fault};
+    ghost use Rattle.part_table.specs.Fields.{first_sector, last_sector};
+    ghost use Rattle.part_table.specs.Partitions.{part_at};
+    ghost use Rattle.part_table.specs.Rights.{allowed, right_word, right_bit};
+    ghost use Rattle.part_table.specs.Windows.{has_sector, partition_window};
+
+    /// The window of partition i: its first to its last sector.
+    pub fn window(&self, i: u32) -> Window
+        requires part { i < length self.now.parts.items }
+        requires some { first_sector (part_at self.now.parts.items i) ≤ last_sector (part_at self.now.parts.items i) }
+        ensures value { result ≡ partition_window self.now i }
+        ensures near { result.start + result.len ≤ 2 ^ 25 }
+    {
+        self.parts.as_slice()[i as usize].window()
+    }
+
+    /// Whether partition i accepts the family, by the family's bit or among its extra families.
+    pub fn accepts(&self, i: u32, family: u32) -> bool
+        requires { i < length self.now.parts.items }
+        ensures { result ≡ accepts (part_at self.now.parts.items i) family }
+    {
+        self.parts.as_slice()[i as usize].accepts(family)
+    }
+
+    /// Whether the table accepts the absolute family: bit 15 of its unpartitioned word.
+    pub fn accepts_absolute(&self) -> bool
+        ensures { result ≡ accepts_absolute self.now }
+    {
+        has_bit(self.unpartitioned, 15)
+    }
+
+    /// The word with the permissions of a sector: its partition's location word, or the
+    /// unpartitioned word where it is in no partition.
+    fn right_word(&self, sector: u32) -> u32
+        ensures { result ≡ right_word self.now sector }
+    {
+        for part in self.parts.as_slice() {
+            if part.has_sector(sector) {
+                return part.location;
+            }
+        }
+        self.unpartitioned
+    }
+
+    /// Whether a sector has a right.
+    pub fn allowed(&self, sector: u32, right: Right) -> bool
+        requires permissions { permissions_fault self.now.parts.items ≡ None }
+        requires overlap { overlap_fault self.now.parts.items ≡ None }
+        ensures { result ≡ allowed self.now sector right }
+    {
+        has_bit(self.right_word(sector), right.bit())
+    }
+}
+
+impl Right {
+    ghost use Rattle.std.specs.Prelude.{◌≡◌, ◌<◌};
+    ghost use Rattle.part_table.specs.Rights.{right_bit};
+
+    /// The bit of a word with permissions that gives the right.
+    fn bit(&self) -> u32
+        ensures value { result ≡ right_bit self.now }
+        ensures small { result < 32 }
+    {
+        match self {
+            Right::BootRead => 30,
+            Right::BootWrite => 31,
+        }
+    }
 }
