@@ -7,3 +7,5 @@ pub mod RoundTrip
 pub mod SearchFacts
 pub mod ReadFacts
 pub mod FaultFacts
+pub mod WriteFacts
+pub mod BlockFacts

@@ -1,5 +1,5 @@
 -- The block that is written for a table is read as the table.
-use Rattle.std.proofs.Common.{◌≡◌, ℕ, zero, suc, ◌+◌, ◌-◌, ◌*◌, ◌/◌, ◌%◌, ◌<◌, ◌≤◌, Bool, true, false, nat_le, nat_lt, ◌==◌, if◌then◌else◌, List, [], ◌∷◌, ◌++◌, length, take, drop, get_or, refl, sym, ◌∙◌, ap, arith, None, Some, Ok, append_assoc, length-append, pos, not, bytes_eq, option_map}
+use Rattle.std.proofs.Common.{◌≡◌, ℕ, zero, suc, ◌+◌, ◌-◌, ◌*◌, ◌/◌, ◌%◌, ◌<◌, ◌≤◌, Bool, true, false, nat_le, nat_lt, ◌==◌, if◌then◌else◌, List, [], ◌∷◌, ◌++◌, length, take, drop, get_or, refl, sym, ◌∙◌, ap, arith, None, Some, Ok, append_assoc, length-append, pos, not, bytes_eq, option_map, is_some}
 use Rattle.std.specs.List.{flat_map, slice_index, slice_range}
 use Rattle.std.specs.Int.{to_be_bytes, w32, cast_unsigned}
 use Rattle.std.proofs.lemmas.Bool.Decides.{nat_tests}
@@ -11,6 +11,8 @@ use Rattle.sha2.proofs.Facts256.{length-sha256}
 use Rattle.block_codec.specs.declared.items.Item.{Item}
 use Rattle.block_codec.specs.FirstFault.{ok_unless}
 use Rattle.block_codec.specs.Blocks.{frame, start_word, end_word, last_item}
+use Rattle.block_codec.specs.declared.kinds.TheConstants.{PARTITION_TABLE}
+use Rattle.block_codec.specs.Kinds.{item_of_kind}
 use Rattle.block_codec.specs.Items.{size_of, item_at, items_from, items_of}
 use Rattle.block_codec.specs.Words.{bytes_of, words_of, low_half, high_half}
 use Rattle.block_codec.proofs.ItemLemmas.{items_from-skip}
@@ -20,12 +22,12 @@ use Rattle.part_table.specs.Contents.{table_from, table_of_items, has_wrong_hash
 use Rattle.part_table.specs.Fields.{has_bit}
 use Rattle.part_table.specs.Faults.{table_fault}
 use Rattle.part_table.specs.Partitions.{partitions_in}
-use Rattle.part_table.specs.TableOf.{table_or_fault, wrong_hash_fault, table_of}
+use Rattle.part_table.specs.TableOf.{has_table, table_or_fault, wrong_hash_fault, table_of}
 use Rattle.part_table.specs.declared.partition.Partition.{Partition}
 use Rattle.part_table.specs.declared.table.TableFault.TheVariants.{Hash}
 use Rattle.block_codec.specs.declared.versions.Version.{Version}
 use Rattle.std.specs.Option.{option_or}
-use Rattle.part_table.specs.Written.{IsWritableTable, header, table_item, table_body, version_item, hash_def_item, hashed_items, partition_text, written_items, written_size}
+use Rattle.part_table.specs.Written.{IsReadableTable, header, table_item, table_body, version_item, hash_def_item, hashed_items, partition_text, written_items, written_size}
 use Rattle.part_table.proofs.WrittenFacts.{bytes_behind, bytes_back, partitions_back}
 
 -- a digest has bytes
@@ -41,7 +43,7 @@ unfolding digest_bytes
 digest_is_bytes h zero i = omega arith
 digest_is_bytes h (suc n) i = bytes_behind (digest_bytes h n) (to_be_bytes w32 (slice_index h n)) (digest_is_bytes h n) (word_digest (slice_index h n)) i
 
-sha256_is_bytes : (m : List ℕ) → AreBytes (sha256 m)
+pub sha256_is_bytes : (m : List ℕ) → AreBytes (sha256 m)
 unfolding sha256
 sha256_is_bytes m = digest_is_bytes _ 8
 
@@ -54,7 +56,7 @@ same_items place a b c d e f g h one two three four =
     ap (λ x. item_of place x c e g) one ∙ ap (λ x. item_of place b x e g) two ∙ ap (λ x. item_of place b d x g) three ∙ ap (λ x. item_of place b d f x) four
 
 -- the header of an item with a size of one byte, part by part
-type_is : (kind size part : ℕ) → kind < 128 → (kind + 256 * size + 16777216 * part) % 256 ≡ kind
+pub type_is : (kind size part : ℕ) → kind < 128 → (kind + 256 * size + 16777216 * part) % 256 ≡ kind
 type_is kind size part small = omega arith
 
 size_if : (yes : Bool) (h size : ℕ) → yes ≡ false → h / 256 % 256 ≡ size → (if yes then h / 256 % 65536 else h / 256 % 256) ≡ size
@@ -64,7 +66,7 @@ size_if false h size is e = e
 below : (b n : ℕ) → b < n → nat_le n b ≡ false
 below b n lt = grind (arith, nat_tests)
 
-size_is : (kind size part : ℕ) → kind < 128 → size < 256 → size_of (header kind size part) ≡ size
+pub size_is : (kind size part : ℕ) → kind < 128 → size < 256 → size_of (header kind size part) ≡ size
 unfolding size_of
 size_is kind size part a b =
     let type : (kind + 256 * size + 16777216 * part) % 256 ≡ kind = type_is kind size part a in
@@ -156,10 +158,10 @@ wrong_four : (words : List ℕ) (size part : ℕ)
     (sha256 (bytes_of (take (low_half (slice_index words (1 + size + 2 + 1))) words))))
 wrong_four words size part = refl
 
-four_joined : (a b c d e : List ℕ) → (((a ++ b) ++ c) ++ d) ++ e ≡ a ++ (b ++ (c ++ (d ++ e)))
+pub four_joined : (a b c d e : List ℕ) → (((a ++ b) ++ c) ++ d) ++ e ≡ a ++ (b ++ (c ++ (d ++ e)))
 four_joined a b c d e = simp append_assoc
 
-three_joined : (a b c d : List ℕ) → ((a ++ b) ++ c) ++ d ≡ a ++ (b ++ (c ++ d))
+pub three_joined : (a b c d : List ℕ) → ((a ++ b) ++ c) ++ d ≡ a ++ (b ++ (c ++ d))
 three_joined a b c d = simp append_assoc
 
 not_below : (a b : ℕ) → b ≤ a → nat_lt a b ≡ false
@@ -174,14 +176,14 @@ count_back : (yes : Bool) (count : ℕ) → count ≤ 15 → ((if yes then 128 e
 count_back true count few = omega arith
 count_back false count few = omega arith
 
-small_part : (yes : Bool) (count : ℕ) → count ≤ 15 → (if yes then 128 else 0) + count < 256
+pub small_part : (yes : Bool) (count : ℕ) → count ≤ 15 → (if yes then 128 else 0) + count < 256
 small_part true count few = omega arith
 small_part false count few = omega arith
 
 version_parts : (high low : ℕ) (v : Version) → high ≡ v.major → low ≡ v.minor → record { major = high; minor = low } ≡ v
 version_parts high low v one two = ap (λ x. record { major = x; minor = low }) one ∙ ap (λ x. record { major = v.major; minor = x }) two
 
-module _ (t : Table) (writable : IsWritableTable t) where
+module _ (t : Table) (writable : IsReadableTable t) where
   abbrev count_of : ℕ
   count_of = length t.parts.items
 
@@ -311,7 +313,7 @@ module _ (t : Table) (writable : IsWritableTable t) where
         ∙ ap (λ f. ok_unless (option_or f None) t) none
 
 -- a table that was written is read as the same table, in each flash for which it has no fault
-pub table_back : (t : Table) (at n m : ℕ) → IsWritableTable t → table_fault t n m ≡ None
+pub table_back : (t : Table) (at n m : ℕ) → IsReadableTable t → table_fault t n m ≡ None
     → table_of (record { at = at; items = written_items t; link = pos 0 }) n m ≡ Ok t
 unfolding frame
 table_back t at n m writable none =
@@ -319,6 +321,10 @@ table_back t at n m writable none =
     (frame (written_items t) (pos 0)) (items_of (written_items t)) n m
     (words_are t writable (last_item (length (written_items t)) ∷ cast_unsigned w32 (pos 0) ∷ end_word ∷ []))
     (items_are t writable) none
+
+-- the block has a table
+pub table_stands : (t : Table) (at : ℕ) → IsReadableTable t → has_table (record { at = at; items = written_items t; link = pos 0 }) ≡ true
+table_stands t at readable = ap (λ items. is_some (item_of_kind PARTITION_TABLE items)) (items_are t readable)
 
 hashed_size : (t : Table) → length (hashed_items t) ≡ length (table_item t) + 4
 hashed_size t =

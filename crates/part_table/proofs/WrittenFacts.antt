@@ -10,7 +10,7 @@ use Rattle.block_codec.proofs.WordLemmas.{AreBytes, AreBytes-tail, length-words_
 use Rattle.part_table.specs.declared.partition.Partition.{Partition}
 use Rattle.part_table.specs.Fields.{has_id, family_count, has_name}
 use Rattle.part_table.specs.Partitions.{id_words, name_at, name_length, name_words, tail_words, id_of, families_of, name_of, partition_of, partitions_in}
-use Rattle.part_table.specs.Written.{IsWritable, id_text, name_text, partition_text}
+use Rattle.part_table.specs.Written.{IsReadable, padded_name, id_text, name_text, partition_text}
 
 -- bytes behind bytes, and bytes 0
 pub bytes_behind : (xs ys : List ℕ) → AreBytes xs → AreBytes ys → AreBytes (xs ++ ys)
@@ -25,16 +25,16 @@ zeros (suc n) (suc i) = zeros n i
 
 -- the bytes of a name, with its length before them and bytes 0 behind
 abbrev padded : List ℕ → List ℕ
-padded name = length name ∷ name ++ replicate (3 - length name % 4) 0
+padded name = padded_name name
 
 padded_length : (name : List ℕ) → length (padded name) ≡ 4 * ((length name + 4) / 4)
 padded_length name = simp (length-append, length-replicate) (omega arith)
 
-padded_bytes : (name : List ℕ) → length name < 128 → AreBytes name → AreBytes (padded name)
+pub padded_bytes : (name : List ℕ) → length name < 128 → AreBytes name → AreBytes (padded name)
 padded_bytes name short bytes zero = omega arith
 padded_bytes name short bytes (suc i) = bytes_behind name (replicate (3 - length name % 4) 0) bytes (zeros (3 - length name % 4)) i
 
-padded_words : (name : List ℕ) → length (words_of (padded name)) ≡ (length name + 4) / 4
+pub padded_words : (name : List ℕ) → length (words_of (padded name)) ≡ (length name + 4) / 4
 padded_words name = let long : length (padded name) ≡ 4 * ((length name + 4) / 4) = padded_length name in length-words_of (padded name) ∙ omega arith
 
 -- bytes of whole words are those of their words
@@ -127,7 +127,7 @@ same_parts at flag_word i j f g n m one two three =
 abbrev tail_text : Partition → List ℕ
 tail_text p = id_text p.id ++ p.families.items ++ name_text p.name
 
-module _ (p : Partition) (writable : IsWritable p) (rest : List ℕ) where
+module _ (p : Partition) (writable : IsReadable p) (rest : List ℕ) where
   abbrev behind : List ℕ
   behind = tail_text p ++ rest
 
@@ -191,7 +191,7 @@ one_more n at flag_word ws k p parts rest size room past one more =
     ∙ ap (λ q. Some (q ∷ parts)) one
 
 -- partitions that were written are read again, where they fill the list
-pub partitions_back : (parts : List Partition) → AllByRecursion IsWritable parts → partitions_in (length parts) (flat_map partition_text parts) ≡ Some parts
+pub partitions_back : (parts : List Partition) → AllByRecursion IsReadable parts → partitions_in (length parts) (flat_map partition_text parts) ≡ Some parts
 partitions_back [] all = refl
 partitions_back (p ∷ parts) all =
     one_more (length parts) p.location p.flags (tail_text p ++ flat_map partition_text parts) (length (tail_text p)) p parts (flat_map partition_text parts)

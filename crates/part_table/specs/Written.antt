@@ -1,16 +1,17 @@
 -- The block that is written for a table: the items PARTITION_TABLE, VERSION, HASH_DEF and HASH_VALUE with sizes of one byte, and link 0.
 use Rattle.std.specs.Prelude.{◌≡◌, ℕ, ◌+◌, ◌-◌, ◌*◌, ◌/◌, ◌%◌, ◌^◌, List, [], ◌∷◌, ◌++◌, length, replicate, flat_map, is_some, if◌then◌else◌, pos}
-use Rattle.std.specs.Prelude.{Option, None, Some, IfSome, ◌<◌, ◌≤◌, slice_index}
+use Rattle.std.specs.Prelude.{Option, None, Some, Ok, IfSome, true, ◌<◌, ◌≤◌, slice_index}
 use Rattle.std.specs.List.{AllByRecursion}
 use Rattle.arrayvec.specs.ArrayVec.{ArrayVec}
 use Rattle.sha2.specs.Sha256.{sha256}
 use Rattle.block_codec.specs.declared.versions.Version.{Version}
-use Rattle.block_codec.specs.Blocks.{start_word, frame}
-use Rattle.block_codec.specs.Words.{bytes_of, words_of}
+use Rattle.block_codec.specs.Blocks.{BlockView, start_word, frame, front_block}
+use Rattle.block_codec.specs.Words.{bytes_of, words_of, AreWords}
 use Rattle.part_table.specs.declared.partition.Partition.{Partition}
 use Rattle.part_table.specs.declared.table.Table.{Table}
 use Rattle.block_codec.specs.declared.kinds.TheConstants.{HASH_DEF, HASH_VALUE, PARTITION_TABLE, VERSION}
 use Rattle.part_table.specs.Fields.{has_id, family_count, has_name}
+use Rattle.part_table.specs.TableOf.{has_table, table_of}
 
 -- a partition agrees with its flag word where this tells of its id, its extra families and its name (this project's own)
 pub record AgreesWithFlags (p : Partition) : Type 0 where
@@ -18,21 +19,36 @@ pub record AgreesWithFlags (p : Partition) : Type 0 where
   pub families : family_count p.flags ≡ length p.families.items
   pub name : has_name p.flags ≡ is_some p.name
 
--- a partition can be written where it agrees with its flag word and its name has bytes, at most 127 (this project's own)
-pub record IsWritable (p : Partition) : Type 0 where
+-- what is written for a partition can be read as it where it agrees with its flag word and its name
+-- has bytes, at most 127 (this project's own)
+pub record IsReadable (p : Partition) : Type 0 where
   pub agrees : AgreesWithFlags p
   pub short : IfSome p.name (λ name. length name.items < 128)
   pub bytes : IfSome p.name (λ name. (i : ℕ) → slice_index name.items i < 256)
+
+-- a partition can be written where besides its words and its id are in their ranges (this project's
+-- own)
+pub record IsWritable (p : Partition) : Type 0 where
+  pub readable : IsReadable p
+  pub location : p.location < 2 ^ 32
+  pub flags : p.flags < 2 ^ 32
+  pub id : IfSome p.id (λ id. id < 2 ^ 64)
+  pub families : AreWords p.families.items
 
 -- an id is written as two words, the low one first (this project's own)
 abbrev pub id_text : Option ℕ → List ℕ
 id_text None = []
 id_text (Some id) = id % 2 ^ 32 ∷ id / 2 ^ 32 ∷ []
 
--- a name is written as its length in one byte, its bytes, and bytes 0 up to a whole word (this project's own)
+-- a name is written as its length in one byte, its bytes, and bytes 0 up to a whole word (this
+-- project's own)
+abbrev pub padded_name : List ℕ → List ℕ
+padded_name name = length name ∷ name ++ replicate (3 - length name % 4) 0
+
+-- a name is written in whole words (this project's own)
 abbrev pub name_text : Option (ArrayVec ℕ) → List ℕ
 name_text None = []
-name_text (Some name) = words_of (length name.items ∷ name.items ++ replicate (3 - length name.items % 4) 0)
+name_text (Some name) = words_of (padded_name name.items)
 
 -- a partition is written as its location word, its flag word, its id, its extra families and its name (this project's own)
 abbrev pub partition_text : Partition → List ℕ
@@ -79,11 +95,27 @@ written t = bytes_of (frame (written_items t) (pos 0))
 abbrev pub written_size : Table → ℕ
 written_size t = 4 * (length (table_item t) + 17)
 
--- a table can be written where its partitions can, it has at most 15 of them, its version has two halves of a word, and its block has
--- at most 640 bytes (this project's own)
-pub record IsWritableTable (t : Table) : Type 0 where
-  pub parts : AllByRecursion IsWritable t.parts.items
+-- what is written for a table can be read as it where that is so of its partitions, it has at most 15
+-- of them, its version has two halves of a word, and its block has at most 640 bytes (this project's
+-- own)
+pub record IsReadableTable (t : Table) : Type 0 where
+  pub parts : AllByRecursion IsReadable t.parts.items
   pub few : length t.parts.items ≤ 15
   pub major : t.version.major < 2 ^ 16
   pub minor : t.version.minor < 2 ^ 16
   pub fits : written_size t ≤ 640
+
+-- a table can be written where besides its partitions can and its unpartitioned word is in its range
+-- (this project's own)
+pub record IsWritableTable (t : Table) : Type 0 where
+  pub readable : IsReadableTable t
+  pub parts : AllByRecursion IsWritable t.parts.items
+  pub unpartitioned : t.unpartitioned < 2 ^ 32
+
+-- bytes are read as a table in a flash of n sectors, of which m stand before the first free one,
+-- where a block stands at their front, whatever follows them and wherever they stand, and this block
+-- has that table (this project's own)
+abbrev pub IsReadAs : List ℕ → Table → ℕ → ℕ → Type 0
+IsReadAs bytes t n m =
+    (at : ℕ) (rest : List ℕ)
+    → (b : BlockView) × (front_block at (bytes ++ rest) ≡ Some b) × (has_table b ≡ true) × (table_of b n m ≡ Ok t)

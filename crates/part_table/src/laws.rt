@@ -1,8 +1,8 @@
 //! Laws of the definitions, proved: each is the `ensures` of a function that does nothing.
 
-ghost use Rattle.std.specs.Prelude.{◌+◌, ◌*◌, pos, ◌≡◌, ◌≢◌, ◌<◌, ℕ, List, true, false, length, Option, Some, None, Ok};
+ghost use Rattle.std.specs.Prelude.{◌++◌, pos, ◌≡◌, ◌≢◌, ◌<◌, ℕ, List, true, false, length, Option, Some, None, Ok};
 ghost use Rattle.std.specs.List.{AllByRecursion, flat_map};
-ghost use Rattle.block_codec.specs.Blocks.{BlockView};
+ghost use Rattle.block_codec.specs.Blocks.{BlockView, IsBlock, block_at};
 ghost use Rattle.pico_board.specs.Content.{AreApart};
 ghost use Rattle.part_table.specs.declared.partition.Partition.{Partition};
 ghost use Rattle.part_table.specs.declared.table.Table.{Table};
@@ -13,7 +13,7 @@ ghost use Rattle.part_table.specs.Partitions.{part_at, partitions_in};
 ghost use Rattle.part_table.specs.Rights.{right_word};
 ghost use Rattle.part_table.specs.Sound.{IsSoundTable};
 ghost use Rattle.part_table.specs.TableOf.{table_of};
-ghost use Rattle.part_table.specs.Written.{IsWritable, IsWritableTable, partition_text, written_items, written_size};
+ghost use Rattle.part_table.specs.Written.{IsReadable, IsWritableTable, IsReadAs, partition_text, written_items, written, written_size};
 ghost use Rattle.part_table.specs.Windows.{IsPlaced, has_sector, partition_window};
 
 /// A table that a block reads as has no fault of its partitions, and is sound for the same number of sectors.
@@ -64,16 +64,21 @@ pub fn owners_are_right()
         → (v < length parts) × (v ≢ i) × (link_type (part_at parts v) ≡ 0) }
 {}
 
-/// Partitions that agree with their flag words are read again from the words that are written for them.
+/// Partitions that agree with their flag words are read again from the words that are written for
+/// them.
 pub fn partitions_are_read_back()
-    ensures { (parts : List Partition) → AllByRecursion IsWritable parts
+    ensures { (parts : List Partition) → AllByRecursion IsReadable parts
         → partitions_in (length parts) (flat_map partition_text parts) ≡ Some parts }
 {}
 
-/// The block that is written for a table is read as the same table in each flash for which that has no fault, and has the size that
-/// is told of it.
+/// The bytes that are written for a table, whose words, ids, families and names are in their ranges,
+/// are a block of the size that is told of it. It stands at their front, whatever follows them, and
+/// is read as the same table in each flash for which that has no fault.
 pub fn tables_are_read_back()
-    ensures again { (t : Table) (place n m : ℕ) → IsWritableTable t → table_fault t n m ≡ None
-        → table_of (record { at = place; items = written_items t; link = pos 0 }) n m ≡ Ok t }
-    ensures size { (t : Table) → 4 * length (written_items t) + 16 ≡ written_size t }
+    ensures block { (t : Table) → IsWritableTable t → IsBlock (written t) (written_items t) (pos 0) }
+    ensures stands { (t : Table) (rest : List ℕ) → IsWritableTable t
+        → block_at (written t ++ rest) 0 ≡ Some (record { at = 0; items = written_items t; link = pos 0 }) }
+    ensures again { (t : Table) (n m : ℕ) → IsWritableTable t → table_fault t n m ≡ None
+        → IsReadAs (written t) t n m }
+    ensures size { (t : Table) → IsWritableTable t → length (written t) ≡ written_size t }
 {}

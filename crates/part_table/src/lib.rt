@@ -15,8 +15,10 @@ mod partition;
 mod reading;
 mod table;
 mod target;
+mod writing;
 
 pub use partition::Partition;
 pub use reading::{has_table, read_table};
 pub use table::{Right, Table, TableFault, TableWriteFault};
 pub use target::Target;
+pub use writing::write_table;
