@@ -9,3 +9,4 @@ pub mod ReadFacts
 pub mod FaultFacts
 pub mod WriteFacts
 pub mod BlockFacts
+pub mod RuleFacts

@@ -106,6 +106,11 @@ module _ {X : Type 0} (test : X → Bool) (xs : List X) where
       let found : (position_or_len test xs < length xs) × (position_or_len test xs ≡ k) = place_some (position_or_len test xs) (length xs) k at in
       (subst (λ n. n < length xs) found.1 found.0, subst (λ n. test (get_or xs n d) ≡ true) found.1 (passes_at_first test xs d found.0))
 
+  pub fails_before_position : (k : ℕ) (d : X) → position test xs ≡ Some k → (j : ℕ) → j < k → test (get_or xs j d) ≡ false
+  fails_before_position k d at j lt =
+      let found : (position_or_len test xs < length xs) × (position_or_len test xs ≡ k) = place_some (position_or_len test xs) (length xs) k at in
+      fails_before_first test xs j d (omega arith)
+
   pub first_position : (k : ℕ) (d : X) → k < length xs → test (get_or xs k d) ≡ true → ((j : ℕ) → j < k → test (get_or xs j d) ≡ false)
       → (position_or_len test xs ≡ k) × (position test xs ≡ Some k)
   first_position k d lt passes before =

@@ -34,7 +34,7 @@ table_with ps = record {
 }
 
 -- the item words of a table of two partitions, sectors 2 to 31 and 32 to 61, the second of which is
--- the B of the first; both have all rights, and the first accepts rp2350-arm-s
+-- the B of the first; both have all rights and accept rp2350-arm-s
 abbrev pub pair_items : List ℕ
 pair_items = 0x0200060a ∷ 0xfc008000 ∷ 0xfc03e002 ∷ 0xfc020000 ∷ 0xfc07a020 ∷ 0xfc020002 ∷ []
 
