@@ -1,15 +1,17 @@
 //! Laws of the definitions, proved: each is the `ensures` of a function that does nothing.
 
-ghost use Rattle.std.specs.Prelude.{◌++◌, pos, ◌≡◌, ◌≢◌, ◌<◌, ℕ, List, true, false, length, Option, Some, None, Ok};
+ghost use Rattle.std.specs.Prelude.{◌++◌, pos, ◌≡◌, ◌≢◌, ◌↔◌, Some, ◌<◌, ℕ, List, true, false, length, Option, Some, None, Ok};
 ghost use Rattle.std.specs.List.{AllByRecursion, flat_map};
 ghost use Rattle.block_codec.specs.Blocks.{BlockView, IsBlock, block_at};
 ghost use Rattle.pico_board.specs.Content.{AreApart};
 ghost use Rattle.part_table.specs.declared.partition.Partition.{Partition};
 ghost use Rattle.part_table.specs.declared.table.Table.{Table};
-ghost use Rattle.part_table.specs.Faults.{table_fault, link_fault};
+ghost use Rattle.part_table.specs.declared.table.TableFault.{TableFault};
+ghost use Rattle.part_table.specs.Faults.{table_fault, parts_fault, link_fault};
 ghost use Rattle.part_table.specs.Fields.{link_type, permissions_of};
 ghost use Rattle.part_table.specs.Links.{is_second, is_second_of, owner_of, pair_of};
 ghost use Rattle.part_table.specs.Partitions.{part_at, partitions_in};
+ghost use Rattle.part_table.specs.Rules.{IsFirstFault, HasNoFault};
 ghost use Rattle.part_table.specs.Rights.{right_word};
 ghost use Rattle.part_table.specs.Sound.{IsSoundTable};
 ghost use Rattle.part_table.specs.TableOf.{table_of};
@@ -20,6 +22,14 @@ ghost use Rattle.part_table.specs.Windows.{IsPlaced, has_sector, partition_windo
 pub fn read_tables_are_sound()
     ensures faultless { (b : BlockView) (n m : ℕ) (t : Table) → table_of b n m ≡ Ok t → table_fault t n m ≡ None }
     ensures sound { (t : Table) (n m : ℕ) → table_fault t n m ≡ None → IsSoundTable t n }
+{}
+
+/// The first fault of a table's partitions, in each flash, is the one that the rules name, and there is
+/// none exactly where no rule finds one.
+pub fn faults_are_the_first()
+    ensures first { (parts : List Partition) (n m : ℕ) (f : TableFault)
+        → (parts_fault parts n m ≡ Some f) ↔ IsFirstFault parts n m f }
+    ensures none { (parts : List Partition) (n m : ℕ) → (parts_fault parts n m ≡ None) ↔ HasNoFault parts n m }
 {}
 
 /// Each partition of a table without faults is a window of whole sectors, at least one, inside the flash and behind the sectors
