@@ -32,7 +32,7 @@ whole_item kind size part body rest a b long items =
       (λ last. omega (arith, type, last)),
       omega arith,
       subst (λ k. AreItemsAfter k (body ++ rest)) (sym left)
-      (AreItemsAfter-back (length body) (body ++ rest) (omega arith) (subst AreItems (sym (drop_at body rest (length body) refl)) items)),
+          (AreItemsAfter-back (length body) (body ++ rest) (omega arith) (subst AreItems (sym (drop_at body rest (length body) refl)) items)),
     )
 
 last_whole : (dw : List ℕ) → length dw ≡ 8 → AreItems (header 0x4b 9 0 ∷ dw)
@@ -77,8 +77,8 @@ partition_are_words p ok = (
   (
     ok.flags,
     words_joined (id_text p.id ++ p.families.items) (name_text p.name)
-    (words_joined (id_text p.id) p.families.items (id_are_words p.id ok.id) ok.families)
-    (name_are_words p.name ok.readable.short ok.readable.bytes),
+        (words_joined (id_text p.id) p.families.items (id_are_words p.id ok.id) ok.families)
+        (name_are_words p.name ok.readable.short ok.readable.bytes),
   ),
 )
 
@@ -99,9 +99,11 @@ module _ (t : Table) (ok : IsWritableTable t) where
   are_words =
       words_joined (hashed_items t) (header 0x4b 9 0 ∷ words_of (sha256 (bytes_of (start_word ∷ hashed_items t))))
       (words_joined (table_item t ++ version_item t.version) (hash_def_item (length (table_item t) + 5))
-      (words_joined (table_item t) (version_item t.version)
-      (header_small 0x0a (1 + length (table_body t)) ((if t.singleton then 128 else 0) + length t.parts.items) (omega arith) (omega (arith, few_words))
-      (small_part t.singleton (length t.parts.items) ok.readable.few), (ok.unpartitioned, partitions_are_words t.parts.items ok.parts))
+      (words_joined (table_item t) (version_item t.version) (
+        header_small 0x0a (1 + length (table_body t)) ((if t.singleton then 128 else 0) + length t.parts.items) (omega arith) (omega (arith, few_words))
+            (small_part t.singleton (length t.parts.items) ok.readable.few),
+        (ok.unpartitioned, partitions_are_words t.parts.items ok.parts),
+      )
       (omega arith, (omega (arith, ok.readable.minor, ok.readable.major), tt)))
       (omega arith, (omega (arith, few_words), tt)))
       (omega arith, AreWords-words_of (sha256 (bytes_of (start_word ∷ hashed_items t))) (sha256_is_bytes (bytes_of (start_word ∷ hashed_items t))))

@@ -10,3 +10,4 @@ pub mod FaultFacts
 pub mod WriteFacts
 pub mod BlockFacts
 pub mod RuleFacts
+pub mod AnswerFacts

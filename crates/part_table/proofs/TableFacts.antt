@@ -7,7 +7,7 @@ use Rattle.std.proofs.lemmas.Bool.Decides.{nat_tests}
 use Rattle.std.proofs.lemmas.List.{get_or_default}
 use Rattle.pico_board.specs.declared.window.Window.{Window}
 use Rattle.std.proofs.lemmas.List.Folds.{find_at}
-use Rattle.std.proofs.lemmas.Option.{slice_get-get_or}
+use Rattle.std.proofs.lemmas.Option.{slice_get-get_or, slice_get_within, get_or_from_slice_get}
 use Rattle.pico_board.specs.Content.{AreApart}
 use Rattle.block_codec.specs.FirstFault.{ok_unless}
 use Rattle.block_codec.specs.Blocks.{BlockView, block_words}
@@ -23,7 +23,7 @@ use Rattle.part_table.specs.Faults.{judge_permissions, judge_range, permissions_
 use Rattle.part_table.specs.Contents.{table_of_items, fields_of_items, has_bad_hash, ok_unless_bad, ok_or_bad}
 use Rattle.part_table.specs.TableOf.{table_or_fault, wrong_hash_fault, table_of}
 use Rattle.part_table.specs.Sound.{IsSoundTable}
-use Rattle.part_table.proofs.TestFacts.{first_none, second_none, never_true, first_position}
+use Rattle.part_table.proofs.TestFacts.{first_none, second_none, never_true, first_position, search_of}
 use Rattle.part_table.proofs.PartFacts.{part_none, in_range, window_placed, windows_apart, permissions_agree, no_share}
 
 -- the four kinds of fault that a table may have, none of which it has
@@ -148,6 +148,20 @@ partition_right t n sound i s lt holds =
     let found : find (has_sector s) t.parts.items ≡ Some (part_at t.parts.items i) =
     find_at (has_sector s) t.parts.items ∙ ap (λ k. slice_get t.parts.items k) first ∙ slice_get-get_or t.parts.items i no_partition lt in
     ap (λ o. option_map_or (λ (p : Partition). p.location) o t.unpartitioned) found
+
+-- a sector of no partition
+pub other_right : (t : Table) (s : ℕ) → ((i : ℕ) → i < length t.parts.items → has_sector s (part_at t.parts.items i) ≡ false)
+    → right_word t s ≡ t.unpartitioned
+other_right t s none =
+    elim (search_of (has_sector s) t.parts.items) [
+      | inl absent ↦ ap (λ o. option_map_or (λ (p : Partition). p.location) o t.unpartitioned) absent.unfound
+      | inr found ↦
+          let at : part_at t.parts.items found.0 ≡ found.1 = get_or_from_slice_get t.parts.items found.0 found.1 no_partition found.2.at in
+          let fails : has_sector s found.1 ≡ false =
+          subst (λ p. has_sector s p ≡ false) at (none found.0 (slice_get_within t.parts.items found.0 found.1 found.2.at)) in
+          let passes : has_sector s found.1 ≡ true = found.2.passes in
+          cc
+    ]
 
 pub permissions_of_both : (t : Table) (n : ℕ) → IsSoundTable t n → (i : ℕ) → i < length t.parts.items
     → permissions_of (part_at t.parts.items i).location ≡ permissions_of (part_at t.parts.items i).flags

@@ -1,9 +1,13 @@
 -- The faults of a table's partitions as the rules say them, beside the functions of Faults; the
 -- numbers of partitions count from 0. This project's own where the public source is open.
-use Rattle.std.specs.Prelude.{◌≡◌, ◌≢◌, ℕ, ◌<◌, ◌≤◌, ◌⊎◌, List, length, Option, None, Some}
+use Rattle.std.specs.Prelude.{◌≡◌, ◌≢◌, ℕ, ◌<◌, ◌≤◌, ◌⊎◌, Bool, true, false, List, length, Option, None, Some, Result, Ok, Err}
+use Rattle.block_codec.specs.Blocks.{BlockView, block_words}
+use Rattle.block_codec.specs.Items.{items_of}
 use Rattle.part_table.specs.declared.partition.Partition.{Partition}
+use Rattle.part_table.specs.declared.table.Table.{Table}
 use Rattle.part_table.specs.declared.table.TableFault.{TableFault}
 use Rattle.part_table.specs.declared.table.TableFault.TheVariants.{BadItem, Permissions, Range, Overlap, Link, Hash}
+use Rattle.part_table.specs.Contents.{table_of_items, has_wrong_hash}
 use Rattle.part_table.specs.Fields.{first_sector, last_sector, permissions_of, link_type, link_value}
 use Rattle.part_table.specs.Partitions.{part_at}
 
@@ -89,3 +93,17 @@ pub record HasNoFault (parts : List Partition) (n m : ℕ) : Type 0 where
   pub range : HasNo parts (RangeFault n m parts)
   pub overlap : HasNo parts (OverlapFault parts)
   pub links : HasNo parts (LinkFault parts)
+
+-- what a block's items and its hash say is answered so: BadItem where they say no table, else the
+-- first fault of the table's partitions, else Hash where the hash is wrong, else the table
+abbrev pub IsAnswer : Option Table → Bool → ℕ → ℕ → Result Table TableFault → Type 0
+IsAnswer says wrong_hash n m (Ok t) = (says ≡ Some t) × HasNoFault t.parts.items n m × (wrong_hash ≡ false)
+IsAnswer says wrong_hash n m (Err f) =
+    ((says ≡ None) × (f ≡ BadItem))
+    ⊎ ((t : Table) × (says ≡ Some t) × IsFirstFault t.parts.items n m f)
+    ⊎ ((t : Table) × (says ≡ Some t) × HasNoFault t.parts.items n m × (wrong_hash ≡ true) × (f ≡ Hash))
+
+-- a block is answered with what its items and its hash say
+abbrev pub IsReadTo : BlockView → ℕ → ℕ → Result Table TableFault → Type 0
+IsReadTo b n m result =
+    IsAnswer (table_of_items (block_words b) (items_of b.items)) (has_wrong_hash (block_words b) (items_of b.items)) n m result

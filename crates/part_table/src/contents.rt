@@ -33,7 +33,11 @@ fn name_length(flags: u32, words: &[u32]) -> usize
     ensures short { result < 128 }
 {
     let at = name_at(flags);
-    if at < words.len() { (words[at] % 128) as usize } else { 0 }
+    if at < words.len() {
+        (words[at] % 128) as usize
+    } else {
+        0
+    }
 }
 
 /// How many words the name takes.
@@ -41,7 +45,11 @@ fn name_words(flags: u32, words: &[u32]) -> usize
     ensures value { result ≡ name_words flags words.now }
     ensures few { result ≤ 32 }
 {
-    if has_name(flags) { (name_length(flags, words) + 4) / 4 } else { 0 }
+    if has_name(flags) {
+        (name_length(flags, words) + 4) / 4
+    } else {
+        0
+    }
 }
 
 /// How many words of the partition come after its flag word.
@@ -70,7 +78,9 @@ fn families_of(flags: u32, words: &[u32]) -> ArrayVec<u32, 3>
     ensures { result.items ≡ families_of flags words.now }
 {
     let mut families = ArrayVec::new();
-    families.try_extend_from_slice(&words[id_words(flags)..name_at(flags)]).unwrap();
+    families
+        .try_extend_from_slice(&words[id_words(flags)..name_at(flags)])
+        .unwrap();
     families
 }
 
@@ -97,7 +107,8 @@ fn name_in(words: &[u32], count: usize) -> ArrayVec<u8, 127>
 {
     let bytes = bytes_of(words);
     let mut name = ArrayVec::new();
-    name.try_extend_from_slice(&bytes.as_slice()[1..count + 1]).unwrap();
+    name.try_extend_from_slice(&bytes.as_slice()[1..count + 1])
+        .unwrap();
     name
 }
 
@@ -138,7 +149,11 @@ fn partition_words(words: &[u32]) -> Option<usize>
         return None;
     }
     let size = 2 + tail_words(words[1], &words[2..]);
-    if size <= words.len() { Some(size) } else { None }
+    if size <= words.len() {
+        Some(size)
+    } else {
+        None
+    }
 }
 
 /// The whole partition at the front of the words.

@@ -78,10 +78,18 @@ pub fn families_are_read()
     ensures no_riscv { accepts (plain_partition 0 0xfffbffff) riscv_family ≡ false }
     ensures no_arm_ns { accepts (plain_partition 0 0xfff7ffff) arm_ns_family ≡ false }
     ensures unpartitioned { accepts_absolute named_table ≡ false }
-    ensures only { accepts_absolute (record { version = record { major = 0; minor = 0 }; singleton = true;
-        unpartitioned = 0xffff7fff; parts = record { items = [] } }) ≡ false }
-    ensures alone { accepts_absolute (record { version = record { major = 0; minor = 0 }; singleton = true;
-        unpartitioned = 0x00008000; parts = record { items = [] } }) ≡ true }
+    ensures only { accepts_absolute (record {
+      version = record { major = 0; minor = 0 };
+      singleton = true;
+      unpartitioned = 0xffff7fff;
+      parts = record { items = [] };
+    }) ≡ false }
+    ensures alone { accepts_absolute (record {
+      version = record { major = 0; minor = 0 };
+      singleton = true;
+      unpartitioned = 0x00008000;
+      parts = record { items = [] };
+    }) ≡ true }
 {}
 
 /// The long spelling of the item, its header bits that are not read, a version of 1.9, and one of 2.1

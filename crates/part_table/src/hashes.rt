@@ -23,8 +23,7 @@ pub(crate) struct StatedHash {
 
 /// The hash that the block states, if it does.
 pub(crate) fn read_hash(block: &Block) -> Result<Option<StatedHash>, TableFault>
-    ensures value {
-        let words = block_words block.now in
+    ensures value { let words = block_words block.now in
         let items = items_of block.now.items in
         result ≡ ok_unless_bad (has_bad_hash words items) (stated_hash words items) }
     ensures inside { IfOk result (λ o. IfSome o (λ hash. hash.words ≤ length (block_words block.now))) }

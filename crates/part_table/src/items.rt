@@ -42,8 +42,7 @@ pub(crate) fn is_repeated(block: &Block, kind: u8) -> bool
 
 /// The version of the block's VERSION item, 0.0 where there is none.
 pub(crate) fn read_version(block: &Block) -> Result<Version, TableFault>
-    ensures {
-        let words = block_words block.now in
+    ensures { let words = block_words block.now in
         let items = items_of block.now.items in
         result ≡ ok_unless_bad (is_bad (version_of words) VERSION items) (version_in words items) }
 {
@@ -58,8 +57,7 @@ pub(crate) fn read_version(block: &Block) -> Result<Version, TableFault>
 
 /// The number of hashed words that the block's HASH_DEF item tells, if there is one.
 pub(crate) fn read_hash_count(block: &Block) -> Result<Option<u32>, TableFault>
-    ensures {
-        let words = block_words block.now in
+    ensures { let words = block_words block.now in
         let items = items_of block.now.items in
         result ≡ ok_unless_bad (is_bad (hash_count_of words) HASH_DEF items) (hash_count words items) }
 {
@@ -77,8 +75,7 @@ pub(crate) fn read_hash_count(block: &Block) -> Result<Option<u32>, TableFault>
 
 /// The digest of the block's HASH_VALUE item, if there is one.
 pub(crate) fn read_digest(block: &Block) -> Result<Option<[u8; 32]>, TableFault>
-    ensures {
-        let words = block_words block.now in
+    ensures { let words = block_words block.now in
         let items = items_of block.now.items in
         result ≡ ok_unless_bad (is_bad (digest_of words) HASH_VALUE items) (said (digest_of words) HASH_VALUE items) }
 {
@@ -97,8 +94,7 @@ pub(crate) fn read_digest(block: &Block) -> Result<Option<[u8; 32]>, TableFault>
 /// Whether this number of hashed words does not fit the block: it passes the word at which the
 /// HASH_VALUE item begins, or the block's end without such an item; or the item has no number.
 pub(crate) fn is_misplaced(block: &Block, count: Option<u32>) -> bool
-    ensures {
-        result ≡ is_misplaced (length (block_words block.now)) (item_of_kind HASH_VALUE (items_of block.now.items)) count }
+    ensures { result ≡ is_misplaced (length (block_words block.now)) (item_of_kind HASH_VALUE (items_of block.now.items)) count }
 {
     match (find_item(block, HASH_VALUE), count) {
         (Some(value), Some(count)) => value.first < count,

@@ -1,6 +1,6 @@
 //! Laws of the definitions, proved: each is the `ensures` of a function that does nothing.
 
-ghost use Rattle.std.specs.Prelude.{◌++◌, pos, ◌≡◌, ◌≢◌, ◌↔◌, Some, ◌<◌, ℕ, List, true, false, length, Option, Some, None, Ok};
+ghost use Rattle.std.specs.Prelude.{◌++◌, pos, ◌≡◌, ◌≢◌, ◌↔◌, ◌<◌, ℕ, List, true, false, length, Option, Some, None, Result, Ok};
 ghost use Rattle.std.specs.List.{AllByRecursion, flat_map};
 ghost use Rattle.block_codec.specs.Blocks.{BlockView, IsBlock, block_at};
 ghost use Rattle.pico_board.specs.Content.{AreApart};
@@ -11,7 +11,7 @@ ghost use Rattle.part_table.specs.Faults.{table_fault, parts_fault, link_fault};
 ghost use Rattle.part_table.specs.Fields.{link_type, permissions_of};
 ghost use Rattle.part_table.specs.Links.{is_second, is_second_of, owner_of, pair_of};
 ghost use Rattle.part_table.specs.Partitions.{part_at, partitions_in};
-ghost use Rattle.part_table.specs.Rules.{IsFirstFault, HasNoFault};
+ghost use Rattle.part_table.specs.Rules.{IsFirstFault, HasNoFault, IsReadTo};
 ghost use Rattle.part_table.specs.Rights.{right_word};
 ghost use Rattle.part_table.specs.Sound.{IsSoundTable};
 ghost use Rattle.part_table.specs.TableOf.{table_of};
@@ -32,6 +32,12 @@ pub fn faults_are_the_first()
     ensures none { (parts : List Partition) (n m : ℕ) → (parts_fault parts n m ≡ None) ↔ HasNoFault parts n m }
 {}
 
+/// What a block is read as, in each flash: BadItem where its items say no table, else the first fault
+/// of the partitions, else Hash where its hash is wrong, else the table.
+pub fn answers_are_in_order()
+    ensures { (b : BlockView) (n m : ℕ) (r : Result Table TableFault) → (table_of b n m ≡ r) ↔ IsReadTo b n m r }
+{}
+
 /// Each partition of a table without faults is a window of whole sectors, at least one, inside the flash and behind the sectors
 /// that are not free; and two partitions share no byte.
 pub fn partitions_are_placed()
@@ -44,13 +50,17 @@ pub fn partitions_are_placed()
         → AreApart (partition_window t i) (partition_window t j) }
 {}
 
-/// The permissions of each sector of a partition are those of the partition, which has them in both its words.
+/// The permissions of each sector of a partition are those of the partition, which has them in both
+/// its words; those of each other sector are those of the unpartitioned word.
 pub fn sectors_have_one_right()
     ensures own { (t : Table) (n : ℕ) → IsSoundTable t n
         → (i sector : ℕ) → i < length t.parts.items → has_sector sector (part_at t.parts.items i) ≡ true
         → right_word t sector ≡ (part_at t.parts.items i).location }
     ensures both { (t : Table) (n : ℕ) → IsSoundTable t n → (i : ℕ) → i < length t.parts.items
         → permissions_of (part_at t.parts.items i).location ≡ permissions_of (part_at t.parts.items i).flags }
+    ensures others { (t : Table) (sector : ℕ)
+        → ((i : ℕ) → i < length t.parts.items → has_sector sector (part_at t.parts.items i) ≡ false)
+        → right_word t sector ≡ t.unpartitioned }
 {}
 
 /// The A of a pair is a partition, another one than its B, and no B itself; it has one B, which is the one that is found.

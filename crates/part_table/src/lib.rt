@@ -5,12 +5,12 @@
 //! are this project's own.
 #![tactic(auto)]
 
-pub mod examples;
-pub mod laws;
 mod contents;
+pub mod examples;
 mod faults;
 mod hashes;
 mod items;
+pub mod laws;
 mod partition;
 mod reading;
 mod table;

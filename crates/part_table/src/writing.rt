@@ -123,7 +123,9 @@ fn put_partition(words: &mut ArrayVec<u32, 156>, part: &Partition)
     words.push(part.location);
     words.push(part.flags);
     put_id(words, part.id);
-    words.try_extend_from_slice(part.families.as_slice()).unwrap();
+    words
+        .try_extend_from_slice(part.families.as_slice())
+        .unwrap();
     put_name(words, &part.name);
 }
 
@@ -144,7 +146,11 @@ fn table_item(table: &Table, size: usize) -> ArrayVec<u32, 156>
 {
     let singleton = if table.singleton { 128 } else { 0 };
     let mut words = ArrayVec::new();
-    words.push(header(PARTITION_TABLE, size as u32, singleton + table.parts.len() as u32));
+    words.push(header(
+        PARTITION_TABLE,
+        size as u32,
+        singleton + table.parts.len() as u32,
+    ));
     words.push(table.unpartitioned);
     for part in table.parts.as_slice() {
         put_partition(&mut words, part);
@@ -199,11 +205,7 @@ fn written_items(table: &Table, size: usize) -> ArrayVec<u32, 156>
 
 /// Appends the table's block, with its hash. After a refusal `out` is unchanged; where there is no
 /// memory for the bytes, the refusal is `Memory`.
-pub fn write_table(
-    alloc: Global,
-    table: &Table,
-    out: &mut Vec<u8>,
-) -> Result<(), TableWriteFault>
+pub fn write_table(alloc: Global, table: &Table, out: &mut Vec<u8>) -> Result<(), TableWriteFault>
     requires { All AgreesWithFlags table.now.parts.items }
     ensures ok { OnOk result (out.new.items ≡ out.old.items ++ written table.now) }
     ensures again { (n m : ℕ) → table_fault table.now n m ≡ None → OnOk result (IsReadAs (written table.now) table.now n m) }
