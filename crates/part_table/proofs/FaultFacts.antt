@@ -1,5 +1,5 @@
 -- What a loop over a table's partitions keeps of their first fault.
-use Rattle.std.proofs.Common.{◌≡◌, ℕ, ◌+◌, ◌<◌, ◌≤◌, Bool, true, false, List, length, take, drop, get_or, refl, sym, ◌∙◌, ap, subst, arith, Option, None, Some, option_map, position, slice_get, if◌then◌else◌}
+use Rattle.std.proofs.Common.{◌≡◌, ℕ, ◌+◌, ◌<◌, ◌≤◌, Bool, true, false, List, length, take, drop, get_or, refl, sym, ◌∙◌, ap, arith, Option, None, Some, option_map, position, slice_get, if◌then◌else◌}
 use Rattle.std.proofs.lemmas.List.{length-take-le, get_or_default}
 use Rattle.std.proofs.lemmas.Option.{slice_get-get_or}
 use Rattle.block_codec.specs.FirstFault.{first_fault, AreSound}
@@ -30,13 +30,16 @@ faultless_unless true f e = refl
 faultless_unless false f e = cc
 
 -- what an index read
-pub index_of : (parts : List Partition) (i : ℕ) (p : Partition) → i < length parts → p ≡ get_or parts i p → slice_get parts i ≡ Some p
+pub index_of : (parts : List Partition) (i : ℕ) (p : Partition) → i < length parts → p ≡ get_or parts i p
+    → slice_get parts i ≡ Some p
 index_of parts i p lt is = slice_get-get_or parts i p lt ∙ ap Some (sym is)
 
-pub index_at : (parts : List Partition) (i : ℕ) (p : Partition) → i < length parts → p ≡ get_or parts i p → p ≡ part_at parts i
+pub index_at : (parts : List Partition) (i : ℕ) (p : Partition) → i < length parts → p ≡ get_or parts i p
+    → p ≡ part_at parts i
 index_at parts i p lt is = is ∙ get_or_default parts i p no_partition lt
 
-module _ (judge : List Partition → Partition → Option TableFault) (parts : List Partition) (i : ℕ) (sound : AreSound judge parts i)
+module _ (judge : List Partition → Partition → Option TableFault) (parts : List Partition) (i : ℕ)
+    (sound : AreSound judge parts i)
     (p : Partition) (at : slice_get parts i ≡ Some p) where
   -- the first fault is that of partition i
   pub found_fault : (f : TableFault) → judge (take i parts) p ≡ Some f → Some f ≡ first_fault judge parts
@@ -46,7 +49,8 @@ module _ (judge : List Partition → Partition → Option TableFault) (parts : L
   pub sound_next : judge (take i parts) p ≡ None → AreSound judge parts (i + 1)
   sound_next none = sound_more judge parts i p sound at none
 
-module _ (judge : List Partition → Partition → Option TableFault) (parts : List Partition) (i : ℕ) (sound : AreSound judge parts i) where
+module _ (judge : List Partition → Partition → Option TableFault) (parts : List Partition) (i : ℕ)
+    (sound : AreSound judge parts i) where
   -- no partition has one
   pub no_fault : length parts ≤ i → None ≡ first_fault judge parts
   no_fault all = sym (none_from_sound_at judge parts i all sound)
@@ -60,8 +64,10 @@ module _ (parts : List Partition) (i : ℕ) (p : Partition) (lt : i < length par
   abbrev overlap_with : ℕ → List Partition → Option TableFault
   overlap_with n rest = option_map (λ j. Overlap n (n + 1 + j)) (position (shares_sector p) rest)
 
-  judged_at : (rest : List Partition) → rest ≡ drop (i + 1) parts → judge_overlap parts (take i parts) p ≡ overlap_with i rest
-  judged_at rest is = ap (λ n. overlap_with n (drop (n + 1) parts)) (place_of parts i lt) ∙ ap (λ ps. overlap_with i ps) (sym is)
+  judged_at : (rest : List Partition) → rest ≡ drop (i + 1) parts
+      → judge_overlap parts (take i parts) p ≡ overlap_with i rest
+  judged_at rest is = ap (λ n. overlap_with n (drop (n + 1) parts)) (place_of parts i lt)
+      ∙ ap (λ ps. overlap_with i ps) (sym is)
 
   pub overlaps : (k : ℕ) (rest : List Partition) → rest ≡ drop (i + 1) parts → Some k ≡ position (shares_sector p) rest
       → judge_overlap parts (take i parts) p ≡ Some (Overlap i (i + 1 + k))

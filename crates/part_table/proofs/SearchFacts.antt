@@ -1,17 +1,19 @@
 -- What a loop over a list keeps of a search or a count.
-use Rattle.std.proofs.Common.{◌≡◌, ℕ, zero, suc, ◌+◌, ◌<◌, Bool, true, false, List, [], ◌∷◌, length, take, refl, sym, ap, ◌∙◌, arith, cond, subst, Option, None, Some, find, filter, slice_get, Contains}
+use Rattle.std.proofs.Common.{◌≡◌, ℕ, zero, suc, ◌+◌, Bool, true, false, List, [], ◌∷◌, length, take, refl, ap, ◌∙◌, cond, subst, Option, None, Some, find, filter, slice_get, Contains}
 use Rattle.std.proofs.lemmas.Option.{slice_get_within, get_or_from_slice_get, none-some, same_Some}
 use Rattle.std.proofs.lemmas.List.Filters.{length-filter_more}
 use Rattle.std.proofs.lemmas.List.Elements.{Contains-get_or}
 
 -- an element that a search came to
-tested_none : {X : Type 0} (passes : Bool) (x : X) (o : Option X) → cond passes (Some x) o ≡ None → (passes ≡ false) × (o ≡ None)
+tested_none : {X : Type 0} (passes : Bool) (x : X) (o : Option X) → cond passes (Some x) o ≡ None → (passes ≡ false)
+    × (o ≡ None)
 tested_none true x o e = cc
 tested_none false x o e = (refl, e)
 
 module _ {X : Type 0} (p : X → Bool) where
   -- the first that passes is found
-  pub find_here : (xs : List X) (i : ℕ) (x : X) → find p (take i xs) ≡ None → slice_get xs i ≡ Some x → p x ≡ true → find p xs ≡ Some x
+  pub find_here : (xs : List X) (i : ℕ) (x : X) → find p (take i xs) ≡ None → slice_get xs i ≡ Some x → p x ≡ true
+      → find p xs ≡ Some x
   find_here [] i x none at passes = absurd (none-some x at)
   find_here (y ∷ ys) zero x none at passes =
       let same : y ≡ x = same_Some y x at in
@@ -21,7 +23,8 @@ module _ {X : Type 0} (p : X → Bool) where
       ap (λ b. cond b (Some y) (find p ys)) both.0 ∙ find_here ys i x both.1 at passes
 
   -- an element that fails is passed over
-  pub find_past : (xs : List X) (i : ℕ) (x : X) → find p (take i xs) ≡ None → slice_get xs i ≡ Some x → p x ≡ false → find p (take (suc i) xs) ≡ None
+  pub find_past : (xs : List X) (i : ℕ) (x : X) → find p (take i xs) ≡ None → slice_get xs i ≡ Some x → p x ≡ false
+      → find p (take (suc i) xs) ≡ None
   find_past [] i x none at fails = absurd (none-some x at)
   find_past (y ∷ ys) zero x none at fails =
       let same : y ≡ x = same_Some y x at in
@@ -39,4 +42,5 @@ module _ {X : Type 0} (p : X → Bool) where
 
 -- what stands at a place is of the list
 pub contained : {X : Type 0} (xs : List X) (i : ℕ) (x : X) → slice_get xs i ≡ Some x → Contains xs x
-contained xs i x at = subst (Contains xs) (get_or_from_slice_get xs i x x at) (Contains-get_or xs i x (slice_get_within xs i x at))
+contained xs i x at =
+    subst (Contains xs) (get_or_from_slice_get xs i x x at) (Contains-get_or xs i x (slice_get_within xs i x at))

@@ -1,5 +1,5 @@
 -- What a block with a PARTITION_TABLE item says.
-use Rattle.std.specs.Prelude.{ℕ, Bool, true, false, ◌+◌, ◌%◌, ◌==◌, ◌||◌, List, [], ◌∷◌, length, take, nat_le, nat_lt, not, if◌then◌else◌, slice_range, is_none, unwrap_or, bytes_eq}
+use Rattle.std.specs.Prelude.{ℕ, Bool, true, false, ◌+◌, ◌%◌, ◌||◌, List, [], ◌∷◌, length, take, nat_le, nat_lt, not, if◌then◌else◌, slice_range, is_none, unwrap_or, bytes_eq}
 use Rattle.std.specs.Prelude.{Option, None, Some, option_map, option_and_then, Result, Ok, Err}
 use Rattle.std.specs.Option.{option_map_or}
 use Rattle.sha2.specs.Sha256.{sha256}
@@ -25,7 +25,12 @@ body_of words x = slice_range words (x.first + 1) (x.first + x.words)
 abbrev pub table_from : Version → ℕ → List ℕ → Option Table
 table_from v high [] = None
 table_from v high (word ∷ ws) =
-    option_map (λ ps. record { version = v; singleton = has_bit high 7; unpartitioned = word; parts = record { items = ps } })
+    option_map (λ ps. record {
+      version = v;
+      singleton = has_bit high 7;
+      unpartitioned = word;
+      parts = record { items = ps };
+    })
     (partitions_in (high % 16) ws)
 
 -- a kind is repeated where the block has two items of it or more (this project's own)
@@ -79,7 +84,8 @@ version_in words items =
 abbrev pub fields_of_items : List ℕ → List Item → Option Table
 fields_of_items words items =
     if is_repeated items PARTITION_TABLE || is_bad (version_of words) VERSION items then None
-    else said (λ x. table_from (version_in words items) x.high (body_of words x)) PARTITION_TABLE items
+    else
+    said (λ x. table_from (version_in words items) x.high (body_of words x)) PARTITION_TABLE items
 
 -- the table of a block's words and items is its fields, where its hash is not bad (this project's
 -- own)

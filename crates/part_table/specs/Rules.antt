@@ -13,7 +13,8 @@ use Rattle.part_table.specs.Partitions.{part_at}
 
 -- partition i has two permission fields that differ (RP2350 Datasheet, chapter 5, Bootrom)
 abbrev pub HasTwoPermissions : List Partition → ℕ → Type 0
-HasTwoPermissions parts i = permissions_of (part_at parts i).location ≢ permissions_of (part_at parts i).flags
+HasTwoPermissions parts i =
+    permissions_of (part_at parts i).location ≢ permissions_of (part_at parts i).flags
 
 -- the first sector of partition i is below m or above its last, or its last is not below n
 abbrev pub IsOutOfRange : ℕ → ℕ → List Partition → ℕ → Type 0
@@ -33,8 +34,8 @@ pub record IsSharedFirst (parts : List Partition) (i j : ℕ) : Type 0 where
   pub shared : (s : ℕ) × HasSector parts i s × HasSector parts j s
   pub least : (k s : ℕ) → i < k → k < j → HasSector parts i s → HasSector parts k s → ⊥
 
--- the link "A is v" of partition i is wrong: v is no partition, is i itself, has such a link itself, or
--- is the A of a smaller number than i
+-- the link "A is v" of partition i is wrong: v is no partition, is i itself, has such a link
+-- itself, or is the A of a smaller number than i
 abbrev pub IsWrongPair : List Partition → ℕ → ℕ → Type 0
 IsWrongPair parts i v =
     (length parts ≤ v)
@@ -71,7 +72,8 @@ abbrev pub HasNo : List Partition → (ℕ → TableFault → Type 0) → Type 0
 HasNo parts Has = (i : ℕ) (f : TableFault) → i < length parts → Has i f → ⊥
 
 -- f is the fault of the least partition that has one of a kind
-pub record IsLeast (parts : List Partition) (Has : ℕ → TableFault → Type 0) (f : TableFault) : Type 0 where
+pub record IsLeast (parts : List Partition) (Has : ℕ → TableFault → Type 0)
+    (f : TableFault) : Type 0 where
   pub place : ℕ
   pub inside : place < length parts
   pub here : Has place f
@@ -83,8 +85,10 @@ abbrev pub IsFirstFault : List Partition → ℕ → ℕ → TableFault → Type
 IsFirstFault parts n m f =
     IsLeast parts (PermissionsFault parts) f
     ⊎ (HasNo parts (PermissionsFault parts) × IsLeast parts (RangeFault n m parts) f)
-    ⊎ (HasNo parts (PermissionsFault parts) × HasNo parts (RangeFault n m parts) × IsLeast parts (OverlapFault parts) f)
-    ⊎ (HasNo parts (PermissionsFault parts) × HasNo parts (RangeFault n m parts) × HasNo parts (OverlapFault parts)
+    ⊎ (HasNo parts (PermissionsFault parts) × HasNo parts (RangeFault n m parts)
+    × IsLeast parts (OverlapFault parts) f)
+    ⊎ (HasNo parts (PermissionsFault parts) × HasNo parts (RangeFault n m parts)
+    × HasNo parts (OverlapFault parts)
     × IsLeast parts (LinkFault parts) f)
 
 -- a table's partitions have no fault at all
@@ -97,13 +101,16 @@ pub record HasNoFault (parts : List Partition) (n m : ℕ) : Type 0 where
 -- what a block's items and its hash say is answered so: BadItem where they say no table, else the
 -- first fault of the table's partitions, else Hash where the hash is wrong, else the table
 abbrev pub IsAnswer : Option Table → Bool → ℕ → ℕ → Result Table TableFault → Type 0
-IsAnswer says wrong_hash n m (Ok t) = (says ≡ Some t) × HasNoFault t.parts.items n m × (wrong_hash ≡ false)
+IsAnswer says wrong_hash n m (Ok t) = (says ≡ Some t) × HasNoFault t.parts.items n m
+    × (wrong_hash ≡ false)
 IsAnswer says wrong_hash n m (Err f) =
     ((says ≡ None) × (f ≡ BadItem))
     ⊎ ((t : Table) × (says ≡ Some t) × IsFirstFault t.parts.items n m f)
-    ⊎ ((t : Table) × (says ≡ Some t) × HasNoFault t.parts.items n m × (wrong_hash ≡ true) × (f ≡ Hash))
+    ⊎ ((t : Table) × (says ≡ Some t) × HasNoFault t.parts.items n m × (wrong_hash ≡ true)
+    × (f ≡ Hash))
 
 -- a block is answered with what its items and its hash say
 abbrev pub IsReadTo : BlockView → ℕ → ℕ → Result Table TableFault → Type 0
 IsReadTo b n m result =
-    IsAnswer (table_of_items (block_words b) (items_of b.items)) (has_wrong_hash (block_words b) (items_of b.items)) n m result
+    IsAnswer (table_of_items (block_words b) (items_of b.items))
+    (has_wrong_hash (block_words b) (items_of b.items)) n m result

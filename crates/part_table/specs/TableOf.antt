@@ -1,6 +1,6 @@
 -- The table of a block.
 use Rattle.std.specs.Prelude.{ℕ, Bool, List, is_some, if◌then◌else◌}
-use Rattle.std.specs.Prelude.{Option, None, Some, Result, Ok, Err}
+use Rattle.std.specs.Prelude.{Option, None, Some, Result, Err}
 use Rattle.std.specs.Option.{option_or}
 use Rattle.block_codec.specs.declared.items.Item.{Item}
 use Rattle.block_codec.specs.Items.{items_of}

@@ -164,7 +164,8 @@ fn partition_from(words: &[u32]) -> Partition
     partition_of(words[0], words[1], &words[2..])
 }
 
-/// The words as so many partitions, one behind the other; None where these do not fill them exactly.
+/// The words as so many partitions, one behind the other; None where these do not fill them
+/// exactly.
 fn partitions_in(count: u8, words: &[u32]) -> Option<ArrayVec<Partition, 15>>
     requires { count ≤ 15 }
     ensures { result ≡ option_map (λ ps. record { items = ps }) (partitions_in count words.now) }

@@ -1,5 +1,5 @@
-//! Worked examples of the definitions, proved by computing: each is the `ensures` of a function that
-//! does nothing.
+//! Worked examples of the definitions, proved by computing: each is the `ensures` of a function
+//! that does nothing.
 
 ghost use Rattle.std.specs.Prelude.{◌≡◌, ◌++◌, ◌+◌, ◌^◌, ℕ, [], ◌∷◌, true, false, Some, None, Ok, Err};
 ghost use Rattle.block_codec.specs.Blocks.{block_at};
@@ -20,7 +20,8 @@ ghost use Rattle.part_table.specs.Written.{hashed_items, table_item, written_ite
 /// The block of a pair stands in its bytes and is read as its table, in a flash of 64 sectors whose
 /// first two hold the table slots.
 pub fn pair_is_read()
-    ensures block { block_at (bytes_of (0xffffded3 ∷ pair_items ++ 0x000006ff ∷ 0 ∷ 0xab123579 ∷ [])) 0
+    ensures block { block_at
+        (bytes_of (0xffffded3 ∷ pair_items ++ 0x000006ff ∷ 0 ∷ 0xab123579 ∷ [])) 0
         ≡ Some (block_with pair_items) }
     ensures has { has_table (block_with pair_items) ≡ true }
     ensures hasnt { has_table (block_with (0x10210142 ∷ [])) ≡ false }
@@ -92,16 +93,19 @@ pub fn families_are_read()
     }) ≡ true }
 {}
 
-/// The long spelling of the item, its header bits that are not read, a version of 1.9, and one of 2.1
-/// that lists 33 rows.
+/// The long spelling of the item, its header bits that are not read, a version of 1.9, and one of
+/// 2.1 that lists 33 rows.
 pub fn spellings_are_read()
-    ensures long { table_in_64 (0x0200068a ∷ 0xfc008000 ∷ 0xfc03e002 ∷ 0xfc020000 ∷ 0xfc07a020 ∷ 0xfc020002 ∷ [])
+    ensures long { table_in_64
+        (0x0200068a ∷ 0xfc008000 ∷ 0xfc03e002 ∷ 0xfc020000 ∷ 0xfc07a020 ∷ 0xfc020002 ∷ [])
         ≡ Ok pair_table }
-    ensures unread { table_in_64 (0x72ff060a ∷ 0xfc008000 ∷ 0xfc03e002 ∷ 0xfc020000 ∷ 0xfc07a020 ∷ 0xfc020002 ∷ [])
+    ensures unread { table_in_64
+        (0x72ff060a ∷ 0xfc008000 ∷ 0xfc03e002 ∷ 0xfc020000 ∷ 0xfc07a020 ∷ 0xfc020002 ∷ [])
         ≡ Ok pair_table }
     ensures none { table_in_64 (0x0000020a ∷ 0xfc008000 ∷ []) ≡ Ok (table_with []) }
     ensures later { table_in_64 (0x10210142 ∷ pair_items) ≡ Ok pair_table }
-    ensures version { table_in_64 (pair_and (0x00000248 ∷ 0x00010009 ∷ [])) ≡ Ok (pair_version 1 9) }
+    ensures version { table_in_64 (pair_and (0x00000248 ∷ 0x00010009 ∷ []))
+        ≡ Ok (pair_version 1 9) }
     ensures before { table_in_64 (0x00000248 ∷ 0x00010009 ∷ pair_items) ≡ Ok (pair_version 1 9) }
     ensures rows { table_in_64 (pair_and (0x21001348 ∷ 0x00020001 ∷ 0 ∷ eight_words ++ eight_words))
         ≡ Ok (pair_version 2 1) }
@@ -123,8 +127,8 @@ pub fn parts_of_partition_are_read()
         ≡ partition_with 0xfc001000 None [] (Some (record { items = 0x61 ∷ 0x62 ∷ 0x63 ∷ [] })) }
 {}
 
-/// How many words a partition takes: two, two for an id, one for each extra family, and for a name as
-/// many as hold its length byte and its bytes; and none where they are not all there.
+/// How many words a partition takes: two, two for an id, one for each extra family, and for a name
+/// as many as hold its length byte and its bytes; and none where they are not all there.
 pub fn partitions_have_sizes()
     ensures plain { partition_words (0 ∷ 0 ∷ []) ≡ Some 2 }
     ensures id { partition_words (0 ∷ 1 ∷ 0 ∷ 0 ∷ []) ≡ Some 4 }
@@ -140,14 +144,16 @@ pub fn partitions_have_sizes()
     ensures nothing { partition_words [] ≡ None }
 {}
 
-/// The items that are written for the pair's table before its digest, the size of its block, and the
-/// item of the named partition, whose length byte has bit 7 clear.
+/// The items that are written for the pair's table before its digest, the size of its block, and
+/// the item of the named partition, whose length byte has bit 7 clear.
 pub fn tables_are_written()
     ensures items { hashed_items pair_table ≡ pair_items ++ 0x00000248 ∷ 0 ∷ 0x01000247 ∷ 11 ∷ [] }
-    ensures version { hashed_items (pair_version 1 9) ≡ pair_items ++ 0x00000248 ∷ 0x00010009 ∷ 0x01000247 ∷ 11 ∷ [] }
+    ensures version { hashed_items (pair_version 1 9) ≡ pair_items ++ 0x00000248 ∷ 0x00010009
+        ∷ 0x01000247 ∷ 11 ∷ [] }
     ensures size { written_size pair_table ≡ 92 }
     ensures named { table_item named_table
-        ≡ 0x81000a0a ∷ 0 ∷ 0xfc006002 ∷ 0xfc001101 ∷ 0x44332211 ∷ 0x88776655 ∷ 0x11111111 ∷ 0xe48bff5a
+        ≡ 0x81000a0a ∷ 0 ∷ 0xfc006002 ∷ 0xfc001101 ∷ 0x44332211 ∷ 0x88776655 ∷ 0x11111111
+        ∷ 0xe48bff5a
         ∷ 0x63626104 ∷ 0x00000064 ∷ [] }
 {}
 
@@ -155,18 +161,24 @@ pub fn tables_are_written()
 pub fn bad_items_are_found()
     ensures twice { table_in_64 (pair_and pair_items) ≡ Err BadItem }
     ensures other_spelling { table_in_64 (pair_and (0x0000028a ∷ 0 ∷ [])) ≡ Err BadItem }
-    ensures short { table_in_64 (0x0200050a ∷ 0xfc008000 ∷ 0xfc03e002 ∷ 0xfc020000 ∷ 0xfc07a020 ∷ []) ≡ Err BadItem }
-    ensures more { table_in_64 (0x0100060a ∷ 0xfc008000 ∷ 0xfc03e002 ∷ 0xfc020000 ∷ 0 ∷ 0 ∷ []) ≡ Err BadItem }
-    ensures fewer { table_in_64 (0x0300060a ∷ 0xfc008000 ∷ 0xfc03e002 ∷ 0xfc020000 ∷ 0xfc07a020 ∷ 0xfc020002 ∷ [])
+    ensures short { table_in_64
+        (0x0200050a ∷ 0xfc008000 ∷ 0xfc03e002 ∷ 0xfc020000 ∷ 0xfc07a020 ∷ []) ≡ Err BadItem }
+    ensures more { table_in_64 (0x0100060a ∷ 0xfc008000 ∷ 0xfc03e002 ∷ 0xfc020000 ∷ 0 ∷ 0 ∷ [])
+        ≡ Err BadItem }
+    ensures fewer { table_in_64
+        (0x0300060a ∷ 0xfc008000 ∷ 0xfc03e002 ∷ 0xfc020000 ∷ 0xfc07a020 ∷ 0xfc020002 ∷ [])
         ≡ Err BadItem }
     ensures empty { table_in_64 (0x0000010a ∷ []) ≡ Err BadItem }
     ensures version { table_in_64 (pair_and (0x00000348 ∷ 0 ∷ 0 ∷ [])) ≡ Err BadItem }
     ensures versions { table_in_64 (pair_and (0x00000248 ∷ 0 ∷ 0x00000248 ∷ 0 ∷ [])) ≡ Err BadItem }
-    ensures hash_defs { table_in_64 (pair_and (0x01000247 ∷ 1 ∷ 0x01000247 ∷ 1 ∷ [])) ≡ Err BadItem }
-    ensures hash_def { table_in_64 (pair_and (0x01000347 ∷ 1 ∷ 0 ∷ [])) ≡ Err BadItem }
-    ensures hash_values { table_in_64 (pair_and (0x01000247 ∷ 1 ∷ 0x0000094b ∷ eight_words ++ 0x000009cb ∷ eight_words))
+    ensures hash_defs { table_in_64 (pair_and (0x01000247 ∷ 1 ∷ 0x01000247 ∷ 1 ∷ []))
         ≡ Err BadItem }
-    ensures hash_value { table_in_64 (pair_and (0x01000247 ∷ 1 ∷ 0x00000a4b ∷ 0 ∷ eight_words)) ≡ Err BadItem }
+    ensures hash_def { table_in_64 (pair_and (0x01000347 ∷ 1 ∷ 0 ∷ [])) ≡ Err BadItem }
+    ensures hash_values { table_in_64
+        (pair_and (0x01000247 ∷ 1 ∷ 0x0000094b ∷ eight_words ++ 0x000009cb ∷ eight_words))
+        ≡ Err BadItem }
+    ensures hash_value { table_in_64 (pair_and (0x01000247 ∷ 1 ∷ 0x00000a4b ∷ 0 ∷ eight_words))
+        ≡ Err BadItem }
 {}
 
 /// Digests without their number of words, with one that passes the digest's item or the block, and
@@ -174,18 +186,22 @@ pub fn bad_items_are_found()
 pub fn bad_digests_are_found()
     ensures alone { table_in_64 (pair_and (0x0000094b ∷ eight_words)) ≡ Err BadItem }
     ensures long { table_in_64 (pair_and (0x000009cb ∷ eight_words)) ≡ Err BadItem }
-    ensures passed { table_in_64 (pair_and (0x01000247 ∷ 10 ∷ 0x0000094b ∷ eight_words)) ≡ Err BadItem }
+    ensures passed { table_in_64 (pair_and (0x01000247 ∷ 10 ∷ 0x0000094b ∷ eight_words))
+        ≡ Err BadItem }
     ensures outside { table_in_64 (pair_and (0x01000247 ∷ 13 ∷ [])) ≡ Err BadItem }
     ensures whole { table_in_64 (pair_and (0x01000247 ∷ 12 ∷ [])) ≡ Ok pair_table }
     ensures other { table_in_64 (pair_and (0x02000247 ∷ 12 ∷ [])) ≡ Err BadItem }
 {}
 
-/// Permission fields that differ in the lowest and in the highest bit, and the first two of them; and
-/// fields that differ below.
+/// Permission fields that differ in the lowest and in the highest bit, and the first two of them;
+/// and fields that differ below.
 pub fn permissions_are_compared()
-    ensures highest { table_in_64 (two_parts 0xfc03e002 0xfc020000 0xfc07a020 0x7c020002) ≡ Err (Permissions 1) }
-    ensures lowest { table_in_64 (two_parts 0xfc03e002 0xfc020000 0xf807a020 0xfc020002) ≡ Err (Permissions 1) }
-    ensures least { table_in_64 (two_parts 0xfc03e002 0xf8020000 0xf807a020 0xfc020002) ≡ Err (Permissions 0) }
+    ensures highest { table_in_64 (two_parts 0xfc03e002 0xfc020000 0xfc07a020 0x7c020002)
+        ≡ Err (Permissions 1) }
+    ensures lowest { table_in_64 (two_parts 0xfc03e002 0xfc020000 0xf807a020 0xfc020002)
+        ≡ Err (Permissions 1) }
+    ensures least { table_in_64 (two_parts 0xfc03e002 0xf8020000 0xf807a020 0xfc020002)
+        ≡ Err (Permissions 0) }
     ensures below { table_in_64 (one_part 0x0003e002 0x02020000)
         ≡ Ok (table_with (plain_partition 0x0003e002 0x02020000 ∷ [])) }
 {}
@@ -196,27 +212,36 @@ pub fn ranges_are_found()
     ensures first { table_of (block_with pair_items) 64 3 ≡ Err (Range 0) }
     ensures last { table_of (block_with pair_items) 61 2 ≡ Err (Range 1) }
     ensures full { table_of (block_with pair_items) 62 2 ≡ Ok pair_table }
-    ensures order { table_in_64 (two_parts 0xfc03e002 0xfc020000 (sectors 32 31) 0xfc020002) ≡ Err (Range 1) }
+    ensures order { table_in_64 (two_parts 0xfc03e002 0xfc020000 (sectors 32 31) 0xfc020002)
+        ≡ Err (Range 1) }
     ensures one { table_in_64 (two_parts 0xfc03e002 0xfc020000 (sectors 32 32) 0xfc020002)
-        ≡ Ok (table_with (plain_partition 0xfc03e002 0xfc020000 ∷ plain_partition (sectors 32 32) 0xfc020002 ∷ [])) }
+        ≡ Ok (table_with
+        (plain_partition 0xfc03e002 0xfc020000 ∷ plain_partition (sectors 32 32) 0xfc020002
+        ∷ [])) }
     ensures least { table_of (block_with pair_items) 20 2 ≡ Err (Range 0) }
 {}
 
-/// Partitions that share one sector, at either end; the least of them, and the least that shares one
-/// with it; and partitions that touch.
+/// Partitions that share one sector, at either end; the least of them, and the least that shares
+/// one with it; and partitions that touch.
 pub fn overlaps_are_found()
-    ensures end { table_in_64 (placed_parts (sectors 2 32) (sectors 32 61) (sectors 62 63)) ≡ Err (Overlap 0 1) }
-    ensures start { table_in_64 (placed_parts (sectors 32 61) (sectors 2 32) (sectors 62 63)) ≡ Err (Overlap 0 1) }
-    ensures inside { table_in_64 (placed_parts (sectors 2 61) (sectors 62 63) (sectors 30 31)) ≡ Err (Overlap 0 2) }
-    ensures least { table_in_64 (placed_parts (sectors 2 31) (sectors 31 40) (sectors 4 4)) ≡ Err (Overlap 0 1) }
-    ensures first { table_in_64 (placed_parts (sectors 2 9) (sectors 11 40) (sectors 4 20)) ≡ Err (Overlap 0 2) }
-    ensures later { table_in_64 (placed_parts (sectors 2 9) (sectors 11 40) (sectors 40 41)) ≡ Err (Overlap 1 2) }
+    ensures end { table_in_64 (placed_parts (sectors 2 32) (sectors 32 61) (sectors 62 63))
+        ≡ Err (Overlap 0 1) }
+    ensures start { table_in_64 (placed_parts (sectors 32 61) (sectors 2 32) (sectors 62 63))
+        ≡ Err (Overlap 0 1) }
+    ensures inside { table_in_64 (placed_parts (sectors 2 61) (sectors 62 63) (sectors 30 31))
+        ≡ Err (Overlap 0 2) }
+    ensures least { table_in_64 (placed_parts (sectors 2 31) (sectors 31 40) (sectors 4 4))
+        ≡ Err (Overlap 0 1) }
+    ensures first { table_in_64 (placed_parts (sectors 2 9) (sectors 11 40) (sectors 4 20))
+        ≡ Err (Overlap 0 2) }
+    ensures later { table_in_64 (placed_parts (sectors 2 9) (sectors 11 40) (sectors 40 41))
+        ≡ Err (Overlap 1 2) }
     ensures touching { table_in_64 (linked_parts 0 0 0) ≡ Ok (linked_table 0 0 0) }
 {}
 
-/// Links of type 3; links "A is" to no partition, to itself, to a B, and to an A that has a B; owner
-/// links to no partition, to itself, and to a partition with a link; and the first of two. Beside
-/// them the link of a B to a later A, and two partitions with one owner.
+/// Links of type 3; links "A is" to no partition, to itself, to a B, and to an A that has a B;
+/// owner links to no partition, to itself, and to a partition with a link; and the first of two.
+/// Beside them the link of a B to a later A, and two partitions with one owner.
 pub fn links_are_found()
     ensures kind { table_in_64 (linked_parts 0 6 0) ≡ Err (Link 1) }
     ensures past { table_in_64 (linked_parts 0 0x1a 0) ≡ Err (Link 1) }
@@ -236,11 +261,15 @@ pub fn links_are_found()
 
 /// Two faults for each two kinds that follow one another, the earlier kind at the later partition.
 pub fn faults_are_in_order()
-    ensures item { table_in_64 (two_parts 0xfc03e002 0x7c020000 0xfc07a020 0xfc020002 ++ 0x00000348 ∷ 0 ∷ 0 ∷ [])
+    ensures item { table_in_64
+        (two_parts 0xfc03e002 0x7c020000 0xfc07a020 0xfc020002 ++ 0x00000348 ∷ 0 ∷ 0 ∷ [])
         ≡ Err BadItem }
-    ensures permissions { table_in_64 (two_parts (sectors 1 31) 0xfc020000 0xfc07a020 0x7c020002) ≡ Err (Permissions 1) }
-    ensures range { table_in_64 (placed_parts (sectors 2 9) (sectors 9 12) (sectors 13 64)) ≡ Err (Range 2) }
-    ensures overlap { table_in_64 (two_parts (sectors 2 9) 0xfc000006 (sectors 9 12) 0xfc000000) ≡ Err (Overlap 0 1) }
+    ensures permissions { table_in_64 (two_parts (sectors 1 31) 0xfc020000 0xfc07a020 0x7c020002)
+        ≡ Err (Permissions 1) }
+    ensures range { table_in_64 (placed_parts (sectors 2 9) (sectors 9 12) (sectors 13 64))
+        ≡ Err (Range 2) }
+    ensures overlap { table_in_64 (two_parts (sectors 2 9) 0xfc000006 (sectors 9 12) 0xfc000000)
+        ≡ Err (Overlap 0 1) }
     ensures link { table_in_64 (two_parts 0xfc03e002 0xfc020000 0xfc07a020 0xfc020006
         ++ 0x01000247 ∷ 1 ∷ 0x0000094b ∷ eight_words) ≡ Err (Link 1) }
 {}
@@ -271,7 +300,8 @@ pub fn rights_are_read()
 {}
 
 /// A digest that is that of the words before it, one that is not in its first and in its last byte,
-/// and one that is not beside a fault of range; and the items that are written for the pair's table.
+/// and one that is not beside a fault of range; and the items that are written for the pair's
+/// table.
 pub fn digests_are_compared()
     ensures right { table_in_64 pair_hashed ≡ Ok pair_table }
     ensures wrong { table_in_64 pair_misdigested ≡ Err Hash }

@@ -24,8 +24,8 @@ fn permissions_fault(parts: &[Partition]) -> Option<TableFault>
     None
 }
 
-/// Whether a partition is out of range in a flash of so many sectors, of which some stand before the
-/// first free one.
+/// Whether a partition is out of range in a flash of so many sectors, of which some stand before
+/// the first free one.
 fn is_out_of_range(sectors: u32, first: u32, part: &Partition) -> bool
     ensures { result ≡ is_out_of_range sectors first part.now }
 {

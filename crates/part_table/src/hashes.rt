@@ -26,7 +26,8 @@ pub(crate) fn read_hash(block: &Block) -> Result<Option<StatedHash>, TableFault>
     ensures value { let words = block_words block.now in
         let items = items_of block.now.items in
         result ≡ ok_unless_bad (has_bad_hash words items) (stated_hash words items) }
-    ensures inside { IfOk result (λ o. IfSome o (λ hash. hash.words ≤ length (block_words block.now))) }
+    ensures inside { IfOk result
+        (λ o. IfSome o (λ hash. hash.words ≤ length (block_words block.now))) }
 {
     let count = read_hash_count(block)?;
     let digest = read_digest(block)?;

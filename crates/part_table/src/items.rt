@@ -59,7 +59,8 @@ pub(crate) fn read_version(block: &Block) -> Result<Version, TableFault>
 pub(crate) fn read_hash_count(block: &Block) -> Result<Option<u32>, TableFault>
     ensures { let words = block_words block.now in
         let items = items_of block.now.items in
-        result ≡ ok_unless_bad (is_bad (hash_count_of words) HASH_DEF items) (hash_count words items) }
+        result
+        ≡ ok_unless_bad (is_bad (hash_count_of words) HASH_DEF items) (hash_count words items) }
 {
     if is_repeated(block, HASH_DEF) {
         return Err(TableFault::BadItem);
@@ -77,7 +78,9 @@ pub(crate) fn read_hash_count(block: &Block) -> Result<Option<u32>, TableFault>
 pub(crate) fn read_digest(block: &Block) -> Result<Option<[u8; 32]>, TableFault>
     ensures { let words = block_words block.now in
         let items = items_of block.now.items in
-        result ≡ ok_unless_bad (is_bad (digest_of words) HASH_VALUE items) (said (digest_of words) HASH_VALUE items) }
+        result
+        ≡ ok_unless_bad (is_bad (digest_of words) HASH_VALUE items)
+        (said (digest_of words) HASH_VALUE items) }
 {
     if is_repeated(block, HASH_VALUE) {
         return Err(TableFault::BadItem);
@@ -94,7 +97,9 @@ pub(crate) fn read_digest(block: &Block) -> Result<Option<[u8; 32]>, TableFault>
 /// Whether this number of hashed words does not fit the block: it passes the word at which the
 /// HASH_VALUE item begins, or the block's end without such an item; or the item has no number.
 pub(crate) fn is_misplaced(block: &Block, count: Option<u32>) -> bool
-    ensures { result ≡ is_misplaced (length (block_words block.now)) (item_of_kind HASH_VALUE (items_of block.now.items)) count }
+    ensures { result
+        ≡ is_misplaced (length (block_words block.now))
+        (item_of_kind HASH_VALUE (items_of block.now.items)) count }
 {
     match (find_item(block, HASH_VALUE), count) {
         (Some(value), Some(count)) => value.first < count,

@@ -18,28 +18,32 @@ ghost use Rattle.part_table.specs.TableOf.{table_of};
 ghost use Rattle.part_table.specs.Written.{IsReadable, IsWritableTable, IsReadAs, partition_text, written_items, written, written_size};
 ghost use Rattle.part_table.specs.Windows.{IsPlaced, has_sector, partition_window};
 
-/// A table that a block reads as has no fault of its partitions, and is sound for the same number of sectors.
+/// A table that a block reads as has no fault of its partitions, and is sound for the same number
+/// of sectors.
 pub fn read_tables_are_sound()
-    ensures faultless { (b : BlockView) (n m : ℕ) (t : Table) → table_of b n m ≡ Ok t → table_fault t n m ≡ None }
+    ensures faultless { (b : BlockView) (n m : ℕ) (t : Table) → table_of b n m ≡ Ok t
+        → table_fault t n m ≡ None }
     ensures sound { (t : Table) (n m : ℕ) → table_fault t n m ≡ None → IsSoundTable t n }
 {}
 
-/// The first fault of a table's partitions, in each flash, is the one that the rules name, and there is
-/// none exactly where no rule finds one.
+/// The first fault of a table's partitions, in each flash, is the one that the rules name, and
+/// there is none exactly where no rule finds one.
 pub fn faults_are_the_first()
     ensures first { (parts : List Partition) (n m : ℕ) (f : TableFault)
         → (parts_fault parts n m ≡ Some f) ↔ IsFirstFault parts n m f }
-    ensures none { (parts : List Partition) (n m : ℕ) → (parts_fault parts n m ≡ None) ↔ HasNoFault parts n m }
+    ensures none { (parts : List Partition) (n m : ℕ)
+        → (parts_fault parts n m ≡ None) ↔ HasNoFault parts n m }
 {}
 
-/// What a block is read as, in each flash: BadItem where its items say no table, else the first fault
-/// of the partitions, else Hash where its hash is wrong, else the table.
+/// What a block is read as, in each flash: BadItem where its items say no table, else the first
+/// fault of the partitions, else Hash where its hash is wrong, else the table.
 pub fn answers_are_in_order()
-    ensures { (b : BlockView) (n m : ℕ) (r : Result Table TableFault) → (table_of b n m ≡ r) ↔ IsReadTo b n m r }
+    ensures { (b : BlockView) (n m : ℕ) (r : Result Table TableFault)
+        → (table_of b n m ≡ r) ↔ IsReadTo b n m r }
 {}
 
-/// Each partition of a table without faults is a window of whole sectors, at least one, inside the flash and behind the sectors
-/// that are not free; and two partitions share no byte.
+/// Each partition of a table without faults is a window of whole sectors, at least one, inside the
+/// flash and behind the sectors that are not free; and two partitions share no byte.
 pub fn partitions_are_placed()
     ensures placed { (t : Table) (n m : ℕ) → table_fault t n m ≡ None
         → (i : ℕ) → i < length t.parts.items → IsPlaced (partition_window t i) n m }
@@ -54,25 +58,30 @@ pub fn partitions_are_placed()
 /// its words; those of each other sector are those of the unpartitioned word.
 pub fn sectors_have_one_right()
     ensures own { (t : Table) (n : ℕ) → IsSoundTable t n
-        → (i sector : ℕ) → i < length t.parts.items → has_sector sector (part_at t.parts.items i) ≡ true
+        → (i sector : ℕ) → i < length t.parts.items
+        → has_sector sector (part_at t.parts.items i) ≡ true
         → right_word t sector ≡ (part_at t.parts.items i).location }
     ensures both { (t : Table) (n : ℕ) → IsSoundTable t n → (i : ℕ) → i < length t.parts.items
-        → permissions_of (part_at t.parts.items i).location ≡ permissions_of (part_at t.parts.items i).flags }
+        → permissions_of (part_at t.parts.items i).location
+        ≡ permissions_of (part_at t.parts.items i).flags }
     ensures others { (t : Table) (sector : ℕ)
         → ((i : ℕ) → i < length t.parts.items → has_sector sector (part_at t.parts.items i) ≡ false)
         → right_word t sector ≡ t.unpartitioned }
 {}
 
-/// The A of a pair is a partition, another one than its B, and no B itself; it has one B, which is the one that is found.
+/// The A of a pair is a partition, another one than its B, and no B itself; it has one B, which is
+/// the one that is found.
 pub fn pairs_are_right()
     ensures first { (parts : List Partition) → link_fault parts ≡ None
         → (a b : ℕ) → b < length parts → is_second_of a (part_at parts b) ≡ true
         → (a < length parts) × (a ≢ b) × (is_second (part_at parts a) ≡ false) }
     ensures one { (parts : List Partition) → link_fault parts ≡ None
         → (a i j : ℕ) → i < length parts → j < length parts
-        → is_second_of a (part_at parts i) ≡ true → is_second_of a (part_at parts j) ≡ true → i ≡ j }
+        → is_second_of a (part_at parts i) ≡ true → is_second_of a (part_at parts j) ≡ true
+        → i ≡ j }
     ensures found { (parts : List Partition) → link_fault parts ≡ None
-        → (a b : ℕ) → b < length parts → is_second_of a (part_at parts b) ≡ true → pair_of parts a ≡ Some b }
+        → (a b : ℕ) → b < length parts → is_second_of a (part_at parts b) ≡ true
+        → pair_of parts a ≡ Some b }
     ensures second { (parts : List Partition) (a b : ℕ) → pair_of parts a ≡ Some b
         → (b < length parts) × (is_second_of a (part_at parts b) ≡ true) }
 {}
@@ -91,13 +100,15 @@ pub fn partitions_are_read_back()
         → partitions_in (length parts) (flat_map partition_text parts) ≡ Some parts }
 {}
 
-/// The bytes that are written for a table, whose words, ids, families and names are in their ranges,
-/// are a block of the size that is told of it. It stands at their front, whatever follows them, and
-/// is read as the same table in each flash for which that has no fault.
+/// The bytes that are written for a table, whose words, ids, families and names are in their
+/// ranges, are a block of the size that is told of it. It stands at their front, whatever follows
+/// them, and is read as the same table in each flash for which that has no fault.
 pub fn tables_are_read_back()
-    ensures block { (t : Table) → IsWritableTable t → IsBlock (written t) (written_items t) (pos 0) }
+    ensures block { (t : Table) → IsWritableTable t
+        → IsBlock (written t) (written_items t) (pos 0) }
     ensures stands { (t : Table) (rest : List ℕ) → IsWritableTable t
-        → block_at (written t ++ rest) 0 ≡ Some (record { at = 0; items = written_items t; link = pos 0 }) }
+        → block_at (written t ++ rest) 0
+        ≡ Some (record { at = 0; items = written_items t; link = pos 0 }) }
     ensures again { (t : Table) (n m : ℕ) → IsWritableTable t → table_fault t n m ≡ None
         → IsReadAs (written t) t n m }
     ensures size { (t : Table) → IsWritableTable t → length (written t) ≡ written_size t }

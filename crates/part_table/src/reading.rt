@@ -25,7 +25,8 @@ pub fn has_table(block: &Block) -> bool
 
 /// What the block's PARTITION_TABLE and VERSION items say.
 fn read_fields(block: &Block) -> Result<Table, TableFault>
-    ensures { result ≡ ok_or_bad (fields_of_items (block_words block.now) (items_of block.now.items)) }
+    ensures { result
+        ≡ ok_or_bad (fields_of_items (block_words block.now) (items_of block.now.items)) }
 {
     if is_repeated(block, PARTITION_TABLE) {
         return Err(TableFault::BadItem);
@@ -63,7 +64,8 @@ pub fn read_table(block: &Block, sectors: u32, first: u32) -> Result<Table, Tabl
     requires { has_table block.now ≡ true }
     ensures exact { result ≡ table_of block.now sectors first }
     ensures sound { IfOk result (λ t. IsSoundTable t sectors) }
-    ensures placed { IfOk result (λ t. (i : ℕ) → i < length t.parts.items → IsPlaced (partition_window t i) sectors first) }
+    ensures placed { IfOk result
+        (λ t. (i : ℕ) → i < length t.parts.items → IsPlaced (partition_window t i) sectors first) }
     ensures few { IfOk result (λ t. length t.parts.items ≤ 15) }
 {
     table_of(block, sectors, first)

@@ -12,8 +12,9 @@ pub struct Table {
     pub version: Version,
     /// Whether the table says that it is the only one.
     pub singleton: bool,
-    /// The word for the sectors that no partition has: bits 26 to 31 the permissions, as in a location word, and bits 14 to 19 the
-    /// families accepted, of which bit 15 alone, the absolute family, is read.
+    /// The word for the sectors that no partition has: bits 26 to 31 the permissions, as in a
+    /// location word, and bits 14 to 19 the families accepted, of which bit 15 alone, the absolute
+    /// family, is read.
     pub unpartitioned: u32,
     /// The partitions, in the table's order.
     pub parts: ArrayVec<Partition, 15>,
@@ -22,13 +23,15 @@ pub struct Table {
 /// Why a block with a PARTITION_TABLE item is no table: the first that applies, in this order.
 #[derive(Clone, Copy, PartialEq, Eq, Debug, Error)]
 pub enum TableFault {
-    /// An item of the kinds PARTITION_TABLE, VERSION, HASH_DEF, HASH_VALUE stands twice or is wrong.
+    /// An item of the kinds PARTITION_TABLE, VERSION, HASH_DEF, HASH_VALUE stands twice or is
+    /// wrong.
     #[error("a table item stands twice or is wrong")]
     BadItem,
     /// The least partition whose two permission fields differ.
     #[error("the two permission fields of partition {0} differ")]
     Permissions(u32),
-    /// The least partition whose sectors are none, stand below the first free sector, or leave the flash.
+    /// The least partition whose sectors are none, stand below the first free sector, or leave the
+    /// flash.
     #[error("the sectors of partition {0} are out of range")]
     Range(u32),
     /// The least partition that shares a sector with a later one, and the least such one.
@@ -42,7 +45,8 @@ pub enum TableFault {
     Hash,
 }
 
-/// A right to a sector of the flash, as the bootloader permissions of its partition, or of the unpartitioned word, give it.
+/// A right to a sector of the flash, as the bootloader permissions of its partition, or of the
+/// unpartitioned word, give it.
 #[derive(Clone, Copy, PartialEq, Eq, Debug)]
 pub enum Right {
     /// Bootloader read, bit 30.
@@ -74,7 +78,8 @@ impl Table {
     /// The window of partition i: its first to its last sector.
     pub fn window(&self, i: u32) -> Window
         requires part { i < length self.now.parts.items }
-        requires some { first_sector (part_at self.now.parts.items i) ≤ last_sector (part_at self.now.parts.items i) }
+        requires some { first_sector (part_at self.now.parts.items i) ≤ last_sector
+            (part_at self.now.parts.items i) }
         ensures value { result ≡ partition_window self.now i }
         ensures near { result.start + result.len ≤ 2 ^ 25 }
     {

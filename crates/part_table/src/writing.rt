@@ -208,8 +208,11 @@ fn written_items(table: &Table, size: usize) -> ArrayVec<u32, 156>
 pub fn write_table(alloc: Global, table: &Table, out: &mut Vec<u8>) -> Result<(), TableWriteFault>
     requires { All AgreesWithFlags table.now.parts.items }
     ensures ok { OnOk result (out.new.items ≡ out.old.items ++ written table.now) }
-    ensures again { (n m : ℕ) → table_fault table.now n m ≡ None → OnOk result (IsReadAs (written table.now) table.now n m) }
-    ensures too_long { (n : ℕ) → IsErrOf result (TableWriteFault.TooLong n) ↔ ((640 < written_size table.now) × (n ≡ written_size table.now)) }
+    ensures again { (n m : ℕ) → table_fault table.now n m ≡ None
+        → OnOk result (IsReadAs (written table.now) table.now n m) }
+    ensures too_long { (n : ℕ)
+        → IsErrOf result (TableWriteFault.TooLong n) ↔
+        ((640 < written_size table.now) × (n ≡ written_size table.now)) }
     ensures err { OnErr result (out.new.items ≡ out.old.items) }
 {
     let size = item_size(table);

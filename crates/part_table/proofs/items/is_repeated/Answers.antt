@@ -1,4 +1,4 @@
-use Rattle.std.proofs.Common.{ℕ, ◌≡◌, ◌+◌, ◌∙◌, ap, sym, arith, cond, length, filter, take}
+use Rattle.std.proofs.Common.{ℕ, ◌∙◌, ap, sym, arith, cond}
 use Rattle.std.proofs.lemmas.Bool.{eq-eqb, ne_eqb}
 use Rattle.block_codec.specs.Items.{items_of}
 use Rattle.block_codec.specs.Kinds.{is_of_kind}
@@ -8,7 +8,8 @@ use Rattle.part_table.proofs.items.is_repeated.Goals.{then-kind_of-kind, else-ki
 
 pub loop-i-preserved : goal.loop-i-preserved
 loop-i-preserved c =
-    let more = counted_more (is_of_kind c.args.kind) (items_of c.args.block.now.items) c.loop-i.i c.item.result c.item.ensures.value in
+    let more = counted_more (is_of_kind c.args.kind)
+    (items_of c.args.block.now.items) c.loop-i.i c.item.result c.item.ensures.value in
     elim c.if-kind_of-kind.branch [
       | then-kind_of-kind w ↦
           let one = ap {B = ℕ} (λ b. cond b 1 0) (eq-eqb _ _ (sym c.kind_of.ensures ∙ w.if-kind_of-kind.true)) in

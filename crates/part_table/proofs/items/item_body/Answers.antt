@@ -1,4 +1,4 @@
-use Rattle.std.proofs.Common.{◌≡◌, ◌+◌, ◌++◌, ◌∷◌, [], ◌∙◌, ap, sym, arith, length, slice_range}
+use Rattle.std.proofs.Common.{◌≡◌, ◌+◌, ◌++◌, ◌∷◌, [], ◌∙◌, ap, sym, arith, slice_range}
 use Rattle.std.proofs.lemmas.List.Edits.{between_more}
 use Rattle.block_codec.proofs.FrameLemmas.{length-frame}
 use Rattle.block_codec.specs.Blocks.{block_words}

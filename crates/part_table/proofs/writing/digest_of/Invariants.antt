@@ -1,4 +1,4 @@
-use Rattle.std.proofs.Common.{◌∷◌, ◌++◌, take}
+use Rattle.std.proofs.Common.{◌++◌, take}
 use Rattle.sha2.specs.Hashers.{Holds256}
 use Rattle.block_codec.specs.Blocks.{start_word}
 use Rattle.block_codec.specs.Words.{bytes_of, word_bytes}

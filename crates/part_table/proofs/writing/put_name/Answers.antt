@@ -8,5 +8,6 @@ put_bytes-requires c =
     let bytes : c.as_slice-in-Some.result.now ≡ padded_name c.in-Some.name.items =
     c.as_slice-in-Some.ensures.value ∙ c.padded_name.ensures ∙ ap padded_name c.as_slice.ensures.value in
     let size : length (name_text c.args.name.now) ≡ length c.as_slice-in-Some.result.now / 4 =
-    ap (λ o. length (name_text o)) c.in-Some.is ∙ length-words_of (padded_name c.in-Some.name.items) ∙ ap (λ bs. length bs / 4) (sym bytes) in
+    ap (λ o. length (name_text o)) c.in-Some.is ∙ length-words_of (padded_name c.in-Some.name.items)
+    ∙ ap (λ bs. length bs / 4) (sym bytes) in
     omega (arith, size, c.requires)

@@ -1,6 +1,5 @@
-use Rattle.std.proofs.Common.{◌≡◌, ◌+◌, ◌++◌, ◌∙◌, ap, sym, subst, arith, length, take, slice_get, Some}
-use Rattle.std.specs.List.{flat_map}
-use Rattle.part_table.specs.Written.{partition_text, table_item}
+use Rattle.std.proofs.Common.{◌≡◌, ap, subst, arith, length, slice_get, Some}
+use Rattle.part_table.specs.Written.{partition_text}
 use Rattle.part_table.proofs.FaultFacts.{index_of}
 use Rattle.part_table.proofs.WriteFacts.{text_within}
 use Rattle.part_table.proofs.writing.table_item.Goals as goal
