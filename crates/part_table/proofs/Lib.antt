@@ -4,3 +4,10 @@ pub mod LinkFacts
 pub mod TableFacts
 pub mod WrittenFacts
 pub mod RoundTrip
+pub mod SearchFacts
+pub mod ReadFacts
+pub mod FaultFacts
+pub mod WriteFacts
+pub mod BlockFacts
+pub mod RuleFacts
+pub mod AnswerFacts

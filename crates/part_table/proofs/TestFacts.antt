@@ -22,7 +22,8 @@ pub mapped_none : {A B : Type 0} (f : A → B) (o : Option A) → option_map f o
 mapped_none f None e = refl
 mapped_none f (Some x) e = cc
 
-pub mapped_some : {A B : Type 0} (f : A → B) (o : Option A) (y : B) → option_map f o ≡ Some y → (x : A) × (o ≡ Some x) × (y ≡ f x)
+pub mapped_some : {A B : Type 0} (f : A → B) (o : Option A) (y : B) → option_map f o ≡ Some y → (x : A) × (o ≡ Some x)
+    × (y ≡ f x)
 mapped_some f None y e = cc
 mapped_some f (Some x) y e = (x, refl, cc)
 
@@ -45,7 +46,8 @@ any_of_two false false e = (refl, refl)
 any_of_two true two e = cc
 any_of_two false true e = cc
 
-pub any_of_three : (one two three : Bool) → (one || two || three) ≡ false → (one ≡ false) × (two ≡ false) × (three ≡ false)
+pub any_of_three : (one two three : Bool) → (one || two || three) ≡ false → (one ≡ false) × (two ≡ false)
+    × (three ≡ false)
 any_of_three false false false e = (refl, refl, refl)
 any_of_three true two three e = cc
 any_of_three false true three e = cc
@@ -103,10 +105,22 @@ module _ {X : Type 0} (test : X → Bool) (xs : List X) where
 
   pub passes_at_position : (k : ℕ) (d : X) → position test xs ≡ Some k → (k < length xs) × (test (get_or xs k d) ≡ true)
   passes_at_position k d at =
-      let found : (position_or_len test xs < length xs) × (position_or_len test xs ≡ k) = place_some (position_or_len test xs) (length xs) k at in
-      (subst (λ n. n < length xs) found.1 found.0, subst (λ n. test (get_or xs n d) ≡ true) found.1 (passes_at_first test xs d found.0))
+      let found : (position_or_len test xs < length xs) × (position_or_len test xs ≡ k) =
+      place_some (position_or_len test xs) (length xs) k at in (
+        subst (λ n. n < length xs) found.1 found.0,
+        subst (λ n. test (get_or xs n d) ≡ true) found.1
+            (passes_at_first test xs d found.0),
+      )
 
-  pub first_position : (k : ℕ) (d : X) → k < length xs → test (get_or xs k d) ≡ true → ((j : ℕ) → j < k → test (get_or xs j d) ≡ false)
+  pub fails_before_position : (k : ℕ) (d : X) → position test xs ≡ Some k → (j : ℕ) → j < k
+      → test (get_or xs j d) ≡ false
+  fails_before_position k d at j lt =
+      let found : (position_or_len test xs < length xs) × (position_or_len test xs ≡ k) =
+      place_some (position_or_len test xs) (length xs) k at in
+      fails_before_first test xs j d (omega arith)
+
+  pub first_position : (k : ℕ) (d : X) → k < length xs → test (get_or xs k d) ≡ true
+      → ((j : ℕ) → j < k → test (get_or xs j d) ≡ false)
       → (position_or_len test xs ≡ k) × (position test xs ≡ Some k)
   first_position k d lt passes before =
       let first : position_or_len test xs ≡ k = position_or_len_is test xs k d (omega arith) before (λ _. passes) in
@@ -141,12 +155,14 @@ search_of test xs =
         unfound = find_at test xs ∙ past.1;
         placeless = no_place (position_or_len test xs) (length xs) past.0;
         fails = λ k x at. subst (λ y. test y ≡ false) (get_or_from_slice_get xs k x x at)
-            (fails_before_first test xs k x (let within : k < length xs = slice_get_within xs k x at in omega (arith, past.0)));
+            (fails_before_first test xs k x
+            (let within : k < length xs = slice_get_within xs k x at in omega (arith, past.0)));
       })
     ]
 
 -- an element that was found is one of the list that passes
-pub found_place : {X : Type 0} (test : X → Bool) (xs : List X) (x : X) → find test xs ≡ Some x → (k : ℕ) × (slice_get xs k ≡ Some x) × (test x ≡ true)
+pub found_place : {X : Type 0} (test : X → Bool) (xs : List X) (x : X) → find test xs ≡ Some x → (k : ℕ)
+    × (slice_get xs k ≡ Some x) × (test x ≡ true)
 found_place test xs x e =
     elim (search_of test xs) [
       | inl absent ↦ absurd (none-some x (sym absent.unfound ∙ e))
@@ -154,3 +170,11 @@ found_place test xs x e =
           let same : found.1 ≡ x = same_Some found.1 x (sym found.2.sought ∙ e) in
           (found.0, found.2.at ∙ ap (λ y. Some y) same, subst (λ y. test y ≡ true) same found.2.passes)
     ]
+
+-- no place passes the test
+pub no_position : {X : Type 0} (test : X → Bool) (xs : List X) (d : X)
+    → ((k : ℕ) → k < length xs → test (get_or xs k d) ≡ false) → position test xs ≡ None
+no_position test xs d none =
+    let past : position_or_len test xs ≡ length xs =
+    position_or_len_is test xs (length xs) d (omega arith) none (λ lt. absurd (omega (arith, lt))) in
+    no_place (position_or_len test xs) (length xs) (omega (arith, past))

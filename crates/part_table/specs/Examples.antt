@@ -1,22 +1,55 @@
--- Worked examples of tables, with their answers reckoned by hand from the rules. This project's own.
-use Rattle.std.specs.Prelude.{drop, ℕ, true, false, List, [], ◌∷◌, ◌++◌, pos, None, Some}
+-- Worked examples of tables, with their answers reckoned by hand from the rules. This project's
+-- own.
+use Rattle.std.specs.Prelude.{drop, ℕ, ◌+◌, ◌*◌, true, false, List, [], ◌∷◌, ◌++◌, pos, Option, None, Some, Result}
+use Rattle.arrayvec.specs.ArrayVec.{ArrayVec}
 use Rattle.block_codec.specs.Blocks.{BlockView}
 use Rattle.part_table.specs.declared.partition.Partition.{Partition}
 use Rattle.part_table.specs.declared.table.Table.{Table}
+use Rattle.part_table.specs.declared.table.TableFault.{TableFault}
+use Rattle.part_table.specs.TableOf.{table_of}
 
 -- a partition of these words, without an id, extra families or a name
 abbrev pub plain_partition : ℕ → ℕ → Partition
 plain_partition at flag_word =
-    record { location = at; flags = flag_word; id = None; families = record { items = [] }; name = None }
+    record {
+      location = at;
+      flags = flag_word;
+      id = None;
+      families = record { items = [] };
+      name = None;
+    }
+
+-- the location word of a partition with all rights, by its first and its last sector
+abbrev pub sectors : ℕ → ℕ → ℕ
+sectors first last = 0xfc000000 + 8192 * last + first
 
 -- the block of these item words at the start of a flash, which is a loop of its own
 abbrev pub block_with : List ℕ → BlockView
 block_with words = record { at = 0; items = words; link = pos 0 }
 
--- the item words of a table of two partitions, sectors 2 to 31 and 32 to 61, the second of which is the B of the first; both have all
--- rights, and the first accepts rp2350-arm-s
+-- the table of that block in a flash of 64 sectors, of which the first two are not free
+abbrev pub table_in_64 : List ℕ → Result Table TableFault
+table_in_64 words = table_of (block_with words) 64 2
+
+-- the table without a version of these partitions, in which the unpartitioned sectors have all
+-- rights
+abbrev pub table_with : List Partition → Table
+table_with ps = record {
+  version = record { major = 0; minor = 0 };
+  singleton = false;
+  unpartitioned = 0xfc008000;
+  parts = record { items = ps };
+}
+
+-- the item words of a table of two partitions, sectors 2 to 31 and 32 to 61, the second of which is
+-- the B of the first; both have all rights and accept rp2350-arm-s
 abbrev pub pair_items : List ℕ
 pair_items = 0x0200060a ∷ 0xfc008000 ∷ 0xfc03e002 ∷ 0xfc020000 ∷ 0xfc07a020 ∷ 0xfc020002 ∷ []
+
+-- that table, which has no VERSION item
+abbrev pub pair_table : Table
+pair_table =
+    table_with (plain_partition 0xfc03e002 0xfc020000 ∷ plain_partition 0xfc07a020 0xfc020002 ∷ [])
 
 -- that table with a version
 abbrev pub pair_version : ℕ → ℕ → Table
@@ -24,27 +57,42 @@ pair_version high low = record {
   version = record { major = high; minor = low };
   singleton = false;
   unpartitioned = 0xfc008000;
-  parts = record { items = plain_partition 0xfc03e002 0xfc020000 ∷ plain_partition 0xfc07a020 0xfc020002 ∷ [] };
+  parts = pair_table.parts;
 }
 
--- that table without a VERSION item, which has version 0.0
-abbrev pub pair_table : Table
-pair_table = record {
-  version = record { major = 0; minor = 0 };
-  singleton = false;
-  unpartitioned = 0xfc008000;
-  parts = record { items = plain_partition 0xfc03e002 0xfc020000 ∷ plain_partition 0xfc07a020 0xfc020002 ∷ [] };
-}
+-- the table of one partition of these words
+abbrev pub one_part : ℕ → ℕ → List ℕ
+one_part location flags = 0x0100040a ∷ 0xfc008000 ∷ location ∷ flags ∷ []
 
--- a table of these two partitions, in which the unpartitioned sectors have all rights
+-- the table of two partitions of these words
 abbrev pub two_parts : ℕ → ℕ → ℕ → ℕ → List ℕ
 two_parts a_location a_flags b_location b_flags =
     0x0200060a ∷ 0xfc008000 ∷ a_location ∷ a_flags ∷ b_location ∷ b_flags ∷ []
 
--- a table of three partitions, sectors 2 to 3, 4 to 5 and 6 to 7, with these flag words
-abbrev pub three_parts : ℕ → ℕ → ℕ → List ℕ
-three_parts one two three =
-    0x0300080a ∷ 0xfc008000 ∷ 0xfc006002 ∷ one ∷ 0xfc00a004 ∷ two ∷ 0xfc00e006 ∷ three ∷ []
+-- the table of three partitions of these words
+abbrev pub three_parts : ℕ → ℕ → ℕ → ℕ → ℕ → ℕ → List ℕ
+three_parts a_location a_flags b_location b_flags c_location c_flags =
+    0x0300080a ∷ 0xfc008000 ∷ a_location ∷ a_flags ∷ b_location ∷ b_flags ∷ c_location ∷ c_flags
+    ∷ []
+
+-- a table of three partitions with these location words, without links
+abbrev pub placed_parts : ℕ → ℕ → ℕ → List ℕ
+placed_parts one two three = three_parts one 0xfc000000 two 0xfc000000 three 0xfc000000
+
+-- a table of three partitions, sectors 2 to 3, 4 to 5 and 6 to 7, with these flag words below their
+-- permissions
+abbrev pub linked_parts : ℕ → ℕ → ℕ → List ℕ
+linked_parts one two three =
+    three_parts (sectors 2 3) (0xfc000000 + one) (sectors 4 5) (0xfc000000 + two) (sectors 6 7)
+    (0xfc000000 + three)
+
+-- the partitions of that table
+abbrev pub linked_table : ℕ → ℕ → ℕ → Table
+linked_table one two three =
+    table_with
+    (plain_partition (sectors 2 3) (0xfc000000 + one)
+    ∷ plain_partition (sectors 4 5) (0xfc000000 + two)
+    ∷ plain_partition (sectors 6 7) (0xfc000000 + three) ∷ [])
 
 -- the pair's item words, and these items after them
 abbrev pub pair_and : List ℕ → List ℕ
@@ -54,11 +102,12 @@ pair_and words = pair_items ++ words
 abbrev pub eight_words : List ℕ
 eight_words = 0 ∷ 0 ∷ 0 ∷ 0 ∷ 0 ∷ 0 ∷ 0 ∷ 0 ∷ []
 
--- a singleton table of one partition, sectors 2 to 3, with an id, two extra families and a name of four bytes; bit 7 of the name's
--- length byte is set
+-- a singleton table of one partition, sectors 2 to 3, with an id, two extra families and a name of
+-- four bytes; bit 7 of the name's length byte is set
 abbrev pub named_items : List ℕ
 named_items =
-    0x81000a0a ∷ 0 ∷ 0xfc006002 ∷ 0xfc001101 ∷ 0x44332211 ∷ 0x88776655 ∷ 0x11111111 ∷ 0xe48bff5a ∷ 0x63626184 ∷ 0x00000064 ∷ []
+    0x81000a0a ∷ 0 ∷ 0xfc006002 ∷ 0xfc001101 ∷ 0x44332211 ∷ 0x88776655 ∷ 0x11111111 ∷ 0xe48bff5a
+    ∷ 0x63626184 ∷ 0x00000064 ∷ []
 
 -- that partition
 abbrev pub named_partition : Partition
@@ -79,42 +128,76 @@ named_table = record {
   parts = record { items = named_partition ∷ [] };
 }
 
--- a pair of images, sectors 2 to 9 and 10 to 17, and a pair of data, sectors 18 to 25 and 26 to 33, whose A has the first image
--- partition as its owner
+-- the partition of sectors 2 to 3 with these flags, id, extra families and name
+abbrev pub partition_with : ℕ → Option ℕ → List ℕ → Option (ArrayVec ℕ) → Partition
+partition_with flag_word number extra text = record {
+  location = 0xfc006002;
+  flags = flag_word;
+  id = number;
+  families = record { items = extra };
+  name = text;
+}
+
+-- a pair of images, sectors 2 to 9 and 10 to 17, and a pair of data, sectors 18 to 25 and 26 to 33,
+-- whose A has the first image partition as its owner
 abbrev pub owned_items : List ℕ
 owned_items =
-    0x04000a0a ∷ 0xfc008000 ∷ 0xfc012002 ∷ 0xfc020000 ∷ 0xfc02200a ∷ 0xfc020002 ∷ 0xfc032012 ∷ 0xfc010004 ∷ 0xfc04201a ∷ 0xfc010012 ∷ []
+    0x04000a0a ∷ 0xfc008000 ∷ 0xfc012002 ∷ 0xfc020000 ∷ 0xfc02200a ∷ 0xfc020002 ∷ 0xfc032012
+    ∷ 0xfc010004
+    ∷ 0xfc04201a ∷ 0xfc010012 ∷ []
 
 -- that table
 abbrev pub owned_table : Table
-owned_table = record {
-  version = record { major = 0; minor = 0 };
-  singleton = false;
-  unpartitioned = 0xfc008000;
-  parts = record {
-    items = plain_partition 0xfc012002 0xfc020000 ∷ plain_partition 0xfc02200a 0xfc020002 ∷ plain_partition 0xfc032012 0xfc010004
-        ∷ plain_partition 0xfc04201a 0xfc010012 ∷ [];
-  };
-}
+owned_table =
+    table_with
+    (plain_partition 0xfc012002 0xfc020000 ∷ plain_partition 0xfc02200a 0xfc020002
+    ∷ plain_partition 0xfc032012 0xfc010004
+    ∷ plain_partition 0xfc04201a 0xfc010012 ∷ [])
 
--- the table of two partitions in which the bootloader may not write the first
+-- the table of two partitions in which the bootloader may not write the first, and may not write
+-- the unpartitioned sectors
 abbrev pub guarded_table : Table
 guarded_table = record {
   version = record { major = 0; minor = 0 };
   singleton = false;
   unpartitioned = 0x7c000000;
-  parts = record { items = plain_partition 0x7c03e002 0x7c020000 ∷ plain_partition 0xfc07a020 0xfc020002 ∷ [] };
+  parts = record {
+    items = plain_partition 0x7c03e002 0x7c020000
+        ∷ plain_partition 0xfc07a020 0xfc020002 ∷ [];
+  };
 }
 
--- the items that are written for the pair's table: its version 0.0, the count of the 11 words before the digest, and their SHA-256,
--- reckoned outside
+-- the same with the right to read in place of that to write
+abbrev pub unread_table : Table
+unread_table = record {
+  version = record { major = 0; minor = 0 };
+  singleton = false;
+  unpartitioned = 0xbc000000;
+  parts = record {
+    items = plain_partition 0xbc03e002 0xbc020000
+        ∷ plain_partition 0xfc07a020 0xfc020002 ∷ [];
+  };
+}
+
+-- the items that are written for the pair's table: its version 0.0, the count of the 11 words
+-- before the digest, and their SHA-256, reckoned outside
 abbrev pub pair_digest : List ℕ
 pair_digest =
-    0xa3e4cc17 ∷ 0x575b5c0a ∷ 0xb635cc2f ∷ 0xb84edf57 ∷ 0x3084ded1 ∷ 0xe1c8ec62 ∷ 0xbe5df4e2 ∷ 0x76fdfd91 ∷ []
+    0xa3e4cc17 ∷ 0x575b5c0a ∷ 0xb635cc2f ∷ 0xb84edf57 ∷ 0x3084ded1 ∷ 0xe1c8ec62 ∷ 0xbe5df4e2
+    ∷ 0x76fdfd91 ∷ []
 
 abbrev pub pair_hashed : List ℕ
 pair_hashed = pair_and (0x00000248 ∷ 0 ∷ 0x01000247 ∷ 11 ∷ 0x0000094b ∷ pair_digest)
 
 -- the same with bit 0 of the digest's first byte inverted
 abbrev pub pair_misdigested : List ℕ
-pair_misdigested = pair_and (0x00000248 ∷ 0 ∷ 0x01000247 ∷ 11 ∷ 0x0000094b ∷ 0xa3e4cc16 ∷ drop 1 pair_digest)
+pair_misdigested =
+    pair_and (0x00000248 ∷ 0 ∷ 0x01000247 ∷ 11 ∷ 0x0000094b ∷ 0xa3e4cc16 ∷ drop 1 pair_digest)
+
+-- the same with bit 0 of the digest's last byte inverted
+abbrev pub pair_misdigested_last : List ℕ
+pair_misdigested_last =
+    pair_and
+    (0x00000248 ∷ 0 ∷ 0x01000247 ∷ 11 ∷ 0x0000094b ∷ 0xa3e4cc17 ∷ 0x575b5c0a ∷ 0xb635cc2f
+    ∷ 0xb84edf57 ∷ 0x3084ded1
+    ∷ 0xe1c8ec62 ∷ 0xbe5df4e2 ∷ 0x77fdfd91 ∷ [])

@@ -9,7 +9,8 @@ use Rattle.part_table.specs.Fields.{has_bit}
 abbrev pub rp2040_family : ℕ
 rp2040_family = 0xe48bff56
 
--- the family of blocks at absolute addresses has this number (picotool's documentation, UF2 families)
+-- the family of blocks at absolute addresses has this number (picotool's documentation, UF2
+-- families)
 abbrev pub absolute_family : ℕ
 absolute_family = 0xe48bff57
 
@@ -29,16 +30,20 @@ riscv_family = 0xe48bff5a
 abbrev pub arm_ns_family : ℕ
 arm_ns_family = 0xe48bff5b
 
--- the six families have the bits 14 to 19 of a flag word, in the order of their numbers (this project's own)
+-- the six families have the bits 14 to 19 of a flag word, in the order of their numbers (this
+-- project's own)
 abbrev pub has_family_bit : ℕ → ℕ → Bool
 has_family_bit flags family =
-    nat_le rp2040_family family && nat_le family arm_ns_family && has_bit flags (14 + (family - rp2040_family))
+    nat_le rp2040_family family && nat_le family arm_ns_family && has_bit flags
+    (14 + (family - rp2040_family))
 
--- a partition accepts a family by the family's bit or among its extra families (RP2350 Datasheet, chapter 5, Bootrom; the places of
--- the bits are this project's own)
+-- a partition accepts a family by the family's bit or among its extra families (RP2350 Datasheet,
+-- chapter 5, Bootrom; the places of the bits are this project's own)
 abbrev pub accepts : Partition → ℕ → Bool
-accepts p family = has_family_bit p.flags family || list_any (λ extra. extra == family) p.families.items
+accepts p family =
+    has_family_bit p.flags family || list_any (λ extra. extra == family) p.families.items
 
--- a table accepts the absolute family where bit 15 of its unpartitioned word is set (this project's own)
+-- a table accepts the absolute family where bit 15 of its unpartitioned word is set (this project's
+-- own)
 abbrev pub accepts_absolute : Table → Bool
 accepts_absolute t = has_bit t.unpartitioned 15

@@ -9,16 +9,18 @@ use Rattle.pico_board.specs.declared.boot.Cpu.TheVariants.{Arm, Riscv}
 abbrev pub has_bit : ℕ → ℕ → Bool
 has_bit word k = bit_at word k == 1
 
--- the first sector of a partition is bits 0 to 12 of its location word (RP2350 Datasheet, chapter 5, Bootrom)
+-- the first sector of a partition is bits 0 to 12 of its location word (RP2350 Datasheet, chapter
+-- 5, Bootrom)
 abbrev pub first_sector : Partition → ℕ
 first_sector p = p.location % 2 ^ 13
 
--- the last sector of a partition is bits 13 to 25 of its location word (RP2350 Datasheet, chapter 5, Bootrom)
+-- the last sector of a partition is bits 13 to 25 of its location word (RP2350 Datasheet, chapter
+-- 5, Bootrom)
 abbrev pub last_sector : Partition → ℕ
 last_sector p = p.location / 2 ^ 13 % 2 ^ 13
 
--- the permissions of a location word, a flag word or an unpartitioned word are its bits 26 to 31 (RP2350 Datasheet, chapter 5,
--- Bootrom)
+-- the permissions of a location word, a flag word or an unpartitioned word are its bits 26 to 31
+-- (RP2350 Datasheet, chapter 5, Bootrom)
 abbrev pub permissions_of : ℕ → ℕ
 permissions_of word = word / 2 ^ 26 % 2 ^ 6
 
@@ -26,28 +28,33 @@ permissions_of word = word / 2 ^ 26 % 2 ^ 6
 abbrev pub has_id : ℕ → Bool
 has_id flags = has_bit flags 0
 
--- the link type of a partition is bits 1 to 2 of its flag word (RP2350 Datasheet, chapter 5, Bootrom)
+-- the link type of a partition is bits 1 to 2 of its flag word (RP2350 Datasheet, chapter 5,
+-- Bootrom)
 abbrev pub link_type : Partition → ℕ
 link_type p = p.flags / 2 ^ 1 % 2 ^ 2
 
--- the link value of a partition is bits 3 to 6 of its flag word (RP2350 Datasheet, chapter 5, Bootrom)
+-- the link value of a partition is bits 3 to 6 of its flag word (RP2350 Datasheet, chapter 5,
+-- Bootrom)
 abbrev pub link_value : Partition → ℕ
 link_value p = p.flags / 2 ^ 3 % 2 ^ 4
 
--- the number of extra families of a partition is bits 7 to 8 of its flag word (RP2350 Datasheet, chapter 5, Bootrom)
+-- the number of extra families of a partition is bits 7 to 8 of its flag word (RP2350 Datasheet,
+-- chapter 5, Bootrom)
 abbrev pub family_count : ℕ → ℕ
 family_count flags = flags / 2 ^ 7 % 2 ^ 2
 
--- a partition is ignored in the boot of a processor where bit 9 of its flag word, for Arm, or bit 10, for RISC-V, is set (RP2350
--- Datasheet, chapter 5, Bootrom)
+-- a partition is ignored in the boot of a processor where bit 9 of its flag word, for Arm, or bit
+-- 10, for RISC-V, is set (RP2350 Datasheet, chapter 5, Bootrom)
 abbrev pub is_ignored : Cpu → Partition → Bool
 is_ignored Arm p = has_bit p.flags 9
 is_ignored Riscv p = has_bit p.flags 10
 
--- a partition has a name where bit 12 of its flag word is set (RP2350 Datasheet, chapter 5, Bootrom)
+-- a partition has a name where bit 12 of its flag word is set (RP2350 Datasheet, chapter 5,
+-- Bootrom)
 abbrev pub has_name : ℕ → Bool
 has_name flags = has_bit flags 12
 
--- a download into a partition is followed by no boot where bit 13 of its flag word is set (RP2350 Datasheet, chapter 5, Bootrom)
+-- a download into a partition is followed by no boot where bit 13 of its flag word is set (RP2350
+-- Datasheet, chapter 5, Bootrom)
 abbrev pub is_staying : Partition → Bool
 is_staying p = has_bit p.flags 13

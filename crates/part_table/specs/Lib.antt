@@ -9,4 +9,5 @@ pub mod Faults
 pub mod TableOf
 pub mod Sound
 pub mod Written
+pub mod Rules
 pub mod Examples

@@ -1,6 +1,7 @@
--- The partitions of a list of words. The order and the layout of the id, the extra families and the name are this project's own.
+-- The partitions of a list of words. The order and the layout of the id, the extra families and the
+-- name are this project's own.
 use Rattle.std.specs.Prelude.{ℕ, zero, suc, ◌+◌, ◌*◌, ◌/◌, ◌%◌, ◌^◌, List, [], ◌∷◌, length, take, drop, slice_index, slice_index_or, nat_le, if◌then◌else◌}
-use Rattle.std.specs.Prelude.{Option, None, Some, option_map}
+use Rattle.std.specs.Prelude.{Option, None, Some, option_map, option_and_then}
 use Rattle.arrayvec.specs.ArrayVec.{ArrayVec}
 use Rattle.block_codec.specs.Words.{bytes_of}
 use Rattle.part_table.specs.declared.partition.Partition.{Partition}
@@ -14,7 +15,8 @@ id_words flags = if has_id flags then 2 else 0
 abbrev pub name_at : ℕ → ℕ
 name_at flags = id_words flags + family_count flags
 
--- the length of a name is the low seven bits of its first byte, the low byte of its first word (this project's own)
+-- the length of a name is the low seven bits of its first byte, the low byte of its first word
+-- (this project's own)
 abbrev pub name_length : ℕ → List ℕ → ℕ
 name_length flags ws = slice_index ws (name_at flags) % 128
 
@@ -22,7 +24,8 @@ name_length flags ws = slice_index ws (name_at flags) % 128
 abbrev pub name_words : ℕ → List ℕ → ℕ
 name_words flags ws = if has_name flags then (name_length flags ws + 4) / 4 else 0
 
--- the words of a partition after its flag word are its id, its extra families and its name (this project's own)
+-- the words of a partition after its flag word are its id, its extra families and its name (this
+-- project's own)
 abbrev pub tail_words : ℕ → List ℕ → ℕ
 tail_words flags ws = name_at flags + name_words flags ws
 
@@ -37,9 +40,14 @@ families_of flags ws = take (family_count flags) (drop (id_words flags) ws)
 -- a name is the bytes that follow its length byte (this project's own)
 abbrev pub name_of : ℕ → List ℕ → Option (ArrayVec ℕ)
 name_of flags ws =
-    if has_name flags then Some (record { items = take (name_length flags ws) (drop 1 (bytes_of (drop (name_at flags) ws))) }) else None
+    if has_name flags then Some
+    (record {
+      items = take (name_length flags ws)
+          (drop 1 (bytes_of (drop (name_at flags) ws)));
+    }) else None
 
--- a partition is its location word, its flag word, and what the words after these say (this project's own)
+-- a partition is its location word, its flag word, and what the words after these say (this
+-- project's own)
 abbrev pub partition_of : ℕ → ℕ → List ℕ → Partition
 partition_of at flag_word ws = record {
   location = at;
@@ -49,22 +57,35 @@ partition_of at flag_word ws = record {
   name = name_of flag_word ws;
 }
 
--- a list of words is read as n partitions, one behind the other, where these fill it exactly, and is refused otherwise (this
--- project's own)
+-- the partition at the front of a list of words takes its two words and those of its id, its extra
+-- families and its name; there is none where these are not all there (this project's own)
+abbrev pub partition_words : List ℕ → Option ℕ
+partition_words [] = None
+partition_words (location ∷ []) = None
+partition_words (location ∷ flags ∷ ws) =
+    if nat_le (tail_words flags ws) (length ws) then Some (2 + tail_words flags ws) else None
+
+-- the partition at the front of a list of words (this project's own)
+abbrev pub partition_from : List ℕ → Partition
+partition_from ws = partition_of (slice_index ws 0) (slice_index ws 1) (drop 2 ws)
+
+-- a list of words is read as n partitions, one behind the other, where these fill it exactly, and
+-- is refused otherwise (this project's own)
 abbrev pub partitions_in : ℕ → List ℕ → Option (List Partition)
 partitions_in zero [] = Some []
 partitions_in zero (w ∷ ws) = None
-partitions_in (suc n) [] = None
-partitions_in (suc n) (location ∷ []) = None
-partitions_in (suc n) (location ∷ flags ∷ ws) =
-    if nat_le (tail_words flags ws) (length ws)
-    then option_map (λ parts. partition_of location flags ws ∷ parts) (partitions_in n (drop (tail_words flags ws) ws))
-    else None
+partitions_in (suc n) ws =
+    option_and_then
+    (λ size. option_map (λ parts. partition_from ws ∷ parts) (partitions_in n (drop size ws)))
+    (partition_words ws)
 
--- what stands for a partition past a table's end is a partition of no right, no link and no family (this project's own)
+-- what stands for a partition past a table's end is a partition of no right, no link and no family
+-- (this project's own)
 abbrev pub no_partition : Partition
-no_partition = record { location = 0; flags = 0; id = None; families = record { items = [] }; name = None }
+no_partition =
+    record { location = 0; flags = 0; id = None; families = record { items = [] }; name = None }
 
--- the partition of a number is the one at that place of the table, counted from 0 (RP2350 Datasheet, chapter 5, Bootrom)
+-- the partition of a number is the one at that place of the table, counted from 0 (RP2350
+-- Datasheet, chapter 5, Bootrom)
 abbrev pub part_at : List Partition → ℕ → Partition
 part_at parts i = slice_index_or parts i no_partition

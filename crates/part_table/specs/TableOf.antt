@@ -1,6 +1,6 @@
 -- The table of a block.
 use Rattle.std.specs.Prelude.{ℕ, Bool, List, is_some, if◌then◌else◌}
-use Rattle.std.specs.Prelude.{Option, None, Some, Result, Ok, Err}
+use Rattle.std.specs.Prelude.{Option, None, Some, Result, Err}
 use Rattle.std.specs.Option.{option_or}
 use Rattle.block_codec.specs.declared.items.Item.{Item}
 use Rattle.block_codec.specs.Items.{items_of}
@@ -8,31 +8,30 @@ use Rattle.block_codec.specs.Blocks.{BlockView, block_words}
 use Rattle.part_table.specs.declared.table.Table.{Table}
 use Rattle.part_table.specs.declared.table.TableFault.{TableFault}
 use Rattle.part_table.specs.declared.table.TableFault.TheVariants.{BadItem, Hash}
+use Rattle.block_codec.specs.FirstFault.{ok_unless}
 use Rattle.block_codec.specs.Kinds.{item_of_kind}
-use Rattle.part_table.specs.Contents.{table_kind, table_in, has_wrong_digest}
+use Rattle.block_codec.specs.declared.kinds.TheConstants.{PARTITION_TABLE}
+use Rattle.part_table.specs.Contents.{table_of_items, has_wrong_hash}
 use Rattle.part_table.specs.Faults.{table_fault}
 
 -- a block has a table where it has a PARTITION_TABLE item (RP2350 Datasheet, chapter 5, Bootrom)
 abbrev pub has_table : BlockView → Bool
-has_table b = is_some (item_of_kind table_kind (items_of b.items))
+has_table b = is_some (item_of_kind PARTITION_TABLE (items_of b.items))
 
 -- a digest that is wrong is the last fault (this project's own)
-abbrev pub hash_fault : List ℕ → List Item → Option TableFault
-hash_fault words items = if has_wrong_digest words items then Some Hash else None
+abbrev pub wrong_hash_fault : List ℕ → List Item → Option TableFault
+wrong_hash_fault words items = if has_wrong_hash words items then Some Hash else None
 
--- a table without a fault is the answer, and otherwise the fault is (this project's own)
-abbrev pub judged : Table → Option TableFault → Result Table TableFault
-judged t None = Ok t
-judged t (Some fault) = Err fault
+-- a table that was read is judged by its partitions and then by its digest, and one that was not
+-- has a bad item (this project's own)
+abbrev pub table_or_fault : Option Table → ℕ → ℕ → Option TableFault → Result Table TableFault
+table_or_fault None n m wrong_hash = Err BadItem
+table_or_fault (Some t) n m wrong_hash = ok_unless (option_or (table_fault t n m) wrong_hash) t
 
--- a table that was read is judged by its partitions and then by its digest, and one that was not has a bad item (this project's own)
-abbrev pub judged_in : Option Table → ℕ → ℕ → Option TableFault → Result Table TableFault
-judged_in None n m wrong_digest = Err BadItem
-judged_in (Some t) n m wrong_digest = judged t (option_or (table_fault t n m) wrong_digest)
-
--- the table of a block in a flash of n sectors, of which m stand before the first free one, or its first fault (this project's own)
+-- the table of a block in a flash of n sectors, of which m stand before the first free one, or its
+-- first fault (this project's own)
 abbrev pub table_of : BlockView → ℕ → ℕ → Result Table TableFault
 table_of b n m =
     let words = block_words b in
     let items = items_of b.items in
-    judged_in (table_in words items) n m (hash_fault words items)
+    table_or_fault (table_of_items words items) n m (wrong_hash_fault words items)

@@ -10,20 +10,25 @@ use Rattle.part_table.specs.Partitions.{part_at}
 abbrev pub has_sector : ℕ → Partition → Bool
 has_sector sector p = nat_le (first_sector p) sector && nat_le sector (last_sector p)
 
--- two partitions share a sector where neither ends before the other begins (RP2350 Datasheet, chapter 5, Bootrom)
+-- two partitions share a sector where neither ends before the other begins (RP2350 Datasheet,
+-- chapter 5, Bootrom)
 abbrev pub shares_sector : Partition → Partition → Bool
-shares_sector p q = nat_le (first_sector p) (last_sector q) && nat_le (first_sector q) (last_sector p)
+shares_sector p q =
+    nat_le (first_sector p) (last_sector q) && nat_le (first_sector q) (last_sector p)
 
--- a partition is the window of its first to its last sector, of 4096 bytes each (RP2350 Datasheet, chapter 5, Bootrom)
-abbrev pub window_of : Partition → Window
-window_of p = record { start = 4096 * first_sector p; len = 4096 * (last_sector p + 1 - first_sector p) }
+-- a partition is the window of its first to its last sector, of 4096 bytes each (RP2350 Datasheet,
+-- chapter 5, Bootrom)
+abbrev pub part_window : Partition → Window
+part_window p =
+    record { start = 4096 * first_sector p; len = 4096 * (last_sector p + 1 - first_sector p) }
 
--- the window of a table's partition is that of the partition with that number (RP2350 Datasheet, chapter 5, Bootrom)
+-- the window of a table's partition is that of the partition with that number (RP2350 Datasheet,
+-- chapter 5, Bootrom)
 abbrev pub partition_window : Table → ℕ → Window
-partition_window t i = window_of (part_at t.parts.items i)
+partition_window t i = part_window (part_at t.parts.items i)
 
--- a window is of whole sectors, at least one, stands inside a flash of n sectors, and begins at sector m or behind it (this project's
--- own)
+-- a window is of whole sectors, at least one, stands inside a flash of n sectors, and begins at
+-- sector m or behind it (this project's own)
 pub record IsPlaced (w : Window) (n m : ℕ) : Type 0 where
   pub starts : w.start % 4096 ≡ 0
   pub whole : w.len % 4096 ≡ 0

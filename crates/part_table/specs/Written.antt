@@ -1,89 +1,135 @@
--- The block that is written for a table: the items PARTITION_TABLE, VERSION, HASH_DEF and HASH_VALUE with sizes of one byte, and link 0.
+-- The block that is written for a table: the items PARTITION_TABLE, VERSION, HASH_DEF and
+-- HASH_VALUE with sizes of one byte, and link 0.
 use Rattle.std.specs.Prelude.{◌≡◌, ℕ, ◌+◌, ◌-◌, ◌*◌, ◌/◌, ◌%◌, ◌^◌, List, [], ◌∷◌, ◌++◌, length, replicate, flat_map, is_some, if◌then◌else◌, pos}
-use Rattle.std.specs.Prelude.{Option, None, Some, IfSome, ◌<◌, ◌≤◌, slice_index}
+use Rattle.std.specs.Prelude.{Option, None, Some, Ok, IfSome, true, ◌<◌, ◌≤◌, slice_index}
 use Rattle.std.specs.List.{AllByRecursion}
 use Rattle.arrayvec.specs.ArrayVec.{ArrayVec}
 use Rattle.sha2.specs.Sha256.{sha256}
 use Rattle.block_codec.specs.declared.versions.Version.{Version}
-use Rattle.block_codec.specs.Blocks.{start_word, frame}
-use Rattle.block_codec.specs.Words.{bytes_of, words_of}
+use Rattle.block_codec.specs.Blocks.{BlockView, start_word, frame, front_block}
+use Rattle.block_codec.specs.Words.{bytes_of, words_of, AreWords}
 use Rattle.part_table.specs.declared.partition.Partition.{Partition}
 use Rattle.part_table.specs.declared.table.Table.{Table}
-use Rattle.part_table.specs.Contents.{table_kind, version_kind, hash_def_kind, hash_value_kind}
+use Rattle.block_codec.specs.declared.kinds.TheConstants.{HASH_DEF, HASH_VALUE, PARTITION_TABLE, VERSION}
 use Rattle.part_table.specs.Fields.{has_id, family_count, has_name}
+use Rattle.part_table.specs.TableOf.{has_table, table_of}
 
--- a partition agrees with its flag word where this tells of its id, its extra families and its name (this project's own)
+-- a partition agrees with its flag word where this tells of its id, its extra families and its name
+-- (this project's own)
 pub record AgreesWithFlags (p : Partition) : Type 0 where
   pub id : has_id p.flags ≡ is_some p.id
   pub families : family_count p.flags ≡ length p.families.items
   pub name : has_name p.flags ≡ is_some p.name
 
--- a partition can be written where it agrees with its flag word and its name has bytes, at most 127 (this project's own)
-pub record IsWritable (p : Partition) : Type 0 where
+-- what is written for a partition can be read as it where it agrees with its flag word and its name
+-- has bytes, at most 127 (this project's own)
+pub record IsReadable (p : Partition) : Type 0 where
   pub agrees : AgreesWithFlags p
   pub short : IfSome p.name (λ name. length name.items < 128)
   pub bytes : IfSome p.name (λ name. (i : ℕ) → slice_index name.items i < 256)
+
+-- a partition can be written where besides its words and its id are in their ranges (this project's
+-- own)
+pub record IsWritable (p : Partition) : Type 0 where
+  pub readable : IsReadable p
+  pub location : p.location < 2 ^ 32
+  pub flags : p.flags < 2 ^ 32
+  pub id : IfSome p.id (λ id. id < 2 ^ 64)
+  pub families : AreWords p.families.items
 
 -- an id is written as two words, the low one first (this project's own)
 abbrev pub id_text : Option ℕ → List ℕ
 id_text None = []
 id_text (Some id) = id % 2 ^ 32 ∷ id / 2 ^ 32 ∷ []
 
--- a name is written as its length in one byte, its bytes, and bytes 0 up to a whole word (this project's own)
+-- a name is written as its length in one byte, its bytes, and bytes 0 up to a whole word (this
+-- project's own)
+abbrev pub padded_name : List ℕ → List ℕ
+padded_name name = length name ∷ name ++ replicate (3 - length name % 4) 0
+
+-- a name is written in whole words (this project's own)
 abbrev pub name_text : Option (ArrayVec ℕ) → List ℕ
 name_text None = []
-name_text (Some name) = words_of (length name.items ∷ name.items ++ replicate (3 - length name.items % 4) 0)
+name_text (Some name) = words_of (padded_name name.items)
 
--- a partition is written as its location word, its flag word, its id, its extra families and its name (this project's own)
+-- a partition is written as its location word, its flag word, its id, its extra families and its
+-- name (this project's own)
 abbrev pub partition_text : Partition → List ℕ
 partition_text p = p.location ∷ p.flags ∷ id_text p.id ++ p.families.items ++ name_text p.name
 
--- the header of an item with a size of one byte and no third byte has the type byte, the size and the fourth byte (RP2350 Datasheet,
--- chapter 5, Bootrom)
+-- the header of an item with a size of one byte and no third byte has the type byte, the size and
+-- the fourth byte (RP2350 Datasheet, chapter 5, Bootrom)
 abbrev pub header : ℕ → ℕ → ℕ → ℕ
 header kind size high = kind + 256 * size + 16777216 * high
 
--- the body of the PARTITION_TABLE item is the unpartitioned word and then the partitions (RP2350 Datasheet, chapter 5, Bootrom)
+-- the body of the PARTITION_TABLE item is the unpartitioned word and then the partitions (RP2350
+-- Datasheet, chapter 5, Bootrom)
 abbrev pub table_body : Table → List ℕ
 table_body t = t.unpartitioned ∷ flat_map partition_text t.parts.items
 
--- the PARTITION_TABLE item has in the fourth byte of its header the singleton bit and the number of partitions (RP2350 Datasheet,
--- chapter 5, Bootrom)
+-- the fourth byte of the PARTITION_TABLE item's header has the singleton bit and the number of
+-- partitions (RP2350 Datasheet, chapter 5, Bootrom)
+abbrev pub table_byte : Table → ℕ
+table_byte t = (if t.singleton then 128 else 0) + length t.parts.items
+
+-- the PARTITION_TABLE item is its header, with that byte, and its body (RP2350 Datasheet, chapter 5,
+-- Bootrom)
 abbrev pub table_item : Table → List ℕ
-table_item t =
-    header table_kind (1 + length (table_body t)) ((if t.singleton then 128 else 0) + length t.parts.items) ∷ table_body t
+table_item t = header PARTITION_TABLE (1 + length (table_body t)) (table_byte t) ∷ table_body t
 
--- the VERSION item is written without rows, minor in the low half of its word and major in the high half (this project's own)
+-- the VERSION item is written without rows, minor in the low half of its word and major in the high
+-- half (this project's own)
 abbrev pub version_item : Version → List ℕ
-version_item v = header version_kind 2 0 ∷ (v.minor + 65536 * v.major) ∷ []
+version_item v = header VERSION 2 0 ∷ (v.minor + 65536 * v.major) ∷ []
 
--- the HASH_DEF item counts these words of the block, for SHA-256 (RP2350 Datasheet, chapter 5, Bootrom)
+-- the HASH_DEF item counts these words of the block, for SHA-256 (RP2350 Datasheet, chapter 5,
+-- Bootrom)
 abbrev pub hash_def_item : ℕ → List ℕ
-hash_def_item count = header hash_def_kind 2 1 ∷ count ∷ []
+hash_def_item count = header HASH_DEF 2 1 ∷ count ∷ []
 
--- the words before the HASH_VALUE item are the start word, the table, its version and the HASH_DEF that counts them all (this
--- project's own)
+-- the words before the HASH_VALUE item are the start word, the table, its version and the HASH_DEF
+-- that counts them all (this project's own)
 abbrev pub hashed_items : Table → List ℕ
 hashed_items t = table_item t ++ version_item t.version ++ hash_def_item (length (table_item t) + 5)
 
--- the item words of a table's block are the hashed ones and the HASH_VALUE item with the SHA-256 of these and the start word (this
--- project's own)
+-- the item words of a table's block are the hashed ones and the HASH_VALUE item with the SHA-256 of
+-- these and the start word (this project's own)
 abbrev pub written_items : Table → List ℕ
-written_items t = hashed_items t ++ header hash_value_kind 9 0 ∷ words_of (sha256 (bytes_of (start_word ∷ hashed_items t)))
+written_items t =
+    hashed_items t
+    ++ header HASH_VALUE 9 0 ∷ words_of (sha256 (bytes_of (start_word ∷ hashed_items t)))
 
 -- the block that is written for a table has link 0 (this project's own)
 abbrev pub written : Table → List ℕ
 written t = bytes_of (frame (written_items t) (pos 0))
 
--- the size of that block in bytes counts the table's item, 13 words of the other items and four of the frame (this project's own)
+-- the size of that block in bytes counts the table's item, 13 words of the other items and four of
+-- the frame (this project's own)
 abbrev pub written_size : Table → ℕ
 written_size t = 4 * (length (table_item t) + 17)
 
--- a table can be written where its partitions can, it has at most 15 of them, its version has two halves of a word, and its block has
--- at most 640 bytes (this project's own)
-pub record IsWritableTable (t : Table) : Type 0 where
-  pub parts : AllByRecursion IsWritable t.parts.items
+-- what is written for a table can be read as it where that is so of its partitions, it has at most
+-- 15 of them, its version has two halves of a word, and its block has at most 640 bytes (this
+-- project's own)
+pub record IsReadableTable (t : Table) : Type 0 where
+  pub parts : AllByRecursion IsReadable t.parts.items
   pub few : length t.parts.items ≤ 15
   pub major : t.version.major < 2 ^ 16
   pub minor : t.version.minor < 2 ^ 16
   pub fits : written_size t ≤ 640
+
+-- a table can be written where besides its partitions can and its unpartitioned word is in its
+-- range (this project's own)
+pub record IsWritableTable (t : Table) : Type 0 where
+  pub readable : IsReadableTable t
+  pub parts : AllByRecursion IsWritable t.parts.items
+  pub unpartitioned : t.unpartitioned < 2 ^ 32
+
+-- bytes are read as a table in a flash of n sectors, of which m stand before the first free one,
+-- where a block stands at their front, whatever follows them and wherever they stand, and this
+-- block has that table (this project's own)
+abbrev pub IsReadAs : List ℕ → Table → ℕ → ℕ → Type 0
+IsReadAs bytes t n m =
+    (at : ℕ) (rest : List ℕ)
+    → (b : BlockView) × (front_block at (bytes ++ rest) ≡ Some b) × (has_table b ≡ true)
+    × (table_of b n m ≡ Ok t)

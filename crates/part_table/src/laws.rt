@@ -1,58 +1,87 @@
 //! Laws of the definitions, proved: each is the `ensures` of a function that does nothing.
 
-ghost use Rattle.std.specs.Prelude.{◌+◌, ◌*◌, pos, ◌≡◌, ◌≢◌, ◌<◌, ℕ, List, true, false, length, Option, Some, None, Ok};
+ghost use Rattle.std.specs.Prelude.{◌++◌, pos, ◌≡◌, ◌≢◌, ◌↔◌, ◌<◌, ℕ, List, true, false, length, Option, Some, None, Result, Ok};
 ghost use Rattle.std.specs.List.{AllByRecursion, flat_map};
-ghost use Rattle.block_codec.specs.Blocks.{BlockView};
+ghost use Rattle.block_codec.specs.Blocks.{BlockView, IsBlock, block_at};
 ghost use Rattle.pico_board.specs.Content.{AreApart};
 ghost use Rattle.part_table.specs.declared.partition.Partition.{Partition};
 ghost use Rattle.part_table.specs.declared.table.Table.{Table};
-ghost use Rattle.part_table.specs.Faults.{table_fault, link_fault};
+ghost use Rattle.part_table.specs.declared.table.TableFault.{TableFault};
+ghost use Rattle.part_table.specs.Faults.{table_fault, parts_fault, link_fault};
 ghost use Rattle.part_table.specs.Fields.{link_type, permissions_of};
 ghost use Rattle.part_table.specs.Links.{is_second, is_second_of, owner_of, pair_of};
 ghost use Rattle.part_table.specs.Partitions.{part_at, partitions_in};
+ghost use Rattle.part_table.specs.Rules.{IsFirstFault, HasNoFault, IsReadTo};
 ghost use Rattle.part_table.specs.Rights.{right_word};
-ghost use Rattle.part_table.specs.Sound.{IsSound};
+ghost use Rattle.part_table.specs.Sound.{IsSoundTable};
 ghost use Rattle.part_table.specs.TableOf.{table_of};
-ghost use Rattle.part_table.specs.Written.{IsWritable, IsWritableTable, partition_text, written_items, written_size};
+ghost use Rattle.part_table.specs.Written.{IsReadable, IsWritableTable, IsReadAs, partition_text, written_items, written, written_size};
 ghost use Rattle.part_table.specs.Windows.{IsPlaced, has_sector, partition_window};
 
-/// A table that a block reads as has no fault of its partitions, and is sound for the same number of sectors.
+/// A table that a block reads as has no fault of its partitions, and is sound for the same number
+/// of sectors.
 pub fn read_tables_are_sound()
-    ensures faultless { (b : BlockView) (n m : ℕ) (t : Table) → table_of b n m ≡ Ok t → table_fault t n m ≡ None }
-    ensures sound { (t : Table) (n m : ℕ) → table_fault t n m ≡ None → IsSound t n }
+    ensures faultless { (b : BlockView) (n m : ℕ) (t : Table) → table_of b n m ≡ Ok t
+        → table_fault t n m ≡ None }
+    ensures sound { (t : Table) (n m : ℕ) → table_fault t n m ≡ None → IsSoundTable t n }
 {}
 
-/// Each partition of a table without faults is a window of whole sectors, at least one, inside the flash and behind the sectors
-/// that are not free; and two partitions share no byte.
+/// The first fault of a table's partitions, in each flash, is the one that the rules name, and
+/// there is none exactly where no rule finds one.
+pub fn faults_are_the_first()
+    ensures first { (parts : List Partition) (n m : ℕ) (f : TableFault)
+        → (parts_fault parts n m ≡ Some f) ↔ IsFirstFault parts n m f }
+    ensures none { (parts : List Partition) (n m : ℕ)
+        → (parts_fault parts n m ≡ None) ↔ HasNoFault parts n m }
+{}
+
+/// What a block is read as, in each flash: BadItem where its items say no table, else the first
+/// fault of the partitions, else Hash where its hash is wrong, else the table.
+pub fn answers_are_in_order()
+    ensures { (b : BlockView) (n m : ℕ) (r : Result Table TableFault)
+        → (table_of b n m ≡ r) ↔ IsReadTo b n m r }
+{}
+
+/// Each partition of a table without faults is a window of whole sectors, at least one, inside the
+/// flash and behind the sectors that are not free; and two partitions share no byte.
 pub fn partitions_are_placed()
     ensures placed { (t : Table) (n m : ℕ) → table_fault t n m ≡ None
         → (i : ℕ) → i < length t.parts.items → IsPlaced (partition_window t i) n m }
-    ensures sound { (t : Table) (n : ℕ) → IsSound t n
+    ensures sound { (t : Table) (n : ℕ) → IsSoundTable t n
         → (i : ℕ) → i < length t.parts.items → IsPlaced (partition_window t i) n 0 }
-    ensures apart { (t : Table) (n : ℕ) → IsSound t n
+    ensures apart { (t : Table) (n : ℕ) → IsSoundTable t n
         → (i j : ℕ) → i < length t.parts.items → j < length t.parts.items → i ≢ j
         → AreApart (partition_window t i) (partition_window t j) }
 {}
 
-/// The permissions of each sector of a partition are those of the partition, which has them in both its words.
+/// The permissions of each sector of a partition are those of the partition, which has them in both
+/// its words; those of each other sector are those of the unpartitioned word.
 pub fn sectors_have_one_right()
-    ensures own { (t : Table) (n : ℕ) → IsSound t n
-        → (i sector : ℕ) → i < length t.parts.items → has_sector sector (part_at t.parts.items i) ≡ true
+    ensures own { (t : Table) (n : ℕ) → IsSoundTable t n
+        → (i sector : ℕ) → i < length t.parts.items
+        → has_sector sector (part_at t.parts.items i) ≡ true
         → right_word t sector ≡ (part_at t.parts.items i).location }
-    ensures both { (t : Table) (n : ℕ) → IsSound t n → (i : ℕ) → i < length t.parts.items
-        → permissions_of (part_at t.parts.items i).location ≡ permissions_of (part_at t.parts.items i).flags }
+    ensures both { (t : Table) (n : ℕ) → IsSoundTable t n → (i : ℕ) → i < length t.parts.items
+        → permissions_of (part_at t.parts.items i).location
+        ≡ permissions_of (part_at t.parts.items i).flags }
+    ensures others { (t : Table) (sector : ℕ)
+        → ((i : ℕ) → i < length t.parts.items → has_sector sector (part_at t.parts.items i) ≡ false)
+        → right_word t sector ≡ t.unpartitioned }
 {}
 
-/// The A of a pair is a partition, another one than its B, and no B itself; it has one B, which is the one that is found.
+/// The A of a pair is a partition, another one than its B, and no B itself; it has one B, which is
+/// the one that is found.
 pub fn pairs_are_right()
     ensures first { (parts : List Partition) → link_fault parts ≡ None
         → (a b : ℕ) → b < length parts → is_second_of a (part_at parts b) ≡ true
         → (a < length parts) × (a ≢ b) × (is_second (part_at parts a) ≡ false) }
     ensures one { (parts : List Partition) → link_fault parts ≡ None
         → (a i j : ℕ) → i < length parts → j < length parts
-        → is_second_of a (part_at parts i) ≡ true → is_second_of a (part_at parts j) ≡ true → i ≡ j }
+        → is_second_of a (part_at parts i) ≡ true → is_second_of a (part_at parts j) ≡ true
+        → i ≡ j }
     ensures found { (parts : List Partition) → link_fault parts ≡ None
-        → (a b : ℕ) → b < length parts → is_second_of a (part_at parts b) ≡ true → pair_of parts a ≡ Some b }
+        → (a b : ℕ) → b < length parts → is_second_of a (part_at parts b) ≡ true
+        → pair_of parts a ≡ Some b }
     ensures second { (parts : List Partition) (a b : ℕ) → pair_of parts a ≡ Some b
         → (b < length parts) × (is_second_of a (part_at parts b) ≡ true) }
 {}
@@ -64,16 +93,23 @@ pub fn owners_are_right()
         → (v < length parts) × (v ≢ i) × (link_type (part_at parts v) ≡ 0) }
 {}
 
-/// Partitions that agree with their flag words are read again from the words that are written for them.
+/// Partitions that agree with their flag words are read again from the words that are written for
+/// them.
 pub fn partitions_are_read_back()
-    ensures { (parts : List Partition) → AllByRecursion IsWritable parts
+    ensures { (parts : List Partition) → AllByRecursion IsReadable parts
         → partitions_in (length parts) (flat_map partition_text parts) ≡ Some parts }
 {}
 
-/// The block that is written for a table is read as the same table in each flash for which that has no fault, and has the size that
-/// is told of it.
+/// The bytes that are written for a table, whose words, ids, families and names are in their
+/// ranges, are a block of the size that is told of it. It stands at their front, whatever follows
+/// them, and is read as the same table in each flash for which that has no fault.
 pub fn tables_are_read_back()
-    ensures again { (t : Table) (place n m : ℕ) → IsWritableTable t → table_fault t n m ≡ None
-        → table_of (record { at = place; items = written_items t; link = pos 0 }) n m ≡ Ok t }
-    ensures size { (t : Table) → 4 * length (written_items t) + 16 ≡ written_size t }
+    ensures block { (t : Table) → IsWritableTable t
+        → IsBlock (written t) (written_items t) (pos 0) }
+    ensures stands { (t : Table) (rest : List ℕ) → IsWritableTable t
+        → block_at (written t ++ rest) 0
+        ≡ Some (record { at = 0; items = written_items t; link = pos 0 }) }
+    ensures again { (t : Table) (n m : ℕ) → IsWritableTable t → table_fault t n m ≡ None
+        → IsReadAs (written t) t n m }
+    ensures size { (t : Table) → IsWritableTable t → length (written t) ≡ written_size t }
 {}

@@ -1,6 +1,8 @@
 use crate::Partition;
+use crate::partition::has_bit;
 use arrayvec::ArrayVec;
 use block_codec::Version;
+use pico_board::Window;
 use thiserror::Error;
 
 /// A partition table, as its block says it.
@@ -10,8 +12,9 @@ pub struct Table {
     pub version: Version,
     /// Whether the table says that it is the only one.
     pub singleton: bool,
-    /// The word for the sectors that no partition has: bits 26 to 31 the permissions, as in a location word, and bits 14 to 19 the
-    /// families accepted, of which bit 15 alone, the absolute family, is read.
+    /// The word for the sectors that no partition has: bits 26 to 31 the permissions, as in a
+    /// location word, and bits 14 to 19 the families accepted, of which bit 15 alone, the absolute
+    /// family, is read.
     pub unpartitioned: u32,
     /// The partitions, in the table's order.
     pub parts: ArrayVec<Partition, 15>,
@@ -20,13 +23,15 @@ pub struct Table {
 /// Why a block with a PARTITION_TABLE item is no table: the first that applies, in this order.
 #[derive(Clone, Copy, PartialEq, Eq, Debug, Error)]
 pub enum TableFault {
-    /// An item of the kinds PARTITION_TABLE, VERSION, HASH_DEF, HASH_VALUE stands twice or is wrong.
+    /// An item of the kinds PARTITION_TABLE, VERSION, HASH_DEF, HASH_VALUE stands twice or is
+    /// wrong.
     #[error("a table item stands twice or is wrong")]
     BadItem,
     /// The least partition whose two permission fields differ.
     #[error("the two permission fields of partition {0} differ")]
     Permissions(u32),
-    /// The least partition whose sectors are none, stand below the first free sector, or leave the flash.
+    /// The least partition whose sectors are none, stand below the first free sector, or leave the
+    /// flash.
     #[error("the sectors of partition {0} are out of range")]
     Range(u32),
     /// The least partition that shares a sector with a later one, and the least such one.
@@ -40,7 +45,8 @@ pub enum TableFault {
     Hash,
 }
 
-/// A right to a sector of the flash, as the bootloader permissions of its partition, or of the unpartitioned word, give it.
+/// A right to a sector of the flash, as the bootloader permissions of its partition, or of the
+/// unpartitioned word, give it.
 #[derive(Clone, Copy, PartialEq, Eq, Debug)]
 pub enum Right {
     /// Bootloader read, bit 30.
@@ -58,4 +64,78 @@ pub enum TableWriteFault {
     /// There was no memory for the block.
     #[error("out of memory")]
     Memory,
+}
+
+impl Table {
+    ghost use Rattle.std.specs.Prelude.{◌≡◌, ◌+◌, ◌<◌, ◌≤◌, ◌^◌, length, None};
+    ghost use Rattle.part_table.specs.Families.{accepts, accepts_absolute};
+    ghost use Rattle.part_table.specs.Faults.{permissions_fault, overlap_fault};
+    ghost use Rattle.part_table.specs.Fields.{first_sector, last_sector};
+    ghost use Rattle.part_table.specs.Partitions.{part_at};
+    ghost use Rattle.part_table.specs.Rights.{allowed, right_word, right_bit};
+    ghost use Rattle.part_table.specs.Windows.{has_sector, partition_window};
+
+    /// The window of partition i: its first to its last sector.
+    pub fn window(&self, i: u32) -> Window
+        requires part { i < length self.now.parts.items }
+        requires some { first_sector (part_at self.now.parts.items i) ≤ last_sector
+            (part_at self.now.parts.items i) }
+        ensures value { result ≡ partition_window self.now i }
+        ensures near { result.start + result.len ≤ 2 ^ 25 }
+    {
+        self.parts.as_slice()[i as usize].window()
+    }
+
+    /// Whether partition i accepts the family, by the family's bit or among its extra families.
+    pub fn accepts(&self, i: u32, family: u32) -> bool
+        requires { i < length self.now.parts.items }
+        ensures { result ≡ accepts (part_at self.now.parts.items i) family }
+    {
+        self.parts.as_slice()[i as usize].accepts(family)
+    }
+
+    /// Whether the table accepts the absolute family: bit 15 of its unpartitioned word.
+    pub fn accepts_absolute(&self) -> bool
+        ensures { result ≡ accepts_absolute self.now }
+    {
+        has_bit(self.unpartitioned, 15)
+    }
+
+    /// The word with the permissions of a sector: its partition's location word, or the
+    /// unpartitioned word where it is in no partition.
+    fn right_word(&self, sector: u32) -> u32
+        ensures { result ≡ right_word self.now sector }
+    {
+        for part in self.parts.as_slice() {
+            if part.has_sector(sector) {
+                return part.location;
+            }
+        }
+        self.unpartitioned
+    }
+
+    /// Whether a sector has a right.
+    pub fn allowed(&self, sector: u32, right: Right) -> bool
+        requires permissions { permissions_fault self.now.parts.items ≡ None }
+        requires overlap { overlap_fault self.now.parts.items ≡ None }
+        ensures { result ≡ allowed self.now sector right }
+    {
+        has_bit(self.right_word(sector), right.bit())
+    }
+}
+
+impl Right {
+    ghost use Rattle.std.specs.Prelude.{◌≡◌, ◌<◌};
+    ghost use Rattle.part_table.specs.Rights.{right_bit};
+
+    /// The bit of a word with permissions that gives the right.
+    fn bit(&self) -> u32
+        ensures value { result ≡ right_bit self.now }
+        ensures small { result < 32 }
+    {
+        match self {
+            Right::BootRead => 30,
+            Right::BootWrite => 31,
+        }
+    }
 }

@@ -7,6 +7,7 @@ pub struct Target {
     pub window: Window,
     /// Whether the window's first sector is held back until the download is whole.
     pub gated: bool,
-    /// Whether the machine stays as it is after the download, as flag bit 13 of the target's partition says.
+    /// Whether the machine stays as it is after the download, as flag bit 13 of the target's
+    /// partition says.
     pub stay: bool,
 }

@@ -12,7 +12,7 @@ use Rattle.part_table.specs.Families.{absolute_family, accepts, accepts_absolute
 use Rattle.part_table.specs.Fields.{is_ignored}
 use Rattle.part_table.specs.Links.{is_second, is_owned}
 use Rattle.part_table.specs.Partitions.{part_at}
-use Rattle.part_table.specs.Sound.{IsSound}
+use Rattle.part_table.specs.Sound.{IsSoundTable}
 use Rattle.part_table.specs.Windows.{IsPlaced}
 use Rattle.part_table.proofs.TableFacts.{partition_placed, sound_placed}
 use Rattle.part_table.proofs.TestFacts.{mapped_some, all_of_three, not_true, found_place}
@@ -52,7 +52,7 @@ boot_unit t n z cpu k u at =
     )
 
 -- the members of two boot units of a table stand apart
-pub boot_units_apart : (t : Table) (s n z : ℕ) (cpu : Cpu) → IsSound t s → (j k : ℕ) (u v : SlotUnit) → j ≢ k
+pub boot_units_apart : (t : Table) (s n z : ℕ) (cpu : Cpu) → IsSoundTable t s → (j k : ℕ) (u v : SlotUnit) → j ≢ k
     → slice_get (units (Some t) n z cpu) j ≡ Some u → slice_get (units (Some t) n z cpu) k ≡ Some v
     → (w x : Window) → IsMember u w → IsMember v x → AreApart w x
 boot_units_apart t s n z cpu sound j k u v differ one two w x in_u in_v =
@@ -63,7 +63,7 @@ boot_units_apart t s n z cpu sound j k u v differ one two w x in_u in_v =
     w x (subst (λ y. IsMember y w) a.1.unit in_u) (subst (λ y. IsMember y x) b.1.unit in_v)
 
 -- the two members of a boot unit of a table stand apart
-pub boot_pair_apart : (t : Table) (s n z : ℕ) (cpu : Cpu) → IsSound t s → (k : ℕ) (u : SlotUnit)
+pub boot_pair_apart : (t : Table) (s n z : ℕ) (cpu : Cpu) → IsSoundTable t s → (k : ℕ) (u : SlotUnit)
     → slice_get (units (Some t) n z cpu) k ≡ Some u → (w : Window) → u.b ≡ Some w → AreApart u.a w
 boot_pair_apart t s n z cpu sound k u at w pair =
     let a : (i : ℕ) × IsBootUnit t.parts.items cpu k u i = boot_unit t n z cpu k u at in
@@ -76,7 +76,7 @@ boot_members_placed t s m n z cpu none k u at w member =
     let a : (i : ℕ) × IsBootUnit t.parts.items cpu k u i = boot_unit t n z cpu k u at in
     member_placed t s m (partition_placed t s m none) a.0 a.1.within w (subst (λ y. IsMember y w) a.1.unit member)
 
-pub sound_members_placed : (t : Table) (s n z : ℕ) (cpu : Cpu) → IsSound t s → (k : ℕ) (u : SlotUnit)
+pub sound_members_placed : (t : Table) (s n z : ℕ) (cpu : Cpu) → IsSoundTable t s → (k : ℕ) (u : SlotUnit)
     → slice_get (units (Some t) n z cpu) k ≡ Some u → (w : Window) → IsMember u w → IsPlaced w s 0
 sound_members_placed t s n z cpu sound k u at w member =
     let a : (i : ℕ) × IsBootUnit t.parts.items cpu k u i = boot_unit t n z cpu k u at in
@@ -122,7 +122,7 @@ load_unit_part t n z family u i at part =
     same_part parts k v l is part_is = let numbers : Some k ≡ Some l = ap (λ (y : SlotUnit). y.a_part) (sym is) ∙ part_is in cc
 
 -- the members of an owned load unit stand apart from those of every boot unit
-pub owned_unit_apart : (t : Table) (s n z family : ℕ) (cpu : Cpu) → IsSound t s → (k : ℕ) (u v : SlotUnit) (i : ℕ)
+pub owned_unit_apart : (t : Table) (s n z family : ℕ) (cpu : Cpu) → IsSoundTable t s → (k : ℕ) (u v : SlotUnit) (i : ℕ)
     → load_unit (Some t) n z family ≡ Some u → u.a_part ≡ Some i → is_owned (part_at t.parts.items i) ≡ true
     → slice_get (units (Some t) n z cpu) k ≡ Some v → (w x : Window) → IsMember u w → IsMember v x → AreApart w x
 owned_unit_apart t s n z family cpu sound k u v i loaded part owned at w x in_u in_v =
@@ -133,7 +133,7 @@ owned_unit_apart t s n z family cpu sound k u v i loaded part owned at w x in_u 
     w x (subst (λ y. IsMember y w) a.unit in_u) (subst (λ y. IsMember y x) b.1.unit in_v)
 
 -- the members of a load unit that names a partition stand where partitions stand
-pub load_members_placed : (t : Table) (s n z family : ℕ) → IsSound t s → (u : SlotUnit) (i : ℕ)
+pub load_members_placed : (t : Table) (s n z family : ℕ) → IsSoundTable t s → (u : SlotUnit) (i : ℕ)
     → load_unit (Some t) n z family ≡ Some u → u.a_part ≡ Some i → (w : Window) → IsMember u w → IsPlaced w s 0
 load_members_placed t s n z family sound u i loaded part w member =
     let a : IsLoadUnit t.parts.items family u i = load_unit_part t n z family u i loaded part in

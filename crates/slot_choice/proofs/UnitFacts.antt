@@ -8,8 +8,8 @@ use Rattle.part_table.specs.declared.partition.Partition.{Partition}
 use Rattle.part_table.specs.declared.table.Table.{Table}
 use Rattle.part_table.specs.Links.{is_second, is_second_of, pair_of}
 use Rattle.part_table.specs.Partitions.{part_at}
-use Rattle.part_table.specs.Sound.{IsSound}
-use Rattle.part_table.specs.Windows.{IsPlaced, partition_window, window_of}
+use Rattle.part_table.specs.Sound.{IsSoundTable}
+use Rattle.part_table.specs.Windows.{IsPlaced, partition_window, part_window}
 use Rattle.part_table.proofs.TestFacts.{mapped_some, both_of_two}
 use Rattle.part_table.proofs.LinkFacts.{second_found, first_of_pair}
 use Rattle.part_table.proofs.TableFacts.{partitions_apart}
@@ -21,10 +21,10 @@ Belongs parts i e = (e ≡ i) ⊎ (pair_of parts i ≡ Some e)
 
 -- a member of a partition's unit is the window of a partition that belongs to it
 pub member_part : (parts : List Partition) (i : ℕ) (w : Window) → IsMember (unit_of parts i) w
-    → (e : ℕ) × Belongs parts i e × (w ≡ window_of (part_at parts e))
+    → (e : ℕ) × Belongs parts i e × (w ≡ part_window (part_at parts e))
 member_part parts i w (inl a) = (i, inl refl, a)
 member_part parts i w (inr b) =
-    let found : (e : ℕ) × (pair_of parts i ≡ Some e) × (w ≡ window_of (part_at parts e)) = mapped_some (λ j. window_of (part_at parts j)) (pair_of parts i) w b in
+    let found : (e : ℕ) × (pair_of parts i ≡ Some e) × (w ≡ part_window (part_at parts e)) = mapped_some (λ j. part_window (part_at parts j)) (pair_of parts i) w b in
     (found.0, inr found.1, found.2)
 
 -- a B's link, from the B that its A has
@@ -56,14 +56,14 @@ belongs_apart parts i j e f i_first j_first differ (inr one) (inr two) = λ same
     let of_j : link_value (part_at parts f) ≡ j = (second_is parts j f two).2 in
     differ (sym of_i ∙ ap (λ k. link_value (part_at parts k)) same ∙ of_j)
 
-module _ (t : Table) (n : ℕ) (sound : IsSound t n) where
+module _ (t : Table) (n : ℕ) (sound : IsSoundTable t n) where
   -- the members of the units of two partitions that are no B stand apart
   pub units_apart : (i j : ℕ) → i < length t.parts.items → j < length t.parts.items
       → is_second (part_at t.parts.items i) ≡ false → is_second (part_at t.parts.items j) ≡ false → i ≢ j
       → (v w : Window) → IsMember (unit_of t.parts.items i) v → IsMember (unit_of t.parts.items j) w → AreApart v w
   units_apart i j i_lt j_lt i_first j_first differ v w one two =
-      let of_v : (e : ℕ) × Belongs t.parts.items i e × (v ≡ window_of (part_at t.parts.items e)) = member_part t.parts.items i v one in
-      let of_w : (f : ℕ) × Belongs t.parts.items j f × (w ≡ window_of (part_at t.parts.items f)) = member_part t.parts.items j w two in
+      let of_v : (e : ℕ) × Belongs t.parts.items i e × (v ≡ part_window (part_at t.parts.items e)) = member_part t.parts.items i v one in
+      let of_w : (f : ℕ) × Belongs t.parts.items j f × (w ≡ part_window (part_at t.parts.items f)) = member_part t.parts.items j w two in
       let apart : AreApart (partition_window t of_v.0) (partition_window t of_w.0) =
       partitions_apart t n sound of_v.0 of_w.0 (belongs_within t.parts.items i of_v.0 i_lt of_v.1) (belongs_within t.parts.items j of_w.0 j_lt of_w.1)
       (belongs_apart t.parts.items i j of_v.0 of_w.0 i_first j_first differ of_v.1 of_w.1) in
@@ -72,7 +72,7 @@ module _ (t : Table) (n : ℕ) (sound : IsSound t n) where
   -- the two members of a pair stand apart
   pub pair_apart : (i : ℕ) → i < length t.parts.items → (w : Window) → (unit_of t.parts.items i).b ≡ Some w → AreApart (unit_of t.parts.items i).a w
   pair_apart i lt w at =
-      let found : (e : ℕ) × (pair_of t.parts.items i ≡ Some e) × (w ≡ window_of (part_at t.parts.items e)) = mapped_some (λ j. window_of (part_at t.parts.items j)) (pair_of t.parts.items i) w at in
+      let found : (e : ℕ) × (pair_of t.parts.items i ≡ Some e) × (w ≡ part_window (part_at t.parts.items e)) = mapped_some (λ j. part_window (part_at t.parts.items j)) (pair_of t.parts.items i) w at in
       let second : (found.0 < length t.parts.items) × (is_second_of i (part_at t.parts.items found.0) ≡ true) = second_found t.parts.items i found.0 found.1 in
       let first : _ = first_of_pair t.parts.items sound.links i found.0 second.0 second.1 in
       subst (λ x. AreApart (partition_window t i) x) (sym found.2) (partitions_apart t n sound i found.0 lt second.0 first.1)
@@ -81,5 +81,5 @@ module _ (t : Table) (n : ℕ) (sound : IsSound t n) where
 pub member_placed : (t : Table) (n m : ℕ) → ((e : ℕ) → e < length t.parts.items → IsPlaced (partition_window t e) n m)
     → (i : ℕ) → i < length t.parts.items → (w : Window) → IsMember (unit_of t.parts.items i) w → IsPlaced w n m
 member_placed t n m placed i lt w member =
-    let of_w : (e : ℕ) × Belongs t.parts.items i e × (w ≡ window_of (part_at t.parts.items e)) = member_part t.parts.items i w member in
+    let of_w : (e : ℕ) × Belongs t.parts.items i e × (w ≡ part_window (part_at t.parts.items e)) = member_part t.parts.items i w member in
     subst (λ x. IsPlaced x n m) (sym of_w.2) (placed of_w.0 (belongs_within t.parts.items i of_w.0 lt of_w.1))

@@ -9,7 +9,7 @@ use Rattle.part_table.specs.declared.table.Table.{Table}
 use Rattle.part_table.specs.Fields.{is_ignored}
 use Rattle.part_table.specs.Links.{is_second, is_owned, pair_of}
 use Rattle.part_table.specs.Partitions.{part_at}
-use Rattle.part_table.specs.Windows.{window_of}
+use Rattle.part_table.specs.Windows.{part_window}
 use Rattle.slot_choice.specs.declared.unit.SlotUnit.{SlotUnit}
 use Rattle.slot_choice.specs.declared.unit.Member.{Member}
 use Rattle.slot_choice.specs.declared.unit.Member.TheVariants.{A, B}
@@ -27,8 +27,8 @@ begins_boot_unit cpu p = not (is_second p) && not (is_owned p) && not (is_ignore
 -- Bootrom)
 abbrev pub unit_of : List Partition → ℕ → SlotUnit
 unit_of parts i = record {
-  a = window_of (part_at parts i);
-  b = option_map (λ j. window_of (part_at parts j)) (pair_of parts i);
+  a = part_window (part_at parts i);
+  b = option_map (λ j. part_window (part_at parts j)) (pair_of parts i);
   a_part = Some i;
   b_part = pair_of parts i;
 }

@@ -5,7 +5,7 @@ ghost use Rattle.block_codec.specs.declared.versions.Version.{Version};
 ghost use Rattle.part_table.specs.Faults.{table_fault};
 ghost use Rattle.part_table.specs.Links.{is_owned};
 ghost use Rattle.part_table.specs.Partitions.{part_at};
-ghost use Rattle.part_table.specs.Sound.{IsSound};
+ghost use Rattle.part_table.specs.Sound.{IsSoundTable};
 ghost use Rattle.part_table.specs.Windows.{IsPlaced};
 ghost use Rattle.part_table.specs.declared.table.Table.{Table};
 ghost use Rattle.pico_board.specs.Content.{AreApart};
@@ -20,11 +20,11 @@ ghost use Rattle.slot_choice.specs.declared.unit.SlotUnit.{SlotUnit};
 
 /// The members of the boot units of a sound table share no byte: those of two units, and the two of a pair.
 pub fn boot_units_stand_apart()
-    ensures units { (t : Table) (s n z : ℕ) (cpu : Cpu) → IsSound t s
+    ensures units { (t : Table) (s n z : ℕ) (cpu : Cpu) → IsSoundTable t s
         → (j k : ℕ) (u v : SlotUnit) → j ≢ k
         → slice_get (units (Some t) n z cpu) j ≡ Some u → slice_get (units (Some t) n z cpu) k ≡ Some v
         → (w x : Window) → IsMember u w → IsMember v x → AreApart w x }
-    ensures pair { (t : Table) (s n z : ℕ) (cpu : Cpu) → IsSound t s
+    ensures pair { (t : Table) (s n z : ℕ) (cpu : Cpu) → IsSoundTable t s
         → (k : ℕ) (u : SlotUnit) → slice_get (units (Some t) n z cpu) k ≡ Some u
         → (w : Window) → u.b ≡ Some w → AreApart u.a w }
     ensures slots { (n z : ℕ) (w : Window) → (tableless_unit n z).b ≡ Some w → AreApart (tableless_unit n z).a w }
@@ -36,7 +36,7 @@ pub fn boot_units_are_placed()
     ensures faultless { (t : Table) (s m n z : ℕ) (cpu : Cpu) → table_fault t s m ≡ None
         → (k : ℕ) (u : SlotUnit) → slice_get (units (Some t) n z cpu) k ≡ Some u
         → (w : Window) → IsMember u w → IsPlaced w s m }
-    ensures sound { (t : Table) (s n z : ℕ) (cpu : Cpu) → IsSound t s
+    ensures sound { (t : Table) (s n z : ℕ) (cpu : Cpu) → IsSoundTable t s
         → (k : ℕ) (u : SlotUnit) → slice_get (units (Some t) n z cpu) k ≡ Some u
         → (w : Window) → IsMember u w → IsPlaced w s 0 }
     ensures tableless { (s z : ℕ) → 1 ≤ s → z % 4096 ≡ 0 → (4096 < z → 2 * z ≤ 4096 * s)
@@ -48,10 +48,10 @@ pub fn boot_units_are_placed()
 /// The members of a load unit of partitions of a sound table stand inside the flash, and those of one whose A has an owner share no byte with any
 /// boot unit.
 pub fn load_units_are_placed()
-    ensures placed { (t : Table) (s n z family : ℕ) → IsSound t s
+    ensures placed { (t : Table) (s n z family : ℕ) → IsSoundTable t s
         → (u : SlotUnit) (i : ℕ) → load_unit (Some t) n z family ≡ Some u → u.a_part ≡ Some i
         → (w : Window) → IsMember u w → IsPlaced w s 0 }
-    ensures owned { (t : Table) (s n z family : ℕ) (cpu : Cpu) → IsSound t s
+    ensures owned { (t : Table) (s n z family : ℕ) (cpu : Cpu) → IsSoundTable t s
         → (k : ℕ) (u v : SlotUnit) (i : ℕ) → load_unit (Some t) n z family ≡ Some u → u.a_part ≡ Some i
         → is_owned (part_at t.parts.items i) ≡ true → slice_get (units (Some t) n z cpu) k ≡ Some v
         → (w x : Window) → IsMember u w → IsMember v x → AreApart w x }

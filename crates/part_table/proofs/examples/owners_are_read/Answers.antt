@@ -12,10 +12,14 @@ pub returns-clause-owner : goal.returns-clause-owner
 unfolding frame size_of
 returns-clause-owner c = refl
 
+pub returns-clause-none : goal.returns-clause-none
+unfolding frame size_of
+returns-clause-none c = refl
+
 pub returns-clause-pair : goal.returns-clause-pair
 unfolding frame size_of
 returns-clause-pair c = refl
 
-pub returns-clause-data : goal.returns-clause-data
+pub returns-clause-of_data : goal.returns-clause-of_data
 unfolding frame size_of
-returns-clause-data c = refl
+returns-clause-of_data c = refl

@@ -10,13 +10,29 @@ unfolding frame size_of word_bytes
 returns-clause-table c = refl
 
 pub returns-clause-extra : goal.returns-clause-extra
-unfolding frame size_of
+unfolding frame size_of word_bytes
 returns-clause-extra c = refl
 
 pub returns-clause-none : goal.returns-clause-none
-unfolding frame size_of
+unfolding frame size_of word_bytes
 returns-clause-none c = refl
 
-pub returns-clause-absolute : goal.returns-clause-absolute
-unfolding frame size_of
-returns-clause-absolute c = refl
+pub returns-clause-other : goal.returns-clause-other
+unfolding frame size_of word_bytes
+returns-clause-other c = refl
+
+pub returns-clause-id : goal.returns-clause-id
+unfolding frame size_of word_bytes
+returns-clause-id c = refl
+
+pub returns-clause-families : goal.returns-clause-families
+unfolding frame size_of word_bytes
+returns-clause-families c = refl
+
+pub returns-clause-short : goal.returns-clause-short
+unfolding frame size_of word_bytes
+returns-clause-short c = refl
+
+pub returns-clause-name : goal.returns-clause-name
+unfolding frame size_of word_bytes
+returns-clause-name c = refl

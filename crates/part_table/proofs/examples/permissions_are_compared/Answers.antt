@@ -4,10 +4,18 @@ use Rattle.block_codec.specs.Blocks.{frame}
 use Rattle.block_codec.specs.Items.{size_of}
 use Rattle.part_table.proofs.examples.permissions_are_compared.Goals as goal
 
-pub returns-clause-first : goal.returns-clause-first
+pub returns-clause-highest : goal.returns-clause-highest
 unfolding frame size_of
-returns-clause-first c = refl
+returns-clause-highest c = refl
 
-pub returns-clause-second : goal.returns-clause-second
+pub returns-clause-lowest : goal.returns-clause-lowest
 unfolding frame size_of
-returns-clause-second c = refl
+returns-clause-lowest c = refl
+
+pub returns-clause-least : goal.returns-clause-least
+unfolding frame size_of
+returns-clause-least c = refl
+
+pub returns-clause-below : goal.returns-clause-below
+unfolding frame size_of
+returns-clause-below c = refl

@@ -12,6 +12,18 @@ pub returns-clause-last : goal.returns-clause-last
 unfolding frame size_of
 returns-clause-last c = refl
 
+pub returns-clause-full : goal.returns-clause-full
+unfolding frame size_of
+returns-clause-full c = refl
+
 pub returns-clause-order : goal.returns-clause-order
 unfolding frame size_of
 returns-clause-order c = refl
+
+pub returns-clause-one : goal.returns-clause-one
+unfolding frame size_of
+returns-clause-one c = refl
+
+pub returns-clause-least : goal.returns-clause-least
+unfolding frame size_of
+returns-clause-least c = refl

@@ -7,6 +7,10 @@ pub returns-clause-items : goal.returns-clause-items
 unfolding word_of
 returns-clause-items c = refl
 
+pub returns-clause-version : goal.returns-clause-version
+unfolding word_of
+returns-clause-version c = refl
+
 pub returns-clause-size : goal.returns-clause-size
 unfolding word_of
 returns-clause-size c = refl

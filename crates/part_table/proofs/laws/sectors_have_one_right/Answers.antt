@@ -1,5 +1,5 @@
 -- By the lemmas on tables.
-use Rattle.part_table.proofs.TableFacts.{partition_right, permissions_of_both}
+use Rattle.part_table.proofs.TableFacts.{partition_right, permissions_of_both, other_right}
 use Rattle.part_table.proofs.laws.sectors_have_one_right.Goals as goal
 
 pub returns-clause-own : goal.returns-clause-own
@@ -7,3 +7,6 @@ returns-clause-own c = partition_right
 
 pub returns-clause-both : goal.returns-clause-both
 returns-clause-both c = permissions_of_both
+
+pub returns-clause-others : goal.returns-clause-others
+returns-clause-others c = other_right

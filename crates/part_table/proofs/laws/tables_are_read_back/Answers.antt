@@ -1,9 +1,15 @@
 -- By the lemmas on written tables.
-use Rattle.part_table.proofs.RoundTrip.{size_written, table_back}
+use Rattle.part_table.proofs.BlockFacts.{is_block, stands, read_again, size_told}
 use Rattle.part_table.proofs.laws.tables_are_read_back.Goals as goal
 
+pub returns-clause-block : goal.returns-clause-block
+returns-clause-block c = is_block
+
+pub returns-clause-stands : goal.returns-clause-stands
+returns-clause-stands c = stands
+
 pub returns-clause-again : goal.returns-clause-again
-returns-clause-again c = table_back
+returns-clause-again c = read_again
 
 pub returns-clause-size : goal.returns-clause-size
-returns-clause-size c = size_written
+returns-clause-size c = size_told
