@@ -1,30 +1,25 @@
--- What an answer without a fault says of its parts, and the other way round.
+-- How answers that may be faults follow one another.
 use Rattle.std.proofs.Common.{◌≡◌, Option, Some, None, Result, Ok, Err, refl}
-use Rattle.image_check.specs.Answers.{and_then, and_unless, fault_as, or_fault}
+use Rattle.image_check.specs.Answers.{and_then, and_unless, fault_as}
 
--- the parts of an answer after another one
-pub and_then-ok : {A B F : Type 0} (r : Result A F) (f : A → Result B F) (y : B) → and_then r f ≡ Ok y → (x : A) × (r ≡ Ok x) × (f x ≡ Ok y)
-and_then-ok (Ok x) f y h = (x, refl, h)
-and_then-ok (Err e) f y h = cc
-
-pub ok-and_then : {A B F : Type 0} (r : Result A F) (f : A → Result B F) (x : A) (y : B) → r ≡ Ok x → f x ≡ Ok y → and_then r f ≡ Ok y
+-- after a value the rest decides
+pub ok-and_then : {A B F : Type 0} (r : Result A F) (f : A → Result B F) (x : A) (y : Result B F) → r ≡ Ok x → f x ≡ y → and_then r f ≡ y
 ok-and_then r f x y found next = rw found next
 
--- the parts of an answer after a rule
-pub and_unless-ok : {B F : Type 0} (o : Option F) (r : Result B F) (y : B) → and_unless o r ≡ Ok y → (o ≡ None) × (r ≡ Ok y)
-and_unless-ok None r y h = (refl, h)
-and_unless-ok (Some e) r y h = cc
+-- a fault decides
+pub err-and_then : {A B F : Type 0} (r : Result A F) (f : A → Result B F) (e : F) → r ≡ Err e → and_then r f ≡ Err e
+err-and_then r f e h = rw h refl
 
-pub ok-and_unless : {B F : Type 0} (o : Option F) (r : Result B F) (y : B) → o ≡ None → r ≡ Ok y → and_unless o r ≡ Ok y
+-- after a rule that holds the rest decides
+pub ok-and_unless : {B F : Type 0} (o : Option F) (r y : Result B F) → o ≡ None → r ≡ y → and_unless o r ≡ y
 ok-and_unless o r y holds next = rw holds next
 
-pub fault_as-ok : {A F G : Type 0} (name : F → G) (r : Result A F) (x : A) → fault_as name r ≡ Ok x → r ≡ Ok x
-fault_as-ok name (Ok x) y h = cc
-fault_as-ok name (Err e) y h = cc
+-- a rule that fails decides
+pub err-and_unless : {B F : Type 0} (o : Option F) (r : Result B F) (e : F) → o ≡ Some e → and_unless o r ≡ Err e
+err-and_unless o r e h = rw h refl
 
 pub ok-fault_as : {A F G : Type 0} (name : F → G) (r : Result A F) (x : A) → r ≡ Ok x → fault_as name r ≡ Ok x
 ok-fault_as name r x h = rw h refl
 
-pub or_fault-ok : {A F : Type 0} (o : Option A) (e : F) (x : A) → or_fault o e ≡ Ok x → o ≡ Some x
-or_fault-ok (Some y) e x h = cc
-or_fault-ok None e x h = cc
+pub err-fault_as : {A F G : Type 0} (name : F → G) (r : Result A F) (e : F) → r ≡ Err e → fault_as name r ≡ Err (name e)
+err-fault_as name r e h = rw h refl

@@ -1,118 +1,103 @@
 -- The laws of valid images.
-use Rattle.std.proofs.Common.{subst, ◌≡◌, ◌⊎◌, ℕ, ◌≤◌, nat_lt, IfSome, [], ◌∷◌, Bool, true, false, List, Result, Ok, Err, Option, Some, None, slice_index, not, ◌&&◌, if◌then◌else◌, refl, sym, ◌∙◌, ap, inl, inr}
+use Rattle.std.proofs.Common.{◌≡◌, ◌↔◌, ◌⊎◌, ℕ, Bool, true, false, List, Result, Ok, Err, slice_index, refl, sym, ◌∙◌, ap, subst, inl, inr}
 use Rattle.pico_board.specs.declared.boot.Cpu.{Cpu}
 use Rattle.pico_board.specs.declared.window.Window.{Window}
 use Rattle.pico_board.specs.Content.{Content, window_bytes}
-use Rattle.block_codec.specs.Blocks.{BlockView}
-use Rattle.block_codec.specs.declared.definition.Def.{Def}
-use Rattle.block_loop.specs.Loop.{loop_of, IsLoop}
-use Rattle.block_loop.proofs.ChainLemmas.{Says, loop_of-says, loop_of-loop}
 use Rattle.image_def.specs.declared.started.Started.{Started}
-use Rattle.image_def.specs.Flags.{is_trial}
+use Rattle.image_check.specs.declared.addressing.Addressing.{Addressing}
 use Rattle.image_check.specs.declared.why.Why.{Why}
-use Rattle.image_check.specs.declared.why.Why.TheVariants.{Trial, Below}
-use Rattle.image_check.specs.Rules.{trial_fault, required_fault, below_fault}
+use Rattle.image_check.specs.Addressing.{in_flash}
+use Rattle.image_check.specs.Image.{image_at, image_in, started_of}
 use Rattle.image_check.specs.NotBelow.{NotBelow}
-use Rattle.otp_roll.specs.Rows.{count}
-use Rattle.otp_roll.specs.Flags.{rollback_required}
-use Rattle.std.specs.Option.{option_or}
-use Rattle.std.proofs.lemmas.Bool.{ltb-false}
-use Rattle.pico_board.specs.Content.{flash_base}
-use Rattle.image_check.specs.Valid.{Valid, WhyNot, image_at, IsValidImage, image_in}
-use Rattle.image_check.specs.SameImage.{SameImage}
-use Rattle.image_check.proofs.ValidLemmas.{valid-ok, ok-valid}
+use Rattle.image_check.specs.SameImage.{Holds, SameImage}
+use Rattle.image_check.specs.Valid.{IsValidImage, Valid}
+use Rattle.image_check.specs.WhyNot.{IsWhyNot}
+use Rattle.image_check.proofs.AnsweredLemmas.{valid-answered, why-answered}
+use Rattle.image_check.proofs.JudgedLemmas.{SaysImage, image-says}
 
-is_loop : (w : List ℕ) (bs : List BlockView) → loop_of w ≡ Ok bs → IsLoop w bs
-is_loop w bs h = subst (Says w) h (loop_of-says w)
+module _ (a : Addressing) (w : Window) (cpu : Cpu) (trial : Bool) (otp bytes : List ℕ) where
+  -- what is answered is a valid image, or the answer of the first rule that fails
+  pub answered-valid : (s : Started) → image_in a w cpu trial otp bytes ≡ Ok s → IsValidImage a w cpu trial otp bytes s
+  answered-valid s is = subst (SaysImage a cpu trial otp bytes w) is (image-says a cpu trial otp bytes w)
 
--- a valid image is an answer without a fault, and the other way round
-pub image-valid : (base : ℕ) (in_place : Bool) (w : Window) (cpu : Cpu) (trial : Bool) (otp bytes : List ℕ) (s : Started)
-    → image_in base in_place w cpu trial otp bytes ≡ Ok s → IsValidImage base in_place w cpu trial otp bytes s
-image-valid base in_place w cpu trial otp bytes s h = valid-ok is_loop loop_of-loop base in_place w cpu trial otp bytes s h
+  pub answered-why : (y : Why) → image_in a w cpu trial otp bytes ≡ Err y → IsWhyNot a cpu trial otp bytes y
+  answered-why y is = subst (SaysImage a cpu trial otp bytes w) is (image-says a cpu trial otp bytes w)
 
-pub valid-image : (base : ℕ) (in_place : Bool) (w : Window) (cpu : Cpu) (trial : Bool) (otp bytes : List ℕ) (s : Started)
-    → IsValidImage base in_place w cpu trial otp bytes s → image_in base in_place w cpu trial otp bytes ≡ Ok s
-valid-image base in_place w cpu trial otp bytes s v = ok-valid is_loop loop_of-loop base in_place w cpu trial otp bytes s v
+  pub valid-exactly : (s : Started) → IsValidImage a w cpu trial otp bytes s ↔ (image_in a w cpu trial otp bytes ≡ Ok s)
+  valid-exactly s = (valid-answered cpu bytes a w trial otp s, answered-valid s)
 
--- the same of a window of a flash
-pub valid-at : (c : Content) (w : Window) (cpu : Cpu) (trial : Bool) (s : Started) → image_at c w cpu trial ≡ Ok s → Valid c w cpu trial s
-valid-at c w cpu trial s h = image-valid flash_base false w cpu trial c.otp (window_bytes c w) s h
+  pub why-exactly : (y : Why) → IsWhyNot a cpu trial otp bytes y ↔ (image_in a w cpu trial otp bytes ≡ Err y)
+  why-exactly y = (why-answered cpu bytes a w trial otp y, answered-why y)
 
-pub at-valid : (c : Content) (w : Window) (cpu : Cpu) (trial : Bool) (s : Started) → Valid c w cpu trial s → image_at c w cpu trial ≡ Ok s
-at-valid c w cpu trial s v = valid-image flash_base false w cpu trial c.otp (window_bytes c w) s v
+  pub some-answer : ((s : Started) × IsValidImage a w cpu trial otp bytes s) ⊎ ((y : Why) × IsWhyNot a cpu trial otp bytes y)
+  some-answer = go (image_in a w cpu trial otp bytes) (image-says a cpu trial otp bytes w)
+    where
+      go : (r : Result Started Why) → SaysImage a cpu trial otp bytes w r
+          → ((s : Started) × IsValidImage a w cpu trial otp bytes s) ⊎ ((y : Why) × IsWhyNot a cpu trial otp bytes y)
+      go (Ok s) valid = inl (s, valid)
+      go (Err y) why = inr (y, why)
 
-pub some-answer : (c : Content) (w : Window) (cpu : Cpu) (trial : Bool) → ((s : Started) × Valid c w cpu trial s) ⊎ ((y : Why) × WhyNot c w cpu trial y)
-some-answer c w cpu trial = go (image_at c w cpu trial) refl
-  where
-    go : (r : Result Started Why) → image_at c w cpu trial ≡ r → ((s : Started) × Valid c w cpu trial s) ⊎ ((y : Why) × WhyNot c w cpu trial y)
-    go (Ok s) is = inl (s, valid-at c w cpu trial s is)
-    go (Err y) is = inr (y, is)
+  pub not-both : (s : Started) (y : Why) → IsValidImage a w cpu trial otp bytes s → IsWhyNot a cpu trial otp bytes y → ⊥
+  not-both s y valid why = apart (image_in a w cpu trial otp bytes) (valid-answered cpu bytes a w trial otp s valid) (why-answered cpu bytes a w trial otp y why)
+    where
+      apart : (r : Result Started Why) → r ≡ Ok s → r ≡ Err y → ⊥
+      apart r e f = cc
 
-ok-err : (r : Result Started Why) (s : Started) (y : Why) → r ≡ Ok s → r ≡ Err y → ⊥
-ok-err r s y e f = cc
+  pub one-image : (s t : Started) → IsValidImage a w cpu trial otp bytes s → IsValidImage a w cpu trial otp bytes t → s ≡ t
+  one-image s t one two = same (image_in a w cpu trial otp bytes) (valid-answered cpu bytes a w trial otp s one) (valid-answered cpu bytes a w trial otp t two)
+    where
+      same : (r : Result Started Why) → r ≡ Ok s → r ≡ Ok t → s ≡ t
+      same r e f = cc
 
-pub not-both : (c : Content) (w : Window) (cpu : Cpu) (trial : Bool) (s : Started) (y : Why) → Valid c w cpu trial s → WhyNot c w cpu trial y → ⊥
-not-both c w cpu trial s y v why = ok-err _ s y (at-valid c w cpu trial s v) why
+  pub one-reason : (y z : Why) → IsWhyNot a cpu trial otp bytes y → IsWhyNot a cpu trial otp bytes z → y ≡ z
+  one-reason y z one two = same (image_in a w cpu trial otp bytes) (why-answered cpu bytes a w trial otp y one) (why-answered cpu bytes a w trial otp z two)
+    where
+      same : (r : Result Started Why) → r ≡ Err y → r ≡ Err z → y ≡ z
+      same r e f = cc
 
-ok-ok : (r : Result Started Why) (s t : Started) → r ≡ Ok s → r ≡ Ok t → s ≡ t
-ok-ok r s t e f = cc
+  -- a valid image is not below its rows
+  pub not-below : (s : Started) → IsValidImage a w cpu trial otp bytes s → NotBelow otp s
+  not-below s v = subst (NotBelow otp) (sym v.started) (record { version = v.reached; required = v.listed })
 
-err-err : (r : Result Started Why) (y z : Why) → r ≡ Err y → r ≡ Err z → y ≡ z
-err-err r y z e f = cc
-
-pub one-image : (c : Content) (w : Window) (cpu : Cpu) (trial : Bool) (s t : Started) → Valid c w cpu trial s → Valid c w cpu trial t → s ≡ t
-one-image c w cpu trial s t v u = ok-ok _ s t (at-valid c w cpu trial s v) (at-valid c w cpu trial t u)
-
-pub one-reason : (c : Content) (w : Window) (cpu : Cpu) (trial : Bool) (y z : Why) → WhyNot c w cpu trial y → WhyNot c w cpu trial z → y ≡ z
-one-reason c w cpu trial y z e f = err-err _ y z e f
-
--- where no trial image is allowed, the image is none, and the trial rule holds either way
-trial-allowed : (def : Def) → trial_fault true def ≡ None
-trial-allowed def = go (is_trial def.flags)
-  where
-    go : (t : Bool) → (if t && not true then Some Trial else None) ≡ None
-    go true = refl
-    go false = refl
-
-pub trial-more : (c : Content) (w : Window) (cpu : Cpu) (s : Started) → Valid c w cpu false s → Valid c w cpu true s
-trial-more c w cpu s v = record {
+pub trial-more : (a : Addressing) (w : Window) (cpu : Cpu) (otp bytes : List ℕ) (s : Started) → IsValidImage a w cpu false otp bytes s
+    → IsValidImage a w cpu true otp bytes s
+trial-more a w cpu otp bytes s v = record {
   image = v.image;
   entry = v.entry;
   sound = v.sound;
-  tried = trial-allowed v.image.def;
-  rolled = v.rolled;
+  tried = λ e. refl;
+  listed = v.listed;
+  reached = v.reached;
   started = v.started;
 }
 
-pub image-local : (c d : Content) (w : Window) (cpu : Cpu) (trial : Bool) → window_bytes c w ≡ window_bytes d w → c.otp ≡ d.otp → image_at c w cpu trial ≡ image_at d w cpu trial
+-- the same of a window of a flash
+pub valid-at : (c : Content) (w : Window) (cpu : Cpu) (trial : Bool) (s : Started) → image_at c w cpu trial ≡ Ok s → Valid c w cpu trial s
+valid-at c w cpu trial s is = answered-valid in_flash w cpu trial c.otp (window_bytes c w) s is
+
+pub at-valid : (c : Content) (w : Window) (cpu : Cpu) (trial : Bool) (s : Started) → Valid c w cpu trial s → image_at c w cpu trial ≡ Ok s
+at-valid c w cpu trial s v = valid-answered cpu (window_bytes c w) in_flash w trial c.otp s v
+
+pub image-local : (c d : Content) (w : Window) (cpu : Cpu) (trial : Bool) → window_bytes c w ≡ window_bytes d w → c.otp ≡ d.otp
+    → image_at c w cpu trial ≡ image_at d w cpu trial
 image-local c d w cpu trial bytes rows =
-    ap (λ otp. image_in flash_base false w cpu trial otp (window_bytes c w)) rows ∙ ap (image_in flash_base false w cpu trial d.otp) bytes
+    ap (λ otp. image_in in_flash w cpu trial otp (window_bytes c w)) rows ∙ ap (image_in in_flash w cpu trial d.otp) bytes
 
-pub same-image : (c d : Content) (s : Started) (cpu : Cpu) → window_bytes c s.window ≡ window_bytes d s.window → SameImage c d s cpu
-same-image c d s cpu bytes loop image loads i within place = ap (λ xs. slice_index xs i) bytes
+-- a valid image is held, and the same bytes hold the same image
+pub valid-held : (c : Content) (w : Window) (cpu : Cpu) (s : Started) → Valid c w cpu true s → Holds cpu (window_bytes c w) s
+valid-held c w cpu s v =
+    let here : s.window ≡ w = ap (λ (t : Started). t.window) v.started in
+    record {
+      image = v.image;
+      entry = v.entry;
+      sound = v.sound;
+      started = v.started ∙ ap (λ (x : Window). started_of x v.image v.entry) (sym here);
+    }
 
--- the rollback rule says that the image is not below its rows
-none-none : {A : Type 0} (o q : Option A) → option_or o q ≡ None → (o ≡ None) × (q ≡ None)
-none-none None q h = (refl, h)
-none-none (Some x) q h = cc
-
-rule-version : (v : Option ℕ) (raised : ℕ) → below_fault v raised ≡ None → IfSome v (λ n. raised ≤ n)
-rule-version None raised h = tt
-rule-version (Some n) raised h = go (nat_lt n raised) refl h
-  where
-    go : (t : Bool) → nat_lt n raised ≡ t → (if t then Some (Below n raised) else None) ≡ None → raised ≤ n
-    go true is e = cc
-    go false is e = ltb-false n raised is
-
-rule-required : (required : Bool) (rows : List ℕ) → required_fault required rows ≡ None → required ≡ true → rows ≡ [] → ⊥
-rule-required true [] h is empty = cc
-rule-required true (r ∷ rows) h is empty = cc
-rule-required false rows h is empty = cc
-
-pub not-below : (c : Content) (w : Window) (cpu : Cpu) (trial : Bool) (s : Started) → Valid c w cpu trial s → NotBelow c.otp s
-not-below c w cpu trial s v =
-    let p = none-none (required_fault (rollback_required c.otp) v.image.def.rows.items) (below_fault v.image.def.rollback (count c.otp v.image.def.rows.items)) v.rolled in
-    subst (NotBelow c.otp) (sym v.started) (record {
-      version = rule-version v.image.def.rollback (count c.otp v.image.def.rows.items) (p.1);
-      required = rule-required (rollback_required c.otp) v.image.def.rows.items (p.0);
-    })
+pub same-image : (c d : Content) (s : Started) (cpu : Cpu) → Holds cpu (window_bytes c s.window) s
+    → window_bytes c s.window ≡ window_bytes d s.window → SameImage c d s cpu
+same-image c d s cpu held bytes = record {
+  held = held;
+  blocks = λ i inside. ap (λ xs. slice_index xs i) (sym bytes);
+  storage = λ i within inside. ap (λ xs. slice_index xs i) (sym bytes);
+}

@@ -1,3 +1,7 @@
 pub mod AnswerLemmas
-pub mod ValidLemmas
+pub mod LastLemmas
+pub mod EntryLemmas
+pub mod RuleLemmas
+pub mod JudgedLemmas
+pub mod AnsweredLemmas
 pub mod LawLemmas

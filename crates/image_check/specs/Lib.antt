@@ -1,7 +1,11 @@
+pub mod Addressing
 pub mod Answers
 pub mod Entry
+pub mod Entering
 pub mod Rules
+pub mod Image
 pub mod Valid
+pub mod WhyNot
 pub mod SameImage
 pub mod NotBelow
 pub mod Examples

@@ -1,5 +1,5 @@
--- The rules of a valid image (RP2350 Datasheet, chapter 5, Bootrom; this project's own where the
--- datasheet is open, and the rollback rule as a whole). Each rule is its answer where it fails.
+-- The rules of a valid image, each by what it answers (RP2350 Datasheet, chapter 5, Bootrom; this
+-- project's own where the datasheet is open, and the rollback rule as a whole).
 use Rattle.std.specs.Prelude.{ℕ, zero, pos, ℤ, Bool, true, not, ◌&&◌, if◌then◌else◌, nat_lt, bytes_eq, List, [], slice_get, Option, Some, None, option_and_then, Result, Ok, Err}
 use Rattle.std.specs.List.{list_any}
 use Rattle.std.specs.Option.{option_or}
@@ -15,10 +15,12 @@ use Rattle.image_def.specs.Flags.{is_trial}
 use Rattle.image_def.specs.Suits.{has_image_type, last_suiting}
 use Rattle.image_def.specs.Definition.{def_of}
 use Rattle.load_map.specs.declared.load.Load.{Load}
+use Rattle.load_map.specs.declared.load.MapFault.{MapFault}
 use Rattle.load_map.specs.Reading.{loads_of}
 use Rattle.load_map.specs.Covered.{covered_digest}
 use Rattle.otp_roll.specs.Rows.{count}
 use Rattle.otp_roll.specs.Flags.{rollback_required}
+use Rattle.image_check.specs.declared.addressing.Addressing.{Addressing}
 use Rattle.image_check.specs.declared.why.Why.{Why}
 use Rattle.image_check.specs.declared.why.Why.TheVariants.{NoBlock, Loop, NoDefinition, NotForProcessor, Items, Trial, RollbackRequired, Below, Map, Entry, Digest, Delta}
 use Rattle.image_check.specs.Answers.{or_fault, fault_as}
@@ -32,7 +34,8 @@ loop_answer (Err fault) = Err (Loop fault)
 
 -- definition and processor: some block of the loop has an IMAGE_TYPE item, and some block suits
 abbrev pub definition_answer : Cpu → List BlockView → Result BlockView Why
-definition_answer cpu loop = if list_any has_image_type loop then or_fault (last_suiting cpu loop) NotForProcessor else Err NoDefinition
+definition_answer cpu loop =
+    if list_any has_image_type loop then or_fault (last_suiting cpu loop) NotForProcessor else Err NoDefinition
 
 -- items: the definition's items are read
 abbrev pub items_answer : BlockView → Result Def Why
@@ -53,16 +56,22 @@ below_fault None raised = None
 below_fault (Some version) raised = if nat_lt version raised then Some (Below version raised) else None
 
 abbrev pub rollback_fault : List ℕ → Def → Option Why
-rollback_fault otp def = option_or (required_fault (rollback_required otp) def.rows.items) (below_fault def.rollback (count otp def.rows.items))
+rollback_fault otp def =
+    option_or (required_fault (rollback_required otp) def.rows.items)
+    (below_fault def.rollback (count otp def.rows.items))
 
--- map: the entries of the load map are in range; an image without one loads nothing
-abbrev pub item_loads : ℕ → Bool → ℕ → BlockView → Option Item → Result (List Load) Why
-item_loads base in_place size b None = Ok []
-item_loads base in_place size b (Some item) = fault_as Map (loads_of base in_place size b item)
+-- the loads of an image's LOAD_MAP item in a window of n bytes, or their first fault; an image
+-- without one loads nothing
+abbrev pub item_loads : Addressing → ℕ → BlockView → Option Item → Result (List Load) MapFault
+item_loads a n b None = Ok []
+item_loads a n b (Some item) = loads_of a.base a.in_place n b item
 
-abbrev pub map_answer : ℕ → Bool → ℕ → BlockView → Def → Result (List Load) Why
-map_answer base in_place size b def =
-    item_loads base in_place size b (option_and_then (slice_get (items_of b.items)) def.map_item)
+abbrev pub map_loads : Addressing → ℕ → BlockView → Def → Result (List Load) MapFault
+map_loads a n b def = item_loads a n b (option_and_then (slice_get (items_of b.items)) def.map_item)
+
+-- map: the entries of the load map are in range
+abbrev pub map_answer : Addressing → ℕ → BlockView → Def → Result (List Load) Why
+map_answer a n b def = fault_as Map (map_loads a n b def)
 
 -- entry: it is found and is right
 abbrev pub entry_answer : ℕ → List ℕ → Cpu → BlockView → Def → List Load → Result EntryPoint Why

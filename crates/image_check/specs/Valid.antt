@@ -1,100 +1,81 @@
--- When an image is valid, and why it is not (RP2350 Datasheet, chapter 5, Bootrom; this project's own
--- where the datasheet is open). Each is a function or a relation of the bytes of a window and of the
--- OTP; base is the address of the window's first byte, and in_place asks that each load map
--- entry is used where it is stored.
-use Rattle.std.specs.Prelude.{◌≡◌, ℕ, ◌+◌, ◌*◌, Bool, false, List, length, pos, Some, None, Result, Ok, Err}
+-- When an image is valid, in the words of the rules (RP2350 Datasheet, chapter 5, Bootrom; this
+-- project's own where the datasheet is open, and the rollback rule as a whole). Each rule is a
+-- condition of its own, on the bytes of a window and on the OTP.
+use Rattle.std.specs.Prelude.{◌≡◌, ◌≢◌, ℕ, ◌≤◌, Bool, true, false, List, [], ◌∷◌, ◌++◌, length, pos, IfSome, Ok}
+use Rattle.std.specs.List.{AllByRecursion}
 use Rattle.pico_board.specs.declared.boot.Cpu.{Cpu}
 use Rattle.pico_board.specs.declared.window.Window.{Window}
-use Rattle.pico_board.specs.Content.{Content, flash_base, window_bytes}
+use Rattle.pico_board.specs.Content.{Content, window_bytes}
 use Rattle.block_codec.specs.declared.definition.Def.{Def}
 use Rattle.block_codec.specs.declared.definition.EntryPoint.{EntryPoint}
 use Rattle.block_codec.specs.Blocks.{BlockView}
-use Rattle.block_loop.specs.Loop.{loop_of, IsLoop}
+use Rattle.block_loop.specs.Loop.{IsLoop}
 use Rattle.image_def.specs.declared.started.Started.{Started}
 use Rattle.image_def.specs.Flags.{is_trial}
-use Rattle.image_def.specs.Suits.{last_suiting}
+use Rattle.image_def.specs.Suits.{does_suit}
 use Rattle.image_def.specs.Definition.{def_of}
 use Rattle.load_map.specs.declared.load.Load.{Load}
-use Rattle.image_check.specs.declared.why.Why.{Why}
-use Rattle.image_check.specs.Answers.{and_then, and_unless}
-use Rattle.image_check.specs.Entry.{entry_of}
-use Rattle.image_check.specs.Rules.{loop_answer, definition_answer, items_answer, trial_fault, rollback_fault, map_answer, entry_answer, digest_fault, delta_fault}
+use Rattle.load_map.specs.Covered.{covered_digest}
+use Rattle.otp_roll.specs.Rows.{count}
+use Rattle.otp_roll.specs.Flags.{rollback_required}
+use Rattle.image_check.specs.declared.addressing.Addressing.{Addressing}
+use Rattle.image_check.specs.Addressing.{in_flash}
+use Rattle.image_check.specs.Entering.{IsEntry}
+use Rattle.image_check.specs.Image.{Defined, started_of}
+use Rattle.image_check.specs.Rules.{map_loads}
 
--- what a window's loop says of its image: the definition's block, and what it says
-pub record Defined : Type 0 where
-  pub block : BlockView
-  pub def : Def
+-- x is the last element that passes the test: it passes, and those behind it do not
+pub record IsLastWith {X : Type 0} (passes : X → Bool) (xs : List X) (x : X) : Type 0 where
+  pub before : List X
+  pub behind : List X
+  pub whole : xs ≡ before ++ x ∷ behind
+  pub here : passes x ≡ true
+  pub later : AllByRecursion (λ y. passes y ≡ false) behind
 
--- the first block, the loop, the definition, the processor and the items, in this order
-abbrev pub defined_in : Cpu → List ℕ → Result Defined Why
-defined_in cpu bytes =
-    and_then (loop_answer (loop_of bytes)) (λ loop.
-    and_then (definition_answer cpu loop) (λ block.
-    and_then (items_answer block) (λ def.
-    Ok (record { block = block; def = def }))))
+-- the rules first block, loop, definition, processor and items hold: the window's loop closes, its
+-- last block that suits the processor is the definition, and that is read without a fault
+pub record IsDefined (cpu : Cpu) (bytes : List ℕ) (loop : List BlockView) (image : Defined) : Type 0 where
+  pub closes : IsLoop bytes loop
+  pub defines : IsLastWith (does_suit cpu) loop image.block
+  pub items : def_of image.block ≡ Ok image.def
 
--- the map, the entry, the digest and the delta, in this order: where the image starts
-abbrev pub entered_in : ℕ → Bool → Cpu → List ℕ → Defined → Result EntryPoint Why
-entered_in base in_place cpu bytes image =
-    and_then (map_answer base in_place (length bytes) image.block image.def) (λ loads.
-    and_then (entry_answer base bytes cpu image.block image.def loads) (λ entry.
-    and_unless (digest_fault bytes image.block image.def loads image.def.digest)
-    (and_unless (delta_fault image.def.delta)
-    (Ok entry))))
+-- the trial rule: an image is no trial, or a trial image is allowed here
+abbrev pub MayBeTried : Bool → Def → Type 0
+MayBeTried allowed def = is_trial def.flags ≡ true → allowed ≡ true
 
--- the record of an image in its window
-abbrev pub started_of : Window → Defined → EntryPoint → Started
-started_of window image entry = record {
-  window = window;
-  block = image.block.at;
-  image_at = image.block.at + 4 * image.def.image_word;
-  pc = entry.pc;
-  sp = entry.sp;
-  limit = entry.limit;
-  version = image.def.version;
-  rollback = image.def.rollback;
-  rows = image.def.rows;
-  trial = is_trial image.def.flags;
-}
+-- the first half of the rollback rule: where the OTP requires rollback versions the image lists rows
+abbrev pub ListsRequiredRows : List ℕ → Def → Type 0
+ListsRequiredRows otp def = rollback_required otp ≡ true → def.rows.items ≢ []
 
--- the image of a window with these bytes, or the answer of the first of the rules that fails
-unfoldable pub image_in : ℕ → Bool → Window → Cpu → Bool → List ℕ → List ℕ → Result Started Why
-image_in base in_place window cpu trial otp bytes =
-    and_then (defined_in cpu bytes) (λ image.
-    and_unless (trial_fault trial image.def)
-    (and_unless (rollback_fault otp image.def)
-    (and_then (entered_in base in_place cpu bytes image) (λ entry.
-    Ok (started_of window image entry)))))
+-- its second half: the rollback version, where there is one, is not below the count of the rows
+abbrev pub ReachesItsRows : List ℕ → Def → Type 0
+ReachesItsRows otp def = IfSome def.rollback (λ version. count otp def.rows.items ≤ version)
 
--- the rules that read the window's bytes alone hold of the image that block b defines by def
-pub record IsSound (base : ℕ) (in_place : Bool) (cpu : Cpu) (bytes : List ℕ) (image : Defined) (entry : EntryPoint) : Type 0 where
+-- the digest rule: a HASH_VALUE is the SHA-256 of the covered bytes
+abbrev pub HasItsDigest : List ℕ → Defined → List Load → Type 0
+HasItsDigest bytes image loads =
+    IfSome image.def.digest (λ value. value ≡ covered_digest bytes image.block image.def loads)
+
+-- the rules that read the window's bytes alone hold: all but the trial and the rollback rule
+pub record IsSound (a : Addressing) (cpu : Cpu) (bytes : List ℕ) (image : Defined) (entry : EntryPoint) : Type 0 where
   pub loop : List BlockView
   pub loads : List Load
-  pub closes : IsLoop bytes loop
-  pub defines : last_suiting cpu loop ≡ Some image.block
-  pub items : def_of image.block ≡ Ok image.def
-  pub map : map_answer base in_place (length bytes) image.block image.def ≡ Ok loads
-  pub enters : entry_of base bytes cpu image.block image.def loads ≡ Ok entry
-  pub digest : digest_fault bytes image.block image.def loads image.def.digest ≡ None
+  pub defined : IsDefined cpu bytes loop image
+  pub map : map_loads a (length bytes) image.block image.def ≡ Ok loads
+  pub enters : IsEntry a.base bytes cpu image.block image.def loads entry
+  pub digest : HasItsDigest bytes image loads
   pub delta : image.def.delta ≡ pos 0
 
 -- all the rules hold of the window's bytes and the OTP, and s is the record of that image
-pub record IsValidImage (base : ℕ) (in_place : Bool) (window : Window) (cpu : Cpu) (trial : Bool) (otp bytes : List ℕ) (s : Started) : Type 0 where
+pub record IsValidImage (a : Addressing) (window : Window) (cpu : Cpu) (trial : Bool) (otp bytes : List ℕ) (s : Started) : Type 0 where
   pub image : Defined
   pub entry : EntryPoint
-  pub sound : IsSound base in_place cpu bytes image entry
-  pub tried : trial_fault trial image.def ≡ None
-  pub rolled : rollback_fault otp image.def ≡ None
+  pub sound : IsSound a cpu bytes image entry
+  pub tried : MayBeTried trial image.def
+  pub listed : ListsRequiredRows otp image.def
+  pub reached : ReachesItsRows otp image.def
   pub started : s ≡ started_of window image entry
 
 -- Valid: an image in a window of a flash, for a processor, with a trial image allowed or not
 abbrev pub Valid : Content → Window → Cpu → Bool → Started → Type 0
-Valid c window cpu trial s = IsValidImage flash_base false window cpu trial c.otp (window_bytes c window) s
-
--- the image of a window of a flash, or why there is none
-abbrev pub image_at : Content → Window → Cpu → Bool → Result Started Why
-image_at c window cpu trial = image_in flash_base false window cpu trial c.otp (window_bytes c window)
-
--- WhyNot: the answer of the first of the rules that fails
-abbrev pub WhyNot : Content → Window → Cpu → Bool → Why → Type 0
-WhyNot c window cpu trial y = image_at c window cpu trial ≡ Err y
+Valid c window cpu trial s = IsValidImage in_flash window cpu trial c.otp (window_bytes c window) s

@@ -7,7 +7,8 @@ ghost use Rattle.image_check.specs.declared.why.Why.TheVariants.{NotForProcessor
 ghost use Rattle.image_check.specs.declared.why.EntryFault.TheVariants.{Table, InBlock, Pc};
 ghost use Rattle.image_check.specs.Entry.{judged_source, source_of};
 ghost use Rattle.image_check.specs.Rules.{rollback_fault};
-ghost use Rattle.image_check.specs.Valid.{image_in};
+ghost use Rattle.image_check.specs.Addressing.{in_flash};
+ghost use Rattle.image_check.specs.Image.{image_in};
 ghost use Rattle.image_check.specs.Examples.{small_block, entry_at, tabled, pointed, table_bytes, def_with, otp_with, window_of, version_nine, window_at_two};
 
 /// PC with bit 0 set in a window of 8192 bytes and past it, before, in and behind the block at 0x114, which has 20 bytes.
@@ -70,12 +71,12 @@ pub fn rollback_versions_are_compared()
 
 /// Whole windows of 64 bytes with a block of version 9.0 at offset 8: PC in SRAM, PC past the window, PC in the block, another
 /// processor, a trial that is not allowed and one that is.
-#[tactic(auto, unfolding(crate::specs::Valid::image_in, image_def::specs::Definition::def_of, block_loop::specs::Loop::loop_of, block_loop::specs::Loop::follow, block_loop::specs::Loop::first_from, block_codec::specs::Blocks::block_at, block_codec::specs::Blocks::front_block, block_codec::specs::Blocks::item_words, block_codec::specs::Blocks::frame, block_codec::specs::Items::size_of, block_codec::specs::Words::word_of))]
+#[tactic(auto, unfolding(crate::specs::Image::image_in, image_def::specs::Definition::def_of, block_loop::specs::Loop::loop_of, block_loop::specs::Loop::follow, block_loop::specs::Loop::first_from, block_codec::specs::Blocks::block_at, block_codec::specs::Blocks::front_block, block_codec::specs::Blocks::item_words, block_codec::specs::Blocks::frame, block_codec::specs::Items::size_of, block_codec::specs::Words::word_of))]
 pub fn whole_windows()
-    ensures starts { image_in flash_base false window_at_two Arm false (otp_with 0 0 0 0) (window_of 0x01 0x00 0x20 0x10) ≡ Ok (version_nine 0x20000001 false) }
-    ensures outside { image_in flash_base false window_at_two Arm false (otp_with 0 0 0 0) (window_of 0x01 0x02 0x10 0x10) ≡ Err (Entry Pc) }
-    ensures in_block { image_in flash_base false window_at_two Arm false (otp_with 0 0 0 0) (window_of 0x09 0x00 0x10 0x10) ≡ Err (Entry InBlock) }
-    ensures riscv { image_in flash_base false window_at_two Riscv false (otp_with 0 0 0 0) (window_of 0x01 0x00 0x20 0x10) ≡ Err NotForProcessor }
-    ensures trial { image_in flash_base false window_at_two Arm false (otp_with 0 0 0 0) (window_of 0x01 0x00 0x20 0x90) ≡ Err Trial }
-    ensures tried { image_in flash_base false window_at_two Arm true (otp_with 0 0 0 0) (window_of 0x01 0x00 0x20 0x90) ≡ Ok (version_nine 0x20000001 true) }
+    ensures starts { image_in in_flash window_at_two Arm false (otp_with 0 0 0 0) (window_of 0x01 0x00 0x20 0x10) ≡ Ok (version_nine 0x20000001 false) }
+    ensures outside { image_in in_flash window_at_two Arm false (otp_with 0 0 0 0) (window_of 0x01 0x02 0x10 0x10) ≡ Err (Entry Pc) }
+    ensures in_block { image_in in_flash window_at_two Arm false (otp_with 0 0 0 0) (window_of 0x09 0x00 0x10 0x10) ≡ Err (Entry InBlock) }
+    ensures riscv { image_in in_flash window_at_two Riscv false (otp_with 0 0 0 0) (window_of 0x01 0x00 0x20 0x10) ≡ Err NotForProcessor }
+    ensures trial { image_in in_flash window_at_two Arm false (otp_with 0 0 0 0) (window_of 0x01 0x00 0x20 0x90) ≡ Err Trial }
+    ensures tried { image_in in_flash window_at_two Arm true (otp_with 0 0 0 0) (window_of 0x01 0x00 0x20 0x90) ≡ Ok (version_nine 0x20000001 true) }
 {}

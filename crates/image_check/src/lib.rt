@@ -5,9 +5,11 @@
 //! (`SameImage`).
 #![tactic(auto)]
 
+mod addressing;
 pub mod examples;
 pub mod laws;
 mod why;
 
+pub use addressing::Addressing;
 pub use image_def::Started;
 pub use why::{EntryFault, Why};

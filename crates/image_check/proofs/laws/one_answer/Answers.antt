@@ -1,4 +1,4 @@
-use Rattle.image_check.proofs.LawLemmas.{some-answer, not-both, one-image, one-reason}
+use Rattle.image_check.proofs.LawLemmas.{not-both, one-image, one-reason, some-answer}
 use Rattle.image_check.proofs.laws.one_answer.Goals as goal
 
 pub returns-clause-some : goal.returns-clause-some
@@ -11,4 +11,4 @@ pub returns-clause-one_image : goal.returns-clause-one_image
 returns-clause-one_image c = one-image
 
 pub returns-clause-one_reason : goal.returns-clause-one_reason
-returns-clause-one_reason c = one-reason
+returns-clause-one_reason c = λ a cpu trial otp bytes y z. one-reason a (record { start = 0; len = 0 }) cpu trial otp bytes y z

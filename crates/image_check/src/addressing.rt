@@ -1,0 +1,11 @@
+//! How the addresses of an image are read.
+
+/// The address at which the first byte of an image's window is seen, and whether the image must use
+/// each load map entry where it is stored.
+#[derive(Clone, Copy, Debug, PartialEq, Eq)]
+pub struct Addressing {
+    /// The address of the window's first byte: 0x10000000 in flash.
+    pub base: u32,
+    /// Whether each load map entry must be used where it is stored, as in images in RAM.
+    pub in_place: bool,
+}
