@@ -7,7 +7,8 @@ use Rattle.block_codec.specs.Blocks.{BlockView}
 use Rattle.image_def.specs.declared.started.Started.{Started}
 use Rattle.image_def.specs.Definition.{no_version}
 use Rattle.image_check.specs.declared.why.Why.{Why}
-use Rattle.image_check.specs.Entry.{Source, judged_source}
+use Rattle.image_check.specs.declared.entry.Source.{Source}
+use Rattle.image_check.specs.Entry.{judged_source}
 use Rattle.pico_board.specs.Content.{flash_base}
 use Rattle.image_check.specs.Valid.{started_of}
 use Rattle.image_check.specs.Answers.{and_then, fault_as}

@@ -9,7 +9,7 @@ use Rattle.block_codec.specs.Blocks.{BlockView}
 use Rattle.block_loop.specs.Loop.{IsLoop, loop_of}
 use Rattle.block_loop.specs.declared.fault.LoopFault.TheVariants.{NoBlock as NoFirst, Broken, TooMany, Overlap}
 use Rattle.block_loop.proofs.ChainLemmas.{loop_of-fault, loop_of-loop}
-use Rattle.image_def.specs.declared.definition.DefFault.{DefFault}
+use Rattle.image_def.specs.declared.fault.DefFault.{DefFault}
 use Rattle.image_def.specs.declared.started.Started.{Started}
 use Rattle.image_def.specs.Suits.{does_suit, has_image_type}
 use Rattle.image_def.specs.Definition.{def_of}
@@ -20,7 +20,8 @@ use Rattle.image_check.specs.declared.why.Why.TheVariants.{NoBlock, Loop, NoDefi
 use Rattle.image_check.specs.Answers.{and_then, and_unless}
 use Rattle.image_check.specs.Entry.{entry_of}
 use Rattle.image_check.specs.Entering.{IsEntry}
-use Rattle.image_check.specs.Image.{Defined, defined_in, entered_in, image_in, started_of}
+use Rattle.image_check.specs.declared.examining.Defined.{Defined}
+use Rattle.image_check.specs.Image.{defined_in, entered_in, image_in, started_of}
 use Rattle.image_check.specs.Rules.{definition_answer, delta_fault, digest_fault, entry_answer, items_answer, loop_answer, map_answer, map_loads, rollback_fault, trial_fault}
 use Rattle.image_check.specs.Valid.{HasItsDigest, IsDefined, IsLastWith, IsSound, IsValidImage, ListsRequiredRows, MayBeTried, ReachesItsRows}
 use Rattle.image_check.specs.WhyNot.{IsAdmitted, IsBelow, IsTried, IsWhyNot}

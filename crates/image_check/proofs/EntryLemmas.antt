@@ -12,7 +12,8 @@ use Rattle.load_map.specs.declared.load.Load.{Load}
 use Rattle.load_map.specs.Given.{byte_at, word_at, word_if_given}
 use Rattle.image_check.specs.declared.why.EntryFault.{EntryFault}
 use Rattle.image_check.specs.declared.why.EntryFault.TheVariants.{Table, InBlock, Pc}
-use Rattle.image_check.specs.Entry.{Source, code_address, entry_of, from_table, from_words, is_in_block, is_runnable, is_shared, is_within, judged_source, judged_sources, source_of}
+use Rattle.image_check.specs.declared.entry.Source.{Source}
+use Rattle.image_check.specs.Entry.{code_address, entry_of, from_table, from_words, is_in_block, is_runnable, is_shared, is_within, judged_source, judged_sources, source_of}
 use Rattle.image_check.specs.Entering.{IsEntry, IsEntryFault, IsIn, IsRunnable, IsSource, IsTabled, MeetsBlock, table_address}
 
 -- a test of a range

@@ -11,7 +11,7 @@ use Rattle.block_loop.specs.Loop.{IsLoop, loop_of}
 use Rattle.block_loop.specs.declared.fault.LoopFault.{LoopFault}
 use Rattle.block_loop.specs.declared.fault.LoopFault.TheVariants.{NoBlock as NoFirst, Broken, TooMany, Overlap}
 use Rattle.block_loop.proofs.ChainLemmas.{Says, loop_of-says}
-use Rattle.image_def.specs.declared.definition.DefFault.{DefFault}
+use Rattle.image_def.specs.declared.fault.DefFault.{DefFault}
 use Rattle.image_def.specs.declared.started.Started.{Started}
 use Rattle.image_def.specs.Suits.{does_suit, has_image_type, last_suiting}
 use Rattle.image_def.specs.Definition.{def_of}
@@ -24,7 +24,8 @@ use Rattle.image_check.specs.declared.why.Why.TheVariants.{NotForProcessor, NoDe
 use Rattle.image_check.specs.Answers.{and_then, and_unless, fault_as, or_fault}
 use Rattle.image_check.specs.Entry.{entry_of}
 use Rattle.image_check.specs.Entering.{IsEntry}
-use Rattle.image_check.specs.Image.{Defined, defined_in, entered_in, image_in, started_of}
+use Rattle.image_check.specs.declared.examining.Defined.{Defined}
+use Rattle.image_check.specs.Image.{defined_in, entered_in, image_in, started_of}
 use Rattle.image_check.specs.Rules.{delta_fault, digest_fault, loop_answer, map_loads, rollback_fault, trial_fault}
 use Rattle.image_check.specs.Valid.{HasItsDigest, IsDefined, IsLastWith, IsValidImage}
 use Rattle.image_check.specs.WhyNot.{IsAdmitted, IsLoaded, IsTried, IsWhyNot}

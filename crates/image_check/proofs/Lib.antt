@@ -5,3 +5,5 @@ pub mod RuleLemmas
 pub mod JudgedLemmas
 pub mod AnsweredLemmas
 pub mod LawLemmas
+pub mod SeenLemmas
+pub mod ExaminedLemmas

@@ -16,7 +16,7 @@ use Rattle.otp_roll.specs.Rows.{count}
 use Rattle.otp_roll.specs.Flags.{rollback_required}
 use Rattle.image_check.specs.declared.why.Why.{Why}
 use Rattle.image_check.specs.declared.why.Why.TheVariants.{Trial, RollbackRequired, Below, Digest, Delta}
-use Rattle.image_check.specs.Image.{Defined}
+use Rattle.image_check.specs.declared.examining.Defined.{Defined}
 use Rattle.image_check.specs.Rules.{below_fault, delta_fault, digest_fault, required_fault, rollback_fault, trial_fault}
 use Rattle.image_check.specs.Valid.{HasItsDigest, ListsRequiredRows, MayBeTried, ReachesItsRows}
 use Rattle.image_check.specs.WhyNot.{IsBelow}

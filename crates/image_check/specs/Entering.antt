@@ -12,7 +12,8 @@ use Rattle.load_map.specs.declared.addresses.TheConstants.{SRAM_START, SRAM_END}
 use Rattle.load_map.specs.Given.{byte_at, word_at}
 use Rattle.image_check.specs.declared.why.EntryFault.{EntryFault}
 use Rattle.image_check.specs.declared.why.EntryFault.TheVariants.{Table, InBlock, Pc}
-use Rattle.image_check.specs.Entry.{Source, code_address}
+use Rattle.image_check.specs.declared.entry.Source.{Source}
+use Rattle.image_check.specs.Entry.{code_address}
 
 -- an address in a range
 abbrev pub IsIn : ℕ → ℕ → ℕ → Type 0

@@ -9,13 +9,9 @@ use Rattle.block_codec.specs.declared.definition.EntryPoint.{EntryPoint}
 use Rattle.block_codec.specs.Blocks.{BlockView, block_size}
 use Rattle.load_map.specs.declared.load.Load.{Load}
 use Rattle.load_map.specs.Given.{word_at}
+use Rattle.image_check.specs.declared.entry.Source.{Source}
 use Rattle.image_check.specs.declared.why.EntryFault.{EntryFault}
 use Rattle.image_check.specs.declared.why.EntryFault.TheVariants.{Table, InBlock, Pc}
-
--- an entry, and the address of the vector table where PC and SP come from it
-pub record Source : Type 0 where
-  pub entry : EntryPoint
-  pub table : Option ℕ
 
 -- PC and SP from the two words at this address, SP first; none where one of their bytes is not given
 abbrev pub from_words : ℕ → Option ℕ → Option ℕ → Result Source EntryFault

@@ -6,7 +6,7 @@ use Rattle.block_codec.specs.declared.definition.Def.{Def}
 use Rattle.block_codec.specs.declared.definition.EntryPoint.{EntryPoint}
 use Rattle.block_codec.specs.Blocks.{BlockView}
 use Rattle.image_def.specs.Definition.{no_version}
-use Rattle.image_check.specs.Entry.{Source}
+use Rattle.image_check.specs.declared.entry.Source.{Source}
 
 -- the block of 20 bytes at this offset that has the one item word 0x10210142
 abbrev pub small_block : ℕ → BlockView

@@ -5,22 +5,16 @@ use Rattle.std.specs.Prelude.{ℕ, ◌+◌, ◌*◌, Bool, List, length, Ok, Res
 use Rattle.pico_board.specs.declared.boot.Cpu.{Cpu}
 use Rattle.pico_board.specs.declared.window.Window.{Window}
 use Rattle.pico_board.specs.Content.{Content, window_bytes}
-use Rattle.block_codec.specs.declared.definition.Def.{Def}
 use Rattle.block_codec.specs.declared.definition.EntryPoint.{EntryPoint}
-use Rattle.block_codec.specs.Blocks.{BlockView}
 use Rattle.block_loop.specs.Loop.{loop_of}
 use Rattle.image_def.specs.declared.started.Started.{Started}
 use Rattle.image_def.specs.Flags.{is_trial}
 use Rattle.image_check.specs.declared.addressing.Addressing.{Addressing}
+use Rattle.image_check.specs.declared.examining.Defined.{Defined}
 use Rattle.image_check.specs.declared.why.Why.{Why}
 use Rattle.image_check.specs.Addressing.{in_flash}
 use Rattle.image_check.specs.Answers.{and_then, and_unless}
 use Rattle.image_check.specs.Rules.{loop_answer, definition_answer, items_answer, trial_fault, rollback_fault, map_answer, entry_answer, digest_fault, delta_fault}
-
--- what a window's loop says of its image: the definition's block, and what it says
-pub record Defined : Type 0 where
-  pub block : BlockView
-  pub def : Def
 
 -- the first block, the loop, the definition, the processor and the items, in this order
 abbrev pub defined_in : Cpu → List ℕ → Result Defined Why

@@ -4,6 +4,7 @@ pub mod Entry
 pub mod Entering
 pub mod Rules
 pub mod Image
+pub mod Examined
 pub mod Valid
 pub mod WhyNot
 pub mod SameImage

@@ -8,7 +8,8 @@ use Rattle.image_def.specs.declared.started.Started.{Started}
 use Rattle.load_map.specs.declared.load.Load.{Load}
 use Rattle.load_map.specs.Agree.{IsStoredAt}
 use Rattle.image_check.specs.Addressing.{in_flash}
-use Rattle.image_check.specs.Image.{Defined, started_of}
+use Rattle.image_check.specs.declared.examining.Defined.{Defined}
+use Rattle.image_check.specs.Image.{started_of}
 use Rattle.image_check.specs.Valid.{IsSound}
 
 -- a place in a block of the loop

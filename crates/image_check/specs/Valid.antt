@@ -21,7 +21,8 @@ use Rattle.otp_roll.specs.Flags.{rollback_required}
 use Rattle.image_check.specs.declared.addressing.Addressing.{Addressing}
 use Rattle.image_check.specs.Addressing.{in_flash}
 use Rattle.image_check.specs.Entering.{IsEntry}
-use Rattle.image_check.specs.Image.{Defined, started_of}
+use Rattle.image_check.specs.declared.examining.Defined.{Defined}
+use Rattle.image_check.specs.Image.{started_of}
 use Rattle.image_check.specs.Rules.{map_loads}
 
 -- x is the last element that passes the test: it passes, and those behind it do not

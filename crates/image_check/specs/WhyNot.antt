@@ -18,7 +18,7 @@ use Rattle.image_check.specs.declared.why.Why.{Why}
 use Rattle.image_check.specs.declared.why.Why.TheVariants.{NoBlock, Loop, NoDefinition, NotForProcessor, Items, Trial, RollbackRequired, Below, Map, Entry, Digest, Delta}
 use Rattle.image_check.specs.Addressing.{in_flash}
 use Rattle.image_check.specs.Entering.{IsEntry, IsEntryFault}
-use Rattle.image_check.specs.Image.{Defined}
+use Rattle.image_check.specs.declared.examining.Defined.{Defined}
 use Rattle.image_check.specs.Rules.{map_loads}
 use Rattle.image_check.specs.Valid.{HasItsDigest, IsDefined, IsLastWith, ListsRequiredRows, MayBeTried, ReachesItsRows}
 

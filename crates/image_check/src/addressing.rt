@@ -1,5 +1,7 @@
 //! How the addresses of an image are read.
 
+use load_map::FLASH_START;
+
 /// The address at which the first byte of an image's window is seen, and whether the image must use
 /// each load map entry where it is stored.
 #[derive(Clone, Copy, Debug, PartialEq, Eq)]
@@ -8,4 +10,12 @@ pub struct Addressing {
     pub base: u32,
     /// Whether each load map entry must be used where it is stored, as in images in RAM.
     pub in_place: bool,
+}
+
+impl Addressing {
+    /// In flash: the window is seen from its address on, and entries may be loaded into SRAM.
+    pub const FLASH: Addressing = Addressing {
+        base: FLASH_START,
+        in_place: false,
+    };
 }

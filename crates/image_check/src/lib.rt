@@ -6,10 +6,15 @@
 #![tactic(auto)]
 
 mod addressing;
+mod checking;
+mod entry;
+mod examining;
 pub mod examples;
 pub mod laws;
 mod why;
 
 pub use addressing::Addressing;
+pub use checking::{check, check_view, confirm};
+pub use examining::{Candidate, examine};
 pub use image_def::Started;
 pub use why::{EntryFault, Why};
