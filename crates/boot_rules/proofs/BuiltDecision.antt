@@ -13,8 +13,8 @@ use Rattle.image_def.specs.declared.Started.{Started}
 use Rattle.otp_roll.specs.Flags.{slot_size}
 use Rattle.slot_choice.specs.declared.Member.TheVariants.{A}
 use Rattle.slot_choice.specs.Units.{whole_flash}
-use Rattle.pico_board.specs.Content.{flash_base}
-use Rattle.image_check.specs.Valid.{image_in}
+use Rattle.image_check.specs.Addressing.{in_flash}
+use Rattle.image_check.specs.Image.{image_in}
 use Rattle.boot_rules.specs.Built.{IsBuilt, is_built}
 use Rattle.boot_rules.specs.Choosing.{choice_of, decision_of, decision_in, unit_choice, images_in}
 use Rattle.boot_rules.specs.declared.decision.Decision.{Decision}
@@ -52,14 +52,14 @@ whole-bytes c = take_all (0 + length c.flash - 0) c.flash (omega arith)
 pub built-decision : (c : Content) → IsBuilt c.flash → slice_index c.otp 0x048 ≡ 0 → slice_index c.otp 0x055 ≡ 0
     → decision_in c Arm Normal
     ≡ decision_of (option_map (choice_of (whole_flash (length c.flash)) A false)
-    (result_ok (image_in flash_base false (record { start = 0; len = length c.flash }) Arm false c.otp c.flash)))
+    (result_ok (image_in in_flash (record { start = 0; len = length c.flash }) Arm false c.otp c.flash)))
 unfolding decision_in
 built-decision c built flags slots =
     let no_table = built-no_table c built (least-slot c.otp (length c.flash) slots) in
     let size = least-slot c.otp (length c.flash) slots in
     let image : images_in c Arm (record { start = 0; len = length c.flash }) false
-    ≡ result_ok (image_in flash_base false (record { start = 0; len = length c.flash }) Arm false c.otp c.flash) =
-    ap (λ bytes. result_ok (image_in flash_base false (record { start = 0; len = length c.flash }) Arm false c.otp bytes)) (whole-bytes c) in
+    ≡ result_ok (image_in in_flash (record { start = 0; len = length c.flash }) Arm false c.otp c.flash) =
+    ap (λ bytes. result_ok (image_in in_flash (record { start = 0; len = length c.flash }) Arm false c.otp bytes)) (whole-bytes c) in
     rw (flags, no_table, size) (ap decision_of
     (or-none _ ∙ (lone-choice (images_in c Arm) (length c.flash) ∙ ap (option_map (choice_of (whole_flash (length c.flash)) A false)) image)))
 
@@ -75,25 +75,25 @@ row-zero otp k len within zeros = zeros k 0 (omega arith)
 -- the decision from the image of the whole flash
 pub decision-built : (c : Content) (n : ℕ) (r : Option Started) → IsContent c → n ≡ length c.flash → is_built c.flash ≡ true → All (λ row. row ≡ 0) c.otp
     → ((otp : List ℕ) → slice_index otp 0x048 ≡ 0
-    → r ≡ result_ok (image_in flash_base false (record { start = 0; len = n }) Arm false otp (window_bytes c (record { start = 0; len = n }))))
+    → r ≡ result_ok (image_in in_flash (record { start = 0; len = n }) Arm false otp (window_bytes c (record { start = 0; len = n }))))
     → decision_of (option_map (choice_of (whole_flash n) A false) r) ≡ decision_in c Arm Normal
 decision-built c n r content len built zeros image =
     let flags = row-zero c.otp 0x048 content.otp_length (lit< tt) zeros in
     let slots = row-zero c.otp 0x055 content.otp_length (lit< tt) zeros in
-    let is : r ≡ result_ok (image_in flash_base false (record { start = 0; len = length c.flash }) Arm false c.otp c.flash) =
+    let is : r ≡ result_ok (image_in in_flash (record { start = 0; len = length c.flash }) Arm false c.otp c.flash) =
     image c.otp flags
-    ∙ (ap (λ m. result_ok (image_in flash_base false (record { start = 0; len = m }) Arm false c.otp (window_bytes c (record { start = 0; len = m })))) len
-    ∙ ap (λ bytes. result_ok (image_in flash_base false (record { start = 0; len = length c.flash }) Arm false c.otp bytes)) (whole-bytes c)) in
+    ∙ (ap (λ m. result_ok (image_in in_flash (record { start = 0; len = m }) Arm false c.otp (window_bytes c (record { start = 0; len = m })))) len
+    ∙ ap (λ bytes. result_ok (image_in in_flash (record { start = 0; len = length c.flash }) Arm false c.otp bytes)) (whole-bytes c)) in
     ap (λ o. decision_of (option_map (choice_of (whole_flash n) A false) o)) is
     ∙ (ap (λ m. decision_of (option_map (choice_of (whole_flash m) A false)
-    (result_ok (image_in flash_base false (record { start = 0; len = length c.flash }) Arm false c.otp c.flash)))) len
+    (result_ok (image_in in_flash (record { start = 0; len = length c.flash }) Arm false c.otp c.flash)))) len
     ∙ sym (built-decision c (built-all c.flash built) flags slots))
 
 -- the same for the arguments of a call
 pub decided : (c : Content) (cpu : Cpu) (kind : BootKind) (n : ℕ) (r : Option Started) → cpu ≡ Arm → kind ≡ Normal
     → IsContent c → n ≡ length c.flash → is_built c.flash ≡ true → All (λ row. row ≡ 0) c.otp
     → ((otp : List ℕ) → slice_index otp 0x048 ≡ 0
-    → r ≡ result_ok (image_in flash_base false (record { start = 0; len = n }) Arm false otp (window_bytes c (record { start = 0; len = n }))))
+    → r ≡ result_ok (image_in in_flash (record { start = 0; len = n }) Arm false otp (window_bytes c (record { start = 0; len = n }))))
     → decision_of (option_map (choice_of (whole_flash n) A false) r) ≡ decision_in c cpu kind
 decided c cpu kind n r arm normal content len built zeros image =
     decision-built c n r content len built zeros image

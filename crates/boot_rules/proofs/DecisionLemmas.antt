@@ -5,12 +5,14 @@ use Rattle.pico_board.specs.declared.boot.Cpu.{Cpu}
 use Rattle.pico_board.specs.declared.boot.BootKind.{BootKind}
 use Rattle.pico_board.specs.declared.boot.BootKind.TheVariants.{Normal, Update, Bootsel as AskBootsel}
 use Rattle.pico_board.specs.declared.window.Window.{Window}
-use Rattle.pico_board.specs.Content.{Content}
+use Rattle.pico_board.specs.Content.{Content, window_bytes}
 use Rattle.image_def.specs.declared.started.Started.{Started}
 use Rattle.otp_roll.specs.Flags.{flash_off}
 use Rattle.slot_choice.specs.declared.choice.Choice.{Choice}
 use Rattle.image_check.specs.declared.why.Why.{Why}
-use Rattle.image_check.specs.Valid.{Valid, image_at}
+use Rattle.image_check.specs.Addressing.{in_flash}
+use Rattle.image_check.specs.Image.{image_at}
+use Rattle.image_check.specs.Valid.{Valid}
 use Rattle.image_check.specs.NotBelow.{NotBelow}
 use Rattle.image_check.proofs.LawLemmas.{valid-at, at-valid, not-below}
 use Rattle.boot_rules.specs.declared.decision.Decision.{Decision}
@@ -84,7 +86,7 @@ chosen-once c cpu kind d e h k = chosen-decision c cpu kind d h ∙ sym (chosen-
 
 -- an image that starts is not below its rollback rows
 start-not_below : (c : Content) (cpu : Cpu) (o : Order) (choice : Choice) → IsStart c cpu o choice → NotBelow c.otp choice.image
-start-not_below c cpu o choice s = not-below c s.counts.window cpu (is_updated o s.place choice.member) choice.image s.counts.valid
+start-not_below c cpu o choice s = not-below in_flash s.counts.window cpu (is_updated o s.place choice.member) c.otp (window_bytes c s.counts.window) choice.image s.counts.valid
 
 flash-not_below : (c : Content) (cpu : Cpu) (kind : BootKind) (choice : Choice) → ChosenInFlash c cpu kind (Start choice) → NotBelow c.otp choice.image
 flash-not_below c cpu kind choice = go (flash_off c.otp)

@@ -1,5 +1,5 @@
 -- What the rules say of a window whose loop is one plain block.
-use Rattle.std.proofs.Common.{subst, ◌≡◌, ℕ, ◌+◌, ◌<◌, ◌≤◌, Bool, false, List, [], ◌∷◌, ◌-◌, length, take, drop, slice_index, slice_get, slice_range, Option, Some, None, Result, Ok, Err, refl, sym, ◌∙◌, ap, arith, ℤ, pos, length-drop, add-zero}
+use Rattle.std.proofs.Common.{subst, ◌≡◌, ℕ, ◌+◌, ◌<◌, ◌≤◌, Bool, List, [], ◌∷◌, ◌-◌, length, take, drop, slice_index, slice_get, slice_range, Option, Some, None, Result, Ok, Err, refl, sym, ◌∙◌, ap, arith, ℤ, pos, length-drop, add-zero}
 use Rattle.std.specs.Result.{result_ok}
 use Rattle.image_def.specs.declared.Started.{Started}
 use Rattle.std.proofs.lemmas.Bool.{le-leb, lt-ltb}
@@ -18,7 +18,8 @@ use Rattle.image_check.specs.Answers.{and_then, fault_as}
 use Rattle.image_check.specs.Entry.{judged_source}
 use Rattle.image_check.specs.Rules.{rollback_fault}
 use Rattle.pico_board.specs.Content.{flash_base}
-use Rattle.image_check.specs.Valid.{defined_in, entered_in, image_in}
+use Rattle.image_check.specs.Addressing.{in_flash}
+use Rattle.image_check.specs.Image.{defined_in, entered_in, image_in}
 use Rattle.block_codec.specs.Blocks.{block_size}
 use Rattle.block_codec.proofs.AtLemmas.{BlockAt-room}
 use Rattle.block_loop.specs.declared.LoopFault.{LoopFault}
@@ -81,7 +82,7 @@ and_then-self (Err e) = refl
 
 -- where a plain image starts, or the fault of its entry
 plain-entered : (bytes : List ℕ) (at : ℕ) → 8 ≤ length bytes
-    → entered_in flash_base false Arm bytes (record { block = plain_block at; def = plain_def })
+    → entered_in in_flash Arm bytes (record { block = plain_block at; def = plain_def })
     ≡ fault_as Entry (judged_source flash_base (length bytes) (plain_block at)
     (plain_source (word_of (slice_range bytes 0 4)) (word_of (slice_range bytes 4 8))))
 plain-entered bytes at h =
@@ -96,7 +97,7 @@ plain-rollback otp h = rw h refl
 -- the image of a window whose loop is one plain block
 pub image-plain : (window : Window) (trial : Bool) (otp bytes : List ℕ) (at : ℕ)
     → loop_of bytes ≡ Ok (plain_block at ∷ []) → 8 ≤ length bytes → slice_index otp 0x048 ≡ 0
-    → image_in flash_base false window Arm trial otp bytes
+    → image_in in_flash window Arm trial otp bytes
     ≡ plain_image window (length bytes) at (word_of (slice_range bytes 0 4)) (word_of (slice_range bytes 4 8))
 unfolding image_in
 image-plain window trial otp bytes at loop h clear =
@@ -104,7 +105,7 @@ image-plain window trial otp bytes at loop h clear =
 
 -- a window without a first block has no image
 pub image-none : (window : Window) (trial : Bool) (otp bytes : List ℕ) → loop_of bytes ≡ Err NoFirst
-    → image_in flash_base false window Arm trial otp bytes ≡ Err NoBlock
+    → image_in in_flash window Arm trial otp bytes ≡ Err NoBlock
 unfolding image_in
 image-none window trial otp bytes h = rw h refl
 
@@ -169,7 +170,7 @@ lone-first bytes offsets at built h first =
 -- the image that was made of the loop's block and the vector table is that of the rules
 pub lone-image : (window : Window) (trial : Bool) (otp bytes : List ℕ) (r : Option Started) (n at sp pc : ℕ)
     → r ≡ result_ok (plain_image window n at sp pc) → n ≡ length bytes → sp ≡ word_of (slice_range bytes 0 4) → pc ≡ word_of (slice_range bytes 4 8)
-    → IsLone bytes at → 8 ≤ length bytes → slice_index otp 0x048 ≡ 0 → r ≡ result_ok (image_in flash_base false window Arm trial otp bytes)
+    → IsLone bytes at → 8 ≤ length bytes → slice_index otp 0x048 ≡ 0 → r ≡ result_ok (image_in in_flash window Arm trial otp bytes)
 lone-image window trial otp bytes r n at sp pc made size first second lone room clear =
     made ∙ ap result_ok (
     ap (λ m. plain_image window m at sp pc) size

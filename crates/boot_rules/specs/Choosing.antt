@@ -20,7 +20,7 @@ use Rattle.slot_choice.specs.declared.choice.Choice.{Choice}
 use Rattle.slot_choice.specs.Units.{units}
 use Rattle.slot_choice.specs.Versions.{better}
 use Rattle.slot_choice.specs.Updates.{update_order, updated_member}
-use Rattle.image_check.specs.Valid.{image_at}
+use Rattle.image_check.specs.Image.{image_at}
 use Rattle.boot_rules.specs.declared.decision.Decision.{Decision}
 use Rattle.boot_rules.specs.declared.decision.Decision.TheVariants.{Start, Bootsel}
 use Rattle.boot_rules.specs.declared.decision.Fall.TheVariants.{Requested, FlashOff, NoImage}

@@ -10,7 +10,7 @@ use Rattle.image_check.specs.declared.why.Why.{Why}
 use Rattle.image_check.specs.declared.entry.Source.{Source}
 use Rattle.image_check.specs.Entry.{judged_source}
 use Rattle.pico_board.specs.Content.{flash_base}
-use Rattle.image_check.specs.Valid.{started_of}
+use Rattle.image_check.specs.Image.{started_of}
 use Rattle.image_check.specs.Answers.{and_then, fault_as}
 use Rattle.image_check.specs.declared.why.Why.TheVariants.{Entry}
 use Rattle.boot_rules.specs.Built.{plain_items}

@@ -6,7 +6,8 @@ ghost use Rattle.pico_board.specs.declared.boot.Cpu.TheVariants.{Arm};
 ghost use Rattle.pico_board.specs.declared.boot.BootKind.TheVariants.{Normal};
 ghost use Rattle.block_codec.specs.Words.{word_of};
 ghost use Rattle.pico_board.specs.Content.{flash_base};
-ghost use Rattle.image_check.specs.Valid.{image_in};
+ghost use Rattle.image_check.specs.Addressing.{in_flash};
+ghost use Rattle.image_check.specs.Image.{image_in};
 ghost use Rattle.block_loop.specs.Loop.{loop_of};
 ghost use Rattle.block_loop.specs.declared.LoopFault.TheVariants.{NoBlock as NoFirst};
 ghost use Rattle.sector_pool.specs.Pool.{HasFree};
@@ -52,7 +53,7 @@ fn lone_block<V: View>(view: &V) -> Option<u32>
 fn image_of<V: View>(view: &V, window: Window) -> Option<Started>
     requires built { IsBuilt (V.bytes view.now) }
     requires room { 8 ≤ length (V.bytes view.now) }
-    ensures { (otp : List ℕ) → slice_index otp 0x048 ≡ 0 → result ≡ result_ok (image_in flash_base false window Arm false otp (V.bytes view.now)) }
+    ensures { (otp : List ℕ) → slice_index otp 0x048 ≡ 0 → result ≡ result_ok (image_in in_flash window Arm false otp (V.bytes view.now)) }
 {
     match lone_block(view) {
         Some(at) => {
