@@ -74,6 +74,7 @@ fn names_the_first_fault(rt: HostRuntime) -> Result<(), Fail> {
         ),
     ] {
         let block = block_of(rt.alloc(), &items)?;
+        assert_eq!(rt; image_flags(&block), Some(0x1021));
         assert_eq!(rt; read_def(&block), Err(fault));
     }
     let near = [0x10210142, 0x02000448, 0, 0x00c00000, 0x000000c2];
