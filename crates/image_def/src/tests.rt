@@ -79,6 +79,7 @@ fn names_the_first_fault(rt: HostRuntime) -> Result<(), Fail> {
     }
     let near = [0x10210142, 0x02000448, 0, 0x00c00000, 0x000000c2];
     let block = block_of(rt.alloc(), &near)?;
+    assert_eq!(rt; image_flags(&block), Some(0x1021));
     assert_eq!(rt; read_def(&block), Err(DefFault::RepeatedRow(0x0c2)));
     Ok(())
 }
