@@ -56,6 +56,14 @@ pub raises-three_equal : (otp : List ℕ) → HoldsTriple otp 0x0c0 3 3 3
 unfolding ones ones_in lowest_clear
 raises-three_equal otp holds = raises-triple otp 0x0c0 3 3 3 holds 3
 
+pub count-at_version : (otp : List ℕ) → HoldsTriple otp 0x0c0 7 7 7 → count otp (0x0c0 ∷ []) ≡ 3
+unfolding ones ones_in
+count-at_version otp holds = count-triple otp 0x0c0 7 7 7 holds
+
+pub raises-at_version : (otp : List ℕ) → HoldsTriple otp 0x0c0 7 7 7 → raises otp (0x0c0 ∷ []) 3 ≡ []
+unfolding ones ones_in lowest_clear
+raises-at_version otp holds = raises-triple otp 0x0c0 7 7 7 holds 3
+
 pub count-two_agree : (otp : List ℕ) → HoldsTriple otp 0x0c0 0xf 0xf 7 → count otp (0x0c0 ∷ []) ≡ 4
 unfolding ones ones_in
 count-two_agree otp holds = count-triple otp 0x0c0 0xf 0xf 7 holds

@@ -16,6 +16,13 @@ pub fn three_equal_rows()
         → raises otp (0x0c0 ∷ []) 3 ≡ Raise 0x0c0 4 ∷ Raise 0x0c1 4 ∷ Raise 0x0c2 4 ∷ [] }
 {}
 
+/// Three rows of 0x000007 count 3, and a version of 3 raises nothing.
+pub fn rows_at_the_version()
+    ensures count { (otp : List ℕ) → HoldsTriple otp 0x0c0 7 7 7 → count otp (0x0c0 ∷ []) ≡ 3 }
+    ensures raises { (otp : List ℕ) → HoldsTriple otp 0x0c0 7 7 7
+        → raises otp (0x0c0 ∷ []) 3 ≡ [] }
+{}
+
 /// Two rows of 0x00000f and one of 0x000007 count 4, which a version of 3 is below.
 pub fn two_rows_are_a_majority()
     ensures majority { (otp : List ℕ) → HoldsTriple otp 0x0c0 0xf 0xf 7

@@ -33,7 +33,8 @@ pub fn flash_off<B: Board>(board: &B) -> bool
 /// The size of a slot of a flash without a partition table, by bits 0 to 3 of its row.
 pub fn slot_size<B: Board>(board: &B) -> u32
     requires power { IsTrue (B.state board.now).powered }
-    ensures { result ≡ slot_size (B.state board.now).content.otp (length (B.state board.now).content.flash) }
+    ensures { result ≡ slot_size (B.state board.now).content.otp
+        (length (B.state board.now).content.flash) }
 {
     let exponent = board.otp_read(SLOT_SIZE_ROW) & 0xf;
     if exponent > 11 {

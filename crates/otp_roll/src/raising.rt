@@ -43,7 +43,8 @@ fn raise_row<B: Board>(board: &mut B, row: u16, wanted: u32) -> Result<u32, Powe
     requires range { row + 2 < 4096 }
     ensures steps { DoesAll B.state B.history board.old
         (raise_row (B.state board.old).content.otp wanted row) (is_ok result) board.new }
-    ensures taken { IfOk result (λ number. number ≡ taken (B.state board.old).content.otp wanted row) }
+    ensures taken { IfOk result
+        (λ number. number ≡ taken (B.state board.old).content.otp wanted row) }
     ensures most { IfOk result (λ number. number ≤ wanted) }
 {
     let former = majority(board, row);
@@ -61,7 +62,8 @@ fn raise_lacking<B: Board>(board: &mut B, row: u16, bits: u32) -> Result<(), Pow
     requires range { row < 4096 }
     requires bits { bits < 2 ^ 24 }
     ensures { DoesAll B.state B.history board.old
-        (raise_lacking bits (slice_index (B.state board.old).content.otp row) row) (is_ok result) board.new }
+        (raise_lacking bits (slice_index (B.state board.old).content.otp row) row)
+        (is_ok result) board.new }
 {
     let lacking = bits & (board.otp_read(row) ^ ALL_BITS);
     if lacking == 0 {
