@@ -89,7 +89,7 @@ fn add_words(hasher: &mut Sha256, block: &Block, image_word: u32, count: u32)
     }
 }
 
-/// The digest of the covered bytes, streamed through `piece`.
+/// The digest of the covered bytes, of which the storage bytes stream through `piece`.
 #[tactic(auto, unfolding(crate::specs::Covered::covered_digest))]
 fn digest_through<V: View>(
     view: &V,
@@ -115,7 +115,7 @@ fn digest_through<V: View>(
 /// block, as many as are hashed, with the trial bit read as 0. An image without a load map has no
 /// loads.
 ///
-/// The covered bytes stream through one free sector of the pool, and no memory is taken.
+/// The storage bytes alone stream through one free sector of the pool, and no memory is taken.
 pub fn covered_digest<V: View>(
     view: &V,
     pool: &mut SectorPool,

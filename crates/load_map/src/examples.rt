@@ -25,6 +25,17 @@ pub fn entries_in_order()
         ≡ Err (MapFault.Storage 0) }
 {}
 
+/// The second of two entries may reach the end of SRAM, and one byte more is its fault.
+#[tactic(auto, unfolding(block_codec::specs::Blocks::frame, block_codec::specs::Items::size_of))]
+pub fn a_second_entry_at_the_end_of_sram()
+    ensures last { in_flash 0x0200_0706
+        (0 ∷ 0x2000_0000 ∷ 0x10 ∷ 0xf8 ∷ 0x2008_1ff0 ∷ 0x10 ∷ [])
+        ≡ Ok (cleared 0x2000_0000 0x10 ∷ stored 0x200 0x2008_1ff0 0x10 ∷ []) }
+    ensures past { in_flash 0x0200_0706
+        (0 ∷ 0x2000_0000 ∷ 0x10 ∷ 0xf8 ∷ 0x2008_1ff0 ∷ 0x11 ∷ [])
+        ≡ Err (MapFault.Runtime 1) }
+{}
+
 /// Of an entry with more than one fault the storage is told first, then the runtime address. A
 /// fault of an earlier entry comes before one of a later entry.
 #[tactic(auto, unfolding(block_codec::specs::Blocks::frame, block_codec::specs::Items::size_of))]
@@ -91,6 +102,8 @@ pub fn an_absolute_storage()
         ≡ Err (MapFault.Storage 0) }
     ensures reversed { in_flash 0x8100_0406 (0x1000_0201 ∷ 0x2000_0000 ∷ 0x1000_0200 ∷ [])
         ≡ Err (MapFault.Storage 0) }
+    ensures reversed_in_place { in_flash 0x8100_0406
+        (0x1000_0200 ∷ 0x1000_0200 ∷ 0x1000_0100 ∷ []) ≡ Err (MapFault.Storage 0) }
     ensures ram_below { in_ram 0x8100_0406 (0x1fff_ffff ∷ 0x2000_0000 ∷ 0x2000_0001 ∷ [])
         ≡ Err (MapFault.Storage 0) }
 {}

@@ -48,8 +48,9 @@ pub fn a_load_map_item()
 
 /// What an entry loads. One whose first word is 0 is a clear entry of the size in its third word.
 /// A relative one is stored from the signed offset in its first word on, counted from the first
-/// byte of the LOAD_MAP item, and an absolute one between two addresses; it loads nothing where
-/// that range leaves the window, starts below its first address or ends before it starts.
+/// byte of the LOAD_MAP item, and an absolute one between two addresses; either has no load, which
+/// is the fault Storage, where that range leaves the window, starts below its first address or
+/// ends before it starts.
 pub fn what_an_entry_loads()
     ensures clear { (s : Setting) (absolute : Bool) (entry : Entry) → entry.place ≡ 0
         → load_of s absolute entry
