@@ -253,6 +253,7 @@ pub fn items_of_wrong_size()
     ensures delta_short { arm_fault (0x00000105 ∷ []) ≡ Some (BadItem 0x05) }
     ensures delta_long { arm_fault (0x00000305 ∷ 0 ∷ 0 ∷ []) ≡ Some (BadItem 0x05) }
     ensures map_short { arm_fault (0x02000606 ∷ 0 ∷ 0 ∷ 0 ∷ 0 ∷ 0 ∷ []) ≡ Some (BadItem 0x06) }
+    ensures map_one_entry_short { arm_fault (0x02000406 ∷ 0 ∷ 0 ∷ 0 ∷ []) ≡ Some (BadItem 0x06) }
     ensures map_long { arm_fault (0x02000886 ∷ 0 ∷ 0 ∷ 0 ∷ 0 ∷ 0 ∷ 0 ∷ 0 ∷ [])
         ≡ Some (BadItem 0x06) }
     ensures map_right { arm_fault (0x02000706 ∷ 0 ∷ 0 ∷ 0 ∷ 0 ∷ 0 ∷ 0 ∷ []) ≡ None }

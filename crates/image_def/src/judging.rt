@@ -35,7 +35,8 @@ fn is_version(block: &Block, item: &Item) -> bool
     }
 }
 
-/// Whether an item has the size, and the header byte, of its kind.
+/// Whether an item has the size, and the header byte, of its kind; of a VERSION item also whether
+/// its rows are at most 32 and its rollback version is within their bound.
 fn is_right(block: &Block, item: &Item) -> bool
     requires of_block { Contains (items_of block.now.items) item.now }
     ensures { result ≡ is_well_formed (block_words block.now) item.now }
