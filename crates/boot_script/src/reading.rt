@@ -13,7 +13,7 @@ use crate::kinds::{
 use byteorder::{ByteOrder, LittleEndian};
 use pico_board::BootKind;
 
-/// The event at the offset `at`, and the offset after it.
+/// The event at the offset `at` and the offset after it, or the first fault.
 pub fn next_event<'a>(bytes: &'a [u8], at: u32) -> Result<(Event<'a>, u32), ScriptFault>
     requires few { length bytes.now < 2 ^ 32 }
     requires inside { at ≤ length bytes.now }

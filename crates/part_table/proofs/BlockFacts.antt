@@ -5,13 +5,14 @@ use Rattle.std.proofs.lemmas.List.{append-nil, drop_at}
 use Rattle.arrayvec.specs.ArrayVec.{ArrayVec}
 use Rattle.sha2.specs.Sha256.{sha256}
 use Rattle.sha2.proofs.Facts256.{length-sha256}
-use Rattle.block_codec.specs.Blocks.{IsBlock, start_word, block_at}
+use Rattle.block_codec.specs.Blocks.{IsBlock, start_word, frame, block_at}
 use Rattle.block_codec.specs.Items.{size_of, AreItems, AreItemsAfter}
 use Rattle.block_codec.specs.Words.{bytes_of, words_of, AreWords}
-use Rattle.block_codec.proofs.BlockLemmas.{front_block-found, length-block}
+use Rattle.block_codec.proofs.BlockLemmas.{front_block-found}
+use Rattle.block_codec.proofs.FrameLemmas.{length-frame}
 use Rattle.block_codec.proofs.AtLemmas.{block_at-aligned}
 use Rattle.block_codec.proofs.ItemLemmas.{AreItemsAfter-back}
-use Rattle.block_codec.proofs.WordLemmas.{AreWords-words_of, length-words_of}
+use Rattle.block_codec.proofs.WordLemmas.{AreWords-words_of, length-words_of, length-bytes_of}
 use Rattle.part_table.specs.declared.partition.Partition.{Partition}
 use Rattle.part_table.specs.declared.table.Table.{Table}
 use Rattle.part_table.specs.Faults.{table_fault}
@@ -150,5 +151,10 @@ stands t rest ok =
     block_at-aligned (written t ++ rest) 0 (omega arith)
     ∙ front_block-found 0 (written t) (written_items t) rest (pos 0) (is_block t ok)
 
-pub size_told : (t : Table) → IsWritableTable t → length (written t) ≡ written_size t
-size_told t ok = length-block (written t) (written_items t) (pos 0) (is_block t ok) ∙ size_written t
+-- the bytes of the block of these item words, whole or not
+framed_size : (items : List ℕ) → length (bytes_of (frame items (pos 0))) ≡ 4 * length items + 16
+framed_size items =
+    length-bytes_of (frame items (pos 0)) ∙ (let long = length-frame items (pos 0) in omega (arith, long))
+
+pub size_told : (t : Table) → length (written t) ≡ written_size t
+size_told t = framed_size (written_items t) ∙ size_written t

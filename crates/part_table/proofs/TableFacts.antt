@@ -146,26 +146,26 @@ both_hold : (a b c d s : ℕ) → (nat_le a s && nat_le s b) ≡ true → (nat_l
     → (nat_le a d && nat_le c b) ≡ true
 both_hold a b c d s one two = grind (arith, nat_tests)
 
--- no partition before the one that holds a sector holds it too
-only_holder : (t : Table) (n : ℕ) → IsSoundTable t n → (i k s : ℕ) → i < length t.parts.items → k < i
+-- where no two overlap, no partition before the one that holds a sector holds it too
+only_holder : (t : Table) → overlap_fault t.parts.items ≡ None → (i k s : ℕ) → i < length t.parts.items → k < i
     → has_sector s (part_at t.parts.items i) ≡ true
     → has_sector s (part_at t.parts.items k) ≡ false
-only_holder t n sound i k s lt before holds =
+only_holder t none i k s lt before holds =
     never_true (has_sector s (part_at t.parts.items k)) (λ yes.
     let shared : shares_sector (part_at t.parts.items k) (part_at t.parts.items i) ≡ true =
     both_hold _ _ _ _ s yes holds in
     let apart : shares_sector (part_at t.parts.items k) (part_at t.parts.items i) ≡ false =
-    no_share t.parts.items sound.overlap k i before lt in
+    no_share t.parts.items none k i before lt in
     cc)
 
--- the permissions of a sector of a partition of a sound table are those of that partition, in both its words
-pub partition_right : (t : Table) (n : ℕ) → IsSoundTable t n → (i s : ℕ) → i < length t.parts.items
+-- where no two overlap, the permissions of a sector of a partition are those of that partition
+pub partition_right : (t : Table) → overlap_fault t.parts.items ≡ None → (i s : ℕ) → i < length t.parts.items
     → has_sector s (part_at t.parts.items i) ≡ true
     → right_word t s ≡ (part_at t.parts.items i).location
-partition_right t n sound i s lt holds =
+partition_right t none i s lt holds =
     let first : position_or_len (has_sector s) t.parts.items ≡ i =
     (first_position (has_sector s) t.parts.items i no_partition lt holds
-    (λ k before. only_holder t n sound i k s lt before holds)).0 in
+    (λ k before. only_holder t none i k s lt before holds)).0 in
     let found : find (has_sector s) t.parts.items ≡ Some (part_at t.parts.items i) =
     find_at (has_sector s) t.parts.items ∙ ap (λ k. slice_get t.parts.items k) first
     ∙ slice_get-get_or t.parts.items i no_partition lt in
@@ -188,11 +188,12 @@ other_right t s none =
           cc
     ]
 
-pub permissions_of_both : (t : Table) (n : ℕ) → IsSoundTable t n → (i : ℕ) → i < length t.parts.items
+-- without a fault of permissions, both words of a partition have the same
+pub permissions_of_both : (t : Table) → permissions_fault t.parts.items ≡ None → (i : ℕ) → i < length t.parts.items
     → permissions_of (part_at t.parts.items i).location ≡ permissions_of (part_at t.parts.items i).flags
-permissions_of_both t n sound i lt =
+permissions_of_both t none i lt =
     permissions_agree (take i t.parts.items) (part_at t.parts.items i)
-    (part_none judge_permissions t.parts.items i lt sound.permissions)
+    (part_none judge_permissions t.parts.items i lt none)
 
 -- a value that was read without something bad
 pub not_bad : {A : Type 0} (bad : Bool) (value read : A) → Ok read ≡ ok_unless_bad bad value → bad ≡ false

@@ -10,8 +10,9 @@ use Rattle.part_table.specs.Partitions.{part_at}
 abbrev pub has_sector : ℕ → Partition → Bool
 has_sector sector p = nat_le (first_sector p) sector && nat_le sector (last_sector p)
 
--- two partitions share a sector where neither ends before the other begins (RP2350 Datasheet,
--- chapter 5, Bootrom)
+-- two partitions share a sector where neither ends before the other begins; that is judged by first
+-- and last sectors, so it is meant for partitions whose first is not above their last (RP2350
+-- Datasheet, chapter 5, Bootrom)
 abbrev pub shares_sector : Partition → Partition → Bool
 shares_sector p q =
     nat_le (first_sector p) (last_sector q) && nat_le (first_sector q) (last_sector p)

@@ -94,7 +94,8 @@ pub fn families_are_read()
 {}
 
 /// The long spelling of the item, its header bits that are not read, a version of 1.9, and one of
-/// 2.1 that lists 33 rows.
+/// 2.1 that lists 33 rows and a rollback version above all that these can hold, which is no fault
+/// in a table.
 pub fn spellings_are_read()
     ensures long { table_in_64
         (0x0200068a ∷ 0xfc008000 ∷ 0xfc03e002 ∷ 0xfc020000 ∷ 0xfc07a020 ∷ 0xfc020002 ∷ [])
@@ -107,7 +108,8 @@ pub fn spellings_are_read()
     ensures version { table_in_64 (pair_and (0x00000248 ∷ 0x00010009 ∷ []))
         ≡ Ok (pair_version 1 9) }
     ensures before { table_in_64 (0x00000248 ∷ 0x00010009 ∷ pair_items) ≡ Ok (pair_version 1 9) }
-    ensures rows { table_in_64 (pair_and (0x21001348 ∷ 0x00020001 ∷ 0 ∷ eight_words ++ eight_words))
+    ensures rows { table_in_64
+        (pair_and (0x21001348 ∷ 0x00020001 ∷ 0x0000ffff ∷ eight_words ++ eight_words))
         ≡ Ok (pair_version 2 1) }
 {}
 

@@ -74,7 +74,7 @@ fn overlap_fault(parts: &[Partition]) -> Option<TableFault>
 }
 
 /// Whether one of these partitions is the B of a partition.
-fn is_first(value: u32, parts: &[Partition]) -> bool
+fn has_second(value: u32, parts: &[Partition]) -> bool
     ensures { result ≡ list_any (is_second_of value) parts.now }
 {
     for part in parts {
@@ -92,7 +92,7 @@ fn is_wrong_pair(parts: &[Partition], i: usize) -> bool
 {
     let value = parts[i].link_value();
     match parts.get(value as usize) {
-        Some(named) => named.is_second() || value as usize == i || is_first(value, &parts[..i]),
+        Some(named) => named.is_second() || value as usize == i || has_second(value, &parts[..i]),
         None => true,
     }
 }

@@ -7,7 +7,7 @@ ghost use Rattle.pico_board.specs.Content.{AreApart};
 ghost use Rattle.part_table.specs.declared.partition.Partition.{Partition};
 ghost use Rattle.part_table.specs.declared.table.Table.{Table};
 ghost use Rattle.part_table.specs.declared.table.TableFault.{TableFault};
-ghost use Rattle.part_table.specs.Faults.{table_fault, parts_fault, link_fault};
+ghost use Rattle.part_table.specs.Faults.{table_fault, parts_fault, permissions_fault, overlap_fault, link_fault};
 ghost use Rattle.part_table.specs.Fields.{link_type, permissions_of};
 ghost use Rattle.part_table.specs.Links.{is_second, is_second_of, owner_of, pair_of};
 ghost use Rattle.part_table.specs.Partitions.{part_at, partitions_in};
@@ -54,14 +54,16 @@ pub fn partitions_are_placed()
         → AreApart (partition_window t i) (partition_window t j) }
 {}
 
-/// The permissions of each sector of a partition are those of the partition, which has them in both
-/// its words; those of each other sector are those of the unpartitioned word.
+/// Where no two partitions overlap, the permissions of each sector of a partition are those of the
+/// partition; where there is no fault of permissions, it has them in both its words. Those of each
+/// sector of no partition are those of the unpartitioned word.
 pub fn sectors_have_one_right()
-    ensures own { (t : Table) (n : ℕ) → IsSoundTable t n
+    ensures own { (t : Table) → overlap_fault t.parts.items ≡ None
         → (i sector : ℕ) → i < length t.parts.items
         → has_sector sector (part_at t.parts.items i) ≡ true
         → right_word t sector ≡ (part_at t.parts.items i).location }
-    ensures both { (t : Table) (n : ℕ) → IsSoundTable t n → (i : ℕ) → i < length t.parts.items
+    ensures both { (t : Table) → permissions_fault t.parts.items ≡ None
+        → (i : ℕ) → i < length t.parts.items
         → permissions_of (part_at t.parts.items i).location
         ≡ permissions_of (part_at t.parts.items i).flags }
     ensures others { (t : Table) (sector : ℕ)
@@ -101,8 +103,9 @@ pub fn partitions_are_read_back()
 {}
 
 /// The bytes that are written for a table, whose words, ids, families and names are in their
-/// ranges, are a block of the size that is told of it. It stands at their front, whatever follows
-/// them, and is read as the same table in each flash for which that has no fault.
+/// ranges, are a block. It stands at their front, whatever follows them, and is read as the same
+/// table in each flash for which that has no fault. For each table, in its ranges or not, as many
+/// bytes are written as its written size says.
 pub fn tables_are_read_back()
     ensures block { (t : Table) → IsWritableTable t
         → IsBlock (written t) (written_items t) (pos 0) }
@@ -111,5 +114,5 @@ pub fn tables_are_read_back()
         ≡ Some (record { at = 0; items = written_items t; link = pos 0 }) }
     ensures again { (t : Table) (n m : ℕ) → IsWritableTable t → table_fault t n m ≡ None
         → IsReadAs (written t) t n m }
-    ensures size { (t : Table) → IsWritableTable t → length (written t) ≡ written_size t }
+    ensures size { (t : Table) → length (written t) ≡ written_size t }
 {}

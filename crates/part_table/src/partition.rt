@@ -171,7 +171,8 @@ impl Partition {
         self.first_sector() <= sector && sector <= self.last_sector()
     }
 
-    /// Whether the two partitions share a sector.
+    /// Whether the two partitions share a sector. That is judged by their first and last sectors,
+    /// so it is meant for partitions whose first sector is not above their last.
     pub fn shares_sector(&self, other: &Partition) -> bool
         ensures { result ≡ shares_sector self.now other.now }
     {
