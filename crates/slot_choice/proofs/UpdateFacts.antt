@@ -1,10 +1,10 @@
 -- The updated member and the order of an update boot.
-use Rattle.std.proofs.Common.{◌≡◌, ◌≢◌, ℕ, ◌+◌, ◌-◌, ◌<◌, ◌⊎◌, inl, inr, Bool, true, false, ◌==◌, nat_le, if◌then◌else◌, List, [], ◌∷◌, ◌++◌, take, drop, remove, get_or, length, refl, sym, ◌∙◌, ap, subst, arith, Option, None, Some, option_and_then, is_some, slice_get, find, position}
+use Rattle.std.proofs.Common.{◌≡◌, ◌≢◌, ℕ, ◌+◌, ◌-◌, ◌<◌, ◌≤◌, ◌⊎◌, inl, inr, Bool, true, false, ◌==◌, nat_le, if◌then◌else◌, List, [], ◌∷◌, ◌++◌, take, drop, remove, get_or, length, refl, sym, ◌∙◌, ap, subst, arith, Option, None, Some, option_and_then, is_some, slice_get, find, position}
 use Rattle.std.specs.Option.{option_map_or}
 use Rattle.std.specs.List.Sorted.{IsPermutation}
 use Rattle.std.proofs.lemmas.Bool.{eqb-true, eq-eqb}
 use Rattle.std.proofs.lemmas.Bool.Decides.{leb_tells}
-use Rattle.std.proofs.lemmas.Option.{slice_get_within, slice_get-get_or, get_or_from_slice_get}
+use Rattle.std.proofs.lemmas.Option.{slice_get_within, slice_get-get_or, get_or_from_slice_get, none-some, same_Some}
 use Rattle.std.proofs.lemmas.List.{drop_more, get_or_default}
 use Rattle.std.proofs.lemmas.List.Sorted.{IsPermutation-remove, IsPermutation-refl}
 use Rattle.pico_board.specs.declared.window.Window.{Window}
@@ -161,3 +161,38 @@ updated us base m some =
       ]
       | inr below ↦ absurd (below_member us base (nat_le flash_base base) m below.0 some)
     ]
+
+sought_by : (us : List SlotUnit) (base start : ℕ) (yes : Bool) → yes ≡ true → start ≡ base - flash_base
+    → (if yes then option_and_then (member_at (base - flash_base)) (find (has_member_at (base - flash_base)) us) else None)
+    ≡ option_and_then (member_at start) (find (has_member_at start) us)
+sought_by us base start false is e = cc
+sought_by us base start true is e = ap (λ s. option_and_then (member_at s) (find (has_member_at s) us)) (sym e)
+
+module _ (us : List SlotUnit) (base start : ℕ) (above : flash_base ≤ base) (offset : start ≡ base - flash_base) where
+  -- the updated member of an address inside the flash is sought by its offset
+  sought_at : updated_member us base ≡ option_and_then (member_at start) (find (has_member_at start) us)
+  sought_at =
+      elim (leb_tells flash_base base) [
+        | inl is ↦ sought_by us base start (nat_le flash_base base) is.0 offset
+        | inr below ↦ absurd (omega (arith, below.1))
+      ]
+
+  -- without a place there is none
+  pub unplaced : position (has_member_at start) us ≡ None → None ≡ updated_member us base
+  unplaced none =
+      elim (search_of (has_member_at start) us) [
+        | inl absent ↦ sym (sought_at ∙ ap (option_and_then (member_at start)) absent.unfound)
+        | inr found ↦ absurd (none-some found.0 (sym none ∙ found.2.place))
+      ]
+
+  -- and it is that of the unit at the place
+  pub placed : (k : ℕ) (u : SlotUnit) → position (has_member_at start) us ≡ Some k → slice_get us k ≡ Some u
+      → member_at start u ≡ updated_member us base
+  placed k u place at =
+      elim (search_of (has_member_at start) us) [
+        | inl absent ↦ absurd (none-some k (sym absent.placeless ∙ place))
+        | inr found ↦
+            let here : found.0 ≡ k = same_Some found.0 k (sym found.2.place ∙ place) in
+            let same : found.1 ≡ u = same_Some found.1 u (sym found.2.at ∙ ap (slice_get us) here ∙ at) in
+            sym (sought_at ∙ ap (option_and_then (member_at start)) (found.2.sought ∙ ap Some same))
+      ]
