@@ -1,14 +1,14 @@
 -- The updated member and the order of an update boot.
-use Rattle.std.proofs.Common.{◌≡◌, ◌≢◌, ℕ, ◌+◌, ◌-◌, ◌<◌, ◌≤◌, ◌⊎◌, inl, inr, Bool, true, false, ◌==◌, nat_le, if◌then◌else◌, List, [], ◌∷◌, ◌++◌, take, drop, remove, get_or, length, refl, sym, ◌∙◌, ap, subst, arith, Option, None, Some, option_and_then, is_some, slice_get, find, position}
+use Rattle.std.proofs.Common.{◌≡◌, ◌≢◌, ℕ, suc, ◌+◌, add-one, ◌-◌, ◌<◌, ◌≤◌, ◌⊎◌, inl, inr, Bool, true, false, ◌==◌, nat_le, if◌then◌else◌, List, [], ◌∷◌, ◌++◌, take, drop, remove, get_or, length, refl, sym, ◌∙◌, ap, subst, arith, Option, None, Some, option_and_then, is_some, slice_get, find, position}
 use Rattle.std.specs.Option.{option_map_or}
 use Rattle.std.specs.List.Sorted.{IsPermutation}
 use Rattle.std.proofs.lemmas.Bool.{eqb-true, eq-eqb}
 use Rattle.std.proofs.lemmas.Bool.Decides.{leb_tells}
 use Rattle.std.proofs.lemmas.Option.{slice_get_within, slice_get-get_or, get_or_from_slice_get, none-some, same_Some}
-use Rattle.std.proofs.lemmas.List.{drop_more, get_or_default}
+use Rattle.std.proofs.lemmas.List.{drop_more, get_or_default, get_or-take, length-take-le, take-append-drop}
 use Rattle.std.proofs.lemmas.List.Sorted.{IsPermutation-remove, IsPermutation-refl}
 use Rattle.pico_board.specs.declared.window.Window.{Window}
-use Rattle.part_table.proofs.TestFacts.{Found, Absent, search_of, passes_at_position}
+use Rattle.part_table.proofs.TestFacts.{Found, Absent, search_of, passes_at_position, fails_before_position}
 use Rattle.slot_choice.specs.declared.unit.SlotUnit.{SlotUnit}
 use Rattle.slot_choice.specs.declared.unit.Member.{Member}
 use Rattle.slot_choice.specs.declared.unit.Member.TheVariants.{A, B}
@@ -140,6 +140,26 @@ not_updated us base none =
       })
     ]
 
+-- a list is what stands before a place, at it and behind it
+in_three : {X : Type 0} (xs : List X) (k : ℕ) (x : X) → slice_get xs k ≡ Some x → xs ≡ take k xs ++ x ∷ drop (suc k) xs
+in_three xs k x at =
+    let lt : k < length xs = slice_get_within xs k x at in
+    let is : get_or xs k x ≡ x = get_or_from_slice_get xs k x x at in
+    sym (take-append-drop k xs)
+    ∙ ap (λ ys. take k xs ++ ys)
+    (drop_more xs k x lt ∙ ap (λ y. y ∷ drop (k + 1) xs) is ∙ ap (λ n. x ∷ drop n xs) (add-one k))
+
+-- no unit before the first that has a member at an offset has one
+fails_before : (us : List SlotUnit) (start k : ℕ) → position (has_member_at start) us ≡ Some k
+    → (j : ℕ) (v : SlotUnit) → slice_get (take k us) j ≡ Some v → has_member_at start v ≡ false
+fails_before us start k place j v at =
+    let within : k < length us = (passes_at_position (has_member_at start) us k v place).0 in
+    let inside : j < length (take k us) = slice_get_within (take k us) j v at in
+    let long : length (take k us) ≡ k = length-take-le k us (omega (arith, within)) in
+    let lt : j < k = omega (arith, inside, long) in
+    let is : get_or us j v ≡ v = sym (get_or-take k us j v lt) ∙ get_or_from_slice_get (take k us) j v v at in
+    subst (λ y. has_member_at start y ≡ false) is (fails_before_position (has_member_at start) us k v place j lt)
+
 -- the updated member is one of the unit that comes first, and starts where the address points
 pub updated : (us : List SlotUnit) (base : ℕ) (m : Member) → updated_member us base ≡ Some m → (u : SlotUnit) × (w : Window) × IsUpdateOf us base m u w
 updated us base m some =
@@ -152,10 +172,16 @@ updated us base m some =
               found.1,
               start.0,
               record {
-                leads = ap (λ vs. slice_get vs 0) (ordered_by us base (nat_le flash_base base) (Some found.0) above.0 found.2.place
-                    ∙ front_permutes us found.0 found.1 found.2.at);
+                before = take found.0 us;
+                after = drop (suc found.0) us;
+                stood = in_three us found.0 found.1 found.2.at;
+                order = ordered_by us base (nat_le flash_base base) (Some found.0) above.0 found.2.place
+                    ∙ front_permutes us found.0 found.1 found.2.at;
                 window = start.1;
                 pointed = omega (arith, above.1, start.2);
+                first = λ j v x at member same.
+                    none_starts (base - flash_base) v (fails_before us (base - flash_base) found.0 found.2.place j v at) x member
+                    (omega arith);
               },
             )
       ]
