@@ -14,4 +14,7 @@ mod units;
 pub use choice::Choice;
 pub use choosing::{better, is_below, update_first};
 pub use unit::{Member, SlotUnit};
-pub use units::{boot_units, load_unit};
+pub use units::{boot_units, load_unit, second_of};
+
+#[cfg(test)]
+mod tests;

@@ -24,7 +24,7 @@ const DATA_FAMILY: u32 = 0xe48b_ff58;
 const ARM_NS_FAMILY: u32 = 0xe48b_ff5b;
 
 /// The B of a partition, where it has one.
-fn second_of(parts: &[Partition], first: u32) -> Option<u32>
+pub fn second_of(parts: &[Partition], first: u32) -> Option<u32>
     requires few { length parts.now ≤ 15 }
     ensures value { result ≡ pair_of parts.now first }
     ensures inside { IfSome result (λ j. j < length parts.now) }
@@ -141,7 +141,7 @@ pub fn boot_units(
 fn begins_load_unit(part: &Partition) -> bool
     ensures { result ≡ begins_load_unit part.now }
 {
-    !part.is_second()
+    !part.is_second() // owned and ignored ones too
 }
 
 /// The unit of the first partition that is no B and accepts the family.
