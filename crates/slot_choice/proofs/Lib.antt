@@ -1,4 +1,5 @@
 pub mod PartLists
+pub mod ListLemmas
 pub mod UnitFacts
 pub mod PlaceFacts
 pub mod UpdateFacts

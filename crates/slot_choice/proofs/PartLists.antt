@@ -1,6 +1,6 @@
 -- Lists of the numbers that pass a test.
-use Rattle.std.proofs.Common.{◌≡◌, ◌≢◌, ℕ, zero, suc, ◌+◌, ◌<◌, ◌≤◌, ◌⊎◌, inl, inr, Bool, true, false, cond, List, ◌∷◌, refl, sym, subst, arith, Some, slice_get, filter}
-use Rattle.std.proofs.lemmas.Bool.{cases_lt}
+use Rattle.std.proofs.Common.{◌≡◌, ◌≢◌, ℕ, zero, suc, ◌+◌, ◌<◌, ◌≤◌, ◌⊎◌, inl, inr, Bool, true, false, cond, List, ◌∷◌, refl, sym, ◌∙◌, ap, subst, arith, Some, slice_get, filter}
+use Rattle.std.proofs.lemmas.Bool.{cases_eq, cases_lt}
 use Rattle.std.specs.List.{range_with_len}
 
 -- an element of a list to which a test may have added one is that one or was there
@@ -9,6 +9,12 @@ added : (yes : Bool) (a : ℕ) (rest : List ℕ) (j i : ℕ) → slice_get (cond
 added true a rest zero i at = inl (refl, cc)
 added true a rest (suc j) i at = inr (j, at)
 added false a rest j i at = inr (j, at)
+
+-- and an element of the list is one of the longer list
+kept : (yes : Bool) (a : ℕ) (rest : List ℕ) (i k : ℕ) → slice_get rest k ≡ Some i
+    → (l : ℕ) × (slice_get (cond yes (a ∷ rest) rest) l ≡ Some i)
+kept true a rest i k at = (suc k, at)
+kept false a rest i k at = (k, at)
 
 -- a list of rising numbers above one that a test may have added in front rises
 rises : (yes : Bool) (a : ℕ) (rest : List ℕ) → ((k y : ℕ) → slice_get rest k ≡ Some y → a < y)
@@ -49,4 +55,22 @@ module _ (test : ℕ → Bool) where
       elim (cases_lt j k) [
         | inl before ↦ (let up : x < y = rising a n j k x y before one two in λ same. absurd (omega arith))
         | inr behind ↦ (let up : y < x = rising a n k j y x (omega arith) two one in λ same. absurd (omega arith))
+      ]
+
+  -- a number of the range that passes the test has its place in the list
+  pub listed : (a n i : ℕ) → a ≤ i → i < a + n → test i ≡ true
+      → (k : ℕ) × (slice_get (filter test (range_with_len a n)) k ≡ Some i)
+  listed a zero i le lt passes = absurd (omega (arith, le, lt))
+  listed a (suc n) i le lt passes =
+      elim (cases_eq a i) [
+        | inl same ↦ (
+          0,
+          ap (λ yes. slice_get (cond yes (a ∷ filter test (range_with_len (a + 1) n)) (filter test (range_with_len (a + 1) n))) 0)
+              (ap test same ∙ passes)
+          ∙ ap Some same,
+        )
+        | inr other ↦
+            let rest : (k : ℕ) × (slice_get (filter test (range_with_len (a + 1) n)) k ≡ Some i) =
+            listed (a + 1) n i (omega (arith, le, other)) (omega (arith, lt)) passes in
+            kept (test a) a (filter test (range_with_len (a + 1) n)) i rest.0 rest.1
       ]

@@ -1,14 +1,14 @@
 -- The updated member and the order of an update boot.
-use Rattle.std.proofs.Common.{◌≡◌, ◌≢◌, ℕ, ◌+◌, ◌-◌, ◌<◌, ◌⊎◌, inl, inr, Bool, true, false, ◌==◌, nat_le, if◌then◌else◌, List, [], ◌∷◌, ◌++◌, take, drop, remove, get_or, length, refl, sym, ◌∙◌, ap, subst, arith, Option, None, Some, option_and_then, is_some, slice_get, find, position}
+use Rattle.std.proofs.Common.{◌≡◌, ◌≢◌, ℕ, suc, ◌+◌, add-one, ◌-◌, ◌<◌, ◌≤◌, ◌⊎◌, inl, inr, Bool, true, false, ◌==◌, nat_le, if◌then◌else◌, List, [], ◌∷◌, ◌++◌, take, drop, remove, get_or, length, refl, sym, ◌∙◌, ap, subst, arith, Option, None, Some, option_and_then, is_some, slice_get, find, position}
 use Rattle.std.specs.Option.{option_map_or}
 use Rattle.std.specs.List.Sorted.{IsPermutation}
 use Rattle.std.proofs.lemmas.Bool.{eqb-true, eq-eqb}
 use Rattle.std.proofs.lemmas.Bool.Decides.{leb_tells}
-use Rattle.std.proofs.lemmas.Option.{slice_get_within, slice_get-get_or, get_or_from_slice_get}
-use Rattle.std.proofs.lemmas.List.{drop_more, get_or_default}
+use Rattle.std.proofs.lemmas.Option.{slice_get_within, slice_get-get_or, get_or_from_slice_get, none-some, same_Some}
+use Rattle.std.proofs.lemmas.List.{drop_more, get_or_default, get_or-take, length-take-le, take-append-drop}
 use Rattle.std.proofs.lemmas.List.Sorted.{IsPermutation-remove, IsPermutation-refl}
 use Rattle.pico_board.specs.declared.window.Window.{Window}
-use Rattle.part_table.proofs.TestFacts.{Found, Absent, search_of, passes_at_position}
+use Rattle.part_table.proofs.TestFacts.{Found, Absent, search_of, passes_at_position, fails_before_position}
 use Rattle.slot_choice.specs.declared.unit.SlotUnit.{SlotUnit}
 use Rattle.slot_choice.specs.declared.unit.Member.{Member}
 use Rattle.slot_choice.specs.declared.unit.Member.TheVariants.{A, B}
@@ -140,6 +140,26 @@ not_updated us base none =
       })
     ]
 
+-- a list is what stands before a place, at it and behind it
+in_three : {X : Type 0} (xs : List X) (k : ℕ) (x : X) → slice_get xs k ≡ Some x → xs ≡ take k xs ++ x ∷ drop (suc k) xs
+in_three xs k x at =
+    let lt : k < length xs = slice_get_within xs k x at in
+    let is : get_or xs k x ≡ x = get_or_from_slice_get xs k x x at in
+    sym (take-append-drop k xs)
+    ∙ ap (λ ys. take k xs ++ ys)
+    (drop_more xs k x lt ∙ ap (λ y. y ∷ drop (k + 1) xs) is ∙ ap (λ n. x ∷ drop n xs) (add-one k))
+
+-- no unit before the first that has a member at an offset has one
+fails_before : (us : List SlotUnit) (start k : ℕ) → position (has_member_at start) us ≡ Some k
+    → (j : ℕ) (v : SlotUnit) → slice_get (take k us) j ≡ Some v → has_member_at start v ≡ false
+fails_before us start k place j v at =
+    let within : k < length us = (passes_at_position (has_member_at start) us k v place).0 in
+    let inside : j < length (take k us) = slice_get_within (take k us) j v at in
+    let long : length (take k us) ≡ k = length-take-le k us (omega (arith, within)) in
+    let lt : j < k = omega (arith, inside, long) in
+    let is : get_or us j v ≡ v = sym (get_or-take k us j v lt) ∙ get_or_from_slice_get (take k us) j v v at in
+    subst (λ y. has_member_at start y ≡ false) is (fails_before_position (has_member_at start) us k v place j lt)
+
 -- the updated member is one of the unit that comes first, and starts where the address points
 pub updated : (us : List SlotUnit) (base : ℕ) (m : Member) → updated_member us base ≡ Some m → (u : SlotUnit) × (w : Window) × IsUpdateOf us base m u w
 updated us base m some =
@@ -152,12 +172,53 @@ updated us base m some =
               found.1,
               start.0,
               record {
-                leads = ap (λ vs. slice_get vs 0) (ordered_by us base (nat_le flash_base base) (Some found.0) above.0 found.2.place
-                    ∙ front_permutes us found.0 found.1 found.2.at);
+                before = take found.0 us;
+                after = drop (suc found.0) us;
+                stood = in_three us found.0 found.1 found.2.at;
+                order = ordered_by us base (nat_le flash_base base) (Some found.0) above.0 found.2.place
+                    ∙ front_permutes us found.0 found.1 found.2.at;
                 window = start.1;
                 pointed = omega (arith, above.1, start.2);
+                first = λ j v x at member same.
+                    none_starts (base - flash_base) v (fails_before us (base - flash_base) found.0 found.2.place j v at) x member
+                    (omega arith);
               },
             )
       ]
       | inr below ↦ absurd (below_member us base (nat_le flash_base base) m below.0 some)
     ]
+
+sought_by : (us : List SlotUnit) (base start : ℕ) (yes : Bool) → yes ≡ true → start ≡ base - flash_base
+    → (if yes then option_and_then (member_at (base - flash_base)) (find (has_member_at (base - flash_base)) us) else None)
+    ≡ option_and_then (member_at start) (find (has_member_at start) us)
+sought_by us base start false is e = cc
+sought_by us base start true is e = ap (λ s. option_and_then (member_at s) (find (has_member_at s) us)) (sym e)
+
+module _ (us : List SlotUnit) (base start : ℕ) (above : flash_base ≤ base) (offset : start ≡ base - flash_base) where
+  -- the updated member of an address inside the flash is sought by its offset
+  sought_at : updated_member us base ≡ option_and_then (member_at start) (find (has_member_at start) us)
+  sought_at =
+      elim (leb_tells flash_base base) [
+        | inl is ↦ sought_by us base start (nat_le flash_base base) is.0 offset
+        | inr below ↦ absurd (omega (arith, below.1))
+      ]
+
+  -- without a place there is none
+  pub unplaced : position (has_member_at start) us ≡ None → None ≡ updated_member us base
+  unplaced none =
+      elim (search_of (has_member_at start) us) [
+        | inl absent ↦ sym (sought_at ∙ ap (option_and_then (member_at start)) absent.unfound)
+        | inr found ↦ absurd (none-some found.0 (sym none ∙ found.2.place))
+      ]
+
+  -- and it is that of the unit at the place
+  pub placed : (k : ℕ) (u : SlotUnit) → position (has_member_at start) us ≡ Some k → slice_get us k ≡ Some u
+      → member_at start u ≡ updated_member us base
+  placed k u place at =
+      elim (search_of (has_member_at start) us) [
+        | inl absent ↦ absurd (none-some k (sym absent.placeless ∙ place))
+        | inr found ↦
+            let here : found.0 ≡ k = same_Some found.0 k (sym found.2.place ∙ place) in
+            let same : found.1 ≡ u = same_Some found.1 u (sym found.2.at ∙ ap (slice_get us) here ∙ at) in
+            sym (sought_at ∙ ap (option_and_then (member_at start)) (found.2.sought ∙ ap Some same))
+      ]

@@ -1,5 +1,5 @@
 -- The order of the boot units in a flash-update boot.
-use Rattle.std.specs.Prelude.{◌≡◌, ◌≢◌, ℕ, ◌+◌, slice_get, Bool, false, ◌-◌, ◌==◌, List, ◌++◌, take, drop, remove, position, find, is_some, nat_le, if◌then◌else◌}
+use Rattle.std.specs.Prelude.{◌≡◌, ◌≢◌, ℕ, ◌+◌, slice_get, Bool, false, ◌-◌, ◌==◌, List, ◌∷◌, ◌++◌, take, drop, remove, position, find, is_some, nat_le, if◌then◌else◌}
 use Rattle.std.specs.Prelude.{Option, None, Some, option_and_then}
 use Rattle.std.specs.Option.{option_map_or}
 use Rattle.pico_board.specs.declared.window.Window.{Window}
@@ -43,9 +43,16 @@ pub record IsUpdateless (us : List SlotUnit) (base : ℕ) : Type 0 where
   pub order : update_order us base ≡ us
   pub elsewhere : (k : ℕ) (u : SlotUnit) (w : Window) → slice_get us k ≡ Some u → IsMember u w → flash_base + w.start ≢ base
 
--- an address updates the member m, of window w, of the unit u where that window starts at the address, and the unit comes first (this
--- project's own)
-pub record IsUpdateOf (us : List SlotUnit) (base : ℕ) (m : Member) (u : SlotUnit) (w : Window) : Type 0 where
-  pub leads : slice_get (update_order us base) 0 ≡ Some u
+-- an address updates the member m, of window w, of the unit u where that window starts at the
+-- address, and no member of a unit before u does; then u comes first, and behind it the others in
+-- their order (this project's own)
+pub record IsUpdateOf (us : List SlotUnit) (base : ℕ) (m : Member) (u : SlotUnit)
+    (w : Window) : Type 0 where
+  pub before : List SlotUnit
+  pub after : List SlotUnit
+  pub stood : us ≡ before ++ u ∷ after
+  pub order : update_order us base ≡ u ∷ before ++ after
   pub window : member_window m u ≡ Some w
   pub pointed : flash_base + w.start ≡ base
+  pub first : (k : ℕ) (v : SlotUnit) (x : Window) → slice_get before k ≡ Some v → IsMember v x
+      → flash_base + x.start ≢ base

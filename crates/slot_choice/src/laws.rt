@@ -73,7 +73,8 @@ pub fn better_is_greater()
     ensures none { (a b : Option Version) → (better a b ≡ None) ↔ ((a ≡ None) × (b ≡ None)) }
 {}
 
-/// An update boot goes over the same units; the updated member is one of the first, and without one the order stays.
+/// An update boot goes over the same units. The updated member's unit, the first that has a member
+/// there, is moved to the front, and the others keep their order; without one the order stays.
 pub fn updates_go_first()
     ensures same { (us : List SlotUnit) (base : ℕ) → IsPermutation us (update_order us base) }
     ensures none { (us : List SlotUnit) (base : ℕ) → updated_member us base ≡ None → IsUpdateless us base }

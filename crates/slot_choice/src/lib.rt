@@ -5,9 +5,16 @@
 #![tactic(auto)]
 
 mod choice;
+mod choosing;
 pub mod examples;
 pub mod laws;
 mod unit;
+mod units;
 
 pub use choice::Choice;
+pub use choosing::{better, is_below, update_first};
 pub use unit::{Member, SlotUnit};
+pub use units::{boot_units, load_unit, second_of};
+
+#[cfg(test)]
+mod tests;

@@ -19,15 +19,3 @@ returns-clause-absolute c = refl
 
 pub returns-clause-refused : goal.returns-clause-refused
 returns-clause-refused c = refl
-
-pub returns-clause-tableless : goal.returns-clause-tableless
-returns-clause-tableless c = refl
-
-pub returns-clause-tableless_absolute : goal.returns-clause-tableless_absolute
-returns-clause-tableless_absolute c = refl
-
-pub returns-clause-tableless_old : goal.returns-clause-tableless_old
-returns-clause-tableless_old c = refl
-
-pub returns-clause-tableless_unknown : goal.returns-clause-tableless_unknown
-returns-clause-tableless_unknown c = refl

@@ -17,5 +17,11 @@ returns-clause-riscv c = refl
 pub returns-clause-whole : goal.returns-clause-whole
 returns-clause-whole c = refl
 
+pub returns-clause-above : goal.returns-clause-above
+returns-clause-above c = refl
+
 pub returns-clause-slots : goal.returns-clause-slots
 returns-clause-slots c = refl
+
+pub returns-clause-slot : goal.returns-clause-slot
+returns-clause-slot c = refl
