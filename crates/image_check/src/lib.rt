@@ -11,6 +11,7 @@ mod entry;
 mod examining;
 pub mod examples;
 pub mod laws;
+pub mod orders;
 mod why;
 
 pub use addressing::Addressing;
@@ -18,3 +19,6 @@ pub use checking::{check, check_view, confirm};
 pub use examining::{Candidate, examine};
 pub use image_def::Started;
 pub use why::{EntryFault, Why};
+
+#[cfg(test)]
+mod tests;
