@@ -1,5 +1,5 @@
 -- Worked examples of entries and of the rollback rule. This project's own.
-use Rattle.std.specs.Prelude.{ℕ, ◌+◌, ◌*◌, Bool, pos, List, [], ◌∷◌, ◌++◌, length, replicate, Option, Some, None}
+use Rattle.std.specs.Prelude.{ℕ, ◌+◌, ◌*◌, Bool, false, pos, List, [], ◌∷◌, ◌++◌, length, replicate, Option, Some, None}
 use Rattle.pico_board.specs.declared.window.Window.{Window}
 use Rattle.image_def.specs.declared.started.Started.{Started}
 use Rattle.block_codec.specs.declared.definition.Def.{Def}
@@ -115,3 +115,33 @@ wrong_hash = 0x01000247 ∷ 3 ∷ 0x0000094b ∷ 0 ∷ 0 ∷ 0 ∷ 0 ∷ 0 ∷ 0
 -- a window delta of 4
 abbrev pub delta_four : List ℕ
 delta_four = 0x00000205 ∷ 4 ∷ []
+
+-- the record of an image of version 1.0 with rollback version 3 and row 0x0c0
+abbrev pub three_record : Started
+three_record = record {
+  window = window_at_two;
+  block = 8;
+  image_at = 12;
+  pc = right_pc;
+  sp = 0x20082000;
+  limit = 0;
+  version = record { major = 1; minor = 0 };
+  rollback = Some 3;
+  rows = record { items = 0x0c0 ∷ [] };
+  trial = false;
+}
+
+-- the record of a RISC-V image without further items that starts at this address
+abbrev pub riscv_record : ℕ → Started
+riscv_record pc = record {
+  window = window_at_two;
+  block = 8;
+  image_at = 12;
+  pc = pc;
+  sp = 0x20082000;
+  limit = 0;
+  version = no_version;
+  rollback = None;
+  rows = record { items = [] };
+  trial = false;
+}

@@ -2,14 +2,14 @@
 //! of a function that does nothing.
 
 ghost use Rattle.std.specs.Prelude.{◌≡◌, ◌++◌, [], ◌∷◌, true, false, Ok, Err};
-ghost use Rattle.pico_board.specs.declared.boot.Cpu.TheVariants.{Arm};
+ghost use Rattle.pico_board.specs.declared.boot.Cpu.TheVariants.{Arm, Riscv};
 ghost use Rattle.block_loop.specs.declared.fault.LoopFault.TheVariants.{Broken};
 ghost use Rattle.image_def.specs.declared.fault.DefFault.TheVariants.{Repeated};
 ghost use Rattle.load_map.specs.declared.load.MapFault.TheVariants.{Storage};
 ghost use Rattle.image_check.specs.declared.why.Why.TheVariants.{NoBlock, Loop, NoDefinition, NotForProcessor, Items, Trial, RollbackRequired, Below, Map, Entry, Digest, Delta};
 ghost use Rattle.image_check.specs.declared.why.EntryFault.TheVariants.{Table, InBlock, Pc};
-ghost use Rattle.image_check.specs.Addressing.{in_flash};
-ghost use Rattle.image_check.specs.Examples.{arm_type, delta_four, otp_with, riscv_type, right_pc, stray_pc, trial_type, version_three, window_at_two, window_with, wrong_hash, wrong_map};
+ghost use Rattle.image_check.specs.Addressing.{in_flash, in_ram};
+ghost use Rattle.image_check.specs.Examples.{arm_type, delta_four, otp_with, riscv_record, riscv_type, right_pc, stray_pc, three_record, trial_type, version_three, window_at_two, window_with, wrong_hash, wrong_map};
 ghost use Rattle.image_check.specs.Image.{image_in};
 
 /// A loop that does not close before a window without a definition; no definition before none for the
@@ -48,4 +48,16 @@ pub fn from_the_trial_to_the_entry()
         (window_with stray_pc (arm_type ∷ wrong_hash) 0) ≡ Err (Entry Pc) }
     ensures delta { image_in in_flash window_at_two Arm false (otp_with 0 0 0 0)
         (window_with right_pc (arm_type ∷ delta_four) 0) ≡ Err Delta }
+{}
+
+/// An image with a rollback version and a row; a RISC-V image, which starts at the first byte of its
+/// window, in flash and in RAM.
+#[tactic(auto, unfolding(crate::specs::Image::image_in, image_def::specs::Definition::def_of, block_loop::specs::Loop::loop_of, block_loop::specs::Loop::follow, block_loop::specs::Loop::first_from, block_codec::specs::Blocks::block_at, block_codec::specs::Blocks::front_block, block_codec::specs::Blocks::item_words, block_codec::specs::Blocks::frame, block_codec::specs::Items::size_of, block_codec::specs::Words::word_of, block_codec::specs::Words::word_bytes))]
+pub fn whole_records()
+    ensures rows { image_in in_flash window_at_two Arm false (otp_with 1 0x7 0x7 0x7)
+        (window_with right_pc (arm_type ∷ version_three) 0) ≡ Ok three_record }
+    ensures flash { image_in in_flash window_at_two Riscv false (otp_with 0 0 0 0)
+        (window_with right_pc (riscv_type ∷ []) 0) ≡ Ok (riscv_record 0x10000000) }
+    ensures ram { image_in (in_ram 0x20001000) window_at_two Riscv false (otp_with 0 0 0 0)
+        (window_with right_pc (riscv_type ∷ []) 0) ≡ Ok (riscv_record 0x20001000) }
 {}

@@ -7,7 +7,7 @@ use super::*;
 use block_loop::LoopFault;
 use image_def::DefFault;
 use load_map::MapFault;
-use pico_board::{Board, Cpu, MemBoard, Window};
+use pico_board::{Board, Cpu, FlashView, MemBoard, View, Window};
 use sector_pool::SectorPool;
 use std::alloc::{AllocError, Global};
 use std::process::Abort;
@@ -170,5 +170,51 @@ fn a_digest_is_that_of_the_covered_words(rt: HostRuntime) -> Result<(), Fail> {
 fn a_delta_is_refused(rt: HostRuntime) -> Result<(), Fail> {
     let delta = [0xffff_ded3, 0x1021_0142, 0x205, 4, 0x3ff, 0, 0xab12_3579];
     assert_eq!(rt; why_not(&rt, rt.alloc(), &delta)?, Some(Why::Delta));
+    Ok(())
+}
+
+/// Whether two flashes of 8192 bytes, of which the first has these words at 0x100 and holds an image,
+/// hold the same image.
+fn same_images(rt: &impl Abort, alloc: Global, one: &[u32], two: &[u32]) -> Result<bool, Fail> {
+    let first = board_of(alloc, flash_with(alloc, one)?)?;
+    let second = board_of(alloc, flash_with(alloc, two)?)?;
+    let mut pool = SectorPool::make(alloc, 1)?;
+    assert!(rt; pool.free() == 1);
+    assert!(rt; first.flash_len() == 8192);
+    assert!(rt; second.flash_len() == 8192);
+    let Ok(started) = check(&first, &mut pool, WHOLE, Cpu::Arm, false) else {
+        return Err("no image".into());
+    };
+    let one = FlashView {
+        board: &first,
+        window: WHOLE,
+    };
+    let two = FlashView {
+        board: &second,
+        window: WHOLE,
+    };
+    assert!(rt; two.len() == one.len());
+    Ok(same_content(&one, &two, &started, Cpu::Arm))
+}
+
+#[test]
+fn the_same_image_is_the_same_bytes(rt: HostRuntime) -> Result<(), Fail> {
+    let plain = [0xffff_ded3, 0x1021_0142, 0x1ff, 0, 0xab12_3579];
+    let more = [0xffff_ded3, 0x1021_0142, 0x1ff, 0, 0xab12_3579, 7];
+    assert!(rt; same_images(&rt, rt.alloc(), &plain, &plain)?);
+    assert!(rt; !same_images(&rt, rt.alloc(), &plain, &more)?);
+    let mapped = [0xffff_ded3, 0x1021_0142, 0x0000_0106, 0x2ff, 0, 0xab12_3579];
+    let behind = [
+        0xffff_ded3,
+        0x1021_0142,
+        0x0000_0106,
+        0x2ff,
+        0,
+        0xab12_3579,
+        7,
+    ];
+    let other = [0xffff_ded3, 0x1021_0142, 0x0000_0106, 0x2ff, 0, 0xab12_3578];
+    assert!(rt; same_images(&rt, rt.alloc(), &mapped, &behind)?);
+    assert!(rt; !same_images(&rt, rt.alloc(), &mapped, &other)?);
     Ok(())
 }
