@@ -1,5 +1,5 @@
 -- The laws of valid images.
-use Rattle.std.proofs.Common.{◌≡◌, ◌↔◌, ◌⊎◌, ℕ, Bool, true, false, List, Result, Ok, Err, slice_index, refl, sym, ◌∙◌, ap, subst, inl, inr}
+use Rattle.std.proofs.Common.{◌≡◌, ◌↔◌, ◌⊎◌, ℕ, Bool, true, false, List, [], ◌∷◌, Option, Some, None, Result, Ok, Err, length, slice_get, slice_index, refl, sym, ◌∙◌, ap, subst, inl, inr}
 use Rattle.pico_board.specs.declared.boot.Cpu.{Cpu}
 use Rattle.pico_board.specs.declared.window.Window.{Window}
 use Rattle.pico_board.specs.Content.{Content, window_bytes}
@@ -9,8 +9,16 @@ use Rattle.image_check.specs.declared.why.Why.{Why}
 use Rattle.image_check.specs.Addressing.{in_flash}
 use Rattle.image_check.specs.Image.{image_at, image_in, started_of}
 use Rattle.image_check.specs.NotBelow.{NotBelow}
-use Rattle.image_check.specs.SameImage.{Holds, SameImage}
-use Rattle.image_check.specs.Valid.{IsValidImage, Valid}
+use Rattle.image_check.specs.SameImage.{AgreeFrom, AgreeOnBlocks, AgreeOnLoad, AgreeOnLoads, AgreeOnStorage, Holds, SameImage}
+use Rattle.block_codec.specs.Blocks.{BlockView}
+use Rattle.block_codec.specs.Items.{items_of}
+use Rattle.block_codec.specs.declared.definition.Def.{Def}
+use Rattle.block_codec.specs.declared.items.Item.{Item}
+use Rattle.load_map.specs.Reading.{loads_of}
+use Rattle.image_check.specs.Rules.{item_loads, map_loads}
+use Rattle.std.specs.Option.{option_and_then}
+use Rattle.load_map.specs.declared.load.Load.{Load}
+use Rattle.image_check.specs.Valid.{IsRecordOfImage, IsValidImage, Valid}
 use Rattle.image_check.specs.WhyNot.{IsWhyNot}
 use Rattle.image_check.proofs.AnsweredLemmas.{valid-answered, why-answered}
 use Rattle.image_check.proofs.JudgedLemmas.{SaysImage, image-says}
@@ -94,10 +102,76 @@ valid-held c w cpu s v =
       started = v.started ∙ ap (λ (x : Window). started_of x v.image v.entry) (sym here);
     }
 
+-- lists that are equal agree everywhere
+agree-all : (one two : List ℕ) → one ≡ two → (from end : ℕ) → AgreeFrom one two from end
+agree-all one two same from end i above below = ap (λ xs. slice_index xs i) (sym same)
+
+agree-blocks : (one two : List ℕ) → one ≡ two → (blocks : List BlockView) → AgreeOnBlocks one two blocks
+agree-blocks one two same [] = tt
+agree-blocks one two same (b ∷ blocks) = (agree-all one two same _ _, agree-blocks one two same blocks)
+
+agree-load : (one two : List ℕ) → one ≡ two → (storage : Option ℕ) (size : ℕ) → AgreeOnLoad one two storage size
+agree-load one two same None size = tt
+agree-load one two same (Some start) size = agree-all one two same _ _
+
+agree-loads : (one two : List ℕ) → one ≡ two → (loads : List Load) → AgreeOnLoads one two loads
+agree-loads one two same [] = tt
+agree-loads one two same (load ∷ loads) = (agree-load one two same load.storage load.size, agree-loads one two same loads)
+
+agree-storage : (one two : List ℕ) → one ≡ two → (item : Option ℕ) (loads : List Load) → AgreeOnStorage one two item loads
+agree-storage one two same None loads = agree-all one two same _ _
+agree-storage one two same (Some item) loads = agree-loads one two same loads
+
 pub same-image : (c d : Content) (s : Started) (cpu : Cpu) → Holds cpu (window_bytes c s.window) s
     → window_bytes c s.window ≡ window_bytes d s.window → SameImage c d s cpu
 same-image c d s cpu held bytes = record {
   held = held;
-  blocks = λ i inside. ap (λ xs. slice_index xs i) (sym bytes);
-  storage = λ i within inside. ap (λ xs. slice_index xs i) (sym bytes);
+  long = sym (ap (λ xs. length xs) bytes);
+  blocks = agree-blocks _ _ bytes held.sound.loop;
+  storage = agree-storage _ _ bytes held.image.def.map_item held.sound.loads;
 }
+
+-- what is held of an image that is valid, whether a trial is allowed or not
+pub valid-holds : (c : Content) (w : Window) (cpu : Cpu) (trial : Bool) (s : Started) → Valid c w cpu trial s → Holds cpu (window_bytes c w) s
+valid-holds c w cpu trial s v =
+    let here : s.window ≡ w = ap (λ (t : Started). t.window) v.started in
+    record {
+      image = v.image;
+      entry = v.entry;
+      sound = v.sound;
+      started = v.started ∙ ap (λ (x : Window). started_of x v.image v.entry) (sym here);
+    }
+
+pub valid-window : (c : Content) (w : Window) (cpu : Cpu) (trial : Bool) (s : Started) → Valid c w cpu trial s → s.window ≡ w
+valid-window c w cpu trial s v = ap (λ (t : Started). t.window) v.started
+
+-- what a valid image's record says is what its definition and its entry say
+pub record-of-valid : (a : Addressing) (w : Window) (cpu : Cpu) (trial : Bool) (otp bytes : List ℕ) (s : Started)
+    → IsValidImage a w cpu trial otp bytes s → IsRecordOfImage a w cpu bytes s
+record-of-valid a w cpu trial otp bytes s v = subst (IsRecordOfImage a w cpu bytes) (sym v.started) (record {
+  loop = v.sound.loop;
+  loads = v.sound.loads;
+  image = v.image;
+  entry = v.entry;
+  defined = v.sound.defined;
+  enters = v.sound.enters;
+  window_is = refl;
+  block_is = refl;
+  place_is = refl;
+  pc_is = refl;
+  sp_is = refl;
+  limit_is = refl;
+  version_is = refl;
+  rollback_is = refl;
+  rows_are = refl;
+  trial_is = refl;
+})
+
+-- what an image's load map item loads, and that one without such an item loads nothing
+pub map-none : (a : Addressing) (n : ℕ) (b : BlockView) (def : Def) → def.map_item ≡ None → map_loads a n b def ≡ Ok []
+map-none a n b def none = ap (λ o. item_loads a n b (option_and_then (slice_get (items_of b.items)) o)) none
+
+pub map-some : (a : Addressing) (n : ℕ) (b : BlockView) (def : Def) (i : ℕ) (item : Item) → def.map_item ≡ Some i
+    → slice_get (items_of b.items) i ≡ Some item → map_loads a n b def ≡ loads_of a.base a.in_place n b item
+map-some a n b def i item some at =
+    ap (λ o. item_loads a n b (option_and_then (slice_get (items_of b.items)) o)) some ∙ ap (item_loads a n b) at

@@ -7,3 +7,4 @@ pub mod AnsweredLemmas
 pub mod LawLemmas
 pub mod SeenLemmas
 pub mod ExaminedLemmas
+pub mod SameLemmas

@@ -1,10 +1,11 @@
 -- Worked examples of entries and of the rollback rule. This project's own.
-use Rattle.std.specs.Prelude.{ℕ, Bool, pos, List, [], ◌∷◌, ◌++◌, replicate, Option, Some, None}
+use Rattle.std.specs.Prelude.{ℕ, ◌+◌, ◌*◌, Bool, false, pos, List, [], ◌∷◌, ◌++◌, length, replicate, Option, Some, None}
 use Rattle.pico_board.specs.declared.window.Window.{Window}
 use Rattle.image_def.specs.declared.started.Started.{Started}
 use Rattle.block_codec.specs.declared.definition.Def.{Def}
 use Rattle.block_codec.specs.declared.definition.EntryPoint.{EntryPoint}
 use Rattle.block_codec.specs.Blocks.{BlockView}
+use Rattle.block_codec.specs.Words.{bytes_of}
 use Rattle.image_def.specs.Definition.{no_version}
 use Rattle.image_check.specs.declared.entry.Source.{Source}
 
@@ -74,4 +75,73 @@ version_nine pc trial = record {
   rollback = None;
   rows = record { items = [] };
   trial = trial;
+}
+
+-- the bytes of a window that begins with SP at SRAM's end and this PC, and has at offset 8 a block of
+-- these item words and this link word
+abbrev pub window_with : ℕ → List ℕ → ℕ → List ℕ
+window_with pc items link =
+    bytes_of (0x20082000 ∷ pc ∷ 0xffffded3 ∷ items ++ ((0xff + 256 * length items) ∷ link ∷ 0xab123579 ∷ []))
+
+-- a PC in SRAM, which is right, and one that lies nowhere
+abbrev pub right_pc : ℕ
+right_pc = 0x20000001
+
+abbrev pub stray_pc : ℕ
+stray_pc = 0x30000001
+
+-- the IMAGE_TYPE words of an Arm image, of one whose trial bit is set, and of a RISC-V image
+abbrev pub arm_type : ℕ
+arm_type = 0x10210142
+
+abbrev pub trial_type : ℕ
+trial_type = 0x90210142
+
+abbrev pub riscv_type : ℕ
+riscv_type = 0x11010142
+
+-- a LOAD_MAP item of one relative entry whose storage begins before the window
+abbrev pub wrong_map : List ℕ
+wrong_map = 0x01000406 ∷ 0x80000000 ∷ 0x20000000 ∷ 4 ∷ []
+
+-- a VERSION item with rollback version 3 and row 0x0c0
+abbrev pub version_three : List ℕ
+version_three = 0x01000348 ∷ 0x00010000 ∷ 0x00c00003 ∷ []
+
+-- a HASH_DEF item of three words and a HASH_VALUE item of zeros
+abbrev pub wrong_hash : List ℕ
+wrong_hash = 0x01000247 ∷ 3 ∷ 0x0000094b ∷ 0 ∷ 0 ∷ 0 ∷ 0 ∷ 0 ∷ 0 ∷ 0 ∷ 0 ∷ []
+
+-- a window delta of 4
+abbrev pub delta_four : List ℕ
+delta_four = 0x00000205 ∷ 4 ∷ []
+
+-- the record of an image of version 1.0 with rollback version 3 and row 0x0c0
+abbrev pub three_record : Started
+three_record = record {
+  window = window_at_two;
+  block = 8;
+  image_at = 12;
+  pc = right_pc;
+  sp = 0x20082000;
+  limit = 0;
+  version = record { major = 1; minor = 0 };
+  rollback = Some 3;
+  rows = record { items = 0x0c0 ∷ [] };
+  trial = false;
+}
+
+-- the record of a RISC-V image without further items that starts at this address
+abbrev pub riscv_record : ℕ → Started
+riscv_record pc = record {
+  window = window_at_two;
+  block = 8;
+  image_at = 12;
+  pc = pc;
+  sp = 0x20082000;
+  limit = 0;
+  version = no_version;
+  rollback = None;
+  rows = record { items = [] };
+  trial = false;
 }

@@ -1,7 +1,7 @@
 -- When an image is valid, in the words of the rules (RP2350 Datasheet, chapter 5, Bootrom; this
 -- project's own where the datasheet is open, and the rollback rule as a whole). Each rule is a
 -- condition of its own, on the bytes of a window and on the OTP.
-use Rattle.std.specs.Prelude.{◌≡◌, ◌≢◌, ℕ, ◌≤◌, Bool, true, false, List, [], ◌∷◌, ◌++◌, length, pos, IfSome, Ok}
+use Rattle.std.specs.Prelude.{◌≡◌, ◌≢◌, ℕ, ◌+◌, ◌*◌, ◌≤◌, Bool, true, false, List, [], ◌∷◌, ◌++◌, length, pos, IfSome, Ok}
 use Rattle.std.specs.List.{AllByRecursion}
 use Rattle.pico_board.specs.declared.boot.Cpu.{Cpu}
 use Rattle.pico_board.specs.declared.window.Window.{Window}
@@ -80,3 +80,23 @@ pub record IsValidImage (a : Addressing) (window : Window) (cpu : Cpu) (trial : 
 -- Valid: an image in a window of a flash, for a processor, with a trial image allowed or not
 abbrev pub Valid : Content → Window → Cpu → Bool → Started → Type 0
 Valid c window cpu trial s = IsValidImage in_flash window cpu trial c.otp (window_bytes c window) s
+
+-- a record says what the image's definition and entry say: where the definition stands, where its
+-- IMAGE_TYPE item does, PC, SP and limit, version, rollback version and rows, and the trial bit
+pub record IsRecordOfImage (a : Addressing) (window : Window) (cpu : Cpu) (bytes : List ℕ) (s : Started) : Type 0 where
+  pub loop : List BlockView
+  pub loads : List Load
+  pub image : Defined
+  pub entry : EntryPoint
+  pub defined : IsDefined cpu bytes loop image
+  pub enters : IsEntry a.base bytes cpu image.block image.def loads entry
+  pub window_is : s.window ≡ window
+  pub block_is : s.block ≡ image.block.at
+  pub place_is : s.image_at ≡ image.block.at + 4 * image.def.image_word
+  pub pc_is : s.pc ≡ entry.pc
+  pub sp_is : s.sp ≡ entry.sp
+  pub limit_is : s.limit ≡ entry.limit
+  pub version_is : s.version ≡ image.def.version
+  pub rollback_is : s.rollback ≡ image.def.rollback
+  pub rows_are : s.rows ≡ image.def.rows
+  pub trial_is : s.trial ≡ is_trial image.def.flags

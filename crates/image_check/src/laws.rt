@@ -1,6 +1,6 @@
 //! Laws of valid images, each the contract of a function that does nothing.
 
-ghost use Rattle.std.specs.Prelude.{◌≡◌, ◌⊎◌, ◌↔◌, ℕ, Bool, true, false, List, Ok, Err};
+ghost use Rattle.std.specs.Prelude.{◌≡◌, ◌⊎◌, ◌↔◌, ℕ, ◌+◌, Bool, true, false, List, [], length, slice_get, Some, None, Ok, Err};
 ghost use Rattle.pico_board.specs.declared.boot.Cpu.{Cpu};
 ghost use Rattle.pico_board.specs.declared.window.Window.{Window};
 ghost use Rattle.pico_board.specs.Content.{Content, window_bytes};
@@ -9,11 +9,23 @@ ghost use Rattle.image_def.specs.declared.started.Started.{Started};
 ghost use Rattle.image_check.specs.declared.addressing.Addressing.{Addressing};
 ghost use Rattle.image_check.specs.declared.why.Why.{Why};
 ghost use Rattle.image_check.specs.declared.why.Why.TheVariants.{Loop};
-ghost use Rattle.image_check.specs.Image.{image_at, image_in};
-ghost use Rattle.image_check.specs.Valid.{IsValidImage, Valid};
+ghost use Rattle.image_check.specs.Image.{defined_in, image_at, image_in};
+ghost use Rattle.image_check.specs.Valid.{IsRecordOfImage, IsValidImage, Valid};
+ghost use Rattle.image_check.specs.Addressing.{in_flash};
+ghost use Rattle.image_check.specs.Answers.{and_then};
+ghost use Rattle.image_check.specs.Examined.{confirmed_in, examined_in};
+ghost use Rattle.image_check.specs.Rules.{map_answer, map_loads};
+ghost use Rattle.image_check.specs.declared.examining.Defined.{Defined};
+ghost use Rattle.block_codec.specs.Blocks.{BlockView, block_size};
+ghost use Rattle.block_codec.specs.Items.{items_of};
+ghost use Rattle.block_codec.specs.declared.definition.Def.{Def};
+ghost use Rattle.block_codec.specs.declared.items.Item.{Item};
+ghost use Rattle.block_loop.specs.Loop.{loop_of};
+ghost use Rattle.load_map.specs.Reading.{loads_of};
+ghost use Rattle.load_map.specs.declared.load.Load.{Load};
 ghost use Rattle.image_check.specs.WhyNot.{IsWhyNot, WhyNot};
 ghost use Rattle.image_check.specs.NotBelow.{NotBelow};
-ghost use Rattle.image_check.specs.SameImage.{Holds, HoldSameImage, SameImage};
+ghost use Rattle.image_check.specs.SameImage.{AgreeFrom, AgreeOnStorage, Holds, HoldSameImage, SameImage};
 
 /// The function that judges rule by rule answers an image exactly where all rules hold of it, and a
 /// reason exactly where that is the answer of the first rule that fails.
@@ -72,4 +84,38 @@ pub fn same_bytes_same_image()
         → Valid c w cpu true s → Holds cpu (window_bytes c w) s }
     ensures same { (c d : Content) (s : Started) (cpu : Cpu) → Holds cpu (window_bytes c s.window) s
         → window_bytes c s.window ≡ window_bytes d s.window → SameImage c d s cpu }
+{}
+
+/// The record of a valid image says what its definition and its entry say.
+pub fn a_record_says_what_the_image_says()
+    ensures { (a : Addressing) (w : Window) (cpu : Cpu) (trial : Bool) (otp bytes : List ℕ) (s : Started)
+        → IsValidImage a w cpu trial otp bytes s → IsRecordOfImage a w cpu bytes s }
+{}
+
+/// An image loads what its LOAD_MAP item says, and nothing where it has none.
+pub fn what_an_image_loads()
+    ensures none { (a : Addressing) (n : ℕ) (b : BlockView) (def : Def)
+        → def.map_item ≡ None → map_loads a n b def ≡ Ok [] }
+    ensures some { (a : Addressing) (n : ℕ) (b : BlockView) (def : Def) (i : ℕ) (item : Item)
+        → def.map_item ≡ Some i → slice_get (items_of b.items) i ≡ Some item
+        → map_loads a n b def ≡ loads_of a.base a.in_place n b item }
+{}
+
+/// Where two windows hold the same image, they have the same bytes in each block of the first one's
+/// loop, and in the storage of the loads of its map, or everywhere where the image has no map.
+pub fn the_same_image_has_the_same_bytes()
+    ensures blocks { (cpu : Cpu) (one two : List ℕ) (s : Started) → HoldSameImage cpu one two s
+        → (loop : List BlockView) → loop_of one ≡ Ok loop
+        → (k : ℕ) (b : BlockView) → slice_get loop k ≡ Some b
+        → AgreeFrom one two b.at (b.at + block_size b) }
+    ensures storage { (cpu : Cpu) (one two : List ℕ) (s : Started) → HoldSameImage cpu one two s
+        → (image : Defined) → defined_in cpu one ≡ Ok image
+        → (loads : List Load) → map_answer in_flash (length one) image.block image.def ≡ Ok loads
+        → AgreeOnStorage one two image.def.map_item loads }
+{}
+
+/// The image of a window is what the rules before the digest rule let pass, judged by the last two.
+pub fn the_two_halves_of_a_check()
+    ensures { (a : Addressing) (w : Window) (cpu : Cpu) (trial : Bool) (otp bytes : List ℕ)
+        → and_then (examined_in a cpu trial otp bytes) (confirmed_in w bytes) ≡ image_in a w cpu trial otp bytes }
 {}

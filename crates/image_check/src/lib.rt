@@ -11,10 +11,16 @@ mod entry;
 mod examining;
 pub mod examples;
 pub mod laws;
+pub mod orders;
+mod same;
 mod why;
 
 pub use addressing::Addressing;
 pub use checking::{check, check_view, confirm};
 pub use examining::{Candidate, examine};
 pub use image_def::Started;
+pub use same::same_content;
 pub use why::{EntryFault, Why};
+
+#[cfg(test)]
+mod tests;

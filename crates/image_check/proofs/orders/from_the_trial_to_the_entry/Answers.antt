@@ -1,0 +1,18 @@
+-- By computing.
+use Rattle.std.proofs.Common.{refl}
+use Rattle.std.specs.Int.Count.{ones, ones_in}
+use Rattle.block_codec.specs.Blocks.{block_at, frame, front_block, item_words}
+use Rattle.block_codec.specs.Items.{size_of}
+use Rattle.block_codec.specs.Words.{word_bytes, word_of}
+use Rattle.block_loop.specs.Loop.{first_from, follow, loop_of}
+use Rattle.image_def.specs.Definition.{def_of}
+use Rattle.image_check.specs.Image.{image_in}
+use Rattle.image_check.proofs.orders.from_the_trial_to_the_entry.Goals as goal
+
+pub returns-clause-below : goal.returns-clause-below
+unfolding ones ones_in image_in def_of loop_of follow first_from block_at front_block item_words frame size_of word_of word_bytes
+returns-clause-below c = refl
+
+pub returns-clause-map : goal.returns-clause-map
+unfolding ones ones_in image_in def_of loop_of follow first_from block_at front_block item_words frame size_of word_of word_bytes
+returns-clause-map c = refl
