@@ -23,7 +23,8 @@ taken_part parts second i = if second then unwrap_or (pair_of parts i) i else i
 -- the data of an owner: what is taken of each partition that has this owner, in table order (this
 -- project's own)
 abbrev pub data_parts : List Partition → ℕ → Bool → List ℕ
-data_parts parts owner second = map (taken_part parts second) (parts_where (is_owned_by owner) parts)
+data_parts parts owner second =
+    map (taken_part parts second) (parts_where (is_owned_by owner) parts)
 
 -- partition j is data of an owner: it is, of a partition i with this owner, the B where the second
 -- is asked for and i has one, and i itself otherwise (this project's own)

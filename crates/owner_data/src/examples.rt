@@ -1,5 +1,5 @@
-//! Worked examples of the definitions, proved by computing: each is the `ensures` of a function that
-//! does nothing.
+//! Worked examples of the definitions, proved by computing: each is the `ensures` of a function
+//! that does nothing.
 
 ghost use Rattle.std.specs.Prelude.{◌≡◌, ℕ, [], ◌∷◌, length, true, false, Some, None};
 ghost use Rattle.part_table.specs.Examples.{owned_table};

@@ -1,7 +1,7 @@
 -- The units of a flash, by their places in the list, and the unit of a download.
-use Rattle.std.proofs.Common.{◌≡◌, ◌≢◌, ℕ, ◌*◌, ◌%◌, ◌<◌, ◌≤◌, ◌⊎◌, inl, inr, Bool, true, false, ◌==◌, nat_lt, if◌then◌else◌, List, length, refl, sym, ◌∙◌, ap, subst, arith, Option, None, Some, slice_get, find}
+use Rattle.std.proofs.Common.{◌≡◌, ◌≢◌, ℕ, ◌*◌, ◌%◌, ◌<◌, ◌≤◌, ◌⊎◌, inl, inr, Bool, true, false, ◌==◌, nat_lt, if◌then◌else◌, List, length, refl, sym, ◌∙◌, ap, subst, arith, Option, None, Some, slice_get, find, not, ◌&&◌, option_map}
 use borrow.Author.Tests.{ltb-true}
-use Rattle.std.proofs.lemmas.Option.{slice_get-map}
+use Rattle.std.proofs.lemmas.Option.{slice_get-map, same_Some}
 use Rattle.pico_board.specs.declared.boot.Cpu.{Cpu}
 use Rattle.pico_board.specs.declared.window.Window.{Window}
 use Rattle.pico_board.specs.Content.{AreApart}
@@ -19,7 +19,7 @@ use Rattle.part_table.proofs.TestFacts.{mapped_some, all_of_three, not_true, fou
 use Rattle.slot_choice.specs.declared.unit.SlotUnit.{SlotUnit}
 use Rattle.slot_choice.specs.Units.{parts_where, begins_boot_unit, unit_of, whole_flash, slot_pair, tableless_unit, units, IsMember}
 use Rattle.slot_choice.specs.LoadUnits.{begins_load_unit, accepting_unit, absolute_unit, load_unit}
-use Rattle.slot_choice.proofs.PartLists.{passing, different}
+use Rattle.slot_choice.proofs.PartLists.{passing, different, listed, rising}
 use Rattle.slot_choice.proofs.UnitFacts.{units_apart, pair_apart, member_placed}
 
 -- the unit at a place of the boot units of a table is that of a partition, by its number
@@ -50,6 +50,49 @@ boot_unit t n z cpu k u at =
         unit = found.2;
       },
     )
+
+all_not : (a b c : Bool) → a ≡ false → b ≡ false → c ≡ false → (not a && not b && not c) ≡ true
+all_not false false false one two three = refl
+all_not true b c one two three = cc
+all_not false true c one two three = cc
+all_not false false true one two three = cc
+
+-- each partition that begins a boot unit has its unit
+pub unit_at : (t : Table) (n z : ℕ) (cpu : Cpu) (i : ℕ) → i < length t.parts.items
+    → is_second (part_at t.parts.items i) ≡ false → is_owned (part_at t.parts.items i) ≡ false
+    → is_ignored cpu (part_at t.parts.items i) ≡ false
+    → (k : ℕ) × (slice_get (units (Some t) n z cpu) k ≡ Some (unit_of t.parts.items i))
+unit_at t n z cpu i lt first free kept =
+    let parts : List Partition = t.parts.items in
+    let at : (k : ℕ) × (slice_get (parts_where (begins_boot_unit cpu) parts) k ≡ Some i) =
+    listed (λ l. begins_boot_unit cpu (part_at parts l)) 0 (length parts) i (omega arith) (omega arith)
+    (all_not _ _ _ first free kept) in (
+      at.0,
+      slice_get-map (unit_of parts) (parts_where (begins_boot_unit cpu) parts) at.0 ∙ ap (option_map (unit_of parts)) at.1,
+    )
+
+-- the partition of a boot unit, and what it is
+pub unit_listed : (t : Table) (n z : ℕ) (cpu : Cpu) (k : ℕ) (u : SlotUnit) → slice_get (units (Some t) n z cpu) k ≡ Some u
+    → (i : ℕ) × (i < length t.parts.items) × (is_second (part_at t.parts.items i) ≡ false)
+    × (is_owned (part_at t.parts.items i) ≡ false)
+    × (is_ignored cpu (part_at t.parts.items i) ≡ false)
+    × (u ≡ unit_of t.parts.items i)
+unit_listed t n z cpu k u at =
+    let a : (i : ℕ) × IsBootUnit t.parts.items cpu k u i = boot_unit t n z cpu k u at in
+    (a.0, a.1.within, a.1.first, a.1.free, a.1.kept, a.1.unit)
+
+-- boot units stand in table order
+pub units_ordered : (t : Table) (n z : ℕ) (cpu : Cpu) (j k : ℕ) (u v : SlotUnit) (a b : ℕ) → j < k
+    → slice_get (units (Some t) n z cpu) j ≡ Some u → slice_get (units (Some t) n z cpu) k ≡ Some v
+    → u.a_part ≡ Some a → v.a_part ≡ Some b → a < b
+units_ordered t n z cpu j k u v a b lt one two is_a is_b =
+    let p : (i : ℕ) × IsBootUnit t.parts.items cpu j u i = boot_unit t n z cpu j u one in
+    let q : (i : ℕ) × IsBootUnit t.parts.items cpu k v i = boot_unit t n z cpu k v two in
+    let up : p.0 < q.0 =
+    rising (λ l. begins_boot_unit cpu (part_at t.parts.items l)) 0 (length t.parts.items) j k p.0 q.0 lt p.1.listed q.1.listed in
+    let of_a : p.0 ≡ a = same_Some p.0 a (ap (λ (w : SlotUnit). w.a_part) (sym p.1.unit) ∙ is_a) in
+    let of_b : q.0 ≡ b = same_Some q.0 b (ap (λ (w : SlotUnit). w.a_part) (sym q.1.unit) ∙ is_b) in
+    omega (arith, up, of_a, of_b)
 
 -- the members of two boot units of a table stand apart
 pub boot_units_apart : (t : Table) (s n z : ℕ) (cpu : Cpu) → IsSoundTable t s → (j k : ℕ) (u v : SlotUnit) → j ≢ k

@@ -55,9 +55,9 @@ pub fn is_below(version: Version, other: Version) -> bool
     version.major < other.major || (version.major == other.major && version.minor < other.minor)
 }
 
-/// The better member of a unit by the versions of its members' images, where a member without a valid
-/// image has none: the greater version, and A on a tie. None exactly where both are None. (This
-/// project's own.)
+/// The better member of a unit by the versions of its members' images, where a member without a
+/// valid image has none: the greater version, and A on a tie. None exactly where both are None.
+/// (This project's own.)
 pub fn better(a: Option<Version>, b: Option<Version>) -> Option<Member>
     ensures { result ≡ better a b }
 {

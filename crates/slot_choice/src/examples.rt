@@ -1,5 +1,5 @@
-//! Worked examples of the definitions, proved by computing: each is the `ensures` of a function that
-//! does nothing.
+//! Worked examples of the definitions, proved by computing: each is the `ensures` of a function
+//! that does nothing.
 
 ghost use Rattle.std.specs.Prelude.{◌≡◌, ℕ, [], ◌∷◌, true, false, Some, None};
 ghost use Rattle.block_codec.specs.declared.versions.Version.{Version};
@@ -13,8 +13,9 @@ ghost use Rattle.slot_choice.specs.Updates.{update_order, updated_member};
 ghost use Rattle.slot_choice.specs.Versions.{better};
 ghost use Rattle.slot_choice.specs.declared.unit.Member.TheVariants.{A, B};
 
-/// The units of a pair, of a pair of data that the pair of images owns, of partitions that a processor
-/// ignores, and of a flash without a table in slots of the smallest size and of greater ones.
+/// The units of a pair, of a pair of data that the pair of images owns, of partitions that a
+/// processor ignores, and of a flash without a table in slots of the smallest size and of greater
+/// ones.
 pub fn units_are_listed()
     ensures pair { units (Some pair_table) 0x40000 0x1000 Arm ≡ the_pair ∷ [] }
     ensures owned { units (Some owned_table) 0x40000 0x1000 Arm
@@ -33,8 +34,8 @@ pub fn units_are_listed()
         } }
 {}
 
-/// Of a pair only A's flags are read: a B that is ignored stays in its unit, and a pair whose A is ignored
-/// is none; a B that accepts a family takes no download of it.
+/// Of a pair only A's flags are read: a B that is ignored stays in its unit, and a pair whose A is
+/// ignored is none; a B that accepts a family takes no download of it.
 pub fn flags_of_a_are_read()
     ensures arm { units (Some (small_pair 0x20000 0x10602)) 0x40000 0x1000 Arm ≡ small_unit ∷ [] }
     ensures riscv { units (Some (small_pair 0x20000 0x10602)) 0x40000 0x1000 Riscv
@@ -81,8 +82,8 @@ pub fn families_have_units()
     ensures unknown { load_unit (Some family_table) 0x40000 0x20000 0xe48bff5c ≡ None }
 {}
 
-/// Without a table the one boot unit takes data and the three executable families of the RP2350, and the
-/// whole flash the absolute family.
+/// Without a table the one boot unit takes data and the three executable families of the RP2350,
+/// and the whole flash the absolute family.
 pub fn families_without_table_have_units()
     ensures data { load_unit None 0x40000 0x20000 data_family ≡ Some (slot_pair 0x20000) }
     ensures arm_s { load_unit None 0x40000 0x20000 arm_s_family ≡ Some (slot_pair 0x20000) }
@@ -107,8 +108,8 @@ pub fn versions_are_compared()
     ensures none { better None None ≡ None }
 {}
 
-/// Updates of a pair's B and A, of a place where no member starts, of an offset that is no address, and of
-/// a unit behind others; of two members at one place A is taken, and of two units the first.
+/// Updates of a pair's B and A, of a place where no member starts, of an offset that is no address,
+/// and of a unit behind others; of two members at one place A is taken, and of two units the first.
 pub fn updates_are_found()
     ensures second { updated_member (the_pair ∷ []) 0x10020000 ≡ Some B }
     ensures first { updated_member (the_pair ∷ []) 0x10002000 ≡ Some A }
@@ -117,9 +118,11 @@ pub fn updates_are_found()
     ensures start { updated_member (slot_pair 0x20000 ∷ []) 0x10000000 ≡ Some A }
     ensures below { updated_member (slot_pair 0x20000 ∷ []) 0x0fffffff ≡ None }
     ensures both { updated_member (tiny_unit 0x6000 0x6000 ∷ []) 0x10006000 ≡ Some A }
-    ensures earlier { updated_member (tiny_unit 0x5000 0x6000 ∷ tiny_unit 0x6000 0x7000 ∷ []) 0x10006000
+    ensures earlier { updated_member
+            (tiny_unit 0x5000 0x6000 ∷ tiny_unit 0x6000 0x7000 ∷ []) 0x10006000
         ≡ Some B }
-    ensures earlier_order { update_order (unit_one ∷ tiny_unit 0x5000 0x6000 ∷ tiny_unit 0x6000 0x7000 ∷ []) 0x10006000
+    ensures earlier_order { update_order
+            (unit_one ∷ tiny_unit 0x5000 0x6000 ∷ tiny_unit 0x6000 0x7000 ∷ []) 0x10006000
         ≡ tiny_unit 0x5000 0x6000 ∷ unit_one ∷ tiny_unit 0x6000 0x7000 ∷ [] }
     ensures moved { update_order (unit_one ∷ unit_two ∷ unit_three ∷ []) 0x10006000
         ≡ unit_three ∷ unit_one ∷ unit_two ∷ [] }

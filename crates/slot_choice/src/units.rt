@@ -104,7 +104,8 @@ fn begins_boot_unit(part: &Partition, cpu: Cpu) -> bool
 fn units_of(parts: &[Partition], cpu: Cpu) -> ArrayVec<SlotUnit, 15>
     requires few { length parts.now ≤ 15 }
     requires right { All (λ p. first_sector p ≤ last_sector p) parts.now }
-    ensures { result.items ≡ map (unit_of parts.now) (parts_where (begins_boot_unit cpu) parts.now) }
+    ensures { result.items
+        ≡ map (unit_of parts.now) (parts_where (begins_boot_unit cpu) parts.now) }
 {
     let mut units = ArrayVec::new();
     for i in 0..parts.len() as u32 {
@@ -159,10 +160,10 @@ fn accepting_unit(parts: &[Partition], family: u32) -> Option<SlotUnit>
     None
 }
 
-/// The unit of a download of a family; None exactly where no unit takes it. The absolute family goes to
-/// the whole flash, where there is no table or the table accepts that family; another one to the first
-/// unit whose A accepts it, owned and ignored units among them. Without a table the one boot unit takes
-/// data and the three executable families of the RP2350. (This project's own.)
+/// The unit of a download of a family; None exactly where no unit takes it. The absolute family
+/// goes to the whole flash, where there is no table or the table accepts that family; another one
+/// to the first unit whose A accepts it, owned and ignored units among them. Without a table the
+/// one boot unit takes data and the three executable families of the RP2350. (This project's own.)
 pub fn load_unit(table: Option<&Table>, flash_len: u32, slot: u32, family: u32) -> Option<SlotUnit>
     requires sound { IsSoundFor (option_map (λ t. t.now) table) flash_len }
     ensures { result ≡ load_unit (option_map (λ t. t.now) table.entry) flash_len slot family }
