@@ -9,7 +9,7 @@ use Rattle.part_table.specs.declared.partition.Partition.{Partition}
 use Rattle.part_table.specs.declared.table.Table.{Table}
 use Rattle.part_table.specs.Faults.{link_fault}
 use Rattle.part_table.specs.Fields.{link_type, link_value}
-use Rattle.part_table.specs.Links.{is_owned, is_second, owner_of, pair_of}
+use Rattle.part_table.specs.Links.{is_owned, owner_of, pair_of}
 use Rattle.part_table.specs.Partitions.{part_at}
 use Rattle.part_table.specs.Sound.{IsSoundTable}
 use Rattle.part_table.specs.Windows.{partition_window}

@@ -1,4 +1,4 @@
-use Rattle.std.proofs.Common.{◌≡◌, ◌+◌, ◌<◌, ◌≤◌, ℕ, ◌∙◌, sym, ap, subst, arith, length, List, true}
+use Rattle.std.proofs.Common.{◌≡◌, ◌+◌, ◌<◌, ℕ, ◌∙◌, sym, ap, subst, arith, length, List, true}
 use Rattle.arrayvec.specs.ArrayVec.{ArrayVec}
 use Rattle.part_table.specs.Partitions.{part_at}
 use Rattle.part_table.proofs.FaultFacts.{index_at}
