@@ -20,7 +20,7 @@ pub fn owners_are_partitions()
     ensures some { (parts : List Partition) → link_fault parts ≡ None → (i o : ℕ) (b : Option ℕ)
         → i < length parts → owner_pair parts i ≡ Some (o, b)
         → (owner_of (part_at parts i) ≡ Some o) × (o < length parts) × (o ≢ i)
-            × (link_type (part_at parts o) ≡ 0) × (b ≡ pair_of parts o) }
+        × (link_type (part_at parts o) ≡ 0) × (b ≡ pair_of parts o) }
 {}
 
 /// The data of an owner are partitions, each of them one that it owns or the B of one; and each
@@ -32,7 +32,7 @@ pub fn data_follows_its_owner()
     ensures whole { (parts : List Partition) (owner : ℕ) (second : Bool) (i : ℕ)
         → i < length parts → owner_of (part_at parts i) ≡ Some owner
         → (k j : ℕ) × (slice_get (data_parts parts owner second) k ≡ Some j)
-            × IsDataOf parts owner second i j }
+        × IsDataOf parts owner second i j }
     ensures few { (parts : List Partition) → link_fault parts ≡ None
         → (owner : ℕ) (second : Bool) → owner < length parts
         → length (data_parts parts owner second) < length parts }

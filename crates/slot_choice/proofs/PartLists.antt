@@ -67,7 +67,7 @@ module _ (test : ℕ → Bool) where
           0,
           ap (λ yes. slice_get (cond yes (a ∷ filter test (range_with_len (a + 1) n)) (filter test (range_with_len (a + 1) n))) 0)
               (ap test same ∙ passes)
-          ∙ ap Some same,
+              ∙ ap Some same,
         )
         | inr other ↦
             let rest : (k : ℕ) × (slice_get (filter test (range_with_len (a + 1) n)) k ≡ Some i) =

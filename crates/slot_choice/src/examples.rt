@@ -27,10 +27,10 @@ pub fn units_are_listed()
     ensures slots { units None 0x40000 0x20000 Arm ≡ slot_pair 0x20000 ∷ [] }
     ensures slot { slot_pair 0x20000
         ≡ record {
-            a = window_at 0 0x20000;
-            b = Some (window_at 0x20000 0x20000);
-            a_part = None;
-            b_part = None;
+          a = window_at 0 0x20000;
+          b = Some (window_at 0x20000 0x20000);
+          a_part = None;
+          b_part = None;
         } }
 {}
 
@@ -119,10 +119,10 @@ pub fn updates_are_found()
     ensures below { updated_member (slot_pair 0x20000 ∷ []) 0x0fffffff ≡ None }
     ensures both { updated_member (tiny_unit 0x6000 0x6000 ∷ []) 0x10006000 ≡ Some A }
     ensures earlier { updated_member
-            (tiny_unit 0x5000 0x6000 ∷ tiny_unit 0x6000 0x7000 ∷ []) 0x10006000
+        (tiny_unit 0x5000 0x6000 ∷ tiny_unit 0x6000 0x7000 ∷ []) 0x10006000
         ≡ Some B }
     ensures earlier_order { update_order
-            (unit_one ∷ tiny_unit 0x5000 0x6000 ∷ tiny_unit 0x6000 0x7000 ∷ []) 0x10006000
+        (unit_one ∷ tiny_unit 0x5000 0x6000 ∷ tiny_unit 0x6000 0x7000 ∷ []) 0x10006000
         ≡ tiny_unit 0x5000 0x6000 ∷ unit_one ∷ tiny_unit 0x6000 0x7000 ∷ [] }
     ensures moved { update_order (unit_one ∷ unit_two ∷ unit_three ∷ []) 0x10006000
         ≡ unit_three ∷ unit_one ∷ unit_two ∷ [] }

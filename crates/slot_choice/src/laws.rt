@@ -25,9 +25,9 @@ pub fn boot_units_are_listed()
     ensures listed { (t : Table) (n z : ℕ) (cpu : Cpu) (k : ℕ) (u : SlotUnit)
         → slice_get (units (Some t) n z cpu) k ≡ Some u
         → (i : ℕ) × (i < length t.parts.items) × (is_second (part_at t.parts.items i) ≡ false)
-            × (is_owned (part_at t.parts.items i) ≡ false)
-            × (is_ignored cpu (part_at t.parts.items i) ≡ false)
-            × (u ≡ unit_of t.parts.items i) }
+        × (is_owned (part_at t.parts.items i) ≡ false)
+        × (is_ignored cpu (part_at t.parts.items i) ≡ false)
+        × (u ≡ unit_of t.parts.items i) }
     ensures whole { (t : Table) (n z : ℕ) (cpu : Cpu) (i : ℕ) → i < length t.parts.items
         → is_second (part_at t.parts.items i) ≡ false
         → is_owned (part_at t.parts.items i) ≡ false

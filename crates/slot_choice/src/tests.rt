@@ -71,13 +71,23 @@ fn three_of(first: SlotUnit, second: SlotUnit, third: SlotUnit) -> ArrayVec<Slot
 #[test]
 fn lists_the_units_of_a_table(rt: HostRuntime) -> Result<(), Fail> {
     let table = pair_table();
-    let pair = unit((0x2000, 0x1e000), Some((0x20000, 0x1e000)), (Some(0), Some(1)));
+    let pair = unit(
+        (0x2000, 0x1e000),
+        Some((0x20000, 0x1e000)),
+        (Some(0), Some(1)),
+    );
     let whole = unit((0, 0x40000), None, (None, None));
     let units = boot_units(Some(&table), 0x40000, 0x1000, Cpu::Riscv);
     assert_eq!(rt; units, alone(pair));
-    assert_eq!(rt; load_unit(Some(&table), 0x40000, 0x1000, 0xe48bff59), Some(pair));
+    assert_eq!(rt;
+        load_unit(Some(&table), 0x40000, 0x1000, 0xe48bff59),
+        Some(pair)
+    );
     assert_eq!(rt; load_unit(Some(&table), 0x40000, 0x1000, 0xe48bff5a), None);
-    assert_eq!(rt; load_unit(Some(&table), 0x40000, 0x1000, 0xe48bff57), Some(whole));
+    assert_eq!(rt;
+        load_unit(Some(&table), 0x40000, 0x1000, 0xe48bff57),
+        Some(whole)
+    );
     Ok(())
 }
 
