@@ -5,3 +5,4 @@ pub mod FindLemmas
 pub mod WalkLemmas
 pub mod CycleLemmas
 pub mod LoopBlocks
+pub mod PlaceLemmas

@@ -12,7 +12,7 @@ mod walking;
 
 pub use fault::LoopFault;
 pub use finding::block_at;
-pub use walking::{BlockLoop, walk};
+pub use walking::{BlockLoop, block_of, walk};
 
 #[cfg(test)]
 mod tests;

@@ -1,12 +1,12 @@
 //! Loops of blocks, from link to link.
 
-ghost use Rattle.std.specs.Prelude.{◌≡◌, ◌↔◌, ℕ, ℤ, List, ◌<◌, ◌≤◌, length, slice_get, IfOk, IfErr, IsErrOf};
-ghost use Rattle.block_codec.specs.Blocks.{BlockView};
+ghost use Rattle.std.specs.Prelude.{◌≡◌, ◌↔◌, ℕ, ℤ, List, ◌<◌, ◌≤◌, length, slice_get, IfOk, IfErr, IsErrOf, Ok, Some};
+ghost use Rattle.block_codec.specs.Blocks.{BlockView, IsWhole};
 ghost use Rattle.block_loop.specs.Loop.{target, first_block, loop_of, IsFault};
 ghost use Rattle.block_loop.specs.Offsets.{loop_offsets, AreLoop};
 
 use crate::fault::LoopFault;
-use crate::finding::{block_to, first_block};
+use crate::finding::{block_at, block_to, first_block};
 use crate::spans::{Span, first_shared, span_in};
 use arrayvec::ArrayVec;
 use block_codec::Block;
@@ -102,4 +102,17 @@ pub fn walk<V: View>(view: &V) -> Result<BlockLoop, LoopFault>
     ensures fault { (f : LoopFault) → IsErrOf result f ↔ IsFault (V.bytes view.now) f }
 {
     loop_in(view)
+}
+
+/// The block at a place of the view's loop, counted from 0 in loop order.
+pub fn block_of<V: View>(view: &V, found: &BlockLoop, i: u32) -> Block
+    requires loop_ { AreLoop (V.bytes view.now) found.now }
+    requires inside { i < length found.now }
+    ensures exact { (loop : List BlockView) → loop_of (V.bytes view.now) ≡ Ok loop → slice_get loop i ≡ Some result }
+    ensures whole { IsWhole result }
+{
+    match block_at(view, found.at(i)) {
+        Some(block) => block,
+        None => unreachable!(),
+    }
 }

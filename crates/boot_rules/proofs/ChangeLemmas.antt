@@ -11,7 +11,8 @@ use Rattle.slot_choice.specs.declared.unit.Member.TheVariants.{A, B}
 use Rattle.slot_choice.specs.declared.unit.SlotUnit.{SlotUnit}
 use Rattle.slot_choice.specs.declared.choice.Choice.{Choice}
 use Rattle.slot_choice.specs.Versions.{better, is_below}
-use Rattle.boot_rules.specs.Choosing.{Order, choose, member_window, member_image, other_of, choice_of, of_better, version_of_image, unit_choice, ordered_choice, images_in}
+use Rattle.boot_rules.specs.Choosing.{Order, choose, member_image, other_of, choice_of, of_better, version_of_image, unit_choice, ordered_choice, images_in}
+use Rattle.slot_choice.specs.Units.{member_window}
 use Rattle.boot_rules.specs.Changes.{Images, HaveSameImages, HaveSameImagesBut, AreInPlace, IsNotIn, IsIn}
 use Rattle.boot_rules.proofs.DecisionLemmas.{found-valid}
 
@@ -24,9 +25,9 @@ sooner f g u us a = record { same = λ i v m w trial tried stands. a.same (suc i
 
 member-same : (f g : Images) (u : SlotUnit) (us : List SlotUnit) → HaveSameImages f g (u ∷ us)
     → (m : Member) (trial : Bool) → member_image f u m trial ≡ member_image g u m trial
-member-same f g u us a m trial = go (member_window u m) refl
+member-same f g u us a m trial = go (member_window m u) refl
   where
-    go : (o : Option Window) → member_window u m ≡ o → option_and_then (λ w. f w trial) o ≡ option_and_then (λ w. g w trial) o
+    go : (o : Option Window) → member_window m u ≡ o → option_and_then (λ w. f w trial) o ≡ option_and_then (λ w. g w trial) o
     go None e = refl
     go (Some w) e = a.same 0 u m w trial refl e
 
@@ -84,7 +85,7 @@ module _ (w : Window) where
   without-same : (f g : Images) (us : List SlotUnit) → HaveSameImagesBut w f g us → HaveSameImages (without f) (without g) us
   without-same f g us a = record { same = λ i u m v trial tried stands. go i u m v trial tried stands (decide-window v w) }
     where
-      go : (i : ℕ) (u : SlotUnit) (m : Member) (v : Window) (trial : Bool) → slice_get us i ≡ Some u → member_window u m ≡ Some v
+      go : (i : ℕ) (u : SlotUnit) (m : Member) (v : Window) (trial : Bool) → slice_get us i ≡ Some u → member_window m u ≡ Some v
           → (d : (v ≡ w) ⊎ (v ≢ w)) → kept v d (f v trial) ≡ kept v d (g v trial)
       go i u m v trial tried stands (inl e) = refl
       go i u m v trial tried stands (inr n) = a.same i u m v trial tried stands n
@@ -103,7 +104,7 @@ module _ (w : Window) where
 
   module _ (f : Images) (placed : AreInPlace f) where
     member-left : (u : SlotUnit) (m : Member) (trial : Bool) → Left (member_image f u m trial) (member_image (without f) u m trial)
-    member-left u m trial = go (member_window u m)
+    member-left u m trial = go (member_window m u)
       where
         by_window : (v : Window) (d : (v ≡ w) ⊎ (v ≢ w)) → Left (f v trial) (kept v d (f v trial))
         by_window v (inl e) = taken refl (λ s h. placed v trial s h ∙ e)

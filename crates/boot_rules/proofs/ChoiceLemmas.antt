@@ -11,7 +11,8 @@ use Rattle.slot_choice.specs.declared.unit.Member.TheVariants.{A, B}
 use Rattle.slot_choice.specs.declared.unit.SlotUnit.{SlotUnit}
 use Rattle.slot_choice.specs.declared.choice.Choice.{Choice}
 use Rattle.image_check.specs.Valid.{Valid}
-use Rattle.boot_rules.specs.Choosing.{Order, member_window, member_image, other_of, unit_choice, ordered_choice}
+use Rattle.boot_rules.specs.Choosing.{Order, member_image, other_of, unit_choice, ordered_choice}
+use Rattle.slot_choice.specs.Units.{member_window}
 use Rattle.boot_rules.specs.Chosen.{is_member, is_updated, Counts, IsBetter, IsBest, IsStart}
 use Rattle.boot_rules.proofs.UnitLemmas.{image-window, window-image, counting, unit-none, unit-some, IsUnitChoice}
 
@@ -162,7 +163,7 @@ module _ (c : Content) (cpu : Cpu) (images : Window → Bool → Option Started)
   record StartAt (o : Order) (i : ℕ) (u : SlotUnit) (x : Choice) : Type 0 where
     pub counts : Counts c cpu o i u x.member x.image
     pub best : IsTrue (is_updated o i x.member) ⊎ IsBest c cpu o i u x.member x.image
-    pub other : x.other ≡ member_window u (other_of x.member)
+    pub other : x.other ≡ member_window (other_of x.member) u
     pub updated : x.updated ≡ is_updated o i x.member
 
   start-at : (o : Order) (x : Choice) (s : IsStart c cpu o x) → StartAt o s.place s.unit x
@@ -214,7 +215,7 @@ module _ (c : Content) (cpu : Cpu) (images : Window → Bool → Option Started)
           let k : Counts c cpu o i u x.member y.image = subst (λ (l : Member). Counts c cpu o i u l y.image) (sym e) t.counts in
           let image : x.image ≡ y.image = same-some x.image y.image (sym (counts-image o i u x.member x.image s.counts) ∙ counts-image o i u x.member y.image k) in
           same-choice _ _ _ _ _ _ _ _ image e
-          (s.other ∙ (ap (λ (l : Member). member_window u (other_of l)) e ∙ sym t.other))
+          (s.other ∙ (ap (λ (l : Member). member_window (other_of l) u) e ∙ sym t.other))
           (s.updated ∙ (ap (λ (l : Member). is_updated o i l) e ∙ sym t.updated))
       by_members (two e f) = absurd (by_best e f s.best t.best)
 

@@ -8,20 +8,21 @@ use Rattle.slot_choice.specs.declared.unit.Member.TheVariants.{A, B}
 use Rattle.slot_choice.specs.declared.unit.SlotUnit.{SlotUnit}
 use Rattle.slot_choice.specs.declared.choice.Choice.{Choice}
 use Rattle.slot_choice.specs.Versions.{better, is_below}
-use Rattle.boot_rules.specs.Choosing.{member_window, member_image, other_of, choice_of, of_better, version_of_image, unit_choice}
+use Rattle.boot_rules.specs.Choosing.{member_image, other_of, choice_of, of_better, version_of_image, unit_choice}
+use Rattle.slot_choice.specs.Units.{member_window}
 use Rattle.boot_rules.specs.Chosen.{is_member, IsBetter}
 
 -- a member with an image has a window that holds it
 pub image-window : (images : Window → Bool → Option Started) (u : SlotUnit) (m : Member) (trial : Bool) (s : Started)
-    → member_image images u m trial ≡ Some s → (w : Window) × (member_window u m ≡ Some w) × (images w trial ≡ Some s)
-image-window images u m trial s h = parts (member_window u m) h
+    → member_image images u m trial ≡ Some s → (w : Window) × (member_window m u ≡ Some w) × (images w trial ≡ Some s)
+image-window images u m trial s h = parts (member_window m u) h
   where
     parts : (o : Option Window) → option_and_then (λ w. images w trial) o ≡ Some s → (w : Window) × (o ≡ Some w) × (images w trial ≡ Some s)
     parts None e = cc
     parts (Some w) e = (w, refl, e)
 
 pub window-image : (images : Window → Bool → Option Started) (u : SlotUnit) (m : Member) (trial : Bool) (w : Window)
-    → member_window u m ≡ Some w → member_image images u m trial ≡ images w trial
+    → member_window m u ≡ Some w → member_image images u m trial ≡ images w trial
 window-image images u m trial w h = rw h refl
 
 -- the images that count in a unit: the updated member's may be a trial
@@ -35,7 +36,7 @@ pub record IsUnitChoice (image : Member → Option Started) (u : SlotUnit) (upda
   pub best : (is_member updated choice.member ≡ true)
       ⊎ (((t : Started) → is_member updated (other_of choice.member) ≡ true → image (other_of choice.member) ≡ Some t → ⊥)
       × ((t : Started) → image (other_of choice.member) ≡ Some t → IsBetter choice.member choice.image.version t.version))
-  pub other : choice.other ≡ member_window u (other_of choice.member)
+  pub other : choice.other ≡ member_window (other_of choice.member) u
   pub updated_is : choice.updated ≡ is_member updated choice.member
 
 some-is : {X : Type 0} (x y : X) → Some x ≡ Some y → x ≡ y

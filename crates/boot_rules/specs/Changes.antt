@@ -5,7 +5,7 @@ use Rattle.image_def.specs.declared.started.Started.{Started}
 use Rattle.slot_choice.specs.declared.unit.Member.{Member}
 use Rattle.slot_choice.specs.declared.unit.SlotUnit.{SlotUnit}
 use Rattle.slot_choice.specs.declared.choice.Choice.{Choice}
-use Rattle.boot_rules.specs.Choosing.{member_window}
+use Rattle.slot_choice.specs.Units.{member_window}
 
 -- the image of a window, valid with trial allowed or not, or none
 abbrev pub Images : Type 0
@@ -14,12 +14,12 @@ Images = Window → Bool → Option Started
 -- both have the same image in each member window of these units
 pub record HaveSameImages (f g : Images) (us : List SlotUnit) : Type 0 where
   pub same : (i : ℕ) (u : SlotUnit) (m : Member) (v : Window) (trial : Bool)
-      → slice_get us i ≡ Some u → member_window u m ≡ Some v → f v trial ≡ g v trial
+      → slice_get us i ≡ Some u → member_window m u ≡ Some v → f v trial ≡ g v trial
 
 -- both have the same image in each of them but w
 pub record HaveSameImagesBut (w : Window) (f g : Images) (us : List SlotUnit) : Type 0 where
   pub same : (i : ℕ) (u : SlotUnit) (m : Member) (v : Window) (trial : Bool)
-      → slice_get us i ≡ Some u → member_window u m ≡ Some v → v ≢ w → f v trial ≡ g v trial
+      → slice_get us i ≡ Some u → member_window m u ≡ Some v → v ≢ w → f v trial ≡ g v trial
 
 -- each image names the window in which it stands
 abbrev pub AreInPlace : Images → Type 0

@@ -17,7 +17,7 @@ use Rattle.slot_choice.specs.declared.unit.Member.{Member}
 use Rattle.slot_choice.specs.declared.unit.Member.TheVariants.{A, B}
 use Rattle.slot_choice.specs.declared.unit.SlotUnit.{SlotUnit}
 use Rattle.slot_choice.specs.declared.choice.Choice.{Choice}
-use Rattle.slot_choice.specs.Units.{units}
+use Rattle.slot_choice.specs.Units.{member_window, units}
 use Rattle.slot_choice.specs.Versions.{better}
 use Rattle.slot_choice.specs.Updates.{update_order, updated_member}
 use Rattle.image_check.specs.Image.{image_at}
@@ -31,18 +31,13 @@ abbrev pub other_of : Member → Member
 other_of A = B
 other_of B = A
 
--- the window of a member; a unit alone has no B
-abbrev pub member_window : SlotUnit → Member → Option Window
-member_window u A = Some u.a
-member_window u B = u.b
-
 -- the image of a member
 abbrev pub member_image : (Window → Bool → Option Started) → SlotUnit → Member → Bool → Option Started
-member_image images u m trial = option_and_then (λ w. images w trial) (member_window u m)
+member_image images u m trial = option_and_then (λ w. images w trial) (member_window m u)
 
 -- the choice of a member's image
 abbrev pub choice_of : SlotUnit → Member → Bool → Started → Choice
-choice_of u m updated image = record { image = image; member = m; other = member_window u (other_of m); updated = updated }
+choice_of u m updated image = record { image = image; member = m; other = member_window (other_of m) u; updated = updated }
 
 -- the choice in a unit without an update: of two images the one of the better member, or the only one
 abbrev pub of_better : SlotUnit → Option Member → Option Started → Option Started → Option Choice

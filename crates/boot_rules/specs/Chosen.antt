@@ -18,7 +18,8 @@ use Rattle.image_check.specs.Valid.{Valid}
 use Rattle.boot_rules.specs.declared.decision.Decision.{Decision}
 use Rattle.boot_rules.specs.declared.decision.Decision.TheVariants.{Start, Bootsel}
 use Rattle.boot_rules.specs.declared.decision.Fall.TheVariants.{Requested, FlashOff, NoImage}
-use Rattle.boot_rules.specs.Choosing.{Order, order_of, boot_units_in, other_of, member_window}
+use Rattle.boot_rules.specs.Choosing.{Order, order_of, boot_units_in, other_of}
+use Rattle.slot_choice.specs.Units.{member_window}
 
 -- a member is this one
 abbrev pub is_member : Option Member → Member → Bool
@@ -38,7 +39,7 @@ is_updated order (suc i) m = false
 pub record Counts (c : Content) (cpu : Cpu) (order : Order) (place : ℕ) (u : SlotUnit) (m : Member) (s : Started) : Type 0 where
   pub window : Window
   pub tried : slice_get order.units place ≡ Some u
-  pub stands : member_window u m ≡ Some window
+  pub stands : member_window m u ≡ Some window
   pub valid : Valid c window cpu (is_updated order place m) s
 
 -- a member whose image has the first version is better than the other one, whose image has the second:
@@ -60,7 +61,7 @@ pub record IsStart (c : Content) (cpu : Cpu) (order : Order) (choice : Choice) :
   pub counts : Counts c cpu order place unit choice.member choice.image
   pub first : (i : ℕ) (u : SlotUnit) (m : Member) (s : Started) → i < place → Counts c cpu order i u m s → ⊥
   pub best : IsTrue (is_updated order place choice.member) ⊎ IsBest c cpu order place unit choice.member choice.image
-  pub other : choice.other ≡ member_window unit (other_of choice.member)
+  pub other : choice.other ≡ member_window (other_of choice.member) unit
   pub updated : choice.updated ≡ is_updated order place choice.member
 
 -- the decision of a boot that tries the units in this order
@@ -88,5 +89,5 @@ pub record Home (c : Content) (w : Window) (cpu : Cpu) : Type 0 where
   pub member : Member
   pub other : Window
   pub tried : slice_get (boot_units_in c cpu) place ≡ Some unit
-  pub stands : member_window unit member ≡ Some w
-  pub pair : member_window unit (other_of member) ≡ Some other
+  pub stands : member_window member unit ≡ Some w
+  pub pair : member_window (other_of member) unit ≡ Some other

@@ -1,7 +1,8 @@
 pub mod Tables
 pub mod Choosing
 pub mod Chosen
-pub mod Built
-pub mod Plain
 pub mod Examples
 pub mod Changes
+pub mod Picking
+pub mod Targets
+pub mod Data

@@ -1,98 +1,138 @@
 //! The boot decision.
 
-ghost use Rattle.std.specs.Prelude.{◌≡◌, ℕ, ◌+◌, ◌*◌, ◌<◌, ◌≤◌, ◌^◌, List, length, slice_index, slice_range, IsTrue, IfSome, IfNone, Ok, Err, Some, None, [], ◌∷◌, false, true, All};
-ghost use Rattle.std.specs.Result.{result_ok};
-ghost use Rattle.pico_board.specs.declared.boot.Cpu.TheVariants.{Arm};
-ghost use Rattle.pico_board.specs.declared.boot.BootKind.TheVariants.{Normal};
-ghost use Rattle.block_codec.specs.Words.{word_of};
-ghost use Rattle.pico_board.specs.Content.{flash_base};
-ghost use Rattle.image_check.specs.Addressing.{in_flash};
-ghost use Rattle.image_check.specs.Image.{image_in};
-ghost use Rattle.block_loop.specs.Loop.{loop_of};
-ghost use Rattle.block_loop.specs.declared.LoopFault.TheVariants.{NoBlock as NoFirst};
-ghost use Rattle.sector_pool.specs.Pool.{HasFree};
+ghost use Rattle.std.specs.Prelude.{◌≡◌, All, IsTrue, None, length};
 ghost use Rattle.sector_pool.specs.Keeping.{KeepsOut};
-ghost use Rattle.boot_rules.specs.Choosing.{decision_in};
+ghost use Rattle.sector_pool.specs.Pool.{HasFree};
+ghost use Rattle.boot_rules.specs.Choosing.{boot_units_in, decision_in, decision_of, flash_decision, images_in, order_of, ordered_choice};
 ghost use Rattle.boot_rules.specs.Chosen.{Chosen};
-ghost use Rattle.boot_rules.specs.Built.{IsBuilt, is_built};
-ghost use Rattle.boot_rules.specs.Plain.{plain_image, IsLone};
+ghost use Rattle.boot_rules.specs.Picking.{AreInside};
 
 use crate::decision::{Decision, Fall};
-use crate::entry::{Vectors, plain_image};
-use block_loop::walk;
-use byteorder::{ByteOrder, LittleEndian};
-use image_check::Started;
-use pico_board::{Board, BootKind, Cpu, FlashView, View, Window};
+use crate::picking::{taken, unit_choice};
+use crate::tables::find_table;
+use arrayvec::ArrayVec;
+use otp_roll::{flash_off, slot_size};
+use pico_board::{Board, BootKind, Cpu};
 use sector_pool::SectorPool;
-use slot_choice::{Choice, Member};
+use slot_choice::{Choice, Member, SlotUnit, boot_units, update_first};
 
-/// The word at an offset of the view.
-#[tactic(auto, unfolding(block_codec::specs::Words::word_of))]
-fn word_in<V: View>(view: &V, at: u32) -> u32
-    requires { at + 4 ≤ length (V.bytes view.now) }
-    ensures { result ≡ word_of (slice_range (V.bytes view.now) at (at + 4)) }
+/// The boot units of the board's flash, in table order.
+fn boot_units_in<B: Board>(board: &B, cpu: Cpu) -> ArrayVec<SlotUnit, 15>
+    requires power { IsTrue (B.state board.now).powered }
+    ensures exact { result.items ≡ boot_units_in (B.state board.now).content cpu }
+    ensures inside { All (AreInside (length (B.state board.now).content.flash)) result.items }
 {
-    let mut bytes = [0u8; 4];
-    view.read(at, &mut bytes);
-    LittleEndian::read_u32(&bytes)
-}
-
-/// The offset of the one block of a built view's loop. None exactly where the view has no first block.
-fn lone_block<V: View>(view: &V) -> Option<u32>
-    requires { IsBuilt (V.bytes view.now) }
-    ensures some { IfSome result (IsLone (V.bytes view.now)) }
-    ensures none { IfNone result (loop_of (V.bytes view.now) ≡ Err NoFirst) }
-{
-    match walk(view) {
-        Ok(found) => Some(found.at(0)),
-        Err(_) => None,
+    let size = slot_size(board);
+    match find_table(board) {
+        Some(found) => boot_units(Some(&found.table), board.flash_len(), size, cpu),
+        None => boot_units(None, board.flash_len(), size, cpu),
     }
 }
 
-/// The image of a built view, as the image of a window for Arm. None where there is no valid one.
-fn image_of<V: View>(view: &V, window: Window) -> Option<Started>
-    requires built { IsBuilt (V.bytes view.now) }
-    requires room { 8 ≤ length (V.bytes view.now) }
-    ensures { (otp : List ℕ) → slice_index otp 0x048 ≡ 0 → result ≡ result_ok (image_in in_flash window Arm false otp (V.bytes view.now)) }
+/// Brings the units into the order in which a boot of this kind tries them, and names the updated
+/// member of the first one.
+fn order_of(units: &mut ArrayVec<SlotUnit, 15>, kind: BootKind) -> Option<Member>
+    ensures { order_of kind units.old.items ≡ record { units = units.new.items; updated = result } }
 {
-    match lone_block(view) {
-        Some(at) => {
-            let vectors = Vectors {
-                sp: word_in(view, 0),
-                pc: word_in(view, 4),
-            };
-            plain_image(window, view.len(), at, vectors)
+    match kind {
+        BootKind::Update(base) => update_first(units, base),
+        BootKind::Normal => None,
+        BootKind::Bootsel => None,
+    }
+}
+
+/// The choice of the first unit that has one, where none is updated.
+fn first_taken<B: Board>(
+    board: &B,
+    pool: &mut SectorPool,
+    units: &[SlotUnit],
+    cpu: Cpu,
+) -> Option<Choice>
+    requires power { IsTrue (B.state board.now).powered }
+    requires free { HasFree pool.old }
+    requires inside { All (AreInside (length (B.state board.now).content.flash)) units.now }
+    ensures exact { result ≡ ordered_choice (images_in (B.state board.now).content cpu) units.now None }
+    ensures kept { KeepsOut pool.old pool.new }
+{
+    for unit in units {
+        if let Some(choice) = taken(board, pool, unit, cpu) {
+            return Some(choice);
         }
-        None => None,
+    }
+    None
+}
+
+/// The choice of the first unit that has one, where a member of the first unit may be updated.
+fn ordered_choice<B: Board>(
+    board: &B,
+    pool: &mut SectorPool,
+    units: &[SlotUnit],
+    updated: Option<Member>,
+    cpu: Cpu,
+) -> Option<Choice>
+    requires power { IsTrue (B.state board.now).powered }
+    requires free { HasFree pool.old }
+    requires inside { All (AreInside (length (B.state board.now).content.flash)) units.now }
+    ensures exact { result ≡ ordered_choice (images_in (B.state board.now).content cpu) units.now updated }
+    ensures kept { KeepsOut pool.old pool.new }
+{
+    let Some((first, others)) = units.split_first() else {
+        return None;
+    };
+    match unit_choice(board, pool, first, updated, cpu) {
+        Some(choice) => Some(choice),
+        None => first_taken(board, pool, others, cpu),
     }
 }
 
-/// Decides a boot: which image starts, or why none does. It takes no memory, and the pool keeps what is out.
-///
-/// For now it serves an Arm boot of the normal kind on a content whose blocks are all plain ([`built`](crate::built)), with an OTP of
-/// zeros. (RP2350 Datasheet, chapter 5, Bootrom; this project's own where the datasheet is open.)
+/// The decision of a choice.
+fn decision_of(choice: Option<Choice>) -> Decision
+    ensures { result ≡ decision_of choice }
+{
+    match choice {
+        Some(choice) => Decision::Start(choice),
+        None => Decision::Bootsel(Fall::NoImage),
+    }
+}
+
+/// The decision of a boot from flash.
+fn flash_decision<B: Board>(
+    board: &B,
+    pool: &mut SectorPool,
+    cpu: Cpu,
+    kind: BootKind,
+) -> Decision
+    requires power { IsTrue (B.state board.now).powered }
+    requires free { HasFree pool.old }
+    ensures exact { result ≡ flash_decision (B.state board.now).content cpu kind }
+    ensures kept { KeepsOut pool.old pool.new }
+{
+    if flash_off(board) {
+        return Decision::Bootsel(Fall::FlashOff);
+    }
+    let mut units = boot_units_in(board, cpu);
+    let updated = order_of(&mut units, kind);
+    decision_of(ordered_choice(board, pool, units.as_slice(), updated, cpu))
+}
+
+/// Decides a boot: which image starts, or why none does. A boot that asks for BOOTSEL falls there
+/// first, then one where flash boot is off. Otherwise the boot units are tried in table order, the
+/// updated member's unit before the others: the updated member's image is taken where it is valid with
+/// a trial image allowed, otherwise the greater version of those that are valid with none allowed, A
+/// on a tie. The decision takes no memory, and the pool keeps what is out. (RP2350 Datasheet, chapter
+/// 5, Bootrom; this project's own where the datasheet is open; the order of versions and the update
+/// rule as a whole.)
+#[tactic(auto, unfolding(crate::specs::Choosing::decision_in))]
 pub fn decide<B: Board>(board: &B, pool: &mut SectorPool, cpu: Cpu, kind: BootKind) -> Decision
     requires power { IsTrue (B.state board.now).powered }
     requires lease { HasFree pool.old }
-    requires built { IsTrue (is_built (B.state board.now).content.flash) }
-    requires zeros { All (λ row. row ≡ 0) (B.state board.now).content.otp }
-    requires arm { cpu ≡ Cpu.Arm }
-    requires normal { kind ≡ BootKind.Normal }
     ensures chosen { Chosen (B.state board.now).content cpu kind result }
     ensures function { result ≡ decision_in (B.state board.now).content cpu kind }
     ensures pool { KeepsOut pool.old pool.new }
 {
-    let window = Window {
-        start: 0,
-        len: board.flash_len(),
-    };
-    match image_of(&FlashView { board, window }, window) {
-        Some(image) => Decision::Start(Choice {
-            image,
-            member: Member::A,
-            other: None,
-            updated: false,
-        }),
-        None => Decision::Bootsel(Fall::NoImage),
+    match kind {
+        BootKind::Bootsel => Decision::Bootsel(Fall::Requested),
+        BootKind::Normal => flash_decision(board, pool, cpu, BootKind::Normal),
+        BootKind::Update(base) => flash_decision(board, pool, cpu, BootKind::Update(base)),
     }
 }

@@ -1,6 +1,21 @@
-//! The partition table that was found.
+//! The partition table of a flash.
 
-use part_table::Table;
+ghost use Rattle.std.specs.Prelude.{◌≡◌, ◌+◌, ◌*◌, ◌/◌, ◌≤◌, List, IfSome, IsTrue, Ok, Some, find, length, reverse, true};
+ghost use Rattle.block_codec.specs.Blocks.{BlockView};
+ghost use Rattle.block_loop.specs.Loop.{loop_of};
+ghost use Rattle.block_loop.specs.Offsets.{AreLoop};
+ghost use Rattle.part_table.specs.Faults.{table_fault};
+ghost use Rattle.part_table.specs.Sound.{IsSoundTable};
+ghost use Rattle.part_table.specs.TableOf.{has_table};
+ghost use Rattle.pico_board.specs.Content.{window_bytes};
+ghost use Rattle.boot_rules.specs.Tables.{found_of, slot_table, table_in};
+
+use block_codec::Block;
+use block_loop::{BlockLoop, block_of, walk};
+use otp_roll::slot_size;
+use part_table::{Table, has_table, read_table};
+use pico_board::{Board, FlashView, View, Window};
+use slot_choice::is_below;
 
 /// The partition table of a flash, and where it stands.
 #[derive(Clone, PartialEq, Eq, Debug, Drop)]
@@ -9,4 +24,89 @@ pub struct Found {
     pub slot: u32,
     /// The table.
     pub table: Table,
+}
+
+/// The last block of the view's loop that has a PARTITION_TABLE item.
+fn table_block<V: View>(view: &V, found: &BlockLoop) -> Option<Block>
+    requires loop_ { AreLoop (V.bytes view.now) found.now }
+    ensures last { (loop : List BlockView) → loop_of (V.bytes view.now) ≡ Ok loop
+        → result ≡ find has_table (reverse loop) }
+    ensures has { IfSome result (λ b. has_table b ≡ true) }
+{
+    let mut last = None;
+    for i in 0..found.count() {
+        let block = block_of(view, found, i);
+        if has_table(&block) {
+            last = Some(block);
+        }
+    }
+    last
+}
+
+/// The table of a slot of a flash of so many sectors, whose first free one is given.
+fn slot_table<V: View>(view: &V, sectors: u32, first: u32) -> Option<Table>
+    ensures { result ≡ slot_table sectors first (V.bytes view.now) }
+{
+    let found = match walk(view) {
+        Ok(found) => found,
+        Err(_) => return None,
+    };
+    match table_block(view, &found) {
+        Some(block) => read_table(&block, sectors, first).ok(),
+        None => None,
+    }
+}
+
+/// The table of the slot of this size and number.
+fn table_of_slot<B: Board>(board: &B, size: u32, number: u32) -> Option<Table>
+    requires power { IsTrue (B.state board.now).powered }
+    requires number { number ≤ 1 }
+    requires inside { 2 * size ≤ length (B.state board.now).content.flash }
+    ensures { result ≡ slot_table (length (B.state board.now).content.flash / 4096) (2 * size / 4096)
+        (window_bytes (B.state board.now).content (record { start = number * size; len = size })) }
+{
+    let window = Window {
+        start: number * size,
+        len: size,
+    };
+    slot_table(
+        &FlashView { board, window },
+        board.flash_len() / 4096,
+        2 * size / 4096,
+    )
+}
+
+/// Which of the tables of the two slots is the one of the flash.
+fn found_of(first: Option<Table>, second: Option<Table>) -> Option<Found>
+    ensures { result ≡ found_of first second }
+{
+    match (first, second) {
+        (None, None) => None,
+        (None, Some(table)) => Some(Found { slot: 1, table }),
+        (Some(table), None) => Some(Found { slot: 0, table }),
+        (Some(table), Some(other)) => {
+            if table.singleton || !is_below(table.version, other.version) {
+                Some(Found { slot: 0, table })
+            } else {
+                Some(Found { slot: 1, table: other })
+            }
+        }
+    }
+}
+
+/// The partition table of a board's flash and the slot that it stands in, 0 or 1. None exactly where
+/// neither slot has a table. A slot's table is that of the last block of its loop that has a
+/// PARTITION_TABLE item, where that is read without fault. A singleton in slot 0 is taken, and
+/// otherwise the greater version, slot 0 on a tie. (RP2350 Datasheet, chapter 5, "Partition tables";
+/// the choice between two tables is this project's own.)
+#[tactic(auto, unfolding(crate::specs::Tables::table_in))]
+pub fn find_table<B: Board>(board: &B) -> Option<Found>
+    requires power { IsTrue (B.state board.now).powered }
+    ensures exact { result ≡ table_in (B.state board.now).content }
+    ensures sound { IfSome result
+        (λ found. IsSoundTable found.table (length (B.state board.now).content.flash / 4096)) }
+    ensures slot { IfSome result (λ found. found.slot ≤ 1) }
+{
+    let size = slot_size(board);
+    found_of(table_of_slot(board, size, 0), table_of_slot(board, size, 1))
 }

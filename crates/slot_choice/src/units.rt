@@ -38,7 +38,8 @@ pub fn second_of(parts: &[Partition], first: u32) -> Option<u32>
 }
 
 /// The unit of a partition: a pair with its B where it has one, and the partition alone otherwise.
-fn unit_of(parts: &[Partition], i: u32) -> SlotUnit
+/// (RP2350 Datasheet, chapter 5, Bootrom.)
+pub fn unit_of(parts: &[Partition], i: u32) -> SlotUnit
     requires few { length parts.now ≤ 15 }
     requires inside { i < length parts.now }
     requires right { All (λ p. first_sector p ≤ last_sector p) parts.now }

@@ -1,0 +1,166 @@
+//! Where a download goes.
+
+ghost use Rattle.std.specs.Prelude.{◌≡◌, ◌<◌, ◌/◌, ℕ, IfSome, IsTrue, length, option_map};
+ghost use Rattle.part_table.specs.Sound.{IsSoundTable};
+ghost use Rattle.sector_pool.specs.Keeping.{KeepsOut};
+ghost use Rattle.sector_pool.specs.Pool.{HasFree};
+ghost use Rattle.slot_choice.specs.Units.{IsSoundFor};
+ghost use Rattle.part_table.specs.Windows.{IsPlaced};
+ghost use Rattle.boot_rules.specs.Targets.{deciding_in, deciding_unit, is_executable, member_for, pair_target, stays, target_of, unit_target, AreLoadsOf};
+
+use crate::picking::taken;
+use otp_roll::slot_size;
+use owner_data::owner_pair;
+use part_table::{Table, Target};
+use pico_board::{Board, Cpu, Window};
+use sector_pool::SectorPool;
+use slot_choice::{Choice, Member, SlotUnit, load_unit, unit_of};
+
+/// The family rp2350-arm-s.
+const ARM_S_FAMILY: u32 = 0xe48b_ff59;
+/// The family rp2350-riscv.
+const RISCV_FAMILY: u32 = 0xe48b_ff5a;
+/// The family rp2350-arm-ns.
+const ARM_NS_FAMILY: u32 = 0xe48b_ff5b;
+
+/// Whether the family is one of the three of executables for the RP2350.
+fn is_executable(family: u32) -> bool
+    ensures { result ≡ is_executable family }
+{
+    family == ARM_S_FAMILY || family == RISCV_FAMILY || family == ARM_NS_FAMILY
+}
+
+/// Bit 13 of a partition's flags; what is no partition has none.
+fn stays(table: Option<&Table>, part: Option<u32>) -> bool
+    ensures { result ≡ stays (option_map (λ t. t.now) table.entry) part }
+{
+    let (Some(table), Some(i)) = (table, part) else {
+        return false;
+    };
+    match table.parts.as_slice().get(i as usize) {
+        Some(part) => part.is_staying(),
+        None => false,
+    }
+}
+
+/// The unit whose choice decides on the member of a load unit of this table: that of its A's owner
+/// where A has one, and itself otherwise.
+fn deciding_in(table: &Table, unit: SlotUnit) -> SlotUnit
+    requires sound { (n : ℕ) × IsSoundTable table.now n }
+    requires part { IfSome unit.a_part (λ i. i < length table.now.parts.items) }
+    ensures { result ≡ deciding_in table.now.parts.items unit unit.a_part }
+{
+    let Some(part) = unit.a_part else {
+        return unit;
+    };
+    match owner_pair(table, part) {
+        Some((owner, _)) => unit_of(table.parts.as_slice(), owner),
+        None => unit,
+    }
+}
+
+/// The unit whose choice decides on the member of a load unit.
+fn deciding_unit(table: Option<&Table>, unit: SlotUnit) -> SlotUnit
+    requires sound { IfSome (option_map (λ t. t.now) table) (λ t. (n : ℕ) × IsSoundTable t n) }
+    requires part { IfSome (option_map (λ t. t.now) table)
+        (λ t. IfSome unit.a_part (λ i. i < length t.parts.items)) }
+    ensures { result ≡ deciding_unit (option_map (λ t. t.now) table.entry) unit }
+{
+    match table {
+        Some(table) => deciding_in(table, unit),
+        None => unit,
+    }
+}
+
+/// The target in the member of a pair whose B has this window.
+fn pair_target(
+    table: Option<&Table>,
+    family: u32,
+    unit: &SlotUnit,
+    second: Window,
+    member: Member,
+) -> Target
+    ensures { result ≡ pair_target (option_map (λ t. t.now) table.entry) family unit.now second member }
+{
+    let gated = is_executable(family);
+    match member {
+        Member::A => Target {
+            window: unit.a,
+            gated,
+            stay: stays(table, unit.a_part),
+        },
+        Member::B => Target {
+            window: second,
+            gated,
+            stay: stays(table, unit.b_part),
+        },
+    }
+}
+
+/// The member of a pair to which a download goes, by what a normal boot would take in the deciding
+/// unit.
+fn member_for(choice: Option<Choice>) -> Member
+    ensures { result ≡ member_for (option_map (λ choice. choice.member) choice) }
+{
+    match choice {
+        Some(choice) => match choice.member {
+            Member::A => Member::B,
+            Member::B => Member::A,
+        },
+        None => Member::A,
+    }
+}
+
+/// The target in a load unit.
+fn unit_target<B: Board>(
+    board: &B,
+    pool: &mut SectorPool,
+    table: Option<&Table>,
+    cpu: Cpu,
+    family: u32,
+    unit: SlotUnit,
+) -> Target
+    requires power { IsTrue (B.state board.now).powered }
+    requires lease { HasFree pool.old }
+    requires sound { IsSoundFor (option_map (λ t. t.now) table) (length (B.state board.now).content.flash) }
+    requires loads { AreLoadsOf (length (B.state board.now).content.flash) (option_map (λ t. t.now) table) unit }
+    ensures exact { result ≡ unit_target (B.state board.now).content (option_map (λ t. t.now) table.entry) cpu family unit unit.b }
+    ensures kept { KeepsOut pool.old pool.new }
+{
+    let Some(second) = unit.b else {
+        return Target {
+            window: unit.a,
+            gated: false,
+            stay: stays(table, unit.a_part),
+        };
+    };
+    let deciding = deciding_unit(table, unit);
+    let member = member_for(taken(board, pool, &deciding, cpu));
+    pair_target(table, family, &unit, second, member)
+}
+
+/// Where a download of a UF2 family goes. None exactly where the family has no load unit. In a pair
+/// whose A has an owner it is B where a normal boot would take A of the owner's unit, and A otherwise;
+/// in another pair it is the member that a normal boot would not take, A where it would take none. The
+/// target is gated where it is a member of a pair and the family is one of the three of executables,
+/// and it stays where bit 13 of its partition's flags says so. It takes no memory, and the pool keeps
+/// what is out. (This project's own.)
+pub fn target<B: Board>(
+    board: &B,
+    pool: &mut SectorPool,
+    table: Option<&Table>,
+    cpu: Cpu,
+    family: u32,
+) -> Option<Target>
+    requires power { IsTrue (B.state board.now).powered }
+    requires lease { HasFree pool.old }
+    requires sound { IsSoundFor (option_map (λ t. t.now) table) (length (B.state board.now).content.flash) }
+    ensures exact { result ≡ target_of (B.state board.now).content (option_map (λ t. t.now) table.entry) cpu family }
+    ensures placed { IfSome result (λ t. IsPlaced t.window (length (B.state board.now).content.flash / 4096) 0) }
+    ensures kept { KeepsOut pool.old pool.new }
+{
+    match load_unit(table, board.flash_len(), slot_size(board), family) {
+        Some(unit) => Some(unit_target(board, pool, table, cpu, family, unit)),
+        None => None,
+    }
+}
