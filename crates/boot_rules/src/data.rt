@@ -33,14 +33,15 @@ fn has_window(part: &Partition, window: Window) -> bool
     found.start == window.start && found.len == window.len
 }
 
-/// The partition that is this window.
-fn part_with(table: &Table, window: Window) -> Option<u32>
-    requires sound { IsSoundTable table.now 4096 }
-    ensures value { result ≡ position (has_window window) table.now.parts.items }
-    ensures inside { IfSome result (λ i. i < length table.now.parts.items) }
+/// The first of the partitions that is this window.
+fn part_with(parts: &[Partition], window: Window) -> Option<u32>
+    requires few { length parts.now ≤ 15 }
+    requires right { All (λ p. first_sector p ≤ last_sector p) parts.now }
+    ensures value { result ≡ position (has_window window) parts.now }
+    ensures inside { IfSome result (λ i. i < length parts.now) }
 {
-    for i in 0..table.parts.len() as u32 {
-        if has_window(&table.parts.as_slice()[i as usize], window) {
+    for i in 0..parts.len() as u32 {
+        if has_window(&parts[i as usize], window) {
             return Some(i);
         }
     }
@@ -53,7 +54,7 @@ fn started_part(table: &Table, choice: &Choice) -> Option<u32>
     ensures value { result ≡ started_part table.now choice.now }
     ensures inside { IfSome result (λ i. i < length table.now.parts.items) }
 {
-    part_with(table, first_window(choice)?)
+    part_with(table.parts.as_slice(), first_window(choice)?)
 }
 
 /// Whether B was started.

@@ -19,8 +19,7 @@ use slot_choice::{Choice, Member, SlotUnit, boot_units, update_first};
 /// The boot units of the board's flash, in table order.
 fn boot_units_in<B: Board>(board: &B, cpu: Cpu) -> ArrayVec<SlotUnit, 15>
     requires power { IsTrue (B.state board.now).powered }
-    ensures exact { result.items ≡ boot_units_in (B.state board.now).content cpu }
-    ensures inside { All (AreInside (length (B.state board.now).content.flash)) result.items }
+    ensures { result.items ≡ boot_units_in (B.state board.now).content cpu }
 {
     let size = slot_size(board);
     match find_table(board) {
@@ -115,6 +114,21 @@ fn flash_decision<B: Board>(
     decision_of(ordered_choice(board, pool, units.as_slice(), updated, cpu))
 }
 
+/// The decision of a boot.
+#[tactic(auto, unfolding(crate::specs::Choosing::decision_in))]
+fn decision_in<B: Board>(board: &B, pool: &mut SectorPool, cpu: Cpu, kind: BootKind) -> Decision
+    requires power { IsTrue (B.state board.now).powered }
+    requires lease { HasFree pool.old }
+    ensures exact { result ≡ decision_in (B.state board.now).content cpu kind }
+    ensures kept { KeepsOut pool.old pool.new }
+{
+    match kind {
+        BootKind::Bootsel => Decision::Bootsel(Fall::Requested),
+        BootKind::Normal => flash_decision(board, pool, cpu, BootKind::Normal),
+        BootKind::Update(base) => flash_decision(board, pool, cpu, BootKind::Update(base)),
+    }
+}
+
 /// Decides a boot: which image starts, or why none does. A boot that asks for BOOTSEL falls there
 /// first, then one where flash boot is off. Otherwise the boot units are tried in table order, the
 /// updated member's unit before the others: the updated member's image is taken where it is valid with
@@ -122,7 +136,6 @@ fn flash_decision<B: Board>(
 /// on a tie. The decision takes no memory, and the pool keeps what is out. (RP2350 Datasheet, chapter
 /// 5, Bootrom; this project's own where the datasheet is open; the order of versions and the update
 /// rule as a whole.)
-#[tactic(auto, unfolding(crate::specs::Choosing::decision_in))]
 pub fn decide<B: Board>(board: &B, pool: &mut SectorPool, cpu: Cpu, kind: BootKind) -> Decision
     requires power { IsTrue (B.state board.now).powered }
     requires lease { HasFree pool.old }
@@ -130,9 +143,5 @@ pub fn decide<B: Board>(board: &B, pool: &mut SectorPool, cpu: Cpu, kind: BootKi
     ensures function { result ≡ decision_in (B.state board.now).content cpu kind }
     ensures pool { KeepsOut pool.old pool.new }
 {
-    match kind {
-        BootKind::Bootsel => Decision::Bootsel(Fall::Requested),
-        BootKind::Normal => flash_decision(board, pool, cpu, BootKind::Normal),
-        BootKind::Update(base) => flash_decision(board, pool, cpu, BootKind::Update(base)),
-    }
+    decision_in(board, pool, cpu, kind)
 }

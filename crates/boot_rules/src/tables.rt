@@ -94,12 +94,21 @@ fn found_of(first: Option<Table>, second: Option<Table>) -> Option<Found>
     }
 }
 
+/// The partition table of the board's flash.
+#[tactic(auto, unfolding(crate::specs::Tables::table_in))]
+fn table_in<B: Board>(board: &B) -> Option<Found>
+    requires power { IsTrue (B.state board.now).powered }
+    ensures { result ≡ table_in (B.state board.now).content }
+{
+    let size = slot_size(board);
+    found_of(table_of_slot(board, size, 0), table_of_slot(board, size, 1))
+}
+
 /// The partition table of a board's flash and the slot that it stands in, 0 or 1. None exactly where
 /// neither slot has a table. A slot's table is that of the last block of its loop that has a
 /// PARTITION_TABLE item, where that is read without fault. A singleton in slot 0 is taken, and
 /// otherwise the greater version, slot 0 on a tie. (RP2350 Datasheet, chapter 5, "Partition tables";
 /// the choice between two tables is this project's own.)
-#[tactic(auto, unfolding(crate::specs::Tables::table_in))]
 pub fn find_table<B: Board>(board: &B) -> Option<Found>
     requires power { IsTrue (B.state board.now).powered }
     ensures exact { result ≡ table_in (B.state board.now).content }
@@ -107,6 +116,5 @@ pub fn find_table<B: Board>(board: &B) -> Option<Found>
         (λ found. IsSoundTable found.table (length (B.state board.now).content.flash / 4096)) }
     ensures slot { IfSome result (λ found. found.slot ≤ 1) }
 {
-    let size = slot_size(board);
-    found_of(table_of_slot(board, size, 0), table_of_slot(board, size, 1))
+    table_in(board)
 }
