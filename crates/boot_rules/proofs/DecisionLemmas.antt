@@ -30,7 +30,7 @@ found-valid c cpu w trial s h = valid-at c w cpu trial s (go (image_at c w cpu t
     go (Ok t) e = cc
     go (Err y) e = cc
 
-valid-found : (c : Content) (cpu : Cpu) (w : Window) (trial : Bool) (s : Started) → Valid c w cpu trial s → images_in c cpu w trial ≡ Some s
+pub valid-found : (c : Content) (cpu : Cpu) (w : Window) (trial : Bool) (s : Started) → Valid c w cpu trial s → images_in c cpu w trial ≡ Some s
 valid-found c cpu w trial s v = ap result_ok (at-valid c w cpu trial s v)
 
 module _ (c : Content) (cpu : Cpu) (o : Order) where

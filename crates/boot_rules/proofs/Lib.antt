@@ -5,3 +5,7 @@ pub mod ChangeLemmas
 pub mod TableLemmas
 pub mod PickLemmas
 pub mod PlaceLemmas
+pub mod StartLemmas
+pub mod TargetLemmas
+pub mod DataLemmas
+pub mod PickLaws

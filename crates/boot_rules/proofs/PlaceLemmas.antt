@@ -59,7 +59,7 @@ pub slot-size : (otp : List ℕ) (n : ℕ) → 8192 ≤ n → IsSlotSize n (slot
 slot-size otp n least = slot-size-of (slice_index otp SLOT_SIZE_ROW % 16) n least
 
 -- a flash has whole sectors
-whole-sectors : (n : ℕ) → n % 4096 ≡ 0 → 4096 * (n / 4096) ≡ n
+pub whole-sectors : (n : ℕ) → n % 4096 ≡ 0 → 4096 * (n / 4096) ≡ n
 whole-sectors n whole = omega arith
 
 -- a placed window stands inside
@@ -96,7 +96,7 @@ unit-members None n z cpu sound right slot k u at w member =
     tableless-members n z right slot w (subst (λ v. IsMember v w) (sym (only (tableless_unit n z) k u at)) member)
 unit-members (Some t) n z cpu sound right slot k u at w member = sound_members_placed t (n / 4096) n z cpu sound k u at w member
 
-table-sound : (c : Content) (o : Option Found) → table_in c ≡ o → IsSoundFor (option_map (λ (found : Found). found.table) o) (length c.flash)
+pub table-sound : (c : Content) (o : Option Found) → table_in c ≡ o → IsSoundFor (option_map (λ (found : Found). found.table) o) (length c.flash)
 table-sound c None e = tt
 table-sound c (Some found) e = found-sound c found e
 

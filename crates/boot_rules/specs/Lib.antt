@@ -6,3 +6,4 @@ pub mod Changes
 pub mod Picking
 pub mod Targets
 pub mod Data
+pub mod Starts

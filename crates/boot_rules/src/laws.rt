@@ -1,6 +1,25 @@
 //! Laws of the decision, each the contract of a function that does nothing.
 
-ghost use Rattle.std.specs.Prelude.{◌≡◌, ◌↔◌, ◌⊎◌, Bool, None, IsSome};
+ghost use Rattle.std.specs.Prelude.{◌≡◌, ◌↔◌, ◌⊎◌, ℕ, List, Bool, None, Some, IsSome, map, slice_get, true};
+ghost use Rattle.pico_board.specs.Content.{AreApart, IsContent, window_bytes};
+ghost use Rattle.pico_board.specs.Sessions.{Confined};
+ghost use Rattle.pico_board.specs.Steps.{MayLeave};
+ghost use Rattle.pico_board.specs.declared.Step.{Step};
+ghost use Rattle.part_table.specs.declared.target.Target.{Target};
+ghost use Rattle.part_table.specs.Windows.{partition_window};
+ghost use Rattle.slot_choice.specs.declared.unit.Member.{Member};
+ghost use Rattle.slot_choice.specs.declared.unit.SlotUnit.{SlotUnit};
+ghost use Rattle.slot_choice.specs.Units.{unit_of};
+ghost use Rattle.image_def.specs.declared.started.Started.{Started};
+ghost use Rattle.image_check.specs.Valid.{Valid};
+ghost use Rattle.owner_data.specs.Owners.{data_parts};
+ghost use Rattle.boot_rules.specs.declared.tables.Found.{Found};
+ghost use Rattle.boot_rules.specs.Data.{data_of, is_second_member};
+ghost use Rattle.boot_rules.specs.Picking.{IsNormalImage, IsPick, pick};
+ghost use Rattle.boot_rules.specs.Starts.{load_unit_in, table_of_content, IsOfUnit, IsOwnedPair, IsPlacedIn};
+ghost use Rattle.boot_rules.specs.Tables.{table_in};
+ghost use Rattle.boot_rules.specs.Targets.{target_of};
+ghost use Rattle.pico_board.specs.declared.boot.BootKind.TheVariants.{Normal};
 ghost use Rattle.pico_board.specs.declared.window.Window.{Window};
 ghost use Rattle.pico_board.specs.declared.boot.Cpu.{Cpu};
 ghost use Rattle.pico_board.specs.declared.boot.BootKind.{BootKind};
@@ -45,4 +64,76 @@ pub fn a_window_empties()
 /// The images of a content name the windows in which they stand.
 pub fn images_are_in_place()
     ensures { (c : Content) (cpu : Cpu) → AreInPlace (images_in c cpu) }
+{}
+
+/// What a start gives. Its image stands in a member of a boot unit, whose other member is `other`. Both
+/// windows are of whole sectors, at least one, inside the flash, and share no byte. The image is valid
+/// in its window with a trial image allowed, and it is a trial only in the updated member.
+pub fn what_a_start_gives()
+    ensures unit { (c : Content) (cpu : Cpu) (kind : BootKind) (choice : Choice)
+        → Chosen c cpu kind (Start choice) → (u : SlotUnit) × IsOfUnit c cpu choice u }
+    ensures window { (c : Content) (cpu : Cpu) (kind : BootKind) (choice : Choice) → IsContent c
+        → Chosen c cpu kind (Start choice) → IsPlacedIn c choice.image.window }
+    ensures other { (c : Content) (cpu : Cpu) (kind : BootKind) (choice : Choice) → IsContent c
+        → Chosen c cpu kind (Start choice) → (w : Window) → choice.other ≡ Some w
+        → IsPlacedIn c w × AreApart choice.image.window w }
+    ensures valid { (c : Content) (cpu : Cpu) (kind : BootKind) (choice : Choice)
+        → Chosen c cpu kind (Start choice) → Valid c choice.image.window cpu true choice.image }
+    ensures trial { (c : Content) (cpu : Cpu) (kind : BootKind) (choice : Choice)
+        → Chosen c cpu kind (Start choice) → choice.image.trial ≡ true → choice.updated ≡ true }
+{}
+
+/// What is picked of a unit is the image of a member, valid in a normal boot, to which the other
+/// member's is not preferred; nothing is picked exactly where neither member has such an image.
+pub fn a_pick_is_the_better_image()
+    ensures some { (c : Content) (u : SlotUnit) (cpu : Cpu) (s : Started)
+        → (pick c u cpu ≡ Some s) ↔ IsPick c u cpu s }
+    ensures none { (c : Content) (u : SlotUnit) (cpu : Cpu)
+        → (pick c u cpu ≡ None) ↔ ((m : Member) (s : Started) → IsNormalImage c cpu u m s → ⊥) }
+{}
+
+/// The target of a download into a pair, for the content's own table, shares no byte with the window
+/// of the image that a normal boot starts.
+pub fn a_target_never_runs()
+    ensures { (c : Content) (cpu : Cpu) (family : ℕ) (u : SlotUnit) (second : Window) (target : Target) (choice : Choice)
+        → IsContent c → load_unit_in c family ≡ Some u → u.b ≡ Some second
+        → target_of c (table_of_content c) cpu family ≡ Some target
+        → Chosen c cpu Normal (Start choice) → AreApart target.window choice.image.window }
+{}
+
+/// The data of a started image are those of the partition that is its unit's A: of each partition with
+/// that owner its B where B was started and it has one, and itself otherwise.
+pub fn data_of_a_start()
+    ensures { (c : Content) (cpu : Cpu) (kind : BootKind) (choice : Choice) (found : Found)
+        → IsContent c → table_in c ≡ Some found → Chosen c cpu kind (Start choice)
+        → (i : ℕ) × IsOfUnit c cpu choice (unit_of found.table.parts.items i)
+        × (data_of (Some found.table) choice
+        ≡ map (partition_window found.table) (data_parts found.table.parts.items i (is_second_member choice.member))) }
+{}
+
+/// Steps that are confined to the target of a family in an owned pair, done or torn, leave the table
+/// and the decision of a normal boot; and where that is a start, the target shares no byte with the
+/// data of the started image, all of which keep their bytes.
+pub fn owned_data()
+    ensures table { (c : Content) (cpu : Cpu) (family : ℕ) (found : Found) (u : SlotUnit) (second : Window) (target : Target)
+        (steps : List Step) (d : Content)
+        → IsContent c → table_in c ≡ Some found → load_unit_in c family ≡ Some u → IsOwnedPair found.table u second
+        → target_of c (Some found.table) cpu family ≡ Some target → Confined steps target.window → MayLeave c steps d
+        → table_in d ≡ Some found }
+    ensures decision { (c : Content) (cpu : Cpu) (family : ℕ) (found : Found) (u : SlotUnit) (second : Window) (target : Target)
+        (steps : List Step) (d : Content) (e : Decision)
+        → IsContent c → table_in c ≡ Some found → load_unit_in c family ≡ Some u → IsOwnedPair found.table u second
+        → target_of c (Some found.table) cpu family ≡ Some target → Confined steps target.window → MayLeave c steps d
+        → Chosen c cpu Normal e → Chosen d cpu Normal e }
+    ensures apart { (c : Content) (cpu : Cpu) (family : ℕ) (found : Found) (u : SlotUnit) (second : Window) (target : Target)
+        (choice : Choice) (k : ℕ) (w : Window)
+        → IsContent c → table_in c ≡ Some found → load_unit_in c family ≡ Some u → IsOwnedPair found.table u second
+        → target_of c (Some found.table) cpu family ≡ Some target → Chosen c cpu Normal (Start choice)
+        → slice_get (data_of (Some found.table) choice) k ≡ Some w → AreApart target.window w }
+    ensures bytes { (c : Content) (cpu : Cpu) (family : ℕ) (found : Found) (u : SlotUnit) (second : Window) (target : Target)
+        (steps : List Step) (d : Content) (choice : Choice) (k : ℕ) (w : Window)
+        → IsContent c → table_in c ≡ Some found → load_unit_in c family ≡ Some u → IsOwnedPair found.table u second
+        → target_of c (Some found.table) cpu family ≡ Some target → Confined steps target.window → MayLeave c steps d
+        → Chosen c cpu Normal (Start choice)
+        → slice_get (data_of (Some found.table) choice) k ≡ Some w → window_bytes d w ≡ window_bytes c w }
 {}

@@ -1,0 +1,43 @@
+-- What a start says of the content that it is chosen on. This project's own.
+use Rattle.std.specs.Prelude.{◌≡◌, ℕ, ◌*◌, ◌/◌, length, slice_get, true, Option, Some, option_map}
+use Rattle.pico_board.specs.declared.boot.Cpu.{Cpu}
+use Rattle.pico_board.specs.declared.window.Window.{Window}
+use Rattle.pico_board.specs.Content.{AreApart, Content}
+use Rattle.otp_roll.specs.Flags.{slot_size}
+use Rattle.part_table.specs.declared.table.Table.{Table}
+use Rattle.part_table.specs.Links.{is_owned}
+use Rattle.part_table.specs.Partitions.{part_at}
+use Rattle.part_table.specs.Windows.{IsPlaced}
+use Rattle.slot_choice.specs.declared.choice.Choice.{Choice}
+use Rattle.slot_choice.specs.declared.unit.SlotUnit.{SlotUnit}
+use Rattle.slot_choice.specs.LoadUnits.{load_unit}
+use Rattle.slot_choice.specs.Units.{member_window}
+use Rattle.boot_rules.specs.declared.tables.Found.{Found}
+use Rattle.boot_rules.specs.Choosing.{boot_units_in, other_of}
+use Rattle.boot_rules.specs.Tables.{table_in}
+
+-- the table of a content without its slot, if there is one
+abbrev pub table_of_content : Content → Option Table
+table_of_content c = option_map (λ (found : Found). found.table) (table_in c)
+
+-- the unit that a download of a family goes to, for the content's own table
+abbrev pub load_unit_in : Content → ℕ → Option SlotUnit
+load_unit_in c family = load_unit (table_of_content c) (length c.flash) (slot_size c.otp (length c.flash)) family
+
+-- a window is of whole sectors, at least one, inside the flash
+abbrev pub IsPlacedIn : Content → Window → Type 0
+IsPlacedIn c w = IsPlaced w (length c.flash / 4096) 0
+
+-- the started image stands in a member of a boot unit, and `other` is the other member of that unit
+pub record IsOfUnit (c : Content) (cpu : Cpu) (choice : Choice) (unit : SlotUnit) : Type 0 where
+  pub place : ℕ
+  pub tried : slice_get (boot_units_in c cpu) place ≡ Some unit
+  pub stands : member_window choice.member unit ≡ Some choice.image.window
+  pub other : choice.other ≡ member_window (other_of choice.member) unit
+
+-- the unit of an owned pair of partitions: its A has an owner, and it has a B
+pub record IsOwnedPair (t : Table) (u : SlotUnit) (second : Window) : Type 0 where
+  pub part : ℕ
+  pub first : u.a_part ≡ Some part
+  pub owned : is_owned (part_at t.parts.items part) ≡ true
+  pub pair : u.b ≡ Some second
