@@ -1,10 +1,10 @@
 -- The data of a started image, and what a session on the target of an owned pair leaves.
-use Rattle.std.proofs.Common.{◌≡◌, ◌≢◌, ◌⊎◌, inl, inr, ℕ, ◌+◌, ◌*◌, ◌/◌, ◌%◌, ◌<◌, ◌≤◌, Bool, true, false, ◌&&◌, ◌==◌, List, [], ◌∷◌, length, map, slice_get, get_or, position, Option, Some, None, refl, sym, ap, ◌∙◌, subst, arith}
-use Rattle.std.specs.Prelude.{if◌then◌else◌, option_and_then, option_map, unwrap_or}
+use Rattle.std.proofs.Common.{◌≡◌, inl, inr, ℕ, ◌*◌, ◌/◌, ◌<◌, ◌≤◌, Bool, true, false, ◌&&◌, List, length, map, slice_get, position, Option, Some, None, refl, sym, ap, ◌∙◌, subst, arith}
+use Rattle.std.specs.Prelude.{if◌then◌else◌, option_and_then, option_map}
 use Rattle.std.specs.Option.{option_map_or}
 use Rattle.std.proofs.lemmas.Bool.{cases_eq, eq-eqb, eqb-true, ne_eqb}
 use Rattle.std.specs.Result.{result_ok}
-use Rattle.std.proofs.lemmas.Option.{same_Some, slice_get-map}
+use Rattle.std.proofs.lemmas.Option.{slice_get-map}
 use Rattle.pico_board.specs.declared.Step.{Step}
 use Rattle.pico_board.specs.declared.boot.Cpu.{Cpu}
 use Rattle.pico_board.specs.declared.boot.BootKind.{BootKind}
@@ -19,13 +19,12 @@ use Rattle.otp_roll.specs.Flags.{flash_off, slot_size}
 use Rattle.part_table.specs.declared.partition.Partition.{Partition}
 use Rattle.part_table.specs.declared.table.Table.{Table}
 use Rattle.part_table.specs.declared.target.Target.{Target}
-use Rattle.part_table.specs.Faults.{table_fault}
 use Rattle.part_table.specs.Fields.{link_type, link_value}
 use Rattle.part_table.specs.Links.{is_owned, is_second, owner_of, pair_of}
 use Rattle.part_table.specs.Partitions.{no_partition, part_at}
 use Rattle.part_table.specs.Sound.{IsSoundTable}
 use Rattle.part_table.specs.Windows.{IsPlaced, part_window, partition_window}
-use Rattle.part_table.proofs.TableFacts.{apart_sym, partition_placed, partitions_apart, sound_from_faultless, sound_placed}
+use Rattle.part_table.proofs.TableFacts.{apart_sym, partition_placed, partitions_apart, sound_placed}
 use Rattle.part_table.proofs.TestFacts.{first_position, mapped_some}
 use Rattle.slot_choice.specs.declared.unit.Member.{Member}
 use Rattle.slot_choice.specs.declared.unit.Member.TheVariants.{A, B}
@@ -53,7 +52,7 @@ use Rattle.boot_rules.proofs.ChangeLemmas.{choose-same}
 use Rattle.boot_rules.proofs.DecisionLemmas.{chosen-exactly}
 use Rattle.boot_rules.proofs.TargetLemmas.{decided-window, normal-taken, pair-member, taken-stands, target-window}
 use Rattle.boot_rules.proofs.UnitLemmas.{unit-some}
-use Rattle.boot_rules.proofs.PlaceLemmas.{slot-size, whole-sectors}
+use Rattle.boot_rules.proofs.PlaceLemmas.{slot-size}
 use Rattle.boot_rules.proofs.StartLemmas.{is-member, of-unit, start}
 use Rattle.boot_rules.proofs.TableLemmas.{found-in, found-sound}
 
@@ -151,7 +150,7 @@ module _ (t : Table) (family : ℕ) (parts : List Partition) (i : ℕ) (u : Slot
       subst (λ w. AreApart second w) there (apart_sym u.a second apart)
   left-over B owner x kept =
       let found : (e : ℕ) × (pair_of parts i ≡ Some e) × (second ≡ part_window (part_at parts e)) =
-          mapped_some (λ l. part_window (part_at parts l)) (pair_of parts i) second (sym (ap (λ (v : SlotUnit). v.b) is) ∙ b) in
+      mapped_some (λ l. part_window (part_at parts l)) (pair_of parts i) second (sym (ap (λ (v : SlotUnit). v.b) is) ∙ b) in
       let there : second ≡ part_window (part_at parts x) = found.2 ∙ ap (λ l. part_window (part_at parts l)) (sym (kept.other found.0 refl found.1)) in
       subst (λ w. AreApart u.a w) there apart
 
@@ -299,10 +298,10 @@ module _ (c : Content) (cpu : Cpu) (family : ℕ) (found : Found) (u : SlotUnit)
       | inl e ↦
           let here : IsDataOf listed boot.0 (is_second_member choice.member) owned.part x = subst (λ l. IsDataOf listed boot.0 (is_second_member choice.member) l x) (sym e) kept in
           let decides : taken c cpu (deciding_unit (Some found.table) u) ≡ Some choice =
-              ap (taken c cpu) (ap (deciding_in listed u) owned.first ∙ ap (λ o. option_map_or (unit_of listed) o u) here.owned ∙ sym boot.1.unit) ∙ taken-in.3 in
+          ap (taken c cpu) (ap (deciding_in listed u) owned.first ∙ ap (λ o. option_map_or (unit_of listed) o u) here.owned ∙ sym boot.1.unit) ∙ taken-in.3 in
           let apart : AreApart u.a second =
-              subst (λ (v : SlotUnit). AreApart v.a second) (sym load.unit)
-              (pair_apart found.table (n / 4096) sound owned.part load.within second (sym (ap (λ (v : SlotUnit). v.b) load.unit) ∙ owned.pair)) in
+          subst (λ (v : SlotUnit). AreApart v.a second) (sym load.unit)
+          (pair_apart found.table (n / 4096) sound owned.part load.within second (sym (ap (λ (v : SlotUnit). v.b) load.unit) ∙ owned.pair)) in
           subst (λ y. AreApart y (part_window (part_at listed x))) (sym (decided-window c cpu family (Some found.table) u second owned.pair choice decides) ∙ window-is)
           (left-over found.table family listed owned.part u load.unit second owned.pair apart choice.member boot.0 x here)
       | inr differ ↦
@@ -316,8 +315,8 @@ module _ (c : Content) (cpu : Cpu) (family : ℕ) (found : Found) (u : SlotUnit)
     data-apart k x at =
         let numbers = data_parts listed boot.0 (is_second_member choice.member) in
         let number : (l : ℕ) × (slice_get numbers k ≡ Some l) × (x ≡ partition_window found.table l) =
-            mapped_some (partition_window found.table) (slice_get numbers k) x
-            (sym (slice_get-map (partition_window found.table) numbers k) ∙ sym (ap (λ xs. slice_get xs k) data-are) ∙ at) in
+        mapped_some (partition_window found.table) (slice_get numbers k) x
+        (sym (slice_get-map (partition_window found.table) numbers k) ∙ sym (ap (λ xs. slice_get xs k) data-are) ∙ at) in
         let of : (number.0 < length listed) × ((i : ℕ) × (i < length listed) × IsDataOf listed boot.0 (is_second_member choice.member) i number.0) =
-            data_listed listed boot.0 (is_second_member choice.member) k number.0 number.1 in
+        data_listed listed boot.0 (is_second_member choice.member) k number.0 number.1 in
         subst (AreApart target.window) (sym number.2) (one-apart of.1.0 number.0 of.1.1 of.1.2)

@@ -1,5 +1,5 @@
 -- What is picked of a unit, in the words of the rule.
-use Rattle.std.proofs.Common.{subst, ◌≡◌, ◌↔◌, ℕ, zero, ◌<◌, Bool, true, false, List, [], ◌∷◌, Option, Some, None, refl, sym, ap, ◌∙◌, arith, inl, inr, ◌⊎◌}
+use Rattle.std.proofs.Common.{subst, ◌≡◌, ◌↔◌, zero, true, false, [], ◌∷◌, Option, Some, None, refl, sym, ap, ◌∙◌, arith, inl, inr, ◌⊎◌}
 use Rattle.std.specs.Prelude.{option_map}
 use Rattle.std.specs.Option.{option_or}
 use Rattle.std.proofs.lemmas.Option.{same_Some}
@@ -9,8 +9,8 @@ use Rattle.image_def.specs.declared.started.Started.{Started}
 use Rattle.slot_choice.specs.declared.unit.Member.{Member}
 use Rattle.slot_choice.specs.declared.unit.SlotUnit.{SlotUnit}
 use Rattle.slot_choice.specs.declared.choice.Choice.{Choice}
-use Rattle.boot_rules.specs.Choosing.{Order, choice_of, images_in, member_image, other_of}
-use Rattle.boot_rules.specs.Chosen.{Counts, IsBetter, IsStart, is_member}
+use Rattle.boot_rules.specs.Choosing.{choice_of, images_in, member_image, other_of}
+use Rattle.boot_rules.specs.Chosen.{IsBetter, IsStart, is_member}
 use Rattle.boot_rules.specs.Picking.{IsNormalImage, IsPick, pick, taken}
 use Rattle.boot_rules.proofs.ChoiceLemmas.{order, start-choice}
 use Rattle.boot_rules.proofs.DecisionLemmas.{found-valid, valid-found}

@@ -1,6 +1,5 @@
 -- The choice in a unit by what is seen of its members before a digest is made.
-use Rattle.std.proofs.Common.{◌≡◌, ℕ, Bool, true, false, cond, List, Option, Some, None, Result, Ok, Err, refl, sym, ap, ◌∙◌, subst, option_map, option_and_then}
-use Rattle.std.specs.Prelude.{IfSome}
+use Rattle.std.proofs.Common.{◌≡◌, Bool, true, false, cond, Option, Some, None, Result, Ok, Err, refl, sym, ap, ◌∙◌, option_map, option_and_then}
 use Rattle.std.specs.Option.{option_or}
 use Rattle.std.specs.Result.{result_ok}
 use Rattle.std.proofs.lemmas.Option.{same_Some}
@@ -14,7 +13,7 @@ use Rattle.image_check.specs.declared.why.Why.{Why}
 use Rattle.image_check.specs.Addressing.{in_flash}
 use Rattle.image_check.specs.Answers.{and_then, and_unless}
 use Rattle.image_check.specs.Examined.{confirmed_in, examined_in}
-use Rattle.image_check.specs.Image.{image_in, started_of}
+use Rattle.image_check.specs.Image.{started_of}
 use Rattle.image_check.specs.Rules.{delta_fault, digest_fault}
 use Rattle.image_check.proofs.ExaminedLemmas.{examined-image}
 use Rattle.slot_choice.specs.declared.unit.Member.{Member}
@@ -23,7 +22,7 @@ use Rattle.slot_choice.specs.declared.unit.SlotUnit.{SlotUnit}
 use Rattle.slot_choice.specs.declared.choice.Choice.{Choice}
 use Rattle.slot_choice.specs.Versions.{better, is_below}
 use Rattle.slot_choice.specs.Units.{member_window}
-use Rattle.boot_rules.specs.Choosing.{choice_of, images_in, member_image, of_better, unit_choice, version_of_image}
+use Rattle.boot_rules.specs.Choosing.{choice_of, images_in, member_image, of_better, version_of_image}
 use Rattle.boot_rules.specs.Picking.{seen_in, seen_version, taken}
 
 -- the record of what the last two rules let pass

@@ -1,5 +1,5 @@
 -- Where the members of units stand, in a flash of whole sectors.
-use Rattle.std.proofs.Common.{◌≡◌, ◌⊎◌, inl, inr, ℕ, zero, suc, ◌+◌, ◌*◌, ◌/◌, ◌%◌, ◌^◌, ◌<◌, ◌≤◌, Bool, true, false, ◌&&◌, ◌==◌, cond, List, [], ◌∷◌, length, slice_get, slice_index, Option, Some, None, refl, sym, ap, ◌∙◌, subst, arith, option_map}
+use Rattle.std.proofs.Common.{◌≡◌, ◌⊎◌, inl, inr, ℕ, zero, suc, ◌*◌, ◌/◌, ◌%◌, ◌^◌, ◌<◌, ◌≤◌, Bool, true, false, ◌&&◌, ◌==◌, List, [], ◌∷◌, length, slice_get, slice_index, Option, Some, None, refl, sym, ap, ◌∙◌, subst, arith, option_map}
 use Rattle.std.specs.Prelude.{All, IfSome, get_or, nat_le, nat_lt, if◌then◌else◌}
 use Rattle.std.specs.Option.{option_map_or}
 use Rattle.std.proofs.lemmas.Bool.{leb-true}
@@ -9,23 +9,21 @@ use Rattle.pico_board.specs.declared.boot.Cpu.{Cpu}
 use Rattle.pico_board.specs.declared.boot.BootKind.{BootKind}
 use Rattle.pico_board.specs.declared.boot.BootKind.TheVariants.{Normal, Update, Bootsel as AskBootsel}
 use Rattle.pico_board.specs.declared.window.Window.{Window}
-use Rattle.pico_board.specs.Content.{AreApart, Content, IsContent, IsFlashLength}
+use Rattle.pico_board.specs.Content.{Content, IsContent, IsFlashLength}
 use Rattle.otp_roll.specs.Flags.{slot_size, slot_size_of}
 use Rattle.otp_roll.specs.declared.flags.TheConstants.{SLOT_SIZE_ROW}
-use Rattle.part_table.specs.declared.partition.Partition.{Partition}
 use Rattle.part_table.specs.declared.table.Table.{Table}
 use Rattle.part_table.specs.Families.{absolute_family, accepts_absolute}
-use Rattle.part_table.specs.Faults.{table_fault}
 use Rattle.part_table.specs.Links.{owner_of}
 use Rattle.part_table.specs.Partitions.{part_at}
 use Rattle.part_table.specs.Sound.{IsSoundTable}
 use Rattle.part_table.specs.Windows.{IsPlaced}
 use Rattle.part_table.proofs.LinkFacts.{right_owner_of}
-use Rattle.part_table.proofs.TableFacts.{sound_from_faultless, sound_placed}
+use Rattle.part_table.proofs.TableFacts.{sound_placed}
 use Rattle.slot_choice.specs.declared.unit.Member.{Member}
 use Rattle.slot_choice.specs.declared.unit.Member.TheVariants.{A, B}
 use Rattle.slot_choice.specs.declared.unit.SlotUnit.{SlotUnit}
-use Rattle.slot_choice.specs.LoadUnits.{accepting_unit, absolute_unit, family_unit, load_unit}
+use Rattle.slot_choice.specs.LoadUnits.{absolute_unit, family_unit, load_unit}
 use Rattle.slot_choice.specs.Units.{IsMember, IsSoundFor, slot_pair, tableless_unit, unit_of, units, whole_flash}
 use Rattle.slot_choice.proofs.PlaceFacts.{IsLoadUnit, accepting, sound_members_placed, tableless_placed}
 use Rattle.slot_choice.proofs.UnitFacts.{member_placed}

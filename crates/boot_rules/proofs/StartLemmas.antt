@@ -1,7 +1,6 @@
 -- What a start says of its unit, its windows and its image.
-use Rattle.std.proofs.Common.{◌≡◌, ◌⊎◌, inl, inr, ℕ, zero, suc, ◌/◌, ◌<◌, Bool, true, false, List, [], ◌∷◌, length, slice_get, Option, Some, None, refl, sym, ap, ◌∙◌, subst, arith, MatchBool}
-use Rattle.std.specs.Prelude.{All, if◌then◌else◌, option_and_then, option_map}
-use Rattle.std.specs.Option.{option_or}
+use Rattle.std.proofs.Common.{◌≡◌, inl, inr, ℕ, zero, suc, ◌/◌, Bool, true, false, List, [], ◌∷◌, length, slice_get, Option, Some, None, refl, sym, ap, ◌∙◌, subst, MatchBool}
+use Rattle.std.specs.Prelude.{All}
 use Rattle.std.proofs.lemmas.Option.{same_Some, get_or_from_slice_get, slice_get-get_or, slice_get_within}
 use Rattle.pico_board.specs.declared.boot.Cpu.{Cpu}
 use Rattle.pico_board.specs.declared.boot.BootKind.{BootKind}
@@ -11,7 +10,6 @@ use Rattle.pico_board.specs.Content.{AreApart, Content, IsContent, window_bytes}
 use Rattle.image_def.specs.declared.started.Started.{Started}
 use Rattle.otp_roll.specs.Flags.{flash_off, slot_size}
 use Rattle.part_table.specs.declared.table.Table.{Table}
-use Rattle.part_table.specs.Sound.{IsSoundTable}
 use Rattle.part_table.proofs.TableFacts.{apart_sym}
 use Rattle.slot_choice.specs.declared.unit.Member.{Member}
 use Rattle.slot_choice.specs.declared.unit.Member.TheVariants.{A, B}
@@ -19,14 +17,12 @@ use Rattle.slot_choice.specs.declared.unit.SlotUnit.{SlotUnit}
 use Rattle.slot_choice.specs.declared.choice.Choice.{Choice}
 use Rattle.slot_choice.specs.Units.{IsMember, IsSoundFor, member_window, tableless_unit, units}
 use Rattle.slot_choice.proofs.PlaceFacts.{boot_pair_apart, tableless_apart}
-use Rattle.image_check.specs.declared.addressing.Addressing.{Addressing}
 use Rattle.image_check.specs.Addressing.{in_flash}
-use Rattle.image_check.specs.Valid.{IsValidImage, Valid}
+use Rattle.image_check.specs.Valid.{Valid}
 use Rattle.image_check.proofs.LawLemmas.{trial-more, valid-window}
 use Rattle.boot_rules.specs.declared.decision.Decision.TheVariants.{Start, Bootsel}
 use Rattle.boot_rules.specs.declared.decision.Fall.TheVariants.{Requested, FlashOff}
-use Rattle.boot_rules.specs.declared.tables.Found.{Found}
-use Rattle.boot_rules.specs.Choosing.{Order, boot_units_in, order_of, other_of}
+use Rattle.boot_rules.specs.Choosing.{boot_units_in, order_of, other_of}
 use Rattle.boot_rules.specs.Chosen.{Chosen, ChosenInFlash, IsStart, is_updated}
 use Rattle.boot_rules.specs.Starts.{IsOfUnit, IsPlacedIn, table_of_content}
 use Rattle.boot_rules.specs.Tables.{table_in}
@@ -76,7 +72,7 @@ module _ (c : Content) (cpu : Cpu) (kind : BootKind) (choice : Choice) (h : Chos
   pub of-unit : IsOfUnit c cpu choice start.unit
   of-unit =
       let listed = all-at (Listed (boot_units_in c cpu)) (order_of kind (boot_units_in c cpu)).units start.place start.unit
-          (order-all (Listed (boot_units_in c cpu)) kind (boot_units_in c cpu) (all-listed (boot_units_in c cpu))) start.counts.tried in
+      (order-all (Listed (boot_units_in c cpu)) kind (boot_units_in c cpu) (all-listed (boot_units_in c cpu))) start.counts.tried in
       record {
         place = listed.0;
         tried = listed.1;
@@ -134,6 +130,6 @@ module _ (c : Content) (cpu : Cpu) (kind : BootKind) (choice : Choice) (right : 
       let at : member_window (other_of choice.member) unit ≡ Some w = sym of.other ∙ is in (
         boot-unit-members c cpu right of.place unit of.tried w (is-member (other_of choice.member) unit w at),
         other-apart unit
-        (boot-pair-apart (table_of_content c) (length c.flash) (slot_size c.otp (length c.flash)) cpu (table-sound c (table_in c) refl) of.place unit of.tried)
-        choice.member choice.image.window w of.stands at,
+            (boot-pair-apart (table_of_content c) (length c.flash) (slot_size c.otp (length c.flash)) cpu (table-sound c (table_in c) refl) of.place unit of.tried)
+            choice.member choice.image.window w of.stands at,
       )

@@ -1,6 +1,6 @@
 -- The target of a download into a pair stands apart from what a normal boot starts.
-use Rattle.std.proofs.Common.{◌≡◌, ◌≢◌, ◌⊎◌, inl, inr, ℕ, zero, suc, ◌/◌, ◌<◌, Bool, true, false, List, [], ◌∷◌, length, slice_get, Option, Some, None, refl, sym, ap, ◌∙◌, subst, arith}
-use Rattle.std.specs.Prelude.{if◌then◌else◌, option_and_then, option_map}
+use Rattle.std.proofs.Common.{◌≡◌, ◌≢◌, inl, inr, ℕ, zero, suc, ◌/◌, false, List, [], ◌∷◌, length, slice_get, Option, Some, None, refl, sym, ap, ◌∙◌, subst}
+use Rattle.std.specs.Prelude.{if◌then◌else◌, option_map}
 use Rattle.std.specs.Option.{option_map_or, option_or}
 use Rattle.std.proofs.lemmas.Bool.{cases_eq}
 use Rattle.std.proofs.lemmas.Option.{same_Some}
@@ -8,13 +8,12 @@ use Rattle.pico_board.specs.declared.boot.Cpu.{Cpu}
 use Rattle.pico_board.specs.declared.boot.BootKind.TheVariants.{Normal}
 use Rattle.pico_board.specs.declared.window.Window.{Window}
 use Rattle.pico_board.specs.Content.{AreApart, Content, IsContent}
-use Rattle.image_def.specs.declared.started.Started.{Started}
 use Rattle.otp_roll.specs.Flags.{slot_size}
 use Rattle.part_table.specs.declared.partition.Partition.{Partition}
 use Rattle.part_table.specs.Fields.{link_value}
 use Rattle.part_table.specs.declared.table.Table.{Table}
 use Rattle.part_table.specs.declared.target.Target.{Target}
-use Rattle.part_table.specs.Links.{is_owned, is_second, owner_of}
+use Rattle.part_table.specs.Links.{is_owned, owner_of}
 use Rattle.part_table.specs.Partitions.{part_at}
 use Rattle.part_table.specs.Sound.{IsSoundTable}
 use Rattle.part_table.proofs.TableFacts.{apart_sym}
@@ -27,7 +26,7 @@ use Rattle.slot_choice.specs.LoadUnits.{load_unit}
 use Rattle.slot_choice.proofs.PlaceFacts.{IsBootUnit, IsLoadUnit, boot_unit, tableless_apart}
 use Rattle.slot_choice.proofs.UnitFacts.{pair_apart, units_apart}
 use Rattle.boot_rules.specs.declared.decision.Decision.TheVariants.{Start}
-use Rattle.boot_rules.specs.Choosing.{boot_units_in, images_in, member_image, ordered_choice, order_of, unit_choice}
+use Rattle.boot_rules.specs.Choosing.{boot_units_in, images_in, ordered_choice}
 use Rattle.boot_rules.specs.Chosen.{Chosen}
 use Rattle.boot_rules.specs.Picking.{taken, taken_member}
 use Rattle.boot_rules.specs.Starts.{load_unit_in, table_of_content}

@@ -1,8 +1,8 @@
 -- What a start says of the content that it is chosen on. This project's own.
-use Rattle.std.specs.Prelude.{◌≡◌, ℕ, ◌*◌, ◌/◌, length, slice_get, true, Option, Some, option_map}
+use Rattle.std.specs.Prelude.{◌≡◌, ℕ, ◌/◌, length, slice_get, true, Option, Some, option_map}
 use Rattle.pico_board.specs.declared.boot.Cpu.{Cpu}
 use Rattle.pico_board.specs.declared.window.Window.{Window}
-use Rattle.pico_board.specs.Content.{AreApart, Content}
+use Rattle.pico_board.specs.Content.{Content}
 use Rattle.otp_roll.specs.Flags.{slot_size}
 use Rattle.part_table.specs.declared.table.Table.{Table}
 use Rattle.part_table.specs.Links.{is_owned}

@@ -1,5 +1,5 @@
 -- TargetOf: where a download of a UF2 family goes (this project's own).
-use Rattle.std.specs.Prelude.{ℕ, ◌<◌, Bool, false, IfSome, ◌==◌, ◌||◌, List, length, is_some, Option, Some, None, option_map}
+use Rattle.std.specs.Prelude.{ℕ, ◌<◌, Bool, false, IfSome, ◌==◌, ◌||◌, List, length, Option, Some, None, option_map}
 use Rattle.std.specs.Option.{option_map_or}
 use Rattle.pico_board.specs.declared.boot.Cpu.{Cpu}
 use Rattle.pico_board.specs.declared.window.Window.{Window}

@@ -1,6 +1,6 @@
 //! The data of a started image.
 
-ghost use Rattle.std.specs.Prelude.{◌≡◌, ◌<◌, ◌≤◌, All, IfSome, length, map, option_map, position};
+ghost use Rattle.std.specs.Prelude.{ℕ, ◌≡◌, ◌<◌, ◌≤◌, All, IfSome, length, map, option_map, position};
 ghost use Rattle.part_table.specs.Fields.{first_sector, last_sector};
 ghost use Rattle.part_table.specs.Sound.{IsSoundTable};
 ghost use Rattle.part_table.specs.Windows.{partition_window};
@@ -50,7 +50,7 @@ fn part_with(parts: &[Partition], window: Window) -> Option<u32>
 
 /// The partition that is the started unit's A.
 fn started_part(table: &Table, choice: &Choice) -> Option<u32>
-    requires sound { IsSoundTable table.now 4096 }
+    requires sound { (n : ℕ) × IsSoundTable table.now n }
     ensures value { result ≡ started_part table.now choice.now }
     ensures inside { IfSome result (λ i. i < length table.now.parts.items) }
 {
@@ -69,7 +69,7 @@ fn is_second_member(member: Member) -> bool
 
 /// The windows of these partitions.
 fn windows_of(table: &Table, parts: &[u32]) -> ArrayVec<Window, 14>
-    requires sound { IsSoundTable table.now 4096 }
+    requires sound { (n : ℕ) × IsSoundTable table.now n }
     requires few { length parts.now ≤ 14 }
     requires inside { All (λ i. i < length table.now.parts.items) parts.now }
     ensures { result.items ≡ map (partition_window table.now) parts.now }
@@ -85,7 +85,7 @@ fn windows_of(table: &Table, parts: &[u32]) -> ArrayVec<Window, 14>
 /// started unit the window of its B where B was started and it has one, and its own otherwise. None
 /// without a table. (This project's own.)
 pub fn data_of(table: Option<&Table>, choice: &Choice) -> ArrayVec<Window, 14>
-    requires sound { IfSome (option_map (λ t. t.now) table) (λ t. IsSoundTable t 4096) }
+    requires sound { IfSome (option_map (λ t. t.now) table) (λ t. (n : ℕ) × IsSoundTable t n) }
     ensures { result.items ≡ data_of (option_map (λ t. t.now) table.entry) choice.now }
 {
     let Some(table) = table else {

@@ -95,12 +95,7 @@ fn decision_of(choice: Option<Choice>) -> Decision
 }
 
 /// The decision of a boot from flash.
-fn flash_decision<B: Board>(
-    board: &B,
-    pool: &mut SectorPool,
-    cpu: Cpu,
-    kind: BootKind,
-) -> Decision
+fn flash_decision<B: Board>(board: &B, pool: &mut SectorPool, cpu: Cpu, kind: BootKind) -> Decision
     requires power { IsTrue (B.state board.now).powered }
     requires free { HasFree pool.old }
     ensures exact { result ≡ flash_decision (B.state board.now).content cpu kind }

@@ -88,7 +88,10 @@ fn found_of(first: Option<Table>, second: Option<Table>) -> Option<Found>
             if table.singleton || !is_below(table.version, other.version) {
                 Some(Found { slot: 0, table })
             } else {
-                Some(Found { slot: 1, table: other })
+                Some(Found {
+                    slot: 1,
+                    table: other,
+                })
             }
         }
     }

@@ -7,5 +7,5 @@ abbrev pub invariant-loop-unit : goal.invariant-loop-unit
 invariant-loop-unit g l = record {
   kept : KeepsOut l.fn.pool l.pool;
   left : ordered_choice (images_in (g.B.Board.state l.board).content l.cpu) (drop l.unit-index l.units) None
-    ≡ ordered_choice (images_in (g.B.Board.state l.board).content l.cpu) l.units None;
+      ≡ ordered_choice (images_in (g.B.Board.state l.board).content l.cpu) l.units None;
 }

@@ -1,6 +1,6 @@
-use Rattle.std.proofs.Common.{◌≡◌, sym, ap, ◌∙◌, Some}
-use Rattle.boot_rules.specs.Picking.{seen_in, seen_version}
-use Rattle.boot_rules.proofs.PickLemmas.{by-first, by-none, by-second, or-none, or-some, taken-seen}
+use Rattle.std.proofs.Common.{sym, ap, ◌∙◌, Some}
+use Rattle.boot_rules.specs.Picking.{seen_version}
+use Rattle.boot_rules.proofs.PickLemmas.{by-first, by-none, by-second, or-some, taken-seen}
 use Rattle.boot_rules.proofs.picking.taken.Goals as goal
 
 pub returns-in-None-clause-exact : goal.returns-in-None-clause-exact

@@ -1,6 +1,4 @@
-use Rattle.std.proofs.Common.{◌≡◌, ◌≤◌, Bool, cond, length, Option, Some, arith, ap, sym, ◌∙◌}
-use Rattle.block_codec.specs.Blocks.{BlockView}
-use Rattle.part_table.specs.TableOf.{has_table}
+use Rattle.std.proofs.Common.{Bool, cond, Some, arith, ap, sym, ◌∙◌}
 use Rattle.boot_rules.proofs.TableLemmas.{last-all, last-has, last-step}
 use Rattle.boot_rules.proofs.tables.table_block.Goals.{then-has_table, else-has_table}
 use Rattle.boot_rules.proofs.tables.table_block.Goals as goal
