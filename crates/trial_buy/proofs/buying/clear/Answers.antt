@@ -1,0 +1,8 @@
+use Rattle.sector_pool.proofs.Kept.{KeepsOut-call, KeepsOutBut-written}
+use Rattle.trial_buy.proofs.buying.clear.Goals as goal
+
+pub returns-clause-kept : goal.returns-clause-kept
+returns-clause-kept g c =
+    KeepsOut-call c.args.pool.now c.lease.new.self _ c.give_back.new.self c.in-Some.lease c.in-Some.ensures.free
+    c.in-Some.ensures.lent
+    (KeepsOutBut-written c.lease.new.self c.in-Some.lease c.clear_through-done.new.piece) c.give_back.ensures
