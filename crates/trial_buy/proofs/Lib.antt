@@ -1,2 +1,4 @@
 pub mod ImageLemmas
 pub mod StepLemmas
+pub mod RewriteLemmas
+pub mod EraseLemmas
