@@ -1,20 +1,19 @@
 -- What a valid image says of its rows and of the place of its trial bit.
-use Rattle.std.proofs.Common.{◌≡◌, ℕ, ◌+◌, ◌*◌, ◌/◌, ◌<◌, ◌≤◌, Bool, true, List, [], ◌∷◌, ◌++◌, length, slice_get, Option, Some, refl, sym, ap, ◌∙◌, subst, arith}
-use Rattle.std.specs.Prelude.{IfSome, slice_range}
+use Rattle.std.proofs.Common.{◌≡◌, ℕ, ◌+◌, ◌*◌, ◌<◌, Bool, List, [], ◌∷◌, ◌++◌, length, slice_get, Some, refl, sym, ap, ◌∙◌, subst, arith}
+use Rattle.std.specs.Prelude.{IfSome}
 use Rattle.std.proofs.lemmas.List.Edits.{length-between}
 use Rattle.pico_board.specs.declared.boot.Cpu.{Cpu}
 use Rattle.pico_board.specs.declared.window.Window.{Window}
 use Rattle.pico_board.specs.Content.{Content, window_bytes}
 use Rattle.block_codec.specs.declared.definition.Def.{Def}
-use Rattle.block_codec.specs.Blocks.{BlockAt, BlockView, block_size}
+use Rattle.block_codec.specs.Blocks.{BlockAt, BlockView}
 use Rattle.block_codec.proofs.AtLemmas.{BlockAt-room}
 use Rattle.image_def.specs.declared.started.Started.{Started}
 use Rattle.image_def.specs.Guarantees.{IsDefinition}
 use Rattle.image_def.proofs.GuaranteeLemmas.{definition_from_ok}
-use Rattle.image_check.specs.Valid.{IsLastWith, IsValidImage, Valid}
+use Rattle.image_check.specs.Valid.{Valid}
 use Rattle.image_check.proofs.RuleLemmas.{suits-type}
 use Rattle.otp_roll.specs.Rows.{AreRollbackRows, IsRollbackVersion}
-use Rattle.part_table.specs.Windows.{IsPlaced}
 use Rattle.trial_buy.specs.Buying.{trial_place}
 use Rattle.trial_buy.specs.Windows.{IsPlacedIn}
 
@@ -37,7 +36,7 @@ defined-by c w cpu trial s v =
     let d = v.sound.defined in
     let last = d.defines in
     let at : slice_get v.sound.loop (length last.before) ≡ Some v.image.block =
-        ap (λ xs. slice_get xs (length last.before)) last.whole ∙ at-split last.before last.behind v.image.block in
+    ap (λ xs. slice_get xs (length last.before)) last.whole ∙ at-split last.before last.behind v.image.block in
     let stands = d.closes.chain.stand (length last.before) v.image.block at in
     record {
       block = v.image.block;

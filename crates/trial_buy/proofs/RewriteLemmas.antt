@@ -1,18 +1,17 @@
 -- What the rewrite of a sector leaves: the sector with the new bytes, and all else as it was.
-use Rattle.std.proofs.Common.{◌≡◌, ◌⊎◌, inl, inr, ℕ, zero, suc, ◌+◌, ◌-◌, ◌*◌, ◌/◌, ◌%◌, ◌<◌, ◌≤◌, List, ◌∷◌, [], length, get_or, map, refl, sym, ap, ◌∙◌, subst, arith}
-use Rattle.std.specs.Prelude.{All, slice_range, slice_set}
+use Rattle.std.proofs.Common.{◌≡◌, ◌⊎◌, inl, inr, ℕ, zero, suc, ◌+◌, ◌-◌, ◌*◌, ◌/◌, ◌%◌, ◌<◌, ◌≤◌, List, length, get_or, refl, sym, ap, ◌∙◌, subst, arith}
+use Rattle.std.specs.Prelude.{slice_range}
 use Rattle.std.specs.Int.Bits.{bit_and}
-use Rattle.std.specs.List.{range_with_len}
 use Rattle.std.proofs.lemmas.Bool.{cases_eq, cases_lt}
 use Rattle.std.proofs.lemmas.Grind.{numeral_and}
 use Rattle.std.proofs.lemmas.List.{ext_get_or, get_or-set_other, get_or-set_same, get_or_past, length-set}
 use Rattle.std.proofs.lemmas.List.Edits.{get_or-between, length-between}
-use Rattle.pico_board.specs.declared.Step.TheVariants.{Erase, Program}
+use Rattle.pico_board.specs.declared.Step.TheVariants.{Erase}
 use Rattle.pico_board.specs.Content.{Content, IsContent}
 use Rattle.pico_board.specs.Steps.{after, after_all}
-use Rattle.pico_board.proofs.Changed.{changed-inside, changed-outside, length-changed}
+use Rattle.pico_board.proofs.Changed.{changed-inside, changed-outside}
 use Rattle.pico_board.proofs.Contents.{byte_at, length-after}
-use Rattle.trial_buy.specs.Buying.{cleared, cleared_sector, clearing, page_program, page_programs, rewrite_steps}
+use Rattle.trial_buy.specs.Buying.{cleared, cleared_sector, clearing, page_program, rewrite_steps}
 use Rattle.trial_buy.proofs.StepLemmas.{programs-all, programs_from, rewrite-otp}
 
 -- a page of erased bytes becomes the bytes that are programmed
@@ -95,11 +94,11 @@ cleared-small bytes place small k = elim (cases_eq k place) [
     at-place : k ≡ place → (place < length bytes) ⊎ (length bytes ≤ place) → get_or (cleared bytes place) k 0 < 256
     at-place same (inl lt) =
         let is : get_or (cleared bytes place) k 0 ≡ get_or bytes place 0 % 128 =
-            ap (λ j. get_or (cleared bytes place) j 0) same ∙ get_or-set_same bytes place (get_or bytes place 0 % 128) 0 lt in
+        ap (λ j. get_or (cleared bytes place) j 0) same ∙ get_or-set_same bytes place (get_or bytes place 0 % 128) 0 lt in
         omega (arith, is)
     at-place same (inr past) =
         let none : get_or (cleared bytes place) k 0 ≡ 0 =
-            get_or_past (cleared bytes place) k 0 (let long = length-set bytes place (get_or bytes place 0 % 128) in omega (arith, long, past, same)) in
+        get_or_past (cleared bytes place) k 0 (let long = length-set bytes place (get_or bytes place 0 % 128) in omega (arith, long, past, same)) in
         omega (arith, none)
 
 same-content : (f g o p : List ℕ) → f ≡ g → o ≡ p → (let d : Content = record { flash = f; otp = o } in let e : Content = record { flash = g; otp = p } in d ≡ e)

@@ -1,3 +1,4 @@
 pub mod Windows
 pub mod Starting
 pub mod Buying
+pub mod Examples

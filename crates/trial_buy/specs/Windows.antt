@@ -1,5 +1,5 @@
 -- Where a choice stands. This project's own.
-use Rattle.std.specs.Prelude.{ℕ, ◌/◌, length, IfSome}
+use Rattle.std.specs.Prelude.{◌/◌, length, IfSome}
 use Rattle.pico_board.specs.declared.window.Window.{Window}
 use Rattle.pico_board.specs.Content.{Content}
 use Rattle.part_table.specs.Windows.{IsPlaced}

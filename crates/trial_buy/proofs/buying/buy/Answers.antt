@@ -1,4 +1,4 @@
-use Rattle.std.proofs.Common.{◌≡◌, ◌<◌, ◌/◌, true, false, length, refl, sym, ap, ◌∙◌, subst, arith}
+use Rattle.std.proofs.Common.{◌<◌, ◌/◌, true, false, length, refl, sym, ap, ◌∙◌, subst, arith}
 use Rattle.std.proofs.lemmas.Result.{err_from_is_err_and}
 use Rattle.pico_board.specs.Board.{DoesAll}
 use Rattle.pico_board.specs.Content.{Content}
@@ -11,7 +11,7 @@ use Rattle.trial_buy.proofs.buying.buy.Goals as goal
 pub trial_place-requires : goal.trial_place-requires
 trial_place-requires g c =
     let inside = trial-inside (g.B.Board.state c.args.board.now).content c.args.choice.now.image.window c.args.cpu _ c.args.choice.now.image
-        c.requires.valid refl c.requires.placed.started in
+    c.requires.valid refl c.requires.placed.started in
     let most = (g.met.B.Board.is_content c.args.board.now).flash_length.most in
     omega (arith, inside, most)
 
@@ -49,9 +49,9 @@ pub returns-clause-steps : goal.returns-clause-steps
 returns-clause-steps g c =
     let content = (g.B.Board.state c.args.board.now).content in
     let first = subst (λ place. DoesAll g.B.Board.state g.B.Board.history c.args.board.now (clearing content.flash place) true c.clear.new.board)
-        c.trial_place.ensures c.in_ok-clear.ensures.steps in
+    c.trial_place.ensures c.in_ok-clear.ensures.steps in
     let kept = ap (λ (x : Content). x.otp) first.done
-        ∙ rewrite-otp content (trial_place c.args.choice.now.image / 4096) (cleared_sector content.flash (trial_place c.args.choice.now.image)) in
+    ∙ rewrite-otp content (trial_place c.args.choice.now.image / 4096) (cleared_sector content.flash (trial_place c.args.choice.now.image)) in
     bought content c.args.cpu c.args.choice.now first
     (settled content c.args.cpu c.args.choice.now c.better_sector-sector.result kept c.better_sector-sector.ensures.exact
     c.in_ok-erase_in.ensures.steps c.raise_rows.ensures.steps)

@@ -1,10 +1,9 @@
-use Rattle.std.proofs.Common.{◌≡◌, ℕ, ◌*◌, ◌+◌, List, refl, sym, ◌∙◌, subst, arith, true, false}
+use Rattle.std.proofs.Common.{◌*◌, ◌+◌, refl, sym, ◌∙◌, subst, true, false}
 use Rattle.std.proofs.lemmas.Result.{err_from_is_err_and}
-use Rattle.pico_board.specs.declared.Step.{Step}
 use Rattle.pico_board.specs.declared.Step.TheVariants.{Program}
 use Rattle.pico_board.specs.Board.{Does, DoesAll}
 use Rattle.pico_board.proofs.Steps.{DoesAll-cut, DoesAll-none, DoesAll-step}
-use Rattle.trial_buy.proofs.StepLemmas.{programs-all, programs-more, programs-none, programs_from}
+use Rattle.trial_buy.proofs.StepLemmas.{programs-all, programs-more, programs-none}
 use Rattle.trial_buy.proofs.buying.program_pages.Goals as goal
 
 pub loop-i-init : goal.loop-i-init
@@ -19,7 +18,7 @@ pub returns-in_err-program : goal.returns-in_err-program
 returns-in_err-program g c =
     let lost = err_from_is_err_and c.from_residual.result c.from_residual.ensures.1 in
     let one = subst (λ page. Does g.B.Board.state g.B.Board.history c.loop-i.board (Program (16 * c.args.sector + c.loop-i.i) page) false c.program.new.self)
-        c.page_of.ensures c.in_err-program.ensures in
+    c.page_of.ensures c.in_err-program.ensures in
     record {
       steps = rw (lost.1) (c.loop-i.invariant.rest _ _
           (subst (λ steps. DoesAll g.B.Board.state g.B.Board.history c.loop-i.board steps false c.program.new.self)
@@ -29,7 +28,7 @@ returns-in_err-program g c =
 pub loop-i-preserved : goal.loop-i-preserved
 loop-i-preserved g c =
     let one = subst (λ page. Does g.B.Board.state g.B.Board.history c.loop-i.board (Program (16 * c.args.sector + c.loop-i.i) page) true c.program.new.self)
-        c.page_of.ensures c.in_ok-program.ensures in
+    c.page_of.ensures c.in_ok-program.ensures in
     record {
       power = one.power;
       size = one.size ∙ c.loop-i.invariant.size;

@@ -1,4 +1,4 @@
-use Rattle.std.proofs.Common.{refl, subst, ◌∙◌, sym}
+use Rattle.std.proofs.Common.{refl}
 use Rattle.trial_buy.proofs.ImageLemmas.{valid-rows, valid-version}
 use Rattle.trial_buy.proofs.StepLemmas.{settled, started}
 use Rattle.trial_buy.proofs.settling.settle.Goals as goal

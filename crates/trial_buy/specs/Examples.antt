@@ -1,0 +1,34 @@
+-- Worked examples of choices. This project's own.
+use Rattle.std.specs.Prelude.{ℕ, Bool, false, [], None}
+use Rattle.pico_board.specs.declared.window.Window.{Window}
+use Rattle.block_codec.specs.declared.versions.Version.{Version}
+use Rattle.image_def.specs.declared.started.Started.{Started}
+use Rattle.slot_choice.specs.declared.unit.Member.{Member}
+use Rattle.slot_choice.specs.declared.choice.Choice.{Choice}
+
+-- a version
+abbrev pub version : ℕ → ℕ → Version
+version major minor = record { major = major; minor = minor }
+
+-- a window of thirty sectors
+abbrev pub in_window : ℕ → Window
+in_window start = record { start = start; len = 0x1e000 }
+
+-- an image of a version in the window at 0x2000
+abbrev pub an_image : ℕ → ℕ → Started
+an_image major minor = record {
+  window = in_window 0x2000;
+  block = 0x100;
+  image_at = 0x104;
+  pc = 0x10000201;
+  sp = 0x20082000;
+  limit = 0;
+  version = version major minor;
+  rollback = None;
+  rows = record { items = [] };
+  trial = false;
+}
+
+-- the start of an image of version 1.0 in a member
+abbrev pub started_in : Member → Bool → Choice
+started_in member updated = record { image = an_image 1 0; member = member; other = None; updated = updated }
