@@ -9,6 +9,7 @@ use Rattle.block_codec.specs.declared.definition.Def.{Def}
 use Rattle.block_codec.specs.declared.definition.EntryPoint.{EntryPoint}
 use Rattle.block_codec.specs.Blocks.{BlockView, block_size}
 use Rattle.load_map.specs.declared.load.Load.{Load}
+use Rattle.load_map.specs.declared.addresses.TheConstants.{SRAM_START, SRAM_END}
 use Rattle.load_map.specs.Given.{byte_at, word_at, word_if_given}
 use Rattle.image_check.specs.declared.why.EntryFault.{EntryFault}
 use Rattle.image_check.specs.declared.why.EntryFault.TheVariants.{Table, InBlock, Pc}
@@ -74,12 +75,12 @@ is-meets base b source (inr code) = or-right _ _ (is-within (code_address source
 runs-is : (base n : ℕ) (source : Source) → is_runnable base n source ≡ true → IsRunnable base n source
 runs-is base n source h = elim (true-or _ _ h) [
   | inl window ↦ inl (within-is (code_address source.entry.pc) base n window)
-  | inr sram ↦ inr (within-is (code_address source.entry.pc) 0x20000000 0x82000 sram)
+  | inr sram ↦ inr (within-is (code_address source.entry.pc) SRAM_START (SRAM_END - SRAM_START) sram)
 ]
 
 is-runs : (base n : ℕ) (source : Source) → IsRunnable base n source → is_runnable base n source ≡ true
 is-runs base n source (inl window) = or-left _ _ (is-within (code_address source.entry.pc) base n window)
-is-runs base n source (inr sram) = or-right _ _ (is-within (code_address source.entry.pc) 0x20000000 0x82000 sram)
+is-runs base n source (inr sram) = or-right _ _ (is-within (code_address source.entry.pc) SRAM_START (SRAM_END - SRAM_START) sram)
 
 -- which byte of a word is not given
 missing-of : (a b c d : Option ℕ) → word_if_given a b c d ≡ None → (a ≡ None) ⊎ ((b ≡ None) ⊎ ((c ≡ None) ⊎ (d ≡ None)))

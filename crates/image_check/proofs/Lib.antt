@@ -8,3 +8,6 @@ pub mod LawLemmas
 pub mod SeenLemmas
 pub mod ExaminedLemmas
 pub mod SameLemmas
+pub mod RollbackLemmas
+pub mod MapLemmas
+pub mod LongerLemmas

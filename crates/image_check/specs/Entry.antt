@@ -1,6 +1,6 @@
 -- Where an image starts (RP2350 Datasheet, chapter 5, "Image entry"; the checks on the entry are this
 -- project's own where the datasheet is open). Addresses are added without wrapping.
-use Rattle.std.specs.Prelude.{ℕ, ◌+◌, ◌*◌, ◌/◌, Bool, false, not, ◌&&◌, ◌||◌, if◌then◌else◌, nat_lt, nat_le, List, length, Option, Some, None, Result, Ok, Err, unwrap_or}
+use Rattle.std.specs.Prelude.{ℕ, ◌+◌, ◌-◌, ◌*◌, ◌/◌, Bool, false, not, ◌&&◌, ◌||◌, if◌then◌else◌, nat_lt, nat_le, List, length, Option, Some, None, Result, Ok, Err, unwrap_or}
 use Rattle.std.specs.Option.{option_map_or}
 use Rattle.pico_board.specs.declared.boot.Cpu.{Cpu}
 use Rattle.pico_board.specs.declared.boot.Cpu.TheVariants.{Arm, Riscv}
@@ -8,6 +8,7 @@ use Rattle.block_codec.specs.declared.definition.Def.{Def}
 use Rattle.block_codec.specs.declared.definition.EntryPoint.{EntryPoint}
 use Rattle.block_codec.specs.Blocks.{BlockView, block_size}
 use Rattle.load_map.specs.declared.load.Load.{Load}
+use Rattle.load_map.specs.declared.addresses.TheConstants.{SRAM_START, SRAM_END}
 use Rattle.load_map.specs.Given.{word_at}
 use Rattle.image_check.specs.declared.entry.Source.{Source}
 use Rattle.image_check.specs.declared.why.EntryFault.{EntryFault}
@@ -27,7 +28,8 @@ from_table base bytes loads table = from_words table (word_at base bytes loads t
 abbrev pub source_of : ℕ → List ℕ → Cpu → Def → List Load → Option EntryPoint → Result Source EntryFault
 source_of base bytes cpu def loads (Some entry) = Ok (record { entry = entry; table = None })
 source_of base bytes Arm def loads None = from_table base bytes loads (unwrap_or def.vector base)
-source_of base bytes Riscv def loads None = Ok (record { entry = record { pc = base; sp = 0x20082000; limit = 0 }; table = None })
+source_of base bytes Riscv def loads None =
+    Ok (record { entry = record { pc = base; sp = SRAM_END; limit = 0 }; table = None })
 
 -- two ranges of addresses share one
 abbrev pub is_shared : ℕ → ℕ → ℕ → ℕ → Bool
@@ -47,11 +49,11 @@ is_in_block base b source =
     option_map_or (λ table. is_shared table 8 (base + b.at) (block_size b)) source.table false
     || is_within (code_address source.entry.pc) (base + b.at) (block_size b)
 
--- the first code address lies in the window or in SRAM, which is 0x20000000 up to 0x20082000
+-- the first code address lies in the window or in SRAM
 abbrev pub is_runnable : ℕ → ℕ → Source → Bool
 is_runnable base size source =
     is_within (code_address source.entry.pc) base size
-    || is_within (code_address source.entry.pc) 0x20000000 0x82000
+    || is_within (code_address source.entry.pc) SRAM_START (SRAM_END - SRAM_START)
 
 -- the fault of a found entry
 abbrev pub judged_source : ℕ → ℕ → BlockView → Source → Result EntryPoint EntryFault

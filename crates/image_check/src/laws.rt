@@ -1,16 +1,22 @@
 //! Laws of valid images, each the contract of a function that does nothing.
 
-ghost use Rattle.std.specs.Prelude.{◌≡◌, ◌⊎◌, ◌↔◌, ℕ, ◌+◌, Bool, true, false, List, [], length, slice_get, Some, None, Ok, Err};
+ghost use Rattle.std.specs.Prelude.{◌≡◌, ◌⊎◌, ◌↔◌, ℕ, ◌+◌, ◌≤◌, ◌++◌, Bool, true, false, List, [], length, slice_get, Some, None, Ok, Err};
 ghost use Rattle.pico_board.specs.declared.boot.Cpu.{Cpu};
 ghost use Rattle.pico_board.specs.declared.window.Window.{Window};
-ghost use Rattle.pico_board.specs.Content.{Content, window_bytes};
+ghost use Rattle.pico_board.specs.Content.{Content, flash_base, window_bytes};
 ghost use Rattle.block_loop.specs.declared.fault.LoopFault.TheVariants.{NoBlock as NoFirst};
 ghost use Rattle.image_def.specs.declared.started.Started.{Started};
 ghost use Rattle.image_check.specs.declared.addressing.Addressing.{Addressing};
 ghost use Rattle.image_check.specs.declared.why.Why.{Why};
 ghost use Rattle.image_check.specs.declared.why.Why.TheVariants.{Loop};
 ghost use Rattle.image_check.specs.Image.{defined_in, image_at, image_in};
-ghost use Rattle.image_check.specs.Valid.{IsRecordOfImage, IsValidImage, Valid};
+ghost use Rattle.image_check.specs.Valid.{IsRecordOfImage, IsSound, IsValidImage, Valid};
+ghost use Rattle.image_check.specs.Changes.{moved_to};
+ghost use Rattle.otp_roll.specs.Flags.{rollback_required};
+ghost use Rattle.otp_roll.specs.Rows.{Rises, count};
+ghost use Rattle.block_codec.specs.Erased.{AreErased};
+ghost use Rattle.block_codec.specs.declared.definition.EntryPoint.{EntryPoint};
+ghost use Rattle.load_map.specs.declared.addresses.TheConstants.{SRAM_START};
 ghost use Rattle.image_check.specs.Addressing.{in_flash};
 ghost use Rattle.image_check.specs.Answers.{and_then};
 ghost use Rattle.image_check.specs.Examined.{confirmed_in, examined_in};
@@ -71,10 +77,52 @@ pub fn valid_is_not_below()
         → IsValidImage a w cpu trial otp bytes s → NotBelow otp s }
 {}
 
-/// The image of a window depends on the window's bytes and the OTP alone.
+/// The image of a window, at any base, depends on the window's bytes and the OTP alone; and of the
+/// OTP on whether rollback versions are required and on the counts of rows.
 pub fn local()
-    ensures { (c d : Content) (w : Window) (cpu : Cpu) (trial : Bool)
-        → window_bytes c w ≡ window_bytes d w → c.otp ≡ d.otp → image_at c w cpu trial ≡ image_at d w cpu trial }
+    ensures flash { (c d : Content) (w : Window) (cpu : Cpu) (trial : Bool)
+        → window_bytes c w ≡ window_bytes d w → c.otp ≡ d.otp
+        → image_at c w cpu trial ≡ image_at d w cpu trial }
+    ensures any_base { (base : ℕ) (in_place : Bool) (w : Window) (cpu : Cpu) (trial : Bool)
+        (otp other bytes those : List ℕ) → bytes ≡ those → otp ≡ other
+        → image_in (record { base = base; in_place = in_place }) w cpu trial otp bytes
+        ≡ image_in (record { base = base; in_place = in_place }) w cpu trial other those }
+    ensures rows { (a : Addressing) (w : Window) (cpu : Cpu) (trial : Bool) (otp other bytes : List ℕ)
+        → rollback_required other ≡ rollback_required otp
+        → ((rows : List ℕ) → count other rows ≡ count otp rows)
+        → image_in a w cpu trial other bytes ≡ image_in a w cpu trial otp bytes }
+{}
+
+/// The rollback rule only gets harder as OTP rows rise: an image that is valid on raised rows was
+/// valid on the rows before. One that is valid on some rows is valid on all others that it is not
+/// below.
+pub fn raised_rows_allow_less()
+    ensures raised { (a : Addressing) (w : Window) (cpu : Cpu) (trial : Bool) (old new bytes : List ℕ)
+        (s : Started) → Rises old new → IsValidImage a w cpu trial new bytes s
+        → IsValidImage a w cpu trial old bytes s }
+    ensures not_below { (old new : List ℕ) (s : Started) → Rises old new → NotBelow new s
+        → NotBelow old s }
+    ensures others { (a : Addressing) (w : Window) (cpu : Cpu) (trial : Bool)
+        (otp other bytes : List ℕ) (s : Started) → IsValidImage a w cpu trial otp bytes s
+        → NotBelow other s → IsValidImage a w cpu trial other bytes s }
+{}
+
+/// An image that is sound in a window is sound, with the same entry, in every longer one that has
+/// erased bytes behind it and ends below SRAM, as each window of a flash does. One that is valid
+/// there is valid in the longer one, wherever that stands, and its record is the same but for the
+/// window.
+pub fn erased_bytes_behind_keep_the_image()
+    ensures sound { (a : Addressing) (cpu : Cpu) (w f : List ℕ) (image : Defined)
+        (entry : EntryPoint) → AreErased f → a.base + length (w ++ f) ≤ SRAM_START
+        → IsSound a cpu w image entry → IsSound a cpu (w ++ f) image entry }
+    ensures valid { (a : Addressing) (cpu : Cpu) (trial : Bool) (one two : Window)
+        (otp w f : List ℕ) (s : Started) → AreErased f → a.base + length (w ++ f) ≤ SRAM_START
+        → IsValidImage a one cpu trial otp w s
+        → IsValidImage a two cpu trial otp (w ++ f) (moved_to two s) }
+    ensures flash { (c : Content) (cpu : Cpu) (trial : Bool) (one two : Window) (p f : List ℕ)
+        (s : Started) → AreErased f → flash_base + length (p ++ f) ≤ SRAM_START
+        → window_bytes c two ≡ p ++ f → IsValidImage in_flash one cpu trial c.otp p s
+        → Valid c two cpu trial (moved_to two s) }
 {}
 
 /// An image that is valid with a trial image allowed is held; and where another content has the same
