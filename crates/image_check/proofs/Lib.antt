@@ -11,3 +11,4 @@ pub mod SameLemmas
 pub mod RollbackLemmas
 pub mod MapLemmas
 pub mod LongerLemmas
+pub mod ClearedLemmas

@@ -1,17 +1,19 @@
 //! Laws of valid images, each the contract of a function that does nothing.
 
-ghost use Rattle.std.specs.Prelude.{◌≡◌, ◌⊎◌, ◌↔◌, ℕ, ◌+◌, ◌≤◌, ◌++◌, Bool, true, false, List, [], length, slice_get, Some, None, Ok, Err};
+ghost use Rattle.std.specs.Prelude.{◌≡◌, ◌⊎◌, ◌↔◌, ℕ, ◌+◌, ◌%◌, ◌^◌, ◌≤◌, ◌++◌, Bool, true, false, List, [], length, slice_get, slice_index, slice_set, Some, None, Ok, Err};
 ghost use Rattle.pico_board.specs.declared.boot.Cpu.{Cpu};
 ghost use Rattle.pico_board.specs.declared.window.Window.{Window};
 ghost use Rattle.pico_board.specs.Content.{Content, flash_base, window_bytes};
 ghost use Rattle.block_loop.specs.declared.fault.LoopFault.TheVariants.{NoBlock as NoFirst};
 ghost use Rattle.image_def.specs.declared.started.Started.{Started};
+ghost use Rattle.image_def.specs.Trial.{trial_cleared, untried};
+ghost use Rattle.load_map.specs.Covered.{covered_digest};
 ghost use Rattle.image_check.specs.declared.addressing.Addressing.{Addressing};
 ghost use Rattle.image_check.specs.declared.why.Why.{Why};
 ghost use Rattle.image_check.specs.declared.why.Why.TheVariants.{Loop};
 ghost use Rattle.image_check.specs.Image.{defined_in, image_at, image_in};
 ghost use Rattle.image_check.specs.Valid.{IsRecordOfImage, IsSound, IsValidImage, Valid};
-ghost use Rattle.image_check.specs.Changes.{moved_to};
+ghost use Rattle.image_check.specs.Changes.{ClearsTrialBit, bought, moved_to, place_of, untried_image};
 ghost use Rattle.otp_roll.specs.Flags.{rollback_required};
 ghost use Rattle.otp_roll.specs.Rows.{Rises, count};
 ghost use Rattle.block_codec.specs.Erased.{AreErased};
@@ -132,6 +134,25 @@ pub fn same_bytes_same_image()
         → Valid c w cpu true s → Holds cpu (window_bytes c w) s }
     ensures same { (c d : Content) (s : Started) (cpu : Cpu) → Holds cpu (window_bytes c s.window) s
         → window_bytes c s.window ≡ window_bytes d s.window → SameImage c d s cpu }
+{}
+
+/// An image that is sound stays sound, with the same entry, where its trial bit is cleared, as a buy
+/// does it; and its digest stays. One that is valid with its trial bit is valid without it, also
+/// where no trial is allowed, and its record is the same but for that bit.
+pub fn a_cleared_trial_bit_keeps_the_image()
+    ensures sound { (a : Addressing) (cpu : Cpu) (w v : List ℕ) (image : Defined)
+        (entry : EntryPoint) → IsSound a cpu w image entry → ClearsTrialBit w v (place_of image)
+        → IsSound a cpu v (untried_image image) entry }
+    ensures valid { (a : Addressing) (window : Window) (cpu : Cpu) (trial allowed : Bool)
+        (otp w v : List ℕ) (s : Started) → IsValidImage a window cpu trial otp w s
+        → ClearsTrialBit w v s.image_at → IsValidImage a window cpu allowed otp v (bought s) }
+    ensures digest { (a : Addressing) (cpu : Cpu) (w v : List ℕ) (image : Defined)
+        (entry : EntryPoint) (s : IsSound a cpu w image entry)
+        → ClearsTrialBit w v (place_of image)
+        → covered_digest v (trial_cleared image.block) (untried image.def) s.loads
+        ≡ covered_digest w image.block image.def s.loads }
+    ensures made { (w : List ℕ) (at : ℕ)
+        → ClearsTrialBit w (slice_set w (at + 3) (slice_index w (at + 3) % 2 ^ 7)) at }
 {}
 
 /// The record of a valid image says what its definition and its entry say.
