@@ -12,3 +12,4 @@ pub mod RollbackLemmas
 pub mod MapLemmas
 pub mod LongerLemmas
 pub mod ClearedLemmas
+pub mod HoldLemmas

@@ -3,13 +3,14 @@
 ghost use Rattle.std.specs.Prelude.{◌≡◌, [], ◌∷◌, true, false, Some, None, Ok, Err};
 ghost use Rattle.pico_board.specs.declared.boot.Cpu.TheVariants.{Arm, Riscv};
 ghost use Rattle.pico_board.specs.Content.{flash_base};
-ghost use Rattle.image_check.specs.declared.why.Why.TheVariants.{NotForProcessor, Trial, RollbackRequired, Below, Entry};
+ghost use Rattle.image_check.specs.declared.why.Why.TheVariants.{NotForProcessor, Trial, RollbackRequired, Below, Map, Entry};
 ghost use Rattle.image_check.specs.declared.why.EntryFault.TheVariants.{Table, InBlock, Pc};
 ghost use Rattle.image_check.specs.Entry.{judged_source, source_of};
 ghost use Rattle.image_check.specs.Rules.{rollback_fault};
-ghost use Rattle.image_check.specs.Addressing.{in_flash};
+ghost use Rattle.load_map.specs.declared.load.MapFault.TheVariants.{Runtime};
+ghost use Rattle.image_check.specs.Addressing.{in_flash, in_ram};
 ghost use Rattle.image_check.specs.Image.{image_in};
-ghost use Rattle.image_check.specs.Examples.{small_block, entry_at, tabled, pointed, table_bytes, def_with, otp_with, window_of, version_nine, window_at_two};
+ghost use Rattle.image_check.specs.Examples.{arm_record, arm_type, map_of, right_pc, window_with, small_block, entry_at, tabled, pointed, table_bytes, def_with, otp_with, window_of, version_nine, window_at_two};
 
 /// PC with bit 0 set in a window of 8192 bytes and past it, before, in and behind the block at 0x114, which has 20 bytes.
 pub fn code_in_the_window()
@@ -79,4 +80,36 @@ pub fn whole_windows()
     ensures riscv { image_in in_flash window_at_two Riscv false (otp_with 0 0 0 0) (window_of 0x01 0x00 0x20 0x10) ≡ Err NotForProcessor }
     ensures trial { image_in in_flash window_at_two Arm false (otp_with 0 0 0 0) (window_of 0x01 0x00 0x20 0x90) ≡ Err Trial }
     ensures tried { image_in in_flash window_at_two Arm true (otp_with 0 0 0 0) (window_of 0x01 0x00 0x20 0x90) ≡ Ok (version_nine 0x20000001 true) }
+{}
+
+/// An Arm image in RAM has its vector table at the window's base, and its PC is compared with its block
+/// there; a load must be used where it is stored, and so is no clear entry.
+#[tactic(auto, unfolding(crate::specs::Image::image_in, image_def::specs::Definition::def_of, block_loop::specs::Loop::loop_of, block_loop::specs::Loop::follow, block_loop::specs::Loop::first_from, block_codec::specs::Blocks::block_at, block_codec::specs::Blocks::front_block, block_codec::specs::Blocks::item_words, block_codec::specs::Blocks::frame, block_codec::specs::Items::size_of, block_codec::specs::Words::word_of, block_codec::specs::Words::word_bytes))]
+pub fn images_in_ram()
+    ensures starts { image_in (in_ram 0x20001000) window_at_two Arm false (otp_with 0 0 0 0)
+        (window_with right_pc (arm_type ∷ []) 0) ≡ Ok (arm_record right_pc false) }
+    ensures in_block { image_in (in_ram 0x20001000) window_at_two Arm false (otp_with 0 0 0 0)
+        (window_with 0x20001009 (arm_type ∷ []) 0) ≡ Err (Entry InBlock) }
+    ensures before { image_in (in_ram 0x20001000) window_at_two Arm false (otp_with 0 0 0 0)
+        (window_with 0x20001007 (arm_type ∷ []) 0) ≡ Ok (arm_record 0x20001007 false) }
+    ensures flash_table { image_in (in_ram 0x20001000) window_at_two Arm false (otp_with 0 0 0 0)
+        (window_with right_pc (arm_type ∷ 0x00000203 ∷ 0x10000000 ∷ []) 0) ≡ Err (Entry Table) }
+    ensures in_place { image_in (in_ram 0x20001000) window_at_two Arm false (otp_with 0 0 0 0)
+        (window_with right_pc (arm_type ∷ map_of 0xfffffff0 0x20001000 8) 0)
+        ≡ Ok (arm_record right_pc false) }
+    ensures elsewhere { image_in (in_ram 0x20001000) window_at_two Arm false (otp_with 0 0 0 0)
+        (window_with right_pc (arm_type ∷ map_of 0xfffffff0 0x20002000 8) 0) ≡ Err (Map (Runtime 0)) }
+    ensures clear { image_in (in_ram 0x20001000) window_at_two Arm false (otp_with 0 0 0 0)
+        (window_with right_pc (arm_type ∷ map_of 0 0x20002000 0) 0) ≡ Err (Map (Runtime 0)) }
+{}
+
+/// Bit 0 of the boot flags alone requires rollback versions.
+#[tactic(auto, unfolding(crate::specs::Image::image_in, image_def::specs::Definition::def_of, block_loop::specs::Loop::loop_of, block_loop::specs::Loop::follow, block_loop::specs::Loop::first_from, block_codec::specs::Blocks::block_at, block_codec::specs::Blocks::front_block, block_codec::specs::Blocks::item_words, block_codec::specs::Blocks::frame, block_codec::specs::Items::size_of, block_codec::specs::Words::word_of, block_codec::specs::Words::word_bytes))]
+pub fn rollback_versions_are_required()
+    ensures required { image_in in_flash window_at_two Arm false (otp_with 1 0 0 0)
+        (window_with right_pc (arm_type ∷ []) 0) ≡ Err RollbackRequired }
+    ensures both_flags { image_in in_flash window_at_two Arm false (otp_with 3 0 0 0)
+        (window_with right_pc (arm_type ∷ []) 0) ≡ Err RollbackRequired }
+    ensures not_required { image_in in_flash window_at_two Arm false (otp_with 2 0 0 0)
+        (window_with right_pc (arm_type ∷ []) 0) ≡ Ok (arm_record right_pc false) }
 {}

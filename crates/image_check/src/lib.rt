@@ -7,12 +7,14 @@
 
 mod addressing;
 mod checking;
+pub mod digests;
 mod entry;
 mod examining;
 pub mod examples;
 pub mod laws;
 pub mod orders;
 mod same;
+pub mod same_images;
 mod why;
 
 pub use addressing::Addressing;
