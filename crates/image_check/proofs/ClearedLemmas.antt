@@ -55,7 +55,8 @@ middle-at : {X : Type 0} (before behind : List X) (x : X) → slice_get (before 
 middle-at [] behind x = refl
 middle-at (y ∷ before) behind x = middle-at before behind x
 
-before-at : {X : Type 0} (before rest : List X) (i : ℕ) (y : X) → slice_get before i ≡ Some y → slice_get (before ++ rest) i ≡ Some y
+before-at : {X : Type 0} (before rest : List X) (i : ℕ) (y : X) → slice_get before i ≡ Some y
+    → slice_get (before ++ rest) i ≡ Some y
 before-at [] rest i y at = absurd (none-some y at)
 before-at (z ∷ before) rest zero y at = at
 before-at (z ∷ before) rest (suc i) y at = before-at before rest i y at
@@ -67,7 +68,8 @@ behind-at (z ∷ before) behind x i y at =
     let e : suc (length before) + i ≡ suc (length before + i) = omega arith in rw e (behind-at before behind x i y at)
 
 -- a list of which each element is mapped to itself
-map-same : {X : Type 0} (g : X → X) (xs : List X) → ((i : ℕ) (x : X) → slice_get xs i ≡ Some x → g x ≡ x) → map g xs ≡ xs
+map-same : {X : Type 0} (g : X → X) (xs : List X) → ((i : ℕ) (x : X) → slice_get xs i ≡ Some x → g x ≡ x)
+    → map g xs ≡ xs
 map-same g [] same = refl
 map-same g (x ∷ xs) same =
     ap (λ y. y ∷ map g xs) (same 0 x refl) ∙ ap (λ ys. x ∷ ys) (map-same g xs (λ i y at. same (suc i) y at))
@@ -90,7 +92,8 @@ abbrev AreFourBytes : List ℕ → Type 0
 AreFourBytes xs = (i : ℕ) → i < 4 → get_or xs i 0 < 256
 
 -- a word of which the topmost bit is cleared
-word-cleared : (xs ys : List ℕ) → AreFourBytes xs → get_or ys 0 0 ≡ get_or xs 0 0 → get_or ys 1 0 ≡ get_or xs 1 0 → get_or ys 2 0 ≡ get_or xs 2 0
+word-cleared : (xs ys : List ℕ) → AreFourBytes xs → get_or ys 0 0 ≡ get_or xs 0 0 → get_or ys 1 0 ≡ get_or xs 1 0
+    → get_or ys 2 0 ≡ get_or xs 2 0
     → get_or ys 3 0 ≡ get_or xs 3 0 % 2 ^ 7 → word_of ys ≡ word_of xs % 2 ^ 31
 unfolding word_of
 word-cleared xs ys bytes a b c d =
@@ -116,7 +119,8 @@ not-trial flags =
     ap (λ n. n == 1) e
 
 -- a block of the same place and size is met where the other one is
-meets-same : (base : ℕ) (b c : BlockView) (source : Source) → c.at ≡ b.at → block_size c ≡ block_size b → MeetsBlock base c source
+meets-same : (base : ℕ) (b c : BlockView) (source : Source) → c.at ≡ b.at → block_size c ≡ block_size b
+    → MeetsBlock base c source
     → MeetsBlock base b source
 meets-same base b c source at size (inl (table, address, is, one, two)) =
     inl (table, address, is, one, (omega (arith, two.0, at), omega (arith, two.1, at, size)))
@@ -129,7 +133,8 @@ map-kind : (item : Item) → is_of_kind LOAD_MAP item ≡ true → first_spellin
 map-kind item is e = let f = eqb-true (first_spelling item.kind) LOAD_MAP is in absurd (omega (arith, e, f))
 
 -- a place of a storage that is clear of a block is none of the block's
-off-block : (b : BlockView) (storage : Option ℕ) (size start i : ℕ) → IsClearOf b storage size → storage ≡ Some start → start ≤ i → i < start + size
+off-block : (b : BlockView) (storage : Option ℕ) (size start i : ℕ) → IsClearOf b storage size → storage ≡ Some start
+    → start ≤ i → i < start + size
     → b.at ≤ i → i < b.at + block_size b → ⊥
 off-block b None size start i clear is low high from to = none-some start is
 off-block b (Some x) size start i clear is low high from to =
@@ -142,7 +147,8 @@ off-block b (Some x) size start i clear is low high from to =
       ]
     ]
 
-module _ (a : Addressing) (cpu : Cpu) (w v : List ℕ) (image : Defined) (entry : EntryPoint) (s : IsSound a cpu w image entry)
+module _ (a : Addressing) (cpu : Cpu) (w v : List ℕ) (image : Defined) (entry : EntryPoint)
+    (s : IsSound a cpu w image entry)
     (change : ClearsTrialBit w v (place_of image)) where
   abbrev b : BlockView
   b = image.block
@@ -202,9 +208,11 @@ module _ (a : Addressing) (cpu : Cpu) (w v : List ℕ) (image : Defined) (entry 
   kind-there : slice_index w (place_of image) ≡ 0x42
   kind-there =
       let type = type_byte-there b stands.stands.whole item is-item.first in
-      let first : get_or (drop (place_of image) w) 0 0 ≡ slice_index w (place_of image + 0) = get_or-drop (place_of image) w 0 0 in
+      let first : get_or (drop (place_of image) w) 0 0
+      ≡ slice_index w (place_of image + 0) = get_or-drop (place_of image) w 0 0 in
       let e : place_of image + 0 ≡ place_of image = omega arith in
-      ap (slice_index w) (sym e) ∙ sym first ∙ sym (word-first (drop (place_of image) w) four-there) ∙ ap (λ n. n % 256) word-there
+      ap (slice_index w) (sym e) ∙ sym first ∙ sym (word-first (drop (place_of image) w) four-there)
+      ∙ ap (λ n. n % 256) word-there
       ∙ ap (λ n. get_or b.items (n - 1) 0 % 256) place ∙ type
 
   change-high : ChangesHighByte w v (place_of image)
@@ -230,9 +238,11 @@ module _ (a : Addressing) (cpu : Cpu) (w v : List ℕ) (image : Defined) (entry 
 
   word-now : word_of (drop (place_of image) v) ≡ get_or b.items (k - 1) 0 % 2 ^ 31
   word-now =
-      word-cleared (drop (place_of image) w) (drop (place_of image) v) four-there (kept-byte 0 (omega arith)) (kept-byte 1 (omega arith))
+      word-cleared (drop (place_of image) w) (drop (place_of image) v) four-there (kept-byte 0 (omega arith))
+      (kept-byte 1 (omega arith))
       (kept-byte 2 (omega arith))
-      (get_or-drop (place_of image) v 3 0 ∙ change.cleared ∙ ap (λ n. n % 2 ^ 7) (sym (get_or-drop (place_of image) w 3 0)))
+      (get_or-drop (place_of image) v 3 0 ∙ change.cleared
+      ∙ ap (λ n. n % 2 ^ 7) (sym (get_or-drop (place_of image) w 3 0)))
       ∙ ap (λ n. n % 2 ^ 31) word-there
 
   cleared : changed_block (place_of image) (word_of (drop (place_of image) v)) b ≡ trial_cleared b
@@ -270,7 +280,8 @@ module _ (a : Addressing) (cpu : Cpu) (w v : List ℕ) (image : Defined) (entry 
       (loop_of-changed w v (place_of image) (length last.before) s.loop b change-high s.defined.closes in-loop low high
       ∙ ap (λ xs. Ok (map g xs)) last.whole
       ∙ ap (λ xs. Ok xs) (map-middle g last.before last.behind b (trial_cleared b) cleared
-      (λ i z other at. changed_others w v (place_of image) (length last.before) s.loop b change-high s.defined.closes in-loop low high i z other
+      (λ i z other at. changed_others w v (place_of image)
+      (length last.before) s.loop b change-high s.defined.closes in-loop low high i z other
       (ap (λ xs. slice_get xs i) last.whole ∙ at))))
 
   defined-now : IsDefined cpu v loop-now (untried_image image)
@@ -293,7 +304,8 @@ module _ (a : Addressing) (cpu : Cpu) (w v : List ℕ) (image : Defined) (entry 
     where
       go : (o : Option ℕ) → IfSome o (λ i. (m : Item) × IsLoadMapItem b i m)
           → item_loads a (length w) b (option_and_then (slice_get (items_of b.items)) o) ≡ Ok s.loads
-          → item_loads a (length v) (trial_cleared b) (option_and_then (slice_get (items_of (trial_cleared b).items)) o) ≡ Ok s.loads
+          → item_loads a (length v) (trial_cleared b) (option_and_then (slice_get (items_of (trial_cleared b).items)) o)
+          ≡ Ok s.loads
       go None map is = is
       go (Some j) (m, map) is =
           let image_at = find-place (is_of_kind IMAGE_TYPE) (items_of b.items) item is-item.first in
@@ -302,9 +314,11 @@ module _ (a : Addressing) (cpu : Cpu) (w v : List ℕ) (image : Defined) (entry 
           (let one : item ≡ m = same_Some item m (sym image_at.1 ∙ ap (slice_get (items_of b.items)) e ∙ map.at) in
           map-kind m map.kind (ap (λ (x : Item). first_spelling x.kind) (sym one) ∙ kind)) in
           let size = is-item.size in
-          ap (item_loads a (length v) (trial_cleared b)) (item-cleared b stands.stands.whole item is-item.first j m map.at (map-kind m map.kind))
+          ap (item_loads a (length v) (trial_cleared b))
+          (item-cleared b stands.stands.whole item is-item.first j m map.at (map-kind m map.kind))
           ∙ ap (λ n. item_loads a n (trial_cleared b) (Some m)) change.long
-          ∙ trial-loads_of a.base (length w) a.in_place b (trial_cleared b) image_at.0 j item m other image_at.1 map.at map.size
+          ∙ trial-loads_of a.base (length w) a.in_place b
+          (trial_cleared b) image_at.0 j item m other image_at.1 map.at map.size
           (omega (arith, size)) (subst (λ n. SameButTrial n b (trial_cleared b)) place same-block)
           ∙ sym (ap (item_loads a (length w) b) map.at) ∙ is
 
@@ -313,7 +327,8 @@ module _ (a : Addressing) (cpu : Cpu) (w v : List ℕ) (image : Defined) (entry 
     long = change.long;
     same = λ load i among stored.
         let clear = All-contains (λ (l : Load). IsClearOf b l.storage l.size) s.loads load
-        (All-from_recursion (λ (l : Load). IsClearOf b l.storage l.size) s.loads (map-clear a (length w) b def s.loads s.map)) among in
+        (All-from_recursion (λ (l : Load). IsClearOf b l.storage l.size) s.loads
+        (map-clear a (length w) b def s.loads s.map)) among in
         change.others i (λ e. off-block b load.storage load.size stored.0 i clear stored.1 stored.2 stored.3
         (omega (arith, e)) (omega (arith, e, in-block.1)));
   }
@@ -339,7 +354,8 @@ module _ (a : Addressing) (cpu : Cpu) (w v : List ℕ) (image : Defined) (entry 
       }
     where
       off : (j : ℕ) → in_window a.base (length w) (table_address a.base def + j) ≡ true → j < 8
-          → slice_index v (table_address a.base def + j - a.base) ≡ slice_index w (table_address a.base def + j - a.base)
+          → slice_index v (table_address a.base def + j - a.base)
+          ≡ slice_index w (table_address a.base def + j - a.base)
       off j inside lt =
           let from : a.base ≤ table_address a.base def + j = grind (arith, nat_tests) in
           change.others (table_address a.base def + j - a.base) (λ e.
@@ -358,7 +374,8 @@ module _ (a : Addressing) (cpu : Cpu) (w v : List ℕ) (image : Defined) (entry 
   entry-now = record {
     source = s.enters.source;
     found = source-now def.entry_point s.enters.source cpu s.enters.apart s.enters.found;
-    apart = λ meets. s.enters.apart (meets-same a.base b (trial_cleared b) s.enters.source same-block.at size-now meets);
+    apart =
+        λ meets. s.enters.apart (meets-same a.base b (trial_cleared b) s.enters.source same-block.at size-now meets);
     runs = runs-now s.enters.source s.enters.runs;
     is = s.enters.is;
   }
@@ -383,11 +400,14 @@ module _ (a : Addressing) (cpu : Cpu) (w v : List ℕ) (image : Defined) (entry 
   }
 
   -- and the record is the same but for the trial bit
-  pub cleared-record : (window : Window) → started_of window (untried_image image) entry ≡ bought (started_of window image entry)
+  pub cleared-record : (window : Window) → started_of window (untried_image image) entry
+      ≡ bought (started_of window image entry)
   cleared-record window = rw (same-block.at, not-trial def.flags) refl
 
-pub cleared-valid : (a : Addressing) (window : Window) (cpu : Cpu) (trial allowed : Bool) (otp w v : List ℕ) (s : Started)
-    → IsValidImage a window cpu trial otp w s → ClearsTrialBit w v s.image_at → IsValidImage a window cpu allowed otp v (bought s)
+pub cleared-valid : (a : Addressing) (window : Window) (cpu : Cpu) (trial allowed : Bool) (otp w v : List ℕ)
+    (s : Started)
+    → IsValidImage a window cpu trial otp w s → ClearsTrialBit w v s.image_at
+    → IsValidImage a window cpu allowed otp v (bought s)
 cleared-valid a window cpu trial allowed otp w v s valid change =
     let place : s.image_at ≡ place_of valid.image = ap (λ (t : Started). t.image_at) valid.started in
     let there = subst (ClearsTrialBit w v) place change in
@@ -398,7 +418,8 @@ cleared-valid a window cpu trial allowed otp w v s valid change =
       tried = λ is. (let never : true ≡ false = sym is ∙ not-trial valid.image.def.flags in cc);
       listed = valid.listed;
       reached = valid.reached;
-      started = ap bought valid.started ∙ sym (cleared-record a cpu w v valid.image valid.entry valid.sound there window);
+      started =
+          ap bought valid.started ∙ sym (cleared-record a cpu w v valid.image valid.entry valid.sound there window);
     }
 
 -- the change itself

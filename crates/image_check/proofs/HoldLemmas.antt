@@ -28,14 +28,16 @@ pub same-range : (one two : List ℕ) (at n : ℕ) → at + n ≤ length one →
 same-range one two at n in_one in_two same =
     (pieces-agree one two _ _ at n refl refl in_one in_two true (sym same)).0 refl
 
-pub hold-same : (cpu : Cpu) (one two : List ℕ) (s : Started) (loop : List BlockView) (image : Defined) (loads : List Load)
+pub hold-same : (cpu : Cpu) (one two : List ℕ) (s : Started) (loop : List BlockView) (image : Defined)
+    (loads : List Load)
     → Holds cpu one s → loop_of one ≡ Ok loop → defined_in cpu one ≡ Ok image
     → map_answer in_flash (length one) image.block image.def ≡ Ok loads → length two ≡ length one
     → AgreeOnBlocks one two loop → AgreeOnStorage one two image.def.map_item loads → HoldSameImage cpu one two s
 hold-same cpu one two s loop image loads held closes defined loaded long blocks storage = record {
   held = held;
   long = long;
-  blocks = subst (AgreeOnBlocks one two) (same loop held.sound.loop (loop_of one) closes (held-loop cpu one s held)) blocks;
+  blocks =
+      subst (AgreeOnBlocks one two) (same loop held.sound.loop (loop_of one) closes (held-loop cpu one s held)) blocks;
   storage = storage-held cpu one two s image defined loads loaded held storage;
 }
   where

@@ -29,8 +29,10 @@ use Rattle.image_check.specs.Rules.{item_loads, map_loads}
 use Rattle.image_check.specs.Valid.{HasItsDigest, IsDefined, IsSound, IsValidImage}
 use Rattle.image_check.proofs.MapLemmas.{map-stored}
 
-module _ (a : Addressing) (cpu : Cpu) (w f : List ℕ) (erased : AreErased f) (below : a.base + length (w ++ f) ≤ SRAM_START) where
-  longer-defined : (loop : List BlockView) (image : Defined) → IsDefined cpu w loop image → IsDefined cpu (w ++ f) loop image
+module _ (a : Addressing) (cpu : Cpu) (w f : List ℕ) (erased : AreErased f)
+    (below : a.base + length (w ++ f) ≤ SRAM_START) where
+  longer-defined : (loop : List BlockView) (image : Defined) → IsDefined cpu w loop image
+      → IsDefined cpu (w ++ f) loop image
   longer-defined loop image d = record {
     closes = IsLoop-from_answer (w ++ f) loop (loop_of-erased w f erased ∙ loop_of-loop w loop d.closes);
     defines = d.defines;
@@ -41,13 +43,15 @@ module _ (a : Addressing) (cpu : Cpu) (w f : List ℕ) (erased : AreErased f) (b
       → map_loads a (length (w ++ f)) b def ≡ Ok loads
   longer-map b def loads = go (option_and_then (slice_get (items_of b.items)) def.map_item)
     where
-      go : (item : Option Item) → item_loads a (length w) b item ≡ Ok loads → item_loads a (length (w ++ f)) b item ≡ Ok loads
+      go : (item : Option Item) → item_loads a (length w) b item ≡ Ok loads
+          → item_loads a (length (w ++ f)) b item ≡ Ok loads
       go None is = is
       go (Some item) is =
           let long = length-append w f in
           loads_of-longer a.base (length w) (length (w ++ f)) a.in_place b item loads (omega (arith, long)) is
 
-  longer-source : (def : Def) (loads : List Load) → AreStoredIn (length w) loads → (item : Option EntryPoint) (source : Source) (p : Cpu)
+  longer-source : (def : Def) (loads : List Load) → AreStoredIn (length w) loads
+      → (item : Option EntryPoint) (source : Source) (p : Cpu)
       → IsSource a.base w p def loads item source → IsSource a.base (w ++ f) p def loads item source
   longer-source def loads stored (Some entry) source p is = is
   longer-source def loads stored None source Riscv is = is
@@ -77,10 +81,12 @@ module _ (a : Addressing) (cpu : Cpu) (w f : List ℕ) (erased : AreErased f) (b
   longer-digest : (image : Defined) (loads : List Load) → AreStoredIn (length w) loads → HasItsDigest w image loads
       → HasItsDigest (w ++ f) image loads
   longer-digest image loads stored has =
-      subst (λ d. IfSome image.def.digest (λ value. value ≡ d)) (sym (digest-longer w f loads image.block image.def stored)) has
+      subst (λ d. IfSome image.def.digest (λ value. value ≡ d))
+      (sym (digest-longer w f loads image.block image.def stored)) has
 
   -- all rules but the trial and the rollback rule hold of the longer window too
-  pub longer-sound : (image : Defined) (entry : EntryPoint) → IsSound a cpu w image entry → IsSound a cpu (w ++ f) image entry
+  pub longer-sound : (image : Defined) (entry : EntryPoint) → IsSound a cpu w image entry
+      → IsSound a cpu (w ++ f) image entry
   longer-sound image entry s =
       let stored = map-stored a (length w) image.block image.def s.loads s.map in
       record {
@@ -94,7 +100,8 @@ module _ (a : Addressing) (cpu : Cpu) (w f : List ℕ) (erased : AreErased f) (b
       }
 
   -- so the same image is valid in the longer window
-  pub longer-valid : (one two : Window) (trial : Bool) (otp : List ℕ) (s : Started) → IsValidImage a one cpu trial otp w s
+  pub longer-valid : (one two : Window) (trial : Bool) (otp : List ℕ) (s : Started)
+      → IsValidImage a one cpu trial otp w s
       → IsValidImage a two cpu trial otp (w ++ f) (moved_to two s)
   longer-valid one two trial otp s v = record {
     image = v.image;

@@ -30,8 +30,10 @@ odd-stays old new has was =
     let few = bit_at-lt new 0 in
     eq-eqb (new % 2) 1 (omega (arith, odd, first, second, few, has))
 
-pub required-stays : (old new : List ℕ) → Rises old new → IsTrue (rollback_required old) → IsTrue (rollback_required new)
-required-stays old new rises was = odd-stays (slice_index old BOOT_FLAGS) (slice_index new BOOT_FLAGS) (rises.bits BOOT_FLAGS 0) was
+pub required-stays : (old new : List ℕ) → Rises old new → IsTrue (rollback_required old)
+    → IsTrue (rollback_required new)
+required-stays old new rises was =
+    odd-stays (slice_index old BOOT_FLAGS) (slice_index new BOOT_FLAGS) (rises.bits BOOT_FLAGS 0) was
 
 -- an image that is not below raised rows was not below the rows before
 pub raised-below : (old new : List ℕ) (s : Started) → Rises old new → NotBelow new s → NotBelow old s
@@ -40,13 +42,15 @@ raised-below old new s rises not = record {
   required = λ was. not.required (required-stays old new rises was);
 }
   where
-    lower : (version : Option ℕ) → IfSome version (λ v. count new s.rows.items ≤ v) → IfSome version (λ v. count old s.rows.items ≤ v)
+    lower : (version : Option ℕ) → IfSome version (λ v. count new s.rows.items ≤ v)
+        → IfSome version (λ v. count old s.rows.items ≤ v)
     lower None reaches = tt
     lower (Some v) reaches = let fewer = count-Rises rises s.rows.items in omega (arith, fewer, reaches)
 
 module _ (a : Addressing) (w : Window) (cpu : Cpu) (trial : Bool) (otp other bytes : List ℕ) where
   -- a valid image that is not below other rows is valid on them
-  pub valid-elsewhere : (s : Started) → IsValidImage a w cpu trial otp bytes s → NotBelow other s → IsValidImage a w cpu trial other bytes s
+  pub valid-elsewhere : (s : Started) → IsValidImage a w cpu trial otp bytes s → NotBelow other s
+      → IsValidImage a w cpu trial other bytes s
   valid-elsewhere s v not =
       let here = subst (NotBelow other) v.started not in
       record {
@@ -60,11 +64,13 @@ module _ (a : Addressing) (w : Window) (cpu : Cpu) (trial : Bool) (otp other byt
       }
 
   -- the answer is the same where the flag and the counts are
-  same-rollback : rollback_required other ≡ rollback_required otp → ((rows : List ℕ) → count other rows ≡ count otp rows) → (def : Def)
+  same-rollback : rollback_required other ≡ rollback_required otp
+      → ((rows : List ℕ) → count other rows ≡ count otp rows) → (def : Def)
       → rollback_fault other def ≡ rollback_fault otp def
   same-rollback flag counts def = rw (flag, counts def.rows.items) refl
 
-  pub same-rows : rollback_required other ≡ rollback_required otp → ((rows : List ℕ) → count other rows ≡ count otp rows)
+  pub same-rows : rollback_required other ≡ rollback_required otp
+      → ((rows : List ℕ) → count other rows ≡ count otp rows)
       → image_in a w cpu trial other bytes ≡ image_in a w cpu trial otp bytes
   unfolding image_in
   same-rows flag counts = go (defined_in cpu bytes)
@@ -76,5 +82,6 @@ module _ (a : Addressing) (w : Window) (cpu : Cpu) (trial : Bool) (otp other byt
           (and_then (entered_in a cpu bytes image) (λ entry. Ok (started_of w image entry)))))
       go (Ok image) =
           ap (λ o. and_unless (trial_fault trial image.def) (and_unless o
-          (and_then (entered_in a cpu bytes image) (λ entry. Ok (started_of w image entry))))) (same-rollback flag counts image.def)
+          (and_then (entered_in a cpu bytes image) (λ entry. Ok (started_of w image entry)))))
+          (same-rollback flag counts image.def)
       go (Err why) = refl

@@ -1,5 +1,5 @@
--- Where an image starts (RP2350 Datasheet, chapter 5, "Image entry"; the checks on the entry are this
--- project's own where the datasheet is open). Addresses are added without wrapping.
+-- Where an image starts (RP2350 Datasheet, chapter 5, "Image entry"; the checks on the entry are
+-- this project's own where the datasheet is open). Addresses are added without wrapping.
 use Rattle.std.specs.Prelude.{ℕ, ◌+◌, ◌-◌, ◌*◌, ◌/◌, Bool, false, not, ◌&&◌, ◌||◌, if◌then◌else◌, nat_lt, nat_le, List, length, Option, Some, None, Result, Ok, Err, unwrap_or}
 use Rattle.std.specs.Option.{option_map_or}
 use Rattle.pico_board.specs.declared.boot.Cpu.{Cpu}
@@ -14,18 +14,22 @@ use Rattle.image_check.specs.declared.entry.Source.{Source}
 use Rattle.image_check.specs.declared.why.EntryFault.{EntryFault}
 use Rattle.image_check.specs.declared.why.EntryFault.TheVariants.{Table, InBlock, Pc}
 
--- PC and SP from the two words at this address, SP first; none where one of their bytes is not given
+-- PC and SP from the two words at this address, SP first; none where one of their bytes is not
+-- given
 abbrev pub from_words : ℕ → Option ℕ → Option ℕ → Result Source EntryFault
-from_words table (Some sp) (Some pc) = Ok (record { entry = record { pc = pc; sp = sp; limit = 0 }; table = Some table })
+from_words table (Some sp) (Some pc) =
+    Ok (record { entry = record { pc = pc; sp = sp; limit = 0 }; table = Some table })
 from_words table (Some sp) None = Err Table
 from_words table None pc = Err Table
 
 -- the vector table of an image whose window begins at base
 abbrev pub from_table : ℕ → List ℕ → List Load → ℕ → Result Source EntryFault
-from_table base bytes loads table = from_words table (word_at base bytes loads table) (word_at base bytes loads (table + 4))
+from_table base bytes loads table =
+    from_words table (word_at base bytes loads table) (word_at base bytes loads (table + 4))
 
 -- an ENTRY_POINT item; or else for Arm the vector table, and for RISC-V the window's start
-abbrev pub source_of : ℕ → List ℕ → Cpu → Def → List Load → Option EntryPoint → Result Source EntryFault
+abbrev pub source_of : ℕ → List ℕ → Cpu → Def → List Load → Option EntryPoint
+    → Result Source EntryFault
 source_of base bytes cpu def loads (Some entry) = Ok (record { entry = entry; table = None })
 source_of base bytes Arm def loads None = from_table base bytes loads (unwrap_or def.vector base)
 source_of base bytes Riscv def loads None =
@@ -62,7 +66,8 @@ judged_source base size b source =
     else if not (is_runnable base size source) then Err Pc
     else Ok source.entry
 
-abbrev pub judged_sources : ℕ → ℕ → BlockView → Result Source EntryFault → Result EntryPoint EntryFault
+abbrev pub judged_sources : ℕ → ℕ → BlockView → Result Source EntryFault
+    → Result EntryPoint EntryFault
 judged_sources base size b (Err fault) = Err fault
 judged_sources base size b (Ok source) = judged_source base size b source
 

@@ -48,8 +48,9 @@ def_with vector rollback rows = record {
 abbrev pub otp_with : ℕ → ℕ → ℕ → ℕ → List ℕ
 otp_with flags a b c = replicate 0x048 0 ++ (flags ∷ (replicate 0x077 0 ++ (a ∷ b ∷ c ∷ [])))
 
--- the bytes of a window of 64: a vector table whose PC has these bytes 0, 1 and 3, and behind it a block of version 9.0 whose
--- IMAGE_TYPE item has this fourth byte, 0x10 or, with the trial bit, 0x90
+-- the bytes of a window of 64: a vector table whose PC has these bytes 0, 1 and 3, and behind it a
+-- block of version 9.0 whose IMAGE_TYPE item has this fourth byte, 0x10 or, with the trial bit,
+-- 0x90
 abbrev pub window_of : ℕ → ℕ → ℕ → ℕ → List ℕ
 window_of first second fourth high =
     0x00 ∷ 0x20 ∷ 0x08 ∷ 0x20 ∷ first ∷ second ∷ 0x00 ∷ fourth
@@ -77,11 +78,12 @@ version_nine pc trial = record {
   trial = trial;
 }
 
--- the bytes of a window that begins with SP at SRAM's end and this PC, and has at offset 8 a block of
--- these item words and this link word
+-- the bytes of a window that begins with SP at SRAM's end and this PC, and has at offset 8 a block
+-- of these item words and this link word
 abbrev pub window_with : ℕ → List ℕ → ℕ → List ℕ
 window_with pc items link =
-    bytes_of (0x20082000 ∷ pc ∷ 0xffffded3 ∷ items ++ ((0xff + 256 * length items) ∷ link ∷ 0xab123579 ∷ []))
+    bytes_of (0x20082000 ∷ pc ∷ 0xffffded3 ∷ items
+    ++ ((0xff + 256 * length items) ∷ link ∷ 0xab123579 ∷ []))
 
 -- a PC in SRAM, which is right, and one that lies nowhere
 abbrev pub right_pc : ℕ
@@ -160,8 +162,8 @@ plain_digest =
 abbrev pub map_of : ℕ → ℕ → ℕ → List ℕ
 map_of place runtime size = 0x01000406 ∷ place ∷ runtime ∷ size ∷ []
 
--- the SHA-256 of a window's first eight bytes, with SP 0x20082000 and PC 0x20000001, and of the words
--- 0xffffded3, 0x10210142, 0x01000406 and 0xfffffff0
+-- the SHA-256 of a window's first eight bytes, with SP 0x20082000 and PC 0x20000001, and of the
+-- words 0xffffded3, 0x10210142, 0x01000406 and 0xfffffff0
 abbrev pub stored_digest : List ℕ
 stored_digest =
     0x8b4fed16 ∷ 0x03d2ea4a ∷ 0x52b2a4a5 ∷ 0x94facbde ∷ 0xb6599bf9 ∷ 0xe9d367c1 ∷ 0x36841b81

@@ -38,9 +38,11 @@ ghost use Rattle.image_check.specs.SameImage.{AgreeFrom, AgreeOnStorage, Holds, 
 /// The function that judges rule by rule answers an image exactly where all rules hold of it, and a
 /// reason exactly where that is the answer of the first rule that fails.
 pub fn judged_exactly()
-    ensures valid { (a : Addressing) (w : Window) (cpu : Cpu) (trial : Bool) (otp bytes : List ℕ) (s : Started)
+    ensures valid { (a : Addressing) (w : Window) (cpu : Cpu) (trial : Bool) (otp bytes : List ℕ)
+        (s : Started)
         → IsValidImage a w cpu trial otp bytes s ↔ (image_in a w cpu trial otp bytes ≡ Ok s) }
-    ensures why_not { (a : Addressing) (w : Window) (cpu : Cpu) (trial : Bool) (otp bytes : List ℕ) (y : Why)
+    ensures why_not { (a : Addressing) (w : Window) (cpu : Cpu) (trial : Bool) (otp bytes : List ℕ)
+        (y : Why)
         → IsWhyNot a cpu trial otp bytes y ↔ (image_in a w cpu trial otp bytes ≡ Err y) }
     ensures valid_in_flash { (c : Content) (w : Window) (cpu : Cpu) (trial : Bool) (s : Started)
         → Valid c w cpu trial s ↔ (image_at c w cpu trial ≡ Ok s) }
@@ -52,12 +54,16 @@ pub fn judged_exactly()
 /// only one.
 pub fn one_answer()
     ensures some { (a : Addressing) (w : Window) (cpu : Cpu) (trial : Bool) (otp bytes : List ℕ)
-        → ((s : Started) × IsValidImage a w cpu trial otp bytes s) ⊎ ((y : Why) × IsWhyNot a cpu trial otp bytes y) }
-    ensures not_both { (a : Addressing) (w : Window) (cpu : Cpu) (trial : Bool) (otp bytes : List ℕ) (s : Started) (y : Why)
+        → ((s : Started) × IsValidImage a w cpu trial otp bytes s)
+        ⊎ ((y : Why) × IsWhyNot a cpu trial otp bytes y) }
+    ensures not_both { (a : Addressing) (w : Window) (cpu : Cpu) (trial : Bool) (otp bytes : List ℕ)
+        (s : Started) (y : Why)
         → IsValidImage a w cpu trial otp bytes s → IsWhyNot a cpu trial otp bytes y → ⊥ }
-    ensures one_image { (a : Addressing) (w : Window) (cpu : Cpu) (trial : Bool) (otp bytes : List ℕ) (s t : Started)
+    ensures one_image { (a : Addressing) (w : Window) (cpu : Cpu) (trial : Bool)
+        (otp bytes : List ℕ) (s t : Started)
         → IsValidImage a w cpu trial otp bytes s → IsValidImage a w cpu trial otp bytes t → s ≡ t }
-    ensures one_reason { (a : Addressing) (cpu : Cpu) (trial : Bool) (otp bytes : List ℕ) (y z : Why)
+    ensures one_reason { (a : Addressing) (cpu : Cpu) (trial : Bool) (otp bytes : List ℕ)
+        (y z : Why)
         → IsWhyNot a cpu trial otp bytes y → IsWhyNot a cpu trial otp bytes z → y ≡ z }
 {}
 
@@ -75,7 +81,8 @@ pub fn trial_allows_more()
 
 /// A valid image is not below its rollback rows.
 pub fn valid_is_not_below()
-    ensures { (a : Addressing) (w : Window) (cpu : Cpu) (trial : Bool) (otp bytes : List ℕ) (s : Started)
+    ensures { (a : Addressing) (w : Window) (cpu : Cpu) (trial : Bool) (otp bytes : List ℕ)
+        (s : Started)
         → IsValidImage a w cpu trial otp bytes s → NotBelow otp s }
 {}
 
@@ -89,7 +96,8 @@ pub fn local()
         (otp other bytes those : List ℕ) → bytes ≡ those → otp ≡ other
         → image_in (record { base = base; in_place = in_place }) w cpu trial otp bytes
         ≡ image_in (record { base = base; in_place = in_place }) w cpu trial other those }
-    ensures rows { (a : Addressing) (w : Window) (cpu : Cpu) (trial : Bool) (otp other bytes : List ℕ)
+    ensures rows { (a : Addressing) (w : Window) (cpu : Cpu) (trial : Bool)
+        (otp other bytes : List ℕ)
         → rollback_required other ≡ rollback_required otp
         → ((rows : List ℕ) → count other rows ≡ count otp rows)
         → image_in a w cpu trial other bytes ≡ image_in a w cpu trial otp bytes }
@@ -99,7 +107,8 @@ pub fn local()
 /// valid on the rows before. One that is valid on some rows is valid on all others that it is not
 /// below.
 pub fn raised_rows_allow_less()
-    ensures raised { (a : Addressing) (w : Window) (cpu : Cpu) (trial : Bool) (old new bytes : List ℕ)
+    ensures raised { (a : Addressing) (w : Window) (cpu : Cpu) (trial : Bool)
+        (old new bytes : List ℕ)
         (s : Started) → Rises old new → IsValidImage a w cpu trial new bytes s
         → IsValidImage a w cpu trial old bytes s }
     ensures not_below { (old new : List ℕ) (s : Started) → Rises old new → NotBelow new s
@@ -127,8 +136,8 @@ pub fn erased_bytes_behind_keep_the_image()
         → Valid c two cpu trial (moved_to two s) }
 {}
 
-/// An image that is valid with a trial image allowed is held; and where another content has the same
-/// bytes in its window, that holds the same image.
+/// An image that is valid with a trial image allowed is held; and where another content has the
+/// same bytes in its window, that holds the same image.
 pub fn same_bytes_same_image()
     ensures held { (c : Content) (w : Window) (cpu : Cpu) (s : Started)
         → Valid c w cpu true s → Holds cpu (window_bytes c w) s }
@@ -136,9 +145,9 @@ pub fn same_bytes_same_image()
         → window_bytes c s.window ≡ window_bytes d s.window → SameImage c d s cpu }
 {}
 
-/// An image that is sound stays sound, with the same entry, where its trial bit is cleared, as a buy
-/// does it; and its digest stays. One that is valid with its trial bit is valid without it, also
-/// where no trial is allowed, and its record is the same but for that bit.
+/// An image that is sound stays sound, with the same entry, where its trial bit is cleared, as a
+/// buy does it; and its digest stays. One that is valid with its trial bit is valid without it,
+/// also where no trial is allowed, and its record is the same but for that bit.
 pub fn a_cleared_trial_bit_keeps_the_image()
     ensures sound { (a : Addressing) (cpu : Cpu) (w v : List ℕ) (image : Defined)
         (entry : EntryPoint) → IsSound a cpu w image entry → ClearsTrialBit w v (place_of image)
@@ -157,7 +166,8 @@ pub fn a_cleared_trial_bit_keeps_the_image()
 
 /// The record of a valid image says what its definition and its entry say.
 pub fn a_record_says_what_the_image_says()
-    ensures { (a : Addressing) (w : Window) (cpu : Cpu) (trial : Bool) (otp bytes : List ℕ) (s : Started)
+    ensures { (a : Addressing) (w : Window) (cpu : Cpu) (trial : Bool) (otp bytes : List ℕ)
+        (s : Started)
         → IsValidImage a w cpu trial otp bytes s → IsRecordOfImage a w cpu bytes s }
 {}
 
@@ -186,5 +196,6 @@ pub fn the_same_image_has_the_same_bytes()
 /// The image of a window is what the rules before the digest rule let pass, judged by the last two.
 pub fn the_two_halves_of_a_check()
     ensures { (a : Addressing) (w : Window) (cpu : Cpu) (trial : Bool) (otp bytes : List ℕ)
-        → and_then (examined_in a cpu trial otp bytes) (confirmed_in w bytes) ≡ image_in a w cpu trial otp bytes }
+        → and_then (examined_in a cpu trial otp bytes) (confirmed_in w bytes)
+        ≡ image_in a w cpu trial otp bytes }
 {}

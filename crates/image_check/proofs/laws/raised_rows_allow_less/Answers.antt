@@ -4,7 +4,8 @@ use Rattle.image_check.proofs.laws.raised_rows_allow_less.Goals as goal
 
 pub returns-clause-raised : goal.returns-clause-raised
 returns-clause-raised c = λ a w cpu trial old new bytes s rises v.
-    valid-elsewhere a w cpu trial new old bytes s v (raised-below old new s rises (not-below a w cpu trial new bytes s v))
+    valid-elsewhere a w cpu trial new old bytes s v
+    (raised-below old new s rises (not-below a w cpu trial new bytes s v))
 
 pub returns-clause-not_below : goal.returns-clause-not_below
 returns-clause-not_below c = raised-below
