@@ -4,6 +4,11 @@ use Rattle.pico_board.specs.declared.boot.Cpu.{Cpu}
 use Rattle.pico_board.specs.declared.window.Window.{Window}
 use Rattle.pico_board.specs.Content.{Content, window_bytes}
 use Rattle.image_def.specs.declared.started.Started.{Started}
+use Rattle.image_def.specs.Flags.{is_trial}
+use Rattle.block_codec.specs.Erased.{IsErasedFrom}
+use Rattle.block_loop.specs.declared.fault.LoopFault.TheVariants.{NoBlock as NoFirst}
+use Rattle.block_loop.proofs.SameLoops.{IsFault-from_answer, loop_of-blank}
+use Rattle.image_check.specs.declared.why.Why.TheVariants.{NoBlock}
 use Rattle.image_check.specs.declared.addressing.Addressing.{Addressing}
 use Rattle.image_check.specs.declared.why.Why.{Why}
 use Rattle.image_check.specs.Addressing.{in_flash}
@@ -87,6 +92,65 @@ trial-more a w cpu otp bytes s v = record {
   reached = v.reached;
   started = v.started;
 }
+
+-- an image that is valid where no trial is allowed is none, and one that is none is valid where no trial is allowed
+pub trial-none : (a : Addressing) (w : Window) (cpu : Cpu) (otp bytes : List ℕ) (s : Started)
+    → IsValidImage a w cpu false otp bytes s → s.trial ≡ false
+trial-none a w cpu otp bytes s v =
+    ap (λ (t : Started). t.trial) v.started ∙ go (is_trial v.image.def.flags) v.tried
+  where
+    go : (t : Bool) → (t ≡ true → false ≡ true) → t ≡ false
+    go false may = refl
+    go true may = sym (may refl)
+
+pub trial-less : (a : Addressing) (w : Window) (cpu : Cpu) (otp bytes : List ℕ) (s : Started) → s.trial ≡ false
+    → IsValidImage a w cpu true otp bytes s → IsValidImage a w cpu false otp bytes s
+trial-less a w cpu otp bytes s none v = record {
+  image = v.image;
+  entry = v.entry;
+  sound = v.sound;
+  tried = λ is. sym none ∙ ap (λ (t : Started). t.trial) v.started ∙ is;
+  listed = v.listed;
+  reached = v.reached;
+  started = v.started;
+}
+
+-- validity by what the window holds, the trial bit and the rollback rows
+pub valid-parts : (w : Window) (cpu : Cpu) (trial : Bool) (otp bytes : List ℕ) (s : Started)
+    → IsValidImage in_flash w cpu trial otp bytes s
+    → (s.window ≡ w) × Holds cpu bytes s × (s.trial ≡ true → trial ≡ true) × NotBelow otp s
+valid-parts w cpu trial otp bytes s v =
+    let here : s.window ≡ w = ap (λ (t : Started). t.window) v.started in (
+      here,
+      record {
+        image = v.image;
+        entry = v.entry;
+        sound = v.sound;
+        started = v.started ∙ ap (λ (x : Window). started_of x v.image v.entry) (sym here);
+      },
+      (λ is. v.tried (sym (ap (λ (t : Started). t.trial) v.started) ∙ is)),
+      not-below in_flash w cpu trial otp bytes s v,
+    )
+
+pub parts-valid : (w : Window) (cpu : Cpu) (trial : Bool) (otp bytes : List ℕ) (s : Started) → s.window ≡ w → Holds cpu bytes s
+    → (s.trial ≡ true → trial ≡ true) → NotBelow otp s → IsValidImage in_flash w cpu trial otp bytes s
+parts-valid w cpu trial otp bytes s here h may not =
+    let rows = subst (NotBelow otp) h.started not in
+    record {
+      image = h.image;
+      entry = h.entry;
+      sound = h.sound;
+      tried = λ is. may (ap (λ (t : Started). t.trial) h.started ∙ is);
+      listed = rows.required;
+      reached = rows.version;
+      started = h.started ∙ ap (λ (x : Window). started_of x h.image h.entry) here;
+    }
+
+-- a window that begins with an erased sector
+pub erased-none : (a : Addressing) (w : Window) (cpu : Cpu) (trial : Bool) (otp bytes : List ℕ) → IsErasedFrom bytes 0 4096
+    → image_in a w cpu trial otp bytes ≡ Err NoBlock
+erased-none a w cpu trial otp bytes erased =
+    why-answered cpu bytes a w trial otp NoBlock (IsFault-from_answer bytes NoFirst (loop_of-blank bytes erased))
 
 -- the same of a window of a flash
 pub valid-at : (c : Content) (w : Window) (cpu : Cpu) (trial : Bool) (s : Started) → image_at c w cpu trial ≡ Ok s

@@ -10,13 +10,13 @@ ghost use Rattle.image_def.specs.Trial.{trial_cleared, untried};
 ghost use Rattle.load_map.specs.Covered.{covered_digest};
 ghost use Rattle.image_check.specs.declared.addressing.Addressing.{Addressing};
 ghost use Rattle.image_check.specs.declared.why.Why.{Why};
-ghost use Rattle.image_check.specs.declared.why.Why.TheVariants.{Loop};
+ghost use Rattle.image_check.specs.declared.why.Why.TheVariants.{Loop, NoBlock};
 ghost use Rattle.image_check.specs.Image.{defined_in, image_at, image_in};
 ghost use Rattle.image_check.specs.Valid.{IsRecordOfImage, IsSound, IsValidImage, Valid};
 ghost use Rattle.image_check.specs.Changes.{ClearsTrialBit, bought, moved_to, place_of, untried_image};
 ghost use Rattle.otp_roll.specs.Flags.{rollback_required};
 ghost use Rattle.otp_roll.specs.Rows.{Rises, count};
-ghost use Rattle.block_codec.specs.Erased.{AreErased};
+ghost use Rattle.block_codec.specs.Erased.{AreErased, IsErasedFrom};
 ghost use Rattle.block_codec.specs.declared.definition.EntryPoint.{EntryPoint};
 ghost use Rattle.load_map.specs.declared.addresses.TheConstants.{SRAM_START};
 ghost use Rattle.image_check.specs.Addressing.{in_flash};
@@ -73,10 +73,30 @@ pub fn an_open_loop_has_a_first_block()
         → IsWhyNot a cpu trial otp bytes (Loop NoFirst) → ⊥ }
 {}
 
-/// An image that is valid where no trial image is allowed is valid where one is.
+/// An image that is valid where no trial image is allowed is no trial, and is valid where one is; and
+/// one that is no trial and is valid where a trial image is allowed is valid where none is.
 pub fn trial_allows_more()
-    ensures { (a : Addressing) (w : Window) (cpu : Cpu) (otp bytes : List ℕ) (s : Started)
+    ensures more { (a : Addressing) (w : Window) (cpu : Cpu) (otp bytes : List ℕ) (s : Started)
         → IsValidImage a w cpu false otp bytes s → IsValidImage a w cpu true otp bytes s }
+    ensures no_trial { (a : Addressing) (w : Window) (cpu : Cpu) (otp bytes : List ℕ) (s : Started)
+        → IsValidImage a w cpu false otp bytes s → s.trial ≡ false }
+    ensures plain { (a : Addressing) (w : Window) (cpu : Cpu) (otp bytes : List ℕ) (s : Started)
+        → s.trial ≡ false → IsValidImage a w cpu true otp bytes s
+        → IsValidImage a w cpu false otp bytes s }
+{}
+
+/// Validity in three parts: the window holds the image, by its bytes alone; the image is no trial, or
+/// one is allowed; and it is not below its rollback rows, which alone reads the OTP.
+pub fn validity_in_three_parts()
+    ensures { (w : Window) (cpu : Cpu) (trial : Bool) (otp bytes : List ℕ) (s : Started)
+        → IsValidImage in_flash w cpu trial otp bytes s
+        ↔ ((s.window ≡ w) × Holds cpu bytes s × (s.trial ≡ true → trial ≡ true) × NotBelow otp s) }
+{}
+
+/// A window whose first 4096 bytes are erased has no first block.
+pub fn an_erased_sector_holds_no_image()
+    ensures { (a : Addressing) (w : Window) (cpu : Cpu) (trial : Bool) (otp bytes : List ℕ)
+        → IsErasedFrom bytes 0 4096 → image_in a w cpu trial otp bytes ≡ Err NoBlock }
 {}
 
 /// A valid image is not below its rollback rows.
