@@ -7,7 +7,7 @@ use super::*;
 use block_loop::LoopFault;
 use image_def::DefFault;
 use load_map::MapFault;
-use pico_board::{Board, Cpu, FlashView, MemBoard, View, Window};
+use pico_board::{Board, Cpu, FlashView, MemBoard, SliceView, View, Window};
 use sector_pool::SectorPool;
 use std::alloc::{AllocError, Global};
 use std::process::Abort;
@@ -306,7 +306,53 @@ fn loops_and_items_have_their_faults(rt: HostRuntime) -> Result<(), Fail> {
     Ok(())
 }
 
-/// The block of an image whose digest covers its first four words, with this digest.
+/// What the check answers of an Arm image in RAM at 0x20001000, whose bytes are those of a flash with
+/// these words at 0x100.
+fn checked_in_ram(
+    rt: &impl Abort,
+    alloc: Global,
+    words: &[u32],
+) -> Result<Result<Started, Why>, Fail> {
+    let board = board_of(alloc, flash_with(alloc, &[])?)?;
+    let mut pool = SectorPool::make(alloc, 1)?;
+    let image = flash_with(alloc, words)?;
+    let bytes = image.as_slice();
+    assert!(rt; pool.free() == 1);
+    assert!(rt; bytes.len() == 8192);
+    let view = SliceView { bytes };
+    let in_ram = Addressing {
+        base: 0x2000_1000,
+        in_place: true,
+    };
+    Ok(check_view(&board, &mut pool, &view, WHOLE, in_ram, Cpu::Arm, false))
+}
+
+#[test]
+fn an_image_in_ram_is_seen_where_it_stands(rt: HostRuntime) -> Result<(), Fail> {
+    let pointed = [
+        0xffff_ded3,
+        0x1021_0142,
+        0x0000_0344,
+        0x2000_1201,
+        0x2008_2000,
+        0x4ff,
+        0,
+        0xab12_3579,
+    ];
+    let Ok(started) = checked_in_ram(&rt, rt.alloc(), &pointed)? else {
+        return Err("no image".into());
+    };
+    assert_eq!(rt; started.pc, 0x2000_1201);
+    assert_eq!(rt; started.sp, 0x2008_2000);
+    let plain = [0xffff_ded3, 0x1021_0142, 0x1ff, 0, 0xab12_3579];
+    let stray = checked_in_ram(&rt, rt.alloc(), &plain)?.err();
+    assert_eq!(rt; stray, Some(Why::Entry(EntryFault::Pc)));
+    let loaded = checked_in_ram(&rt, rt.alloc(), &loaded_block(0x10))?.err();
+    assert_eq!(rt; loaded, Some(Why::Map(MapFault::Runtime(0))));
+    Ok(())
+}
+
+/// The block of an Arm image whose digest covers its first four words, with this digest.
 fn hashed_block(digest: [u32; 8]) -> [u32; 16] {
     let mut words = [0u32; 16];
     let front = [0xffff_ded3, 0x1021_0142, 0x0100_0247, 4, 0x94b];
