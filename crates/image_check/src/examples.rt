@@ -84,6 +84,13 @@ pub fn entries_are_found()
     ensures loaded_in_part { source_of flash_base table_bytes Arm
         (def_with (Some 0x20000010) None [])
         (record { storage = Some 0; runtime = 0x20000010; size = 7 } ∷ []) None ≡ Err Table }
+    ensures two_loads { source_of flash_base table_bytes Arm (def_with (Some 0x20000010) None [])
+        (record { storage = Some 0; runtime = 0x20000010; size = 4 }
+        ∷ record { storage = Some 4; runtime = 0x20000014; size = 4 } ∷ []) None
+        ≡ Ok (tabled 0x20000010 0x10000201) }
+    ensures gap { source_of flash_base table_bytes Arm (def_with (Some 0x20000010) None [])
+        (record { storage = Some 0; runtime = 0x20000010; size = 4 }
+        ∷ record { storage = Some 4; runtime = 0x20000015; size = 4 } ∷ []) None ≡ Err Table }
     ensures not_loaded { source_of flash_base table_bytes Arm
         (def_with (Some 0x20000010) None []) [] None ≡ Err Table }
     ensures riscv { source_of flash_base table_bytes Riscv
