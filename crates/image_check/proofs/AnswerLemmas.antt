@@ -3,7 +3,8 @@ use Rattle.std.proofs.Common.{◌≡◌, Option, Some, None, Result, Ok, Err, re
 use Rattle.image_check.specs.Answers.{and_then, and_unless, fault_as}
 
 -- after a value the rest decides
-pub ok-and_then : {A B F : Type 0} (r : Result A F) (f : A → Result B F) (x : A) (y : Result B F) → r ≡ Ok x → f x ≡ y → and_then r f ≡ y
+pub ok-and_then : {A B F : Type 0} (r : Result A F) (f : A → Result B F) (x : A) (y : Result B F) → r ≡ Ok x → f x ≡ y
+    → and_then r f ≡ y
 ok-and_then r f x y found next = rw found next
 
 -- a fault decides

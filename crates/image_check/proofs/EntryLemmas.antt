@@ -9,6 +9,7 @@ use Rattle.block_codec.specs.declared.definition.Def.{Def}
 use Rattle.block_codec.specs.declared.definition.EntryPoint.{EntryPoint}
 use Rattle.block_codec.specs.Blocks.{BlockView, block_size}
 use Rattle.load_map.specs.declared.load.Load.{Load}
+use Rattle.load_map.specs.declared.addresses.TheConstants.{SRAM_START, SRAM_END}
 use Rattle.load_map.specs.Given.{byte_at, word_at, word_if_given}
 use Rattle.image_check.specs.declared.why.EntryFault.{EntryFault}
 use Rattle.image_check.specs.declared.why.EntryFault.TheVariants.{Table, InBlock, Pc}
@@ -56,30 +57,35 @@ table-shares base b (Some t) h =
     (t, found.0, refl, found.1, found.2)
 
 shares-table : (base : ℕ) (b : BlockView) (table : Option ℕ) (t address : ℕ) → table ≡ Some t → IsIn address t 8
-    → IsIn address (base + b.at) (block_size b) → option_map_or (λ t. is_shared t 8 (base + b.at) (block_size b)) table false ≡ true
+    → IsIn address (base + b.at) (block_size b) → option_map_or
+    (λ t. is_shared t 8 (base + b.at) (block_size b)) table false ≡ true
 shares-table base b table t address is one two =
     ap (λ (o : Option ℕ). option_map_or (λ t. is_shared t 8 (base + b.at) (block_size b)) o false) is
     ∙ is-shared t 8 (base + b.at) (block_size b) address one two
 
-pub meets-is : (base : ℕ) (b : BlockView) (source : Source) → is_in_block base b source ≡ true → MeetsBlock base b source
+pub meets-is : (base : ℕ) (b : BlockView) (source : Source) → is_in_block base b source ≡ true
+    → MeetsBlock base b source
 meets-is base b source h = elim (true-or _ _ h) [
   | inl table ↦ inl (table-shares base b source.table table)
   | inr code ↦ inr (within-is (code_address source.entry.pc) (base + b.at) (block_size b) code)
 ]
 
 is-meets : (base : ℕ) (b : BlockView) (source : Source) → MeetsBlock base b source → is_in_block base b source ≡ true
-is-meets base b source (inl (t, address, is, one, two)) = or-left _ _ (shares-table base b source.table t address is one two)
-is-meets base b source (inr code) = or-right _ _ (is-within (code_address source.entry.pc) (base + b.at) (block_size b) code)
+is-meets base b source (inl (t, address, is, one, two)) =
+    or-left _ _ (shares-table base b source.table t address is one two)
+is-meets base b source (inr code) =
+    or-right _ _ (is-within (code_address source.entry.pc) (base + b.at) (block_size b) code)
 
 runs-is : (base n : ℕ) (source : Source) → is_runnable base n source ≡ true → IsRunnable base n source
 runs-is base n source h = elim (true-or _ _ h) [
   | inl window ↦ inl (within-is (code_address source.entry.pc) base n window)
-  | inr sram ↦ inr (within-is (code_address source.entry.pc) 0x20000000 0x82000 sram)
+  | inr sram ↦ inr (within-is (code_address source.entry.pc) SRAM_START (SRAM_END - SRAM_START) sram)
 ]
 
 is-runs : (base n : ℕ) (source : Source) → IsRunnable base n source → is_runnable base n source ≡ true
 is-runs base n source (inl window) = or-left _ _ (is-within (code_address source.entry.pc) base n window)
-is-runs base n source (inr sram) = or-right _ _ (is-within (code_address source.entry.pc) 0x20000000 0x82000 sram)
+is-runs base n source (inr sram) =
+    or-right _ _ (is-within (code_address source.entry.pc) SRAM_START (SRAM_END - SRAM_START) sram)
 
 -- which byte of a word is not given
 missing-of : (a b c d : Option ℕ) → word_if_given a b c d ≡ None → (a ≡ None) ⊎ ((b ≡ None) ⊎ ((c ≡ None) ⊎ (d ≡ None)))
@@ -100,9 +106,11 @@ abbrev source_with : ℕ → ℕ → ℕ → Option ℕ → Source
 source_with pc sp limit table = record { entry = record { pc = pc; sp = sp; limit = limit }; table = table }
 
 module _ (base : ℕ) (bytes : List ℕ) (loads : List Load) where
-  missing : (at : ℕ) → word_at base bytes loads at ≡ None → (k : ℕ) × (k < 4) × (byte_at base bytes loads (at + k) ≡ None)
+  missing : (at : ℕ) → word_at base bytes loads at ≡ None
+      → (k : ℕ) × (k < 4) × (byte_at base bytes loads (at + k) ≡ None)
   missing at h =
-      elim (missing-of (byte_at base bytes loads at) (byte_at base bytes loads (at + 1)) (byte_at base bytes loads (at + 2))
+      elim (missing-of (byte_at base bytes loads at) (byte_at base bytes loads (at + 1))
+      (byte_at base bytes loads (at + 2))
       (byte_at base bytes loads (at + 3)) h) [
         | inl a ↦ (0, omega arith, (let e : at + 0 ≡ at = omega arith in ap (byte_at base bytes loads) e) ∙ a)
         | inr rest ↦ elim rest [
@@ -114,7 +122,8 @@ module _ (base : ℕ) (bytes : List ℕ) (loads : List Load) where
         ]
       ]
 
-  not-given : (a b c d : Option ℕ) → (a ≡ None) ⊎ ((b ≡ None) ⊎ ((c ≡ None) ⊎ (d ≡ None))) → word_if_given a b c d ≡ None
+  not-given : (a b c d : Option ℕ) → (a ≡ None) ⊎ ((b ≡ None) ⊎ ((c ≡ None) ⊎ (d ≡ None)))
+      → word_if_given a b c d ≡ None
   not-given None b c d h = refl
   not-given (Some w) None c d h = refl
   not-given (Some w) (Some x) None d h = refl
@@ -134,7 +143,8 @@ module _ (base : ℕ) (bytes : List ℕ) (loads : List Load) where
   lacks at (suc (suc (suc (suc k)))) lt h = absurd (omega arith)
 
   -- a table that is found has its words, and one that is not lacks a byte
-  tabled-is : (table : ℕ) (sp pc : Option ℕ) → word_at base bytes loads table ≡ sp → word_at base bytes loads (table + 4) ≡ pc
+  tabled-is : (table : ℕ) (sp pc : Option ℕ) → word_at base bytes loads table ≡ sp
+      → word_at base bytes loads (table + 4) ≡ pc
       → (source : Source) → from_words table sp pc ≡ Ok source → IsTabled base bytes loads table source
   tabled-is table None pc first second source h = cc
   tabled-is table (Some sp) None first second source h = cc
@@ -142,7 +152,8 @@ module _ (base : ℕ) (bytes : List ℕ) (loads : List Load) where
       subst (IsTabled base bytes loads table) (same_source (source_with pc sp 0 (Some table)) source h)
       (record { sp = first; pc = second; limit = refl; from = refl })
 
-  fault-is : (table : ℕ) (sp pc : Option ℕ) → word_at base bytes loads table ≡ sp → word_at base bytes loads (table + 4) ≡ pc
+  fault-is : (table : ℕ) (sp pc : Option ℕ) → word_at base bytes loads table ≡ sp
+      → word_at base bytes loads (table + 4) ≡ pc
       → (fault : EntryFault) → from_words table sp pc ≡ Err fault
       → (fault ≡ Table) × ((k : ℕ) × (k < 8) × (byte_at base bytes loads (table + k) ≡ None))
   fault-is table (Some sp) (Some pc) first second fault h = cc
@@ -154,7 +165,8 @@ module _ (base : ℕ) (bytes : List ℕ) (loads : List Load) where
       let m = missing table first in
       (cc, (m.0, omega (arith, m.1), m.2))
 
-  is-tabled : (table : ℕ) (source : Source) → IsTabled base bytes loads table source → from_table base bytes loads table ≡ Ok source
+  is-tabled : (table : ℕ) (source : Source) → IsTabled base bytes loads table source
+      → from_table base bytes loads table ≡ Ok source
   is-tabled table source is =
       rw (is.sp, is.pc) (ap Ok (same source.entry.pc source.entry.sp source.entry.limit source.table is.limit is.from))
     where
@@ -162,7 +174,8 @@ module _ (base : ℕ) (bytes : List ℕ) (loads : List Load) where
           → source_with pc sp 0 (Some table) ≡ source_with pc sp limit from
       same pc sp limit from none is = rw (none, is) refl
 
-  is-fault : (table k : ℕ) → k < 8 → byte_at base bytes loads (table + k) ≡ None → from_table base bytes loads table ≡ Err Table
+  is-fault : (table k : ℕ) → k < 8 → byte_at base bytes loads (table + k) ≡ None
+      → from_table base bytes loads table ≡ Err Table
   is-fault table k lt h = elim (cases_lt k 4) [
     | inl low ↦ rw (lacks table k low h) refl
     | inr high ↦
@@ -182,18 +195,21 @@ module _ (base : ℕ) (bytes : List ℕ) (loads : List Load) where
       (fault ≡ Table) × (item ≡ None) × (cpu ≡ Arm)
       × ((k : ℕ) × (k < 8) × (byte_at base bytes loads (table_address base def + k) ≡ None))
 
-  source-says : (cpu : Cpu) (def : Def) (item : Option EntryPoint) → SaysSource cpu def item (source_of base bytes cpu def loads item)
+  source-says : (cpu : Cpu) (def : Def) (item : Option EntryPoint)
+      → SaysSource cpu def item (source_of base bytes cpu def loads item)
   source-says cpu def (Some entry) = refl
   source-says Riscv def None = refl
   source-says Arm def None = go (from_table base bytes loads (table_address base def)) refl
     where
-      go : (r : Result Source EntryFault) → from_table base bytes loads (table_address base def) ≡ r → SaysSource Arm def None r
+      go : (r : Result Source EntryFault) → from_table base bytes loads (table_address base def) ≡ r
+          → SaysSource Arm def None r
       go (Ok source) is = tabled-is (table_address base def) _ _ refl refl source is
       go (Err fault) is =
           let f = fault-is (table_address base def) _ _ refl refl fault is in
           (f.0, refl, refl, f.1)
 
-  is-source : (cpu : Cpu) (def : Def) (item : Option EntryPoint) (source : Source) → IsSource base bytes cpu def loads item source
+  is-source : (cpu : Cpu) (def : Def) (item : Option EntryPoint) (source : Source)
+      → IsSource base bytes cpu def loads item source
       → source_of base bytes cpu def loads item ≡ Ok source
   is-source cpu def (Some entry) source is = ap ok_source (sym is)
   is-source Riscv def None source is = ap ok_source (sym is)
@@ -209,11 +225,17 @@ module _ (base : ℕ) (bytes : List ℕ) (loads : List Load) where
         → SaysEntry (judged_source base (length bytes) b source)
     says-judged source found = go (is_in_block base b source) refl (is_runnable base (length bytes) source) refl
       where
-        go : (meets : Bool) → is_in_block base b source ≡ meets → (runs : Bool) → is_runnable base (length bytes) source ≡ runs
+        go : (meets : Bool) → is_in_block base b source ≡ meets → (runs : Bool)
+            → is_runnable base (length bytes) source ≡ runs
             → SaysEntry (if meets then Err InBlock else (if not runs then Err Pc else Ok source.entry))
         go true meets runs runnable = (source, found, meets-is base b source meets)
-        go false apart false stuck =
-            (source, found, (λ m. let t = is-meets base b source m in cc), (λ r. let t = is-runs base (length bytes) source r in cc))
+        go false apart false stuck = (
+          source,
+          found,
+          (λ m. let t =
+              is-meets base b source m in cc),
+          (λ r. let t = is-runs base (length bytes) source r in cc),
+        )
         go false apart true runs = record {
           source = source;
           found = found;
@@ -225,7 +247,8 @@ module _ (base : ℕ) (bytes : List ℕ) (loads : List Load) where
     pub entry-says : SaysEntry (entry_of base bytes cpu b def loads)
     entry-says = go (source_of base bytes cpu def loads def.entry_point) (source-says cpu def def.entry_point)
       where
-        go : (r : Result Source EntryFault) → SaysSource cpu def def.entry_point r → SaysEntry (judged_sources base (length bytes) b r)
+        go : (r : Result Source EntryFault) → SaysSource cpu def def.entry_point r
+            → SaysEntry (judged_sources base (length bytes) b r)
         go (Ok source) found = says-judged source found
         go (Err fault) (is, no_item, arm, (k, lt, none)) =
             subst (IsEntryFault base bytes cpu b def loads) (sym is)
@@ -244,12 +267,14 @@ module _ (base : ℕ) (bytes : List ℕ) (loads : List Load) where
         go false apart true runnable = refl
         go false apart false runnable = cc
 
-    pub entry-ok : (entry : EntryPoint) → IsEntry base bytes cpu b def loads entry → entry_of base bytes cpu b def loads ≡ Ok entry
+    pub entry-ok : (entry : EntryPoint) → IsEntry base bytes cpu b def loads entry
+        → entry_of base bytes cpu b def loads ≡ Ok entry
     entry-ok entry e =
         ap (judged_sources base (length bytes) b) (is-source cpu def def.entry_point e.source e.found)
         ∙ judged-ok e.source e.apart e.runs ∙ ap Ok (sym e.is)
 
-    judged-meets : (source : Source) → MeetsBlock base b source → judged_source base (length bytes) b source ≡ Err InBlock
+    judged-meets : (source : Source) → MeetsBlock base b source
+        → judged_source base (length bytes) b source ≡ Err InBlock
     judged-meets source meets = rw (is-meets base b source meets) refl
 
     judged-stuck : (source : Source) → (MeetsBlock base b source → ⊥) → (IsRunnable base (length bytes) source → ⊥)
@@ -265,15 +290,20 @@ module _ (base : ℕ) (bytes : List ℕ) (loads : List Load) where
         go false apart false stuck = refl
 
     table-lacks : (arm : cpu ≡ Arm) (none : def.entry_point ≡ None) (k : ℕ) → k < 8
-        → byte_at base bytes loads (table_address base def + k) ≡ None → source_of base bytes cpu def loads def.entry_point ≡ Err Table
+        → byte_at base bytes loads (table_address base def + k) ≡ None
+        → source_of base bytes cpu def loads def.entry_point ≡ Err Table
     table-lacks arm none k lt not_given =
         ap (λ (p : Cpu). source_of base bytes p def loads def.entry_point) arm
         ∙ ap (source_of base bytes Arm def loads) none ∙ is-fault (table_address base def) k lt not_given
 
-    pub entry-err : (fault : EntryFault) → IsEntryFault base bytes cpu b def loads fault → entry_of base bytes cpu b def loads ≡ Err fault
+    pub entry-err : (fault : EntryFault) → IsEntryFault base bytes cpu b def loads fault
+        → entry_of base bytes cpu b def loads ≡ Err fault
     entry-err Table lacks =
-        ap (judged_sources base (length bytes) b) (table-lacks lacks.processor lacks.no_item lacks.place lacks.inside lacks.not_given)
+        ap (judged_sources base (length bytes) b)
+        (table-lacks lacks.processor lacks.no_item lacks.place lacks.inside lacks.not_given)
     entry-err InBlock (source, found, meets) =
-        ap (judged_sources base (length bytes) b) (is-source cpu def def.entry_point source found) ∙ judged-meets source meets
+        ap (judged_sources base (length bytes) b) (is-source cpu def def.entry_point source found)
+        ∙ judged-meets source meets
     entry-err Pc (source, found, apart, stuck) =
-        ap (judged_sources base (length bytes) b) (is-source cpu def def.entry_point source found) ∙ judged-stuck source apart stuck
+        ap (judged_sources base (length bytes) b) (is-source cpu def def.entry_point source found)
+        ∙ judged-stuck source apart stuck

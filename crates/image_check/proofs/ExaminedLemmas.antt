@@ -38,23 +38,29 @@ module _ (a : Addressing) (window : Window) (cpu : Cpu) (trial : Bool) (otp byte
     abbrev middle : List Load → Result Started Why
     middle loads = and_then (entry_answer a.base bytes cpu image.block image.def loads) (ended loads)
 
-    loaded : and_then (loaded_in a cpu bytes image) (confirmed_in window bytes) ≡ and_then (entered_in a cpu bytes image) (started image)
+    loaded : and_then (loaded_in a cpu bytes image) (confirmed_in window bytes)
+        ≡ and_then (entered_in a cpu bytes image) (started image)
     loaded =
         then-then (map_answer a (length bytes) image.block image.def) _ (confirmed_in window bytes) middle (λ loads.
-        then-then (entry_answer a.base bytes cpu image.block image.def loads) _ (confirmed_in window bytes) (ended loads) (λ entry. refl))
+        then-then (entry_answer a.base bytes cpu image.block image.def loads) _ (confirmed_in window bytes)
+        (ended loads) (λ entry. refl))
         ∙ sym (then-then (map_answer a (length bytes) image.block image.def) _ (started image) middle (λ loads.
         then-then (entry_answer a.base bytes cpu image.block image.def loads) _ (started image) (ended loads) (λ entry.
         unless-then (digest_fault bytes image.block image.def loads image.def.digest) _ (started image) _
         (unless-then (delta_fault image.def.delta) (Ok entry) (started image) (started image entry) refl))))
 
-    admitted : and_then (and_then (admitted_in trial otp image.def) (λ u. loaded_in a cpu bytes image)) (confirmed_in window bytes)
-        ≡ and_unless (trial_fault trial image.def) (and_unless (rollback_fault otp image.def) (and_then (entered_in a cpu bytes image) (started image)))
+    admitted : and_then (and_then (admitted_in trial otp image.def) (λ u. loaded_in a cpu bytes image))
+        (confirmed_in window bytes)
+        ≡ and_unless (trial_fault trial image.def)
+        (and_unless (rollback_fault otp image.def) (and_then (entered_in a cpu bytes image) (started image)))
     admitted =
         then-then (admitted_in trial otp image.def) (λ u. loaded_in a cpu bytes image) (confirmed_in window bytes)
         (λ u. and_then (entered_in a cpu bytes image) (started image)) (λ u. loaded)
         ∙ unless-then (trial_fault trial image.def) _ (λ u. and_then (entered_in a cpu bytes image) (started image)) _
-        (unless-then (rollback_fault otp image.def) (Ok tt) (λ u. and_then (entered_in a cpu bytes image) (started image)) _ refl)
+        (unless-then (rollback_fault otp image.def) (Ok tt)
+        (λ u. and_then (entered_in a cpu bytes image) (started image)) _ refl)
 
-  pub examined-image : and_then (examined_in a cpu trial otp bytes) (confirmed_in window bytes) ≡ image_in a window cpu trial otp bytes
+  pub examined-image : and_then (examined_in a cpu trial otp bytes) (confirmed_in window bytes)
+      ≡ image_in a window cpu trial otp bytes
   unfolding examined_in image_in
   examined-image = then-then (defined_in cpu bytes) _ (confirmed_in window bytes) _ admitted

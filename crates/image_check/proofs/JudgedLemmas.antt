@@ -50,13 +50,22 @@ module _ (a : Addressing) (cpu : Cpu) (trial : Bool) (otp bytes : List ℕ) wher
       → SaysDefined (and_then (if typed then or_fault suiting NotForProcessor else Err NoDefinition)
       (λ block. and_then (fault_as Items (def_of block)) (λ def. Ok (record { block = block; def = def }))))
   says-suiting loop closes false none suiting is = (loop, closes, any-none has_image_type loop none)
-  says-suiting loop closes true some None is =
-      (loop, closes, record { some = Any-from_list_any has_image_type loop some; none = none-passes (does_suit cpu) loop is })
-  says-suiting loop closes true some (Some b) is = says-items loop closes b (last-found (does_suit cpu) loop b is) (def_of b) refl
+  says-suiting loop closes true some None is = (
+    loop,
+    closes,
+    record {
+      some = Any-from_list_any has_image_type loop some;
+      none = none-passes
+          (does_suit cpu) loop is;
+    },
+  )
+  says-suiting loop closes true some (Some b) is =
+      says-items loop closes b (last-found (does_suit cpu) loop b is) (def_of b) refl
 
   says-loop : (r : Result (List BlockView) LoopFault) → Says bytes r
       → SaysDefined (and_then (loop_answer r) (λ loop.
-      and_then (if list_any has_image_type loop then or_fault (last_suiting cpu loop) NotForProcessor else Err NoDefinition)
+      and_then (if list_any has_image_type loop then or_fault
+      (last_suiting cpu loop) NotForProcessor else Err NoDefinition)
       (λ block. and_then (fault_as Items (def_of block)) (λ def. Ok (record { block = block; def = def })))))
   says-loop (Ok loop) closes = says-suiting loop closes (list_any has_image_type loop) refl (last_suiting cpu loop) refl
   says-loop (Err NoFirst) none = none
@@ -71,14 +80,16 @@ module _ (a : Addressing) (cpu : Cpu) (trial : Bool) (otp bytes : List ℕ) wher
   abbrev SaysEntered : Defined → Result EntryPoint Why → Type 0
   SaysEntered image (Ok entry) =
       (loads : List Load) × (map_loads a (length bytes) image.block image.def ≡ Ok loads)
-      × IsEntry a.base bytes cpu image.block image.def loads entry × HasItsDigest bytes image loads × (image.def.delta ≡ pos 0)
+      × IsEntry a.base bytes cpu image.block image.def loads entry × HasItsDigest bytes image loads
+      × (image.def.delta ≡ pos 0)
   SaysEntered image (Err y) = IsWhyNot a cpu trial otp bytes y
 
   says-delta : (image : Defined) (loads : List Load) (entry : EntryPoint) → IsLoaded a cpu trial otp bytes image loads
       → IsEntry a.base bytes cpu image.block image.def loads entry → HasItsDigest bytes image loads
       → SaysEntered image (and_unless (delta_fault image.def.delta) (Ok entry))
   says-delta image loads entry loaded enters digest = elim (delta-says image.def.delta) [
-    | inl (none, zero) ↦ subst (λ o. SaysEntered image (and_unless o (Ok entry))) (sym none) (loads, loaded.map, enters, digest, zero)
+    | inl (none, zero) ↦ subst (λ o. SaysEntered image (and_unless o (Ok entry))) (sym none)
+        (loads, loaded.map, enters, digest, zero)
     | inr (some, other) ↦
         subst (λ o. SaysEntered image (and_unless o (Ok entry))) (sym some)
         (image, loads, record { loaded = loaded; entry = entry; enters = enters }, digest, other)
@@ -100,7 +111,8 @@ module _ (a : Addressing) (cpu : Cpu) (trial : Bool) (otp bytes : List ℕ) wher
   says-entry : (image : Defined) (loads : List Load) → IsLoaded a cpu trial otp bytes image loads
       → (r : Result EntryPoint EntryFault) → SaysEntry a.base bytes loads cpu image.block image.def r
       → SaysEntered image (and_then (fault_as Entry r) (λ entry.
-      and_unless (digest_fault bytes image.block image.def loads image.def.digest) (and_unless (delta_fault image.def.delta) (Ok entry))))
+      and_unless (digest_fault bytes image.block image.def loads image.def.digest)
+      (and_unless (delta_fault image.def.delta) (Ok entry))))
   says-entry image loads loaded (Ok entry) enters = says-digest image loads entry loaded enters
   says-entry image loads loaded (Err fault) wrong = (image, loads, loaded, wrong)
 
@@ -108,13 +120,16 @@ module _ (a : Addressing) (cpu : Cpu) (trial : Bool) (otp bytes : List ℕ) wher
       → map_loads a (length bytes) image.block image.def ≡ r
       → SaysEntered image (and_then (fault_as Map r) (λ loads.
       and_then (fault_as Entry (entry_of a.base bytes cpu image.block image.def loads)) (λ entry.
-      and_unless (digest_fault bytes image.block image.def loads image.def.digest) (and_unless (delta_fault image.def.delta) (Ok entry)))))
+      and_unless (digest_fault bytes image.block image.def loads image.def.digest)
+      (and_unless (delta_fault image.def.delta) (Ok entry)))))
   says-map image admitted (Ok loads) is =
-      says-entry image loads (record { admitted = admitted; map = is }) (entry_of a.base bytes cpu image.block image.def loads)
+      says-entry image loads (record { admitted = admitted; map = is })
+      (entry_of a.base bytes cpu image.block image.def loads)
       (entry-says a.base bytes loads cpu image.block image.def)
   says-map image admitted (Err fault) is = (image, admitted, is)
 
-  entered-says : (image : Defined) → IsAdmitted cpu trial otp bytes image → SaysEntered image (entered_in a cpu bytes image)
+  entered-says : (image : Defined) → IsAdmitted cpu trial otp bytes image
+      → SaysEntered image (entered_in a cpu bytes image)
   entered-says image admitted = says-map image admitted (map_loads a (length bytes) image.block image.def) refl
 
   module _ (window : Window) where
@@ -145,9 +160,11 @@ module _ (a : Addressing) (cpu : Cpu) (trial : Bool) (otp bytes : List ℕ) wher
     says-entered image admitted (Err y) why = why
 
     says-rolled : (image : Defined) → IsTried cpu trial bytes image → (o : Option Why) → SaysRolled otp image o
-        → SaysImage (and_unless o (and_then (entered_in a cpu bytes image) (λ entry. Ok (started_of window image entry))))
+        → SaysImage (and_unless o (and_then (entered_in a cpu bytes image)
+        (λ entry. Ok (started_of window image entry))))
     says-rolled image tried None (lists, reaches) =
-        let admitted : IsAdmitted cpu trial otp bytes image = record { tried = tried; listed = lists; reached = reaches } in
+        let admitted : IsAdmitted cpu trial otp bytes
+        image = record { tried = tried; listed = lists; reached = reaches } in
         says-entered image admitted (entered_in a cpu bytes image) (entered-says image admitted)
     says-rolled image tried (Some y) (inl (is, lacks)) =
         subst (λ z. IsWhyNot a cpu trial otp bytes z) (sym is) (image, tried, lacks)
@@ -161,7 +178,8 @@ module _ (a : Addressing) (cpu : Cpu) (trial : Bool) (otp bytes : List ℕ) wher
       | inl (none, may) ↦
           subst (λ o. SaysImage (and_unless o (and_unless (rollback_fault otp image.def)
           (and_then (entered_in a cpu bytes image) (λ entry. Ok (started_of window image entry)))))) (sym none)
-          (says-rolled image (record { loop = loop; defined = defined; tried = may }) (rollback_fault otp image.def) (rolled-says otp image))
+          (says-rolled image (record { loop = loop; defined = defined; tried = may }) (rollback_fault otp image.def)
+          (rolled-says otp image))
       | inr (some, never) ↦
           subst (λ o. SaysImage (and_unless o (and_unless (rollback_fault otp image.def)
           (and_then (entered_in a cpu bytes image) (λ entry. Ok (started_of window image entry)))))) (sym some)
@@ -169,7 +187,8 @@ module _ (a : Addressing) (cpu : Cpu) (trial : Bool) (otp bytes : List ℕ) wher
     ]
 
     says-image : (r : Result Defined Why) → SaysDefined r
-        → SaysImage (and_then r (λ image. and_unless (trial_fault trial image.def) (and_unless (rollback_fault otp image.def)
+        → SaysImage (and_then r (λ image. and_unless (trial_fault trial image.def)
+        (and_unless (rollback_fault otp image.def)
         (and_then (entered_in a cpu bytes image) (λ entry. Ok (started_of window image entry))))))
     says-image (Ok image) (loop, defined) = says-tried loop image defined
     says-image (Err y) why = why

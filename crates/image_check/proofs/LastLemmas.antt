@@ -10,14 +10,16 @@ use Rattle.image_check.specs.Valid.{IsLastWith}
 
 module _ {X : Type 0} (p : X → Bool) where
   -- from the end, the first element comes last
-  turned : (x : X) (xs : List X) → find p (reverse (x ∷ xs)) ≡ option_or (find p (reverse xs)) (cond (p x) (Some x) None)
+  turned : (x : X) (xs : List X) → find p (reverse (x ∷ xs))
+      ≡ option_or (find p (reverse xs)) (cond (p x) (Some x) None)
   turned x xs = ap (find p) (reverse-append (x ∷ []) xs) ∙ find-append p (reverse xs) (x ∷ [])
 
   pub none-passes : (xs : List X) → find p (reverse xs) ≡ None → AllByRecursion (λ y. p y ≡ false) xs
   none-passes [] h = tt
   none-passes (x ∷ xs) h = go (none-passes xs) (find p (reverse xs)) refl (p x) refl (sym (turned x xs) ∙ h)
     where
-      go : (find p (reverse xs) ≡ None → AllByRecursion (λ y. p y ≡ false) xs) → (o : Option X) → find p (reverse xs) ≡ o → (t : Bool) → p x ≡ t → option_or o (cond t (Some x) None) ≡ None
+      go : (find p (reverse xs) ≡ None → AllByRecursion (λ y. p y ≡ false) xs) → (o : Option X)
+          → find p (reverse xs) ≡ o → (t : Bool) → p x ≡ t → option_or o (cond t (Some x) None) ≡ None
           → AllByRecursion (λ y. p y ≡ false) (x ∷ xs)
       go rest (Some z) is t test e = cc
       go rest None is true test e = cc
@@ -42,7 +44,8 @@ module _ {X : Type 0} (p : X → Bool) where
   last-found [] x h = cc
   last-found (y ∷ ys) x h = go (last-found ys x) (find p (reverse ys)) refl (p y) refl (sym (turned y ys) ∙ h)
     where
-      go : (find p (reverse ys) ≡ Some x → IsLastWith p ys x) → (o : Option X) → find p (reverse ys) ≡ o → (t : Bool) → p y ≡ t → option_or o (cond t (Some y) None) ≡ Some x
+      go : (find p (reverse ys) ≡ Some x → IsLastWith p ys x) → (o : Option X) → find p (reverse ys) ≡ o → (t : Bool)
+          → p y ≡ t → option_or o (cond t (Some y) None) ≡ Some x
           → IsLastWith p (y ∷ ys) x
       go rest (Some z) is t test e = further y ys x (rest (is ∙ e))
       go rest None is false test e = cc
@@ -74,7 +77,8 @@ module _ {X : Type 0} (p : X → Bool) where
   any-none [] h = tt
   any-none (x ∷ xs) h = go (any-none xs) (p x) refl h
     where
-      go : (list_any p xs ≡ false → AllByRecursion (λ y. p y ≡ false) xs) → (t : Bool) → p x ≡ t → (t || list_any p xs) ≡ false → AllByRecursion (λ y. p y ≡ false) (x ∷ xs)
+      go : (list_any p xs ≡ false → AllByRecursion (λ y. p y ≡ false) xs) → (t : Bool) → p x ≡ t
+          → (t || list_any p xs) ≡ false → AllByRecursion (λ y. p y ≡ false) (x ∷ xs)
       go rest true test e = cc
       go rest false test e = (test, rest e)
 
@@ -83,7 +87,8 @@ module _ {X : Type 0} (p : X → Bool) where
   none-any (x ∷ xs) none = rw (none.0, none-any xs none.1) refl
 
   -- a weaker test passes some element where the test finds one
-  pub weaker-any : (q : X → Bool) → ((x : X) → p x ≡ true → q x ≡ true) → (xs : List X) (x : X) → IsLastWith p xs x → list_any q xs ≡ true
+  pub weaker-any : (q : X → Bool) → ((x : X) → p x ≡ true → q x ≡ true) → (xs : List X) (x : X) → IsLastWith p xs x
+      → list_any q xs ≡ true
   weaker-any q weaker xs x last =
       subst (λ (ys : List X). list_any q ys ≡ true) (sym last.whole) (among last.before)
     where

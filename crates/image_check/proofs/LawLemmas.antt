@@ -4,6 +4,11 @@ use Rattle.pico_board.specs.declared.boot.Cpu.{Cpu}
 use Rattle.pico_board.specs.declared.window.Window.{Window}
 use Rattle.pico_board.specs.Content.{Content, window_bytes}
 use Rattle.image_def.specs.declared.started.Started.{Started}
+use Rattle.image_def.specs.Flags.{is_trial}
+use Rattle.block_codec.specs.Erased.{IsErasedFrom}
+use Rattle.block_loop.specs.declared.fault.LoopFault.TheVariants.{NoBlock as NoFirst}
+use Rattle.block_loop.proofs.SameLoops.{IsFault-from_answer, loop_of-blank}
+use Rattle.image_check.specs.declared.why.Why.TheVariants.{NoBlock}
 use Rattle.image_check.specs.declared.addressing.Addressing.{Addressing}
 use Rattle.image_check.specs.declared.why.Why.{Why}
 use Rattle.image_check.specs.Addressing.{in_flash}
@@ -37,7 +42,8 @@ module _ (a : Addressing) (w : Window) (cpu : Cpu) (trial : Bool) (otp bytes : L
   pub why-exactly : (y : Why) → IsWhyNot a cpu trial otp bytes y ↔ (image_in a w cpu trial otp bytes ≡ Err y)
   why-exactly y = (why-answered cpu bytes a w trial otp y, answered-why y)
 
-  pub some-answer : ((s : Started) × IsValidImage a w cpu trial otp bytes s) ⊎ ((y : Why) × IsWhyNot a cpu trial otp bytes y)
+  pub some-answer : ((s : Started) × IsValidImage a w cpu trial otp bytes s)
+      ⊎ ((y : Why) × IsWhyNot a cpu trial otp bytes y)
   some-answer = go (image_in a w cpu trial otp bytes) (image-says a cpu trial otp bytes w)
     where
       go : (r : Result Started Why) → SaysImage a cpu trial otp bytes w r
@@ -46,19 +52,26 @@ module _ (a : Addressing) (w : Window) (cpu : Cpu) (trial : Bool) (otp bytes : L
       go (Err y) why = inr (y, why)
 
   pub not-both : (s : Started) (y : Why) → IsValidImage a w cpu trial otp bytes s → IsWhyNot a cpu trial otp bytes y → ⊥
-  not-both s y valid why = apart (image_in a w cpu trial otp bytes) (valid-answered cpu bytes a w trial otp s valid) (why-answered cpu bytes a w trial otp y why)
+  not-both s y valid why =
+      apart (image_in a w cpu trial otp bytes) (valid-answered cpu bytes a w trial otp s valid)
+      (why-answered cpu bytes a w trial otp y why)
     where
       apart : (r : Result Started Why) → r ≡ Ok s → r ≡ Err y → ⊥
       apart r e f = cc
 
-  pub one-image : (s t : Started) → IsValidImage a w cpu trial otp bytes s → IsValidImage a w cpu trial otp bytes t → s ≡ t
-  one-image s t one two = same (image_in a w cpu trial otp bytes) (valid-answered cpu bytes a w trial otp s one) (valid-answered cpu bytes a w trial otp t two)
+  pub one-image : (s t : Started) → IsValidImage a w cpu trial otp bytes s → IsValidImage a w cpu trial otp bytes t
+      → s ≡ t
+  one-image s t one two =
+      same (image_in a w cpu trial otp bytes) (valid-answered cpu bytes a w trial otp s one)
+      (valid-answered cpu bytes a w trial otp t two)
     where
       same : (r : Result Started Why) → r ≡ Ok s → r ≡ Ok t → s ≡ t
       same r e f = cc
 
   pub one-reason : (y z : Why) → IsWhyNot a cpu trial otp bytes y → IsWhyNot a cpu trial otp bytes z → y ≡ z
-  one-reason y z one two = same (image_in a w cpu trial otp bytes) (why-answered cpu bytes a w trial otp y one) (why-answered cpu bytes a w trial otp z two)
+  one-reason y z one two =
+      same (image_in a w cpu trial otp bytes) (why-answered cpu bytes a w trial otp y one)
+      (why-answered cpu bytes a w trial otp z two)
     where
       same : (r : Result Started Why) → r ≡ Err y → r ≡ Err z → y ≡ z
       same r e f = cc
@@ -67,7 +80,8 @@ module _ (a : Addressing) (w : Window) (cpu : Cpu) (trial : Bool) (otp bytes : L
   pub not-below : (s : Started) → IsValidImage a w cpu trial otp bytes s → NotBelow otp s
   not-below s v = subst (NotBelow otp) (sym v.started) (record { version = v.reached; required = v.listed })
 
-pub trial-more : (a : Addressing) (w : Window) (cpu : Cpu) (otp bytes : List ℕ) (s : Started) → IsValidImage a w cpu false otp bytes s
+pub trial-more : (a : Addressing) (w : Window) (cpu : Cpu) (otp bytes : List ℕ) (s : Started)
+    → IsValidImage a w cpu false otp bytes s
     → IsValidImage a w cpu true otp bytes s
 trial-more a w cpu otp bytes s v = record {
   image = v.image;
@@ -79,20 +93,84 @@ trial-more a w cpu otp bytes s v = record {
   started = v.started;
 }
 
+-- an image that is valid where no trial is allowed is none, and one that is none is valid where no trial is allowed
+pub trial-none : (a : Addressing) (w : Window) (cpu : Cpu) (otp bytes : List ℕ) (s : Started)
+    → IsValidImage a w cpu false otp bytes s → s.trial ≡ false
+trial-none a w cpu otp bytes s v =
+    ap (λ (t : Started). t.trial) v.started ∙ go (is_trial v.image.def.flags) v.tried
+  where
+    go : (t : Bool) → (t ≡ true → false ≡ true) → t ≡ false
+    go false may = refl
+    go true may = sym (may refl)
+
+pub trial-less : (a : Addressing) (w : Window) (cpu : Cpu) (otp bytes : List ℕ) (s : Started) → s.trial ≡ false
+    → IsValidImage a w cpu true otp bytes s → IsValidImage a w cpu false otp bytes s
+trial-less a w cpu otp bytes s none v = record {
+  image = v.image;
+  entry = v.entry;
+  sound = v.sound;
+  tried = λ is. sym none ∙ ap (λ (t : Started). t.trial) v.started ∙ is;
+  listed = v.listed;
+  reached = v.reached;
+  started = v.started;
+}
+
+-- validity by what the window holds, the trial bit and the rollback rows
+pub valid-parts : (w : Window) (cpu : Cpu) (trial : Bool) (otp bytes : List ℕ) (s : Started)
+    → IsValidImage in_flash w cpu trial otp bytes s
+    → (s.window ≡ w) × Holds cpu bytes s × (s.trial ≡ true → trial ≡ true) × NotBelow otp s
+valid-parts w cpu trial otp bytes s v =
+    let here : s.window ≡ w = ap (λ (t : Started). t.window) v.started in (
+      here,
+      record {
+        image = v.image;
+        entry = v.entry;
+        sound = v.sound;
+        started = v.started ∙ ap (λ (x : Window). started_of x v.image v.entry) (sym here);
+      },
+      (λ is. v.tried (sym (ap (λ (t : Started). t.trial) v.started) ∙ is)),
+      not-below in_flash w cpu trial otp bytes s v,
+    )
+
+pub parts-valid : (w : Window) (cpu : Cpu) (trial : Bool) (otp bytes : List ℕ) (s : Started) → s.window ≡ w → Holds cpu bytes s
+    → (s.trial ≡ true → trial ≡ true) → NotBelow otp s → IsValidImage in_flash w cpu trial otp bytes s
+parts-valid w cpu trial otp bytes s here h may not =
+    let rows = subst (NotBelow otp) h.started not in
+    record {
+      image = h.image;
+      entry = h.entry;
+      sound = h.sound;
+      tried = λ is. may (ap (λ (t : Started). t.trial) h.started ∙ is);
+      listed = rows.required;
+      reached = rows.version;
+      started = h.started ∙ ap (λ (x : Window). started_of x h.image h.entry) here;
+    }
+
+-- a window that begins with an erased sector
+pub erased-none : (a : Addressing) (w : Window) (cpu : Cpu) (trial : Bool) (otp bytes : List ℕ) → IsErasedFrom bytes 0 4096
+    → image_in a w cpu trial otp bytes ≡ Err NoBlock
+erased-none a w cpu trial otp bytes erased =
+    why-answered cpu bytes a w trial otp NoBlock (IsFault-from_answer bytes NoFirst (loop_of-blank bytes erased))
+
 -- the same of a window of a flash
-pub valid-at : (c : Content) (w : Window) (cpu : Cpu) (trial : Bool) (s : Started) → image_at c w cpu trial ≡ Ok s → Valid c w cpu trial s
+pub valid-at : (c : Content) (w : Window) (cpu : Cpu) (trial : Bool) (s : Started) → image_at c w cpu trial ≡ Ok s
+    → Valid c w cpu trial s
 valid-at c w cpu trial s is = answered-valid in_flash w cpu trial c.otp (window_bytes c w) s is
 
-pub at-valid : (c : Content) (w : Window) (cpu : Cpu) (trial : Bool) (s : Started) → Valid c w cpu trial s → image_at c w cpu trial ≡ Ok s
+pub at-valid : (c : Content) (w : Window) (cpu : Cpu) (trial : Bool) (s : Started) → Valid c w cpu trial s
+    → image_at c w cpu trial ≡ Ok s
 at-valid c w cpu trial s v = valid-answered cpu (window_bytes c w) in_flash w trial c.otp s v
 
-pub image-local : (c d : Content) (w : Window) (cpu : Cpu) (trial : Bool) → window_bytes c w ≡ window_bytes d w → c.otp ≡ d.otp
+pub image-local : (c d : Content) (w : Window) (cpu : Cpu) (trial : Bool) → window_bytes c w ≡ window_bytes d w
+    → c.otp ≡ d.otp
     → image_at c w cpu trial ≡ image_at d w cpu trial
 image-local c d w cpu trial bytes rows =
-    ap (λ otp. image_in in_flash w cpu trial otp (window_bytes c w)) rows ∙ ap (image_in in_flash w cpu trial d.otp) bytes
+    ap (λ otp. image_in in_flash w cpu trial otp (window_bytes c w)) rows
+    ∙ ap (image_in in_flash w cpu trial d.otp) bytes
 
 -- a valid image is held, and the same bytes hold the same image
-pub valid-held : (c : Content) (w : Window) (cpu : Cpu) (s : Started) → Valid c w cpu true s → Holds cpu (window_bytes c w) s
+pub valid-held : (c : Content) (w : Window) (cpu : Cpu) (s : Started) → Valid c w cpu true s
+    → Holds cpu (window_bytes c w) s
 valid-held c w cpu s v =
     let here : s.window ≡ w = ap (λ (t : Started). t.window) v.started in
     record {
@@ -116,9 +194,11 @@ agree-load one two same (Some start) size = agree-all one two same _ _
 
 agree-loads : (one two : List ℕ) → one ≡ two → (loads : List Load) → AgreeOnLoads one two loads
 agree-loads one two same [] = tt
-agree-loads one two same (load ∷ loads) = (agree-load one two same load.storage load.size, agree-loads one two same loads)
+agree-loads one two same (load ∷ loads) =
+    (agree-load one two same load.storage load.size, agree-loads one two same loads)
 
-agree-storage : (one two : List ℕ) → one ≡ two → (item : Option ℕ) (loads : List Load) → AgreeOnStorage one two item loads
+agree-storage : (one two : List ℕ) → one ≡ two → (item : Option ℕ) (loads : List Load)
+    → AgreeOnStorage one two item loads
 agree-storage one two same None loads = agree-all one two same _ _
 agree-storage one two same (Some item) loads = agree-loads one two same loads
 
@@ -132,7 +212,8 @@ same-image c d s cpu held bytes = record {
 }
 
 -- what is held of an image that is valid, whether a trial is allowed or not
-pub valid-holds : (c : Content) (w : Window) (cpu : Cpu) (trial : Bool) (s : Started) → Valid c w cpu trial s → Holds cpu (window_bytes c w) s
+pub valid-holds : (c : Content) (w : Window) (cpu : Cpu) (trial : Bool) (s : Started) → Valid c w cpu trial s
+    → Holds cpu (window_bytes c w) s
 valid-holds c w cpu trial s v =
     let here : s.window ≡ w = ap (λ (t : Started). t.window) v.started in
     record {
@@ -142,7 +223,8 @@ valid-holds c w cpu trial s v =
       started = v.started ∙ ap (λ (x : Window). started_of x v.image v.entry) (sym here);
     }
 
-pub valid-window : (c : Content) (w : Window) (cpu : Cpu) (trial : Bool) (s : Started) → Valid c w cpu trial s → s.window ≡ w
+pub valid-window : (c : Content) (w : Window) (cpu : Cpu) (trial : Bool) (s : Started) → Valid c w cpu trial s
+    → s.window ≡ w
 valid-window c w cpu trial s v = ap (λ (t : Started). t.window) v.started
 
 -- what a valid image's record says is what its definition and its entry say

@@ -8,3 +8,8 @@ pub mod LawLemmas
 pub mod SeenLemmas
 pub mod ExaminedLemmas
 pub mod SameLemmas
+pub mod RollbackLemmas
+pub mod MapLemmas
+pub mod LongerLemmas
+pub mod ClearedLemmas
+pub mod HoldLemmas

@@ -23,7 +23,9 @@ use Rattle.image_check.specs.WhyNot.{IsBelow}
 
 -- a block that suits has an IMAGE_TYPE item
 pub suits-type : (cpu : Cpu) (b : BlockView) → does_suit cpu b ≡ true → has_image_type b ≡ true
-suits-type cpu b h = typed (image_type_of b) ((and_parts (nat_le (block_size b) 384) (option_map_or (suits_flags cpu) (image_flags_of b) false) h).1)
+suits-type cpu b h =
+    typed (image_type_of b) ((and_parts (nat_le (block_size b) 384)
+    (option_map_or (suits_flags cpu) (image_flags_of b) false) h).1)
   where
     typed : (o : Option Item) → option_map_or (suits_flags cpu) (option_map flags_of o) false ≡ true → is_some o ≡ true
     typed None e = cc
@@ -47,7 +49,8 @@ trial-some allowed def never = go (is_trial def.flags) allowed never
     go true false n = refl
 
 pub trial-says : (allowed : Bool) (def : Def)
-    → ((trial_fault allowed def ≡ None) × MayBeTried allowed def) ⊎ ((trial_fault allowed def ≡ Some Trial) × (MayBeTried allowed def → ⊥))
+    → ((trial_fault allowed def ≡ None) × MayBeTried allowed def)
+    ⊎ ((trial_fault allowed def ≡ Some Trial) × (MayBeTried allowed def → ⊥))
 trial-says allowed def = go (is_trial def.flags) allowed
   where
     go : (t a : Bool)
@@ -58,7 +61,8 @@ trial-says allowed def = go (is_trial def.flags) allowed
     go true false = inr (refl, λ m. let e = m refl in cc)
 
 -- the first half of the rollback rule
-pub listed-none : (otp : List ℕ) (def : Def) → ListsRequiredRows otp def → required_fault (rollback_required otp) def.rows.items ≡ None
+pub listed-none : (otp : List ℕ) (def : Def) → ListsRequiredRows otp def
+    → required_fault (rollback_required otp) def.rows.items ≡ None
 listed-none otp def lists = go (rollback_required otp) def.rows.items lists
   where
     go : (required : Bool) (rows : List ℕ) → (required ≡ true → rows ≢ []) → required_fault required rows ≡ None
@@ -71,13 +75,15 @@ pub listed-some : (otp : List ℕ) (def : Def) → (ListsRequiredRows otp def �
     → required_fault (rollback_required otp) def.rows.items ≡ Some RollbackRequired
 listed-some otp def never = go (rollback_required otp) def.rows.items never
   where
-    go : (required : Bool) (rows : List ℕ) → ((required ≡ true → rows ≢ []) → ⊥) → required_fault required rows ≡ Some RollbackRequired
+    go : (required : Bool) (rows : List ℕ) → ((required ≡ true → rows ≢ []) → ⊥)
+        → required_fault required rows ≡ Some RollbackRequired
     go true [] n = refl
     go true (r ∷ rows) n = absurd (n (λ e f. cc))
     go false rows n = absurd (n (λ e. cc))
 
 -- its second half
-pub reached-none : (otp : List ℕ) (def : Def) → ReachesItsRows otp def → below_fault def.rollback (count otp def.rows.items) ≡ None
+pub reached-none : (otp : List ℕ) (def : Def) → ReachesItsRows otp def
+    → below_fault def.rollback (count otp def.rows.items) ≡ None
 reached-none otp def reaches = go def.rollback (count otp def.rows.items) reaches
   where
     go : (version : Option ℕ) (raised : ℕ) → IfSome version (λ v. raised ≤ v) → below_fault version raised ≡ None
@@ -111,7 +117,8 @@ rolled-says otp image = go (rollback_required otp) refl image.def.rows.items ref
 
     reach : (lists : ListsRequiredRows otp image.def) (version : Option ℕ) → image.def.rollback ≡ version
         → SaysRolled otp image (below_fault version (count otp image.def.rows.items))
-    reach lists None is = (lists, subst (λ (v : Option ℕ). IfSome v (λ n. count otp image.def.rows.items ≤ n)) (sym is) tt)
+    reach lists None is =
+        (lists, subst (λ (v : Option ℕ). IfSome v (λ n. count otp image.def.rows.items ≤ n)) (sym is) tt)
     reach lists (Some v) is = decide (nat_lt v (count otp image.def.rows.items)) refl
       where
         decide : (t : Bool) → nat_lt v (count otp image.def.rows.items) ≡ t
@@ -137,18 +144,24 @@ rolled-says otp image = go (rollback_required otp) refl image.def.rows.items ref
         )
 
     go : (required : Bool) → rollback_required otp ≡ required → (rows : List ℕ) → image.def.rows.items ≡ rows
-        → SaysRolled otp image (option_or (required_fault required rows) (below_fault image.def.rollback (count otp image.def.rows.items)))
+        → SaysRolled otp image (option_or (required_fault required rows)
+        (below_fault image.def.rollback (count otp image.def.rows.items)))
     go true required [] is = inl (refl, λ lists. lists required is)
     go true required (r ∷ rows) is = reach (lists (r ∷ rows) is (λ e. cc)) image.def.rollback refl
     go false required [] is = reach (λ e. let f : true ≡ false = sym e ∙ required in cc) image.def.rollback refl
     go false required (r ∷ rows) is = reach (λ e. let f : true ≡ false = sym e ∙ required in cc) image.def.rollback refl
 
 -- the digest rule
-pub digest-says : (bytes : List ℕ) (image : Defined) (loads : List Load) (value : Option (List ℕ)) → image.def.digest ≡ value
+pub digest-says : (bytes : List ℕ) (image : Defined) (loads : List Load) (value : Option (List ℕ))
+    → image.def.digest ≡ value
     → ((digest_fault bytes image.block image.def loads value ≡ None) × HasItsDigest bytes image loads)
     ⊎ ((digest_fault bytes image.block image.def loads value ≡ Some Digest) × (HasItsDigest bytes image loads → ⊥))
 digest-says bytes image loads None is =
-    inl (refl, subst (λ (v : Option (List ℕ)). IfSome v (λ d. d ≡ covered_digest bytes image.block image.def loads)) (sym is) tt)
+    inl (
+      refl,
+      subst (λ (v : Option (List ℕ)). IfSome v (λ d. d ≡ covered_digest bytes image.block image.def loads))
+          (sym is) tt,
+    )
 digest-says bytes image loads (Some value) is = go (bytes_eq value digest) refl
   where
     digest : List ℕ
@@ -161,11 +174,16 @@ digest-says bytes image loads (Some value) is = go (bytes_eq value digest) refl
         → (((if t then None else Some Digest) ≡ None) × HasItsDigest bytes image loads)
         ⊎ (((if t then None else Some Digest) ≡ Some Digest) × (HasItsDigest bytes image loads → ⊥))
     go true same =
-        inl (refl, subst (λ (v : Option (List ℕ)). IfSome v (λ d. d ≡ digest)) (sym is) ((bytes_eq-Decides value digest).0 same))
+        inl (
+          refl,
+          subst (λ (v : Option (List ℕ)). IfSome v (λ d. d ≡ digest)) (sym is)
+              ((bytes_eq-Decides value digest).0 same),
+        )
     go false other = inr (refl, λ h. let t = (bytes_eq-Decides value digest).1 (has h) in cc)
 
 -- the delta rule
-pub delta-says : (delta : ℤ) → ((delta_fault delta ≡ None) × (delta ≡ pos 0)) ⊎ ((delta_fault delta ≡ Some Delta) × (delta ≢ pos 0))
+pub delta-says : (delta : ℤ) → ((delta_fault delta ≡ None) × (delta ≡ pos 0))
+    ⊎ ((delta_fault delta ≡ Some Delta) × (delta ≢ pos 0))
 delta-says (pos zero) = inl (refl, refl)
 delta-says (pos (suc n)) = inr (refl, λ e. cc)
 delta-says (negsuc n) = inr (refl, λ e. cc)

@@ -30,21 +30,25 @@ use Rattle.image_check.proofs.AnsweredLemmas.{defined-ok}
 use Rattle.image_check.proofs.SeenLemmas.{at-place}
 
 -- a byte of a piece
-in_piece : (xs : List ℕ) (at n i : ℕ) → at ≤ i → i < at + n → get_or (slice_range xs at (at + n)) (i - at) 0 ≡ get_or xs i 0
+in_piece : (xs : List ℕ) (at n i : ℕ) → at ≤ i → i < at + n
+    → get_or (slice_range xs at (at + n)) (i - at) 0 ≡ get_or xs i 0
 in_piece xs at n i above below =
     let e : at + (i - at) ≡ i = omega arith in
     get_or-between xs at (at + n) (i - at) 0 (omega arith) ∙ ap (λ k. get_or xs k 0) e
 
 -- two pieces are equal exactly where the lists agree in their range
-pub pieces-agree : (one two xs ys : List ℕ) (at n : ℕ) → xs ≡ slice_range one at (at + n) → ys ≡ slice_range two at (at + n)
-    → at + n ≤ length one → at + n ≤ length two → (same : Bool) → same ≡ bytes_eq xs ys → (same ≡ true) ↔ AgreeFrom one two at (at + n)
+pub pieces-agree : (one two xs ys : List ℕ) (at n : ℕ) → xs ≡ slice_range one at (at + n)
+    → ys ≡ slice_range two at (at + n)
+    → at + n ≤ length one → at + n ≤ length two → (same : Bool) → same ≡ bytes_eq xs ys
+    → (same ≡ true) ↔ AgreeFrom one two at (at + n)
 pieces-agree one two xs ys at n first second in_one in_two same is = (forth, back)
   where
     forth : same ≡ true → AgreeFrom one two at (at + n)
     forth passes i above below =
         let equal : xs ≡ ys = (bytes_eq-Decides xs ys).0 (sym is ∙ passes) in
         let pieces : slice_range one at (at + n) ≡ slice_range two at (at + n) = sym first ∙ equal ∙ second in
-        sym (in_piece two at n i above below) ∙ ap (λ zs. get_or zs (i - at) 0) (sym pieces) ∙ in_piece one at n i above below
+        sym (in_piece two at n i above below) ∙ ap (λ zs. get_or zs (i - at) 0) (sym pieces)
+        ∙ in_piece one at n i above below
 
     back : AgreeFrom one two at (at + n) → same ≡ true
     back agree =
@@ -56,21 +60,26 @@ pieces-agree one two xs ys at n first second in_one in_two same is = (forth, bac
         let below : at + k < at + n = omega (arith, lt, long_one) in
         ap (λ j. get_or (slice_range one at (at + n)) j 0) (sym e) ∙ in_piece one at n (at + k) (omega arith) below
         ∙ sym (agree (at + k) (omega arith) below)
-        ∙ sym (in_piece two at n (at + k) (omega arith) below) ∙ ap (λ j. get_or (slice_range two at (at + n)) j 0) e) in
+        ∙ sym (in_piece two at n (at + k) (omega arith) below)
+        ∙ ap (λ j. get_or (slice_range two at (at + n)) j 0) e) in
         is ∙ (bytes_eq-Decides xs ys).1 (first ∙ pieces ∙ sym second)
 
 -- a range that agrees, and then a further piece of it
-pub agree-more : (one two : List ℕ) (from mid end : ℕ) → AgreeFrom one two from mid → AgreeFrom one two mid end → AgreeFrom one two from end
+pub agree-more : (one two : List ℕ) (from mid end : ℕ) → AgreeFrom one two from mid → AgreeFrom one two mid end
+    → AgreeFrom one two from end
 agree-more one two from mid end front back i above below = elim (cases_lt i mid) [
   | inl early ↦ front i above early
   | inr late ↦ back i late below
 ]
 
-pub agree-part : (one two : List ℕ) (from end at to : ℕ) → from ≤ at → to ≤ end → AgreeFrom one two from end → AgreeFrom one two at to
-agree-part one two from end at to low high agree i above below = agree i (omega (arith, low, above)) (omega (arith, high, below))
+pub agree-part : (one two : List ℕ) (from end at to : ℕ) → from ≤ at → to ≤ end → AgreeFrom one two from end
+    → AgreeFrom one two at to
+agree-part one two from end at to low high agree i above below =
+    agree i (omega (arith, low, above)) (omega (arith, high, below))
 
 -- one more element of a list of which all have it
-pub all-more : {X : Type 0} (P : X → Type 0) (xs : List X) (i : ℕ) (x : X) → slice_get xs i ≡ Some x → AllByRecursion P (take i xs) → P x
+pub all-more : {X : Type 0} (P : X → Type 0) (xs : List X) (i : ℕ) (x : X) → slice_get xs i ≡ Some x
+    → AllByRecursion P (take i xs) → P x
     → AllByRecursion P (take (i + 1) xs)
 all-more P [] i x at all here = cc
 all-more P (y ∷ ys) zero x at all here =
@@ -80,23 +89,27 @@ all-more P (y ∷ ys) (suc i) x at all here =
     let e : suc i + 1 ≡ suc (i + 1) = omega arith in
     subst (λ n. AllByRecursion P (take n (y ∷ ys))) (sym e) (all.0, all-more P ys i x at all.1 here)
 
-pub all-at : {X : Type 0} (P : X → Type 0) (xs : List X) (i : ℕ) (x : X) → slice_get xs i ≡ Some x → AllByRecursion P xs → P x
+pub all-at : {X : Type 0} (P : X → Type 0) (xs : List X) (i : ℕ) (x : X) → slice_get xs i ≡ Some x → AllByRecursion P xs
+    → P x
 all-at P [] i x at all = cc
 all-at P (y ∷ ys) zero x at all = let e : y ≡ x = cc in subst P e all.0
 all-at P (y ∷ ys) (suc i) x at all = all-at P ys i x at all.1
 
 -- a load of a list by its place, where lists are read by a default
-pub all-whole : {X : Type 0} (P : X → Type 0) (xs : List X) (n : ℕ) → length xs ≤ n → AllByRecursion P (take n xs) → AllByRecursion P xs
+pub all-whole : {X : Type 0} (P : X → Type 0) (xs : List X) (n : ℕ) → length xs ≤ n → AllByRecursion P (take n xs)
+    → AllByRecursion P xs
 all-whole P xs n le all = subst (AllByRecursion P) (take_all n xs le) all
 
 -- a block that stands lies inside
-pub block-room : (w : List ℕ) (x p n : ℕ) (b : BlockView) → block_at w x ≡ Some b → p ≡ b.at → n ≡ block_size b → p + n ≤ length w
+pub block-room : (w : List ℕ) (x p n : ℕ) (b : BlockView) → block_at w x ≡ Some b → p ≡ b.at → n ≡ block_size b
+    → p + n ≤ length w
 block-room w x p n b found place size =
     let stands = BlockAt-from_found w x b found in
     let room = BlockAt-room w x b stands in
     omega (arith, room, stands.placed, place, size)
 
-module _ (one two offsets : List ℕ) (are : AreLoop one offsets) (i x : ℕ) (at : slice_get offsets i ≡ Some x) (b : BlockView)
+module _ (one two offsets : List ℕ) (are : AreLoop one offsets) (i x : ℕ) (at : slice_get offsets i
+    ≡ Some x) (b : BlockView)
     (stands : block_at one x ≡ Some b) (p n : ℕ) (place : p ≡ b.at) (size : n ≡ block_size b) where
   loop-at : (loop : List BlockView) → loop_of one ≡ Ok loop → slice_get loop i ≡ Some b
   loop-at loop is =
@@ -106,15 +119,18 @@ module _ (one two offsets : List ℕ) (are : AreLoop one offsets) (i x : ℕ) (a
   agree-here : AgreeFrom one two p (p + n) → AgreeFrom one two b.at (b.at + block_size b)
   agree-here agree j above below = agree j (omega (arith, above, place)) (omega (arith, below, place, size))
 
-  pub block-agrees : (loop : List BlockView) → loop_of one ≡ Ok loop → AgreeOnBlocks one two loop → AgreeFrom one two p (p + n)
+  pub block-agrees : (loop : List BlockView) → loop_of one ≡ Ok loop → AgreeOnBlocks one two loop
+      → AgreeFrom one two p (p + n)
   block-agrees loop is agree j above below =
       all-at (λ (c : BlockView). AgreeFrom one two c.at (c.at + block_size c)) loop i b (loop-at loop is) agree j
       (omega (arith, above, place)) (omega (arith, below, place, size))
 
-  pub blocks-more : (loop : List BlockView) → loop_of one ≡ Ok loop → AgreeOnBlocks one two (take i loop) → AgreeFrom one two p (p + n)
+  pub blocks-more : (loop : List BlockView) → loop_of one ≡ Ok loop → AgreeOnBlocks one two (take i loop)
+      → AgreeFrom one two p (p + n)
       → AgreeOnBlocks one two (take (i + 1) loop)
   blocks-more loop is before agree =
-      all-more (λ (c : BlockView). AgreeFrom one two c.at (c.at + block_size c)) loop i b (loop-at loop is) before (agree-here agree)
+      all-more (λ (c : BlockView). AgreeFrom one two c.at (c.at + block_size c)) loop i b (loop-at loop is) before
+      (agree-here agree)
 
 -- the one loop, definition and list of loads of an image that is held
 pub held-loop : (cpu : Cpu) (bytes : List ℕ) (s : Started) (h : Holds cpu bytes s) → loop_of bytes ≡ Ok h.sound.loop
@@ -126,10 +142,12 @@ held-image cpu bytes s h = defined-ok cpu bytes h.sound.loop h.image h.sound.def
 same_ok : {A : Type 0} (x y : A) (r : Result A Why) → r ≡ Ok x → r ≡ Ok y → x ≡ y
 same_ok x y r e f = cc
 
-pub the-image : (cpu : Cpu) (bytes : List ℕ) (s : Started) (h : Holds cpu bytes s) (image : Defined) → defined_in cpu bytes ≡ Ok image → h.image ≡ image
+pub the-image : (cpu : Cpu) (bytes : List ℕ) (s : Started) (h : Holds cpu bytes s) (image : Defined)
+    → defined_in cpu bytes ≡ Ok image → h.image ≡ image
 the-image cpu bytes s h image is = same_ok h.image image (defined_in cpu bytes) (held-image cpu bytes s h) is
 
-pub the-loads : (cpu : Cpu) (bytes : List ℕ) (s : Started) (h : Holds cpu bytes s) (image : Defined) → defined_in cpu bytes ≡ Ok image
+pub the-loads : (cpu : Cpu) (bytes : List ℕ) (s : Started) (h : Holds cpu bytes s) (image : Defined)
+    → defined_in cpu bytes ≡ Ok image
     → (loads : List Load) → map_answer in_flash (length bytes) image.block image.def ≡ Ok loads → h.sound.loads ≡ loads
 the-loads cpu bytes s h image is loads loaded =
     let same = the-image cpu bytes s h image is in
@@ -138,7 +156,8 @@ the-loads cpu bytes s h image is loads loaded =
     ∙ ok-fault_as Map (map_loads in_flash (length bytes) h.image.block h.image.def) h.sound.loads h.sound.map) loaded
 
 -- no fault of the map of an image that is held
-pub no-map-fault : (cpu : Cpu) (bytes : List ℕ) (s : Started) (h : Holds cpu bytes s) (image : Defined) → defined_in cpu bytes ≡ Ok image
+pub no-map-fault : (cpu : Cpu) (bytes : List ℕ) (s : Started) (h : Holds cpu bytes s) (image : Defined)
+    → defined_in cpu bytes ≡ Ok image
     → (why : Why) → map_answer in_flash (length bytes) image.block image.def ≡ Err why → ⊥
 no-map-fault cpu bytes s h image is why wrong =
     let same = the-image cpu bytes s h image is in
@@ -150,19 +169,23 @@ no-map-fault cpu bytes s h image is why wrong =
     apart r e f = cc
 
 -- what is the same of the image as the code found it is the same of it as it is held
-module _ (cpu : Cpu) (one two : List ℕ) (s : Started) (image : Defined) (defined : defined_in cpu one ≡ Ok image) (loads : List Load)
+module _ (cpu : Cpu) (one two : List ℕ) (s : Started) (image : Defined) (defined : defined_in cpu one
+    ≡ Ok image) (loads : List Load)
     (loaded : map_answer in_flash (length one) image.block image.def ≡ Ok loads) where
   pub storage-held : (h : Holds cpu one s) → AgreeOnStorage one two image.def.map_item loads
       → AgreeOnStorage one two h.image.def.map_item h.sound.loads
   storage-held h agree =
-      subst (λ (ls : List Load). AgreeOnStorage one two h.image.def.map_item ls) (sym (the-loads cpu one s h image defined loads loaded))
-      (subst (λ (i : Defined). AgreeOnStorage one two i.def.map_item loads) (sym (the-image cpu one s h image defined)) agree)
+      subst (λ (ls : List Load). AgreeOnStorage one two h.image.def.map_item ls)
+      (sym (the-loads cpu one s h image defined loads loaded))
+      (subst (λ (i : Defined). AgreeOnStorage one two i.def.map_item loads)
+      (sym (the-image cpu one s h image defined)) agree)
 
   pub storage-found : (h : Holds cpu one s) → AgreeOnStorage one two h.image.def.map_item h.sound.loads
       → AgreeOnStorage one two image.def.map_item loads
   storage-found h agree =
       subst (λ (i : Defined). AgreeOnStorage one two i.def.map_item loads) (the-image cpu one s h image defined)
-      (subst (λ (ls : List Load). AgreeOnStorage one two h.image.def.map_item ls) (the-loads cpu one s h image defined loads loaded) agree)
+      (subst (λ (ls : List Load). AgreeOnStorage one two h.image.def.map_item ls)
+      (the-loads cpu one s h image defined loads loaded) agree)
 
   pub same-exactly : (held : Holds cpu one s) (long : length two ≡ length one) (blocks storage : Bool)
       → ((loop : List BlockView) → loop_of one ≡ Ok loop → (blocks ≡ true) ↔ AgreeOnBlocks one two loop)
@@ -178,7 +201,8 @@ module _ (cpu : Cpu) (one two : List ℕ) (s : Started) (image : Defined) (defin
     λ h. refl,
   )
   same-exactly held long true false b t = (λ e. cc, λ h. t.1 (storage-found h.held h.storage))
-  same-exactly held long false storage b t = (λ e. cc, λ h. (b h.held.sound.loop (held-loop cpu one s h.held)).1 h.blocks)
+  same-exactly held long false storage b t =
+      (λ e. cc, λ h. (b h.held.sound.loop (held-loop cpu one s h.held)).1 h.blocks)
 
   -- the same by the code's two answers, of which the second counts where the first is yes
   pub same-then : (held : Holds cpu one s) (long : length two ≡ length one) (blocks storage : Bool)
@@ -196,7 +220,8 @@ module _ (cpu : Cpu) (one two : List ℕ) (s : Started) (image : Defined) (defin
   same-else held long true storage b t is = cc
 
 -- the walk of a loop that closes has no fault
-pub no-loop-fault : (w : List ℕ) (loop : List BlockView) (r : Result (List ℕ) LoopFault) (fault : LoopFault) → loop_of w ≡ Ok loop
+pub no-loop-fault : (w : List ℕ) (loop : List BlockView) (r : Result (List ℕ) LoopFault) (fault : LoopFault)
+    → loop_of w ≡ Ok loop
     → r ≡ loop_offsets (loop_of w) → r ≡ Err fault → ⊥
 no-loop-fault w loop r fault closes is wrong = go r (is ∙ ap loop_offsets closes) wrong
   where
@@ -211,23 +236,30 @@ not-undefined cpu w s h r why is wrong = go r (is ∙ held-image cpu w s h) wron
     go q e f = cc
 
 -- the answer on the map, with the loads as a list
-pub listed-err : (r : Result (ArrayVec Load) Why) (q : Result (List Load) Why) (why : Why) → listed r ≡ q → r ≡ Err why → q ≡ Err why
+pub listed-err : (r : Result (ArrayVec Load) Why) (q : Result (List Load) Why) (why : Why) → listed r ≡ q → r ≡ Err why
+    → q ≡ Err why
 listed-err r q why is wrong = sym is ∙ ap listed wrong
 
-pub listed-ok : (r : Result (ArrayVec Load) Why) (q : Result (List Load) Why) (loads : ArrayVec Load) → listed r ≡ q → r ≡ Ok loads → q ≡ Ok loads.items
+pub listed-ok : (r : Result (ArrayVec Load) Why) (q : Result (List Load) Why) (loads : ArrayVec Load) → listed r ≡ q
+    → r ≡ Ok loads → q ≡ Ok loads.items
 listed-ok r q loads is found = sym is ∙ ap listed found
 
 -- each place of an image that is the same in both
-pub same-block : (cpu : Cpu) (one two : List ℕ) (s : Started) → HoldSameImage cpu one two s → (loop : List BlockView) → loop_of one ≡ Ok loop
+pub same-block : (cpu : Cpu) (one two : List ℕ) (s : Started) → HoldSameImage cpu one two s → (loop : List BlockView)
+    → loop_of one ≡ Ok loop
     → (k : ℕ) (b : BlockView) → slice_get loop k ≡ Some b → AgreeFrom one two b.at (b.at + block_size b)
 same-block cpu one two s h loop is k b at =
-    let same : h.held.sound.loop ≡ loop = same_loop h.held.sound.loop loop (loop_of one) (held-loop cpu one s h.held) is in
-    all-at (λ (c : BlockView). AgreeFrom one two c.at (c.at + block_size c)) loop k b at (subst (AgreeOnBlocks one two) same h.blocks)
+    let same : h.held.sound.loop ≡ loop = same_loop h.held.sound.loop loop (loop_of one)
+    (held-loop cpu one s h.held) is in
+    all-at (λ (c : BlockView). AgreeFrom one two c.at (c.at + block_size c)) loop k b at
+    (subst (AgreeOnBlocks one two) same h.blocks)
   where
     same_loop : (x y : List BlockView) (r : Result (List BlockView) LoopFault) → r ≡ Ok x → r ≡ Ok y → x ≡ y
     same_loop x y r e f = cc
 
-pub same-storage : (cpu : Cpu) (one two : List ℕ) (s : Started) → HoldSameImage cpu one two s → (image : Defined) → defined_in cpu one ≡ Ok image
+pub same-storage : (cpu : Cpu) (one two : List ℕ) (s : Started) → HoldSameImage cpu one two s → (image : Defined)
+    → defined_in cpu one ≡ Ok image
     → (loads : List Load) → map_answer in_flash (length one) image.block image.def ≡ Ok loads
     → AgreeOnStorage one two image.def.map_item loads
-same-storage cpu one two s h image defined loads loaded = storage-found cpu one two s image defined loads loaded h.held h.storage
+same-storage cpu one two s h image defined loads loaded =
+    storage-found cpu one two s image defined loads loaded h.held h.storage

@@ -29,7 +29,8 @@ is-loop : (w : List ℕ) (bs : List BlockView) → loop_of w ≡ Ok bs → IsLoo
 is-loop w bs h = subst (Says w) h (loop_of-says w)
 
 -- the element at a place, after those before it
-pub one-more : {X : Type 0} (xs : List X) (i : ℕ) (x : X) → slice_get xs i ≡ Some x → take (i + 1) xs ≡ take i xs ++ x ∷ []
+pub one-more : {X : Type 0} (xs : List X) (i : ℕ) (x : X) → slice_get xs i ≡ Some x
+    → take (i + 1) xs ≡ take i xs ++ x ∷ []
 one-more xs i x at =
     take_more xs i x (slice_get_within xs i x at) ∙ ap (λ y. take i xs ++ y ∷ []) (get_or_from_slice_get xs i x x at)
 
@@ -37,7 +38,8 @@ abbrev found-loop : List BlockView → Result (List BlockView) LoopFault
 found-loop bs = Ok bs
 
 -- the offsets are those of the one loop
-the-loop : (w offsets : List ℕ) → AreLoop w offsets → (loop : List BlockView) → loop_of w ≡ Ok loop → offsets_of loop ≡ offsets
+the-loop : (w offsets : List ℕ) → AreLoop w offsets → (loop : List BlockView) → loop_of w ≡ Ok loop
+    → offsets_of loop ≡ offsets
 the-loop w offsets are loop is =
     let found = are.blocks in
     let same : loop ≡ found.0 = same-loop loop found.0 (sym is ∙ loop_of-loop w found.0 found.1) in
@@ -46,12 +48,14 @@ the-loop w offsets are loop is =
     same-loop : (xs ys : List BlockView) → found-loop xs ≡ found-loop ys → xs ≡ ys
     same-loop xs ys h = cc
 
-mapped : (o : Option BlockView) (x : ℕ) → option_map (λ (b : BlockView). b.at) o ≡ Some x → (b : BlockView) × (o ≡ Some b) × (b.at ≡ x)
+mapped : (o : Option BlockView) (x : ℕ) → option_map (λ (b : BlockView). b.at) o ≡ Some x
+    → (b : BlockView) × (o ≡ Some b) × (b.at ≡ x)
 mapped None x h = cc
 mapped (Some b) x h = (b, refl, cc)
 
 -- the block at a place of the loop stands at the offset there
-pub at-place : (w offsets : List ℕ) (i x : ℕ) → AreLoop w offsets → slice_get offsets i ≡ Some x → (loop : List BlockView) → loop_of w ≡ Ok loop
+pub at-place : (w offsets : List ℕ) (i x : ℕ) → AreLoop w offsets → slice_get offsets i ≡ Some x
+    → (loop : List BlockView) → loop_of w ≡ Ok loop
     → (b : BlockView) × (slice_get loop i ≡ Some b) × (block_at w x ≡ Some b)
 at-place w offsets i x are at loop is =
     let same = the-loop w offsets are loop is in
@@ -79,36 +83,46 @@ or-false : (t : Bool) → (t || false) ≡ t
 or-false true = refl
 or-false false = refl
 
-pub typed-more : (loop : List BlockView) (b : BlockView) → list_any has_image_type (loop ++ b ∷ []) ≡ (list_any has_image_type loop || has_image_type b)
-typed-more loop b = list_any-append has_image_type loop (b ∷ []) ∙ ap (λ t. list_any has_image_type loop || t) (or-false (has_image_type b))
+pub typed-more : (loop : List BlockView) (b : BlockView)
+    → list_any has_image_type (loop ++ b ∷ []) ≡ (list_any has_image_type loop || has_image_type b)
+typed-more loop b =
+    list_any-append has_image_type loop (b ∷ []) ∙ ap (λ t. list_any has_image_type loop || t)
+    (or-false (has_image_type b))
 
 -- what is seen of the first blocks, and then of one more
-module _ (w offsets : List ℕ) (are : AreLoop w offsets) (cpu : Cpu) (i x : ℕ) (at : slice_get offsets i ≡ Some x) (b : BlockView) (stands : block_at w x ≡ Some b) where
+module _ (w offsets : List ℕ) (are : AreLoop w offsets) (cpu : Cpu) (i x : ℕ) (at : slice_get offsets i
+    ≡ Some x) (b : BlockView) (stands : block_at w x ≡ Some b) where
   more-blocks : (loop : List BlockView) → loop_of w ≡ Ok loop → take (i + 1) loop ≡ take i loop ++ b ∷ []
   more-blocks loop is =
       let here = at-place w offsets i x are at loop is in
       let same : here.0 ≡ b = same_Some here.0 b (sym here.2 ∙ stands) in
       one-more loop i b (here.1 ∙ ap Some same)
 
-  pub typed-step : (loop : List BlockView) → loop_of w ≡ Ok loop → (old new : Bool) → old ≡ list_any has_image_type (take i loop)
+  pub typed-step : (loop : List BlockView) → loop_of w ≡ Ok loop → (old new : Bool)
+      → old ≡ list_any has_image_type (take i loop)
       → new ≡ (old || has_image_type b) → new ≡ list_any has_image_type (take (i + 1) loop)
   typed-step loop is old new was now =
-      now ∙ ap (λ t. t || has_image_type b) was ∙ sym (typed-more (take i loop) b) ∙ ap (list_any has_image_type) (sym (more-blocks loop is))
+      now ∙ ap (λ t. t || has_image_type b) was ∙ sym (typed-more (take i loop) b)
+      ∙ ap (list_any has_image_type) (sym (more-blocks loop is))
 
-  pub suiting-step : (loop : List BlockView) → loop_of w ≡ Ok loop → (old new : Option BlockView) → old ≡ last_suiting cpu (take i loop)
+  pub suiting-step : (loop : List BlockView) → loop_of w ≡ Ok loop → (old new : Option BlockView)
+      → old ≡ last_suiting cpu (take i loop)
       → new ≡ (if does_suit cpu b then Some b else old) → new ≡ last_suiting cpu (take (i + 1) loop)
   suiting-step loop is old new was now =
       now ∙ ap (λ o. if does_suit cpu b then Some b else o) was ∙ sym (suiting-more cpu (take i loop) b)
       ∙ ap (last_suiting cpu) (sym (more-blocks loop is))
 
 -- all blocks were seen
-pub all-blocks : (w offsets : List ℕ) → AreLoop w offsets → (i : ℕ) → length offsets ≤ i → (loop : List BlockView) → loop_of w ≡ Ok loop → take i loop ≡ loop
+pub all-blocks : (w offsets : List ℕ) → AreLoop w offsets → (i : ℕ) → length offsets ≤ i → (loop : List BlockView)
+    → loop_of w ≡ Ok loop → take i loop ≡ loop
 all-blocks w offsets are i le loop is =
-    let long : length loop ≡ length offsets = sym (length-map loop (λ (b : BlockView). b.at)) ∙ ap length (the-loop w offsets are loop is) in
+    let long : length loop ≡ length offsets = sym (length-map loop (λ (b : BlockView). b.at))
+    ∙ ap length (the-loop w offsets are loop is) in
     take_all i loop (omega arith)
 
 -- a block that suits has an IMAGE_TYPE item
-pub suiting-typed : (cpu : Cpu) (loop : List BlockView) (b : BlockView) → last_suiting cpu loop ≡ Some b → has_image_type b ≡ true
+pub suiting-typed : (cpu : Cpu) (loop : List BlockView) (b : BlockView) → last_suiting cpu loop ≡ Some b
+    → has_image_type b ≡ true
 suiting-typed cpu loop b is = suits-type cpu b (last-found (does_suit cpu) loop b is).here
 
 typed-if : (o : Option BlockView) (cpu : Cpu) (loop : List BlockView) → o ≡ last_suiting cpu loop

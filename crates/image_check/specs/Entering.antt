@@ -20,7 +20,8 @@ abbrev pub IsIn : ℕ → ℕ → ℕ → Type 0
 IsIn address at size = (at ≤ address) × (address < at + size)
 
 -- SP and PC are the two words at the table's address, SP first, and the limit is 0
-pub record IsTabled (base : ℕ) (bytes : List ℕ) (loads : List Load) (table : ℕ) (source : Source) : Type 0 where
+pub record IsTabled (base : ℕ) (bytes : List ℕ) (loads : List Load) (table : ℕ)
+    (source : Source) : Type 0 where
   pub sp : word_at base bytes loads table ≡ Some source.entry.sp
   pub pc : word_at base bytes loads (table + 4) ≡ Some source.entry.pc
   pub limit : source.entry.limit ≡ 0
@@ -30,16 +31,20 @@ pub record IsTabled (base : ℕ) (bytes : List ℕ) (loads : List Load) (table :
 abbrev pub table_address : ℕ → Def → ℕ
 table_address base def = unwrap_or def.vector base
 
--- where PC, SP and the limit come from: an ENTRY_POINT item gives them; otherwise Arm takes PC and SP
--- from the vector table; otherwise RISC-V starts at the window's first byte with SP at SRAM's end
+-- where PC, SP and the limit come from: an ENTRY_POINT item gives them; otherwise Arm takes PC and
+-- SP from the vector table; otherwise RISC-V starts at the window's first byte with SP at SRAM's
+-- end
 abbrev pub IsSource : ℕ → List ℕ → Cpu → Def → List Load → Option EntryPoint → Source → Type 0
-IsSource base bytes cpu def loads (Some entry) source = source ≡ record { entry = entry; table = None }
-IsSource base bytes Arm def loads None source = IsTabled base bytes loads (table_address base def) source
+IsSource base bytes cpu def loads (Some entry) source =
+    source ≡ record { entry = entry; table = None }
+IsSource base bytes Arm def loads None source =
+    IsTabled base bytes loads (table_address base def) source
 IsSource base bytes Riscv def loads None source =
     source ≡ record { entry = record { pc = base; sp = SRAM_END; limit = 0 }; table = None }
 
 -- PC and SP come from the vector table, and one of its eight bytes is not given
-pub record LacksTable (base : ℕ) (bytes : List ℕ) (cpu : Cpu) (def : Def) (loads : List Load) : Type 0 where
+pub record LacksTable (base : ℕ) (bytes : List ℕ) (cpu : Cpu) (def : Def)
+    (loads : List Load) : Type 0 where
   pub no_item : def.entry_point ≡ None
   pub processor : cpu ≡ Arm
   pub place : ℕ
@@ -60,7 +65,8 @@ IsRunnable base n source =
     ⊎ IsIn (code_address source.entry.pc) SRAM_START (SRAM_END - SRAM_START)
 
 -- the entry is found and is right
-pub record IsEntry (base : ℕ) (bytes : List ℕ) (cpu : Cpu) (b : BlockView) (def : Def) (loads : List Load) (entry : EntryPoint) : Type 0 where
+pub record IsEntry (base : ℕ) (bytes : List ℕ) (cpu : Cpu) (b : BlockView) (def : Def)
+    (loads : List Load) (entry : EntryPoint) : Type 0 where
   pub source : Source
   pub found : IsSource base bytes cpu def loads def.entry_point source
   pub apart : MeetsBlock base b source → ⊥
@@ -71,7 +77,8 @@ pub record IsEntry (base : ℕ) (bytes : List ℕ) (cpu : Cpu) (b : BlockView) (
 abbrev pub IsEntryFault : ℕ → List ℕ → Cpu → BlockView → Def → List Load → EntryFault → Type 0
 IsEntryFault base bytes cpu b def loads Table = LacksTable base bytes cpu def loads
 IsEntryFault base bytes cpu b def loads InBlock =
-    (source : Source) × IsSource base bytes cpu def loads def.entry_point source × MeetsBlock base b source
+    (source : Source) × IsSource base bytes cpu def loads def.entry_point source
+    × MeetsBlock base b source
 IsEntryFault base bytes cpu b def loads Pc =
     (source : Source) × IsSource base bytes cpu def loads def.entry_point source
     × (MeetsBlock base b source → ⊥) × (IsRunnable base (length bytes) source → ⊥)

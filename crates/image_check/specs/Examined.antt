@@ -1,5 +1,5 @@
--- The image of a window before its digest is made: what every rule before the digest rule lets pass.
--- This project's own.
+-- The image of a window before its digest is made: what every rule before the digest rule lets
+-- pass. This project's own.
 use Rattle.std.specs.Prelude.{ℕ, Bool, List, length, Result, Ok, Err}
 use Rattle.arrayvec.specs.ArrayVec.{ArrayVec}
 use Rattle.pico_board.specs.declared.boot.Cpu.{Cpu}
@@ -17,14 +17,20 @@ use Rattle.image_check.specs.Rules.{delta_fault, digest_fault, entry_answer, map
 
 -- the trial rule and the rollback rule, in this order
 abbrev pub admitted_in : Bool → List ℕ → Def → Result (Unit {0}) Why
-admitted_in trial otp def = and_unless (trial_fault trial def) (and_unless (rollback_fault otp def) (Ok tt))
+admitted_in trial otp def =
+    and_unless (trial_fault trial def) (and_unless (rollback_fault otp def) (Ok tt))
 
 -- the map rule and the entry rule, in this order
 abbrev pub loaded_in : Addressing → Cpu → List ℕ → Defined → Result Candidate Why
 loaded_in a cpu bytes image =
     and_then (map_answer a (length bytes) image.block image.def) (λ loads.
     and_then (entry_answer a.base bytes cpu image.block image.def loads) (λ entry.
-    Ok (record { block = image.block; def = image.def; loads = record { items = loads }; entry = entry })))
+    Ok (record {
+      block = image.block;
+      def = image.def;
+      loads = record { items = loads };
+      entry = entry;
+    })))
 
 -- the image that the rules before the digest rule let pass, or the answer of the first that fails
 unfoldable pub examined_in : Addressing → Cpu → Bool → List ℕ → List ℕ → Result Candidate Why

@@ -48,8 +48,9 @@ def_with vector rollback rows = record {
 abbrev pub otp_with : ℕ → ℕ → ℕ → ℕ → List ℕ
 otp_with flags a b c = replicate 0x048 0 ++ (flags ∷ (replicate 0x077 0 ++ (a ∷ b ∷ c ∷ [])))
 
--- the bytes of a window of 64: a vector table whose PC has these bytes 0, 1 and 3, and behind it a block of version 9.0 whose
--- IMAGE_TYPE item has this fourth byte, 0x10 or, with the trial bit, 0x90
+-- the bytes of a window of 64: a vector table whose PC has these bytes 0, 1 and 3, and behind it a
+-- block of version 9.0 whose IMAGE_TYPE item has this fourth byte, 0x10 or, with the trial bit,
+-- 0x90
 abbrev pub window_of : ℕ → ℕ → ℕ → ℕ → List ℕ
 window_of first second fourth high =
     0x00 ∷ 0x20 ∷ 0x08 ∷ 0x20 ∷ first ∷ second ∷ 0x00 ∷ fourth
@@ -77,11 +78,12 @@ version_nine pc trial = record {
   trial = trial;
 }
 
--- the bytes of a window that begins with SP at SRAM's end and this PC, and has at offset 8 a block of
--- these item words and this link word
+-- the bytes of a window that begins with SP at SRAM's end and this PC, and has at offset 8 a block
+-- of these item words and this link word
 abbrev pub window_with : ℕ → List ℕ → ℕ → List ℕ
 window_with pc items link =
-    bytes_of (0x20082000 ∷ pc ∷ 0xffffded3 ∷ items ++ ((0xff + 256 * length items) ∷ link ∷ 0xab123579 ∷ []))
+    bytes_of (0x20082000 ∷ pc ∷ 0xffffded3 ∷ items
+    ++ ((0xff + 256 * length items) ∷ link ∷ 0xab123579 ∷ []))
 
 -- a PC in SRAM, which is right, and one that lies nowhere
 abbrev pub right_pc : ℕ
@@ -144,4 +146,58 @@ riscv_record pc = record {
   rollback = None;
   rows = record { items = [] };
   trial = false;
+}
+
+-- a HASH_DEF item of four words and a HASH_VALUE item of these words
+abbrev pub hash_of_four : List ℕ → List ℕ
+hash_of_four digest = 0x01000247 ∷ 4 ∷ 0x0000094b ∷ digest
+
+-- the SHA-256 of the words 0xffffded3, 0x10210142, 0x01000247 and 4, by another implementation
+abbrev pub plain_digest : List ℕ
+plain_digest =
+    0x37eb49aa ∷ 0xea5343e8 ∷ 0x0d4a581d ∷ 0xf4f07a93 ∷ 0x84764554 ∷ 0xab6af94f ∷ 0x9e0bb5e1
+    ∷ 0x9f01d02c ∷ []
+
+-- a LOAD_MAP item of one relative entry of these three words
+abbrev pub map_of : ℕ → ℕ → ℕ → List ℕ
+map_of place runtime size = 0x01000406 ∷ place ∷ runtime ∷ size ∷ []
+
+-- the SHA-256 of a window's first eight bytes, with SP 0x20082000 and PC 0x20000001, and of the
+-- words 0xffffded3, 0x10210142, 0x01000406 and 0xfffffff0
+abbrev pub stored_digest : List ℕ
+stored_digest =
+    0x8b4fed16 ∷ 0x03d2ea4a ∷ 0x52b2a4a5 ∷ 0x94facbde ∷ 0xb6599bf9 ∷ 0xe9d367c1 ∷ 0x36841b81
+    ∷ 0xe11e6ade ∷ []
+
+-- the SHA-256 of the words 16, 0xffffded3, 0x10210142, 0x01000406 and 0
+abbrev pub clear_digest : List ℕ
+clear_digest =
+    0x356bd2b8 ∷ 0x2b465944 ∷ 0x52ac124a ∷ 0xb0d84eb6 ∷ 0xb75e3e00 ∷ 0x5a927766 ∷ 0x174398cc
+    ∷ 0xde89dd8c ∷ []
+
+-- the SHA-256 of the word 16, of those eight bytes, and of the words 0xffffded3, 0x10210142,
+-- 0x02000706 and 0
+abbrev pub both_digest : List ℕ
+both_digest =
+    0x1b1a6a53 ∷ 0xb1e31360 ∷ 0x0adf5098 ∷ 0xcd1b6a0d ∷ 0x96bb4178 ∷ 0x5529406e ∷ 0x29f10e29
+    ∷ 0x2601f8ec ∷ []
+
+-- a LOAD_MAP item of a clear entry of 16 bytes and of the window's first eight bytes
+abbrev pub map_of_both : List ℕ
+map_of_both =
+    0x02000706 ∷ 0 ∷ 0x20000000 ∷ 16 ∷ 0xfffffff0 ∷ 0x10000000 ∷ 8 ∷ []
+
+-- the record of an Arm image without version and rows that starts here, with its trial bit or not
+abbrev pub arm_record : ℕ → Bool → Started
+arm_record pc trial = record {
+  window = window_at_two;
+  block = 8;
+  image_at = 12;
+  pc = pc;
+  sp = 0x20082000;
+  limit = 0;
+  version = no_version;
+  rollback = None;
+  rows = record { items = [] };
+  trial = trial;
 }

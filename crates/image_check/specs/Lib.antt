@@ -9,4 +9,5 @@ pub mod Valid
 pub mod WhyNot
 pub mod SameImage
 pub mod NotBelow
+pub mod Changes
 pub mod Examples

@@ -35,7 +35,8 @@ loop_answer (Err fault) = Err (Loop fault)
 -- definition and processor: some block of the loop has an IMAGE_TYPE item, and some block suits
 abbrev pub definition_answer : Cpu → List BlockView → Result BlockView Why
 definition_answer cpu loop =
-    if list_any has_image_type loop then or_fault (last_suiting cpu loop) NotForProcessor else Err NoDefinition
+    if list_any has_image_type loop then or_fault (last_suiting cpu loop) NotForProcessor
+    else Err NoDefinition
 
 -- items: the definition's items are read
 abbrev pub items_answer : BlockView → Result Def Why
@@ -53,7 +54,8 @@ required_fault required rows = None
 -- and its rollback version, where it has one, is not below the count of its rows
 abbrev pub below_fault : Option ℕ → ℕ → Option Why
 below_fault None raised = None
-below_fault (Some version) raised = if nat_lt version raised then Some (Below version raised) else None
+below_fault (Some version) raised =
+    if nat_lt version raised then Some (Below version raised) else None
 
 abbrev pub rollback_fault : List ℕ → Def → Option Why
 rollback_fault otp def =

@@ -28,10 +28,11 @@ AgreeOnLoad one two (Some start) size = AgreeFrom one two start (start + size)
 
 -- the bytes of the storage of each of the loads are the same in both
 abbrev pub AgreeOnLoads : List ℕ → List ℕ → List Load → Type 0
-AgreeOnLoads one two loads = AllByRecursion (λ (load : Load). AgreeOnLoad one two load.storage load.size) loads
+AgreeOnLoads one two loads =
+    AllByRecursion (λ (load : Load). AgreeOnLoad one two load.storage load.size) loads
 
--- what an image loads is the same in both: the storage of its load map, or the whole window where it
--- has no map
+-- what an image loads is the same in both: the storage of its load map, or the whole window where
+-- it has no map
 abbrev pub AgreeOnStorage : List ℕ → List ℕ → Option ℕ → List Load → Type 0
 AgreeOnStorage one two None loads = AgreeFrom one two 0 (length one)
 AgreeOnStorage one two (Some item) loads = AgreeOnLoads one two loads
@@ -43,8 +44,9 @@ pub record Holds (cpu : Cpu) (bytes : List ℕ) (s : Started) : Type 0 where
   pub sound : IsSound in_flash cpu bytes image entry
   pub started : s ≡ started_of s.window image entry
 
--- the first of two windows with these bytes holds the image s, and the second one has the same bytes
--- in each block of its loop and in the storage of its load map, or everywhere where it has no map
+-- the first of two windows with these bytes holds the image s, and the second one has the same
+-- bytes in each block of its loop and in the storage of its load map, or everywhere where it has no
+-- map
 pub record HoldSameImage (cpu : Cpu) (one two : List ℕ) (s : Started) : Type 0 where
   pub held : Holds cpu one s
   pub long : length two ≡ length one

@@ -35,7 +35,8 @@ pub record IsLastWith {X : Type 0} (passes : X → Bool) (xs : List X) (x : X) :
 
 -- the rules first block, loop, definition, processor and items hold: the window's loop closes, its
 -- last block that suits the processor is the definition, and that is read without a fault
-pub record IsDefined (cpu : Cpu) (bytes : List ℕ) (loop : List BlockView) (image : Defined) : Type 0 where
+pub record IsDefined (cpu : Cpu) (bytes : List ℕ) (loop : List BlockView)
+    (image : Defined) : Type 0 where
   pub closes : IsLoop bytes loop
   pub defines : IsLastWith (does_suit cpu) loop image.block
   pub items : def_of image.block ≡ Ok image.def
@@ -44,7 +45,8 @@ pub record IsDefined (cpu : Cpu) (bytes : List ℕ) (loop : List BlockView) (ima
 abbrev pub MayBeTried : Bool → Def → Type 0
 MayBeTried allowed def = is_trial def.flags ≡ true → allowed ≡ true
 
--- the first half of the rollback rule: where the OTP requires rollback versions the image lists rows
+-- the first half of the rollback rule: where the OTP requires rollback versions the image lists
+-- rows
 abbrev pub ListsRequiredRows : List ℕ → Def → Type 0
 ListsRequiredRows otp def = rollback_required otp ≡ true → def.rows.items ≢ []
 
@@ -58,7 +60,8 @@ HasItsDigest bytes image loads =
     IfSome image.def.digest (λ value. value ≡ covered_digest bytes image.block image.def loads)
 
 -- the rules that read the window's bytes alone hold: all but the trial and the rollback rule
-pub record IsSound (a : Addressing) (cpu : Cpu) (bytes : List ℕ) (image : Defined) (entry : EntryPoint) : Type 0 where
+pub record IsSound (a : Addressing) (cpu : Cpu) (bytes : List ℕ) (image : Defined)
+    (entry : EntryPoint) : Type 0 where
   pub loop : List BlockView
   pub loads : List Load
   pub defined : IsDefined cpu bytes loop image
@@ -68,7 +71,8 @@ pub record IsSound (a : Addressing) (cpu : Cpu) (bytes : List ℕ) (image : Defi
   pub delta : image.def.delta ≡ pos 0
 
 -- all the rules hold of the window's bytes and the OTP, and s is the record of that image
-pub record IsValidImage (a : Addressing) (window : Window) (cpu : Cpu) (trial : Bool) (otp bytes : List ℕ) (s : Started) : Type 0 where
+pub record IsValidImage (a : Addressing) (window : Window) (cpu : Cpu) (trial : Bool)
+    (otp bytes : List ℕ) (s : Started) : Type 0 where
   pub image : Defined
   pub entry : EntryPoint
   pub sound : IsSound a cpu bytes image entry
@@ -83,7 +87,8 @@ Valid c window cpu trial s = IsValidImage in_flash window cpu trial c.otp (windo
 
 -- a record says what the image's definition and entry say: where the definition stands, where its
 -- IMAGE_TYPE item does, PC, SP and limit, version, rollback version and rows, and the trial bit
-pub record IsRecordOfImage (a : Addressing) (window : Window) (cpu : Cpu) (bytes : List ℕ) (s : Started) : Type 0 where
+pub record IsRecordOfImage (a : Addressing) (window : Window) (cpu : Cpu) (bytes : List ℕ)
+    (s : Started) : Type 0 where
   pub loop : List BlockView
   pub loads : List Load
   pub image : Defined

@@ -1,5 +1,5 @@
--- Why a window holds no valid image, in the words of the rules: the answer is that of the first rule
--- that fails, where those before it hold. This project's own where the datasheet is open.
+-- Why a window holds no valid image, in the words of the rules: the answer is that of the first
+-- rule that fails, where those before it hold. This project's own where the datasheet is open.
 use Rattle.std.specs.Prelude.{◌≡◌, ◌≢◌, ℕ, ◌<◌, Bool, true, false, List, length, pos, Any, Some, Ok, Err}
 use Rattle.std.specs.List.{AllByRecursion}
 use Rattle.pico_board.specs.declared.boot.Cpu.{Cpu}
@@ -29,18 +29,21 @@ pub record IsTried (cpu : Cpu) (trial : Bool) (bytes : List ℕ) (image : Define
   pub tried : MayBeTried trial image.def
 
 -- the rules up to the rollback rule hold
-pub record IsAdmitted (cpu : Cpu) (trial : Bool) (otp bytes : List ℕ) (image : Defined) : Type 0 where
+pub record IsAdmitted (cpu : Cpu) (trial : Bool) (otp bytes : List ℕ)
+    (image : Defined) : Type 0 where
   pub tried : IsTried cpu trial bytes image
   pub listed : ListsRequiredRows otp image.def
   pub reached : ReachesItsRows otp image.def
 
 -- the rules up to the map rule hold
-pub record IsLoaded (a : Addressing) (cpu : Cpu) (trial : Bool) (otp bytes : List ℕ) (image : Defined) (loads : List Load) : Type 0 where
+pub record IsLoaded (a : Addressing) (cpu : Cpu) (trial : Bool) (otp bytes : List ℕ)
+    (image : Defined) (loads : List Load) : Type 0 where
   pub admitted : IsAdmitted cpu trial otp bytes image
   pub map : map_loads a (length bytes) image.block image.def ≡ Ok loads
 
 -- the rules up to the entry rule hold
-pub record IsEntered (a : Addressing) (cpu : Cpu) (trial : Bool) (otp bytes : List ℕ) (image : Defined) (loads : List Load) : Type 0 where
+pub record IsEntered (a : Addressing) (cpu : Cpu) (trial : Bool) (otp bytes : List ℕ)
+    (image : Defined) (loads : List Load) : Type 0 where
   pub loaded : IsLoaded a cpu trial otp bytes image loads
   pub entry : EntryPoint
   pub enters : IsEntry a.base bytes cpu image.block image.def loads entry
@@ -61,11 +64,13 @@ abbrev pub IsWhyNot : Addressing → Cpu → Bool → List ℕ → List ℕ → 
 IsWhyNot a cpu trial otp bytes NoBlock = IsFault bytes NoFirst
 IsWhyNot a cpu trial otp bytes (Loop fault) = (fault ≢ NoFirst) × IsFault bytes fault
 IsWhyNot a cpu trial otp bytes NoDefinition =
-    (loop : List BlockView) × IsLoop bytes loop × AllByRecursion (λ b. has_image_type b ≡ false) loop
+    (loop : List BlockView) × IsLoop bytes loop
+    × AllByRecursion (λ b. has_image_type b ≡ false) loop
 IsWhyNot a cpu trial otp bytes NotForProcessor =
     (loop : List BlockView) × IsLoop bytes loop × SuitsAnother cpu loop
 IsWhyNot a cpu trial otp bytes (Items fault) =
-    (loop : List BlockView) × (b : BlockView) × IsLoop bytes loop × IsLastWith (does_suit cpu) loop b
+    (loop : List BlockView) × (b : BlockView) × IsLoop bytes loop
+    × IsLastWith (does_suit cpu) loop b
     × (def_of b ≡ Err fault)
 IsWhyNot a cpu trial otp bytes Trial =
     (loop : List BlockView) × (image : Defined) × IsDefined cpu bytes loop image

@@ -51,7 +51,10 @@ fn digest_fault<V: View>(view: &V, pool: &mut SectorPool, candidate: &Candidate)
 /// The record of an image in its window.
 fn started_of(window: Window, candidate: &Candidate) -> Started
     requires sound { IsDefinition candidate.now.block candidate.now.def }
-    ensures { result ≡ started_of window (record { block = candidate.now.block; def = candidate.now.def })
+    ensures { result ≡ started_of window (record {
+      block = candidate.now.block;
+      def = candidate.now.def;
+    })
         candidate.now.entry }
 {
     let def = &candidate.def;
@@ -93,10 +96,10 @@ pub fn confirm<V: View>(
     Ok(started_of(window, candidate))
 }
 
-/// The image of a view, or the answer of the first rule that fails. The view's first byte is seen at
-/// the address of `addressing`, the window is what the record names, and a trial image is allowed
-/// where `trial_ok` is true. A digest is made only where every rule before it holds. It takes no
-/// memory, and the pool keeps what is out.
+/// The image of a view, or the answer of the first rule that fails. The view's first byte is seen
+/// at the address of `addressing`, the window is what the record names, and a trial image is
+/// allowed where `trial_ok` is true. A digest is made only where every rule before it holds. It
+/// takes no memory, and the pool keeps what is out.
 pub fn check_view<B: Board, V: View>(
     board: &B,
     pool: &mut SectorPool,
@@ -109,7 +112,8 @@ pub fn check_view<B: Board, V: View>(
     requires power { IsTrue (B.state board.now).powered }
     requires free { HasFree pool.old }
     requires room { addressing.base + length (V.bytes view.now) ≤ 2 ^ 32 }
-    ensures exact { result ≡ image_in addressing window cpu trial_ok (B.state board.now).content.otp (V.bytes view.now) }
+    ensures exact { result ≡ image_in addressing window cpu trial_ok (B.state board.now).content.otp
+        (V.bytes view.now) }
     ensures kept { KeepsOut pool.old pool.new }
 {
     match examine(board, view, addressing, cpu, trial_ok) {
@@ -120,8 +124,8 @@ pub fn check_view<B: Board, V: View>(
 
 /// The image of a window of a flash, or the answer of the first rule that fails, with a trial image
 /// allowed where `trial_ok` is true (RP2350 Datasheet, chapter 5, Bootrom; this project's own where
-/// the datasheet is open). A digest is made only where every rule before it holds. It takes no memory,
-/// and the pool keeps what is out.
+/// the datasheet is open). A digest is made only where every rule before it holds. It takes no
+/// memory, and the pool keeps what is out.
 pub fn check<B: Board>(
     board: &B,
     pool: &mut SectorPool,
@@ -133,9 +137,12 @@ pub fn check<B: Board>(
     requires free { HasFree pool.old }
     requires inside { window.start + window.len ≤ length (B.state board.now).content.flash }
     ensures exact { result ≡ image_at (B.state board.now).content window cpu trial_ok }
-    ensures valid { (s : Started) → (result ≡ Ok s) ↔ Valid (B.state board.now).content window cpu trial_ok s }
-    ensures why_not { (y : Why) → (result ≡ Err y) ↔ WhyNot (B.state board.now).content window cpu trial_ok y }
-    ensures held { IfOk result (λ s. Holds cpu (window_bytes (B.state board.now).content window) s) }
+    ensures valid { (s : Started) → (result ≡ Ok s)
+        ↔ Valid (B.state board.now).content window cpu trial_ok s }
+    ensures why_not { (y : Why) → (result ≡ Err y)
+        ↔ WhyNot (B.state board.now).content window cpu trial_ok y }
+    ensures held { IfOk result (λ s. Holds cpu
+        (window_bytes (B.state board.now).content window) s) }
     ensures window { IfOk result (λ s. s.window ≡ window) }
     ensures kept { KeepsOut pool.old pool.new }
 {

@@ -48,7 +48,8 @@ fn source_of<V: View>(
 ) -> Result<Source, EntryFault>
     requires stored { AreStoredIn (length (V.bytes view.now)) loads.now.items }
     requires room { base + length (V.bytes view.now) ≤ 2 ^ 32 }
-    ensures { result ≡ source_of base (V.bytes view.now) cpu def.now loads.now.items def.now.entry_point }
+    ensures { result ≡ source_of base (V.bytes view.now) cpu def.now loads.now.items
+        def.now.entry_point }
 {
     if let Some(entry) = def.entry_point {
         return Ok(Source { entry, table: None });
@@ -120,8 +121,8 @@ fn is_runnable(base: u32, size: u32, source: &Source) -> bool
         || is_within(code, u64::from(SRAM_START), SRAM_END - SRAM_START)
 }
 
-/// The entry of the image that the block defines, or its first fault. The loads are those of its load
-/// map, and `base` is the address of the window's first byte.
+/// The entry of the image that the block defines, or its first fault. The loads are those of its
+/// load map, and `base` is the address of the window's first byte.
 pub(crate) fn entry_of<V: View>(
     view: &V,
     base: u32,

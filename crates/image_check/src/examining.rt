@@ -116,8 +116,8 @@ fn definition_in<V: View>(view: &V, found: &BlockLoop, cpu: Cpu) -> Result<Block
     seen.suiting.ok_or(Why::NotForProcessor)
 }
 
-/// The definition of the window's image and what it says, or the answer of the first of the rules on
-/// the loop, the definition, the processor and the items.
+/// The definition of the window's image and what it says, or the answer of the first of the rules
+/// on the loop, the definition, the processor and the items.
 pub(crate) fn defined_in<V: View>(view: &V, cpu: Cpu) -> Result<Defined, Why>
     ensures exact { result ≡ defined_in cpu (V.bytes view.now) }
     ensures sound { IfOk result (λ image. IsDefinition image.block image.def) }
@@ -231,8 +231,8 @@ fn load<V: View>(
     }
 }
 
-/// The image of the view before its digest is made, or the answer of the first rule that fails: every
-/// rule before the digest rule is judged. The view's first byte is seen at the address of
+/// The image of the view before its digest is made, or the answer of the first rule that fails:
+/// every rule before the digest rule is judged. The view's first byte is seen at the address of
 /// `addressing`, and a trial image is allowed where `trial_ok` is true.
 #[tactic(auto, unfolding(crate::specs::Examined::examined_in))]
 pub fn examine<B: Board, V: View>(
@@ -244,7 +244,8 @@ pub fn examine<B: Board, V: View>(
 ) -> Result<Candidate, Why>
     requires power { IsTrue (B.state board.now).powered }
     requires room { addressing.base + length (V.bytes view.now) ≤ 2 ^ 32 }
-    ensures exact { result ≡ examined_in addressing cpu trial_ok (B.state board.now).content.otp (V.bytes view.now) }
+    ensures exact { result ≡ examined_in addressing cpu trial_ok (B.state board.now).content.otp
+        (V.bytes view.now) }
     ensures sound { IfOk result (λ c. IsDefinition c.block c.def) }
     ensures stored { IfOk result (λ c. AreStoredIn (length (V.bytes view.now)) c.loads.items) }
 {

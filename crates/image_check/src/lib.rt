@@ -1,18 +1,20 @@
 //! Whether a window of the RP2350's flash holds an image that may start, and why not.
 //!
 //! `specs/` has the rules one by one (`Rules`), the entry (`Entry`), a valid image as a conjunction
-//! and the first failing rule (`Valid`), and what it means that two windows hold the same image
-//! (`SameImage`).
+//! and the first failing rule (`Valid`, `WhyNot`), what it means that two windows hold the same
+//! image (`SameImage`), and the same image in another window and without its trial bit (`Changes`).
 #![tactic(auto)]
 
 mod addressing;
 mod checking;
+pub mod digests;
 mod entry;
 mod examining;
 pub mod examples;
 pub mod laws;
 pub mod orders;
 mod same;
+pub mod same_images;
 mod why;
 
 pub use addressing::Addressing;

@@ -1,5 +1,5 @@
-//! Worked examples of windows that break two rules: the first of them answers. Each is the `ensures`
-//! of a function that does nothing.
+//! Worked examples of windows that break two rules: the first of them answers. Each is the
+//! `ensures` of a function that does nothing.
 
 ghost use Rattle.std.specs.Prelude.{◌≡◌, ◌++◌, [], ◌∷◌, true, false, Ok, Err};
 ghost use Rattle.pico_board.specs.declared.boot.Cpu.TheVariants.{Arm, Riscv};
@@ -12,11 +12,13 @@ ghost use Rattle.image_check.specs.Addressing.{in_flash, in_ram};
 ghost use Rattle.image_check.specs.Examples.{arm_type, delta_four, otp_with, riscv_record, riscv_type, right_pc, stray_pc, three_record, trial_type, version_three, window_at_two, window_with, wrong_hash, wrong_map};
 ghost use Rattle.image_check.specs.Image.{image_in};
 
-/// A loop that does not close before a window without a definition; no definition before none for the
-/// processor; that before items that are not read; and those before a trial that is not allowed.
+/// A loop that does not close before a window without a definition; no definition before none for
+/// the processor; that before items that are not read; and those before a trial that is not
+/// allowed.
 #[tactic(auto, unfolding(crate::specs::Image::image_in, image_def::specs::Definition::def_of, block_loop::specs::Loop::loop_of, block_loop::specs::Loop::follow, block_loop::specs::Loop::first_from, block_codec::specs::Blocks::block_at, block_codec::specs::Blocks::front_block, block_codec::specs::Blocks::item_words, block_codec::specs::Blocks::frame, block_codec::specs::Items::size_of, block_codec::specs::Words::word_of, block_codec::specs::Words::word_bytes))]
 pub fn from_the_loop_to_the_trial()
-    ensures no_block { image_in in_flash window_at_two Arm false (otp_with 1 0 0 0) [] ≡ Err NoBlock }
+    ensures no_block { image_in in_flash window_at_two Arm false (otp_with 1 0 0 0) []
+        ≡ Err NoBlock }
     ensures loop_ { image_in in_flash window_at_two Arm false (otp_with 1 0 0 0)
         (window_with stray_pc [] 4) ≡ Err (Loop (Broken 8)) }
     ensures definition { image_in in_flash window_at_two Arm false (otp_with 1 0 0 0)
@@ -27,9 +29,9 @@ pub fn from_the_loop_to_the_trial()
         (window_with stray_pc (trial_type ∷ trial_type ∷ []) 0) ≡ Err (Items (Repeated 0x42)) }
 {}
 
-/// A trial before missing rows; missing rows and a version below its rows before a wrong map; a wrong
-/// map before a wrong entry; and a vector table that is not given, or that meets the block, before a
-/// PC that lies nowhere.
+/// A trial before missing rows; missing rows and a version below its rows before a wrong map; a
+/// wrong map before a wrong entry; and a vector table that is not given, or that meets the block,
+/// before a PC that lies nowhere.
 #[tactic(auto, unfolding(crate::specs::Image::image_in, image_def::specs::Definition::def_of, block_loop::specs::Loop::loop_of, block_loop::specs::Loop::follow, block_loop::specs::Loop::first_from, block_codec::specs::Blocks::block_at, block_codec::specs::Blocks::front_block, block_codec::specs::Blocks::item_words, block_codec::specs::Blocks::frame, block_codec::specs::Items::size_of, block_codec::specs::Words::word_of, block_codec::specs::Words::word_bytes))]
 pub fn from_the_trial_to_the_entry()
     ensures trial { image_in in_flash window_at_two Arm false (otp_with 1 0 0 0)
@@ -50,8 +52,8 @@ pub fn from_the_trial_to_the_entry()
         (window_with right_pc (arm_type ∷ delta_four) 0) ≡ Err Delta }
 {}
 
-/// An image with a rollback version and a row; a RISC-V image, which starts at the first byte of its
-/// window, in flash and in RAM.
+/// An image with a rollback version and a row; a RISC-V image, which starts at the first byte of
+/// its window, in flash and in RAM.
 #[tactic(auto, unfolding(crate::specs::Image::image_in, image_def::specs::Definition::def_of, block_loop::specs::Loop::loop_of, block_loop::specs::Loop::follow, block_loop::specs::Loop::first_from, block_codec::specs::Blocks::block_at, block_codec::specs::Blocks::front_block, block_codec::specs::Blocks::item_words, block_codec::specs::Blocks::frame, block_codec::specs::Items::size_of, block_codec::specs::Words::word_of, block_codec::specs::Words::word_bytes))]
 pub fn whole_records()
     ensures rows { image_in in_flash window_at_two Arm false (otp_with 1 0x7 0x7 0x7)

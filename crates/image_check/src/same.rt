@@ -29,7 +29,8 @@ fn same_piece<V: View, W: View>(
     requires long { length second.old ≡ length first.old }
     requires in_one { at + length first.old ≤ length (V.bytes one.now) }
     requires in_two { at + length first.old ≤ length (W.bytes two.now) }
-    ensures { (result ≡ true) ↔ AgreeFrom (V.bytes one.now) (W.bytes two.now) at (at + length first.old) }
+    ensures { (result ≡ true) ↔ AgreeFrom (V.bytes one.now) (W.bytes two.now) at
+        (at + length first.old) }
 {
     one.read(at, first);
     two.read(at, second);
@@ -82,7 +83,8 @@ fn same_blocks<V: View, W: View>(one: &V, two: &W, found: &BlockLoop) -> bool
 fn same_load<V: View, W: View>(one: &V, two: &W, load: &Load) -> bool
     requires stored { IsStoredIn (length (V.bytes one.now)) load.now.storage load.now.size }
     requires long { length (W.bytes two.now) ≡ length (V.bytes one.now) }
-    ensures { (result ≡ true) ↔ AgreeOnLoad (V.bytes one.now) (W.bytes two.now) load.now.storage load.now.size }
+    ensures { (result ≡ true) ↔ AgreeOnLoad (V.bytes one.now)
+        (W.bytes two.now) load.now.storage load.now.size }
 {
     match load.storage {
         Some(start) => same_range(one, two, start, load.size),
@@ -118,9 +120,9 @@ fn same_storage<V: View, W: View>(one: &V, two: &W, def: &Def, loads: &Loads) ->
     }
 }
 
-/// Whether the second view has the same bytes as the first on all places of the image that the first
-/// one holds: in the blocks of its loop, and in the storage of its load map, or everywhere where it
-/// has no map. The views are compared in pieces of whole sectors. It takes no memory.
+/// Whether the second view has the same bytes as the first on all places of the image that the
+/// first one holds: in the blocks of its loop, and in the storage of its load map, or everywhere
+/// where it has no map. The views are compared in pieces of whole sectors. It takes no memory.
 pub fn same_content<V: View, W: View>(one: &V, two: &W, started: &Started, cpu: Cpu) -> bool
     requires long { length (W.bytes two.now) ≡ length (V.bytes one.now) }
     requires held { Holds cpu (V.bytes one.now) started.now }

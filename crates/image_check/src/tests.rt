@@ -7,7 +7,7 @@ use super::*;
 use block_loop::LoopFault;
 use image_def::DefFault;
 use load_map::MapFault;
-use pico_board::{Board, Cpu, FlashView, MemBoard, View, Window};
+use pico_board::{Board, Cpu, FlashView, MemBoard, SliceView, View, Window};
 use sector_pool::SectorPool;
 use std::alloc::{AllocError, Global};
 use std::process::Abort;
@@ -51,22 +51,58 @@ fn flash_with(alloc: Global, words: &[u32]) -> Result<Vec<u8>, AllocError> {
     Ok(flash)
 }
 
+/// The rows of an OTP that are not 0: row 0x048, and the triple from row 0x0c0 on.
+#[derive(Drop)]
+struct Rows {
+    flags: u32,
+    triple: [u32; 3],
+}
+
+/// No row is raised.
+const CLEAR: Rows = Rows {
+    flags: 0,
+    triple: [0; 3],
+};
+
+/// A powered board of this flash and of these OTP rows.
+fn board_on(alloc: Global, flash: Vec<u8>, raised: &Rows) -> Result<MemBoard, Fail>
+    ensures power { IfOk result (λ board. IsTrue (state_of board).powered) }
+{
+    let mut rows = vec![in alloc; 0; 4096]?;
+    rows[0x048] = raised.flags;
+    rows[0x0c0] = raised.triple[0];
+    rows[0x0c1] = raised.triple[1];
+    rows[0x0c2] = raised.triple[2];
+    Ok(MemBoard::new(alloc, flash, rows)?)
+}
+
 /// A powered board of this flash and of an OTP of zeros.
 fn board_of(alloc: Global, flash: Vec<u8>) -> Result<MemBoard, Fail>
     ensures power { IfOk result (λ board. IsTrue (state_of board).powered) }
 {
-    let rows = vec![in alloc; 0; 4096]?;
-    Ok(MemBoard::new(alloc, flash, rows)?)
+    board_on(alloc, flash, &CLEAR)
 }
 
-/// What the check of the whole flash answers, where it has these words at 0x100; the pool is free again.
+/// What the check of the whole flash answers, where it has these words at 0x100; the pool is free
+/// again.
 fn checked(
     rt: &impl Abort,
     alloc: Global,
     words: &[u32],
     cpu: Cpu,
 ) -> Result<Result<Started, Why>, Fail> {
-    let board = board_of(alloc, flash_with(alloc, words)?)?;
+    checked_on(rt, alloc, words, cpu, &CLEAR)
+}
+
+/// The same on an OTP with these rows.
+fn checked_on(
+    rt: &impl Abort,
+    alloc: Global,
+    words: &[u32],
+    cpu: Cpu,
+    rows: &Rows,
+) -> Result<Result<Started, Why>, Fail> {
+    let board = board_on(alloc, flash_with(alloc, words)?, rows)?;
     let mut pool = SectorPool::make(alloc, 1)?;
     assert!(rt; pool.free() == 1);
     assert!(rt; board.flash_len() == 8192);
@@ -143,6 +179,176 @@ fn hostile_contents_get_their_answer(rt: HostRuntime) -> Result<(), Fail> {
     ];
     let in_block = Why::Entry(EntryFault::InBlock);
     assert_eq!(rt; why_not(&rt, rt.alloc(), &table_in_block)?, Some(in_block));
+    Ok(())
+}
+
+/// Why the whole flash holds no valid image for Arm, with three rows of these values from 0x0c0 on.
+fn why_not_on(
+    rt: &impl Abort,
+    alloc: Global,
+    words: &[u32],
+    flags: u32,
+    triple: [u32; 3],
+) -> Result<Option<Why>, Fail> {
+    let rows = Rows { flags, triple };
+    Ok(checked_on(rt, alloc, words, Cpu::Arm, &rows)?.err())
+}
+
+/// The block of an image of version 1.0 with rollback version 3 and this row.
+fn rolled_block(row: u16) -> [u32; 8] {
+    [
+        0xffff_ded3,
+        0x1021_0142,
+        0x0100_0348,
+        0x0001_0000,
+        u32::from(row) * 65536 + 3,
+        0x4ff,
+        0,
+        0xab12_3579,
+    ]
+}
+
+#[test]
+fn rollback_versions_are_compared_with_majorities(rt: HostRuntime) -> Result<(), Fail> {
+    let block = rolled_block(0x0c0);
+    let below = why_not_on(&rt, rt.alloc(), &block, 0, [0x3, 0x3, 0x3])?;
+    assert_eq!(rt; below, None);
+    let at = why_not_on(&rt, rt.alloc(), &block, 0, [0x7, 0x7, 0x7])?;
+    assert_eq!(rt; at, None);
+    let majority = why_not_on(&rt, rt.alloc(), &block, 1, [0xf, 0x7, 0x3])?;
+    assert_eq!(rt; majority, None);
+    let above = why_not_on(&rt, rt.alloc(), &block, 0, [0xf, 0xf, 0x7])?;
+    assert_eq!(rt; above, Some(Why::Below(3, 4)));
+    Ok(())
+}
+
+#[test]
+fn rollback_rows_are_in_range_and_required(rt: HostRuntime) -> Result<(), Fail> {
+    let high = why_not(&rt, rt.alloc(), &rolled_block(0xefe))?;
+    assert_eq!(rt; high, Some(Why::Items(DefFault::BadRow(0xefe))));
+    let low = why_not(&rt, rt.alloc(), &rolled_block(0x0bf))?;
+    assert_eq!(rt; low, Some(Why::Items(DefFault::BadRow(0x0bf))));
+    let plain = [0xffff_ded3, 0x1021_0142, 0x1ff, 0, 0xab12_3579];
+    let required = why_not_on(&rt, rt.alloc(), &plain, 1, [0; 3])?;
+    assert_eq!(rt; required, Some(Why::RollbackRequired));
+    let flash_off = why_not_on(&rt, rt.alloc(), &plain, 2, [0; 3])?;
+    assert_eq!(rt; flash_off, None);
+    Ok(())
+}
+
+/// The block of an image with a clear entry at the start of SRAM, and with an entry of this size 16
+/// bytes before its end.
+fn loaded_block(size: u32) -> [u32; 12] {
+    [
+        0xffff_ded3,
+        0x1021_0142,
+        0x0200_0706,
+        0,
+        0x2000_0000,
+        0x10,
+        0xf8,
+        0x2008_1ff0,
+        size,
+        0x8ff,
+        0,
+        0xab12_3579,
+    ]
+}
+
+#[test]
+fn loads_end_with_sram(rt: HostRuntime) -> Result<(), Fail> {
+    let Ok(started) = checked(&rt, rt.alloc(), &loaded_block(0x10), Cpu::Arm)? else {
+        return Err("no image".into());
+    };
+    assert_eq!(rt; started.block, 0x100);
+    assert_eq!(rt; started.pc, 0x1000_0201);
+    assert_eq!(rt; started.sp, 0x2008_2000);
+    let past = why_not(&rt, rt.alloc(), &loaded_block(0x11))?;
+    assert_eq!(rt; past, Some(Why::Map(MapFault::Runtime(1))));
+    Ok(())
+}
+
+#[test]
+fn loops_and_items_have_their_faults(rt: HostRuntime) -> Result<(), Fail> {
+    assert_eq!(rt; why_not(&rt, rt.alloc(), &[])?, Some(Why::NoBlock));
+    let second = [
+        0xffff_ded3,
+        0x1021_0142,
+        0x1ff,
+        0x20,
+        0xab12_3579,
+        0xffff_ffff,
+        0xffff_ffff,
+        0xffff_ffff,
+        0xffff_ded3,
+        0x1021_0142,
+        0x1ff,
+        0x20,
+        0xab12_3579,
+        0xffff_ffff,
+        0xffff_ffff,
+        0xffff_ffff,
+        0xffff_ded3,
+        0x1021_0142,
+        0x1ff,
+        0xffff_ffe0,
+        0xab12_3579,
+    ];
+    let overlap = Why::Loop(LoopFault::Overlap(1, 3));
+    assert_eq!(rt; why_not(&rt, rt.alloc(), &second)?, Some(overlap));
+    let twice = [0xffff_ded3, 0x1021_0142, 0x1021_0142, 0x2ff, 0, 0xab12_3579];
+    let repeated = Why::Items(DefFault::Repeated(0x42));
+    assert_eq!(rt; why_not(&rt, rt.alloc(), &twice)?, Some(repeated));
+    let mut hashed = hashed_block(DIGEST);
+    hashed[3] = 5;
+    let past_value = Why::Items(DefFault::BadItem(0x47));
+    assert_eq!(rt; why_not(&rt, rt.alloc(), &hashed)?, Some(past_value));
+    Ok(())
+}
+
+/// What the check answers of an Arm image in RAM at 0x20001000, whose bytes are those of a flash with
+/// these words at 0x100.
+fn checked_in_ram(
+    rt: &impl Abort,
+    alloc: Global,
+    words: &[u32],
+) -> Result<Result<Started, Why>, Fail> {
+    let board = board_of(alloc, flash_with(alloc, &[])?)?;
+    let mut pool = SectorPool::make(alloc, 1)?;
+    let image = flash_with(alloc, words)?;
+    let bytes = image.as_slice();
+    assert!(rt; pool.free() == 1);
+    assert!(rt; bytes.len() == 8192);
+    let view = SliceView { bytes };
+    let in_ram = Addressing {
+        base: 0x2000_1000,
+        in_place: true,
+    };
+    Ok(check_view(&board, &mut pool, &view, WHOLE, in_ram, Cpu::Arm, false))
+}
+
+#[test]
+fn an_image_in_ram_is_seen_where_it_stands(rt: HostRuntime) -> Result<(), Fail> {
+    let pointed = [
+        0xffff_ded3,
+        0x1021_0142,
+        0x0000_0344,
+        0x2000_1201,
+        0x2008_2000,
+        0x4ff,
+        0,
+        0xab12_3579,
+    ];
+    let Ok(started) = checked_in_ram(&rt, rt.alloc(), &pointed)? else {
+        return Err("no image".into());
+    };
+    assert_eq!(rt; started.pc, 0x2000_1201);
+    assert_eq!(rt; started.sp, 0x2008_2000);
+    let plain = [0xffff_ded3, 0x1021_0142, 0x1ff, 0, 0xab12_3579];
+    let stray = checked_in_ram(&rt, rt.alloc(), &plain)?.err();
+    assert_eq!(rt; stray, Some(Why::Entry(EntryFault::Pc)));
+    let loaded = checked_in_ram(&rt, rt.alloc(), &loaded_block(0x10))?.err();
+    assert_eq!(rt; loaded, Some(Why::Map(MapFault::Runtime(0))));
     Ok(())
 }
 

@@ -5,7 +5,7 @@ use Rattle.std.proofs.lemmas.Bool.{or_cases, eqb-true, cases_eq, eq-eqb, ne_eqb,
 use Rattle.std.proofs.lemmas.Bool.Decides.{nat_tests}
 use Rattle.std.proofs.lemmas.List.{length-set, get_or-set_other, map-append}
 use Rattle.std.proofs.lemmas.Iterator.Adapters.{position_from-zero}
-use Rattle.std.proofs.lemmas.Option.{none-some, same_Some}
+use Rattle.std.proofs.lemmas.Option.{none-some, same_Some, slice_get-map}
 use Rattle.std.specs.Int.{w32, cast_signed}
 use Rattle.std.specs.List.{slice_get, find, list_any, position, position_from}
 use Rattle.std.specs.Option.{is_some, unwrap_or, option_or, option_map, option_map_or, option_and_then}
@@ -457,6 +457,18 @@ module _ (b : BlockView) (whole : AreItems b.items) (image : Item) (is : image_t
       ∙ ap (λ xs. ok_unless (def_fault new xs) (def_record new xs)) items-same
       ∙ ap (λ o. ok_unless o (def_record new mapped)) (fault-same words new items p u long other here apart)
       ∙ answer (def_fault words items) refl
+
+  -- an item of another kind stays as it was
+  pub item-cleared : (j : ℕ) (x : Item) → slice_get (items_of b.items) j ≡ Some x → first_spelling x.kind ≢ IMAGE_TYPE
+      → slice_get (items_of (trial_cleared b).items) j ≡ Some x
+  item-cleared j x there other_kind =
+      ap (λ (c : BlockView). slice_get (items_of c.items) j) cleared ∙ ap (λ xs. slice_get xs j) items-same
+      ∙ slice_get-map (with_high p u) (items_of b.items) j ∙ ap (option_map (with_high p u)) there
+      ∙ ap Some (kept p u x (λ e. other_kind (here j x there e)))
+
+  -- the header has the type byte of IMAGE_TYPE
+  pub type_byte-there : w % 256 ≡ 0x42
+  type_byte-there = low_same.0
 
   pub type-cleared : image_type_of (trial_cleared b) ≡ Some (with_high p u image)
   type-cleared =

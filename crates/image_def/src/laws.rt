@@ -1,11 +1,12 @@
 //! Laws of image definitions, each the contract of a function without a body.
 
-ghost use Rattle.std.specs.Prelude.{◌≡◌, ◌≢◌, ◌↔◌, ℕ, List, true, None, Some, Ok, Err, ◌+◌, ◌-◌, ◌*◌, ◌%◌, ◌^◌, slice_get, slice_index};
+ghost use Rattle.std.specs.Prelude.{◌≡◌, ◌≢◌, ◌↔◌, ℕ, List, false, true, None, Some, Ok, Err, ◌+◌, ◌-◌, ◌*◌, ◌%◌, ◌^◌, slice_get, slice_index};
 ghost use Rattle.block_codec.specs.declared.definition.Def.{Def};
 ghost use Rattle.block_codec.specs.declared.items.Item.{Item};
 ghost use Rattle.block_codec.specs.Blocks.{BlockView, block_words, block_size};
 ghost use Rattle.block_codec.specs.Items.{AreItems, items_of};
 ghost use Rattle.block_codec.specs.Kinds.{is_of_kind};
+ghost use Rattle.block_codec.specs.declared.kinds.TheConstants.{IMAGE_TYPE};
 ghost use Rattle.image_def.specs.Definition.{def_of, def_record};
 ghost use Rattle.image_def.specs.Faults.{item_fault, IsItemFault, IsFaultless, IsDefFault};
 ghost use Rattle.image_def.specs.Found.{is_read_kind};
@@ -46,7 +47,8 @@ pub fn one_item_of_each_kind()
 {}
 
 /// A block whose trial bit is cleared, as a buy leaves it, gives the same definition but for that
-/// bit of its flags, or the same fault; it has the same size and suits the same processors.
+/// bit of its flags, or the same fault; it has the same size, the same other items, and suits the same
+/// processors.
 pub fn trial_bit_cleared()
     ensures definition { (b : BlockView) → AreItems b.items → has_image_type b ≡ true
         → def_of (trial_cleared b) ≡ untried_answer (def_of b) }
@@ -56,6 +58,9 @@ pub fn trial_bit_cleared()
         → does_suit cpu (trial_cleared b) ≡ does_suit cpu b }
     ensures size { (b : BlockView) → AreItems b.items → has_image_type b ≡ true
         → block_size (trial_cleared b) ≡ block_size b }
+    ensures items { (b : BlockView) (j : ℕ) (item : Item) → AreItems b.items → has_image_type b ≡ true
+        → slice_get (items_of b.items) j ≡ Some item → is_of_kind IMAGE_TYPE item ≡ false
+        → slice_get (items_of (trial_cleared b).items) j ≡ Some item }
     ensures changed { (b : BlockView) (item : Item) → AreItems b.items → image_type_of b ≡ Some item
         → changed_block (b.at + 4 * item.first) (slice_index b.items (item.first - 1) % 2 ^ 31) b
         ≡ trial_cleared b }

@@ -7,6 +7,8 @@ use Rattle.image_check.proofs.examining.see_all.Given as goal
 
 abbrev pub invariant-loop-i : goal.invariant-loop-i
 invariant-loop-i g l = record {
-  typed : (loop : List BlockView) → loop_of (g.V.View.bytes l.view) ≡ Ok loop → l.seen.typed ≡ list_any has_image_type (take l.i loop);
-  suiting : (loop : List BlockView) → loop_of (g.V.View.bytes l.view) ≡ Ok loop → l.seen.suiting ≡ last_suiting l.cpu (take l.i loop);
+  typed : (loop : List BlockView) → loop_of (g.V.View.bytes l.view) ≡ Ok loop
+      → l.seen.typed ≡ list_any has_image_type (take l.i loop);
+  suiting : (loop : List BlockView) → loop_of (g.V.View.bytes l.view) ≡ Ok loop
+      → l.seen.suiting ≡ last_suiting l.cpu (take l.i loop);
 }

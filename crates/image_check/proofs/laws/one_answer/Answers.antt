@@ -11,4 +11,5 @@ pub returns-clause-one_image : goal.returns-clause-one_image
 returns-clause-one_image c = one-image
 
 pub returns-clause-one_reason : goal.returns-clause-one_reason
-returns-clause-one_reason c = λ a cpu trial otp bytes y z. one-reason a (record { start = 0; len = 0 }) cpu trial otp bytes y z
+returns-clause-one_reason c =
+    λ a cpu trial otp bytes y z. one-reason a (record { start = 0; len = 0 }) cpu trial otp bytes y z

@@ -15,7 +15,8 @@ same_range-requires-clause-in_one g c =
 
 pub same_range-requires-clause-in_two : goal.same_range-requires-clause-in_two
 same_range-requires-clause-in_two g c =
-    let room = block-room (g.V.View.bytes c.args.one.now) c.at.result _ _ c.block_of-block.result c.block_of-block.ensures
+    let room = block-room (g.V.View.bytes c.args.one.now) c.at.result _ _ c.block_of-block.result
+    c.block_of-block.ensures
     c.at-in-loop-i.ensures.value c.size.ensures.value in
     omega (arith, room, c.requires.long)
 
@@ -23,7 +24,8 @@ pub returns-then-not-same_range : goal.returns-then-not-same_range
 returns-then-not-same_range g c = λ loop is. (
   λ e. cc,
   λ agree.
-      let same = c.same_range.ensures.1 (block-agrees (g.V.View.bytes c.args.one.now) (g.W.View.bytes c.args.two.now) c.args.found.now
+      let same = c.same_range.ensures.1 (block-agrees (g.V.View.bytes c.args.one.now)
+      (g.W.View.bytes c.args.two.now) c.args.found.now
       c.requires.loop_ c.loop-i.i c.at.result c.at.ensures c.block_of-block.result c.block_of-block.ensures _ _
       c.at-in-loop-i.ensures.value c.size.ensures.value loop is agree) in
       cc,
@@ -33,10 +35,14 @@ pub loop-i-preserved : goal.loop-i-preserved
 loop-i-preserved g c = λ loop is.
     blocks-more (g.V.View.bytes c.args.one.now) (g.W.View.bytes c.args.two.now) c.args.found.now
     c.requires.loop_ c.loop-i.i c.at.result c.at.ensures c.block_of-block.result c.block_of-block.ensures _ _
-    c.at-in-loop-i.ensures.value c.size.ensures.value loop is (c.loop-i.invariant loop is) (c.same_range.ensures.0 c.if-not-same_range.false)
+    c.at-in-loop-i.ensures.value c.size.ensures.value loop is (c.loop-i.invariant loop is)
+    (c.same_range.ensures.0 c.if-not-same_range.false)
 
 pub returns : goal.returns
 returns g c = λ loop is.
     let few : length c.args.found.now ≤ c.loop-i.i = omega (arith, c.loop-i-test.false, c.count-i-end.ensures.value) in
-    let all = all-blocks (g.V.View.bytes c.args.one.now) c.args.found.now c.requires.loop_ c.loop-i.i few loop is in
-    (λ e. subst (AgreeOnBlocks (g.V.View.bytes c.args.one.now) (g.W.View.bytes c.args.two.now)) all (c.loop-i.invariant loop is), λ agree. refl)
+    let all = all-blocks (g.V.View.bytes c.args.one.now) c.args.found.now c.requires.loop_ c.loop-i.i few loop is in (
+      λ e. subst (AgreeOnBlocks (g.V.View.bytes c.args.one.now) (g.W.View.bytes c.args.two.now)) all
+          (c.loop-i.invariant loop is),
+      λ agree. refl,
+    )

@@ -1,5 +1,8 @@
-use Rattle.std.proofs.Common.{◌∙◌, ap, refl, Some, ◌%◌, ◌^◌}
-use Rattle.image_def.proofs.TrialLemmas.{image_there, flags_there, definition-cleared, flags-cleared, suits-cleared, size-cleared, changed-cleared}
+use Rattle.std.proofs.Common.{◌∙◌, ap, refl, sym, Some, ◌%◌, ◌^◌}
+use Rattle.std.proofs.lemmas.Bool.{eq-eqb, true≢false}
+use Rattle.block_codec.specs.Kinds.{first_spelling}
+use Rattle.block_codec.specs.declared.kinds.TheConstants.{IMAGE_TYPE}
+use Rattle.image_def.proofs.TrialLemmas.{image_there, flags_there, definition-cleared, flags-cleared, suits-cleared, size-cleared, changed-cleared, item-cleared}
 use Rattle.image_def.proofs.laws.trial_bit_cleared.Goals as goal
 
 pub returns-clause-definition : goal.returns-clause-definition
@@ -19,3 +22,8 @@ returns-clause-size c b whole typed = let image = image_there b typed in size-cl
 
 pub returns-clause-changed : goal.returns-clause-changed
 returns-clause-changed c b item whole is = changed-cleared b whole item is _ refl
+
+pub returns-clause-items : goal.returns-clause-items
+returns-clause-items c b j item whole typed at other = let image = image_there b typed in
+    item-cleared b whole image.0 image.1 j item at
+    (λ e. absurd (true≢false (sym (eq-eqb (first_spelling item.kind) IMAGE_TYPE e) ∙ other)))

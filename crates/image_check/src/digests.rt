@@ -1,0 +1,55 @@
+//! Worked examples of the digest rule and of the delta rule. Each is the `ensures` of a function
+//! that does nothing.
+
+ghost use Rattle.std.specs.Prelude.{◌≡◌, ◌++◌, [], ◌∷◌, true, false, Ok, Err};
+ghost use Rattle.pico_board.specs.declared.boot.Cpu.TheVariants.{Arm};
+ghost use Rattle.image_check.specs.declared.why.Why.TheVariants.{Digest, Delta};
+ghost use Rattle.image_check.specs.Addressing.{in_flash};
+ghost use Rattle.image_check.specs.Examples.{arm_record, arm_type, both_digest, clear_digest, delta_four, hash_of_four, map_of, map_of_both, otp_with, plain_digest, right_pc, stored_digest, trial_type, window_at_two, window_with};
+ghost use Rattle.image_check.specs.Image.{image_in};
+
+/// A digest of the block's first four words, and a wrong one; the trial bit is read as clear.
+#[tactic(auto, unfolding(crate::specs::Image::image_in, image_def::specs::Definition::def_of, block_loop::specs::Loop::loop_of, block_loop::specs::Loop::follow, block_loop::specs::Loop::first_from, block_codec::specs::Blocks::block_at, block_codec::specs::Blocks::front_block, block_codec::specs::Blocks::item_words, block_codec::specs::Blocks::frame, block_codec::specs::Items::size_of, block_codec::specs::Words::word_of, block_codec::specs::Words::word_bytes))]
+pub fn digests_of_the_block()
+    ensures right { image_in in_flash window_at_two Arm false (otp_with 0 0 0 0)
+        (window_with right_pc (arm_type ∷ hash_of_four plain_digest) 0)
+        ≡ Ok (arm_record right_pc false) }
+    ensures trial { image_in in_flash window_at_two Arm true (otp_with 0 0 0 0)
+        (window_with right_pc (trial_type ∷ hash_of_four plain_digest) 0)
+        ≡ Ok (arm_record right_pc true) }
+    ensures wrong { image_in in_flash window_at_two Arm false (otp_with 0 0 0 0)
+        (window_with right_pc (arm_type ∷ hash_of_four stored_digest) 0) ≡ Err Digest }
+{}
+
+/// A digest of what a load map stores and then of the block's words; of a clear entry it covers the
+/// size; of two entries, the first one first.
+#[tactic(auto, unfolding(crate::specs::Image::image_in, image_def::specs::Definition::def_of, block_loop::specs::Loop::loop_of, block_loop::specs::Loop::follow, block_loop::specs::Loop::first_from, block_codec::specs::Blocks::block_at, block_codec::specs::Blocks::front_block, block_codec::specs::Blocks::item_words, block_codec::specs::Blocks::frame, block_codec::specs::Items::size_of, block_codec::specs::Words::word_of, block_codec::specs::Words::word_bytes))]
+pub fn digests_of_loads()
+    ensures stored { image_in in_flash window_at_two Arm false (otp_with 0 0 0 0)
+        (window_with right_pc
+        (arm_type ∷ map_of 0xfffffff0 0x10000000 8 ++ hash_of_four stored_digest) 0)
+        ≡ Ok (arm_record right_pc false) }
+    ensures other { image_in in_flash window_at_two Arm false (otp_with 0 0 0 0)
+        (window_with 0x20000005
+        (arm_type ∷ map_of 0xfffffff0 0x10000000 8 ++ hash_of_four stored_digest) 0) ≡ Err Digest }
+    ensures clear { image_in in_flash window_at_two Arm false (otp_with 0 0 0 0)
+        (window_with right_pc
+        (arm_type ∷ map_of 0 0x20000000 16 ++ hash_of_four clear_digest) 0)
+        ≡ Ok (arm_record right_pc false) }
+    ensures both { image_in in_flash window_at_two Arm false (otp_with 0 0 0 0)
+        (window_with right_pc
+        (arm_type ∷ map_of_both ++ hash_of_four both_digest) 0) ≡ Ok (arm_record right_pc false) }
+{}
+
+/// A wrong digest before a window delta, and a right one with such a delta.
+#[tactic(auto, unfolding(crate::specs::Image::image_in, image_def::specs::Definition::def_of, block_loop::specs::Loop::loop_of, block_loop::specs::Loop::follow, block_loop::specs::Loop::first_from, block_codec::specs::Blocks::block_at, block_codec::specs::Blocks::front_block, block_codec::specs::Blocks::item_words, block_codec::specs::Blocks::frame, block_codec::specs::Items::size_of, block_codec::specs::Words::word_of, block_codec::specs::Words::word_bytes))]
+pub fn the_digest_before_the_delta()
+    ensures digest { image_in in_flash window_at_two Arm false (otp_with 0 0 0 0)
+        (window_with right_pc (arm_type ∷ hash_of_four stored_digest ++ delta_four) 0)
+        ≡ Err Digest }
+    ensures delta { image_in in_flash window_at_two Arm false (otp_with 0 0 0 0)
+        (window_with right_pc (arm_type ∷ hash_of_four plain_digest ++ delta_four) 0) ≡ Err Delta }
+    ensures zero { image_in in_flash window_at_two Arm false (otp_with 0 0 0 0)
+        (window_with right_pc (arm_type ∷ 0x00000205 ∷ 0 ∷ []) 0)
+        ≡ Ok (arm_record right_pc false) }
+{}
