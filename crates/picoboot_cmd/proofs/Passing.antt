@@ -2,7 +2,6 @@
 use Rattle.std.proofs.Common.{◌≡◌, ℕ, ◌+◌, ◌*◌, ◌/◌, ◌%◌, ◌<◌, ◌≤◌, Bool, true, false, cond, List, ◌∷◌, length, drop, refl, subst, arith}
 use Rattle.std.specs.Prelude.{Option}
 use Rattle.std.proofs.lemmas.Bool.Decides.{nat_tests}
-use Rattle.pico_board.specs.Content.{Content}
 use Rattle.part_table.specs.declared.table.Table.{Table}
 use Rattle.picoboot_cmd.specs.declared.cmd.Cmd.{Cmd}
 use Rattle.picoboot_cmd.specs.declared.kinds.TheConstants.{INVALID_STATE, UNKNOWN_COMMAND, COMMAND_LENGTH, TRANSFER_LENGTH, ALIGNMENT, ADDRESS, INVALID_ARGUMENT, WRITE}
@@ -20,17 +19,17 @@ passes-next k ks some none = by_test k.passes refl none
     by_test true is rest = (is, rest)
     by_test false is rest = absurd (omega arith)
 
-module _ (c : Content) (t : Option Table) (busy : Bool) (cmd : Cmd) (payload : List ℕ) where
+module _ (n : ℕ) (otp : List ℕ) (t : Option Table) (busy : Bool) (cmd : Cmd) (payload : List ℕ) where
   -- a command with status 0 passes the checks that its work rests on
-  pub ready : status_of c t busy cmd payload ≡ 0 → IsReady (length c.flash) cmd payload
+  pub ready : status_of n otp t busy cmd payload ≡ 0 → IsReady n cmd payload
   ready none =
-      let all = checks c t busy cmd payload in
+      let all = checks n otp t busy cmd payload in
       let free = passes-next (check INVALID_STATE (is_free busy cmd)) (drop 1 all) (omega arith) none in
       let known = passes-next (check UNKNOWN_COMMAND (is_known cmd)) (drop 2 all) (omega arith) (free.1) in
       let arg_size = passes-next (check COMMAND_LENGTH (has_arg_size cmd)) (drop 3 all) (omega arith) (known.1) in
       let transfer = passes-next (check TRANSFER_LENGTH (has_transfer cmd payload)) (drop 4 all) (omega arith) (arg_size.1) in
       let aligned = passes-next (check ALIGNMENT (is_aligned cmd)) (drop 5 all) (omega arith) (transfer.1) in
-      let inside = passes-next (check ADDRESS (is_inside cmd (length c.flash))) (drop 6 all) (omega arith) (aligned.1) in
+      let inside = passes-next (check ADDRESS (is_inside cmd n)) (drop 6 all) (omega arith) (aligned.1) in
       let arguments = passes-next (check INVALID_ARGUMENT (has_valid_arguments cmd payload)) (drop 7 all) (omega arith) (inside.1) in
       record { transfer = transfer.0; aligned = aligned.0; inside = inside.0; arguments = arguments.0 }
 

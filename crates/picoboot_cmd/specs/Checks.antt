@@ -2,7 +2,7 @@
 -- RP2350 Datasheet, chapter 5 (Bootrom, the PICOBOOT interface); the order is this project's own.
 use Rattle.std.specs.Prelude.{◌≡◌, ◌⊎◌, ℕ, ◌+◌, ◌*◌, ◌/◌, ◌%◌, ◌==◌, ◌&&◌, ◌||◌, Bool, true, false, not, nat_le, Option, Some, List, [], ◌∷◌, length, slice_get, slice_index, ◌<◌, if◌then◌else◌}
 use Rattle.std.specs.List.{list_any}
-use Rattle.pico_board.specs.Content.{Content, flash_base}
+use Rattle.pico_board.specs.Content.{flash_base}
 use Rattle.block_codec.specs.Words.{words_of}
 use Rattle.part_table.specs.declared.table.Table.{Table}
 use Rattle.part_table.specs.declared.table.Right.TheVariants.{BootRead, BootWrite}
@@ -110,18 +110,18 @@ pub record Check : Type 0 where
 abbrev pub check : ℕ → Bool → Check
 check status passes = record { status = status; passes = passes }
 
--- the checks of a command, in their order
-abbrev pub checks : Content → Option Table → Bool → Cmd → List ℕ → List Check
-checks c t busy cmd payload =
+-- the checks of a command, in their order, on a board with a flash of n bytes and these OTP rows
+abbrev pub checks : ℕ → List ℕ → Option Table → Bool → Cmd → List ℕ → List Check
+checks n otp t busy cmd payload =
     check INVALID_STATE (is_free busy cmd)
     ∷ check UNKNOWN_COMMAND (is_known cmd)
     ∷ check COMMAND_LENGTH (has_arg_size cmd)
     ∷ check TRANSFER_LENGTH (has_transfer cmd payload)
     ∷ check ALIGNMENT (is_aligned cmd)
-    ∷ check ADDRESS (is_inside cmd (length c.flash))
+    ∷ check ADDRESS (is_inside cmd n)
     ∷ check INVALID_ARGUMENT (has_valid_arguments cmd payload)
     ∷ check NOT_PERMITTED (is_permitted t cmd)
-    ∷ check UNSUPPORTED_MODIFICATION (clears_nothing c.otp cmd payload) ∷ []
+    ∷ check UNSUPPORTED_MODIFICATION (clears_nothing otp cmd payload) ∷ []
 
 -- the status of the first check that fails, and 0 where none does
 abbrev pub first_failing : List Check → ℕ
@@ -129,8 +129,8 @@ first_failing [] = 0
 first_failing (k ∷ ks) = if k.passes then first_failing ks else k.status
 
 -- the status that answers a command
-abbrev pub status_of : Content → Option Table → Bool → Cmd → List ℕ → ℕ
-status_of c t busy cmd payload = first_failing (checks c t busy cmd payload)
+abbrev pub status_of : ℕ → List ℕ → Option Table → Bool → Cmd → List ℕ → ℕ
+status_of n otp t busy cmd payload = first_failing (checks n otp t busy cmd payload)
 
 -- the check at place i is the first that fails, and has this status
 pub record FailsFirst (ks : List Check) (i status : ℕ) : Type 0 where

@@ -1,5 +1,5 @@
 -- What a command does: its status, its steps, its reply, and the boot that it asks for.
-use Rattle.std.specs.Prelude.{◌≡◌, true, ℕ, ◌+◌, ◌/◌, ◌%◌, ◌==◌, Bool, Option, Some, None, List, [], if◌then◌else◌, slice_range}
+use Rattle.std.specs.Prelude.{◌≡◌, true, ℕ, ◌+◌, ◌/◌, ◌%◌, ◌==◌, Bool, Option, Some, None, List, [], if◌then◌else◌, length, slice_range}
 use Rattle.pico_board.specs.declared.boot.BootKind.{BootKind}
 use Rattle.pico_board.specs.declared.boot.BootKind.TheVariants.{Normal, Bootsel, Update}
 use Rattle.pico_board.specs.declared.Step.{Step}
@@ -62,7 +62,8 @@ served status c cmd payload =
 
 -- what a command does on a board of this content, with this table, while a download is busy or not
 abbrev pub command_of : Content → Option Table → Bool → Cmd → List ℕ → Served
-command_of c t busy cmd payload = served (status_of c t busy cmd payload) c cmd payload
+command_of c t busy cmd payload =
+    served (status_of (length c.flash) c.otp t busy cmd payload) c cmd payload
 
 -- what the call answers of it
 abbrev pub done_of : Served → Done

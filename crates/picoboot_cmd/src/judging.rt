@@ -311,8 +311,9 @@ pub(crate) fn status_of<B: Board>(
 ) -> u32
     requires power { IsTrue (B.state board.now).powered }
     requires rights { TellsRights (option_map (λ t. t.now) table) }
-    ensures { result ≡ status_of (B.state board.now).content
-        (option_map (λ t. t.now) table.entry) busy cmd.now payload.now }
+    ensures { result ≡ status_of (length (B.state board.now).content.flash)
+        (B.state board.now).content.otp (option_map (λ t. t.now) table.entry) busy cmd.now
+        payload.now }
 {
     match cmd.id {
         EXCLUSIVE => exclusive_status(cmd, payload),
