@@ -6,3 +6,10 @@ mod StepLists
 mod PutLists
 mod FilledPages
 mod Passing
+mod FirstFailing
+mod RaisedBits
+mod PageByPage
+mod RebootFlags
+mod Refused
+mod StepsInside
+pub mod WellFormedDone

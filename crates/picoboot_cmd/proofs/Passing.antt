@@ -35,7 +35,7 @@ module _ (n : ℕ) (otp : List ℕ) (t : Option Table) (busy : Bool) (cmd : Cmd)
 
 -- what the checks of a write say
 module _ (n : ℕ) (cmd : Cmd) (payload : List ℕ) where
-  in_flash : is_in_flash cmd n ≡ true → offset cmd + size cmd ≤ n
+  pub in_flash : is_in_flash cmd n ≡ true → offset cmd + size cmd ≤ n
   in_flash inside = grind (arith, nat_tests)
 
   inside-write : cmd.id ≡ WRITE → is_inside cmd n ≡ true → offset cmd + size cmd ≤ n

@@ -7,3 +7,5 @@ pub mod Checks
 pub mod ByCommand
 pub mod Served
 pub mod Replies
+pub mod WellFormed
+pub mod Examples
