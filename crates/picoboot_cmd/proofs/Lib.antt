@@ -6,7 +6,7 @@ mod StepLists
 mod PutLists
 mod FilledPages
 mod Passing
-mod FirstFailing
+pub mod FirstFailing
 mod RaisedBits
 mod PageByPage
 mod RebootFlags

@@ -1,6 +1,6 @@
 //! Where the reply of a command goes.
 
-ghost use Rattle.std.specs.Prelude.{◌≡◌, List, ◌++◌, ℕ, ◌<◌, ◌^◌, [], length};
+ghost use Rattle.std.specs.Prelude.{◌≡◌, ℕ, ◌-◌, ◌^◌, List, [], ◌++◌, length, min};
 ghost use Rattle.sha2.specs.Sha256.{sha256};
 ghost use Rattle.picoboot_cmd.specs.Replies.{HasTaken};
 
@@ -36,10 +36,10 @@ impl HashReply {
         }
     }
 
-    /// The number of the bytes, where they are fewer than 2^32.
+    /// The number of the bytes, which stays at its last value, 2^32 - 1.
     pub fn count(&self) -> u32
-        ensures { (bytes : List ℕ) → HasTaken self.now bytes → length bytes < 2 ^ 32
-            → result ≡ length bytes }
+        ensures { (bytes : List ℕ) → HasTaken self.now bytes
+            → result ≡ min (length bytes) (2 ^ 32 - 1) }
     {
         self.count
     }
