@@ -11,5 +11,5 @@ mod RaisedBits
 mod PageByPage
 mod RebootFlags
 mod Refused
-mod StepsInside
+pub mod StepsInside
 pub mod WellFormedDone

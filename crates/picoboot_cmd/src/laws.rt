@@ -1,7 +1,7 @@
 //! Laws of commands: their bytes, the first check that fails, what is left of the checks for each
 //! command, and what well-formed commands do.
 
-ghost use Rattle.std.specs.Prelude.{◌≡◌, ◌≢◌, ◌⊎◌, ◌↔◌, ℕ, ◌+◌, ◌-◌, ◌/◌, ◌<◌, ◌≤◌, All, Bool, Err, List, None, Ok, Option, Some, [], ◌∷◌, ◌++◌, false, length, replicate, slice_index, true};
+ghost use Rattle.std.specs.Prelude.{◌≡◌, ◌≢◌, ◌⊎◌, ◌↔◌, ℕ, ◌+◌, ◌-◌, ◌/◌, ◌<◌, ◌≤◌, All, Bool, Err, List, None, Ok, Option, Some, [], ◌∷◌, ◌++◌, false, is_some, length, replicate, slice_index, true};
 ghost use Rattle.byteorder.specs.Endian.{little_number};
 ghost use Rattle.pico_board.specs.declared.Step.TheVariants.{Program};
 ghost use Rattle.pico_board.specs.Content.{Content, IsContent};
@@ -112,6 +112,13 @@ pub fn a_refused_command_does_nothing()
         → ((command_of c t busy cmd payload).steps ≡ [])
         × ((command_of c t busy cmd payload).reply ≡ [])
         × ((command_of c t busy cmd payload).boot ≡ None) }
+{}
+
+/// A boot is asked for exactly by a reboot with status 0.
+pub fn a_boot_is_asked_for_by_a_reboot()
+    ensures { (c : Content) (t : Option Table) (busy : Bool) (cmd : Cmd) (payload : List ℕ)
+        → (is_some (command_of c t busy cmd payload).boot ≡ true)
+        ↔ ((cmd.id ≡ REBOOT) × ((command_of c t busy cmd payload).status ≡ 0)) }
 {}
 
 /// The steps of a command lie in the content.
