@@ -6,7 +6,8 @@ use Rattle.block_codec.proofs.WordLemmas.{length-bytes_of}
 use Rattle.picoboot_cmd.specs.Checks.{check, first_failing}
 use Rattle.info_reply.specs.declared.kinds.TheConstants.{BUFFER_TOO_SMALL, NOT_FOUND}
 
-module _ (there : Bool) (words bytes : List ℕ) (transfer : ℕ) (is_there : true ≡ there) (is : bytes ≡ bytes_of words) where
+module _ (there : Bool) (words bytes : List ℕ) (transfer : ℕ) (is_there : true ≡ there)
+    (is : bytes ≡ bytes_of words) where
   long : length bytes ≡ 4 * length words
   long = ap length is ∙ length-bytes_of words
 

@@ -10,7 +10,8 @@ use Rattle.info_reply.specs.Asks.{ask_in, ask_checks, reply_checks}
 use Rattle.info_reply.specs.Infos.{info_of}
 
 -- the checks of the reply, where it is known what is asked for
-abbrev pub checks_of_reply : Device → ℕ → Option Table → Option Target → Option Ask → Cmd → List Check
+abbrev pub checks_of_reply : Device → ℕ → Option Table → Option Target → Option Ask → Cmd
+    → List Check
 checks_of_reply device slot t target None cmd = []
 checks_of_reply device slot t target (Some ask) cmd =
     reply_checks t ask (info_of device slot t target ask) cmd

@@ -4,7 +4,6 @@ ghost use Rattle.std.specs.Prelude.{◌≡◌, ◌+◌, ◌*◌, ◌≤◌, ◌<
 ghost use Rattle.block_codec.specs.Words.{bytes_of, word_bytes, words_of};
 ghost use Rattle.part_table.specs.Written.{id_text, name_text, padded_name, partition_text};
 
-
 use arrayvec::ArrayVec;
 use part_table::Partition;
 

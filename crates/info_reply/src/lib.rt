@@ -13,4 +13,3 @@ mod tests;
 
 pub use ask::{Ask, Device, info_ask};
 pub use replying::info_put;
-

@@ -104,7 +104,8 @@ fn device_bytes(device: &Device) -> ArrayVec<u8, 156>
 
 /// The bytes of the partition of a number; None where the table has no such partition.
 fn indexed_bytes(table: &Table, i: u32) -> Option<ArrayVec<u8, 156>>
-    ensures value { IfSome result (λ bytes. bytes.items ≡ bytes_of (part_words (Some table.now) i)) }
+    ensures value { IfSome result
+        (λ bytes. bytes.items ≡ bytes_of (part_words (Some table.now) i)) }
     ensures some { is_some result ≡ has_part (Some table.now) i }
 {
     let parts = table.parts.as_slice();

@@ -63,7 +63,15 @@ fn the_table_of_a_pair_is_told(rt: HostRuntime) -> Result<(), Fail> {
     assert_eq!(rt; info_ask(&command, &[]), Ok(Ask::Table));
     let mut reply = HashReply::new();
     let table = pair();
-    let status = info_put(&command, &Ask::Table, &device(), 0, Some(&table), None, &mut reply);
+    let status = info_put(
+        &command,
+        &Ask::Table,
+        &device(),
+        0,
+        Some(&table),
+        None,
+        &mut reply,
+    );
     assert_eq!(rt; status, 0);
     assert_eq!(rt; reply.count(), 32);
     assert_eq!(rt;
@@ -90,7 +98,15 @@ fn the_target_of_a_pair_is_told(rt: HostRuntime) -> Result<(), Fail> {
         stay: false,
     };
     let ask = Ask::Target(0xe48b_ff59);
-    let status = info_put(&command, &ask, &device(), 0, None, Some(&target), &mut reply);
+    let status = info_put(
+        &command,
+        &ask,
+        &device(),
+        0,
+        None,
+        Some(&target),
+        &mut reply,
+    );
     assert_eq!(rt; status, 0);
     assert_eq!(rt; reply.count(), 16);
     assert_eq!(rt;
@@ -109,7 +125,15 @@ fn what_is_not_there_or_too_long_is_refused(rt: HostRuntime) -> Result<(), Fail>
     let short = command(28, 1, 0);
     let mut reply = HashReply::new();
     let table = pair();
-    let status = info_put(&short, &Ask::Table, &device(), 0, Some(&table), None, &mut reply);
+    let status = info_put(
+        &short,
+        &Ask::Table,
+        &device(),
+        0,
+        Some(&table),
+        None,
+        &mut reply,
+    );
     assert_eq!(rt; status, 12);
     let command = command(256, 4, 2);
     assert_eq!(rt; command.id, INFO);

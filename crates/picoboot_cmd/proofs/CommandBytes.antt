@@ -40,7 +40,8 @@ fields-are bytes long all = record {
       (all (16 + k) d (let rest = length-drop 16 bytes in omega (arith, rest)));
 }
 
-by_test : (b : Bool) (fields cmd : Cmd) → ◌≡◌ {A = Result Cmd CmdFault} (cond b (Ok fields) (Err Magic)) (Ok cmd) → fields ≡ cmd
+by_test : (b : Bool) (fields cmd : Cmd) → ◌≡◌ {A = Result Cmd CmdFault} (cond b (Ok fields) (Err Magic)) (Ok cmd)
+    → fields ≡ cmd
 by_test true fields cmd e = cc
 by_test false fields cmd e = cc
 

@@ -45,7 +45,8 @@ from_failing [] i status first = absurd (none-some _ first.here)
 from_failing (k ∷ ks) zero status first = fails_here k ks status (same_Some k (check status false) first.here)
 from_failing (k ∷ ks) (suc i) status first =
     passes_on k ks status (first.before zero k (omega arith) refl)
-    (from_failing ks i status (record { here = first.here; before = λ j x lt at. first.before (suc j) x (omega arith) at }))
+    (from_failing ks i status
+    (record { here = first.here; before = λ j x lt at. first.before (suc j) x (omega arith) at }))
 
 from_passing : (ks : List Check) → ((i : ℕ) (x : Check) → slice_get ks i ≡ Some x → x.passes ≡ true)
     → first_failing ks ≡ 0

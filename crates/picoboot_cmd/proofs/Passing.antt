@@ -15,7 +15,8 @@ passes-next : (k : Check) (ks : List Check) → 0 < k.status → first_failing (
     → (k.passes ≡ true) × (first_failing ks ≡ 0)
 passes-next k ks some none = by_test k.passes refl none
   where
-    by_test : (b : Bool) → k.passes ≡ b → cond b (first_failing ks) k.status ≡ 0 → (k.passes ≡ true) × (first_failing ks ≡ 0)
+    by_test : (b : Bool) → k.passes ≡ b → cond b (first_failing ks) k.status ≡ 0
+        → (k.passes ≡ true) × (first_failing ks ≡ 0)
     by_test true is rest = (is, rest)
     by_test false is rest = absurd (omega arith)
 
@@ -27,10 +28,12 @@ module _ (n : ℕ) (otp : List ℕ) (t : Option Table) (busy : Bool) (cmd : Cmd)
       let free = passes-next (check INVALID_STATE (is_free busy cmd)) (drop 1 all) (omega arith) none in
       let known = passes-next (check UNKNOWN_COMMAND (is_known cmd)) (drop 2 all) (omega arith) (free.1) in
       let arg_size = passes-next (check COMMAND_LENGTH (has_arg_size cmd)) (drop 3 all) (omega arith) (known.1) in
-      let transfer = passes-next (check TRANSFER_LENGTH (has_transfer cmd payload)) (drop 4 all) (omega arith) (arg_size.1) in
+      let transfer = passes-next (check TRANSFER_LENGTH (has_transfer cmd payload)) (drop 4 all)
+      (omega arith) (arg_size.1) in
       let aligned = passes-next (check ALIGNMENT (is_aligned cmd)) (drop 5 all) (omega arith) (transfer.1) in
       let inside = passes-next (check ADDRESS (is_inside cmd n)) (drop 6 all) (omega arith) (aligned.1) in
-      let arguments = passes-next (check INVALID_ARGUMENT (has_valid_arguments cmd payload)) (drop 7 all) (omega arith) (inside.1) in
+      let arguments = passes-next (check INVALID_ARGUMENT (has_valid_arguments cmd payload)) (drop 7 all)
+      (omega arith) (inside.1) in
       record { transfer = transfer.0; aligned = aligned.0; inside = inside.0; arguments = arguments.0 }
 
 -- what the checks of a write say

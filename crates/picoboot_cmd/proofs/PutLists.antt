@@ -19,7 +19,8 @@ range-add xs s d n =
 pub range-put : (xs before piece : List ℕ) (s d n k : ℕ) → k ≡ n → piece ≡ slice_range xs (s + d) (s + d + k)
     → (before ++ slice_range xs s (s + d)) ++ piece ≡ before ++ slice_range xs s (s + (d + n))
 range-put xs before piece s d n k long is =
-    rw (is, long, range-add xs s d n) (append_assoc before (slice_range xs s (s + d)) (slice_range xs (s + d) (s + d + n)))
+    rw (is, long, range-add xs s d n)
+    (append_assoc before (slice_range xs s (s + d)) (slice_range xs (s + d) (s + d + n)))
 
 -- a range of one element
 one-element : (xs : List ℕ) (s : ℕ) → s < length xs → slice_range xs s (s + 1) ≡ get_or xs s 0 ∷ []

@@ -9,13 +9,15 @@ use Rattle.picoboot_cmd.specs.declared.kinds.TheConstants.{REBOOT}
 use Rattle.picoboot_cmd.specs.Arguments.{reboot_flags, reboot_p0}
 use Rattle.picoboot_cmd.specs.Served.{Served, served, steps_of, reply_of, boot_by, boot_of}
 
-refused_by : (b : Bool) (done other : Served) → done.status ≡ 0 → other.steps ≡ [] → other.reply ≡ [] → other.boot ≡ None
+refused_by : (b : Bool) (done other : Served) → done.status ≡ 0 → other.steps ≡ [] → other.reply ≡ []
+    → other.boot ≡ None
     → (cond b done other).status ≢ 0
     → ((cond b done other).steps ≡ []) × ((cond b done other).reply ≡ []) × ((cond b done other).boot ≡ None)
 refused_by true done other is steps reply boot refused = absurd (refused is)
 refused_by false done other is steps reply boot refused = (steps, reply, boot)
 
-pub refused-nothing : (status : ℕ) (c : Content) (cmd : Cmd) (payload : List ℕ) → (served status c cmd payload).status ≢ 0
+pub refused-nothing : (status : ℕ) (c : Content) (cmd : Cmd) (payload : List ℕ)
+    → (served status c cmd payload).status ≢ 0
     → ((served status c cmd payload).steps ≡ []) × ((served status c cmd payload).reply ≡ [])
     × ((served status c cmd payload).boot ≡ None)
 refused-nothing status c cmd payload =
@@ -50,12 +52,12 @@ pub boot-asked : (status : ℕ) (c : Content) (cmd : Cmd) (payload : List ℕ)
     → (is_some (served status c cmd payload).boot ≡ true)
     ↔ ((cmd.id ≡ REBOOT) × ((served status c cmd payload).status ≡ 0))
 boot-asked status c cmd payload =
-    let done : Served = record { status = 0; steps = steps_of cmd payload; reply = reply_of c cmd; boot = boot_of cmd } in
+    let done : Served =
+    record { status = 0; steps = steps_of cmd payload; reply = reply_of c cmd; boot = boot_of cmd } in
     let other : Served = record { status = status; steps = []; reply = []; boot = None } in
     let both = boot_tests status cmd.id (boot_by (reboot_flags cmd) (reboot_p0 cmd)) in
     let boot = split_boot (status == 0) done other in
-    let number = split_status (status == 0) done other in
-    (
+    let number = split_status (status == 0) done other in (
       λ some. let parts = both.0 (ap is_some (sym boot) ∙ some) in (parts.0, number ∙ parts.1),
       λ parts. ap is_some boot ∙ both.1 (parts.0, sym number ∙ parts.1),
     )

@@ -60,16 +60,17 @@ module _ (t : Option Table) (right : Right) where
       each (at / 4096) (touched at size) all ((at + i) / 4096) (omega arith) (omega (arith, some))
     where
       touched_some : (at size : ℕ) → 0 < size → touched at size ≡ (at + size - 1) / 4096 + 1 - at / 4096
-      touched_some at size some = ap (λ b. cond b 0 ((at + size - 1) / 4096 + 1 - at / 4096)) (ne_eqb size 0 (omega arith))
+      touched_some at size some =
+          ap (λ b. cond b 0 ((at + size - 1) / 4096 + 1 - at / 4096)) (ne_eqb size 0 (omega arith))
 
   pub range-from_bytes : (at size : ℕ) → ((i : ℕ) → i < size → allowed_by t ((at + i) / 4096) right ≡ true)
       → range_allowed t right at size ≡ true
   range-from_bytes at size bytes = elim (cases_eq size 0) [
     | inl none ↦ ap (λ n. all_allowed t right (at / 4096) (touched at n)) none
     | inr some ↦
-      let count : touched at size ≡ (at + size - 1) / 4096 + 1 - at / 4096 =
-      ap (λ b. cond b 0 ((at + size - 1) / 4096 + 1 - at / 4096)) (ne_eqb size 0 some) in
-      all_from (at / 4096) (touched at size) (λ j low high.
-      subst (λ s. allowed_by t s right ≡ true) (omega (arith, low))
-      (bytes (4096 * j - at) (omega (arith, high, count, some))))
+        let count : touched at size ≡ (at + size - 1) / 4096 + 1 - at / 4096 =
+        ap (λ b. cond b 0 ((at + size - 1) / 4096 + 1 - at / 4096)) (ne_eqb size 0 some) in
+        all_from (at / 4096) (touched at size) (λ j low high.
+        subst (λ s. allowed_by t s right ≡ true) (omega (arith, low))
+        (bytes (4096 * j - at) (omega (arith, high, count, some))))
   ]

@@ -26,15 +26,18 @@ programs-first bytes first n i lt =
     let rest : drop 256 (drop (256 * i) bytes) ≡ drop (256 * (i + 1)) bytes =
     drop-drop 256 (256 * i) bytes ∙ ap (λ k. drop k bytes) (omega arith) in
     ap (λ k. programs_of k (first + i) (drop (256 * i) bytes)) more
-    ∙ ap₂ (λ p bs. Program (first + i) (filled (take 256 (drop (256 * i) bytes))) ∷ programs_of (n - (i + 1)) p bs) page rest
+    ∙ ap₂
+    (λ p bs. Program (first + i) (filled (take 256 (drop (256 * i) bytes))) ∷ programs_of (n - (i + 1)) p bs) page rest
 
-pub programs-end : (bytes : List ℕ) (first n i : ℕ) → n ≤ i → programs_of (n - i) (first + i) (drop (256 * i) bytes) ≡ []
+pub programs-end : (bytes : List ℕ) (first n i : ℕ) → n ≤ i
+    → programs_of (n - i) (first + i) (drop (256 * i) bytes) ≡ []
 programs-end bytes first n i past =
     let none : n - i ≡ 0 = omega arith in ap (λ k. programs_of k (first + i) (drop (256 * i) bytes)) none
 
 -- the raises from a row on are that of the row and those behind it
 pub raises-first : (words : List ℕ) (first k : ℕ) → k < length words
-    → raises (first + k) (drop k words) ≡ Raise (first + k) (get_or words k 0) ∷ raises (first + (k + 1)) (drop (k + 1) words)
+    → raises (first + k) (drop k words)
+    ≡ Raise (first + k) (get_or words k 0) ∷ raises (first + (k + 1)) (drop (k + 1) words)
 raises-first words first k lt =
     ap (raises (first + k)) (drop_more words k 0 lt)
     ∙ ap (λ r. Raise (first + k) (get_or words k 0) ∷ raises r (drop (k + 1) words)) (omega arith)

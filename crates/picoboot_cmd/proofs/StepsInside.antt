@@ -24,13 +24,14 @@ use Rattle.picoboot_cmd.proofs.Passing.{in_flash, ready, pages-inside}
 erases-inside : (n first k : ℕ) → 4096 * (first + k) ≤ n → All (IsStepIn n) (erases first k)
 erases-inside n first zero inside = All-nil (IsStepIn n)
 erases-inside n first (suc k) inside =
-    All-cons (IsStepIn n) (Erase first) (erases (first + 1) k) (omega arith) (erases-inside n (first + 1) k (omega arith))
+    All-cons (IsStepIn n) (Erase first) (erases (first + 1) k) (omega arith)
+    (erases-inside n (first + 1) k (omega arith))
 
 programs-inside : (n k page : ℕ) (bytes : List ℕ) → 256 * (page + k) ≤ n → All (IsStepIn n) (programs_of k page bytes)
 programs-inside n zero page bytes inside = All-nil (IsStepIn n)
 programs-inside n (suc k) page bytes inside =
-    All-cons (IsStepIn n) (Program page (filled (take 256 bytes))) (programs_of k (page + 1) (drop 256 bytes)) (omega arith)
-    (programs-inside n k (page + 1) (drop 256 bytes) (omega arith))
+    All-cons (IsStepIn n) (Program page (filled (take 256 bytes))) (programs_of k (page + 1) (drop 256 bytes))
+    (omega arith) (programs-inside n k (page + 1) (drop 256 bytes) (omega arith))
 
 both_of : (a b : Bool) → (a && b) ≡ true → (a ≡ true) × (b ≡ true)
 both_of true b e = (refl, e)

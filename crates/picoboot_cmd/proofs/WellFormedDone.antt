@@ -22,7 +22,8 @@ use Rattle.picoboot_cmd.proofs.Sectors.{range-from_bytes}
 both_true : (a b : Bool) → a ≡ true → b ≡ true → (a && b) ≡ true
 both_true a b p q = ap₂ (λ x y. x && y) p q
 
-in_flash : (cmd : Cmd) (n : ℕ) → flash_base ≤ address cmd → address cmd + size cmd ≤ flash_base + n → is_in_flash cmd n ≡ true
+in_flash : (cmd : Cmd) (n : ℕ) → flash_base ≤ address cmd
+    → address cmd + size cmd ≤ flash_base + n → is_in_flash cmd n ≡ true
 in_flash cmd n low high = both_true _ _ (le-leb _ _ low) (le-leb _ _ high)
 
 same_served : (xs ys : List Step) (reply : List ℕ) (boot : Option BootKind) → xs ≡ ys → reply ≡ [] → boot ≡ None
@@ -69,7 +70,8 @@ erase-done c t cmd s k is =
     ap (λ status. served status c cmd []) (erase-status (length c.flash) c.otp t cmd s k is)
     ∙ same_served _ _ _ _ steps reply boot
 
-module _ (n : ℕ) (otp : List ℕ) (t : Option Table) (cmd : Cmd) (p : ℕ) (payload : List ℕ) (is : IsWrite n t p payload cmd) where
+module _ (n : ℕ) (otp : List ℕ) (t : Option Table) (cmd : Cmd) (p : ℕ) (payload : List ℕ)
+    (is : IsWrite n t p payload cmd) where
   write-offset : offset cmd ≡ 256 * p
   write-offset = let at = is.address in omega (arith, at)
 
@@ -89,7 +91,8 @@ module _ (n : ℕ) (otp : List ℕ) (t : Option Table) (cmd : Cmd) (p : ℕ) (pa
       let all = write_checks n t false cmd payload in
       at-write n otp t false cmd payload is.id
       ∙ passing COMMAND_LENGTH _ (drop 2 all) (eq-eqb _ _ is.arg_size)
-      (passing TRANSFER_LENGTH _ (drop 3 all) (both_true _ _ (eq-eqb _ _ (is.transfer ∙ sym is.size)) (eq-eqb _ _ (sym is.transfer)))
+      (passing TRANSFER_LENGTH _ (drop 3 all)
+      (both_true _ _ (eq-eqb _ _ (is.transfer ∙ sym is.size)) (eq-eqb _ _ (sym is.transfer)))
       (passing ALIGNMENT _ (drop 4 all) (eq-eqb _ _ page)
       (passing ADDRESS _ (drop 5 all) (in_flash cmd n low high)
       (passing NOT_PERMITTED _ [] write-allowed refl))))

@@ -12,7 +12,8 @@ module _ (words : List ℕ) (k : ℕ) where
 
   pub keeps-first : (otp : List ℕ) (row : ℕ) → k < length words
       → keeps_raised otp row (drop k words)
-      ≡ ((bit_and (get_or otp row 0) (get_or words k 0) == get_or otp row 0) && keeps_raised otp (row + 1) (drop (k + 1) words))
+      ≡ ((bit_and (get_or otp row 0) (get_or words k 0) == get_or otp row 0)
+      && keeps_raised otp (row + 1) (drop (k + 1) words))
   keeps-first otp row lt = ap (keeps_raised otp row) (drop_more words k 0 lt)
 
   -- no word is left

@@ -1,4 +1,5 @@
--- The arguments of a command. Source: RP2350 Datasheet, chapter 5 (Bootrom, the PICOBOOT interface).
+-- The arguments of a command. Source: RP2350 Datasheet, chapter 5 (Bootrom, the PICOBOOT
+-- interface).
 use Rattle.std.specs.Prelude.{ℕ, ◌-◌, drop, slice_index}
 use Rattle.byteorder.specs.Endian.{little_number}
 use Rattle.pico_board.specs.Content.{flash_base}

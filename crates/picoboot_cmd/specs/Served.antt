@@ -15,8 +15,8 @@ use Rattle.picoboot_cmd.specs.Pages.{programs}
 use Rattle.picoboot_cmd.specs.Rows.{raises}
 use Rattle.picoboot_cmd.specs.Sectors.{erases}
 
--- the steps: an erase is of its sectors, a write of the pages of its payload, and a write of OTP rows
--- of the words of its payload, ascending
+-- the steps: an erase is of its sectors, a write of the pages of its payload, and a write of OTP
+-- rows of the words of its payload, ascending
 abbrev pub steps_of : Cmd → List ℕ → List Step
 steps_of cmd payload =
     if cmd.id == ERASE then erases (offset cmd / 4096) (size cmd / 4096)

@@ -131,13 +131,7 @@ fn exclusive_status(cmd: &Cmd, payload: &[u8]) -> u32
 }
 
 /// The status of an erase.
-fn erase_status(
-    flash_len: u32,
-    table: Option<&Table>,
-    busy: bool,
-    cmd: &Cmd,
-    payload: &[u8],
-) -> u32
+fn erase_status(flash_len: u32, table: Option<&Table>, busy: bool, cmd: &Cmd, payload: &[u8]) -> u32
     requires rights { TellsRights (option_map (λ t. t.now) table) }
     ensures { result ≡ first_failing (erase_checks flash_len
         (option_map (λ t. t.now) table.entry) busy cmd.now payload.now) }
@@ -185,13 +179,7 @@ fn read_status(flash_len: u32, table: Option<&Table>, cmd: &Cmd, payload: &[u8])
 }
 
 /// The status of a write.
-fn write_status(
-    flash_len: u32,
-    table: Option<&Table>,
-    busy: bool,
-    cmd: &Cmd,
-    payload: &[u8],
-) -> u32
+fn write_status(flash_len: u32, table: Option<&Table>, busy: bool, cmd: &Cmd, payload: &[u8]) -> u32
     requires rights { TellsRights (option_map (λ t. t.now) table) }
     ensures { result ≡ first_failing (write_checks flash_len
         (option_map (λ t. t.now) table.entry) busy cmd.now payload.now) }

@@ -55,12 +55,18 @@ fn a_write_and_a_read_are_served(rt: HostRuntime) -> Result<(), Fail> {
     let mut reply = HashReply::new();
     let write = command(5, 8, 3, 0x1000_1000, 3);
     assert!(rt; board.powered());
-    assert_eq!(rt; apply(&mut board, None, false, &write, b"abc", &mut reply), done(0));
+    assert_eq!(rt;
+        apply(&mut board, None, false, &write, b"abc", &mut reply),
+        done(0)
+    );
     assert_eq!(rt; reply.count(), 0);
     assert_eq!(rt; board.steps(), 1);
     let read = command(0x84, 8, 3, 0x1000_1000, 3);
     assert!(rt; board.powered());
-    assert_eq!(rt; apply(&mut board, None, true, &read, &[], &mut reply), done(0));
+    assert_eq!(rt;
+        apply(&mut board, None, true, &read, &[], &mut reply),
+        done(0)
+    );
     assert_eq!(rt; reply.count(), 3);
     assert_eq!(rt;
         reply.digest(),
@@ -83,10 +89,16 @@ fn rows_are_written_and_a_lost_bit_is_refused(rt: HostRuntime) -> Result<(), Fai
     let mut reply = HashReply::new();
     let write = command(0x0d, 5, 4, 0x0001_00c0, 0);
     assert!(rt; board.powered());
-    assert_eq!(rt; apply(&mut board, None, false, &write, &[1, 0, 0, 0], &mut reply), done(17));
+    assert_eq!(rt;
+        apply(&mut board, None, false, &write, &[1, 0, 0, 0], &mut reply),
+        done(17)
+    );
     assert_eq!(rt; board.steps(), 0);
     assert!(rt; board.powered());
-    assert_eq!(rt; apply(&mut board, None, false, &write, &[7, 0, 0, 0], &mut reply), done(0));
+    assert_eq!(rt;
+        apply(&mut board, None, false, &write, &[7, 0, 0, 0], &mut reply),
+        done(0)
+    );
     assert!(rt; board.powered());
     assert_eq!(rt; board.otp_read(0x0c0), 7);
     Ok(())
@@ -117,7 +129,10 @@ fn a_cut_leaves_the_first_erase(rt: HostRuntime) -> Result<(), Fail> {
     let erase = command(3, 8, 0, 0x1000_0000, 0x2000);
     board.arm_cut(1, false, &[]);
     assert!(rt; board.powered());
-    assert_eq!(rt; apply(&mut board, None, false, &erase, &[], &mut reply), Err(PowerLost));
+    assert_eq!(rt;
+        apply(&mut board, None, false, &erase, &[], &mut reply),
+        Err(PowerLost)
+    );
     assert_eq!(rt; board.steps(), 1);
     assert!(rt; !board.powered());
     Ok(())

@@ -8,7 +8,6 @@ ghost use Rattle.picoboot_cmd.specs.Rows.{are_row_words, raises};
 ghost use Rattle.picoboot_cmd.specs.Sectors.{erases};
 ghost use Rattle.picoboot_cmd.specs.Served.{IsReady, boot_of, reply_of, steps_of};
 
-
 use crate::cmd::Cmd;
 use crate::kinds::{ERASE, OTP_READ, OTP_WRITE, READ, REBOOT, WRITE};
 use crate::reply::Reply;
@@ -79,13 +78,7 @@ fn raise_rows<B: Board>(board: &mut B, first: u16, words: &[u8]) -> Result<(), P
 }
 
 /// Puts a range of the flash, in pieces as long as `piece` or shorter.
-fn put_through<B: Board, R: Reply>(
-    board: &B,
-    at: u32,
-    size: u32,
-    piece: &mut [u8],
-    reply: &mut R,
-)
+fn put_through<B: Board, R: Reply>(board: &B, at: u32, size: u32, piece: &mut [u8], reply: &mut R)
     requires power { IsTrue (B.state board.now).powered }
     requires inside { at + size ≤ length (B.state board.now).content.flash }
     requires some { 0 < length piece.old }

@@ -11,7 +11,8 @@ loop-done-preserved g c = record {
   inside = search rules;
   put = λ before held.
       subst (λ bytes. g.R.Reply.stands_for c.put.new.self bytes)
-      (range-put (g.B.Board.state c.args.board.now).content.flash before c.read.new.into c.args.at c.loop-done.done c.min-count.result _
+      (range-put (g.B.Board.state c.args.board.now).content.flash before c.read.new.into c.args.at
+      c.loop-done.done c.min-count.result _
       (length-take-le c.min-count.result c.loop-done.piece
       (let least = c.min-count.ensures in omega (arith, least))) c.read.ensures)
       (c.put.ensures (before ++ slice_range (g.B.Board.state c.args.board.now).content.flash c.args.at

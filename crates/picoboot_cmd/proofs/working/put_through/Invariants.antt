@@ -9,7 +9,8 @@ invariant-loop-done g l = record {
   few : length l.piece ≤ 4096;
   inside : l.done ≤ l.size;
   put : (before : List ℕ) → g.R.Reply.stands_for l.fn.reply before
-      → g.R.Reply.stands_for l.reply (before ++ slice_range (g.B.Board.state l.board).content.flash l.at (l.at + l.done));
+      → g.R.Reply.stands_for l.reply
+      (before ++ slice_range (g.B.Board.state l.board).content.flash l.at (l.at + l.done));
 }
 
 abbrev pub decreases-loop-done : goal.decreases-loop-done

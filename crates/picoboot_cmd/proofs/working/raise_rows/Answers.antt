@@ -12,13 +12,15 @@ pub returns-in_err-raise : goal.returns-in_err-raise
 returns-in_err-raise g c =
     let count = length-words_of c.args.words.now in
     let lost = err_from_is_err_and c.from_residual.result c.from_residual.ensures.1 in
-    let more = raises-first (words_of c.args.words.now) c.args.first c.loop-k.k (omega (arith, count, c.loop-k-test.true)) in
+    let more = raises-first (words_of c.args.words.now) c.args.first c.loop-k.k
+    (omega (arith, count, c.loop-k-test.true)) in
     rw (lost.1) (c.loop-k.invariant.rest _ _ (rw (more, sym c.word_at.ensures) (DoesAll-cut _ c.in_err-raise.ensures)))
 
 pub loop-k-preserved : goal.loop-k-preserved
 loop-k-preserved g c =
     let count = length-words_of c.args.words.now in
-    let more = raises-first (words_of c.args.words.now) c.args.first c.loop-k.k (omega (arith, count, c.loop-k-test.true)) in
+    let more = raises-first (words_of c.args.words.now) c.args.first c.loop-k.k
+    (omega (arith, count, c.loop-k-test.true)) in
     let first = row_words-first (words_of c.args.words.now) c.loop-k.k (omega (arith, count, c.loop-k-test.true)) in
     let bits = c.loop-k.invariant.bits in
     record {
@@ -31,5 +33,6 @@ loop-k-preserved g c =
 pub returns : goal.returns
 returns g c =
     let count = length-words_of c.args.words.now in
-    let end = raises-end (words_of c.args.words.now) c.args.first c.loop-k.k (omega (arith, count, c.loop-k-test.false)) in
+    let end = raises-end (words_of c.args.words.now) c.args.first c.loop-k.k
+    (omega (arith, count, c.loop-k-test.false)) in
     c.loop-k.invariant.rest _ _ (rw end (DoesAll-none _ c.loop-k.invariant.power))
