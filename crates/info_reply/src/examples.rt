@@ -48,6 +48,7 @@ pub fn partitions()
 
 /// What commands ask for, and kinds that are none.
 pub fn kinds_of_infos()
+    ensures id { (info 256 1 0).id ≡ 0x8b }
     ensures table { asked (info 256 1 7) [] ≡ Ok Table }
     ensures target { asked (info 256 2 0xe48bff59) [] ≡ Ok (Target 0xe48bff59) }
     ensures device { asked (info 16 3 7) [] ≡ Ok Device }

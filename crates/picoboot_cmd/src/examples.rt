@@ -1,12 +1,15 @@
 //! Worked examples of commands: each check, both sides of each bound, and commands that fail two
 //! checks.
 
-ghost use Rattle.std.specs.Prelude.{◌≡◌, ℕ, List, Err, None, Ok, Some, [], ◌∷◌, ◌++◌, false, replicate, true};
+ghost use Rattle.std.specs.Prelude.{◌≡◌, ◌*◌, ◌-◌, Err, None, Ok, Some, [], ◌∷◌, ◌++◌, false, replicate, true};
 ghost use Rattle.pico_board.specs.declared.BootKind.TheVariants.{Bootsel, Normal, Update};
 ghost use Rattle.pico_board.specs.declared.Step.TheVariants.{Erase, Program, Raise};
+ghost use Rattle.part_table.specs.Examples.{guarded_table};
 ghost use Rattle.picoboot_cmd.specs.declared.cmd.CmdFault.TheVariants.{Magic};
 ghost use Rattle.picoboot_cmd.specs.Commands.{command_in, written};
 ghost use Rattle.picoboot_cmd.specs.Examples.{answer, busy_answer, command, erase_command, guarded_answer, otp_read_command, otp_write_command, plain_command, range_args, read_command, reboot_command, row_args, unread_answer, word, write_command};
+ghost use Rattle.picoboot_cmd.specs.Sectors.{IsSoundFor};
+ghost use Rattle.picoboot_cmd.specs.WellFormed.{IsErase, IsReboot, IsWrite};
 ghost use Rattle.picoboot_cmd.specs.Served.{boot_of, reply_of, steps_of};
 
 /// The bytes of an erase of one sector.
@@ -225,4 +228,21 @@ pub fn replies_and_boots()
     ensures bootsel { boot_of (reboot_command 2 7) ≡ Some Bootsel }
     ensures update { boot_of (reboot_command 4 0x10020000) ≡ Some (Update 0x10020000) }
     ensures xip { boot_of (plain_command 7 0 0) ≡ None }
+{}
+
+/// A table is sound for a flash that holds its last sector, and for no shorter one.
+pub fn a_table_that_fits()
+    ensures whole { IsSoundFor (Some guarded_table) (62 * 4096) }
+    ensures shorter { ¬ (IsSoundFor (Some guarded_table) (62 * 4096 - 1)) }
+    ensures none { IsSoundFor None 0 }
+{}
+
+/// Well-formed commands on the last bytes of a flash of 262,144 bytes, and on none.
+pub fn well_formed_commands()
+    ensures erase { IsErase 262144 None 32 32 (erase_command 0x10020000 0x20000) }
+    ensures erase_none { IsErase 262144 None 64 0 (erase_command 0x10040000 0) }
+    ensures write { IsWrite 262144 None 1023 (1 ∷ 2 ∷ []) (write_command 0x1003ff00 2) }
+    ensures write_right { IsWrite 262144 (Some guarded_table) 512 (1 ∷ [])
+        (write_command 0x10020000 1) }
+    ensures reboot { IsReboot (reboot_command 4 0x10020000) }
 {}
