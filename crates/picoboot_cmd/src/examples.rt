@@ -237,12 +237,13 @@ pub fn a_table_that_fits()
     ensures none { IsSoundFor None 0 }
 {}
 
-/// Well-formed commands on the last bytes of a flash of 262,144 bytes, and on none.
+/// Well-formed commands on the last bytes of a flash of 262,144 bytes, on none, and on the last
+/// page of the sectors that may be written.
 pub fn well_formed_commands()
     ensures erase { IsErase 262144 None 32 32 (erase_command 0x10020000 0x20000) }
     ensures erase_none { IsErase 262144 None 64 0 (erase_command 0x10040000 0) }
     ensures write { IsWrite 262144 None 1023 (1 ∷ 2 ∷ []) (write_command 0x1003ff00 2) }
-    ensures write_right { IsWrite 262144 (Some guarded_table) 512 (1 ∷ [])
-        (write_command 0x10020000 1) }
+    ensures write_right { IsWrite 262144 (Some guarded_table) 991 (replicate 256 0)
+        (write_command 0x1003df00 256) }
     ensures reboot { IsReboot (reboot_command 4 0x10020000) }
 {}

@@ -46,8 +46,8 @@ returns-clause-write_right c = record {
   size = refl;
   inside = omega arith;
   allowed = λ i lt.
-      let first : 0 ≡ i = omega (arith, lt) in
-      subst (λ (j : ℕ). allowed_by (Some guarded_table) ((256 * 512 + j) / 4096) BootWrite ≡ true) first refl;
+      let last : 61 ≡ (256 * 991 + i) / 4096 = omega (arith, lt) in
+      subst (λ (s : ℕ). allowed_by (Some guarded_table) s BootWrite ≡ true) last refl;
 }
 
 pub returns-clause-reboot : goal.returns-clause-reboot
