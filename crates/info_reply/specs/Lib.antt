@@ -1,0 +1,4 @@
+pub mod Asks
+pub mod Infos
+pub mod Statuses
+pub mod Examples
