@@ -70,7 +70,7 @@ unfolding programs_in
 programs-all s f P each = programs-from s 0 16 f P (λ i bytes low high. each i bytes (omega (arith, high)))
 
 -- n programs of the pages of a sector, from page number a of it on
-abbrev programs_above : (s a n : ℕ) → (ℕ → Option (List ℕ)) → List Step
+abbrev pub programs_above : (s a n : ℕ) → (ℕ → Option (List ℕ)) → List Step
 programs_above s a n f = flat_map (λ i. program_of (16 * s + i) (f i)) (range_with_len a n)
 
 pages-above : (s a n x : ℕ) (f : ℕ → Option (List ℕ)) → x < 16 * s + a

@@ -1,5 +1,7 @@
 pub mod Distinct
 pub mod FileFacts
 pub mod Gating
-pub mod Placing
+pub mod Growing
+pub mod HeldPages
 pub mod ReadBack
+pub mod SetBits

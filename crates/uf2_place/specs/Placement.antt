@@ -36,10 +36,13 @@ first_in w = w.start / 4096
 abbrev pub lies_in : Window → ℕ → Uf2 → Bool
 lies_in w sector b = sector_in w b == sector
 
+-- the erase of a sector, where it is not erased yet
+abbrev pub erase_steps : Bool → ℕ → List Step
+erase_steps erased sector = if erased then [] else Erase sector ∷ []
+
 -- the erase of a page's sector, where it is not erased yet, and then the program of the page
 abbrev pub fresh_steps : Bool → ℕ → ℕ → List ℕ → List Step
-fresh_steps erased sector page bytes =
-    (if erased then [] else Erase sector ∷ []) ++ Program page bytes ∷ []
+fresh_steps erased sector page bytes = erase_steps erased sector ++ Program page bytes ∷ []
 
 -- a block's own steps, behind the blocks that came before it: the erase of its page's sector, where
 -- none of those lies in that sector, and then the program of its page

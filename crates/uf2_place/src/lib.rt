@@ -5,12 +5,22 @@
 //! of the refusals are this project's own.
 #![tactic(auto)]
 
+mod answer;
+mod bits;
 mod block;
+mod current;
+mod judging;
 pub mod laws;
+mod marks;
+mod pages;
+mod holding;
+mod placing;
 mod reading;
 mod writing;
 
+pub use answer::{Accepted, PlaceFault};
 pub use block::{Uf2, Uf2Fault, Uf2WriteFault};
+pub use marks::Marks;
 pub use part_table::Target;
 pub use reading::read_uf2;
 pub use writing::write_uf2;
