@@ -60,7 +60,7 @@ pub record Grows (t : Target) (xs ys : List Uf2) : Type 0 where
   pub more : List Step
   pub whole : placed t (xs ++ ys) ≡ placed t xs ++ more
 
-gated-more : (w : Window) (x : Uf2) (xs ys : List Uf2) → is_whole (x ∷ xs) ≡ false
+pub gated-more : (w : Window) (x : Uf2) (xs ys : List Uf2) → is_whole (x ∷ xs) ≡ false
     → gated_steps w (x ∷ xs ++ ys) ≡ gated_steps w (x ∷ xs)
     ++ (in_turn (later_steps w) (x ∷ xs) ys ++ (if is_whole (x ∷ xs ++ ys) then final_steps w (x ∷ xs ++ ys) else []))
 gated-more w x xs ys few =

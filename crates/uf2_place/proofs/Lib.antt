@@ -1,5 +1,7 @@
+pub mod Added
 pub mod Distinct
 pub mod FileFacts
+pub mod Following
 pub mod Gating
 pub mod Growing
 pub mod HeldPages

@@ -10,7 +10,8 @@ use Rattle.uf2_place.specs.declared.current.Current.{Current}
 use Rattle.uf2_place.specs.declared.current.Held.{Held}
 use Rattle.uf2_place.specs.Marks.{Marked, is_marked}
 use Rattle.uf2_place.specs.Downloads.{bytes_of, held_page}
-use Rattle.uf2_place.specs.Placement.{first_in, fresh_steps, lies_in, page_in, programs_in, sector_in}
+use Rattle.std.specs.Set.{is_member}
+use Rattle.uf2_place.specs.Placement.{numbers_of, first_in, fresh_steps, lies_in, page_in, programs_in, sector_in}
 
 -- the sector is marked as erased, and no other mark changes
 pub record MarksSector (sector : ℕ) (old new : Marked) : Type 0 where
@@ -60,3 +61,18 @@ pub record HoldsBlock (b : Uf2) (old : Current) (before : Pool) (new : Current) 
   pub has : new ≡ with_held old (Some now)
   pub page : (place : ℕ) × (page_in old.target.window b ≡ 16 * first_in old.target.window + place)
       × HoldsPage place b.page former before now after
+
+-- a block that may come next: of the family and the count of the download, and of a number that none
+-- of its blocks has
+pub record IsNext (c : Current) (blocks : List Uf2) (b : Uf2) : Type 0 where
+  pub family : b.family ≡ c.family
+  pub count : b.count ≡ c.count
+  pub fresh : is_member nat_eq (numbers_of blocks) b.number ≡ false
+
+-- a block's number is taken, and one block less is to come
+pub record TakesNumber (b : Uf2) (old : Current) (before : Marked) (new : Current) (after : Marked) : Type 0 where
+  pub left : new.left + 1 ≡ old.left
+  pub rest : new ≡ record { family = old.family; count = old.count; target = old.target; left = new.left; held = old.held }
+  pub numbers : (i : ℕ) → is_marked after.numbers i
+      ≡ (if nat_eq b.number i then true else is_marked before.numbers i)
+  pub sectors : after.sectors ≡ before.sectors

@@ -1,12 +1,15 @@
 //! The steps that a block brings to a download.
 
-ghost use Rattle.std.specs.Prelude.{◌≡◌, ℕ, ◌+◌, ◌*◌, ◌<◌, ◌≤◌, ◌^◌, ◌&&◌, ◌==◌, IsTrue, OnOk, Some, [], if◌then◌else◌, slice_get, false, true, is_ok, is_some, length};
+ghost use Rattle.std.specs.Prelude.{◌≡◌, ℕ, ◌+◌, ◌*◌, ◌<◌, ◌≤◌, ◌^◌, ◌&&◌, ◌==◌, IsTrue, OnOk, Some, List, [], ◌∷◌, ◌++◌, if◌then◌else◌, slice_get, false, true, is_ok, is_some, length};
 ghost use Rattle.std.specs.Bool.{OnTrue, OnFalse};
 ghost use Rattle.pico_board.specs.Board.{DoesAll};
-ghost use Rattle.uf2_place.specs.Downloads.{IsOut, IsTargetIn, bytes_of, held_page, lease_in};
+ghost use Rattle.sector_pool.specs.Keeping.{HandsOver};
+ghost use Rattle.uf2_place.specs.Blocks.{IsUf2};
+ghost use Rattle.uf2_place.specs.declared.block.Uf2.{Uf2};
+ghost use Rattle.uf2_place.specs.Downloads.{Follows, IsOut, IsTargetIn, bytes_of, held_page, lease_in};
 ghost use Rattle.uf2_place.specs.Marks.{is_marked};
-ghost use Rattle.uf2_place.specs.Placement.{HasWholeSectors, IsInside, erase_steps, fresh_steps, programs_in, sector_in};
-ghost use Rattle.uf2_place.specs.Progress.{HoldsBlock, MarksSector, held_steps, is_held_back, open_steps, put_steps};
+ghost use Rattle.uf2_place.specs.Placement.{HasWholeSectors, grown, IsInside, erase_steps, fresh_steps, programs_in, sector_in};
+ghost use Rattle.uf2_place.specs.Progress.{HoldsBlock, IsNext, MarksSector, TakesNumber, held_steps, is_held_back, open_steps, put_steps};
 
 use crate::block::Uf2;
 use crate::current::{Current, Held};
@@ -104,6 +107,10 @@ fn put<B: Board>(
     requires out { IsOut pool.old (lease_in current.old.held) }
     ensures steps { DoesAll B.state B.history board.old
         (put_steps current.old marks.old block.now) (is_ok result) board.new }
+    ensures left { current.new.left ≡ current.old.left }
+    ensures target { current.new.target ≡ current.old.target }
+    ensures lease { lease_in current.new.held ≡ lease_in current.old.held }
+    ensures out { IsOut pool.new (lease_in current.old.held) }
     ensures held { OnTrue (is_held_back current.old block.now)
         ((marks.new ≡ marks.old) × HoldsBlock block.now current.old pool.old current.new pool.new) }
     ensures same { OnFalse (is_held_back current.old block.now)
@@ -152,4 +159,47 @@ fn finish_held<B: Board>(
         return Ok(());
     }
     program_held(board, pool, held, sector)
+}
+
+/// Takes a block's number.
+fn take_number(marks: &mut Marks, current: &mut Current, block: &Uf2)
+    requires some { 1 ≤ current.old.left }
+    requires number { block.now.number < 65536 }
+    ensures { TakesNumber block.now current.old marks.old current.new marks.new }
+{
+    marks.add_number(block.number);
+    current.left -= 1;
+}
+
+/// Does what a block brings to a download.
+pub fn place_block<B: Board>(
+    board: &mut B,
+    pool: &mut SectorPool,
+    marks: &mut Marks,
+    current: &mut Current,
+    block: &Uf2,
+) -> Result<(), PowerLost>
+    requires power { IsTrue (B.state board.old).powered }
+    requires block { IsUf2 block.now }
+    requires inside { IsInside current.old.target.window block.now }
+    requires target { IsTargetIn (length (B.state board.old).content.flash) current.old.target }
+    requires some { 1 ≤ current.old.left }
+    requires out { IsOut pool.old (lease_in current.old.held) }
+    ensures steps { (blocks : List Uf2) → Follows pool.old marks.old current.old blocks
+        → IsNext current.old blocks block.now
+        → DoesAll B.state B.history board.old
+        (grown current.old.target blocks (blocks ++ block.now ∷ [])) (is_ok result) board.new }
+    ensures follows { (blocks : List Uf2) → Follows pool.old marks.old current.old blocks
+        → IsNext current.old blocks block.now
+        → OnOk result (Follows pool.new marks.new current.new (blocks ++ block.now ∷ [])) }
+    ensures left { OnOk result (current.new.left + 1 ≡ current.old.left) }
+    ensures target { current.new.target ≡ current.old.target }
+    ensures lease { lease_in current.new.held ≡ lease_in current.old.held }
+    ensures pool { HandsOver (lease_in current.old.held) (lease_in current.old.held)
+        pool.old pool.new }
+{
+    open(board, current)?;
+    put(board, pool, marks, current, block)?;
+    take_number(marks, current, block);
+    finish(board, pool, current)
 }
