@@ -1,4 +1,5 @@
 pub mod Added
+pub mod Beginnings
 pub mod Distinct
 pub mod FileFacts
 pub mod Following
@@ -6,4 +7,5 @@ pub mod Gating
 pub mod Growing
 pub mod HeldPages
 pub mod ReadBack
+pub mod Ruled
 pub mod SetBits

@@ -1,3 +1,4 @@
+pub mod Accepting
 pub mod Blocks
 pub mod Downloads
 pub mod Faults

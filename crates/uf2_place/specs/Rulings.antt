@@ -79,3 +79,16 @@ ruled table given numbers b (Some c) =
 abbrev pub ruling : ℕ → Option Table → Option Target → List ℕ → Option Current → Uf2 → Ruling
 ruling flash_len table given numbers current b =
     if is_skipped flash_len b then Answered (Ok Skipped) else ruled table given numbers b current
+
+-- the target of a block: that of the current download, where the block continues it and its number is
+-- not taken, and otherwise the one that is given
+abbrev pub target_of : Option Target → List ℕ → Uf2 → Option Current → Option Target
+target_of given numbers b None = given
+target_of given numbers b (Some c) =
+    if is_of c b then (if is_marked numbers b.number then None else Some c.target) else given
+
+-- a block that is not skipped goes to this target, if its page may
+pub record GoesTo (n : ℕ) (given : Option Target) (numbers : List ℕ) (current : Option Current) (b : Uf2)
+    (t : Target) : Type 0 where
+  pub kept : is_skipped n b ≡ false
+  pub target : target_of given numbers b current ≡ Some t

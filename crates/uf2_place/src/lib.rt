@@ -6,9 +6,11 @@
 #![tactic(auto)]
 
 mod answer;
+mod beginning;
 mod bits;
 mod block;
 mod current;
+mod download;
 mod judging;
 pub mod laws;
 mod marks;
@@ -20,7 +22,7 @@ mod writing;
 
 pub use answer::{Accepted, PlaceFault};
 pub use block::{Uf2, Uf2Fault, Uf2WriteFault};
-pub use marks::Marks;
+pub use download::Download;
 pub use part_table::Target;
 pub use reading::read_uf2;
 pub use writing::write_uf2;

@@ -1,4 +1,4 @@
-use Rattle.std.proofs.Common.{◌+◌, ◌*◌, ◌≤◌, arith, subst, sym, false, true, length}
+use Rattle.std.proofs.Common.{◌+◌, ◌*◌, ◌≤◌, subst, sym, false, true}
 use Rattle.std.proofs.lemmas.Result.{err_from_is_err_and}
 use Rattle.pico_board.specs.Board.{DoesAll}
 use Rattle.pico_board.proofs.Steps.{DoesAll-none, DoesAll-append, DoesAll-append_cut}
