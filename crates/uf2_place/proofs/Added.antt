@@ -1,11 +1,10 @@
 -- What one more block adds to the steps of a download.
-use Rattle.std.proofs.Common.{◌≡◌, ◌≢◌, ℕ, ◌+◌, ◌≤◌, ◌<◌, ◌&&◌, ◌==◌, Bool, true, false, is_some, nat_eq, if◌then◌else◌, Option, None, Some, List, [], ◌∷◌, ◌++◌, length, arith, refl, sym, ap, subst, ◌∙◌}
+use Rattle.std.proofs.Common.{◌≡◌, ◌≢◌, ◌+◌, ◌≤◌, ◌<◌, ◌&&◌, ◌==◌, Bool, true, false, is_some, if◌then◌else◌, Option, None, Some, List, [], ◌∷◌, ◌++◌, length, arith, refl, sym, ap, ◌∙◌}
 use Rattle.std.specs.List.{list_any}
-use Rattle.std.proofs.lemmas.Bool.Decides.{Decides-eqb, nat_tests}
-use Rattle.std.proofs.lemmas.List.{append_assoc, append-nil, length-append}
+use Rattle.std.proofs.lemmas.Bool.Decides.{nat_tests}
+use Rattle.std.proofs.lemmas.List.{append-nil}
 use Rattle.pico_board.specs.declared.Step.{Step}
 use Rattle.pico_board.specs.declared.Step.TheVariants.{Erase}
-use Rattle.pico_board.specs.declared.Window.{Window}
 use Rattle.part_table.specs.declared.Target.{Target}
 use Rattle.sector_pool.specs.Pool.{Pool}
 use Rattle.uf2_place.specs.declared.block.Uf2.{Uf2}
@@ -13,7 +12,7 @@ use Rattle.uf2_place.specs.declared.current.Current.{Current}
 use Rattle.uf2_place.specs.declared.current.Held.{Held}
 use Rattle.uf2_place.specs.Marks.{Marked, is_marked}
 use Rattle.uf2_place.specs.Downloads.{Follows, Holds}
-use Rattle.uf2_place.specs.Placement.{final_steps, first_in, fresh_steps, gated_steps, grown, in_turn, is_whole, later_steps, lies_in, own_steps, page_in, placed, sector_in}
+use Rattle.uf2_place.specs.Placement.{final_steps, first_in, gated_steps, grown, is_whole, later_steps, lies_in, own_steps, placed, sector_in}
 use Rattle.uf2_place.specs.Progress.{is_held_back, open_steps, put_steps}
 use Rattle.uf2_place.proofs.Growing.{gated-more, grown-is, in_turn-append, not-whole}
 

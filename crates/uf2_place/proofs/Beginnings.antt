@@ -1,7 +1,6 @@
 -- A download that has no block yet.
-use Rattle.std.proofs.Common.{◌≡◌, ℕ, ◌+◌, Bool, true, false, is_some, nat_eq, Option, None, Some, List, [], length, arith, refl, sym, ap, subst, ◌∙◌}
+use Rattle.std.proofs.Common.{◌≡◌, ℕ, false, is_some, Option, None, Some, List, [], arith, refl, sym}
 use Rattle.std.specs.Prelude.{IfSome}
-use Rattle.std.specs.Int.{bit_at}
 use Rattle.std.proofs.lemmas.Nat.Bits.{bit_at-zero}
 use Rattle.pico_board.proofs.Gates.{IsDistinct-none}
 use Rattle.part_table.specs.declared.Target.{Target}

@@ -1,30 +1,27 @@
 -- What is kept of a download once it has a block more.
-use Rattle.std.proofs.Common.{◌≡◌, ◌≢◌, ℕ, ◌+◌, ◌-◌, ◌*◌, ◌/◌, ◌%◌, ◌≤◌, ◌<◌, ◌&&◌, ◌||◌, ◌==◌, Bool, true, false, is_some, nat_eq, if◌then◌else◌, Option, None, Some, List, [], ◌∷◌, ◌++◌, length, map, arith, refl, sym, ap, subst, ◌∙◌}
+use Rattle.std.proofs.Common.{◌≡◌, ◌≢◌, ℕ, ◌+◌, ◌*◌, ◌≤◌, ◌&&◌, ◌||◌, ◌==◌, Bool, true, false, is_some, nat_eq, if◌then◌else◌, Option, None, Some, List, [], ◌∷◌, ◌++◌, arith, refl, sym, ap, subst, ◌∙◌}
 use Rattle.std.specs.Prelude.{slice_get}
 use Rattle.std.specs.Bool.{OnTrue, OnFalse}
-use Rattle.std.specs.List.{AllByRecursion, IsDistinct, list_any}
+use Rattle.std.specs.List.{IsDistinct, list_any}
 use Rattle.std.specs.Option.{option_or}
 use Rattle.std.specs.Set.{is_member}
-use Rattle.std.proofs.lemmas.Bool.Decides.{Decides-eqb, nat_tests}
-use Rattle.std.proofs.lemmas.Grind.{common_steps}
-use Rattle.std.proofs.lemmas.List.{append_assoc, append-nil, length-append, map-append}
+use Rattle.std.proofs.lemmas.Bool.Decides.{nat_tests}
+use Rattle.std.proofs.lemmas.List.{length-append, map-append}
 use Rattle.std.proofs.lemmas.List.Folds.{list_any-append}
 use Rattle.pico_board.specs.declared.Window.{Window}
 use Rattle.part_table.specs.declared.Target.{Target}
 use Rattle.sector_pool.specs.Pool.{Pool}
-use Rattle.sector_pool.specs.Keeping.{KeepsOutBut}
 use Rattle.uf2_place.specs.Blocks.{IsUf2}
 use Rattle.uf2_place.specs.declared.block.Uf2.{Uf2}
 use Rattle.uf2_place.specs.declared.current.Current.{Current}
 use Rattle.uf2_place.specs.declared.current.Held.{Held}
 use Rattle.uf2_place.specs.Marks.{Marked, is_marked}
 use Rattle.uf2_place.specs.Downloads.{Follows, Holds, HoldsPages, bytes_of, held_page}
-use Rattle.uf2_place.specs.Placement.{AreBlocks, HasWholeSectors, IsBlockOf, IsInside, final_steps, first_in, is_whole, last_for, lies_in, numbers_of, page_in, sector_in}
-use Rattle.uf2_place.specs.Progress.{HoldsBlock, HoldsPage, IsNext, MarksSector, TakesNumber, held_steps, is_held_back, with_held}
+use Rattle.uf2_place.specs.Placement.{AreBlocks, IsBlockOf, IsInside, first_in, is_whole, last_for, lies_in, numbers_of, page_in, sector_in}
+use Rattle.uf2_place.specs.Progress.{HoldsBlock, HoldsPage, IsNext, MarksSector, TakesNumber, held_steps, is_held_back}
 use Rattle.uf2_place.proofs.Added.{held-gated, last_part}
 use Rattle.uf2_place.proofs.Distinct.{IsDistinct-push, all-append}
 use Rattle.uf2_place.proofs.HeldPages.{programs-same}
-use Rattle.uf2_place.proofs.SetBits.{differ}
 
 -- the blocks with one more
 next-are : (t : Target) (family count : ℕ) (blocks : List Uf2) (b : Uf2) → AreBlocks t family count blocks → IsUf2 b

@@ -8,4 +8,5 @@ pub mod Growing
 pub mod HeldPages
 pub mod ReadBack
 pub mod Ruled
+pub mod RulingLaws
 pub mod SetBits

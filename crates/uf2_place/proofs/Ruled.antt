@@ -1,9 +1,8 @@
 -- What a ruling says of the block's page, its target and the current download.
-use Rattle.std.proofs.Common.{◌≡◌, ◌≢◌, ℕ, ◌+◌, ◌-◌, ◌≤◌, ◌&&◌, ◌==◌, Bool, true, false, not, nat_eq, nat_le, if◌then◌else◌, Result, Ok, Err, Option, None, Some, List, [], length, arith, refl, sym, ap, subst, ◌∙◌}
+use Rattle.std.proofs.Common.{◌≡◌, ◌≢◌, ℕ, Bool, true, false, Result, Ok, Err, Option, None, Some, List, [], length, arith, refl, sym, ap, subst, ◌∙◌}
 use Rattle.std.proofs.lemmas.Bool.Decides.{nat_tests}
 use Rattle.std.proofs.lemmas.Grind.{common_steps}
 use Rattle.pico_board.specs.declared.Window.{Window}
-use Rattle.pico_board.specs.Content.{flash_base}
 use Rattle.part_table.specs.declared.Right.TheVariants.{BootWrite}
 use Rattle.part_table.specs.declared.Table.{Table}
 use Rattle.part_table.specs.declared.Target.{Target}

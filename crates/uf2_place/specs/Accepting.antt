@@ -1,5 +1,5 @@
 -- What a download stands for, and what `accept` leaves of it. This project's own.
-use Rattle.std.specs.Prelude.{◌≡◌, ◌≢◌, ◌⊎◌, ℕ, Bool, true, false, ◌≤◌, if◌then◌else◌, Result, Ok, Err, Option, None, Some, List, [], ◌∷◌, ◌++◌, length}
+use Rattle.std.specs.Prelude.{◌≡◌, ◌≢◌, Bool, true, false, ◌≤◌, if◌then◌else◌, Result, Ok, Err, Option, None, Some, List, [], ◌∷◌, ◌++◌, length}
 use Rattle.pico_board.specs.declared.Step.{Step}
 use Rattle.pico_board.specs.Board.{State, DoesAll}
 use Rattle.part_table.specs.declared.Target.{Target}

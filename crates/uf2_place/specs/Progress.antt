@@ -1,6 +1,6 @@
 -- What a block brings to a download that is kept: its steps, and what is kept afterwards. This
 -- project's own.
-use Rattle.std.specs.Prelude.{◌≡◌, ℕ, Bool, true, false, ◌+◌, ◌*◌, ◌<◌, ◌==◌, ◌&&◌, is_some, if◌then◌else◌, nat_eq, Option, None, Some, List, [], ◌∷◌, ◌++◌}
+use Rattle.std.specs.Prelude.{◌≡◌, ℕ, Bool, true, false, ◌+◌, ◌*◌, ◌<◌, ◌==◌, ◌&&◌, is_some, if◌then◌else◌, nat_eq, Option, None, Some, List, [], ◌∷◌}
 use Rattle.pico_board.specs.declared.Step.{Step}
 use Rattle.pico_board.specs.declared.Step.TheVariants.{Erase}
 use Rattle.sector_pool.specs.Pool.{Pool}

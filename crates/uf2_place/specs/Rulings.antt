@@ -2,10 +2,9 @@
 -- current download, and which refusal comes first.
 -- Source: the UF2 specification (github.com/microsoft/uf2) for the flags, and the RP2350 Datasheet,
 -- chapter 5 (Bootrom), for the rights. Which blocks are skipped and the order are this project's own.
-use Rattle.std.specs.Prelude.{◌≡◌, ℕ, Bool, false, not, ◌+◌, ◌-◌, ◌/◌, ◌==◌, ◌&&◌, ◌||◌, nat_le, if◌then◌else◌, Result, Ok, Err, Option, None, Some, List}
+use Rattle.std.specs.Prelude.{◌≡◌, ℕ, Bool, false, not, ◌+◌, ◌-◌, ◌==◌, ◌&&◌, ◌||◌, nat_le, if◌then◌else◌, Ok, Err, Option, None, Some, List}
 use Rattle.std.specs.Int.{bit_at}
 use Rattle.std.specs.Option.{option_map_or}
-use Rattle.pico_board.specs.declared.Window.{Window}
 use Rattle.pico_board.specs.Content.{flash_base}
 use Rattle.part_table.specs.declared.Table.{Table}
 use Rattle.part_table.specs.declared.Target.{Target}
@@ -14,9 +13,7 @@ use Rattle.part_table.specs.Families.{absolute_family}
 use Rattle.part_table.specs.Faults.{permissions_fault, overlap_fault}
 use Rattle.part_table.specs.Rights.{allowed_by}
 use Rattle.uf2_place.specs.declared.block.Uf2.{Uf2}
-use Rattle.uf2_place.specs.declared.answer.Accepted.{Accepted}
 use Rattle.uf2_place.specs.declared.answer.Accepted.TheVariants.{Skipped, Again}
-use Rattle.uf2_place.specs.declared.answer.PlaceFault.{PlaceFault}
 use Rattle.uf2_place.specs.declared.answer.PlaceFault.TheVariants.{NoTarget, Outside, NotPermitted}
 use Rattle.uf2_place.specs.declared.answer.Ruling.{Ruling}
 use Rattle.uf2_place.specs.declared.answer.Ruling.TheVariants.{Answered, Begins, Continues}
