@@ -1,6 +1,7 @@
 pub mod Accepting
 pub mod Blocks
 pub mod Downloads
+pub mod Examples
 pub mod Faults
 pub mod Files
 pub mod Marks

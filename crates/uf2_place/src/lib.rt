@@ -12,6 +12,7 @@ mod block;
 mod current;
 mod download;
 mod judging;
+pub mod examples;
 pub mod laws;
 mod marks;
 mod pages;
