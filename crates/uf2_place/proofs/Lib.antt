@@ -1,0 +1,12 @@
+pub mod Added
+pub mod Beginnings
+pub mod Distinct
+pub mod FileFacts
+pub mod Following
+pub mod Gating
+pub mod Growing
+pub mod HeldPages
+pub mod ReadBack
+pub mod Ruled
+pub mod RulingLaws
+pub mod SetBits

@@ -1,0 +1,5 @@
+use Rattle.uf2_place.proofs.SetBits.{marked-set}
+use Rattle.uf2_place.proofs.bits.set_bit.Goals as goal
+
+pub returns : goal.returns
+returns c = λ j. marked-set c.args.words.now c.args.i j c.requires

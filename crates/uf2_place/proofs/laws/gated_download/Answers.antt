@@ -1,0 +1,5 @@
+use Rattle.uf2_place.proofs.Gating.{gated-download}
+use Rattle.uf2_place.proofs.laws.gated_download.Goals as goal
+
+pub returns : goal.returns
+returns c = gated-download

@@ -1,0 +1,58 @@
+-- Worked examples of blocks and of downloads, with their answers reckoned by hand from the rules.
+-- This project's own.
+use Rattle.std.specs.Prelude.{ℕ, Bool, true, false, List, [], None}
+use Rattle.pico_board.specs.declared.Window.{Window}
+use Rattle.part_table.specs.declared.Target.{Target}
+use Rattle.uf2_place.specs.declared.block.Uf2.{Uf2}
+use Rattle.uf2_place.specs.declared.current.Current.{Current}
+
+-- a block of rp2350-arm-s, one of three, by its number, its address and its page
+abbrev pub arm_block : ℕ → ℕ → List ℕ → Uf2
+arm_block number address page = record {
+  flags = 0x2000;
+  address = address;
+  number = number;
+  count = 3;
+  family = 0xe48bff59;
+  page = page;
+}
+
+-- a block of the absolute family, one of two
+abbrev pub absolute_block : ℕ → Uf2
+absolute_block address = record {
+  flags = 0x2000;
+  address = address;
+  number = 0;
+  count = 2;
+  family = 0xe48bff57;
+  page = [];
+}
+
+-- a block of these flags
+abbrev pub flagged : ℕ → Uf2
+flagged flags = record {
+  flags = flags;
+  address = 0x10000000;
+  number = 0;
+  count = 3;
+  family = 0xe48bff59;
+  page = [];
+}
+
+-- sectors 32 to 61 as a target
+abbrev pub slot : Bool → Target
+slot gated = record {
+  window = record { start = 0x20000; len = 0x1e000 };
+  gated = gated;
+  stay = false;
+}
+
+-- a download of arm blocks into that slot
+abbrev pub arm_download : Bool → Current
+arm_download gated = record {
+  family = 0xe48bff59;
+  count = 3;
+  target = slot gated;
+  left = 2;
+  held = None;
+}

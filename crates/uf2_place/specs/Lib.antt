@@ -1,0 +1,10 @@
+pub mod Accepting
+pub mod Blocks
+pub mod Downloads
+pub mod Examples
+pub mod Faults
+pub mod Files
+pub mod Marks
+pub mod Placement
+pub mod Progress
+pub mod Rulings

@@ -1,0 +1,12 @@
+-- A bit for each number of a download and for each sector of the flash. This project's own.
+use Rattle.std.specs.Prelude.{ℕ, ◌/◌, ◌%◌, ◌==◌, Bool, List, slice_index}
+use Rattle.std.specs.Int.{bit_at}
+
+-- the words with a bit for each number that is taken, and for each sector that is erased
+pub record Marked : Type 0 where
+  pub numbers : List ℕ
+  pub sectors : List ℕ
+
+-- bit i of words of 64 bits, the lowest first
+unfoldable pub is_marked : List ℕ → ℕ → Bool
+is_marked words i = bit_at (slice_index words (i / 64)) (i % 64) == 1

@@ -1,0 +1,144 @@
+//! Worked examples of the definitions: the bytes of a block, both sides of each bound, and the
+//! steps of downloads.
+
+ghost use Rattle.std.specs.Prelude.{◌≡◌, ℕ, ◌++◌, Err, None, Ok, Some, List, [], ◌∷◌, false, length, replicate, true};
+ghost use Rattle.pico_board.specs.declared.Step.TheVariants.{Erase, Program};
+ghost use Rattle.part_table.specs.Examples.{pair_table};
+ghost use Rattle.uf2_place.specs.declared.answer.Accepted.TheVariants.{Again, Skipped};
+ghost use Rattle.uf2_place.specs.declared.answer.PlaceFault.TheVariants.{NoTarget, Outside};
+ghost use Rattle.uf2_place.specs.declared.answer.Ruling.TheVariants.{Answered, Begins, Continues};
+ghost use Rattle.uf2_place.specs.Blocks.{is_number, written};
+ghost use Rattle.uf2_place.specs.Examples.{absolute_block, arm_block, arm_download, flagged, slot};
+ghost use Rattle.uf2_place.specs.Files.{file_block, filled, page_count};
+ghost use Rattle.uf2_place.specs.Placement.{is_whole, placed};
+ghost use Rattle.uf2_place.specs.Rulings.{is_of, is_skipped, is_within, ruling, wanted};
+
+/// The bytes of a block: three magic words, and the words of its fields between them.
+pub fn bytes_of_a_block()
+    ensures { (page : List ℕ) → written (arm_block 1 0x10000200 page)
+        ≡ 0x55 ∷ 0x46 ∷ 0x32 ∷ 0x0a ∷ 0x57 ∷ 0x51 ∷ 0x5d ∷ 0x9e
+        ∷ 0x00 ∷ 0x20 ∷ 0x00 ∷ 0x00 ∷ 0x00 ∷ 0x02 ∷ 0x00 ∷ 0x10
+        ∷ 0x00 ∷ 0x01 ∷ 0x00 ∷ 0x00 ∷ 0x01 ∷ 0x00 ∷ 0x00 ∷ 0x00
+        ∷ 0x03 ∷ 0x00 ∷ 0x00 ∷ 0x00 ∷ 0x59 ∷ 0xff ∷ 0x8b ∷ 0xe4
+        ∷ (page ++ (replicate 220 0 ++ (0x30 ∷ 0x6f ∷ 0xb1 ∷ 0x0a ∷ []))) }
+{}
+
+/// A file has 1 to 65,536 blocks, numbered from 0.
+pub fn numbers_of_blocks()
+    ensures one { is_number 0 1 ≡ true }
+    ensures most { is_number 65535 65536 ≡ true }
+    ensures none { is_number 0 0 ≡ false }
+    ensures above { is_number 0 65537 ≡ false }
+    ensures past { is_number 1 1 ≡ false }
+{}
+
+/// An image has a page for each 256 bytes and one for the rest, which is filled up.
+pub fn pages_of_an_image()
+    ensures one { page_count 1 ≡ 1 }
+    ensures full { page_count 256 ≡ 1 }
+    ensures two { page_count 257 ≡ 2 }
+    ensures most { page_count 16777216 ≡ 65536 }
+    ensures rest { filled (replicate 253 7) ≡ replicate 253 7 ++ (255 ∷ 255 ∷ 255 ∷ []) }
+    ensures address { (image : List ℕ) → (file_block image 0xe48bff59 2).address ≡ 0x10000200 }
+    ensures flags { (image : List ℕ) → (file_block image 0xe48bff59 2).flags ≡ 0x2000 }
+    ensures number { (image : List ℕ) → (file_block image 0xe48bff59 2).number ≡ 2 }
+{}
+
+/// A block is skipped that is not for the main flash, names no family, or is absolute and not
+/// wholly in the flash.
+pub fn blocks_that_are_skipped()
+    ensures plain { is_skipped 0x100000 (flagged 0x2000) ≡ false }
+    ensures others { is_skipped 0x100000 (flagged 0xfffffffe) ≡ false }
+    ensures not_main { is_skipped 0x100000 (flagged 0x2001) ≡ true }
+    ensures no_family { is_skipped 0x100000 (flagged 0x5ffe) ≡ true }
+    ensures extra { is_skipped 0x100000 (absolute_block 0x10ffff00) ≡ true }
+    ensures last { is_skipped 0x100000 (absolute_block 0x100fff00) ≡ false }
+    ensures past { is_skipped 0x100000 (absolute_block 0x10100000) ≡ true }
+    ensures below { is_skipped 0x100000 (absolute_block 0x0fffff00) ≡ true }
+    ensures first { is_skipped 0x100000 (absolute_block 0x10000000) ≡ false }
+    ensures other { is_skipped 0x100000 (arm_block 0 0x10ffff00 []) ≡ false }
+{}
+
+/// A page lies in a window of 0x1e000 bytes from 0x10000000 up to its last page.
+pub fn pages_in_a_window()
+    ensures first { is_within 0x1e000 (arm_block 0 0x10000000 []) ≡ true }
+    ensures last { is_within 0x1e000 (arm_block 0 0x1001df00 []) ≡ true }
+    ensures past { is_within 0x1e000 (arm_block 0 0x1001e000 []) ≡ false }
+    ensures below { is_within 0x1e000 (arm_block 0 0x0fffff00 []) ≡ false }
+{}
+
+/// A block continues a download of its family and its count, and wants a target otherwise.
+pub fn blocks_that_continue()
+    ensures same { is_of (arm_download true) (arm_block 0 0x10000000 []) ≡ true }
+    ensures family { is_of (record {
+          family = 0xe48bff5a;
+          count = 3;
+          target = slot true;
+          left = 2;
+          held = None;
+        }) (arm_block 0 0x10000000 []) ≡ false }
+    ensures count { is_of (record {
+          family = 0xe48bff59;
+          count = 4;
+          target = slot true;
+          left = 2;
+          held = None;
+        }) (arm_block 0 0x10000000 []) ≡ false }
+    ensures wants { wanted 0x40000 None (arm_block 0 0x10000000 []) ≡ Some 0xe48bff59 }
+    ensures current { wanted 0x40000 (Some (arm_download true)) (arm_block 0 0x10000000 [])
+        ≡ None }
+    ensures skipped { wanted 0x40000 None (flagged 0) ≡ None }
+{}
+
+/// Rulings on blocks: each answer, and blocks of two of them.
+pub fn rulings_of_blocks()
+    ensures begins { ruling 0x40000 (Some pair_table) (Some (slot true)) [] None
+        (arm_block 0 0x10000000 []) ≡ Begins (slot true) }
+    ensures continues { ruling 0x40000 (Some pair_table) None (1 ∷ [])
+        (Some (arm_download true)) (arm_block 1 0x10000000 []) ≡ Continues (slot true) }
+    ensures again { ruling 0x40000 (Some pair_table) None (1 ∷ []) (Some (arm_download true))
+        (arm_block 0 0x10000000 []) ≡ Answered (Ok Again) }
+    ensures no_target { ruling 0x40000 (Some pair_table) None [] None (arm_block 0 0x10000000 [])
+        ≡ Answered (Err NoTarget) }
+    ensures outside { ruling 0x40000 (Some pair_table) (Some (slot true)) [] None
+        (arm_block 0 0x10020000 []) ≡ Answered (Err Outside) }
+    ensures skipped_and_no_target { ruling 0x40000 (Some pair_table) None [] None (flagged 0)
+        ≡ Answered (Ok Skipped) }
+    ensures skipped_and_again { ruling 0x40000 (Some pair_table) None (1 ∷ [])
+        (Some (arm_download true)) (flagged 0x2001) ≡ Answered (Ok Skipped) }
+    ensures again_and_outside { ruling 0x40000 (Some pair_table) None (1 ∷ [])
+        (Some (arm_download true)) (arm_block 0 0x10020000 []) ≡ Answered (Ok Again) }
+    ensures no_target_and_outside { ruling 0x40000 (Some pair_table) None [] None
+        (arm_block 0 0x10020000 []) ≡ Answered (Err NoTarget) }
+{}
+
+/// Into a target that is not gated each page is written as it comes, and its sector is erased before
+/// the first page in it.
+pub fn pages_as_they_come()
+    ensures none { placed (slot false) [] ≡ [] }
+    ensures all { (a b c : List ℕ) → placed (slot false) (arm_block 2 0x10001100 a
+        ∷ arm_block 0 0x10000000 b ∷ arm_block 1 0x10001000 c ∷ [])
+        ≡ Erase 33 ∷ Program 529 a ∷ Erase 32 ∷ Program 512 b ∷ Program 528 c ∷ [] }
+{}
+
+/// Into a gated target the first sector is erased first and programmed last, ascending, each page
+/// as its last block has it; the other pages are written as they come.
+pub fn the_first_sector_last()
+    ensures none { placed (slot true) [] ≡ [] }
+    ensures held { (a : List ℕ) → placed (slot true) (arm_block 2 0x10000200 a ∷ [])
+        ≡ Erase 32 ∷ [] }
+    ensures elsewhere { (a : List ℕ) → placed (slot true) (arm_block 2 0x10001200 a ∷ [])
+        ≡ Erase 32 ∷ Erase 33 ∷ Program 530 a ∷ [] }
+    ensures two { (a b : List ℕ) → placed (slot true) (arm_block 2 0x10001200 a
+        ∷ arm_block 1 0x10000f00 b ∷ [])
+        ≡ Erase 32 ∷ Erase 33 ∷ Program 530 a ∷ [] }
+    ensures whole { (a b c : List ℕ) → placed (slot true) (arm_block 2 0x10001200 a
+        ∷ arm_block 1 0x10000f00 b ∷ arm_block 0 0x10000000 c ∷ [])
+        ≡ Erase 32 ∷ Erase 33 ∷ Program 530 a ∷ Program 512 c ∷ Program 527 b ∷ [] }
+    ensures replaced { (a b c : List ℕ) → placed (slot true) (arm_block 2 0x10000100 a
+        ∷ arm_block 1 0x10000200 b ∷ arm_block 0 0x10000100 c ∷ [])
+        ≡ Erase 32 ∷ Program 513 c ∷ Program 514 b ∷ [] }
+    ensures no_page { (a b c : List ℕ) → placed (slot true) (arm_block 0 0x10001000 a
+        ∷ arm_block 1 0x10001100 b ∷ arm_block 2 0x10002000 c ∷ [])
+        ≡ Erase 32 ∷ Erase 33 ∷ Program 528 a ∷ Program 529 b ∷ Erase 34 ∷ Program 544 c ∷ [] }
+{}
