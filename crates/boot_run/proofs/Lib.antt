@@ -1,5 +1,10 @@
-pub mod FormLemmas
-pub mod OutcomeLemmas
-pub mod CourseLemmas
-pub mod EndLemmas
-pub mod CauseLemmas
+mod RowLemmas
+mod WordLemmas
+mod CourseLemmas
+mod BoardLemmas
+mod WindowLemmas
+mod FormLemmas
+mod FaultLemmas
+mod RuleLemmas
+mod FileMaps
+mod PhaseLemmas

@@ -1,19 +1,16 @@
 //! All that the program does: words and files in, a text, files and a status out.
 #![tactic(auto)]
 
-mod ends;
-pub mod examples;
+mod boards;
+mod course;
 mod forms;
-pub mod laws;
 mod program;
 mod status;
-#[cfg(test)]
-mod tests;
 mod text;
+mod usage;
+mod why;
 mod words;
 mod work;
 
 pub use forms::{FLASH_LIMIT, OTP_LIMIT};
-pub use program::run;
 pub use status::Status;
-pub use text::decision_text;
