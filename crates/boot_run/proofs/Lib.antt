@@ -8,3 +8,6 @@ mod FaultLemmas
 mod RuleLemmas
 mod FileMaps
 mod PhaseLemmas
+mod EndLemmas
+mod OutcomeLemmas
+mod RunLemmas

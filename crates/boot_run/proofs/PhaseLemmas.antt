@@ -33,6 +33,19 @@ goes-more s m t first rest =
 rose-later : (a b c : ℕ) → a ≤ b → Rose b c → Rose a c
 rose-later a b c h rose = omega arith
 
+abbrev pub Reading : Type 0
+Reading = Result (List (List ℕ)) Status
+
+-- a reading ends in one way
+not-both : (r : Reading) (read : List (List ℕ)) (status : Status) → r ≡ Ok read → r ≡ Err status → ⊥
+not-both r read status e f = cc
+
+read-of : (r : Reading) (a b : List (List ℕ)) → r ≡ Ok a → r ≡ Ok b → a ≡ b
+read-of r a b e f = cc
+
+status-of : (r : Reading) (a b : Status) → r ≡ Err a → r ≡ Err b → a ≡ b
+status-of r a b e f = cc
+
 module _ {S : Type 0} (state : S → StoreState) (history : S → List Access → Type 0) where
   -- all inputs were read
   pub record AllRead (inputs : List Input) (acc read : List (List ℕ)) (old new : S) : Type 0 where
@@ -46,21 +59,20 @@ module _ {S : Type 0} (state : S → StoreState) (history : S → List Access �
 
   pub all-read : (inputs : List Input) (acc read : List (List ℕ)) (old new : S) (end : Result (List (List ℕ)) Status) → end ≡ Ok read
       → ReadsIn state history inputs acc old end new → AllRead inputs acc read old new
-  all-read [] acc read old new end is (inl stops) = let e : Ok {E = Status} read ≡ Err Memory = sym is ∙ stops.ends in cc
+  all-read [] acc read old new end is (inl stops) = absurd (not-both end read Memory is stops.ends)
   all-read [] acc read old new end is (inr (same, all)) =
-      let e : Ok {E = Status} read ≡ Ok acc = sym is ∙ all in
-      let f : read ≡ acc = cc in record {
+      record {
         more = [];
-        is = f ∙ sym (append-nil acc);
+        is = read-of end read acc is all ∙ sym (append-nil acc);
         long = refl;
         are = tt;
         files = ap (λ x. (state x).files) same;
         goes = goes-none (state old) (state new) (ap state same);
         calls = same;
       }
-  all-read (input ∷ inputs) acc read old new end is (inl stops) = let e : Ok {E = Status} read ≡ Err Memory = sym is ∙ stops.ends in cc
-  all-read (input ∷ inputs) acc read old new end is (inr (inl (StoreFault, serves, fails))) = let e : Ok {E = Status} read ≡ Err ReadFault = sym is ∙ fails in cc
-  all-read (input ∷ inputs) acc read old new end is (inr (inl (StoreMemory, serves, fails))) = let e : Ok {E = Status} read ≡ Err Memory = sym is ∙ fails in cc
+  all-read (input ∷ inputs) acc read old new end is (inl stops) = absurd (not-both end read Memory is stops.ends)
+  all-read (input ∷ inputs) acc read old new end is (inr (inl (StoreFault, serves, fails))) = absurd (not-both end read ReadFault is fails)
+  all-read (input ∷ inputs) acc read old new end is (inr (inl (StoreMemory, serves, fails))) = absurd (not-both end read Memory is fails)
   all-read (input ∷ inputs) acc read old new end is (inr (inr (bytes, mid, serves, rest))) =
       let r = all-read inputs (acc ++ bytes ∷ []) read mid new end is rest in record {
         more = bytes ∷ r.more;
@@ -75,30 +87,27 @@ module _ {S : Type 0} (state : S → StoreState) (history : S → List Access �
   -- a read failed, or there was no memory
   pub data NotRead (inputs : List Input) (old new : S) (status : Status) : Type 0 where
     no_memory : status ≡ Memory → NotRead inputs old new status
-    at_fault : status ≡ ReadFault → Rose (state old).read_faults (state new).read_faults → (IsTrue (state old).steady → LacksOne (state old).files inputs)
+    at_fault : status ≡ ReadFault → inputs ≢ [] → Rose (state old).read_faults (state new).read_faults → (IsTrue (state old).steady → LacksOne (state old).files inputs)
         → NotRead inputs old new status
 
   not-read-more : (input : Input) (inputs : List Input) (old mid new : S) (status : Status) → (state mid).files ≡ (state old).files
       → Goes (state old) (state mid) → NotRead inputs mid new status → NotRead (input ∷ inputs) old new status
   not-read-more input inputs old mid new status same goes (no_memory is) = no_memory is
-  not-read-more input inputs old mid new status same goes (at_fault is rose lacks) =
-      at_fault is (rose-later (state old).read_faults (state mid).read_faults (state new).read_faults goes.reads rose)
+  not-read-more input inputs old mid new status same goes (at_fault is some rose lacks) =
+      at_fault is (λ (e : (input ∷ inputs) ≡ []). cc) (rose-later (state old).read_faults (state mid).read_faults (state new).read_faults goes.reads rose)
       (λ steady. inr (subst (λ files. LacksOne files inputs) same (lacks (goes.steady steady))))
-
-  status-of : (a b : Status) → Err {T = List (List ℕ)} a ≡ Err b → a ≡ b
-  status-of a b e = cc
 
   pub not-read : (inputs : List Input) (acc : List (List ℕ)) (old new : S) (end : Result (List (List ℕ)) Status) (status : Status) → end ≡ Err status
       → ReadsIn state history inputs acc old end new → NotRead inputs old new status × ((state new).files ≡ (state old).files)
   not-read [] acc old new end status is (inl stops) =
-      (no_memory (status-of status Memory (sym is ∙ stops.ends)), ap (λ x. (state x).files) stops.same)
-  not-read [] acc old new end status is (inr (same, all)) = let e : Err {T = List (List ℕ)} status ≡ Ok acc = sym is ∙ all in cc
+      (no_memory (status-of end status Memory is stops.ends), ap (λ x. (state x).files) stops.same)
+  not-read [] acc old new end status is (inr (same, all)) = absurd (not-both end acc status all is)
   not-read (input ∷ inputs) acc old new end status is (inl stops) =
-      (no_memory (status-of status Memory (sym is ∙ stops.ends)), ap (λ x. (state x).files) stops.same)
+      (no_memory (status-of end status Memory is stops.ends), ap (λ x. (state x).files) stops.same)
   not-read (input ∷ inputs) acc old new end status is (inr (inl (StoreFault, serves, fails))) =
-      (at_fault (status-of status ReadFault (sym is ∙ fails)) (serves.shows.fault refl) (λ steady. inl (serves.shows.steady steady refl)), serves.shows.files)
+      (at_fault (status-of end status ReadFault is fails) (λ (e : (input ∷ inputs) ≡ []). cc) (serves.shows.fault refl) (λ steady. inl (serves.shows.steady steady refl)), serves.shows.files)
   not-read (input ∷ inputs) acc old new end status is (inr (inl (StoreMemory, serves, fails))) =
-      (no_memory (status-of status Memory (sym is ∙ fails)), serves.shows.files)
+      (no_memory (status-of end status Memory is fails), serves.shows.files)
   not-read (input ∷ inputs) acc old new end status is (inr (inr (bytes, mid, serves, rest))) =
       let r = not-read inputs (acc ++ bytes ∷ []) mid new end status is rest in
       (not-read-more input inputs old mid new status serves.shows.files (goes-one (state old) (state mid) serves.counts) r.0, r.1 ∙ serves.shows.files)
@@ -126,7 +135,7 @@ module _ {S : Type 0} (state : S → StoreState) (history : S → List Access �
     pub left : LeftAt (state old).files files (state new).files
     pub fails : FailsAs old new status
 
-  fails-more : (old mid new : S) (status : Status) → Goes (state old) (state mid) → FailsAs mid new status → FailsAs old new status
+  pub fails-more : (old mid new : S) (status : Status) → Goes (state old) (state mid) → FailsAs mid new status → FailsAs old new status
   fails-more old mid new status goes (inl (is, rose, not)) =
       inl (is, rose-later (state old).write_faults (state mid).write_faults (state new).write_faults goes.writes rose, λ steady. not (goes.steady steady))
   fails-more old mid new status goes (inr is) = inr is

@@ -12,5 +12,6 @@ mod why;
 mod words;
 mod work;
 
-pub use forms::{FLASH_LIMIT, OTP_LIMIT};
+pub use forms::{FLASH_LIMIT, Form, OTP_LIMIT};
+pub use program::run;
 pub use status::Status;

@@ -1,16 +1,31 @@
 //! The top call.
 
-ghost use Rattle.std.specs.Prelude.{◌≡◌, map, string_bytes};
-ghost use Rattle.boot_run.specs.Commands.{command_of, asked};
-ghost use Rattle.boot_run.specs.Outcome.{inputs_in, outcome_in, inputs_of, command_outcome};
+ghost use Rattle.std.specs.Prelude.{◌≡◌, ◌⊎◌, ◌↔◌, ℕ, List, Some, None, IsTrue, true};
+ghost use Rattle.pico_board.specs.declared.boot.Cpu.{Cpu};
+ghost use Rattle.pico_board.specs.declared.boot.BootKind.{BootKind};
+ghost use Rattle.pico_board.specs.Board.{Rose};
+ghost use Rattle.pico_board.specs.Files.{File, file_of};
+ghost use Rattle.pico_board.specs.Puts.{IsPut};
+ghost use Rattle.image_check.specs.NotBelow.{NotBelow};
+ghost use Rattle.slot_choice.specs.declared.choice.Choice.{Choice};
+ghost use Rattle.boot_rules.specs.declared.decision.Decision.{Decision};
+ghost use Rattle.boot_rules.specs.declared.decision.Decision.TheVariants.{Start};
+ghost use Rattle.boot_rules.specs.Chosen.{Chosen};
+ghost use Rattle.boot_run.specs.Commands.{Command, Boot, asked};
+ghost use Rattle.boot_run.specs.Forms.{HasForm, content_of};
+ghost use Rattle.boot_run.specs.Texts.{decision_line};
+ghost use Rattle.boot_run.specs.Outcome.{Outcome, inputs_of, inputs_in, outcome_in, outcome_on, command_outcome, is_finished};
 ghost use Rattle.boot_run.specs.Courses.{Runs};
+ghost use Rattle.boot_run.specs.Rules.{Obeys, IsRefused, decided_status};
+ghost use Rattle.boot_run.specs.Ends.{Does, IsAsTold, LacksOne, IsCutShort, IsPutShort};
 ghost use Rattle.boot_run.specs.Views.{command_from};
 
 use crate::course::{finish, put_text, read_all};
+use crate::forms::Form;
 use crate::status::Status;
 use crate::words::{CommandWords, command};
 use crate::work::{answer, inputs};
-use pico_board::{Sink, Store};
+use pico_board::{Sink, SinkFail, Store};
 use std::alloc::Global;
 
 /// Runs a command.
@@ -51,4 +66,76 @@ fn run_words<S: Store, K: Sink>(
         Some(command) => run_command(alloc, &command, store, out),
         None => put_text(out, b"words not understood\n", Status::Words),
     }
+}
+
+/// All that the program does, for its words without the program's own name: reads the input files in word order, does
+/// the work in memory, writes the output files, and puts the text in one call. The answer is the status with which
+/// the program ends.
+///
+/// `Words`: the words are no command. `Input`: the line names the first input, in word order, that breaks its form.
+/// `Bootsel`: a boot that was asked for falls to BOOTSEL. `ReadFault`, `WriteFault` and `OutputFault`: the count of
+/// read faults, of write faults or of the sink's faults rose. `Memory`: there was no memory; it may come anywhere.
+pub fn run<S: Store, K: Sink>(
+    alloc: Global,
+    words: &Vec<String>,
+    store: &mut S,
+    out: &mut K,
+) -> Status
+    // The first half of the headline, on told files, for every content, processor and boot type: where the whole text
+    // was put, `boot` names exactly the image, or the fall to BOOTSEL, that the rules choose, never below its
+    // rollback rows.
+    ensures boot { (flash otp f g : List ℕ) (cpu : Cpu) (kind : BootKind) (files : List File) (d : Decision)
+        → asked words.now ≡ Some (Boot flash otp cpu kind) → (S.state store.old).files ≡ Some files
+        → file_of files flash ≡ Some f → file_of files otp ≡ Some g → HasForm Form.Flash f → HasForm Form.Otp g
+        → is_finished result ≡ true → Chosen (content_of f g) cpu kind d
+        → (result ≡ decided_status d) × IsPut (K.state out.old).bytes (decision_line d) (K.state out.new).bytes
+        × ((choice : Choice) → d ≡ Start choice → NotBelow (content_of f g).otp choice.image) }
+
+    // What the rules say, on every store: the run read some bytes, and the text that it put, its files and its status
+    // are right for the command on those bytes. `Input` comes exactly where one of them breaks its form.
+    ensures obeys { (command : Command) → asked words.now ≡ Some command → is_finished result ≡ true
+        → (read : List (List ℕ)) × (o : Outcome) × Obeys command read o × (result ≡ o.status)
+        × ((result ≡ Status.Input) ↔ IsRefused command read)
+        × Does S.state S.history K.state K.history (inputs_of command) read o store.old out.old store.new out.new }
+
+    // The calls of a run in their order, how it ends, and its outcome by the bytes that were read.
+    ensures course { Runs S.state S.history K.state K.history (inputs_in (asked words.now)) (outcome_in (asked words.now))
+        store.old out.old result store.new out.new }
+
+    // On told files: the status, the text and the files are those of the words on whole files.
+    ensures told { (files : List File) → (S.state store.old).files ≡ Some files → is_finished result ≡ true
+        → IsAsTold (outcome_on (asked words.now) files) (S.state store.old) (K.state out.old) result
+            (S.state store.new) (K.state out.new) }
+    ensures lacking { (files : List File) → (S.state store.old).files ≡ Some files
+        → LacksOne (Some files) (inputs_in (asked words.now))
+        → (result ≡ Status.ReadFault) ⊎ (result ≡ Status.Memory) }
+
+    // Causes, and what an early end leaves.
+    ensures words { (result ≡ Status.Words → asked words.now ≡ None)
+        × (asked words.now ≡ None → (result ≡ Status.Words) ⊎ ((result ≡ Status.OutputFault) ⊎ (result ≡ Status.Memory))) }
+    ensures read_fault { result ≡ Status.ReadFault → Rose (S.state store.old).read_faults (S.state store.new).read_faults
+        × (out.new ≡ out.old) × ((S.state store.new).files ≡ (S.state store.old).files) }
+    ensures write_fault { result ≡ Status.WriteFault → Rose (S.state store.old).write_faults (S.state store.new).write_faults
+        × (out.new ≡ out.old) × IsCutShort (S.state store.old).files (inputs_in (asked words.now))
+            (outcome_in (asked words.now)) (S.state store.new).files }
+    ensures output_fault { result ≡ Status.OutputFault → Rose (K.state out.old).faults (K.state out.new).faults
+        × IsPutShort K.state K.history (S.state store.old).files (inputs_in (asked words.now)) (outcome_in (asked words.now))
+            (S.state store.new).files out.old SinkFail.Fault out.new }
+    ensures memory { result ≡ Status.Memory
+        → ((out.new ≡ out.old) × (((S.state store.new).files ≡ (S.state store.old).files)
+            ⊎ IsCutShort (S.state store.old).files (inputs_in (asked words.now)) (outcome_in (asked words.now))
+                (S.state store.new).files))
+        ⊎ IsPutShort K.state K.history (S.state store.old).files (inputs_in (asked words.now)) (outcome_in (asked words.now))
+            (S.state store.new).files out.old SinkFail.Memory out.new }
+
+    // Completeness.
+    ensures complete { (is_finished result ≡ true) ⊎ ((result ≡ Status.Memory)
+        ⊎ (Rose (S.state store.old).read_faults (S.state store.new).read_faults
+        ⊎ (Rose (S.state store.old).write_faults (S.state store.new).write_faults
+        ⊎ Rose (K.state out.old).faults (K.state out.new).faults))) }
+    ensures steady { IsTrue (S.state store.old).steady → IsTrue (K.state out.old).steady
+        → (LacksOne (S.state store.old).files (inputs_in (asked words.now)) → ⊥)
+        → (is_finished result ≡ true) ⊎ (result ≡ Status.Memory) }
+{
+    run_words(alloc, words, store, out)
 }
