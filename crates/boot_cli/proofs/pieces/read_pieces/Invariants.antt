@@ -1,6 +1,6 @@
 use Rattle.std.proofs.Common.{◌≤◌, ◌-◌, [], length}
 use Rattle.boot_cli.specs.Pieces.{TakesFrom}
-use Rattle.boot_cli.proofs.pieces.read_up_to.Given as goal
+use Rattle.boot_cli.proofs.pieces.read_pieces.Given as goal
 
 abbrev pub invariant-loop : goal.invariant-loop
 invariant-loop g l = record {
