@@ -130,3 +130,24 @@ form-apart Otp bytes fault form (inl large) = let few = form.0 in let many = lar
 form-apart Otp bytes fault form (inr (few, inl (part, text))) = part form.1
 form-apart Otp bytes fault form (inr (few, inr (whole, row, wide, text))) =
     let small = form.2 row 0 wide.inside in let large = wide.wide in omega arith
+
+-- a fault that the rules name is the one that is found
+otp-exact : (bytes fault : List ℕ) → IsOwnFault Otp bytes fault → otp_fault bytes ≡ Some fault
+otp-exact bytes fault (inl (part, text)) =
+    ap (λ t. cond t (option_map (λ row. codes "otp-row " ++ hex_row row) (wide_from 0 (rows_of bytes))) (Some (codes "otp-length"))) (ne_eqb (length bytes % 4) 0 part)
+    ∙ ap Some (sym text)
+otp-exact bytes fault (inr (whole, row, wide, text)) =
+    ap (λ t. cond t (option_map (λ row. codes "otp-row " ++ hex_row row) (wide_from 0 (rows_of bytes))) (Some (codes "otp-length"))) (eq-eqb (length bytes % 4) 0 whole)
+    ∙ (ap (λ found. option_map (λ row. codes "otp-row " ++ hex_row row) found) (some-wide 0 (rows_of bytes) row wide ∙ ap Some (omega arith))
+    ∙ ap Some (sym text))
+
+own-exact : (form : Form) (bytes fault : List ℕ) → IsOwnFault form bytes fault → own_fault form bytes ≡ Some fault
+own-exact Flash [] fault own = ap Some (sym own.1)
+own-exact Flash (b ∷ bytes) fault own = let e : (b ∷ bytes) ≡ [] = own.0 in cc
+own-exact Otp bytes fault own = otp-exact bytes fault own
+
+pub fault-exact : (form : Form) (bytes fault : List ℕ) → IsFault form bytes fault → form_fault form bytes ≡ Some fault
+fault-exact form bytes fault (inl large) =
+    ap (λ t. cond t (Some (codes "too-large")) (own_fault form bytes)) (lt-ltb (limit_of form) (length bytes) large.0) ∙ ap Some (sym large.1)
+fault-exact form bytes fault (inr (few, own)) =
+    ap (λ t. cond t (Some (codes "too-large")) (own_fault form bytes)) (le-ltb (limit_of form) (length bytes) few) ∙ own-exact form bytes fault own

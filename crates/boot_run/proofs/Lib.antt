@@ -11,3 +11,5 @@ mod PhaseLemmas
 mod EndLemmas
 mod OutcomeLemmas
 mod RunLemmas
+mod OnlyLemmas
+mod ContentLemmas

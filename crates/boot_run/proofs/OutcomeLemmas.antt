@@ -12,7 +12,7 @@ use Rattle.boot_run.specs.Commands.{Command}
 use Rattle.boot_run.specs.Forms.{limit_of, own_fault, form_fault, HasForm}
 use Rattle.boot_run.specs.Works.{Work, Answers, Refuses}
 use Rattle.boot_run.specs.Outcome.{Input, Outcome, inputs_of, inputs_in, refused, worked, work_of, answered_status, named_fault, first_fault, judged, command_outcome, outcome_in, outcome_on, outcome_found, found, found_next, is_finished}
-use Rattle.boot_run.specs.Ends.{AreRead, LacksOne}
+use Rattle.boot_run.specs.Ends.{AreRead, LacksOne, cut}
 use Rattle.boot_run.proofs.FormLemmas.{formed, faulty, form-apart}
 
 -- a file that has its form has no fault
@@ -60,11 +60,6 @@ outcome-finished (Some command) read = (command-text command read).0
 pub outcome-words : (command : Option Command) (read : List (List ℕ)) → (outcome_in command read).status ≡ Words → command ≡ None
 outcome-words None read h = refl
 outcome-words (Some command) read h = absurd ((command-text command read).1 h)
-
--- what is read of files
-abbrev pub cut : List Input → List (List ℕ) → List (List ℕ)
-cut (input ∷ inputs) (bytes ∷ read) = take (limit_of input.form + 1) bytes ∷ cut inputs read
-cut _ _ = []
 
 large : (form : Form) (xs : List ℕ) → limit_of form < length xs → form_fault form xs ≡ Some (codes "too-large")
 large form xs h = ap (λ t. cond t (Some (codes "too-large")) (own_fault form xs)) (lt-ltb (limit_of form) (length xs) h)

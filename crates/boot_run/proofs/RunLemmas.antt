@@ -33,15 +33,15 @@ use Rattle.boot_run.proofs.EndLemmas.{not-finished, RunEnd, room, unread, cut_sh
 abbrev pub decided : Decision → Outcome
 decided d = record { status = decided_status d; text = decision_line d; files = [] }
 
-fall-status : (d : Decision) → answered_status (is_fall d) ≡ decided_status d
+pub fall-status : (d : Decision) → answered_status (is_fall d) ≡ decided_status d
 fall-status (Start choice) = refl
 fall-status (FallsToBootsel fall) = refl
 
-worked-decided : (c : Content) (cpu : Cpu) (kind : BootKind) → worked (boot_work c cpu kind) ≡ decided (decision_in c cpu kind)
+pub worked-decided : (c : Content) (cpu : Cpu) (kind : BootKind) → worked (boot_work c cpu kind) ≡ decided (decision_in c cpu kind)
 worked-decided c cpu kind = ap (λ s. record { status = s; text = decision_line (decision_in c cpu kind); files = [] }) (fall-status (decision_in c cpu kind))
 
 -- two files that have their forms have no fault
-no-first : (flash otp f g : List ℕ) → HasForm Flash f → HasForm Otp g → first_fault (flash_and_otp flash otp) (f ∷ g ∷ []) ≡ None
+pub no-first : (flash otp f g : List ℕ) → HasForm Flash f → HasForm Otp g → first_fault (flash_and_otp flash otp) (f ∷ g ∷ []) ≡ None
 no-first flash otp f g flash_form otp_form =
     ap (λ o. option_or (option_map (refused flash) o) (first_fault (record { name = otp; form = Otp } ∷ []) (g ∷ []))) (no-fault Flash f flash_form)
     ∙ ap (λ o. option_or (option_map (refused otp) o) None) (no-fault Otp g otp_form)

@@ -1,5 +1,5 @@
 -- What a run leaves: the calls that it made, and the files that stand afterwards. This project's own.
-use Rattle.std.specs.Prelude.{◌≡◌, ◌⊎◌, ⊤, ℕ, List, [], ◌∷◌, ◌++◌, Option, Some, None, Result, Ok, Err}
+use Rattle.std.specs.Prelude.{◌≡◌, ◌⊎◌, ⊤, ℕ, ◌+◌, take, List, [], ◌∷◌, ◌++◌, Option, Some, None, Result, Ok, Err}
 use Rattle.pico_board.specs.declared.sink.SinkFail.{SinkFail}
 use Rattle.pico_board.specs.Files.{File, StoreState, Access, Reads, Writes, IsReadOf, IsKeptBut, Lacks, ServesAll, file_of}
 use Rattle.pico_board.specs.Puts.{SinkState, Put, IsPut, Takes}
@@ -17,6 +17,11 @@ AreRead files _ _ = ⊥
 abbrev pub LacksOne : Option (List File) → List Input → Type 0
 LacksOne files [] = ⊥
 LacksOne files (input ∷ inputs) = Lacks files input.name ⊎ LacksOne files inputs
+
+-- what is read of whole files: one byte more than the limit, or all where a file has fewer
+abbrev pub cut : List Input → List (List ℕ) → List (List ℕ)
+cut (input ∷ inputs) (bytes ∷ read) = take (limit_of input.form + 1) bytes ∷ cut inputs read
+cut _ _ = []
 
 -- the calls that read these bytes
 abbrev pub read_calls : List Input → List (List ℕ) → List Access

@@ -13,6 +13,7 @@ use Rattle.image_check.specs.NotBelow.{NotBelow}
 use Rattle.slot_choice.specs.declared.choice.Choice.{Choice}
 use Rattle.boot_rules.specs.declared.decision.Decision.{Decision}
 use Rattle.boot_rules.specs.declared.decision.Decision.TheVariants.{Start, Bootsel as FallsToBootsel}
+use Rattle.boot_rules.specs.declared.decision.Fall.{Fall}
 use Rattle.boot_rules.specs.Chosen.{Chosen}
 use Rattle.boot_rules.specs.Tables.{table_in}
 use Rattle.boot_run.specs.declared.status.Status.{Status}
@@ -50,6 +51,13 @@ IsRefusal inputs read o = (name : List ℕ) × (fault : List ℕ) × IsFirstFaul
 abbrev pub decided_status : Decision → Status
 decided_status (Start choice) = Done
 decided_status (FallsToBootsel fall) = Bootsel
+
+-- the files have their forms, and the rules name a fall to BOOTSEL
+pub record FallsOn (f g : List ℕ) (cpu : Cpu) (kind : BootKind) : Type 0 where
+  pub fall : Fall
+  pub flash : HasForm Flash f
+  pub otp : HasForm Otp g
+  pub chosen : Chosen (content_of f g) cpu kind (FallsToBootsel fall)
 
 -- `boot`: the outcome tells the one decision that the rules name, whose image, where one starts, is not below its rollback rows
 pub record IsBootOf (c : Content) (cpu : Cpu) (kind : BootKind) (o : Outcome) : Type 0 where

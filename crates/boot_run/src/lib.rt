@@ -4,6 +4,7 @@
 mod boards;
 mod course;
 mod forms;
+pub mod laws;
 mod program;
 mod status;
 mod text;

@@ -105,7 +105,7 @@ pub fn run<S: Store, K: Sink>(
     // On told files: the status, the text and the files are those of the words on whole files.
     ensures told { (files : List File) → (S.state store.old).files ≡ Some files → is_finished result ≡ true
         → IsAsTold (outcome_on (asked words.now) files) (S.state store.old) (K.state out.old) result
-            (S.state store.new) (K.state out.new) }
+        (S.state store.new) (K.state out.new) }
     ensures lacking { (files : List File) → (S.state store.old).files ≡ Some files
         → LacksOne (Some files) (inputs_in (asked words.now))
         → (result ≡ Status.ReadFault) ⊎ (result ≡ Status.Memory) }
@@ -117,16 +117,16 @@ pub fn run<S: Store, K: Sink>(
         × (out.new ≡ out.old) × ((S.state store.new).files ≡ (S.state store.old).files) }
     ensures write_fault { result ≡ Status.WriteFault → Rose (S.state store.old).write_faults (S.state store.new).write_faults
         × (out.new ≡ out.old) × IsCutShort (S.state store.old).files (inputs_in (asked words.now))
-            (outcome_in (asked words.now)) (S.state store.new).files }
+        (outcome_in (asked words.now)) (S.state store.new).files }
     ensures output_fault { result ≡ Status.OutputFault → Rose (K.state out.old).faults (K.state out.new).faults
         × IsPutShort K.state K.history (S.state store.old).files (inputs_in (asked words.now)) (outcome_in (asked words.now))
-            (S.state store.new).files out.old SinkFail.Fault out.new }
+        (S.state store.new).files out.old SinkFail.Fault out.new }
     ensures memory { result ≡ Status.Memory
         → ((out.new ≡ out.old) × (((S.state store.new).files ≡ (S.state store.old).files)
-            ⊎ IsCutShort (S.state store.old).files (inputs_in (asked words.now)) (outcome_in (asked words.now))
-                (S.state store.new).files))
+        ⊎ IsCutShort (S.state store.old).files (inputs_in (asked words.now)) (outcome_in (asked words.now))
+        (S.state store.new).files))
         ⊎ IsPutShort K.state K.history (S.state store.old).files (inputs_in (asked words.now)) (outcome_in (asked words.now))
-            (S.state store.new).files out.old SinkFail.Memory out.new }
+        (S.state store.new).files out.old SinkFail.Memory out.new }
 
     // Completeness.
     ensures complete { (is_finished result ≡ true) ⊎ ((result ≡ Status.Memory)

@@ -9,7 +9,8 @@ use std::alloc::{AllocError, Global};
 pub const VERSION: &str = "0.1.0";
 
 /// How the program is used.
-pub const USAGE: &str = "boot FLASH OTP CPU KIND  which image a boot starts, or why it falls to BOOTSEL
+pub const USAGE: &str =
+    "boot FLASH OTP CPU KIND  which image a boot starts, or why it falls to BOOTSEL
 info FLASH OTP CPU       the partition table, and the image in each window or why there is none
 data FLASH OTP CPU KIND  the same as boot, and the windows of the data that the image owns
 --help                   this text

@@ -138,9 +138,19 @@ fn five_words<'a>(
     let cpu = cpu_word(cpu)?;
     let kind = kind_word(kind)?;
     if name == "boot" {
-        Some(CommandWords::Boot { flash, otp, cpu, kind })
+        Some(CommandWords::Boot {
+            flash,
+            otp,
+            cpu,
+            kind,
+        })
     } else if name == "data" {
-        Some(CommandWords::OwnedData { flash, otp, cpu, kind })
+        Some(CommandWords::OwnedData {
+            flash,
+            otp,
+            cpu,
+            kind,
+        })
     } else {
         None
     }

@@ -7,8 +7,8 @@ ghost use Rattle.boot_run.specs.Works.{Answers};
 ghost use Rattle.boot_run.specs.Outcome.{content_work, files_work, first_fault, refused, worked, work_of, command_outcome, inputs_of, flash_and_otp};
 ghost use Rattle.boot_run.specs.Views.{input_from, outcome_from, command_from, bytes_of};
 
-use crate::course::{Answer, InputWord};
 use crate::boards::{boot_answer, data_answer, info_answer};
+use crate::course::{Answer, InputWord};
 use crate::forms::{Form, board_of, form_fault};
 use crate::status::Status;
 use crate::text::fault_text;

@@ -21,11 +21,12 @@ returns-clause-lacking g c =
     (run-end g.S.Store.state g.S.Store.history g.K.Sink.state g.K.Sink.history (inputs_in (asked c.args.words.now)) (outcome_in (asked c.args.words.now)) c.args.store.now c.run_words.new.store c.args.out.now c.run_words.new.out c.run_words.result c.run_words.ensures)
 
 pub returns-clause-words : goal.returns-clause-words
-returns-clause-words g c =
-    (run-words g.S.Store.state g.S.Store.history g.K.Sink.state g.K.Sink.history (asked c.args.words.now) c.args.store.now c.run_words.new.store c.args.out.now c.run_words.new.out c.run_words.result
-    (run-end g.S.Store.state g.S.Store.history g.K.Sink.state g.K.Sink.history (inputs_in (asked c.args.words.now)) (outcome_in (asked c.args.words.now)) c.args.store.now c.run_words.new.store c.args.out.now c.run_words.new.out c.run_words.result c.run_words.ensures),
-    run-no_command g.S.Store.state g.S.Store.history g.K.Sink.state g.K.Sink.history (asked c.args.words.now) c.args.store.now c.run_words.new.store c.args.out.now c.run_words.new.out c.run_words.result
-    (run-end g.S.Store.state g.S.Store.history g.K.Sink.state g.K.Sink.history (inputs_in (asked c.args.words.now)) (outcome_in (asked c.args.words.now)) c.args.store.now c.run_words.new.store c.args.out.now c.run_words.new.out c.run_words.result c.run_words.ensures))
+returns-clause-words g c = (
+  run-words g.S.Store.state g.S.Store.history g.K.Sink.state g.K.Sink.history (asked c.args.words.now) c.args.store.now c.run_words.new.store c.args.out.now c.run_words.new.out c.run_words.result
+      (run-end g.S.Store.state g.S.Store.history g.K.Sink.state g.K.Sink.history (inputs_in (asked c.args.words.now)) (outcome_in (asked c.args.words.now)) c.args.store.now c.run_words.new.store c.args.out.now c.run_words.new.out c.run_words.result c.run_words.ensures),
+  run-no_command g.S.Store.state g.S.Store.history g.K.Sink.state g.K.Sink.history (asked c.args.words.now) c.args.store.now c.run_words.new.store c.args.out.now c.run_words.new.out c.run_words.result
+      (run-end g.S.Store.state g.S.Store.history g.K.Sink.state g.K.Sink.history (inputs_in (asked c.args.words.now)) (outcome_in (asked c.args.words.now)) c.args.store.now c.run_words.new.store c.args.out.now c.run_words.new.out c.run_words.result c.run_words.ensures),
+)
 
 pub returns-clause-complete : goal.returns-clause-complete
 returns-clause-complete g c =
