@@ -8,3 +8,4 @@ pub mod Courses
 pub mod Views
 pub mod Ends
 pub mod Rules
+pub mod Examples

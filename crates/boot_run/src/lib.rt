@@ -3,6 +3,7 @@
 
 mod boards;
 mod course;
+pub mod examples;
 mod forms;
 pub mod laws;
 mod program;
