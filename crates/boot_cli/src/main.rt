@@ -42,5 +42,5 @@ fn run_program<R: Env + Files + Print + AllocGlobal>(rt: &R) -> Status {
 }
 
 fn main(rt: HostRuntime) -> ExitCode {
-    ExitCode::from(run_program(&rt) as u8)
+    ExitCode::from(run_program(&rt).number())
 }

@@ -10,16 +10,24 @@ ghost use Rattle.boot_cli.specs.Pieces.{TakesFrom, AppendsInPart};
 use pico_board::StoreFail;
 use std::io::{Read, Write};
 
-/// Reads the next bytes, at most so many in all and at most 4096 now, to the end of `into`. The answer is whether there may be more. An
-/// error of the reader is a fault.
-fn read_piece<R: Read>(reader: &mut R, most: usize, into: &mut Vec<u8>) -> Result<bool, StoreFail>
-    requires { length into.old.items ≤ most }
+/// The bytes that are read of a file at once.
+const PIECE: usize = 65536;
+
+/// Reads the next bytes, at most so many in all and at most as many as the buffer has now, to the end of `into`. The
+/// answer is whether there may be more. An error of the reader is a fault.
+fn read_piece<R: Read>(
+    reader: &mut R,
+    buffer: &mut [u8],
+    most: usize,
+    into: &mut Vec<u8>,
+) -> Result<bool, StoreFail>
+    requires buffer { 0 < length buffer.old }
+    requires most { length into.old.items ≤ most }
     ensures room { OnOk result (length into.new.items ≤ most) }
     ensures next { OnOk result (TakesFrom (R.remaining reader.old) into.old.items (R.remaining reader.new) into.new.items) }
     ensures more { result ≡ Ok true → length into.old.items < length into.new.items }
     ensures last { result ≡ Ok false → (length into.new.items ≡ most) ⊎ IsAtEnd (R.remaining reader.new) }
 {
-    let mut buffer = [0u8; 4096];
     let room = (most - into.len()).min(buffer.len());
     if room == 0 {
         return Ok(false);
@@ -33,6 +41,22 @@ fn read_piece<R: Read>(reader: &mut R, most: usize, into: &mut Vec<u8>) -> Resul
     }
 }
 
+/// Reads into an empty vector, a buffer's bytes at a time, until the reader ends, but at most so many bytes.
+fn read_pieces<R: Read>(
+    reader: &mut R,
+    buffer: &mut [u8],
+    most: usize,
+    into: &mut Vec<u8>,
+) -> Result<(), StoreFail>
+    requires buffer { 0 < length buffer.old }
+    requires empty { into.old.items ≡ [] }
+    ensures room { OnOk result (length into.new.items ≤ most) }
+    ensures front { OnOk result (IfSome (R.remaining reader.old) (λ bytes. into.new.items ≡ take most bytes)) }
+{
+    while read_piece(reader, buffer, most, into)? {}
+    Ok(())
+}
+
 /// Reads into an empty vector until the reader ends, but at most so many bytes. A read of no byte is the end. Nothing is said of `into`
 /// after an error.
 pub fn read_up_to<R: Read>(reader: &mut R, most: usize, into: &mut Vec<u8>) -> Result<(), StoreFail>
@@ -41,8 +65,8 @@ pub fn read_up_to<R: Read>(reader: &mut R, most: usize, into: &mut Vec<u8>) -> R
     // Where the reader's bytes are known, these are the first of them, or all where it has fewer.
     ensures front { OnOk result (IfSome (R.remaining reader.old) (λ bytes. into.new.items ≡ take most bytes)) }
 {
-    while read_piece(reader, most, into)? {}
-    Ok(())
+    let mut buffer = [0u8; PIECE];
+    read_pieces(reader, &mut buffer, most, into)
 }
 
 /// Writes some of the bytes, and answers how many the writer took: none where it answers an error.

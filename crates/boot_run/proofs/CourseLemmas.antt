@@ -1,133 +1,69 @@
--- How a run that follows a plan ends: five ways, and what each says of the store and of the sink.
-use Rattle.std.proofs.Common.{◌≡◌, ◌⊎◌, ℕ, ◌≤◌, IsTrue, Result, Ok, Err, Option, List, [], ◌∷◌, string_bytes, refl, sym, ◌∙◌, ap, subst, inl, inr, arith}
-use Rattle.std.proofs.lemmas.Bool.{OnTrue_at}
-use Rattle.pico_board.specs.Board.{Rose}
-use Rattle.pico_board.specs.declared.StoreFail.TheVariants.{Fault as StoreFault, Memory as StoreMemory}
-use Rattle.pico_board.specs.declared.SinkFail.{SinkFail}
-use Rattle.pico_board.specs.declared.SinkFail.TheVariants.{Fault as SinkFault, Memory as SinkMemory}
-use Rattle.pico_board.specs.Files.{File, StoreState, Access, Reads, GoesOn, IsReadOf, Lacks, ServesAll}
-use Rattle.pico_board.specs.Puts.{SinkState, Put, Takes, TakesAll}
+-- One input more is read, and one file more is written.
+use Rattle.std.proofs.Common.{◌≡◌, ◌⊎◌, ℕ, ◌+◌, ◌<◌, Result, Ok, Err, Option, Some, None, List, [], ◌∷◌, ◌++◌, length, drop, get_or, map, sym, ap, subst, ◌∙◌, refl, inl, inr}
+use Rattle.std.specs.Prelude.{Vec}
+use Rattle.std.specs.declared.alloc.Global.{Global}
+use Rattle.std.proofs.lemmas.List.{drop_more, map-append}
+use Rattle.pico_board.specs.declared.store.StoreFail.{StoreFail}
+use Rattle.pico_board.specs.Files.{File, StoreState, Access, Reads, Writes, Serves}
 use Rattle.boot_run.specs.declared.status.Status.{Status}
-use Rattle.boot_run.specs.declared.status.Status.TheVariants.{ReadFault, OutputFault, Memory}
-use Rattle.boot_run.specs.Outcome.{Outcome, Plan, Ends, Opens}
-use Rattle.boot_run.specs.declared.work.Answer.{Answer}
-use Rattle.boot_run.specs.Answers.{IsAnswer}
-use Rattle.boot_run.specs.Courses.{Course, Follows, Reaches, Runs, PutsOnce, read_course, put_status}
+use Rattle.boot_run.specs.declared.status.Status.TheVariants.{Memory}
+use Rattle.boot_run.specs.declared.course.InputWord.{InputWord}
+use Rattle.boot_run.specs.declared.course.OutFile.{OutFile}
+use Rattle.boot_run.specs.Forms.{limit_of}
+use Rattle.boot_run.specs.Outcome.{Input, Outcome}
+use Rattle.pico_board.specs.Puts.{SinkState, Put}
+use Rattle.boot_run.specs.Courses.{ReadsIn, WritesOut, Finishes, Runs, was_read, no_room, unread_status, unwritten_status}
+use Rattle.boot_run.specs.Views.{input_from, file_from, bytes_of}
 
--- the plan opens an input
-abbrev pub IsOpening : Plan → Type 0
-IsOpening (Ends o) = ⊥
-IsOpening (Opens name limit next) = Unit {0}
+module _ {S : Type 0} (state : S → StoreState) (history : S → List Access → Type 0) where
+  -- there may be no memory at any moment
+  pub reads-stop : (inputs : List Input) (read : List (List ℕ)) (old : S) → ReadsIn state history inputs read old (Err Memory) old
+  reads-stop [] read old = inl (record { same = refl; ends = refl })
+  reads-stop (input ∷ inputs) read old = inl (record { same = refl; ends = refl })
 
--- an input that the plan opens is lacking
-abbrev pub Misses : Option (List File) → Plan → Type 0
-Misses files (Ends o) = ⊥
-Misses files (Opens name limit next) = Lacks files name ⊎ ((bytes : List ℕ) × Misses files (next bytes))
+  -- the read of the next input fails
+  pub reads-fail : (inputs : List InputWord) (i : ℕ) (d : InputWord) (read : List (List ℕ)) (old new : S) (fail : StoreFail) → i < length inputs
+      → Serves state history old (Reads (get_or inputs i d).name.now (limit_of (get_or inputs i d).form) (Err fail)) new
+      → ReadsIn state history (map input_from (drop i inputs)) read old (Err (unread_status fail)) new
+  reads-fail inputs i d read old new fail lt serves =
+      subst (λ xs. ReadsIn state history (map input_from xs) read old (Err (unread_status fail)) new) (sym (drop_more inputs i d lt))
+      (inr (inl (fail, serves, refl)))
 
--- these calls read each input of the plan, which then ends with this outcome
-abbrev pub ReadsAll : Plan → List Access → Outcome → Type 0
-ReadsAll (Ends o) calls reached = (calls ≡ []) × (reached ≡ o)
-ReadsAll (Opens name limit next) calls reached =
-    (bytes : List ℕ) × (rest : List Access) × (calls ≡ (Reads name limit (Ok bytes) ∷ rest)) × ReadsAll (next bytes) rest reached
+  -- the next input is read, and then the others
+  pub reads-more : (inputs : List InputWord) (i : ℕ) (d : InputWord) (read more : List (List ℕ)) (old mid new : S) (bytes : List ℕ) (end : Result (List (List ℕ)) Status)
+      → i < length inputs
+      → Serves state history old (Reads (get_or inputs i d).name.now (limit_of (get_or inputs i d).form) (Ok bytes)) mid
+      → more ≡ read ++ bytes ∷ []
+      → ReadsIn state history (map input_from (drop (i + 1) inputs)) more mid end new
+      → ReadsIn state history (map input_from (drop i inputs)) read old end new
+  reads-more inputs i d read more old mid new bytes end lt serves is rest =
+      subst (λ xs. ReadsIn state history (map input_from xs) read old end new) (sym (drop_more inputs i d lt))
+      (inr (inr (bytes, mid, serves, subst (λ m. ReadsIn state history (map input_from (drop (i + 1) inputs)) m mid end new) is rest)))
 
--- how a course of the plan ends, on a store that showed s and then shows t
-pub data Ending (s t : StoreState) (plan : Plan) (course : Course) : Type 0 where
-  no_memory : course.puts ≡ [] → course.status ≡ Memory → Ending s t plan course
-  not_read : course.puts ≡ [] → course.status ≡ ReadFault → IsOpening plan → Rose s.read_faults t.read_faults
-      → (IsTrue s.steady → Misses s.files plan) → Ending s t plan course
-  was_put : (o : Outcome) → Reaches s.files plan o → ReadsAll plan course.calls o → (answer : Result (Unit {0}) SinkFail)
-      → course.puts ≡ (record { bytes = o.text; answer = answer } ∷ []) → course.status ≡ put_status o.status answer → Ending s t plan course
+  -- the next file is written, and then the others
+  pub writes-more : (files : List OutFile) (i : ℕ) (file : OutFile) (old mid new : S) (end : Option Status)
+      → i < length files → file ≡ get_or files i file
+      → Serves state history old (Writes file.name.now file.bytes.items (Ok tt)) mid
+      → WritesOut state history (map file_from (drop (i + 1) files)) mid end new
+      → WritesOut state history (map file_from (drop i files)) old end new
+  writes-more files i file old mid new end lt is serves rest =
+      subst (λ xs. WritesOut state history (map file_from xs) old end new)
+      (sym (drop_more files i file lt ∙ ap (λ x. x ∷ drop (i + 1) files) (sym is)))
+      (inr (mid, serves, rest))
 
--- an input was read before
-ending-read : (s m t : StoreState) (name : List ℕ) (limit : ℕ) (next : List ℕ → Plan) (bytes : List ℕ) (rest : Course)
-    → IsReadOf s.files name limit bytes → m.files ≡ s.files → GoesOn s m → Ending m t (next bytes) rest
-    → Ending s t (Opens name limit next) (read_course name limit bytes rest)
-ending-read s m t name limit next bytes rest read same on (no_memory none is) = no_memory none is
-ending-read s m t name limit next bytes rest read same on (not_read none is opening rose misses) =
-    not_read none is tt (let before : s.read_faults ≤ m.read_faults = on.reads in omega (arith, before, rose))
-    (λ steady. inr (bytes, subst (λ files. Misses files (next bytes)) same (misses (OnTrue_at steady on.steady))))
-ending-read s m t name limit next bytes rest read same on (was_put o reaches reads answer puts is) =
-    was_put o (bytes, read, subst (λ files. Reaches files (next bytes) o) same reaches) (bytes, rest.calls, refl, reads) answer puts is
+-- one file more was read
+pub bytes-more : (files more : List (Vec ℕ Global)) (file : Vec ℕ Global) → more ≡ files ++ file ∷ [] → bytes_of more ≡ bytes_of files ++ file.items ∷ []
+bytes-more files more file is = ap bytes_of is ∙ map-append (λ (f : Vec ℕ Global). f.items) files (file ∷ [])
 
-module _ {S : Type 0} (state : S → StoreState) (served : S → List Access → Type 0) where
-  -- what is said of a course, where the old store answers its calls and is then the new one
-  abbrev pub EndsBetween : S → S → Plan → Course → Type 0
-  EndsBetween old new plan course =
-      ServesAll state served old course.calls new → Ending (state old) (state new) plan course × ((state new).files ≡ (state old).files)
+-- the ways in which a run on these inputs ends
+module _ {S : Type 0} (state : S → StoreState) (history : S → List Access → Type 0) {K : Type 0} (shown : K → SinkState) (taken : K → List Put → Type 0)
+    (inputs words : List Input) (outcome : List (List ℕ) → Outcome) (old : S) (before : K) where
+  pub run-read : (read : List (List ℕ)) (o : Outcome) (mid new : S) (status : Status) (after : K) → words ≡ inputs → ReadsIn state history words [] old (Ok read) mid
+      → o ≡ outcome read → Finishes state history shown taken o mid before status new after → Runs state history shown taken inputs outcome old before status new after
+  run-read read o mid new status after same reads is finishes =
+      was_read read mid (subst (λ xs. ReadsIn state history xs [] old (Ok read) mid) same reads)
+      (subst (λ (x : Outcome). Finishes state history shown taken x mid before status new after) is finishes)
 
-  pub course-ends : (plan : Plan) (course : Course) (old new : S) → Follows plan course → EndsBetween old new plan course
-  course-ends (Ends o) course old new (inl is) =
-      subst (EndsBetween old new (Ends o)) (sym is) (λ (serves : new ≡ old). (no_memory refl refl, ap (λ x. (state x).files) serves))
-  course-ends (Ends o) course old new (inr (answer, is)) =
-      subst (EndsBetween old new (Ends o)) (sym is)
-      (λ (serves : new ≡ old). (was_put o refl (refl, refl) answer refl refl, ap (λ x. (state x).files) serves))
-  course-ends (Opens name limit next) course old new (inl is) =
-      subst (EndsBetween old new (Opens name limit next)) (sym is) (λ (serves : new ≡ old). (no_memory refl refl, ap (λ x. (state x).files) serves))
-  course-ends (Opens name limit next) course old new (inr (inl (StoreFault, is))) =
-      subst (EndsBetween old new (Opens name limit next)) (sym is) (λ serves.
-      let end = serves.2 in (
-        not_read refl refl tt (subst (λ x. Rose (state old).read_faults (state x).read_faults) (sym end) (serves.1.shows.fault refl))
-            (λ steady. inl (serves.1.shows.steady steady refl)),
-        ap (λ x. (state x).files) end ∙ serves.1.shows.files,
-      ))
-  course-ends (Opens name limit next) course old new (inr (inl (StoreMemory, is))) =
-      subst (EndsBetween old new (Opens name limit next)) (sym is) (λ serves.
-      (no_memory refl refl, ap (λ x. (state x).files) serves.2 ∙ serves.1.shows.files))
-  course-ends (Opens name limit next) course old new (inr (inr (bytes, rest, is, follows))) =
-      subst (EndsBetween old new (Opens name limit next)) (sym is) (λ serves.
-      let later = course-ends (next bytes) rest serves.0 new follows serves.2 in (
-        ending-read (state old) (state serves.0) (state new) name limit next bytes rest serves.1.shows.bytes serves.1.shows.files serves.1.counts later.0,
-        later.1 ∙ serves.1.shows.files,
-      ))
-
-  module _ {K : Type 0} (shown : K → SinkState) (taken : K → List Put → Type 0) where
-    -- how a run ends
-    pub data RunEnd (plan : Plan) (old : S) (before : K) (status : Status) (new : S) (after : K) : Type 0 where
-      no_room : after ≡ before → status ≡ Memory → RunEnd plan old before status new after
-      unread : after ≡ before → status ≡ ReadFault → IsOpening plan → Rose (state old).read_faults (state new).read_faults
-          → (IsTrue (state old).steady → Misses (state old).files plan) → RunEnd plan old before status new after
-      whole : (o : Outcome) → Reaches (state old).files plan o → (calls : List Access) → ReadsAll plan calls o → ServesAll state served old calls new → (done : Unit {0})
-          → Takes shown taken before (record { bytes = o.text; answer = Ok done }) after → status ≡ o.status → RunEnd plan old before status new after
-      failed : (o : Outcome) → Reaches (state old).files plan o
-          → Takes shown taken before (record { bytes = o.text; answer = Err SinkFault }) after → status ≡ OutputFault → RunEnd plan old before status new after
-      put_no_room : (o : Outcome) → Reaches (state old).files plan o
-          → Takes shown taken before (record { bytes = o.text; answer = Err SinkMemory }) after → status ≡ Memory → RunEnd plan old before status new after
-
-    took-none : (puts : List Put) (before after : K) → puts ≡ [] → TakesAll shown taken before puts after → after ≡ before
-    took-none puts before after none takes = let all : TakesAll shown taken before [] after = subst (λ p. TakesAll shown taken before p after) none takes in all
-
-    took-one : (puts : List Put) (put : Put) (before after : K) → puts ≡ (put ∷ []) → TakesAll shown taken before puts after → Takes shown taken before put after
-    took-one puts put before after one takes =
-        let all : TakesAll shown taken before (put ∷ []) after = subst (λ p. TakesAll shown taken before p after) one takes in
-        subst (λ x. Takes shown taken before put x) (sym all.2) all.1
-
-    ending-run : (plan : Plan) (course : Course) (old new : S) (before after : K) (status : Status) → Ending (state old) (state new) plan course
-        → status ≡ course.status → ServesAll state served old course.calls new → TakesAll shown taken before course.puts after → RunEnd plan old before status new after
-    ending-run plan course old new before after status (no_memory none is) same serves takes = no_room (took-none course.puts before after none takes) (same ∙ is)
-    ending-run plan course old new before after status (not_read none is opening rose misses) same serves takes =
-        unread (took-none course.puts before after none takes) (same ∙ is) opening rose misses
-    ending-run plan course old new before after status (was_put o reaches reads (Ok done) puts is) same serves takes =
-        whole o reaches course.calls reads serves done (took-one course.puts _ before after puts takes) (same ∙ is)
-    ending-run plan course old new before after status (was_put o reaches reads (Err SinkFault) puts is) same serves takes =
-        failed o reaches (took-one course.puts _ before after puts takes) (same ∙ is)
-    ending-run plan course old new before after status (was_put o reaches reads (Err SinkMemory) puts is) same serves takes =
-        put_no_room o reaches (took-one course.puts _ before after puts takes) (same ∙ is)
-
-module _ {S K : Type 0} {state : S → StoreState} {served : S → List Access → Type 0} {shown : K → SinkState} {taken : K → List Put → Type 0}
-    {plan : Plan} {old new : S} {before after : K} {status : Status} where
-  pub run-end : Runs state served shown taken plan old before status new after → RunEnd state served shown taken plan old before status new after
-  run-end runs =
-      ending-run state served shown taken plan runs.course old new before after status (course-ends state served plan runs.course old new runs.follows runs.calls).0 runs.ends runs.calls runs.puts
-
-  pub run-files : Runs state served shown taken plan old before status new after → (state new).files ≡ (state old).files
-  run-files runs = (course-ends state served plan runs.course old new runs.follows runs.calls).1
-
--- the text of an answer is that of its outcome
-pub puts-outcome : {K : Type 0} (shown : K → SinkState) (taken : K → List Put → Type 0) (o wanted : Outcome) (answer : Answer) (text : List ℕ) (result : Status) (old new : K)
-    → wanted ≡ o → IsAnswer wanted answer → text ≡ string_bytes answer.text → PutsOnce shown taken old text answer.status result new
-    → PutsOnce shown taken old o.text o.status result new
-puts-outcome shown taken o wanted answer text result old new same is bytes once = record {
-  answer = once.answer;
-  ends = once.ends ∙ ap (λ s. put_status s once.answer) (is.status ∙ ap (λ (x : Outcome). x.status) same);
-  takes = subst (λ t. Takes shown taken old (record { bytes = t; answer = once.answer }) new) (bytes ∙ (is.text ∙ ap (λ (x : Outcome). x.text) same)) once.takes;
-}
+  pub run-no_room : (read : List (List ℕ)) (new : S) → words ≡ inputs → ReadsIn state history words [] old (Ok read) new
+      → Runs state history shown taken inputs outcome old before Memory new before
+  run-no_room read new same reads = no_room read (subst (λ xs. ReadsIn state history xs [] old (Ok read) new) same reads) refl refl

@@ -1,151 +1,152 @@
--- What each way in which a run ends says of its status, its store and its sink: the clauses of the top call.
-use Rattle.std.proofs.Common.{◌≡◌, ◌⊎◌, ◌≢◌, ℕ, true, false, IsTrue, Ok, Err, Option, None, Some, List, [], ◌∷◌, refl, sym, ◌∙◌, ap, subst, inl, inr, arith}
-use Rattle.std.proofs.lemmas.List.{append-nil}
-use Rattle.pico_board.specs.declared.Cpu.{Cpu}
-use Rattle.pico_board.specs.declared.Cpu.TheVariants.{Arm}
-use Rattle.pico_board.specs.declared.BootKind.{BootKind}
-use Rattle.pico_board.specs.declared.BootKind.TheVariants.{Normal}
-use Rattle.pico_board.specs.declared.SinkFail.TheVariants.{Fault as SinkFault, Memory as SinkMemory}
+-- How a run ends: five ways, and what each says of the store and of the sink.
+use Rattle.std.proofs.Common.{◌≡◌, ◌⊎◌, ◌↔◌, ◌≢◌, ℕ, Bool, true, false, IsTrue, Result, Ok, Err, Option, Some, None, List, [], ◌∷◌, ◌++◌, length, refl, sym, ◌∙◌, ap, subst, inl, inr}
 use Rattle.pico_board.specs.Board.{Rose}
-use Rattle.pico_board.specs.Files.{File, StoreState, Access, Reads, Lacks, ServesAll}
-use Rattle.pico_board.specs.Puts.{SinkState, Put, IsPut, IsPutInPart, Takes}
+use Rattle.pico_board.specs.declared.sink.SinkFail.{SinkFail}
+use Rattle.pico_board.specs.declared.sink.SinkFail.TheVariants.{Fault as SinkFault, Memory as SinkMemory}
+use Rattle.pico_board.specs.Files.{File, StoreState, Access, ServesAll}
+use Rattle.pico_board.specs.Puts.{SinkState, Put, Takes, IsPut}
 use Rattle.boot_run.specs.declared.status.Status.{Status}
-use Rattle.boot_run.specs.declared.status.Status.TheVariants.{Words, ReadFault, WriteFault, OutputFault, Memory}
-use Rattle.boot_run.specs.Commands.{Command, Boot}
-use Rattle.boot_run.specs.Forms.{flash_limit, otp_limit}
-use Rattle.boot_run.specs.Outcome.{Outcome, boot_outcome, plan_of, known_outcome, not_understood, is_finished}
-use Rattle.boot_run.specs.Courses.{Reaches}
-use Rattle.boot_run.proofs.OutcomeLemmas.{reached-known, reached-finished, reached-words}
-use Rattle.boot_run.proofs.CourseLemmas.{IsOpening, Misses, ReadsAll, RunEnd, no_room, unread, whole, failed, put_no_room}
+use Rattle.boot_run.specs.declared.status.Status.TheVariants.{Done, Words, Input as Refused, Bootsel, ReadFault, WriteFault, OutputFault, Memory}
+use Rattle.boot_run.specs.Outcome.{Input, Outcome, is_finished}
+use Rattle.boot_run.specs.Courses.{Runs, not_read, no_room, was_read, Finishes, unwritten, finished, PutsOnce, put_status}
+use Rattle.boot_run.specs.Ends.{AreRead, LacksOne, read_calls, write_calls, IsSaved, LeftAt, Does, IsCutShort, IsPutShort}
+use Rattle.boot_run.proofs.PhaseLemmas.{Goes, AllRead, all-read, NotRead, no_memory, at_fault, not-read, AllWritten, all-written, NotWritten, not-written, fails-more, serves-append}
 
--- nothing is a prefix of every text
-nothing-in-part : (old : Option (List ℕ)) (text : List ℕ) → IsPutInPart old text old
-nothing-in-part None text = refl
-nothing-in-part (Some old) text = (0, omega arith, ap Some (sym (append-nil old)))
-
-not-finished : (status other : Status) → is_finished status ≡ true → status ≡ other → is_finished other ≡ false → ⊥
+-- a status with which the whole text was put is none of the others
+pub not-finished : (status other : Status) → is_finished status ≡ true → status ≡ other → is_finished other ≡ false → ⊥
 not-finished status other ends is not = let e : true ≡ false = sym ends ∙ (ap is_finished is ∙ not) in cc
 
--- the words ask for this boot, and an input that their plan opens is lacking
-misses-boot : (words : Option Command) (flash otp : List ℕ) (files : Option (List File)) → words ≡ Some (Boot flash otp Arm Normal)
-    → Misses files (plan_of words) → Lacks files flash ⊎ Lacks files otp
-misses-boot words flash otp files command misses =
-    go (let named : Misses files (plan_of (Some (Boot flash otp Arm Normal))) = subst (λ w. Misses files (plan_of w)) command misses in named)
-  where
-    go : Misses files (plan_of (Some (Boot flash otp Arm Normal))) → Lacks files flash ⊎ Lacks files otp
-    go (inl lacks) = inl lacks
-    go (inr (f, inl lacks)) = inr lacks
-    go (inr (f, inr (g, none))) = absurd none
+module _ {S : Type 0} (state : S → StoreState) (history : S → List Access → Type 0) {K : Type 0} (shown : K → SinkState) (taken : K → List Put → Type 0)
+    (inputs : List Input) (outcome : List (List ℕ) → Outcome) where
+  -- how a run ends
+  pub data RunEnd (old : S) (before : K) (status : Status) (new : S) (after : K) : Type 0 where
+    room : status ≡ Memory → after ≡ before → (state new).files ≡ (state old).files → RunEnd old before status new after
+    unread : status ≡ ReadFault → inputs ≢ [] → after ≡ before → (state new).files ≡ (state old).files → Rose (state old).read_faults (state new).read_faults
+        → (IsTrue (state old).steady → LacksOne (state old).files inputs) → RunEnd old before status new after
+    cut_short : IsCutShort (state old).files inputs outcome (state new).files → after ≡ before
+        → (((status ≡ WriteFault) × Rose (state old).write_faults (state new).write_faults × (IsTrue (state old).steady → ⊥)) ⊎ (status ≡ Memory))
+        → RunEnd old before status new after
+    whole : (read : List (List ℕ)) → AreRead (state old).files inputs read → length read ≡ length inputs → IsSaved (outcome read).files (state old).files (state new).files
+        → Does state history shown taken inputs read (outcome read) old before new after → status ≡ (outcome read).status → RunEnd old before status new after
+    put_fault : IsPutShort shown taken (state old).files inputs outcome (state new).files before SinkFault after → status ≡ OutputFault
+        → RunEnd old before status new after
+    put_memory : IsPutShort shown taken (state old).files inputs outcome (state new).files before SinkMemory after → status ≡ Memory
+        → RunEnd old before status new after
 
-module _ {S K : Type 0} {state : S → StoreState} {served : S → List Access → Type 0} {shown : K → SinkState} {taken : K → List Put → Type 0}
-    (words : Option Command) {old new : S} {before after : K} {status : Status} where
-  pub end-finished : RunEnd state served shown taken (plan_of words) old before status new after → (o : Outcome) → is_finished status ≡ true → known_outcome (plan_of words) (state old).files ≡ Some o
-      → (status ≡ o.status) × IsPut (shown before).bytes o.text (shown after).bytes
-  end-finished (no_room same is) o ends known = absurd (not-finished status _ ends is refl)
-  end-finished (unread same is opening rose misses) o ends known = absurd (not-finished status _ ends is refl)
-  end-finished (whole reached reaches calls reads serves done takes is) o ends known =
-      let same = reached-known words (state old).files reached o reaches known in
-      (is ∙ ap (λ (x : Outcome). x.status) same, subst (λ (x : Outcome). IsPut (shown before).bytes x.text (shown after).bytes) same takes.bytes)
-  end-finished (failed reached reaches takes is) o ends known = absurd (not-finished status _ ends is refl)
-  end-finished (put_no_room reached reaches takes is) o ends known = absurd (not-finished status _ ends is refl)
+  after-unread : (old new : S) (before after : K) (status : Status) → NotRead state history inputs old new status × ((state new).files ≡ (state old).files) → after ≡ before
+      → RunEnd old before status new after
+  after-unread old new before after status (no_memory is, files) same = room is same files
+  after-unread old new before after status (at_fault is some rose lacks, files) same = unread is some same files rose lacks
 
-  pub end-unfinished : RunEnd state served shown taken (plan_of words) old before status new after → (o : Outcome) → is_finished status ≡ false → known_outcome (plan_of words) (state old).files ≡ Some o
-      → IsPutInPart (shown before).bytes o.text (shown after).bytes
-  end-unfinished (no_room same is) o ends known =
-      subst (λ k. IsPutInPart (shown before).bytes o.text (shown k).bytes) (sym same) (nothing-in-part (shown before).bytes o.text)
-  end-unfinished (unread same is opening rose misses) o ends known =
-      subst (λ k. IsPutInPart (shown before).bytes o.text (shown k).bytes) (sym same) (nothing-in-part (shown before).bytes o.text)
-  end-unfinished (whole reached reaches calls reads serves done takes is) o ends known =
-      absurd (not-finished reached.status status (reached-finished words (state old).files reached reaches) (sym is) ends)
-  end-unfinished (failed reached reaches takes is) o ends known =
-      subst (λ (x : Outcome). IsPutInPart (shown before).bytes x.text (shown after).bytes) (reached-known words (state old).files reached o reaches known) takes.bytes
-  end-unfinished (put_no_room reached reaches takes is) o ends known =
-      subst (λ (x : Outcome). IsPutInPart (shown before).bytes x.text (shown after).bytes) (reached-known words (state old).files reached o reaches known) takes.bytes
+  after-put : (old mid new : S) (before after : K) (status : Status) (read : List (List ℕ)) → AllRead state history inputs [] read old mid
+      → AllWritten state history (outcome read).files mid new → (answer : Result (Unit {0}) SinkFail) → status ≡ put_status (outcome read).status answer
+      → Takes shown taken before (record { bytes = (outcome read).text; answer = answer }) after → RunEnd old before status new after
+  after-put old mid new before after status read r w (Ok done) is takes =
+      let are : AreRead (state old).files inputs read = subst (AreRead (state old).files inputs) (sym r.is) r.are in
+      let long : length read ≡ length inputs = ap (λ xs. length xs) r.is ∙ r.long in
+      let calls : ServesAll state history old (read_calls inputs read) mid = subst (λ xs. ServesAll state history old (read_calls inputs xs) mid) (sym r.is) r.calls in
+      whole read are long (subst (λ files. IsSaved (outcome read).files files (state new).files) r.files w.is)
+      (record { calls = serves-append state history (read_calls inputs read) (write_calls (outcome read).files) old mid new calls w.calls; puts = takes }) is
+  after-put old mid new before after status read r w (Err SinkFault) is takes =
+      put_fault (record {
+        read = read;
+        are_read = subst (AreRead (state old).files inputs) (sym r.is) r.are;
+        saved = subst (λ files. IsSaved (outcome read).files files (state new).files) r.files w.is;
+        puts = takes;
+      }) is
+  after-put old mid new before after status read r w (Err SinkMemory) is takes =
+      put_memory (record {
+        read = read;
+        are_read = subst (AreRead (state old).files inputs) (sym r.is) r.are;
+        saved = subst (λ files. IsSaved (outcome read).files files (state new).files) r.files w.is;
+        puts = takes;
+      }) is
 
-  pub end-words : RunEnd state served shown taken (plan_of words) old before status new after → status ≡ Words → words ≡ None
-  end-words (no_room same is) h = let e : Memory ≡ Words = sym is ∙ h in cc
-  end-words (unread same is opening rose misses) h = let e : ReadFault ≡ Words = sym is ∙ h in cc
-  end-words (whole reached reaches calls reads serves done takes is) h = reached-words words (state old).files reached reaches (sym is ∙ h)
-  end-words (failed reached reaches takes is) h = let e : OutputFault ≡ Words = sym is ∙ h in cc
-  end-words (put_no_room reached reaches takes is) h = let e : Memory ≡ Words = sym is ∙ h in cc
+  after-read : (old mid new : S) (before after : K) (status : Status) (read : List (List ℕ)) → AllRead state history inputs [] read old mid
+      → Finishes state history shown taken (outcome read) mid before status new after → RunEnd old before status new after
+  after-read old mid new before after status read r (unwritten writes same) =
+      let w = not-written state history (outcome read).files mid new (Some status) status refl writes in
+      cut_short (record {
+        read = read;
+        are_read = subst (AreRead (state old).files inputs) (sym r.is) r.are;
+        left = subst (λ files. LeftAt files (outcome read).files (state new).files) r.files w.left;
+      }) same (fails-more state history old mid new status r.goes w.fails)
+  after-read old mid new before after status read r (finished writes once) =
+      after-put old mid new before after status read r (all-written state history (outcome read).files mid new None refl writes) once.answer once.ends once.takes
 
-  pub end-no_command : RunEnd state served shown taken (plan_of words) old before status new after → words ≡ None → (status ≡ Words) ⊎ ((status ≡ OutputFault) ⊎ (status ≡ Memory))
-  end-no_command (no_room same is) none = inr (inr is)
-  end-no_command (unread same is opening rose misses) none = absurd (let opens : IsOpening (plan_of None) = subst (λ w. IsOpening (plan_of w)) none opening in opens)
-  end-no_command (whole reached reaches calls reads serves done takes is) none =
-      let same : reached ≡ not_understood = subst (λ w. Reaches (state old).files (plan_of w) reached) none reaches in
-      inl (is ∙ ap (λ (x : Outcome). x.status) same)
-  end-no_command (failed reached reaches takes is) none = inr (inl is)
-  end-no_command (put_no_room reached reaches takes is) none = inr (inr is)
+  pub run-end : (old new : S) (before after : K) (status : Status) → Runs state history shown taken inputs outcome old before status new after
+      → RunEnd old before status new after
+  run-end old new before after status (not_read reads same) =
+      after-unread old new before after status (not-read state history inputs [] old new (Err status) status refl reads) same
+  run-end old new before after status (no_room read reads is same) =
+      room is same (all-read state history inputs [] read old new (Ok read) refl reads).files
+  run-end old new before after status (was_read read mid reads finishes) =
+      after-read old mid new before after status read (all-read state history inputs [] read old mid (Ok read) refl reads) finishes
 
-  pub end-read_fault : RunEnd state served shown taken (plan_of words) old before status new after → status ≡ ReadFault → (after ≡ before) × Rose (state old).read_faults (state new).read_faults
-      × (IsTrue (state old).steady → Misses (state old).files (plan_of words))
-  end-read_fault (no_room same is) h = let e : Memory ≡ ReadFault = sym is ∙ h in cc
-  end-read_fault (unread same is opening rose misses) h = (same, rose, misses)
-  end-read_fault (whole reached reaches calls reads serves done takes is) h = absurd (not-finished reached.status ReadFault (reached-finished words (state old).files reached reaches) (sym is ∙ h) refl)
-  end-read_fault (failed reached reaches takes is) h = let e : OutputFault ≡ ReadFault = sym is ∙ h in cc
-  end-read_fault (put_no_room reached reaches takes is) h = let e : Memory ≡ ReadFault = sym is ∙ h in cc
+  -- what each way says, where every outcome is a text with its status
+  module _ (ends : (read : List (List ℕ)) → is_finished (outcome read).status ≡ true) where
+    -- the whole text was put
+    pub record Finished (old : S) (before : K) (status : Status) (new : S) (after : K) : Type 0 where
+      pub read : List (List ℕ)
+      pub are : AreRead (state old).files inputs read
+      pub long : length read ≡ length inputs
+      pub saved : IsSaved (outcome read).files (state old).files (state new).files
+      pub does : Does state history shown taken inputs read (outcome read) old before new after
+      pub is : status ≡ (outcome read).status
 
-  pub end-no_write : RunEnd state served shown taken (plan_of words) old before status new after → status ≡ WriteFault → ⊥
-  end-no_write (no_room same is) h = let e : Memory ≡ WriteFault = sym is ∙ h in cc
-  end-no_write (unread same is opening rose misses) h = let e : ReadFault ≡ WriteFault = sym is ∙ h in cc
-  end-no_write (whole reached reaches calls reads serves done takes is) h = not-finished reached.status WriteFault (reached-finished words (state old).files reached reaches) (sym is ∙ h) refl
-  end-no_write (failed reached reaches takes is) h = let e : OutputFault ≡ WriteFault = sym is ∙ h in cc
-  end-no_write (put_no_room reached reaches takes is) h = let e : Memory ≡ WriteFault = sym is ∙ h in cc
+    pub end-finished : (old new : S) (before after : K) (status : Status) → RunEnd old before status new after → is_finished status ≡ true → Finished old before status new after
+    end-finished old new before after status (room is same files) h = absurd (not-finished status _ h is refl)
+    end-finished old new before after status (unread is some same files rose lacks) h = absurd (not-finished status _ h is refl)
+    end-finished old new before after status (cut_short cut same (inl (is, rose, not))) h = absurd (not-finished status _ h is refl)
+    end-finished old new before after status (cut_short cut same (inr is)) h = absurd (not-finished status _ h is refl)
+    end-finished old new before after status (whole read are long saved does is) h =
+        record { read = read; are = are; long = long; saved = saved; does = does; is = is }
+    end-finished old new before after status (put_fault short is) h = absurd (not-finished status _ h is refl)
+    end-finished old new before after status (put_memory short is) h = absurd (not-finished status _ h is refl)
 
-  pub end-output_fault : RunEnd state served shown taken (plan_of words) old before status new after → status ≡ OutputFault
-      → (o : Outcome) × Reaches (state old).files (plan_of words) o × Takes shown taken before (record { bytes = o.text; answer = Err SinkFault }) after
-  end-output_fault (no_room same is) h = let e : Memory ≡ OutputFault = sym is ∙ h in cc
-  end-output_fault (unread same is opening rose misses) h = let e : ReadFault ≡ OutputFault = sym is ∙ h in cc
-  end-output_fault (whole reached reaches calls reads serves done takes is) h = absurd (not-finished reached.status OutputFault (reached-finished words (state old).files reached reaches) (sym is ∙ h) refl)
-  end-output_fault (failed reached reaches takes is) h = (reached, reaches, takes)
-  end-output_fault (put_no_room reached reaches takes is) h = let e : Memory ≡ OutputFault = sym is ∙ h in cc
+    -- the status of an outcome is none of an early end
+    finished-not : (read : List (List ℕ)) (status other : Status) → status ≡ (outcome read).status → status ≡ other → is_finished other ≡ false → ⊥
+    finished-not read status other is h not = not-finished (outcome read).status other (ends read) (sym is ∙ h) not
 
-  pub end-put_last : RunEnd state served shown taken (plan_of words) old before status new after → (o : Outcome) → status ≡ OutputFault → known_outcome (plan_of words) (state old).files ≡ Some o → is_finished o.status ≡ true
-  end-put_last ends o h known =
-      let put = end-output_fault ends h in
-      subst (λ (x : Outcome). is_finished x.status ≡ true) (reached-known words (state old).files put.0 o put.1 known) (reached-finished words (state old).files put.0 put.1)
+    pub end-read_fault : (old new : S) (before after : K) (status : Status) → RunEnd old before status new after → status ≡ ReadFault
+        → Rose (state old).read_faults (state new).read_faults × (after ≡ before) × ((state new).files ≡ (state old).files) × (IsTrue (state old).steady → LacksOne (state old).files inputs)
+    end-read_fault old new before after status (room is same files) h = let e : Memory ≡ ReadFault = sym is ∙ h in cc
+    end-read_fault old new before after status (unread is some same files rose lacks) h = (rose, same, files, lacks)
+    end-read_fault old new before after status (cut_short cut same (inl (is, rose, not))) h = let e : WriteFault ≡ ReadFault = sym is ∙ h in cc
+    end-read_fault old new before after status (cut_short cut same (inr is)) h = let e : Memory ≡ ReadFault = sym is ∙ h in cc
+    end-read_fault old new before after status (whole read are long saved does is) h = absurd (finished-not read status ReadFault is h refl)
+    end-read_fault old new before after status (put_fault short is) h = let e : OutputFault ≡ ReadFault = sym is ∙ h in cc
+    end-read_fault old new before after status (put_memory short is) h = let e : Memory ≡ ReadFault = sym is ∙ h in cc
 
-  pub end-memory : RunEnd state served shown taken (plan_of words) old before status new after → status ≡ Memory → (after ≡ before) ⊎ ((o : Outcome) × Reaches (state old).files (plan_of words) o
-      × Takes shown taken before (record { bytes = o.text; answer = Err SinkMemory }) after)
-  end-memory (no_room same is) h = inl same
-  end-memory (unread same is opening rose misses) h = let e : ReadFault ≡ Memory = sym is ∙ h in cc
-  end-memory (whole reached reaches calls reads serves done takes is) h = absurd (not-finished reached.status Memory (reached-finished words (state old).files reached reaches) (sym is ∙ h) refl)
-  end-memory (failed reached reaches takes is) h = let e : OutputFault ≡ Memory = sym is ∙ h in cc
-  end-memory (put_no_room reached reaches takes is) h = inr (reached, reaches, takes)
+    pub end-write_fault : (old new : S) (before after : K) (status : Status) → RunEnd old before status new after → status ≡ WriteFault
+        → Rose (state old).write_faults (state new).write_faults × (after ≡ before) × IsCutShort (state old).files inputs outcome (state new).files
+        × (IsTrue (state old).steady → ⊥)
+    end-write_fault old new before after status (room is same files) h = let e : Memory ≡ WriteFault = sym is ∙ h in cc
+    end-write_fault old new before after status (unread is some same files rose lacks) h = let e : ReadFault ≡ WriteFault = sym is ∙ h in cc
+    end-write_fault old new before after status (cut_short cut same (inl (is, rose, not))) h = (rose, same, cut, not)
+    end-write_fault old new before after status (cut_short cut same (inr is)) h = let e : Memory ≡ WriteFault = sym is ∙ h in cc
+    end-write_fault old new before after status (whole read are long saved does is) h = absurd (finished-not read status WriteFault is h refl)
+    end-write_fault old new before after status (put_fault short is) h = let e : OutputFault ≡ WriteFault = sym is ∙ h in cc
+    end-write_fault old new before after status (put_memory short is) h = let e : Memory ≡ WriteFault = sym is ∙ h in cc
 
-  pub end-complete : RunEnd state served shown taken (plan_of words) old before status new after → (is_finished status ≡ true) ⊎ ((status ≡ Memory)
-      ⊎ (Rose (state old).read_faults (state new).read_faults ⊎ Rose (shown before).faults (shown after).faults))
-  end-complete (no_room same is) = inr (inl is)
-  end-complete (unread same is opening rose misses) = inr (inr (inl rose))
-  end-complete (whole reached reaches calls reads serves done takes is) = inl (ap is_finished is ∙ reached-finished words (state old).files reached reaches)
-  end-complete (failed reached reaches takes is) = inr (inr (inr (takes.fault refl)))
-  end-complete (put_no_room reached reaches takes is) = inr (inl is)
+    pub end-output_fault : (old new : S) (before after : K) (status : Status) → RunEnd old before status new after → status ≡ OutputFault
+        → Rose (shown before).faults (shown after).faults × IsPutShort shown taken (state old).files inputs outcome (state new).files before SinkFault after
+        × (IsTrue (shown before).steady → ⊥)
+    end-output_fault old new before after status (room is same files) h = let e : Memory ≡ OutputFault = sym is ∙ h in cc
+    end-output_fault old new before after status (unread is some same files rose lacks) h = let e : ReadFault ≡ OutputFault = sym is ∙ h in cc
+    end-output_fault old new before after status (cut_short cut same (inl (is, rose, not))) h = let e : WriteFault ≡ OutputFault = sym is ∙ h in cc
+    end-output_fault old new before after status (cut_short cut same (inr is)) h = let e : Memory ≡ OutputFault = sym is ∙ h in cc
+    end-output_fault old new before after status (whole read are long saved does is) h = absurd (finished-not read status OutputFault is h refl)
+    end-output_fault old new before after status (put_fault short is) h = (short.puts.fault refl, short, λ steady. short.puts.steady steady refl)
+    end-output_fault old new before after status (put_memory short is) h = let e : Memory ≡ OutputFault = sym is ∙ h in cc
 
-  pub end-steady_puts : RunEnd state served shown taken (plan_of words) old before status new after → IsTrue (shown before).steady → status ≢ OutputFault
-  end-steady_puts ends steady h = (end-output_fault ends h).2.steady steady refl
-
-  pub end-steady_reads : RunEnd state served shown taken (plan_of words) old before status new after → (flash otp : List ℕ) → status ≡ ReadFault → IsTrue (state old).steady → words ≡ Some (Boot flash otp Arm Normal)
-      → Lacks (state old).files flash ⊎ Lacks (state old).files otp
-  end-steady_reads ends flash otp h steady command = misses-boot words flash otp (state old).files command ((end-read_fault ends h).2 steady)
-
-  -- a boot that puts its whole text read its two files, and put the text of the outcome by their bytes
-  pub end-boots : RunEnd state served shown taken (plan_of words) old before status new after → (flash otp : List ℕ) (cpu : Cpu) (kind : BootKind)
-      → is_finished status ≡ true → words ≡ Some (Boot flash otp cpu kind) → (f : List ℕ) × (g : List ℕ)
-      × ServesAll state served old (Reads flash flash_limit (Ok f) ∷ Reads otp otp_limit (Ok g) ∷ []) new
-      × (status ≡ (boot_outcome flash otp cpu kind f g).status)
-      × Takes shown taken before (record { bytes = (boot_outcome flash otp cpu kind f g).text; answer = Ok tt }) after
-  end-boots (no_room same is) flash otp cpu kind ends command = absurd (not-finished status _ ends is refl)
-  end-boots (unread same is opening rose misses) flash otp cpu kind ends command = absurd (not-finished status _ ends is refl)
-  end-boots (whole reached reaches calls reads serves done takes is) flash otp cpu kind ends command =
-      let boot : ReadsAll (plan_of (Some (Boot flash otp cpu kind))) calls reached = subst (λ w. ReadsAll (plan_of w) calls reached) command reads in
-      let two : calls ≡ (Reads flash flash_limit (Ok boot.0) ∷ Reads otp otp_limit (Ok boot.3.0) ∷ []) =
-      boot.2 ∙ ap (λ rest. Reads flash flash_limit (Ok boot.0) ∷ rest) (boot.3.2 ∙ ap (λ rest. Reads otp otp_limit (Ok boot.3.0) ∷ rest) boot.3.3.0) in (
-        boot.0,
-        boot.3.0,
-        subst (λ c. ServesAll state served old c new) two serves,
-        is ∙ ap (λ (o : Outcome). o.status) boot.3.3.1,
-        subst (λ (o : Outcome). Takes shown taken before (record { bytes = o.text; answer = Ok tt }) after) boot.3.3.1 takes,
-      )
-  end-boots (failed reached reaches takes is) flash otp cpu kind ends command = absurd (not-finished status _ ends is refl)
-  end-boots (put_no_room reached reaches takes is) flash otp cpu kind ends command = absurd (not-finished status _ ends is refl)
+    pub end-memory : (old new : S) (before after : K) (status : Status) → RunEnd old before status new after → status ≡ Memory
+        → ((after ≡ before) × (((state new).files ≡ (state old).files) ⊎ IsCutShort (state old).files inputs outcome (state new).files))
+        ⊎ IsPutShort shown taken (state old).files inputs outcome (state new).files before SinkMemory after
+    end-memory old new before after status (room is same files) h = inl (same, inl files)
+    end-memory old new before after status (unread is some same files rose lacks) h = let e : ReadFault ≡ Memory = sym is ∙ h in cc
+    end-memory old new before after status (cut_short cut same (inl (is, rose, not))) h = let e : WriteFault ≡ Memory = sym is ∙ h in cc
+    end-memory old new before after status (cut_short cut same (inr is)) h = inl (same, inr cut)
+    end-memory old new before after status (whole read are long saved does is) h = absurd (finished-not read status Memory is h refl)
+    end-memory old new before after status (put_fault short is) h = let e : OutputFault ≡ Memory = sym is ∙ h in cc
+    end-memory old new before after status (put_memory short is) h = inr short

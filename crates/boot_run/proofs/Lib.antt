@@ -1,5 +1,15 @@
-pub mod FormLemmas
-pub mod OutcomeLemmas
-pub mod CourseLemmas
-pub mod EndLemmas
-pub mod CauseLemmas
+mod RowLemmas
+mod WordLemmas
+mod CourseLemmas
+mod BoardLemmas
+mod WindowLemmas
+mod FormLemmas
+mod FaultLemmas
+mod RuleLemmas
+mod FileMaps
+mod PhaseLemmas
+mod EndLemmas
+mod OutcomeLemmas
+mod RunLemmas
+mod OnlyLemmas
+mod ContentLemmas

@@ -1,177 +1,157 @@
--- What was read of the input files gives the outcome of the whole files.
-use Rattle.std.proofs.Common.{◌≡◌, ◌↔◌, ℕ, suc, ◌+◌, ◌≤◌, min, Bool, true, false, nat_lt, cond, List, [], ◌∷◌, length, take, Option, Some, None, codes, IsSomeAnd, refl, sym, ◌∙◌, ap, inl, inr, arith}
-use Rattle.std.proofs.lemmas.Bool.{cases_lt, lt-ltb, le-ltb, ltb-false}
+-- The outcome of the words: its statuses, and that what is read of longer files decides.
+use Rattle.std.proofs.Common.{◌≡◌, ◌≢◌, ◌⊎◌, ℕ, suc, ◌+◌, ◌<◌, ◌≤◌, Bool, true, false, cond, nat_lt, List, [], ◌∷◌, length, take, Option, Some, None, option_map, codes, refl, sym, ◌∙◌, ap, subst, inl, inr, arith, min}
+use Rattle.std.specs.Prelude.{IsSomeAnd}
+use Rattle.std.specs.Option.{option_or}
+use Rattle.std.proofs.lemmas.Bool.{ltb-false, lt-ltb, cases_lt}
 use Rattle.std.proofs.lemmas.List.{take_all, length-take}
-use Rattle.pico_board.specs.declared.Cpu.{Cpu}
-use Rattle.pico_board.specs.declared.Cpu.TheVariants.{Arm}
-use Rattle.pico_board.specs.declared.BootKind.{BootKind}
-use Rattle.pico_board.specs.declared.BootKind.TheVariants.{Normal}
-use Rattle.pico_board.specs.Files.{File, file_of, IsReadOf}
+use Rattle.pico_board.specs.Files.{File, file_of, IsReadOf, Lacks}
 use Rattle.boot_run.specs.declared.status.Status.{Status}
-use Rattle.boot_run.specs.declared.status.Status.TheVariants.{Done, Words, Input, Bootsel}
-use Rattle.boot_run.specs.Commands.{Command, Boot}
-use Rattle.boot_rules.specs.declared.Decision.{Decision}
-use Rattle.boot_rules.specs.declared.Decision.TheVariants.{Start, Bootsel as FallsToBootsel}
-use Rattle.pico_board.specs.Content.{Content}
-use Rattle.boot_rules.specs.Built.{IsBuilt, is_built}
-use Rattle.boot_rules.specs.Choosing.{decision_in}
-use Rattle.boot_rules.specs.Chosen.{Chosen}
-use Rattle.boot_rules.proofs.BuiltLemmas.{all-built}
-use Rattle.boot_rules.proofs.DecisionLemmas.{chosen-decision}
-use Rattle.boot_run.specs.Forms.{flash_limit, otp_limit, flash_fault, filled, content_of, IsFlashFile}
-use Rattle.boot_run.specs.Courses.{Reaches}
-use Rattle.boot_run.specs.Outcome.{Outcome, refused, decided, formed_outcome, judged_outcome, boot_outcome, Plan, Ends, Opens, plan_of, plan_outcome, opened_outcome, known_outcome, is_finished}
+use Rattle.boot_run.specs.declared.status.Status.TheVariants.{Done, Words, Input as Refused, Bootsel}
+use Rattle.boot_run.specs.declared.forms.Form.{Form}
+use Rattle.boot_run.specs.Commands.{Command}
+use Rattle.boot_run.specs.Forms.{limit_of, own_fault, form_fault, HasForm}
+use Rattle.boot_run.specs.Works.{Work, Answers, Refuses}
+use Rattle.boot_run.specs.Outcome.{Input, Outcome, inputs_of, inputs_in, refused, worked, work_of, answered_status, named_fault, first_fault, judged, command_outcome, outcome_in, outcome_on, outcome_found, found, found_next, is_finished}
+use Rattle.boot_run.specs.Ends.{AreRead, LacksOne, cut}
+use Rattle.boot_run.proofs.FormLemmas.{formed, faulty, form-apart}
 
--- a test of a length that is cut above the limit
-cut-test : (limit m n : ℕ) → limit ≤ m → nat_lt limit (suc (min m n)) ≡ nat_lt limit (suc n)
-cut-test limit m n h =
-    elim (cases_lt limit (suc n)) [
-      | inl above ↦ lt-ltb limit (suc (min m n)) (omega arith) ∙ sym (lt-ltb limit (suc n) above)
-      | inr within ↦ le-ltb limit (suc (min m n)) (omega arith) ∙ sym (le-ltb limit (suc n) within)
+-- a file that has its form has no fault
+pub no-fault : (form : Form) (bytes : List ℕ) → HasForm form bytes → form_fault form bytes ≡ None
+no-fault form bytes has = go (form_fault form bytes) refl
+  where
+    go : (o : Option (List ℕ)) → form_fault form bytes ≡ o → o ≡ None
+    go None is = refl
+    go (Some fault) is = absurd (form-apart form bytes fault has (faulty form bytes fault is))
+
+-- the fault of a form is a refusal
+fault-status : (inputs : List Input) (read : List (List ℕ)) (o : Outcome) → first_fault inputs read ≡ Some o → o.status ≡ Refused
+fault-status [] read o h = cc
+fault-status (input ∷ inputs) [] o h = cc
+fault-status (input ∷ inputs) (bytes ∷ read) o h = go (form_fault input.form bytes) h (fault-status inputs read o)
+  where
+    go : (a : Option (List ℕ)) → option_or (option_map (refused input.name) a) (first_fault inputs read) ≡ Some o
+        → (first_fault inputs read ≡ Some o → o.status ≡ Refused) → o.status ≡ Refused
+    go None e rest = rest e
+    go (Some fault) e rest = let same : o ≡ refused input.name fault = cc in ap (λ (x : Outcome). x.status) same
+
+-- a work ends with a text, and its status is not that of other words
+abbrev pub IsText : Status → Type 0
+IsText status = (is_finished status ≡ true) × (status ≡ Words → ⊥)
+
+worked-text : (w : Work) → IsText (worked w).status
+worked-text (Answers true text files) = (refl, λ (e : Bootsel ≡ Words). cc)
+worked-text (Answers false text files) = (refl, λ (e : Done ≡ Words). cc)
+worked-text (Refuses name fault) = (refl, λ (e : Refused ≡ Words). cc)
+
+refused-text : (status : Status) → status ≡ Refused → IsText status
+refused-text status is = (ap is_finished is, λ h. let e : Refused ≡ Words = sym is ∙ h in cc)
+
+command-text : (command : Command) (read : List (List ℕ)) → IsText (command_outcome command read).status
+command-text command read = go (first_fault (inputs_of command) read) refl
+  where
+    go : (o : Option Outcome) → first_fault (inputs_of command) read ≡ o → IsText (judged o (worked (work_of command read))).status
+    go None is = worked-text (work_of command read)
+    go (Some fault) is = refused-text fault.status (fault-status (inputs_of command) read fault is)
+
+pub outcome-finished : (command : Option Command) (read : List (List ℕ)) → is_finished (outcome_in command read).status ≡ true
+outcome-finished None read = refl
+outcome-finished (Some command) read = (command-text command read).0
+
+pub outcome-words : (command : Option Command) (read : List (List ℕ)) → (outcome_in command read).status ≡ Words → command ≡ None
+outcome-words None read h = refl
+outcome-words (Some command) read h = absurd ((command-text command read).1 h)
+
+large : (form : Form) (xs : List ℕ) → limit_of form < length xs → form_fault form xs ≡ Some (codes "too-large")
+large form xs h = ap (λ t. cond t (Some (codes "too-large")) (own_fault form xs)) (lt-ltb (limit_of form) (length xs) h)
+
+-- what is read of a file has its fault
+form-cut : (form : Form) (bytes : List ℕ) → form_fault form (take (limit_of form + 1) bytes) ≡ form_fault form bytes
+form-cut form bytes =
+    elim (cases_lt (limit_of form) (length bytes)) [
+      | inl above ↦
+          let long = length-take (limit_of form + 1) bytes in
+          large form (take (limit_of form + 1) bytes) (omega (arith, long)) ∙ sym (large form bytes above)
+      | inr within ↦ ap (form_fault form) (take_all (limit_of form + 1) bytes (omega arith))
     ]
 
--- the fault of a flash file shows in what is read of it
-fault-same : (m : ℕ) (f : List ℕ) → flash_limit ≤ m → flash_fault (take (suc m) f) ≡ flash_fault f
-fault-same m [] h = refl
-fault-same m (b ∷ f) h =
-    let test : nat_lt flash_limit (suc (length (take m f))) ≡ nat_lt flash_limit (suc (length f)) =
-    ap (λ n. nat_lt flash_limit (suc n)) (length-take m f) ∙ cut-test flash_limit m (length f) h in
-    rw test refl
+-- a file without a fault is read whole
+whole-cut : (form : Form) (bytes : List ℕ) → form_fault form bytes ≡ None → take (limit_of form + 1) bytes ≡ bytes
+whole-cut form bytes h =
+    elim (cases_lt (limit_of form) (length bytes)) [
+      | inl above ↦ let e : None ≡ Some (codes "too-large") = sym h ∙ large form bytes above in cc
+      | inr within ↦ take_all (limit_of form + 1) bytes (omega arith)
+    ]
 
--- a flash file without a fault is read whole
-none-whole : (f : List ℕ) → flash_fault f ≡ None → length f ≤ flash_limit
-none-whole [] h = cc
-none-whole (b ∷ f) h = go (nat_lt flash_limit (suc (length f))) refl h
+first-cut : (inputs : List Input) (whole : List (List ℕ)) → first_fault inputs (cut inputs whole) ≡ first_fault inputs whole
+first-cut [] [] = refl
+first-cut [] (bytes ∷ whole) = refl
+first-cut (input ∷ inputs) [] = refl
+first-cut (input ∷ inputs) (bytes ∷ whole) =
+    ap (λ o. option_or (option_map (refused input.name) o) (first_fault inputs (cut inputs whole))) (form-cut input.form bytes)
+    ∙ ap (λ rest. option_or (named_fault input bytes) rest) (first-cut inputs whole)
+
+none-cut : (inputs : List Input) (whole : List (List ℕ)) → length whole ≡ length inputs → first_fault inputs whole ≡ None → cut inputs whole ≡ whole
+none-cut [] [] long h = refl
+none-cut [] (bytes ∷ whole) long h = absurd (omega arith)
+none-cut (input ∷ inputs) [] long h = absurd (omega arith)
+none-cut (input ∷ inputs) (bytes ∷ whole) long h = go (form_fault input.form bytes) refl h (none-cut inputs whole (omega arith))
   where
-    go : (t : Bool) → nat_lt flash_limit (suc (length f)) ≡ t → cond t (Some (codes "too-large")) None ≡ None → suc (length f) ≤ flash_limit
-    go true is e = cc
-    go false is e = ltb-false flash_limit (suc (length f)) is
+    go : (o : Option (List ℕ)) → form_fault input.form bytes ≡ o → option_or (option_map (refused input.name) o) (first_fault inputs whole) ≡ None
+        → (first_fault inputs whole ≡ None → cut inputs whole ≡ whole) → cut (input ∷ inputs) (bytes ∷ whole) ≡ bytes ∷ whole
+    go None is e rest = ap (λ b. b ∷ cut inputs whole) (whole-cut input.form bytes is) ∙ ap (λ w. bytes ∷ w) (rest e)
+    go (Some fault) is e rest = cc
 
--- of an OTP file only whether it is empty is asked
-formed-same : (flash otp : List ℕ) (cpu : Cpu) (kind : BootKind) (f g : List ℕ) (m : ℕ)
-    → formed_outcome flash otp cpu kind f (take (suc m) g) ≡ formed_outcome flash otp cpu kind f g
-formed-same flash otp cpu kind f [] m = refl
-formed-same flash otp cpu kind f (b ∷ g) m = refl
-
--- the outcome of what was read
-pub read-same : (flash otp : List ℕ) (cpu : Cpu) (kind : BootKind) (f g : List ℕ) (m k : ℕ) → flash_limit ≤ m
-    → boot_outcome flash otp cpu kind (take (suc m) f) (take (suc k) g) ≡ boot_outcome flash otp cpu kind f g
-read-same flash otp cpu kind f g m k h = go (flash_fault f) refl
+-- the outcome of what is read is that of whole files
+pub outcome-cut : (command : Command) (whole : List (List ℕ)) → length whole ≡ length (inputs_of command)
+    → command_outcome command (cut (inputs_of command) whole) ≡ command_outcome command whole
+outcome-cut command whole long = go (first_fault (inputs_of command) whole) refl
   where
-    go : (o : Option (List ℕ)) → flash_fault f ≡ o → boot_outcome flash otp cpu kind (take (suc m) f) (take (suc k) g) ≡ boot_outcome flash otp cpu kind f g
+    go : (o : Option Outcome) → first_fault (inputs_of command) whole ≡ o → command_outcome command (cut (inputs_of command) whole) ≡ command_outcome command whole
+    go None is = ap (command_outcome command) (none-cut (inputs_of command) whole long is)
     go (Some fault) is =
-        let cut : flash_fault (take (suc m) f) ≡ Some fault = fault-same m f h ∙ is in
-        rw (cut, is) refl
-    go None is =
-        let cut : flash_fault (take (suc m) f) ≡ None = fault-same m f h ∙ is in
-        let whole : take (suc m) f ≡ f = take_all (suc m) f (omega (arith, none-whole f is)) in
-        rw (cut, is, whole) (formed-same flash otp cpu kind f g k)
+        ap (λ o. judged o (worked (work_of command (cut (inputs_of command) whole)))) (first-cut (inputs_of command) whole ∙ is)
+        ∙ sym (ap (λ o. judged o (worked (work_of command whole))) is)
 
--- the outcome of a boot on told files is that of what is read of them
-boot-known : (flash otp : List ℕ) (cpu : Cpu) (kind : BootKind) (files : List File) (f g : List ℕ)
-    → IsReadOf (Some files) flash flash_limit f → IsReadOf (Some files) otp otp_limit g
-    → boot_outcome flash otp cpu kind f g ≡ plan_outcome files (plan_of (Some (Boot flash otp cpu kind)))
-boot-known flash otp cpu kind files f g read_f read_g = go (file_of files flash) (file_of files otp) refl refl read_f read_g
+-- what is read of told files
+pub record AreFound (files : List File) (inputs : List Input) (read : List (List ℕ)) : Type 0 where
+  pub whole : List (List ℕ)
+  pub are : found files inputs ≡ Some whole
+  pub is : read ≡ cut inputs whole
+  pub long : length whole ≡ length inputs
+
+are-found-more : (files : List File) (input : Input) (inputs : List Input) (bytes : List ℕ) (read : List (List ℕ)) (here : Option (List ℕ))
+    → file_of files input.name ≡ here → IsSomeAnd here (λ b. bytes ≡ take (limit_of input.form + 1) b) → AreFound files inputs read
+    → AreFound files (input ∷ inputs) (bytes ∷ read)
+are-found-more files input inputs bytes read None is reads rest = absurd reads
+are-found-more files input inputs bytes read (Some b) is reads rest = record {
+  whole = b ∷ rest.whole;
+  are = ap (λ h. found_next h (found files inputs)) is ∙ ap (found_next (Some b)) rest.are;
+  is = ap (λ x. x ∷ read) reads ∙ ap (λ xs. take (limit_of input.form + 1) b ∷ xs) rest.is;
+  long = ap suc rest.long;
+}
+
+pub are-found : (files : List File) (inputs : List Input) (read : List (List ℕ)) → AreRead (Some files) inputs read → AreFound files inputs read
+are-found files [] [] are = record { whole = []; are = refl; is = refl; long = refl }
+are-found files [] (bytes ∷ read) are = absurd are
+are-found files (input ∷ inputs) [] are = absurd are
+are-found files (input ∷ inputs) (bytes ∷ read) are =
+    are-found-more files input inputs bytes read (file_of files input.name) refl are.0 (are-found files inputs read are.1)
+
+-- the outcome of what is read of told files is that of the files
+pub outcome-told : (command : Option Command) (files : List File) (read : List (List ℕ)) → AreRead (Some files) (inputs_in command) read
+    → outcome_in command read ≡ outcome_on command files
+outcome-told None files read are = refl
+outcome-told (Some command) files read are =
+    let f = are-found files (inputs_of command) read are in
+    ap (command_outcome command) f.is ∙ (outcome-cut command f.whole f.long ∙ sym (ap (outcome_found (Some command)) f.are))
+
+-- inputs that were read are not lacking
+pub not-lacking : (files : List File) (inputs : List Input) (read : List (List ℕ)) → AreRead (Some files) inputs read → LacksOne (Some files) inputs → ⊥
+not-lacking files [] read are lacks = lacks
+not-lacking files (input ∷ inputs) [] are lacks = are
+not-lacking files (input ∷ inputs) (bytes ∷ read) are (inl none) = go (file_of files input.name) none are.0
   where
-    opened : Option (List ℕ) → Option (List ℕ) → Outcome
-    opened a b = opened_outcome a (λ x. opened_outcome b (λ y. boot_outcome flash otp cpu kind x y))
-
-    go : (a b : Option (List ℕ)) → file_of files flash ≡ a → file_of files otp ≡ b
-        → IsSomeAnd a (λ bytes. f ≡ take (flash_limit + 1) bytes) → IsSomeAnd b (λ bytes. g ≡ take (otp_limit + 1) bytes)
-        → boot_outcome flash otp cpu kind f g ≡ plan_outcome files (plan_of (Some (Boot flash otp cpu kind)))
-    go (Some x) (Some y) is_x is_y cut_f cut_g =
-        ap (λ bytes. boot_outcome flash otp cpu kind bytes g) cut_f
-        ∙ (ap (boot_outcome flash otp cpu kind (take (flash_limit + 1) x)) cut_g
-        ∙ (read-same flash otp cpu kind x y flash_limit otp_limit (omega arith)
-        ∙ sym (ap (λ a. opened_outcome a (λ v. opened_outcome (file_of files otp) (λ w. boot_outcome flash otp cpu kind v w))) is_x
-        ∙ ap (λ b. opened_outcome b (λ w. boot_outcome flash otp cpu kind x w)) is_y)))
-    go (Some x) None is_x is_y cut_f cut_g = absurd cut_g
-    go None b is_x is_y cut_f cut_g = absurd cut_f
-
--- told files have an outcome
-pub known-told : (plan : Plan) (files : List File) → known_outcome plan (Some files) ≡ Some (plan_outcome files plan)
-known-told (Ends o) files = refl
-known-told (Opens name limit next) files = refl
-
--- on told files the outcome that a plan reaches is the one that is known
-pub reached-known : (words : Option Command) (files : Option (List File)) (reached o : Outcome)
-    → Reaches files (plan_of words) reached → known_outcome (plan_of words) files ≡ Some o → reached ≡ o
-reached-known None files reached o reaches known = cc
-reached-known (Some (Boot flash otp cpu kind)) None reached o reaches known = cc
-reached-known (Some (Boot flash otp cpu kind)) (Some files) reached o (f, read_f, (g, read_g, same)) known =
-    let out : boot_outcome flash otp cpu kind f g ≡ plan_outcome files (plan_of (Some (Boot flash otp cpu kind))) =
-    boot-known flash otp cpu kind files f g read_f read_g in
-    same ∙ (out ∙ some-is _ _ known)
-  where
-    some-is : (x y : Outcome) → Some x ≡ Some y → x ≡ y
-    some-is x y e = cc
-
--- the work of a boot whose two files are read ends with a text that is not that of no command
-boot-ends : (flash otp : List ℕ) (cpu : Cpu) (kind : BootKind) (f g : List ℕ)
-    → let status = (boot_outcome flash otp cpu kind f g).status in (is_finished status ≡ true) × (status ≡ Words → ⊥)
-boot-ends flash otp cpu kind f g = go (flash_fault f)
-  where
-    decision : (d : Decision) → (is_finished (decided d).status ≡ true) × ((decided d).status ≡ Words → ⊥)
-    decision (Start choice) = (refl, λ (e : Done ≡ Words). cc)
-    decision (FallsToBootsel fall) = (refl, λ (e : Bootsel ≡ Words). cc)
-
-    test : (t : Bool) (c : Content)
-        → let status = (cond t (decided (decision_in c cpu kind)) (refused flash (codes "not-built"))).status in (is_finished status ≡ true) × (status ≡ Words → ⊥)
-    test true c = decision (decision_in c cpu kind)
-    test false c = (refl, λ (e : Input ≡ Words). cc)
-
-    formed : (bytes : List ℕ) → let status = (formed_outcome flash otp cpu kind f bytes).status in (is_finished status ≡ true) × (status ≡ Words → ⊥)
-    formed [] = test (is_built (content_of f).flash) (content_of f)
-    formed (b ∷ bytes) = (refl, λ (e : Input ≡ Words). cc)
-
-    go : (fault : Option (List ℕ)) → let status = (judged_outcome flash otp cpu kind f g fault).status in (is_finished status ≡ true) × (status ≡ Words → ⊥)
-    go (Some fault) = (refl, λ (e : Input ≡ Words). cc)
-    go None = formed g
-
--- each outcome that a command may have is a text with its status
-pub reached-finished : (words : Option Command) (files : Option (List File)) (reached : Outcome)
-    → Reaches files (plan_of words) reached → is_finished reached.status ≡ true
-reached-finished None files reached same = ap (λ (o : Outcome). is_finished o.status) same
-reached-finished (Some (Boot flash otp cpu kind)) files reached (f, read_f, (g, read_g, same)) =
-    ap (λ (o : Outcome). is_finished o.status) same ∙ (boot-ends flash otp cpu kind f g).0
-
--- and it has the status of words that are no command only for such words
-pub reached-words : (words : Option Command) (files : Option (List File)) (reached : Outcome)
-    → Reaches files (plan_of words) reached → reached.status ≡ Words → words ≡ None
-reached-words None files reached same is = refl
-reached-words (Some (Boot flash otp cpu kind)) files reached (f, read_f, (g, read_g, same)) is =
-    absurd ((boot-ends flash otp cpu kind f g).1 (sym (ap (λ (o : Outcome). o.status) same) ∙ is))
-
-no-fault : (f : List ℕ) → IsFlashFile f → flash_fault f ≡ None
-no-fault [] form = absurd (form.some refl)
-no-fault (b ∷ f) form = rw (le-ltb flash_limit (suc (length f)) form.fits) refl
-
--- the outcome of a boot on a flash file that has its form and whose blocks are all plain, with an empty OTP file
-pub decided-outcome : (flash otp f : List ℕ) (d : Decision) → IsFlashFile f → IsBuilt (filled f) → Chosen (content_of f) Arm Normal d
-    → boot_outcome flash otp Arm Normal f [] ≡ decided d
-decided-outcome flash otp f d form built chosen =
-    ap (judged_outcome flash otp Arm Normal f []) (no-fault f form)
-    ∙ (ap (λ t. cond t (decided (decision_in (content_of f) Arm Normal)) (refused flash (codes "not-built"))) (all-built (filled f) built)
-    ∙ ap decided (sym (chosen-decision (content_of f) Arm Normal d chosen)))
-
--- the outcome on told files that have both names
-pub files-known : (words : Option Command) (told : Option (List File)) (flash otp f g : List ℕ) (files : List File)
-    → words ≡ Some (Boot flash otp Arm Normal) → told ≡ Some files → file_of files flash ≡ Some f → file_of files otp ≡ Some g
-    → known_outcome (plan_of words) told ≡ Some (boot_outcome flash otp Arm Normal f g)
-files-known words told flash otp f g files is_command is_told is_flash is_otp =
-    ap (λ (w : Option Command). known_outcome (plan_of w) told) is_command
-    ∙ (ap (known_outcome (plan_of (Some (Boot flash otp Arm Normal)))) is_told
-    ∙ ap Some (
-    ap (λ a. opened_outcome a (λ x. opened_outcome (file_of files otp) (λ y. boot_outcome flash otp Arm Normal x y))) is_flash
-    ∙ ap (λ b. opened_outcome b (λ y. boot_outcome flash otp Arm Normal f y)) is_otp))
-
--- the same of a flash file that is served
-pub decided-known : (words : Option Command) (told : Option (List File)) (flash otp f : List ℕ) (files : List File) (d : Decision)
-    → words ≡ Some (Boot flash otp Arm Normal) → told ≡ Some files → file_of files flash ≡ Some f → file_of files otp ≡ Some []
-    → IsFlashFile f → IsBuilt (filled f) → Chosen (content_of f) Arm Normal d → known_outcome (plan_of words) told ≡ Some (decided d)
-decided-known words told flash otp f files d is_command is_told is_flash is_otp form built chosen =
-    files-known words told flash otp f [] files is_command is_told is_flash is_otp ∙ ap Some (decided-outcome flash otp f d form built chosen)
-
--- a status that is another one's comes exactly where that one does
-pub status-exactly : (result status wanted : Status) (P : Type 0) → result ≡ status → ((status ≡ wanted) ↔ P) → (result ≡ wanted) ↔ P
-status-exactly result status wanted P same exactly = (λ h. (exactly.0) (sym same ∙ h), λ p. same ∙ (exactly.1) p)
+    go : (here : Option (List ℕ)) → here ≡ None → IsSomeAnd here (λ b. bytes ≡ take (limit_of input.form + 1) b) → ⊥
+    go None e reads = reads
+    go (Some b) e reads = cc
+not-lacking files (input ∷ inputs) (bytes ∷ read) are (inr lacks) = not-lacking files inputs read are.1 lacks

@@ -1,8 +1,11 @@
-pub mod Texts
+pub mod Statuses
 pub mod Commands
+pub mod Texts
 pub mod Forms
+pub mod Works
 pub mod Outcome
 pub mod Courses
-pub mod Answers
-pub mod Causes
+pub mod Views
+pub mod Ends
+pub mod Rules
 pub mod Examples

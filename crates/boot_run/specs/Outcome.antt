@@ -1,18 +1,20 @@
--- What a run is to answer, put and write, as a function of its words and files. This project's own.
-use Rattle.std.specs.Prelude.{ℕ, Bool, true, false, if◌then◌else◌, List, [], ◌∷◌, Option, Some, None, codes}
+-- What a run is to answer, put and write, as a function of its words and of the bytes of its files. This project's own.
+use Rattle.std.specs.Prelude.{ℕ, Bool, true, false, if◌then◌else◌, List, [], ◌∷◌, ◌++◌, map, length, Option, Some, None, option_map, option_and_then, option_to_list, codes}
+use Rattle.std.specs.List.{flat_map}
+use Rattle.std.specs.Option.{option_or}
 use Rattle.pico_board.specs.declared.boot.Cpu.{Cpu}
 use Rattle.pico_board.specs.declared.boot.BootKind.{BootKind}
+use Rattle.pico_board.specs.declared.window.Window.{Window}
 use Rattle.pico_board.specs.Content.{Content}
 use Rattle.pico_board.specs.Files.{File, file_of}
-use Rattle.boot_rules.specs.declared.decision.Decision.{Decision}
-use Rattle.boot_rules.specs.declared.decision.Decision.TheVariants.{Start, Bootsel as FallsToBootsel}
-use Rattle.boot_rules.specs.Choosing.{decision_in}
-use Rattle.boot_rules.specs.Built.{is_built}
 use Rattle.boot_run.specs.declared.status.Status.{Status}
-use Rattle.boot_run.specs.declared.status.Status.TheVariants.{Done, Words, Input, Bootsel, ReadFault, WriteFault, OutputFault, Memory}
-use Rattle.boot_run.specs.Commands.{Command, Boot, command_of}
-use Rattle.boot_run.specs.Forms.{flash_limit, otp_limit, flash_fault, content_of}
-use Rattle.boot_run.specs.Texts.{decision_line, input_line}
+use Rattle.boot_run.specs.declared.status.Status.TheVariants.{Done, Words, Input as Refused, Bootsel, ReadFault, WriteFault, OutputFault, Memory}
+use Rattle.boot_run.specs.declared.forms.Form.{Form}
+use Rattle.boot_run.specs.declared.forms.Form.TheVariants.{Flash, Otp}
+use Rattle.boot_run.specs.Commands.{Command, Boot, Info, OwnedData, Usage, Release}
+use Rattle.boot_run.specs.Forms.{form_fault, content_of}
+use Rattle.boot_run.specs.Texts.{input_line, usage_text, release_line}
+use Rattle.boot_run.specs.Works.{Work, Answers, Refuses, boot_work, info_work, data_work}
 
 -- the status, the text that is put, and the files that are written
 pub record Outcome : Type 0 where
@@ -30,76 +32,113 @@ unread = record { status = ReadFault; text = []; files = [] }
 
 -- an input file, by its word, that is refused
 abbrev pub refused : List ℕ → List ℕ → Outcome
-refused name fault = record { status = Input; text = input_line name fault; files = [] }
+refused name fault = record { status = Refused; text = input_line name fault; files = [] }
 
--- the status of a boot that is decided
-abbrev pub decided_status : Decision → Status
-decided_status (Start choice) = Done
-decided_status (FallsToBootsel fall) = Bootsel
+-- an input of a command: its name and its form
+pub record Input : Type 0 where
+  pub name : List ℕ
+  pub form : Form
 
-abbrev pub decided : Decision → Outcome
-decided d = record { status = decided_status d; text = decision_line d; files = [] }
+-- a flash file and an OTP file
+abbrev pub flash_and_otp : List ℕ → List ℕ → List Input
+flash_and_otp flash otp = record { name = flash; form = Flash } ∷ record { name = otp; form = Otp } ∷ []
 
--- a boot on a content, whose flash file has this name; for now only contents whose blocks are all of the
--- one plain kind are served
-abbrev pub content_outcome : List ℕ → Cpu → BootKind → Content → Outcome
-content_outcome flash cpu kind c =
-    if is_built c.flash then decided (decision_in c cpu kind) else refused flash (codes "not-built")
+-- the inputs of a command, in word order
+abbrev pub inputs_of : Command → List Input
+inputs_of (Boot flash otp cpu kind) = flash_and_otp flash otp
+inputs_of (Info flash otp cpu) = flash_and_otp flash otp
+inputs_of (OwnedData flash otp cpu kind) = flash_and_otp flash otp
+inputs_of Usage = []
+inputs_of Release = []
 
--- a boot on a flash file that has its form and an empty OTP file
-abbrev pub built_outcome : List ℕ → Cpu → BootKind → List ℕ → Outcome
-built_outcome flash cpu kind f = content_outcome flash cpu kind (content_of f)
+-- nothing, which is what a command comes to on another number of inputs than it has
+abbrev pub nothing : Work
+nothing = Answers false [] []
 
--- a boot on a flash file that has its form; for now only an empty OTP file is served
-abbrev pub formed_outcome : List ℕ → List ℕ → Cpu → BootKind → List ℕ → List ℕ → Outcome
-formed_outcome flash otp cpu kind f [] = built_outcome flash cpu kind f
-formed_outcome flash otp cpu kind f (b ∷ bytes) = refused otp (codes "not-built")
+-- the work of a command on a content
+abbrev pub content_work : Command → Content → Work
+content_work (Boot flash otp cpu kind) c = boot_work c cpu kind
+content_work (Info flash otp cpu) c = info_work c cpu
+content_work (OwnedData flash otp cpu kind) c = data_work c cpu kind
+content_work Usage c = nothing
+content_work Release c = nothing
 
--- a fault of the flash file's form comes first
-abbrev pub judged_outcome : List ℕ → List ℕ → Cpu → BootKind → List ℕ → List ℕ → Option (List ℕ) → Outcome
-judged_outcome flash otp cpu kind f o (Some fault) = refused flash fault
-judged_outcome flash otp cpu kind f o None = formed_outcome flash otp cpu kind f o
+-- the work of a command on the bytes of a flash file and an OTP file
+abbrev pub files_work : Command → List (List ℕ) → Work
+files_work command (f ∷ o ∷ []) = content_work command (content_of f o)
+files_work command _ = nothing
 
--- a boot on the bytes of its two files
-abbrev pub boot_outcome : List ℕ → List ℕ → Cpu → BootKind → List ℕ → List ℕ → Outcome
-boot_outcome flash otp cpu kind f o = judged_outcome flash otp cpu kind f o (flash_fault f)
+-- the work of a command on the bytes of its inputs
+abbrev pub work_of : Command → List (List ℕ) → Work
+work_of (Boot flash otp cpu kind) read = files_work (Boot flash otp cpu kind) read
+work_of (Info flash otp cpu) read = files_work (Info flash otp cpu) read
+work_of (OwnedData flash otp cpu kind) read = files_work (OwnedData flash otp cpu kind) read
+work_of Usage read = Answers false usage_text []
+work_of Release read = Answers false release_line []
 
--- what a command does: it reads its input files, one after another, each up to one byte past its limit, and has its outcome by their bytes
-pub data Plan : Type 0 where
-  Ends : (o : Outcome) → Plan
-  Opens : (name : List ℕ) → (limit : ℕ) → (next : List ℕ → Plan) → Plan
+-- the status of an answer
+abbrev pub answered_status : Bool → Status
+answered_status true = Bootsel
+answered_status false = Done
 
--- the plan of a command, and that of words that are no command
-abbrev pub plan_of : Option Command → Plan
-plan_of None = Ends not_understood
-plan_of (Some (Boot flash otp cpu kind)) =
-    Opens flash flash_limit (λ f. Opens otp otp_limit (λ o. Ends (boot_outcome flash otp cpu kind f o)))
+-- the outcome of a work
+abbrev pub worked : Work → Outcome
+worked (Answers falls text files) = record { status = answered_status falls; text = text; files = files }
+worked (Refuses name fault) = refused name fault
 
--- the outcome where the bytes of a name are asked for
-abbrev pub opened_outcome : Option (List ℕ) → (List ℕ → Outcome) → Outcome
-opened_outcome None next = unread
-opened_outcome (Some bytes) next = next bytes
+-- an input whose bytes do not have its form, with their fault
+abbrev pub named_fault : Input → List ℕ → Option Outcome
+named_fault input bytes = option_map (refused input.name) (form_fault input.form bytes)
 
--- the outcome of a plan on these files
-abbrev pub plan_outcome : List File → Plan → Outcome
-plan_outcome files (Ends o) = o
-plan_outcome files (Opens name limit next) = opened_outcome (file_of files name) (λ bytes. plan_outcome files (next bytes))
+-- the first input in word order whose bytes do not have its form
+abbrev pub first_fault : List Input → List (List ℕ) → Option Outcome
+first_fault (input ∷ inputs) (bytes ∷ read) = option_or (named_fault input bytes) (first_fault inputs read)
+first_fault _ _ = None
+
+-- the first fault of a form comes before the work
+abbrev pub judged : Option Outcome → Outcome → Outcome
+judged (Some fault) outcome = fault
+judged None outcome = outcome
+
+-- the outcome of a command on the bytes of its inputs
+abbrev pub command_outcome : Command → List (List ℕ) → Outcome
+command_outcome command read = judged (first_fault (inputs_of command) read) (worked (work_of command read))
+
+-- the inputs of the words, which have none where they are no command
+abbrev pub inputs_in : Option Command → List Input
+inputs_in None = []
+inputs_in (Some command) = inputs_of command
+
+-- the outcome of the words on the bytes of the inputs
+abbrev pub outcome_in : Option Command → List (List ℕ) → Outcome
+outcome_in None read = not_understood
+outcome_in (Some command) read = command_outcome command read
+
+-- one more file, where it and the others are there
+abbrev pub found_next : Option (List ℕ) → Option (List (List ℕ)) → Option (List (List ℕ))
+found_next None rest = None
+found_next (Some bytes) None = None
+found_next (Some bytes) (Some read) = Some (bytes ∷ read)
+
+-- the whole bytes of the inputs, where the files have all their names
+abbrev pub found : List File → List Input → Option (List (List ℕ))
+found files [] = Some []
+found files (input ∷ inputs) = found_next (file_of files input.name) (found files inputs)
+
+-- the outcome where all inputs are there or one is lacking
+abbrev pub outcome_found : Option Command → Option (List (List ℕ)) → Outcome
+outcome_found command None = unread
+outcome_found command (Some whole) = outcome_in command whole
 
 -- the outcome of the words on these files
-abbrev pub outcome : List (List ℕ) → List File → Outcome
-outcome words files = plan_outcome files (plan_of (command_of words))
-
--- the outcome of a plan, where it opens no input or the store tells its files
-abbrev pub known_outcome : Plan → Option (List File) → Option Outcome
-known_outcome (Ends o) files = Some o
-known_outcome (Opens name limit next) None = None
-known_outcome (Opens name limit next) (Some files) = Some (plan_outcome files (Opens name limit next))
+abbrev pub outcome_on : Option Command → List File → Outcome
+outcome_on command files = outcome_found command (found files (inputs_in command))
 
 -- a status with which the whole text was put
 abbrev pub is_finished : Status → Bool
 is_finished Done = true
 is_finished Words = true
-is_finished Input = true
+is_finished Refused = true
 is_finished Bootsel = true
 is_finished ReadFault = false
 is_finished WriteFault = false

@@ -1,32 +1,67 @@
-//! Which outcome is known on told files, and what that of a boot is by the bytes of its two files.
+//! Laws of the program's definitions, proved: each is the `ensures` of a function that does nothing.
 
-ghost use Rattle.std.specs.Prelude.{◌≡◌, ◌↔◌, ◌+◌, ℕ, List, [], Some, take};
+ghost use Rattle.std.specs.Prelude.{◌≡◌, ◌↔◌, ℕ, List, [], ◌∷◌, Some, None, length};
+ghost use Rattle.pico_board.specs.declared.boot.Cpu.{Cpu};
+ghost use Rattle.pico_board.specs.declared.boot.BootKind.{BootKind};
+ghost use Rattle.pico_board.specs.Content.{Content, IsContent};
 ghost use Rattle.pico_board.specs.Files.{File};
-ghost use Rattle.pico_board.specs.declared.boot.Cpu.TheVariants.{Arm};
-ghost use Rattle.pico_board.specs.declared.boot.BootKind.TheVariants.{Normal};
-ghost use Rattle.boot_rules.specs.declared.Decision.{Decision};
-ghost use Rattle.boot_rules.specs.Built.{IsBuilt};
-ghost use Rattle.boot_rules.specs.Chosen.{Chosen};
-ghost use Rattle.boot_run.specs.declared.status.Status.TheVariants.{Input, Bootsel};
-ghost use Rattle.boot_run.specs.Causes.{IsRefused, Falls};
-ghost use Rattle.boot_run.specs.Forms.{IsFlashFile, flash_limit, otp_limit, filled, content_of};
-ghost use Rattle.boot_run.specs.Commands.{command_of};
-ghost use Rattle.boot_run.specs.Outcome.{boot_outcome, decided, plan_of, known_outcome, outcome};
+ghost use Rattle.boot_run.specs.declared.forms.Form.{Form};
+ghost use Rattle.boot_run.specs.declared.forms.Form.TheVariants.{Flash, Otp};
+ghost use Rattle.boot_run.specs.declared.status.Status.TheVariants.{Done, Words, Input, Bootsel, ReadFault, WriteFault, OutputFault, Memory};
+ghost use Rattle.boot_run.specs.Statuses.{number_of};
+ghost use Rattle.boot_run.specs.Commands.{Command, Boot, OwnedData};
+ghost use Rattle.boot_run.specs.Forms.{HasForm, IsFault, form_fault, content_of};
+ghost use Rattle.boot_run.specs.Outcome.{Outcome, inputs_of, command_outcome, outcome_on, found};
+ghost use Rattle.boot_run.specs.Rules.{Obeys, IsRefused, FallsOn};
+ghost use Rattle.boot_run.specs.Ends.{cut};
 
-/// Where the files are told, the outcome that is known is that of the words on them.
-pub fn told_files_have_the_outcome()
-    ensures { (words : List (List ℕ)) (files : List File)
-        → known_outcome (plan_of (command_of words)) (Some files) ≡ Some (outcome words files) }
+/// The program ends with one of eight numbers, by how the run ended.
+pub fn statuses_have_numbers()
+    ensures done { number_of Done ≡ 0 }
+    ensures words { number_of Words ≡ 1 }
+    ensures input { number_of Input ≡ 2 }
+    ensures bootsel { number_of Bootsel ≡ 3 }
+    ensures read_fault { number_of ReadFault ≡ 4 }
+    ensures write_fault { number_of WriteFault ≡ 5 }
+    ensures output_fault { number_of OutputFault ≡ 6 }
+    ensures memory { number_of Memory ≡ 7 }
 {}
 
-/// The outcome by the bytes that a run reads, which `run` puts and answers on every store.
-pub fn outcomes_of_a_boot()
-    // Where the files are served, the text and the status are those of the one decision that the rules name.
-    ensures decides { (flash otp f : List ℕ) (d : Decision) → IsFlashFile f → IsBuilt (filled f) → Chosen (content_of f) Arm Normal d
-        → boot_outcome flash otp Arm Normal f [] ≡ decided d }
-    ensures input { (flash otp f g : List ℕ) → ((boot_outcome flash otp Arm Normal f g).status ≡ Input) ↔ IsRefused f g }
-    ensures bootsel { (flash otp f g : List ℕ) → ((boot_outcome flash otp Arm Normal f g).status ≡ Bootsel) ↔ Falls f g }
-    // A file that is longer than what is read of it has the outcome of what is read.
-    ensures read_in_part { (flash otp f g : List ℕ)
-        → boot_outcome flash otp Arm Normal (take (flash_limit + 1) f) (take (otp_limit + 1) g) ≡ boot_outcome flash otp Arm Normal f g }
+/// A file has its form, or it has the one fault that the rules name first.
+pub fn forms_are_judged()
+    ensures fault { (form : Form) (bytes fault : List ℕ)
+        → (form_fault form bytes ≡ Some fault) ↔ IsFault form bytes fault }
+    ensures none { (form : Form) (bytes : List ℕ) → (form_fault form bytes ≡ None) ↔ HasForm form bytes }
+{}
+
+/// Every content is that of a flash file and an OTP file that have their forms.
+pub fn every_content_is_given()
+    ensures { (c : Content) → IsContent c
+        → (f : List ℕ) × (g : List ℕ) × HasForm Flash f × HasForm Otp g × (content_of f g ≡ c) }
+{}
+
+/// The outcome of a command on the bytes of its inputs is the one that is right by the rules.
+pub fn outcomes_are_right()
+    ensures right { (command : Command) (read : List (List ℕ)) → length read ≡ length (inputs_of command)
+        → Obeys command read (command_outcome command read) }
+    ensures only { (command : Command) (read : List (List ℕ)) (o : Outcome)
+        → Obeys command read o → o ≡ command_outcome command read }
+    ensures whole { (command : Command) (files : List File) (read : List (List ℕ))
+        → found files (inputs_of command) ≡ Some read → Obeys command read (outcome_on (Some command) files) }
+{}
+
+/// The status is Input exactly where an input breaks its form, and Bootsel exactly where a boot that was asked for falls.
+pub fn statuses_come_exactly()
+    ensures input { (command : Command) (read : List (List ℕ)) → length read ≡ length (inputs_of command)
+        → ((command_outcome command read).status ≡ Input) ↔ IsRefused command read }
+    ensures boot { (flash otp f g : List ℕ) (cpu : Cpu) (kind : BootKind)
+        → ((command_outcome (Boot flash otp cpu kind) (f ∷ g ∷ [])).status ≡ Bootsel) ↔ FallsOn f g cpu kind }
+    ensures data { (flash otp f g : List ℕ) (cpu : Cpu) (kind : BootKind)
+        → ((command_outcome (OwnedData flash otp cpu kind) (f ∷ g ∷ [])).status ≡ Bootsel) ↔ FallsOn f g cpu kind }
+{}
+
+/// What is read of files that are longer decides as the whole files do.
+pub fn longer_files_decide()
+    ensures { (command : Command) (whole : List (List ℕ)) → length whole ≡ length (inputs_of command)
+        → command_outcome command (cut (inputs_of command) whole) ≡ command_outcome command whole }
 {}

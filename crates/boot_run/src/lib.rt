@@ -1,19 +1,19 @@
 //! All that the program does: words and files in, a text, files and a status out.
 #![tactic(auto)]
 
-mod ends;
+mod boards;
+mod course;
 pub mod examples;
 mod forms;
 pub mod laws;
 mod program;
 mod status;
-#[cfg(test)]
-mod tests;
 mod text;
+mod usage;
+mod why;
 mod words;
 mod work;
 
-pub use forms::{FLASH_LIMIT, OTP_LIMIT};
+pub use forms::{FLASH_LIMIT, Form, OTP_LIMIT};
 pub use program::run;
 pub use status::Status;
-pub use text::decision_text;

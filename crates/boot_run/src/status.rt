@@ -1,5 +1,7 @@
 //! How a run ends.
 
+ghost use Rattle.std.specs.Prelude.{◌≡◌};
+
 /// How a run ends. The program's exit status is the number of the variant, counted from 0.
 #[derive(Clone, Copy, PartialEq, Eq, Debug)]
 pub enum Status {
@@ -19,4 +21,15 @@ pub enum Status {
     OutputFault,
     /// There was no memory.
     Memory,
+}
+
+impl Status {
+    ghost use Rattle.boot_run.specs.Statuses.{number_of};
+
+    /// The number of the variant, with which the program ends.
+    pub fn number(self) -> u8
+        ensures { result ≡ number_of self }
+    {
+        self as u8
+    }
 }

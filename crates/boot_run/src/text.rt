@@ -1,10 +1,12 @@
 //! The lines that the program prints.
 
-ghost use Rattle.std.specs.Prelude.{◌≡◌, IfOk, string_bytes};
-ghost use Rattle.boot_run.specs.Texts.{hex_word, window_text, entry_text, version_text, start_text, rollback_text, yes_or_no, fall_text, decision_line, input_line};
+ghost use Rattle.std.specs.Prelude.{◌≡◌, IfOk, string_bytes, option_map};
+ghost use Rattle.boot_run.specs.Texts.{hex_word, window_text, entry_text, version_text, start_text, rollback_text, yes_or_no, fall_text, decision_line, input_line, line, table_text, valid_text, invalid_text, image_text, data_text};
 
+use crate::why::why_text;
 use block_codec::Version;
-use boot_rules::{Decision, Fall, Started};
+use boot_rules::{Decision, Fall, Found, Started};
+use image_check::Why;
 use pico_board::Window;
 use std::alloc::{AllocError, Global};
 
@@ -85,7 +87,7 @@ fn fall_word(fall: Fall) -> &'static str
 }
 
 /// The line of a decision.
-pub fn decision_text(alloc: Global, decision: &Decision) -> Result<String, AllocError>
+pub fn decision_line(alloc: Global, decision: &Decision) -> Result<String, AllocError>
     ensures { IfOk result (λ t. string_bytes t ≡ decision_line decision.now) }
 {
     match decision {
@@ -105,4 +107,80 @@ pub fn fault_text(alloc: Global, name: &str, fault: &str) -> Result<String, Allo
     ensures { IfOk result (λ t. string_bytes t ≡ input_line name.now fault.now) }
 {
     format!(in alloc; "input {name}: {fault}\n")
+}
+
+/// The partition table that a flash has.
+fn table_text(alloc: Global, found: Option<&Found>) -> Result<String, AllocError>
+    ensures { IfOk result (λ t. string_bytes t ≡ table_text (option_map (λ f. f.now) found.entry)) }
+{
+    match found {
+        Some(found) => {
+            let slot = found.slot;
+            let version = version_words(alloc, found.table.version)?;
+            let count = found.table.parts.len();
+            format!(in alloc; "table slot={slot} {version} partitions={count}")
+        }
+        None => format!(in alloc; "table none"),
+    }
+}
+
+/// Its line.
+pub fn table_line(alloc: Global, found: Option<&Found>) -> Result<String, AllocError>
+    ensures { IfOk result (λ t. string_bytes t ≡ line (table_text (option_map (λ f. f.now) found.entry))) }
+{
+    let text = table_text(alloc, found)?;
+    format!(in alloc; "{text}\n")
+}
+
+/// A window with a valid image.
+fn valid_text(alloc: Global, window: Window, image: &Started) -> Result<String, AllocError>
+    ensures { IfOk result (λ t. string_bytes t ≡ valid_text window image.now) }
+{
+    let place = place_text(alloc, window)?;
+    let version = version_words(alloc, image.version)?;
+    let rollback = rollback_word(alloc, image.rollback)?;
+    format!(in alloc; "image {place} ok {version} rollback={rollback}")
+}
+
+/// A window without a valid image.
+fn invalid_text(alloc: Global, window: Window, why: Why) -> Result<String, AllocError>
+    ensures { IfOk result (λ t. string_bytes t ≡ invalid_text window why) }
+{
+    let place = place_text(alloc, window)?;
+    let fault = why_text(alloc, why)?;
+    format!(in alloc; "image {place} fault={fault}")
+}
+
+/// A window, with its image or why there is none.
+fn image_text(
+    alloc: Global,
+    window: Window,
+    image: &Result<Started, Why>,
+) -> Result<String, AllocError>
+    ensures { IfOk result (λ t. string_bytes t ≡ image_text window image.now) }
+{
+    match image {
+        Ok(image) => valid_text(alloc, window, image),
+        Err(why) => invalid_text(alloc, window, *why),
+    }
+}
+
+/// Its line.
+pub fn image_line(
+    alloc: Global,
+    window: Window,
+    image: &Result<Started, Why>,
+) -> Result<String, AllocError>
+    ensures { IfOk result (λ t. string_bytes t ≡ line (image_text window image.now)) }
+{
+    let text = image_text(alloc, window, image)?;
+    format!(in alloc; "{text}\n")
+}
+
+/// The line of a window of data.
+pub fn data_line(alloc: Global, window: Window) -> Result<String, AllocError>
+    ensures { IfOk result (λ t. string_bytes t ≡ line (data_text window)) }
+{
+    let place = place_text(alloc, window)?;
+    format!(in alloc; "data {place}\n")
 }

@@ -1,35 +1,191 @@
 //! The words that are a command.
 
-ghost use Rattle.std.specs.Prelude.{◌≡◌, IfSome, IfNone, Some, None, map, string_bytes};
-ghost use Rattle.pico_board.specs.declared.boot.Cpu.TheVariants.{Arm};
-ghost use Rattle.pico_board.specs.declared.boot.BootKind.TheVariants.{Normal};
-ghost use Rattle.boot_run.specs.Commands.{Boot, command_of};
+ghost use Rattle.std.specs.Prelude.{◌≡◌, ◌≢◌, ◌<◌, ◌≤◌, length, IfSome, option_map, map, string_bytes};
+ghost use Rattle.boot_run.specs.Commands.{command_of, cpu_of, kind_of, hex_digit, hex_value, update_base, one_word, four_words, five_words};
+ghost use Rattle.boot_run.specs.Views.{command_from};
 
-/// The words of a boot: the names of its two input files.
+use pico_board::{BootKind, Cpu};
+
+/// A command, with the words that name its files.
 #[derive(Clone, Copy, Drop)]
-pub struct BootWords<'a> {
-    /// The name of the flash file.
-    pub flash: &'a str,
-    /// The name of the OTP file.
-    pub otp: &'a str,
+pub enum CommandWords<'a> {
+    /// Which image a boot starts.
+    Boot {
+        flash: &'a str,
+        otp: &'a str,
+        cpu: Cpu,
+        kind: BootKind,
+    },
+    /// The partition table, and the image in each window.
+    Info {
+        flash: &'a str,
+        otp: &'a str,
+        cpu: Cpu,
+    },
+    /// Which image a boot starts, and the data that it owns.
+    OwnedData {
+        flash: &'a str,
+        otp: &'a str,
+        cpu: Cpu,
+        kind: BootKind,
+    },
+    /// How the program is used.
+    Usage,
+    /// The version of the program.
+    Release,
 }
 
-/// The boot that the words ask for. None exactly where they are no command.
-pub fn boot_words(words: &Vec<String>) -> Option<BootWords<'_>>
-    ensures some { IfSome result (λ boot. command_of (map string_bytes words.now.items) ≡ Some (Boot boot.flash.now boot.otp.now Arm Normal)) }
-    ensures none { IfNone result (command_of (map string_bytes words.now.items) ≡ None) }
+/// The processor that a word names.
+fn cpu_word(word: &str) -> Option<Cpu>
+    ensures { result ≡ cpu_of word.now }
 {
-    match words.as_slice() {
-        [name, flash, otp, cpu, kind] => {
-            if name.as_str() == "boot" && cpu.as_str() == "arm" && kind.as_str() == "normal" {
-                Some(BootWords {
-                    flash: flash.as_str(),
-                    otp: otp.as_str(),
-                })
-            } else {
-                None
-            }
-        }
+    if word == "arm" {
+        Some(Cpu::Arm)
+    } else if word == "riscv" {
+        Some(Cpu::Riscv)
+    } else {
+        None
+    }
+}
+
+/// The value of a hexadecimal digit of either case, by its code.
+fn hex_digit(code: u8) -> Option<u32>
+    ensures value { result ≡ hex_digit code }
+    ensures small { IfSome result (λ digit. digit < 16) }
+{
+    match code {
+        b'0'..=b'9' => Some((code - b'0') as u32),
+        b'A'..=b'F' => Some((code - b'A' + 10) as u32),
+        b'a'..=b'f' => Some((code - b'a' + 10) as u32),
         _ => None,
+    }
+}
+
+/// The number of at most eight hexadecimal digits.
+fn hex_number(digits: &[u8]) -> Option<u32>
+    requires { length digits.now ≤ 8 }
+    ensures { result ≡ hex_value 0 digits.now }
+{
+    let mut number = 0;
+    for code in digits {
+        match hex_digit(*code) {
+            Some(digit) => number = 16 * number + digit,
+            None => return None,
+        }
+    }
+    Some(number)
+}
+
+/// The base of an update: `update=0x` and eight hexadecimal digits.
+fn update_base(word: &[u8]) -> Option<u32>
+    ensures { result ≡ update_base word.now }
+{
+    if word.len() == 17 && &word[..9] == b"update=0x".as_slice() {
+        hex_number(&word[9..])
+    } else {
+        None
+    }
+}
+
+/// The boot type that a word names.
+fn kind_word(word: &str) -> Option<BootKind>
+    ensures { result ≡ kind_of word.now }
+{
+    if word == "normal" {
+        Some(BootKind::Normal)
+    } else if word == "bootsel" {
+        Some(BootKind::Bootsel)
+    } else {
+        Some(BootKind::Update(update_base(word.as_bytes())?))
+    }
+}
+
+/// The command of one word.
+fn one_word(name: &str) -> Option<CommandWords<'static>>
+    ensures { option_map command_from result ≡ one_word name.now }
+{
+    if name == "--help" {
+        Some(CommandWords::Usage)
+    } else if name == "--version" {
+        Some(CommandWords::Release)
+    } else {
+        None
+    }
+}
+
+/// The command of four words.
+fn four_words<'a>(name: &str, flash: &'a str, otp: &'a str, cpu: &str) -> Option<CommandWords<'a>>
+    ensures { option_map command_from result ≡ four_words name.now flash.entry.now otp.entry.now (cpu_of cpu.now) }
+{
+    let cpu = cpu_word(cpu)?;
+    if name == "info" {
+        Some(CommandWords::Info { flash, otp, cpu })
+    } else {
+        None
+    }
+}
+
+/// The command of five words.
+fn five_words<'a>(
+    name: &str,
+    flash: &'a str,
+    otp: &'a str,
+    cpu: &str,
+    kind: &str,
+) -> Option<CommandWords<'a>>
+    ensures { option_map command_from result ≡ five_words name.now flash.entry.now otp.entry.now (cpu_of cpu.now) (kind_of kind.now) }
+{
+    let cpu = cpu_word(cpu)?;
+    let kind = kind_word(kind)?;
+    if name == "boot" {
+        Some(CommandWords::Boot {
+            flash,
+            otp,
+            cpu,
+            kind,
+        })
+    } else if name == "data" {
+        Some(CommandWords::OwnedData {
+            flash,
+            otp,
+            cpu,
+            kind,
+        })
+    } else {
+        None
+    }
+}
+
+/// The command of words that are not one and not four.
+#[tactic(auto, using(crate::proofs::WordLemmas::no_command))]
+fn five_or_none(words: &[String]) -> Option<CommandWords<'_>>
+    requires not_one { length words.now ≢ 1 }
+    requires not_four { length words.now ≢ 4 }
+    ensures { option_map command_from result ≡ command_of (map string_bytes words.entry.now) }
+{
+    match words {
+        [name, flash, otp, cpu, kind] => five_words(name, flash, otp, cpu, kind),
+        _ => None,
+    }
+}
+
+/// The command of words that are not one.
+fn four_or_five(words: &[String]) -> Option<CommandWords<'_>>
+    requires { length words.now ≢ 1 }
+    ensures { option_map command_from result ≡ command_of (map string_bytes words.entry.now) }
+{
+    match words {
+        [name, flash, otp, cpu] => four_words(name, flash, otp, cpu),
+        _ => five_or_none(words),
+    }
+}
+
+/// The command that the words are. None exactly where they are none.
+pub fn command(words: &[String]) -> Option<CommandWords<'_>>
+    ensures { option_map command_from result ≡ command_of (map string_bytes words.entry.now) }
+{
+    match words {
+        [name] => one_word(name),
+        _ => four_or_five(words),
     }
 }

@@ -1,110 +1,183 @@
-//! The work of a command in memory.
+//! The work of a command on the bytes of its inputs.
 
-ghost use Rattle.std.specs.Prelude.{◌≡◌, ◌≤◌, length, IfOk, IsTrue};
-ghost use Rattle.pico_board.specs.declared.boot.Cpu.TheVariants.{Arm};
-ghost use Rattle.pico_board.specs.declared.boot.BootKind.TheVariants.{Normal};
-ghost use Rattle.pico_board.specs.MemBoard.{state_of, new_state};
-ghost use Rattle.boot_run.specs.Forms.{zero_rows};
-ghost use Rattle.boot_run.specs.Outcome.{refused, decided, decided_status, content_outcome, built_outcome, boot_outcome};
-ghost use Rattle.boot_run.specs.Answers.{IsAnswer};
+ghost use Rattle.std.specs.Prelude.{◌≡◌, ◌≢◌, ◌∷◌, [], List, ℕ, IfOk, IfSome, IfNone, IsTrue, false, None, option_map, string_bytes, map};
+ghost use Rattle.pico_board.specs.MemBoard.{state_of};
+ghost use Rattle.boot_run.specs.Forms.{HasForm};
+ghost use Rattle.boot_run.specs.Works.{Answers};
+ghost use Rattle.boot_run.specs.Outcome.{content_work, files_work, first_fault, refused, worked, work_of, command_outcome, inputs_of, flash_and_otp};
+ghost use Rattle.boot_run.specs.Views.{input_from, outcome_from, command_from, bytes_of};
 
-use crate::forms::{empty_otp, fill, form_fault};
+use crate::boards::{boot_answer, data_answer, info_answer};
+use crate::course::{Answer, InputWord};
+use crate::forms::{Form, board_of, form_fault};
 use crate::status::Status;
-use crate::text::{decision_text, fault_text};
-use crate::words::BootWords;
-use boot_rules::{Decision, built, decide};
-use pico_board::{BootKind, Cpu, MemBoard};
+use crate::text::fault_text;
+use crate::usage::{release, usage};
+use crate::words::CommandWords;
+use pico_board::MemBoard;
 use sector_pool::SectorPool;
 use std::alloc::{AllocError, Global};
 
-/// What the work of a command answers.
-#[derive(Drop)]
-pub struct Answer {
-    /// The status with which the run ends where the text is put.
-    pub status: Status,
-    /// The text to put.
-    pub text: String,
+/// A flash file and an OTP file as inputs.
+fn flash_and_otp<'a>(
+    alloc: Global,
+    flash: &'a str,
+    otp: &'a str,
+) -> Result<Vec<InputWord<'a>>, AllocError>
+    ensures { IfOk result (λ inputs. map input_from inputs.items ≡ flash_and_otp flash.entry.now otp.entry.now) }
+{
+    let flash = InputWord {
+        name: flash,
+        form: Form::Flash,
+    };
+    let otp = InputWord {
+        name: otp,
+        form: Form::Otp,
+    };
+    Ok(vec![in alloc; flash, otp]?)
+}
+
+/// The inputs of a command, in word order.
+pub fn inputs<'a>(
+    alloc: Global,
+    command: &CommandWords<'a>,
+) -> Result<Vec<InputWord<'a>>, AllocError>
+    ensures { IfOk result (λ inputs. map input_from inputs.items ≡ inputs_of (command_from command.now)) }
+{
+    match command {
+        CommandWords::Boot { flash, otp, .. } => flash_and_otp(alloc, flash, otp),
+        CommandWords::Info { flash, otp, .. } => flash_and_otp(alloc, flash, otp),
+        CommandWords::OwnedData { flash, otp, .. } => flash_and_otp(alloc, flash, otp),
+        CommandWords::Usage => Ok(Vec::new(alloc)),
+        CommandWords::Release => Ok(Vec::new(alloc)),
+    }
 }
 
 /// The answer that refuses an input file.
-fn refusal(alloc: Global, name: &str, fault: &str) -> Result<Answer, AllocError>
-    ensures { IfOk result (IsAnswer (refused name.now fault.now)) }
+fn refusal(alloc: Global, name: &str, fault: &str) -> Result<Answer<'static>, AllocError>
+    ensures { IfOk result (λ answer. outcome_from answer ≡ refused name.now fault.now) }
 {
     let text = fault_text(alloc, name, fault)?;
     Ok(Answer {
         status: Status::Input,
         text,
+        files: Vec::new(alloc),
     })
 }
 
-/// The status of a decision.
-fn decision_status(decision: &Decision) -> Status
-    ensures { result ≡ decided_status decision.now }
-{
-    match decision {
-        Decision::Start(_) => Status::Done,
-        Decision::Bootsel(_) => Status::Bootsel,
-    }
-}
-
-/// The answer that tells a decision.
-fn decision_answer(alloc: Global, decision: &Decision) -> Result<Answer, AllocError>
-    ensures { IfOk result (IsAnswer (decided decision.now)) }
-{
-    let text = decision_text(alloc, decision)?;
-    Ok(Answer {
-        status: decision_status(decision),
-        text,
-    })
-}
-
-/// The board in memory of a flash and an OTP of zeros. Such contents are refused for want of memory alone.
-fn make_board(alloc: Global, flash: Vec<u8>) -> Result<MemBoard, AllocError>
-    ensures { IfOk result (λ board. state_of board ≡ new_state flash.items zero_rows) }
-{
-    let otp = empty_otp(alloc)?;
-    MemBoard::new(alloc, flash, otp).map_err(|_| AllocError)
-}
-
-/// The answer of a boot on a board that was made of a flash file.
-fn board_answer(alloc: Global, words: BootWords<'_>, board: &MemBoard) -> Result<Answer, AllocError>
-    requires power { IsTrue (state_of board.now).powered }
-    requires zeros { (state_of board.now).content.otp ≡ zero_rows }
-    ensures { IfOk result (IsAnswer (content_outcome words.entry.flash.now Arm Normal (state_of board.now).content)) }
-{
-    if !built(board) {
-        return refusal(alloc, words.flash, "not-built");
-    }
-    let mut pool = SectorPool::make(alloc, 4)?;
-    let decision = decide(board, &mut pool, Cpu::Arm, BootKind::Normal);
-    decision_answer(alloc, &decision)
-}
-
-/// The answer of a boot on a flash file that has its form.
-fn flash_answer(alloc: Global, words: BootWords<'_>, file: Vec<u8>) -> Result<Answer, AllocError>
-    requires { length file.items ≤ 16777216 }
-    ensures { IfOk result (IsAnswer (built_outcome words.entry.flash.now Arm Normal file.items)) }
-{
-    let mut flash = file;
-    fill(&mut flash)?;
-    let board = make_board(alloc, flash)?;
-    board_answer(alloc, words, &board)
-}
-
-/// The answer of a boot on its two files.
-pub fn boot_answer(
+/// The answer that refuses the first input, in word order, that does not have its form.
+fn first_fault(
     alloc: Global,
-    words: BootWords<'_>,
-    flash: Vec<u8>,
-    otp: &[u8],
-) -> Result<Answer, AllocError>
-    ensures { IfOk result (IsAnswer (boot_outcome words.entry.flash.now words.entry.otp.now Arm Normal flash.items otp.now)) }
+    inputs: &[InputWord<'_>],
+    files: &[Vec<u8>],
+) -> Result<Option<Answer<'static>>, AllocError>
+    ensures { IfOk result (λ fault. option_map outcome_from fault ≡ first_fault (map input_from inputs.now) (bytes_of files.now)) }
 {
-    if let Some(fault) = form_fault(&flash) {
-        return refusal(alloc, words.flash, fault);
+    for (i, input) in inputs.iter().enumerate() {
+        let Some(file) = files.get(i) else {
+            return Ok(None);
+        };
+        if let Some(fault) = form_fault(alloc, input.form, file)? {
+            return Ok(Some(refusal(alloc, input.name, &fault)?));
+        }
     }
-    if !otp.is_empty() {
-        return refusal(alloc, words.otp, "not-built");
+    Ok(None)
+}
+
+/// A flash file and an OTP file among the bytes of two inputs.
+fn two(files: Vec<Vec<u8>>) -> Option<(Vec<u8>, Vec<u8>)>
+    ensures some { IfSome result (λ two. bytes_of files.items ≡ (two.0.items ∷ two.1.items ∷ [])) }
+    ensures none { IfNone result ((f o : List ℕ) → bytes_of files.items ≢ (f ∷ o ∷ [])) }
+{
+    let mut files = files.into_iter();
+    let first = files.next()?;
+    let second = files.next()?;
+    if files.next().is_some() {
+        return None;
     }
-    flash_answer(alloc, words, flash)
+    Some((first, second))
+}
+
+/// The answer of a command that tells a text, is no fall and writes no file.
+fn told<'a>(alloc: Global, text: String) -> Answer<'a>
+    ensures { outcome_from result ≡ worked (Answers false (string_bytes text) []) }
+{
+    Answer {
+        status: Status::Done,
+        text,
+        files: Vec::new(alloc),
+    }
+}
+
+/// The work of a command on a board that is made of its flash file and its OTP file.
+fn board_work<'a>(
+    alloc: Global,
+    command: &CommandWords<'a>,
+    board: &MemBoard,
+) -> Result<Answer<'a>, AllocError>
+    requires { IsTrue (state_of board.now).powered }
+    ensures { IfOk result (λ answer. outcome_from answer ≡ worked (content_work (command_from command.now) (state_of board.now).content)) }
+{
+    let mut pool = SectorPool::make(alloc, 4)?;
+    match command {
+        CommandWords::Boot { cpu, kind, .. } => boot_answer(alloc, board, &mut pool, *cpu, *kind),
+        CommandWords::Info { cpu, .. } => info_answer(alloc, board, &mut pool, *cpu),
+        CommandWords::OwnedData { cpu, kind, .. } => {
+            data_answer(alloc, board, &mut pool, *cpu, *kind)
+        }
+        CommandWords::Usage => Ok(told(alloc, String::new(alloc))),
+        CommandWords::Release => Ok(told(alloc, String::new(alloc))),
+    }
+}
+
+/// The work of a command on a flash file and an OTP file, which have their forms.
+fn files_work<'a>(
+    alloc: Global,
+    command: &CommandWords<'a>,
+    files: Vec<Vec<u8>>,
+) -> Result<Answer<'a>, AllocError>
+    requires { (f o : List ℕ) → bytes_of files.items ≡ (f ∷ o ∷ []) → HasForm Form.Flash f × HasForm Form.Otp o }
+    ensures { IfOk result (λ answer. outcome_from answer ≡ worked (files_work (command_from command.now) (bytes_of files.items))) }
+{
+    match two(files) {
+        Some((flash, otp)) => {
+            let board = board_of(alloc, flash, &otp)?;
+            board_work(alloc, command, &board)
+        }
+        None => Ok(told(alloc, String::new(alloc))),
+    }
+}
+
+/// The work of a command on the bytes of its inputs, which have their forms.
+fn work<'a>(
+    alloc: Global,
+    command: &CommandWords<'a>,
+    files: Vec<Vec<u8>>,
+) -> Result<Answer<'a>, AllocError>
+    requires { first_fault (inputs_of (command_from command.now)) (bytes_of files.items) ≡ None }
+    ensures { IfOk result (λ answer. outcome_from answer ≡ worked (work_of (command_from command.now) (bytes_of files.items))) }
+{
+    match command {
+        CommandWords::Boot { .. } => files_work(alloc, command, files),
+        CommandWords::Info { .. } => files_work(alloc, command, files),
+        CommandWords::OwnedData { .. } => files_work(alloc, command, files),
+        CommandWords::Usage => Ok(told(alloc, usage(alloc)?)),
+        CommandWords::Release => Ok(told(alloc, release(alloc)?)),
+    }
+}
+
+/// The answer of a command on the bytes of its inputs: the first fault of a form, or the work's.
+pub fn answer<'a>(
+    alloc: Global,
+    command: &CommandWords<'a>,
+    inputs: &[InputWord<'_>],
+    files: Vec<Vec<u8>>,
+) -> Result<Answer<'a>, AllocError>
+    requires { map input_from inputs.now ≡ inputs_of (command_from command.now) }
+    ensures { IfOk result (λ answer. outcome_from answer ≡ command_outcome (command_from command.now) (bytes_of files.items)) }
+{
+    match first_fault(alloc, inputs, &files)? {
+        Some(fault) => Ok(fault),
+        None => work(alloc, command, files),
+    }
 }

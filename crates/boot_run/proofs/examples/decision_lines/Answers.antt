@@ -5,3 +5,7 @@ use Rattle.boot_run.proofs.examples.decision_lines.Goals as goal
 pub returns-clause-start : goal.returns-clause-start
 unfolding padded_integral digits char_count
 returns-clause-start c = refl
+
+pub returns-clause-trial : goal.returns-clause-trial
+unfolding padded_integral digits char_count
+returns-clause-trial c = refl

@@ -13,3 +13,11 @@ returns-clause-short c = refl
 pub returns-clause-lower_case : goal.returns-clause-lower_case
 unfolding padded_integral digits char_count
 returns-clause-lower_case c = refl
+
+pub returns-clause-row : goal.returns-clause-row
+unfolding padded_integral digits char_count
+returns-clause-row c = refl
+
+pub returns-clause-long_row : goal.returns-clause-long_row
+unfolding padded_integral digits char_count
+returns-clause-long_row c = refl

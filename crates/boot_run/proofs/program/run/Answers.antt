@@ -1,80 +1,64 @@
-use Rattle.std.proofs.Common.{subst, refl}
-use Rattle.boot_rules.specs.declared.Decision.{Decision}
-use Rattle.boot_rules.specs.Chosen.{Chosen}
-use Rattle.pico_board.specs.declared.Cpu.TheVariants.{Arm}
-use Rattle.pico_board.specs.declared.BootKind.TheVariants.{Normal}
-use Rattle.boot_run.specs.Forms.{content_of}
-use Rattle.boot_rules.proofs.DecisionLemmas.{chosen-not_below}
-use Rattle.boot_run.proofs.OutcomeLemmas.{decided-known, files-known, status-exactly}
-use Rattle.boot_run.proofs.CauseLemmas.{input-exactly, bootsel-exactly, boot-of}
-use Rattle.boot_run.proofs.CourseLemmas.{run-end, run-files}
-use Rattle.boot_run.proofs.EndLemmas.{end-finished, end-unfinished, end-words, end-no_command, end-read_fault, end-no_write, end-output_fault, end-put_last, end-memory, end-complete, end-steady_reads, end-steady_puts, end-boots}
+use Rattle.boot_run.specs.Commands.{asked}
+use Rattle.boot_run.specs.Outcome.{inputs_in, outcome_in}
+use Rattle.boot_run.proofs.OutcomeLemmas.{outcome-finished}
+use Rattle.boot_run.proofs.EndLemmas.{run-end, end-read_fault, end-write_fault, end-output_fault, end-memory}
+use Rattle.boot_run.proofs.RunLemmas.{run-told, run-boot, run-lacking, run-words, run-no_command, run-complete, run-steady, run-obeys}
 use Rattle.boot_run.proofs.program.run.Goals as goal
 
-pub returns-clause-finished : goal.returns-clause-finished
-returns-clause-finished g c = end-finished _ (run-end c.run_words.ensures)
+pub returns-clause-boot : goal.returns-clause-boot
+returns-clause-boot g c =
+    run-boot g.S.Store.state g.S.Store.history g.K.Sink.state g.K.Sink.history (asked c.args.words.now) c.args.store.now c.run_words.new.store c.args.out.now c.run_words.new.out c.run_words.result
+    (run-end g.S.Store.state g.S.Store.history g.K.Sink.state g.K.Sink.history (inputs_in (asked c.args.words.now)) (outcome_in (asked c.args.words.now)) c.args.store.now c.run_words.new.store c.args.out.now c.run_words.new.out c.run_words.result c.run_words.ensures)
 
-pub returns-clause-files : goal.returns-clause-files
-returns-clause-files g c = run-files c.run_words.ensures
+pub returns-clause-told : goal.returns-clause-told
+returns-clause-told g c =
+    run-told g.S.Store.state g.S.Store.history g.K.Sink.state g.K.Sink.history (asked c.args.words.now) c.args.store.now c.run_words.new.store c.args.out.now c.run_words.new.out c.run_words.result
+    (run-end g.S.Store.state g.S.Store.history g.K.Sink.state g.K.Sink.history (inputs_in (asked c.args.words.now)) (outcome_in (asked c.args.words.now)) c.args.store.now c.run_words.new.store c.args.out.now c.run_words.new.out c.run_words.result c.run_words.ensures)
 
-pub returns-clause-decides : goal.returns-clause-decides
-returns-clause-decides g c = λ flash otp f files d ends command told read_flash read_otp form built chosen.
-    let done = end-finished _ (run-end c.run_words.ensures) _ ends
-    (decided-known _ _ flash otp f files d command told read_flash read_otp form built chosen) in
-    (done.0, done.1, λ choice same. chosen-not_below (content_of f) Arm Normal choice (subst (λ (e : Decision). Chosen (content_of f) Arm Normal e) same chosen))
-
-pub returns-clause-input : goal.returns-clause-input
-returns-clause-input g c = λ flash otp f h files ends command told read_flash read_otp.
-    let done = end-finished _ (run-end c.run_words.ensures) _ ends
-    (files-known _ _ flash otp f h files command told read_flash read_otp) in
-    status-exactly _ _ _ _ done.0 (input-exactly flash otp f h)
-
-pub returns-clause-bootsel : goal.returns-clause-bootsel
-returns-clause-bootsel g c = λ flash otp f h files ends command told read_flash read_otp.
-    let done = end-finished _ (run-end c.run_words.ensures) _ ends
-    (files-known _ _ flash otp f h files command told read_flash read_otp) in
-    status-exactly _ _ _ _ done.0 (bootsel-exactly flash otp f h)
-
-pub returns-clause-put_last : goal.returns-clause-put_last
-returns-clause-put_last g c = end-put_last _ (run-end c.run_words.ensures)
-
-pub returns-clause-unfinished : goal.returns-clause-unfinished
-returns-clause-unfinished g c = end-unfinished _ (run-end c.run_words.ensures)
+pub returns-clause-lacking : goal.returns-clause-lacking
+returns-clause-lacking g c =
+    run-lacking g.S.Store.state g.S.Store.history g.K.Sink.state g.K.Sink.history (asked c.args.words.now) c.args.store.now c.run_words.new.store c.args.out.now c.run_words.new.out c.run_words.result
+    (run-end g.S.Store.state g.S.Store.history g.K.Sink.state g.K.Sink.history (inputs_in (asked c.args.words.now)) (outcome_in (asked c.args.words.now)) c.args.store.now c.run_words.new.store c.args.out.now c.run_words.new.out c.run_words.result c.run_words.ensures)
 
 pub returns-clause-words : goal.returns-clause-words
-returns-clause-words g c = end-words _ (run-end c.run_words.ensures)
-
-pub returns-clause-no_command : goal.returns-clause-no_command
-returns-clause-no_command g c = end-no_command _ (run-end c.run_words.ensures)
-
-pub returns-clause-read_fault : goal.returns-clause-read_fault
-returns-clause-read_fault g c = λ fault. (end-read_fault _ (run-end c.run_words.ensures) fault).1
-
-pub returns-clause-no_write : goal.returns-clause-no_write
-returns-clause-no_write g c = end-no_write _ (run-end c.run_words.ensures)
-
-pub returns-clause-output_fault : goal.returns-clause-output_fault
-returns-clause-output_fault g c = λ fault. (end-output_fault _ (run-end c.run_words.ensures) fault).2.fault refl
-
-pub returns-clause-after_read_fault : goal.returns-clause-after_read_fault
-returns-clause-after_read_fault g c = λ fault. (end-read_fault _ (run-end c.run_words.ensures) fault).0
-
-pub returns-clause-after_output_fault : goal.returns-clause-after_output_fault
-returns-clause-after_output_fault g c = end-output_fault _ (run-end c.run_words.ensures)
-
-pub returns-clause-after_memory : goal.returns-clause-after_memory
-returns-clause-after_memory g c = end-memory _ (run-end c.run_words.ensures)
+returns-clause-words g c = (
+  run-words g.S.Store.state g.S.Store.history g.K.Sink.state g.K.Sink.history (asked c.args.words.now) c.args.store.now c.run_words.new.store c.args.out.now c.run_words.new.out c.run_words.result
+      (run-end g.S.Store.state g.S.Store.history g.K.Sink.state g.K.Sink.history (inputs_in (asked c.args.words.now)) (outcome_in (asked c.args.words.now)) c.args.store.now c.run_words.new.store c.args.out.now c.run_words.new.out c.run_words.result c.run_words.ensures),
+  run-no_command g.S.Store.state g.S.Store.history g.K.Sink.state g.K.Sink.history (asked c.args.words.now) c.args.store.now c.run_words.new.store c.args.out.now c.run_words.new.out c.run_words.result
+      (run-end g.S.Store.state g.S.Store.history g.K.Sink.state g.K.Sink.history (inputs_in (asked c.args.words.now)) (outcome_in (asked c.args.words.now)) c.args.store.now c.run_words.new.store c.args.out.now c.run_words.new.out c.run_words.result c.run_words.ensures),
+)
 
 pub returns-clause-complete : goal.returns-clause-complete
-returns-clause-complete g c = end-complete _ (run-end c.run_words.ensures)
+returns-clause-complete g c =
+    run-complete g.S.Store.state g.S.Store.history g.K.Sink.state g.K.Sink.history (asked c.args.words.now) c.args.store.now c.run_words.new.store c.args.out.now c.run_words.new.out c.run_words.result
+    (run-end g.S.Store.state g.S.Store.history g.K.Sink.state g.K.Sink.history (inputs_in (asked c.args.words.now)) (outcome_in (asked c.args.words.now)) c.args.store.now c.run_words.new.store c.args.out.now c.run_words.new.out c.run_words.result c.run_words.ensures)
 
-pub returns-clause-steady_reads : goal.returns-clause-steady_reads
-returns-clause-steady_reads g c = end-steady_reads _ (run-end c.run_words.ensures)
+pub returns-clause-steady : goal.returns-clause-steady
+returns-clause-steady g c =
+    run-steady g.S.Store.state g.S.Store.history g.K.Sink.state g.K.Sink.history (asked c.args.words.now) c.args.store.now c.run_words.new.store c.args.out.now c.run_words.new.out c.run_words.result
+    (run-end g.S.Store.state g.S.Store.history g.K.Sink.state g.K.Sink.history (inputs_in (asked c.args.words.now)) (outcome_in (asked c.args.words.now)) c.args.store.now c.run_words.new.store c.args.out.now c.run_words.new.out c.run_words.result c.run_words.ensures)
 
-pub returns-clause-steady_puts : goal.returns-clause-steady_puts
-returns-clause-steady_puts g c = end-steady_puts _ (run-end c.run_words.ensures)
+pub returns-clause-read_fault : goal.returns-clause-read_fault
+returns-clause-read_fault g c =
+    λ h. let f = end-read_fault g.S.Store.state g.S.Store.history g.K.Sink.state g.K.Sink.history (inputs_in (asked c.args.words.now)) (outcome_in (asked c.args.words.now)) (outcome-finished (asked c.args.words.now)) c.args.store.now c.run_words.new.store c.args.out.now c.run_words.new.out c.run_words.result
+    (run-end g.S.Store.state g.S.Store.history g.K.Sink.state g.K.Sink.history (inputs_in (asked c.args.words.now)) (outcome_in (asked c.args.words.now)) c.args.store.now c.run_words.new.store c.args.out.now c.run_words.new.out c.run_words.result c.run_words.ensures) h in (f.0, f.1, f.2)
 
-pub returns-clause-boots : goal.returns-clause-boots
-returns-clause-boots g c = λ flash otp ends command.
-    let boot = end-boots _ (run-end c.run_words.ensures) flash otp Arm Normal ends command in
-    (boot.0, boot.1, boot.2, boot-of flash otp boot.0 boot.1 _ boot.3, boot.4)
+pub returns-clause-write_fault : goal.returns-clause-write_fault
+returns-clause-write_fault g c =
+    λ h. let f = end-write_fault g.S.Store.state g.S.Store.history g.K.Sink.state g.K.Sink.history (inputs_in (asked c.args.words.now)) (outcome_in (asked c.args.words.now)) (outcome-finished (asked c.args.words.now)) c.args.store.now c.run_words.new.store c.args.out.now c.run_words.new.out c.run_words.result
+    (run-end g.S.Store.state g.S.Store.history g.K.Sink.state g.K.Sink.history (inputs_in (asked c.args.words.now)) (outcome_in (asked c.args.words.now)) c.args.store.now c.run_words.new.store c.args.out.now c.run_words.new.out c.run_words.result c.run_words.ensures) h in (f.0, f.1, f.2)
+
+pub returns-clause-output_fault : goal.returns-clause-output_fault
+returns-clause-output_fault g c =
+    λ h. let f = end-output_fault g.S.Store.state g.S.Store.history g.K.Sink.state g.K.Sink.history (inputs_in (asked c.args.words.now)) (outcome_in (asked c.args.words.now)) (outcome-finished (asked c.args.words.now)) c.args.store.now c.run_words.new.store c.args.out.now c.run_words.new.out c.run_words.result
+    (run-end g.S.Store.state g.S.Store.history g.K.Sink.state g.K.Sink.history (inputs_in (asked c.args.words.now)) (outcome_in (asked c.args.words.now)) c.args.store.now c.run_words.new.store c.args.out.now c.run_words.new.out c.run_words.result c.run_words.ensures) h in (f.0, f.1)
+
+pub returns-clause-memory : goal.returns-clause-memory
+returns-clause-memory g c =
+    end-memory g.S.Store.state g.S.Store.history g.K.Sink.state g.K.Sink.history (inputs_in (asked c.args.words.now)) (outcome_in (asked c.args.words.now)) (outcome-finished (asked c.args.words.now)) c.args.store.now c.run_words.new.store c.args.out.now c.run_words.new.out c.run_words.result
+    (run-end g.S.Store.state g.S.Store.history g.K.Sink.state g.K.Sink.history (inputs_in (asked c.args.words.now)) (outcome_in (asked c.args.words.now)) c.args.store.now c.run_words.new.store c.args.out.now c.run_words.new.out c.run_words.result c.run_words.ensures)
+
+pub returns-clause-obeys : goal.returns-clause-obeys
+returns-clause-obeys g c =
+    λ command asks h. let f = run-obeys g.S.Store.state g.S.Store.history g.K.Sink.state g.K.Sink.history (asked c.args.words.now) c.args.store.now c.run_words.new.store c.args.out.now c.run_words.new.out c.run_words.result
+    (run-end g.S.Store.state g.S.Store.history g.K.Sink.state g.K.Sink.history (inputs_in (asked c.args.words.now)) (outcome_in (asked c.args.words.now)) c.args.store.now c.run_words.new.store c.args.out.now c.run_words.new.out c.run_words.result c.run_words.ensures) command asks h in (f.read, f.o, f.right, f.answer, f.input, f.does)

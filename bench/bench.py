@@ -1,0 +1,117 @@
+#!/usr/bin/env python3
+"""Times the program beside `openssl dgst -sha256` on the same file.
+
+    bench.py PROGRAM
+
+Two flash files of 16 MiB are made in a temporary folder. The first is one image whose digest covers
+all of it; `boot` has to start it. The second has a table of 15 partitions of 1 MiB, each with such an
+image; `info` has to find each of them valid. Their other bytes are pseudo-random, always the same
+ones. Each command runs seven times, and the least time counts. The time of a command is that of its
+whole process.
+"""
+
+import hashlib
+import os
+import random
+import struct
+import subprocess
+import sys
+import tempfile
+import time
+
+RUNS = 7
+MIB = 1 << 20
+FLASH = 16 * MIB
+SECTOR = 4096
+PARTITIONS = 15
+
+START, END = 0xFFFFDED3, 0xAB123579
+SECURE_ARM = 0x10210142  # IMAGE_TYPE: an executable for the Arm cores
+STACK, CODE = 0x20082000, 0x10000201  # the vector table: SP and PC
+FIRST_BLOCK = 0x114
+FLASH_START = 0x10000000
+SEALED_WORDS = 22  # of a sealing block
+HASHED_WORDS = 10  # of it, before the digest
+
+
+def words(*values):
+    return struct.pack(f"<{len(values)}I", *(value & 0xFFFFFFFF for value in values))
+
+
+def sealed(size, seed):
+    """An image of so many bytes, of which the last are the block that seals the others."""
+    body = bytearray(random.Random(seed).randbytes(size - 4 * SEALED_WORDS))
+    at = len(body)
+    body[0:8] = words(STACK, CODE)
+    body[FIRST_BLOCK:FIRST_BLOCK + 20] = words(START, SECURE_ARM, 0x1FF, at - FIRST_BLOCK, END)
+    load_map = at + 16  # the place of the LOAD_MAP item
+    head = words(
+        START, SECURE_ARM,
+        0x248, 0x10000,  # VERSION 1.0
+        0x1000406, -load_map, FLASH_START, at,  # LOAD_MAP: one entry, all before the block
+        0x1000247, HASHED_WORDS,  # HASH_DEF: SHA-256
+    )
+    digest = hashlib.sha256(bytes(body) + head).digest()
+    return bytes(body) + head + words(0x94B) + digest + words(0x12FF, FIRST_BLOCK - at, END)
+
+
+def table():
+    """The block of a table whose partition i has MiB i + 1 of the flash."""
+    count = MIB // SECTOR
+    parts = []
+    for i in range(PARTITIONS):
+        first, last = count * (i + 1), count * (i + 2) - 1
+        parts += [0xFC000000 | last << 13 | first, 0xFC020000]  # all rights, the secure Arm family
+    size = 2 + len(parts)
+    return words(START, PARTITIONS << 24 | size << 8 | 0x0A, 0xFC008000, *parts, size << 8 | 0xFF, 0, END)
+
+
+def partitioned():
+    first = table()
+    flash = first + b"\xff" * (MIB - len(first))
+    for i in range(PARTITIONS):
+        flash += sealed(MIB, i + 1)
+    return flash
+
+
+def least(command, wanted):
+    """The least time of a command in seconds, where each run's output has the wanted lines."""
+    best = None
+    for _ in range(RUNS):
+        begun = time.perf_counter()
+        done = subprocess.run(command, stdout=subprocess.PIPE, check=True)
+        taken = time.perf_counter() - begun
+        if not wanted(done.stdout.decode().splitlines()):
+            sys.exit(f"{' '.join(command)}: unexpected output")
+        best = taken if best is None else min(best, taken)
+    return best
+
+
+def row(name, program, openssl):
+    print(f"{name}: {1000 * program:.1f} ms, openssl {1000 * openssl:.1f} ms, ratio {program / openssl:.2f}")
+
+
+def main(arguments):
+    if len(arguments) != 1:
+        sys.exit(__doc__.strip())
+    program = os.path.abspath(arguments[0])
+    with tempfile.TemporaryDirectory() as folder:
+        paths = {}
+        for name, data in (("one", sealed(FLASH, 0)), ("many", partitioned()), ("otp", b"")):
+            paths[name] = os.path.join(folder, name)
+            with open(paths[name], "wb") as file:
+                file.write(data)
+
+        def digest(name):
+            return least(["openssl", "dgst", "-sha256", paths[name]], lambda lines: len(lines) == 1)
+
+        one = least([program, "boot", paths["one"], paths["otp"], "arm", "normal"],
+                    lambda lines: lines[0].startswith("start window=0x00000000+0x01000000 "))
+        row("boot of one image of 16 MiB", one, digest("one"))
+        many = least([program, "info", paths["many"], paths["otp"], "arm"],
+                     lambda lines: len(lines) == 1 + PARTITIONS and all(" ok " in line for line in lines[1:]))
+        row("info of 15 images of 1 MiB", many, digest("many"))
+
+
+if __name__ == "__main__":
+    main(sys.argv[1:])

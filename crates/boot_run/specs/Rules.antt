@@ -1,0 +1,116 @@
+-- What is right for each command, in the words of the rules. This project's own, over the rules of a boot.
+use Rattle.std.specs.Prelude.{◌≡◌, ◌⊎◌, ⊤, ℕ, true, false, List, [], ◌∷◌, ◌++◌}
+use Rattle.std.specs.List.{flat_map}
+use Rattle.pico_board.specs.declared.boot.Cpu.{Cpu}
+use Rattle.pico_board.specs.declared.boot.BootKind.{BootKind}
+use Rattle.pico_board.specs.declared.window.Window.{Window}
+use Rattle.pico_board.specs.Content.{Content}
+use Rattle.image_def.specs.declared.started.Started.{Started}
+use Rattle.image_check.specs.declared.why.Why.{Why}
+use Rattle.image_check.specs.Valid.{Valid}
+use Rattle.image_check.specs.WhyNot.{WhyNot}
+use Rattle.image_check.specs.NotBelow.{NotBelow}
+use Rattle.slot_choice.specs.declared.choice.Choice.{Choice}
+use Rattle.boot_rules.specs.declared.decision.Decision.{Decision}
+use Rattle.boot_rules.specs.declared.decision.Decision.TheVariants.{Start, Bootsel as FallsToBootsel}
+use Rattle.boot_rules.specs.declared.decision.Fall.{Fall}
+use Rattle.boot_rules.specs.Chosen.{Chosen}
+use Rattle.boot_rules.specs.Tables.{table_in}
+use Rattle.boot_run.specs.declared.status.Status.{Status}
+use Rattle.boot_run.specs.declared.status.Status.TheVariants.{Done, Bootsel}
+use Rattle.boot_run.specs.declared.forms.Form.{Form}
+use Rattle.boot_run.specs.declared.forms.Form.TheVariants.{Flash, Otp}
+use Rattle.boot_run.specs.Commands.{Command, Boot, Info, OwnedData, Usage, Release}
+use Rattle.boot_run.specs.Forms.{HasForm, IsFault, content_of}
+use Rattle.boot_run.specs.Texts.{line, decision_line, table_text, valid_text, invalid_text, usage_text, release_line}
+use Rattle.boot_run.specs.Works.{windows_in, decided_data, data_line}
+use Rattle.boot_run.specs.Outcome.{Outcome, Input, inputs_of, refused}
+
+-- the first input in word order that does not have its form has this name, and its bytes have this fault
+abbrev pub IsFirstFault : List Input → List (List ℕ) → List ℕ → List ℕ → Type 0
+IsFirstFault (input ∷ inputs) (bytes ∷ read) name fault =
+    ((name ≡ input.name) × IsFault input.form bytes fault)
+    ⊎ (HasForm input.form bytes × IsFirstFault inputs read name fault)
+IsFirstFault _ _ name fault = ⊥
+
+-- each input has its form
+abbrev pub AreFormed : List Input → List (List ℕ) → Type 0
+AreFormed [] [] = ⊤
+AreFormed (input ∷ inputs) (bytes ∷ read) = HasForm input.form bytes × AreFormed inputs read
+AreFormed _ _ = ⊥
+
+-- an input of the command breaks its form
+abbrev pub IsRefused : Command → List (List ℕ) → Type 0
+IsRefused command read = (name : List ℕ) × (fault : List ℕ) × IsFirstFault (inputs_of command) read name fault
+
+-- the outcome names the first input that breaks its form, with its fault
+abbrev pub IsRefusal : List Input → List (List ℕ) → Outcome → Type 0
+IsRefusal inputs read o = (name : List ℕ) × (fault : List ℕ) × IsFirstFault inputs read name fault × (o ≡ refused name fault)
+
+-- the status of a decision
+abbrev pub decided_status : Decision → Status
+decided_status (Start choice) = Done
+decided_status (FallsToBootsel fall) = Bootsel
+
+-- the files have their forms, and the rules name a fall to BOOTSEL
+pub record FallsOn (f g : List ℕ) (cpu : Cpu) (kind : BootKind) : Type 0 where
+  pub fall : Fall
+  pub flash : HasForm Flash f
+  pub otp : HasForm Otp g
+  pub chosen : Chosen (content_of f g) cpu kind (FallsToBootsel fall)
+
+-- `boot`: the outcome tells the one decision that the rules name, whose image, where one starts, is not below its rollback rows
+pub record IsBootOf (c : Content) (cpu : Cpu) (kind : BootKind) (o : Outcome) : Type 0 where
+  pub decision : Decision
+  pub chosen : Chosen c cpu kind decision
+  pub above : (choice : Choice) → decision ≡ Start choice → NotBelow c.otp choice.image
+  pub status : o.status ≡ decided_status decision
+  pub text : o.text ≡ decision_line decision
+  pub files : o.files ≡ []
+
+-- the line of a window tells its image, which is valid with trial not allowed, or the first rule that fails
+abbrev pub IsLineOf : Content → Cpu → Window → List ℕ → Type 0
+IsLineOf c cpu w text =
+    ((s : Started) × Valid c w cpu false s × (text ≡ line (valid_text w s)))
+    ⊎ ((why : Why) × WhyNot c w cpu false why × (text ≡ line (invalid_text w why)))
+
+-- the lines of windows, one after another
+abbrev pub AreLinesOf : Content → Cpu → List Window → List ℕ → Type 0
+AreLinesOf c cpu [] text = text ≡ []
+AreLinesOf c cpu (w ∷ ws) text =
+    (first : List ℕ) × (rest : List ℕ) × IsLineOf c cpu w first × AreLinesOf c cpu ws rest × (text ≡ first ++ rest)
+
+-- `info`: the outcome tells the table, and then each window
+pub record IsInfoOf (c : Content) (cpu : Cpu) (o : Outcome) : Type 0 where
+  pub lines : List ℕ
+  pub windows : AreLinesOf c cpu (windows_in c cpu) lines
+  pub status : o.status ≡ Done
+  pub text : o.text ≡ line (table_text (table_in c)) ++ lines
+  pub files : o.files ≡ []
+
+-- `data`: the outcome tells the one decision that the rules name, and then the windows of the data of a started image
+pub record IsDataOf (c : Content) (cpu : Cpu) (kind : BootKind) (o : Outcome) : Type 0 where
+  pub decision : Decision
+  pub chosen : Chosen c cpu kind decision
+  pub status : o.status ≡ decided_status decision
+  pub text : o.text ≡ decision_line decision ++ flat_map data_line (decided_data c decision)
+  pub files : o.files ≡ []
+
+-- the outcome tells a text, is no fall and writes no file
+abbrev pub Tells : List ℕ → Outcome → Type 0
+Tells text o = o ≡ record { status = Done; text = text; files = [] }
+
+-- the outcome is right for a command on the bytes of its inputs
+abbrev pub Obeys : Command → List (List ℕ) → Outcome → Type 0
+Obeys (Boot flash otp cpu kind) (f ∷ g ∷ []) o =
+    IsRefusal (inputs_of (Boot flash otp cpu kind)) (f ∷ g ∷ []) o
+    ⊎ (HasForm Flash f × HasForm Otp g × IsBootOf (content_of f g) cpu kind o)
+Obeys (Info flash otp cpu) (f ∷ g ∷ []) o =
+    IsRefusal (inputs_of (Info flash otp cpu)) (f ∷ g ∷ []) o
+    ⊎ (HasForm Flash f × HasForm Otp g × IsInfoOf (content_of f g) cpu o)
+Obeys (OwnedData flash otp cpu kind) (f ∷ g ∷ []) o =
+    IsRefusal (inputs_of (OwnedData flash otp cpu kind)) (f ∷ g ∷ []) o
+    ⊎ (HasForm Flash f × HasForm Otp g × IsDataOf (content_of f g) cpu kind o)
+Obeys Usage [] o = Tells usage_text o
+Obeys Release [] o = Tells release_line o
+Obeys _ _ o = ⊥

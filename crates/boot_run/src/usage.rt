@@ -1,0 +1,43 @@
+//! How the program is used, and its version.
+
+ghost use Rattle.std.specs.Prelude.{◌≡◌, IfOk, string_bytes};
+ghost use Rattle.boot_run.specs.Texts.{usage_text, release_line};
+
+use std::alloc::{AllocError, Global};
+
+/// The version of the program.
+pub const VERSION: &str = "0.1.0";
+
+/// How the program is used.
+pub const USAGE: &str =
+    "boot FLASH OTP CPU KIND  which image a boot starts, or why it falls to BOOTSEL
+info FLASH OTP CPU       the partition table, and the image in each window or why there is none
+data FLASH OTP CPU KIND  the same as boot, and the windows of the data that the image owns
+--help                   this text
+--version                the version of the program
+
+CPU    arm or riscv
+KIND   normal, bootsel, or update=0x and eight hexadecimal digits: the flash address of the update
+FLASH  a file of 1 to 16777216 bytes, filled with 0xff to whole sectors of 4096 bytes, at least two
+OTP    a file of at most 16384 bytes, 4 for each row, the lowest byte first; missing rows are 0
+
+Status 0 means that the text is whole, 1 that the words are no command, 2 that an input is refused,
+3 that the boot falls to BOOTSEL, 4 that a file could not be read, 5 that a file could not be
+written, 6 that standard output failed, and 7 that there was no memory.
+";
+
+/// How the program is used, as a text to put.
+#[tactic(auto, unfolding(crate::specs::Texts::usage_text))]
+pub fn usage(alloc: Global) -> Result<String, AllocError>
+    ensures { IfOk result (λ t. string_bytes t ≡ usage_text) }
+{
+    String::from_str(alloc, USAGE)
+}
+
+/// The line of the program's version.
+#[tactic(auto, unfolding(crate::specs::Texts::release_line))]
+pub fn release(alloc: Global) -> Result<String, AllocError>
+    ensures { IfOk result (λ t. string_bytes t ≡ release_line) }
+{
+    format!(in alloc; "dugnatsew {VERSION}\n")
+}
