@@ -102,6 +102,7 @@ module _ (pool : Pool) (marks : Marked) (c : Current) (blocks : List Uf2) (b : U
           → (is_some held && lies_in c.target.window (first_in c.target.window) b) ≡ x
           → (c.target.gated && lies_in c.target.window (first_in c.target.window) b) ≡ x
       gate held same x is = rw (← same) is
+
       by : (x : Bool) → is_held_back c b ≡ x → put_steps c marks b ≡ own_part c.target blocks b
       by true is = rw is (put-here c.target.gated (gate c.held (held-gated c.held f.held) true is))
       by false is =

@@ -71,7 +71,7 @@ few-numbers count ns below distinct =
       arith,
       length-range_with_len 0 count,
       length-le_from_is_member nat_eq_equiv ns (range_with_len 0 count) distinct
-      (λ q member. in-range count q (member-below count ns q below member)),
+          (λ q member. in-range count q (member-below count ns q below member)),
     )
 
 -- where all numbers below the count are there, there are as many
@@ -81,7 +81,7 @@ all-numbers count ns there =
       arith,
       length-range_with_len 0 count,
       length-le_from_is_member nat_eq_equiv (range_with_len 0 count) ns (IsDistinct-range 0 count)
-      (λ q member. there q (member-below count (range_with_len 0 count) q (range-below 0 count count (omega arith)) member)),
+          (λ q member. there q (member-below count (range_with_len 0 count) q (range-below 0 count count (omega arith)) member)),
     )
 
 -- where there are as many different numbers below the count, each is there

@@ -203,11 +203,16 @@ held-last pool marks c (b ∷ bs) f some = by c.held f.held
   where
     count-is : (c.left == 0) ≡ is_whole (b ∷ bs)
     count-is = let left = f.left in let same = f.are.each.0.same_count in grind (arith, nat_tests, left, same)
+
     by : (held : Option Held) → Holds pool c.target (b ∷ bs) held → held_steps pool c held ≡ last_part c.target (b ∷ bs)
     by None plain = rw plain refl
     by (Some h) holds =
-        rw (holds.gated, count-is, programs-same (first_in c.target.window) (held_page h.pages (bytes_of pool h.lease))
-        (λ i. last_for c.target.window (16 * first_in c.target.window + i) (b ∷ bs)) holds.pages) refl
+        rw (
+          holds.gated,
+          count-is,
+          programs-same (first_in c.target.window) (held_page h.pages (bytes_of pool h.lease))
+              (λ i. last_for c.target.window (16 * first_in c.target.window + i) (b ∷ bs)) holds.pages,
+        ) refl
 
 push-some : (blocks : List Uf2) (b : Uf2) → blocks ++ b ∷ [] ≢ []
 push-some [] b same = cc same

@@ -131,18 +131,26 @@ module _ (t : Target) (blocks : List Uf2) (is : HasWholeSectors t.window) where
       let len = is.len in
       let w = t.window in
       let elsewhere = in_turn (later_steps w) [] blocks in
-      inr (first_in w, elsewhere, last (is_whole blocks), record {
-        whole = refl;
-        first = omega arith;
-        confined = ((omega arith, omega arith), all-append (IsConfined w) elsewhere (last (is_whole blocks))
-            (all-in_turn (IsConfined w) (IsInside w) (later_steps w)
-            (λ before b here. later-all (IsConfined w) w before b (λ other. own-confined w before b is here)) [] blocks inside)
-            (last-confined (is_whole blocks)));
-        apart = all-in_turn (IsElsewhere (first_in w)) (IsInside w) (later_steps w)
-            (λ before b here. later-all (IsElsewhere (first_in w)) w before b (own-elsewhere w before b)) [] blocks inside;
-        final = last-final (is_whole blocks);
-        distinct = last-distinct (is_whole blocks);
-      })
+      inr (
+        first_in w,
+        elsewhere,
+        last (is_whole blocks),
+        record {
+          whole = refl;
+          first = omega arith;
+          confined = (
+            (omega arith, omega arith),
+            all-append (IsConfined w) elsewhere (last (is_whole blocks))
+                (all-in_turn (IsConfined w) (IsInside w) (later_steps w)
+                (λ before b here. later-all (IsConfined w) w before b (λ other. own-confined w before b is here)) [] blocks inside)
+                (last-confined (is_whole blocks)),
+          );
+          apart = all-in_turn (IsElsewhere (first_in w)) (IsInside w) (later_steps w)
+              (λ before b here. later-all (IsElsewhere (first_in w)) w before b (own-elsewhere w before b)) [] blocks inside;
+          final = last-final (is_whole blocks);
+          distinct = last-distinct (is_whole blocks);
+        },
+      )
 
 pub gated-download : (t : Target) (family count : ℕ) (blocks : List Uf2) → t.gated ≡ true
     → AreBlocks t family count blocks → AllByRecursion (IsInside t.window) blocks → Gated (placed t blocks) t.window

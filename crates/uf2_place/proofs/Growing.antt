@@ -112,8 +112,7 @@ whole-has_all t family count [] are some = (λ whole. cc whole, λ there. cc (th
 whole-has_all t family count (b ∷ bs) are some =
     let size = length-map (b ∷ bs) (λ (b : Uf2). b.number) in
     let same = are.each.0.same_count in
-    let few = few-blocks t family count (b ∷ bs) are in
-    (
+    let few = few-blocks t family count (b ∷ bs) are in (
       λ whole. each-number count (numbers_of (b ∷ bs)) (numbers-below family count (b ∷ bs) are.each) are.distinct
           (grind (arith, nat_tests, whole, same, size)),
       λ there. grind (arith, nat_tests, same, size, few, all-numbers count (numbers_of (b ∷ bs)) there),

@@ -70,8 +70,15 @@ patched-here xs at page within long =
 patched-size : (xs : List ℕ) (at : ℕ) (page : List ℕ) → at + 256 ≤ length xs → length page ≡ 256
     → length (patched xs at page) ≡ length xs
 patched-size xs at page within long =
-    omega (arith, length-append (take at xs) (page ++ drop (at + 256) xs), length-append page (drop (at + 256) xs),
-    length-take at xs, length-drop (at + 256) xs, within, long)
+    omega (
+      arith,
+      length-append (take at xs) (page ++ drop (at + 256) xs),
+      length-append page (drop (at + 256) xs),
+      length-take at xs,
+      length-drop (at + 256) xs,
+      within,
+      long,
+    )
 
 patched-other : (xs : List ℕ) (at other : ℕ) (page : List ℕ) → at + 256 ≤ length xs → length page ≡ 256
     → (other + 256 ≤ at) ⊎ (at + 256 ≤ other) → slice_range (patched xs at page) other (other + 256) ≡ slice_range xs other (other + 256)
@@ -93,14 +100,16 @@ page-held place page old pool bytes after pages low stood size long set copied =
   pages = λ i small. elim (differ place i) [
     | inl same ↦ here i same
     | inr other ↦ there i small other
-    ];
+  ];
   kept = KeepsOutBut-written pool old.lease after;
 }
   where
     before : bytes_of pool old.lease ≡ bytes
     before = get_or_from_slice_get pool.sectors old.lease bytes [] stood
+
     now : bytes_of (written pool old.lease after) old.lease ≡ patched bytes (256 * place) page
     now = get_or-set_same pool.sectors old.lease after [] (slice_get_within _ _ _ stood) ∙ copied
+
     here : (i : ℕ) → place ≡ i → held_page pages (bytes_of (written pool old.lease after) old.lease) i
         ≡ (if nat_eq place i then Some page else held_page old.pages (bytes_of pool old.lease) i)
     here i same =
@@ -111,6 +120,7 @@ page-held place page old pool bytes after pages low stood size long set copied =
         ∙ ap Some (patched-here bytes (256 * place) page (omega (arith, size, low)) long) in
         rw ((Decides-eqb place i).1 same)
         (subst (λ k. held_page pages (bytes_of (written pool old.lease after) old.lease) k ≡ Some page) same held)
+
     there : (i : ℕ) → i < 16 → place ≢ i → held_page pages (bytes_of (written pool old.lease after) old.lease) i
         ≡ (if nat_eq place i then Some page else held_page old.pages (bytes_of pool old.lease) i)
     there i small other =

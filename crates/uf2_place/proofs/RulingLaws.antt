@@ -1,5 +1,5 @@
 -- The answers before any step, each exactly where its rule holds and no earlier one.
-use Rattle.std.proofs.Common.{◌≡◌, ◌↔◌, ℕ, Bool, true, false, if◌then◌else◌, Ok, Err, Option, None, Some, List, arith, refl, sym, ap, subst, ◌∙◌}
+use Rattle.std.proofs.Common.{Result, ◌≡◌, ◌↔◌, ℕ, Bool, true, false, if◌then◌else◌, Ok, Err, Option, None, Some, List, arith, refl, sym, ap, subst, ◌∙◌}
 use Rattle.std.proofs.lemmas.Bool.Decides.{nat_tests}
 use Rattle.std.proofs.lemmas.Grind.{common_steps}
 use Rattle.pico_board.specs.declared.Window.{Window}
@@ -7,12 +7,15 @@ use Rattle.part_table.specs.declared.Right.TheVariants.{BootWrite}
 use Rattle.part_table.specs.declared.Table.{Table}
 use Rattle.part_table.specs.declared.Target.{Target}
 use Rattle.part_table.specs.Rights.{allowed_by}
+use Rattle.uf2_place.specs.declared.answer.Accepted.{Accepted}
 use Rattle.uf2_place.specs.declared.answer.Accepted.TheVariants.{Again, Skipped}
+use Rattle.uf2_place.specs.declared.answer.PlaceFault.{PlaceFault}
 use Rattle.uf2_place.specs.declared.answer.PlaceFault.TheVariants.{NoTarget, NotPermitted, Outside}
 use Rattle.uf2_place.specs.declared.answer.Ruling.{Ruling}
 use Rattle.uf2_place.specs.declared.answer.Ruling.TheVariants.{Answered, Begins, Continues}
 use Rattle.uf2_place.specs.declared.block.Uf2.{Uf2}
 use Rattle.uf2_place.specs.declared.current.Current.{Current}
+use Rattle.uf2_place.specs.Accepting.{has_power}
 use Rattle.uf2_place.specs.Marks.{is_marked}
 use Rattle.uf2_place.specs.Placement.{IsInside, sector_in}
 use Rattle.uf2_place.specs.Rulings.{GoesTo, aimed, begun, continues, is_of, is_skipped, is_within, ruled, ruling, target_of, wanted}
@@ -245,3 +248,20 @@ module _ (n : ℕ) (table : Option Table) (given : Option Target) (taken : List 
           subst (λ v. (continues current b ≡ true) × GoesTo n given taken current b v
           × IsInside v.window b × (allowed_by table (sector_in v.window b) BootWrite ≡ true)) equal
           (same, to, inside-is u.window b within, may)
+
+  -- no answer before a step says that power was lost
+  pub answered-power : (a : Result Accepted PlaceFault) → r ≡ Answered a → has_power a ≡ true
+  answered-power a = by is
+    where
+      told : (early : Result Accepted PlaceFault) → has_power early ≡ true → r ≡ Answered early → r ≡ Answered a
+          → has_power a ≡ true
+      told early power e h = let same : early ≡ a = cc (e, h) in subst (λ x. has_power x ≡ true) same power
+
+      by : Is → r ≡ Answered a → has_power a ≡ true
+      by (skipped x e) h = told (Ok Skipped) refl e h
+      by (again e) h = told (Ok Again) refl e h
+      by (none kept same gone e) h = told (Err NoTarget) refl e h
+      by (outside t to out e) h = told (Err Outside) refl e h
+      by (barred t to within may e) h = told (Err NotPermitted) refl e h
+      by (continuing t to within may same e) h = cc (e, h)
+      by (beginning t to within may same e) h = cc (e, h)

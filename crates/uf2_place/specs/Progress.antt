@@ -40,7 +40,7 @@ abbrev pub put_steps : Current → Marked → Uf2 → List Step
 put_steps c marks b =
     if is_held_back c b then []
     else fresh_steps (is_marked marks.sectors (sector_in c.target.window b)) (sector_in c.target.window b)
-        (page_in c.target.window b) b.page
+    (page_in c.target.window b) b.page
 
 -- the programs of the held pages, once no block is to come
 abbrev pub held_steps : Pool → Current → Option Held → List Step

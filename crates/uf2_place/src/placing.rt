@@ -111,6 +111,7 @@ fn put<B: Board>(
     ensures target { current.new.target ≡ current.old.target }
     ensures lease { lease_in current.new.held ≡ lease_in current.old.held }
     ensures out { IsOut pool.new (lease_in current.old.held) }
+    ensures numbers { pool.new.out ≡ pool.old.out }
     ensures held { OnTrue (is_held_back current.old block.now)
         ((marks.new ≡ marks.old) × HoldsBlock block.now current.old pool.old current.new pool.new) }
     ensures same { OnFalse (is_held_back current.old block.now)
@@ -123,7 +124,13 @@ fn put<B: Board>(
         return Ok(());
     }
     let window = current.target.window;
-    write_fresh(board, marks, sector_in(window, block), page_in(window, block), &block.page)
+    write_fresh(
+        board,
+        marks,
+        sector_in(window, block),
+        page_in(window, block),
+        &block.page,
+    )
 }
 
 /// Programs the held pages, where no block is to come.
@@ -136,7 +143,13 @@ fn finish<B: Board>(board: &mut B, pool: &SectorPool, current: &Current) -> Resu
 {
     match &current.held {
         None => Ok(()),
-        Some(held) => finish_held(board, pool, held, current.left, first_in(current.target.window)),
+        Some(held) => finish_held(
+            board,
+            pool,
+            held,
+            current.left,
+            first_in(current.target.window),
+        ),
     }
 }
 
@@ -193,6 +206,10 @@ pub fn place_block<B: Board>(
         → IsNext current.old blocks block.now
         → OnOk result (Follows pool.new marks.new current.new (blocks ++ block.now ∷ [])) }
     ensures left { OnOk result (current.new.left + 1 ≡ current.old.left) }
+    ensures size { length (B.state board.new).content.flash
+        ≡ length (B.state board.old).content.flash }
+    ensures power { (B.state board.new).powered ≡ is_ok result }
+    ensures numbers { pool.new.out ≡ pool.old.out }
     ensures target { current.new.target ≡ current.old.target }
     ensures lease { lease_in current.new.held ≡ lease_in current.old.held }
     ensures pool { HandsOver (lease_in current.old.held) (lease_in current.old.held)

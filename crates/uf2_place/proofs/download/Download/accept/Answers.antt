@@ -8,6 +8,7 @@ use Rattle.uf2_place.specs.Downloads.{Follows, IsTargetIn, lease_of}
 use Rattle.uf2_place.specs.Marks.{Marked}
 use Rattle.uf2_place.specs.Placement.{IsInside}
 use Rattle.uf2_place.proofs.Ruled.{rules-begins, rules-continues, next-first, next-after}
+use Rattle.uf2_place.proofs.RulingLaws.{answered-power}
 use Rattle.uf2_place.proofs.download.Download.accept.Goals as goal
 
 pub place-requires-clause-inside : goal.place-requires-clause-inside
@@ -60,3 +61,12 @@ returns-in-Some-clause-continues g c = λ t blocks is stands.
     (c.place-in-Some.ensures.places blocks
     (subst (λ (m : Marked). Follows c.args.pool.now m c.in-Some.current blocks)
     (sym (ap (λ (k : Kept). k.marks) c.self.view_is)) follows) next)
+
+pub returns-in-Answered-clause-power : goal.returns-in-Answered-clause-power
+returns-in-Answered-clause-power g c =
+    c.requires.power ∙ sym (answered-power (length (g.B.Board.state c.args.board.now).content.flash)
+    (option_map (λ t. t.now) c.args.table) c.args.target c.args.self.now.marks.numbers c.args.self.now.current
+    c.args.block.now c.in-Answered.answer (sym c.rule.ensures ∙ c.in-Answered.is))
+
+pub returns-in-Begins-clause-free : goal.returns-in-Begins-clause-free
+returns-in-Begins-clause-free g c = c.place.ensures.free c.begin-current.ensures.free
