@@ -27,7 +27,8 @@ within-is w b inside =
     let below = inside.below in
     grind (arith, nat_tests, common_steps, above, below)
 
-module _ (n : ℕ) (table : Option Table) (given : Option Target) (taken : List ℕ) (current : Option Current) (b : Uf2) where
+module _ (n : ℕ) (table : Option Table) (given : Option Target) (taken : List ℕ) (current : Option Current)
+    (b : Uf2) where
   abbrev r : Ruling
   r = ruling n table given taken current b
 
@@ -95,8 +96,10 @@ module _ (n : ℕ) (table : Option Table) (given : Option Target) (taken : List 
     where
       by : (x : Bool) → is_of c b ≡ x → (y : Bool) → is_marked taken b.number ≡ y
           → target_of given taken b (Some c) ≡ Some t
-          → ruled table given taken b (Some c) ≡ aimed table b t (if continues (Some c) b then Continues t else Begins t)
-      by true same true mark to = let none : target_of given taken b (Some c) ≡ None = rw (same, mark) refl in cc (none, to)
+          → ruled table given taken b (Some c) ≡ aimed table b t (if continues
+          (Some c) b then Continues t else Begins t)
+      by true same true mark to = let none : target_of given taken b (Some c)
+          ≡ None = rw (same, mark) refl in cc (none, to)
       by true same false mark to =
           let here : target_of given taken b (Some c) ≡ Some c.target = rw (same, mark) refl in
           let equal : c.target ≡ t = cc (here, to) in
@@ -108,7 +111,8 @@ module _ (n : ℕ) (table : Option Table) (given : Option Target) (taken : List 
   aims-is : (t : Target) → GoesTo n given taken current b t → r ≡ aimed table b t (go t)
   aims-is t to = ruled-of to.kept ∙ aims-of t current to.target
 
-  out-is : (t : Target) → GoesTo n given taken current b t → is_within t.window.len b ≡ false → r ≡ Answered (Err Outside)
+  out-is : (t : Target) → GoesTo n given taken current b t → is_within t.window.len b ≡ false
+      → r ≡ Answered (Err Outside)
   out-is t to out = aims-is t to ∙ rw out refl
 
   barred-is : (t : Target) → GoesTo n given taken current b t → is_within t.window.len b ≡ true
@@ -135,9 +139,11 @@ module _ (n : ℕ) (table : Option Table) (given : Option Target) (taken : List 
 
   aimed-by : (t : Target) → GoesTo n given taken current b t → Is
   aimed-by t to =
-      by (is_within t.window.len b) refl (allowed_by table (sector_in t.window b) BootWrite) refl (continues current b) refl
+      by (is_within t.window.len b) refl (allowed_by table (sector_in t.window b) BootWrite) refl
+      (continues current b) refl
     where
-      by : (x : Bool) → is_within t.window.len b ≡ x → (y : Bool) → allowed_by table (sector_in t.window b) BootWrite ≡ y
+      by : (x : Bool) → is_within t.window.len b ≡ x → (y : Bool)
+          → allowed_by table (sector_in t.window b) BootWrite ≡ y
           → (z : Bool) → continues current b ≡ z → Is
       by false out y may z same = outside t to out (out-is t to out)
       by true within false may z same = barred t to within may (barred-is t to within may)
@@ -187,7 +193,8 @@ module _ (n : ℕ) (table : Option Table) (given : Option Target) (taken : List 
       by true within = absurd (out (inside-is w b within))
       by false within = within
 
-  pub outside-is : (r ≡ Answered (Err Outside)) ↔ ((t : Target) × GoesTo n given taken current b t × ¬ (IsInside t.window b))
+  pub outside-is : (r ≡ Answered (Err Outside)) ↔ ((t : Target) × GoesTo n given taken current b t × ¬
+      (IsInside t.window b))
   outside-is = (by is, λ p. out-is p.0 p.1 (not-within (p.0).window p.2))
     where
       by : Is → r ≡ Answered (Err Outside) → (t : Target) × GoesTo n given taken current b t × ¬ (IsInside t.window b)
@@ -199,7 +206,8 @@ module _ (n : ℕ) (table : Option Table) (given : Option Target) (taken : List 
       by (continuing t to within may same e) h = cc (e, h)
       by (beginning t to within may same e) h = cc (e, h)
 
-  pub not_permitted-is : (r ≡ Answered (Err NotPermitted)) ↔ ((t : Target) × GoesTo n given taken current b t × IsInside t.window b
+  pub not_permitted-is : (r ≡ Answered (Err NotPermitted)) ↔
+      ((t : Target) × GoesTo n given taken current b t × IsInside t.window b
       × (allowed_by table (sector_in t.window b) BootWrite ≡ false))
   not_permitted-is = (by is, λ p. barred-is p.0 p.1 (within-is (p.0).window b p.2) p.3)
     where
@@ -215,7 +223,11 @@ module _ (n : ℕ) (table : Option Table) (given : Option Target) (taken : List 
 
   pub begins-is : (t : Target) → (r ≡ Begins t) ↔ ((continues current b ≡ false) × GoesTo n given taken current b t
       × IsInside t.window b × (allowed_by table (sector_in t.window b) BootWrite ≡ true))
-  begins-is t = (by is, λ p. may-is t p.1 (within-is t.window b p.2) p.3 ∙ ap (λ x. if x then Continues t else Begins t) p.0)
+  begins-is t = (
+    by is,
+    λ p. may-is t p.1 (within-is t.window b p.2) p.3
+        ∙ ap (λ x. if x then Continues t else Begins t) p.0,
+  )
     where
       by : Is → r ≡ Begins t → (continues current b ≡ false) × GoesTo n given taken current b t
           × IsInside t.window b × (allowed_by table (sector_in t.window b) BootWrite ≡ true)
@@ -233,7 +245,11 @@ module _ (n : ℕ) (table : Option Table) (given : Option Target) (taken : List 
 
   pub continues-is : (t : Target) → (r ≡ Continues t) ↔ ((continues current b ≡ true) × GoesTo n given taken current b t
       × IsInside t.window b × (allowed_by table (sector_in t.window b) BootWrite ≡ true))
-  continues-is t = (by is, λ p. may-is t p.1 (within-is t.window b p.2) p.3 ∙ ap (λ x. if x then Continues t else Begins t) p.0)
+  continues-is t = (
+    by is,
+    λ p. may-is t p.1 (within-is t.window b p.2) p.3
+        ∙ ap (λ x. if x then Continues t else Begins t) p.0,
+  )
     where
       by : Is → r ≡ Continues t → (continues current b ≡ true) × GoesTo n given taken current b t
           × IsInside t.window b × (allowed_by table (sector_in t.window b) BootWrite ≡ true)

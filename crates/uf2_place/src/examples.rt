@@ -112,8 +112,8 @@ pub fn rulings_of_blocks()
         (arm_block 0 0x10020000 []) ≡ Answered (Err NoTarget) }
 {}
 
-/// Into a target that is not gated each page is written as it comes, and its sector is erased before
-/// the first page in it.
+/// Into a target that is not gated each page is written as it comes, and its sector is erased
+/// before the first page in it.
 pub fn pages_as_they_come()
     ensures none { placed (slot false) [] ≡ [] }
     ensures all { (a b c : List ℕ) → placed (slot false) (arm_block 2 0x10001100 a

@@ -59,7 +59,8 @@ fn write_fresh<B: Board>(
 fn open<B: Board>(board: &mut B, current: &Current) -> Result<(), PowerLost>
     requires power { IsTrue (B.state board.old).powered }
     requires target { IsTargetIn (length (B.state board.old).content.flash) current.now.target }
-    ensures { DoesAll B.state B.history board.old (open_steps current.now) (is_ok result) board.new }
+    ensures { DoesAll B.state B.history board.old (open_steps current.now) (is_ok result)
+        board.new }
 {
     if current.held.is_none() || current.left != current.count {
         return Ok(());
@@ -165,7 +166,8 @@ fn finish_held<B: Board>(
     requires range { 4096 * sector + 4096 ≤ length (B.state board.old).content.flash }
     requires out { slice_get pool.now.out held.now.lease ≡ Some true }
     ensures { DoesAll B.state B.history board.old
-        (if left == 0 then programs_in sector (held_page held.now.pages (bytes_of pool.now held.now.lease)) else [])
+        (if left == 0 then programs_in sector
+        (held_page held.now.pages (bytes_of pool.now held.now.lease)) else [])
         (is_ok result) board.new }
 {
     if left != 0 {

@@ -9,10 +9,12 @@ returns-in-Ok-clause-free g c = λ free none.
 
 pub returns-in-Ok-2-clause-free : goal.returns-in-Ok-2-clause-free
 returns-in-Ok-2-clause-free g c = λ free none.
-    c.release.ensures.free (λ gone. subst (λ (out : List Bool). 0 < count_by not out) (sym c.place_block.ensures.numbers)
+    c.release.ensures.free (λ gone. subst (λ (out : List Bool). 0 < count_by not out)
+    (sym c.place_block.ensures.numbers)
     (free (sym c.place_block.ensures.lease ∙ gone)))
 
 pub returns-in-Err-clause-free : goal.returns-in-Err-clause-free
 returns-in-Err-clause-free g c = λ free none.
-    c.release-in-Err.ensures.free (λ gone. subst (λ (out : List Bool). 0 < count_by not out) (sym c.place_block.ensures.numbers)
+    c.release-in-Err.ensures.free (λ gone. subst (λ (out : List Bool). 0 < count_by not out)
+    (sym c.place_block.ensures.numbers)
     (free (sym c.place_block.ensures.lease ∙ gone)))
