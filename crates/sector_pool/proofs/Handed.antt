@@ -66,17 +66,17 @@ HandsOver-trans {a} {b} {c} {p} {q} {r} first second = record {
   fresh = λ k has other. elim (is_lease b k) [
     | inl between ↦ first.fresh k between other
     | inr between ↦ sym (first.others k other between) ∙ second.fresh k has between
-    ];
+  ];
   back = λ k had other. elim (is_lease b k) [
     | inl between ↦ second.back k between other
     | inr between ↦ second.others k between other ∙ first.back k had between
-    ];
+  ];
   others = λ j had has. elim (is_lease b j) [
     | inl between ↦ second.back j between has ∙ sym (first.fresh j between had)
     | inr between ↦ second.others j between has ∙ first.others j had between
-    ];
+  ];
   kept = λ j had has was_out. elim (is_lease b j) [
     | inl between ↦ absurd (let free = first.fresh j between had in cc (free, was_out))
     | inr between ↦ second.kept j between has (first.others j had between ∙ was_out) ∙ first.kept j had between was_out
-    ];
+  ];
 }

@@ -36,7 +36,8 @@ added t blocks b = opening t blocks ++ (own_part t blocks b ++ last_part t (bloc
 gated-added : (t : Target) (blocks : List Uf2) (b : Uf2) → t.gated ≡ true → is_whole blocks ≡ false
     → placed t (blocks ++ b ∷ []) ≡ placed t blocks ++ added t blocks b
 gated-added t [] b gated few =
-    rw gated (ap (λ (steps : List Step). Erase (first_in t.window) ∷ (steps ++ (if is_whole (b ∷ []) then final_steps t.window (b ∷ []) else [])))
+    rw gated (ap (λ (steps : List Step). Erase (first_in t.window) ∷ (steps ++ (if is_whole
+    (b ∷ []) then final_steps t.window (b ∷ []) else [])))
     (append-nil (later_steps t.window [] b)))
 gated-added t (x ∷ xs) b gated few =
     rw gated (gated-more t.window x xs (b ∷ []) few
@@ -102,6 +103,7 @@ module _ (pool : Pool) (marks : Marked) (c : Current) (blocks : List Uf2) (b : U
           → (is_some held && lies_in c.target.window (first_in c.target.window) b) ≡ x
           → (c.target.gated && lies_in c.target.window (first_in c.target.window) b) ≡ x
       gate held same x is = rw (← same) is
+
       by : (x : Bool) → is_held_back c b ≡ x → put_steps c marks b ≡ own_part c.target blocks b
       by true is = rw is (put-here c.target.gated (gate c.held (held-gated c.held f.held) true is))
       by false is =
@@ -114,5 +116,6 @@ module _ (pool : Pool) (marks : Marked) (c : Current) (blocks : List Uf2) (b : U
   pub grown-parts : grown c.target blocks (blocks ++ b ∷ [])
       ≡ open_steps c ++ (put_steps c marks b ++ last_part c.target (blocks ++ b ∷ []))
   grown-parts = grown-added
-      ∙ ap (λ (steps : List Step). steps ++ (own_part c.target blocks b ++ last_part c.target (blocks ++ b ∷ []))) (sym open-is)
+      ∙ ap (λ (steps : List Step). steps ++ (own_part c.target blocks b ++ last_part c.target (blocks ++ b ∷ [])))
+      (sym open-is)
       ∙ ap (λ (steps : List Step). open_steps c ++ (steps ++ last_part c.target (blocks ++ b ∷ []))) (sym put-is)

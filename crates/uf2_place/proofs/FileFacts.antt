@@ -23,7 +23,8 @@ front-more (o ∷ old) xs (n ∷ new) e =
 pub kept-more : (old xs mid new : List ℕ) → mid ≡ old ++ xs → IsKept mid new → IsKept old new
 kept-more old xs mid new is kept = front-more old xs new (subst (λ front. IsKept front new) is kept)
 
-part-taken : (image : List ℕ) (start n : ℕ) → take (min (length image) (start + n) - start) (drop start image) ≡ take (start + n - start) (drop start image)
+part-taken : (image : List ℕ) (start n : ℕ) → take (min (length image) (start + n) - start) (drop start image)
+    ≡ take (start + n - start) (drop start image)
 part-taken image start n =
     let e : min (length image) (start + n) - start ≡ min (start + n - start) (length (drop start image)) =
     omega (arith, length-drop start image) in
@@ -37,7 +38,8 @@ page-filled image start end n is =
     let same : slice_range image start end ≡ slice_range image start (start + n) =
     ap (λ k. take (k - start) (drop start image)) is ∙ part-taken image start n in
     subst (λ (part : List ℕ). part ++ drop (length part) (replicate n 255)
-    ≡ slice_range image start (start + n) ++ replicate (n - length (slice_range image start (start + n))) 255) (sym same)
+    ≡ slice_range image start (start + n) ++ replicate (n - length (slice_range image start (start + n))) 255)
+    (sym same)
     (ap (λ (fill : List ℕ). slice_range image start (start + n) ++ fill)
     (drop-replicate (length (slice_range image start (start + n))) n 255))
 
@@ -51,7 +53,8 @@ file-more write f old now new k b so_far block added =
     ≡ flat_map write (map f (range_with_len 0 k)) ++ write (f k) =
     ap (flat_map write) (map-range_with_len_more f 0 k k (omega arith))
     ∙ flat_map-append write (map f (range_with_len 0 k)) (f k ∷ [])
-    ∙ ap (λ xs. flat_map write (map f (range_with_len 0 k)) ++ xs) (subst (λ (c : Uf2). flat_map write (c ∷ []) ≡ write c) block one) in
+    ∙ ap (λ xs. flat_map write (map f (range_with_len 0 k)) ++ xs) (subst (λ (c : Uf2). flat_map write (c ∷ [])
+    ≡ write c) block one) in
     let before : List ℕ = flat_map write (map f (range_with_len 0 k)) in
     added ∙ rw (so_far, block) (append_assoc old before (write (f k))) ∙ ap (λ (xs : List ℕ). old ++ xs) (sym more)
 
@@ -108,5 +111,6 @@ file-piece image family i few low inside =
     λ j within. get_or-map-range_with_len f 0 count j j (f 0) within (omega arith) in
     even-piece written 512 blocks i (f 0)
     (λ j within. ap (λ b. length (written b)) (at j (omega (arith, within, size)))
-    ∙ written-size (f j) (file_block-is image family j few low (omega (arith, within, size)))) (omega (arith, inside, size))
+    ∙ written-size (f j) (file_block-is image family j few low (omega (arith, within, size)))) (omega
+    (arith, inside, size))
     ∙ ap written (at i inside)

@@ -109,13 +109,15 @@ elsewhere-held pool t blocks b h holds away = record {
   gated = holds.gated;
   out = holds.out;
   pages = λ i low.
-      let other : nat_eq (page_in t.window b) (16 * first_in t.window + i) ≡ false = grind (arith, nat_tests, away, low) in
+      let other : nat_eq (page_in t.window b) (16 * first_in t.window + i)
+      ≡ false = grind (arith, nat_tests, away, low) in
       holds.pages i low
       ∙ ap (λ c. if c then Some b.page else last_for t.window (16 * first_in t.window + i) blocks) (sym other)
       ∙ next-page t.window (16 * first_in t.window + i) blocks b;
 }
 
-elsewhere-holds : (pool : Pool) (t : Target) (blocks : List Uf2) (b : Uf2) (held : Option Held) → Holds pool t blocks held
+elsewhere-holds : (pool : Pool) (t : Target) (blocks : List Uf2) (b : Uf2) (held : Option Held)
+    → Holds pool t blocks held
     → (is_some held && lies_in t.window (first_in t.window) b) ≡ false → Holds pool t (blocks ++ b ∷ []) held
 elsewhere-holds pool t blocks b None plain away = plain
 elsewhere-holds pool t blocks b (Some h) holds away = elsewhere-held pool t blocks b h holds away
@@ -125,7 +127,8 @@ back-here None here is = cc is
 back-here (Some h) here is = is
 
 module _ (pool : Pool) (marks : Marked) (c : Current) (blocks : List Uf2) (b : Uf2)
-    (f : Follows pool marks c blocks) (next : IsNext c blocks b) (is : IsUf2 b) (inside : IsInside c.target.window b) where
+    (f : Follows pool marks c blocks) (next : IsNext c blocks b) (is : IsUf2 b)
+    (inside : IsInside c.target.window b) where
   -- the download with the block more, where its marks and held pages are those of the block more
   follow : (after : Pool) (put later : Marked) (mid new : Current)
       → TakesNumber b mid put new later → mid.family ≡ c.family → mid.count ≡ c.count → mid.target ≡ c.target
@@ -134,7 +137,14 @@ module _ (pool : Pool) (marks : Marked) (c : Current) (blocks : List Uf2) (b : U
       → is_marked put.sectors s ≡ list_any (lies_in c.target.window s) (blocks ++ b ∷ []))
       → Holds after c.target (blocks ++ b ∷ []) mid.held → Follows after later new (blocks ++ b ∷ [])
   follow after put later mid new takes same_family same_count same_target same_left numbers sectors held =
-      let moved : new ≡ record { family = c.family; count = c.count; target = c.target; left = new.left; held = mid.held } =
+      let moved : new ≡ record {
+        family = c.family;
+        count = c.count;
+        target = c.target;
+        left = new.left;
+        held =
+            mid.held;
+      } =
       takes.rest ∙ rw (same_family, same_count, same_target) refl in
       let left : new.left + 1 ≡ c.left = takes.left ∙ same_left in
       subst (λ d. Follows after later d (blocks ++ b ∷ [])) (sym moved) (record {
@@ -155,8 +165,10 @@ module _ (pool : Pool) (marks : Marked) (c : Current) (blocks : List Uf2) (b : U
   follow-held after put later mid new back same holds takes =
       let here : nat_eq (sector_in c.target.window b) (first_in c.target.window) ≡ true = back-here c.held _ back in
       let some : 1 ≤ c.left = omega (arith, takes.left, ap (λ (d : Current). d.left) holds.has) in
-      let gated : c.target.gated ≡ true = sym (held-gated pool marks c blocks b f some c.held f.held) ∙ ap is_some holds.had in
-      follow after put later mid new takes (ap (λ (d : Current). d.family) holds.has) (ap (λ (d : Current). d.count) holds.has)
+      let gated : c.target.gated ≡ true = sym (held-gated pool marks c blocks b f some c.held f.held)
+      ∙ ap is_some holds.had in
+      follow after put later mid new takes (ap (λ (d : Current). d.family) holds.has) (ap (λ
+      (d : Current). d.count) holds.has)
       (ap (λ (d : Current). d.target) holds.has) (ap (λ (d : Current). d.left) holds.has)
       (ap (λ (m : Marked). m.numbers) same)
       (λ s other. ap (λ (m : Marked). is_marked m.sectors s) same ∙ f.sectors s other
@@ -167,7 +179,8 @@ module _ (pool : Pool) (marks : Marked) (c : Current) (blocks : List Uf2) (b : U
       (next-held pool after c.target blocks b holds.former holds.now holds.page.0
       (subst (λ (held : Option Held). Holds pool c.target blocks held) holds.had f.held) holds.page.1 holds.page.2))
     where
-      away : (s : ℕ) → s ≢ first_in c.target.window → nat_eq (sector_in c.target.window b) (first_in c.target.window) ≡ true
+      away : (s : ℕ) → s ≢ first_in c.target.window → nat_eq (sector_in c.target.window b) (first_in c.target.window)
+          ≡ true
           → nat_eq (sector_in c.target.window b) s ≡ false
       away s other here = grind (arith, nat_tests, other, here)
 
@@ -181,7 +194,8 @@ module _ (pool : Pool) (marks : Marked) (c : Current) (blocks : List Uf2) (b : U
       (λ s other. marked.sectors s
       ∙ ap (λ o. if nat_eq (sector_in c.target.window b) s then true else o) (f.sectors s other)
       ∙ next-sector c.target.window blocks b s)
-      (subst (λ (held : Option Held). Holds after c.target (blocks ++ b ∷ []) held) (sym (ap (λ (d : Current). d.held) same))
+      (subst (λ (held : Option Held). Holds after c.target (blocks ++ b ∷ []) held) (sym (ap (λ
+      (d : Current). d.held) same))
       (subst (λ p. Holds p c.target (blocks ++ b ∷ []) c.held) (sym kept)
       (elsewhere-holds pool c.target blocks b c.held f.held away)))
 
@@ -203,17 +217,23 @@ held-last pool marks c (b ∷ bs) f some = by c.held f.held
   where
     count-is : (c.left == 0) ≡ is_whole (b ∷ bs)
     count-is = let left = f.left in let same = f.are.each.0.same_count in grind (arith, nat_tests, left, same)
+
     by : (held : Option Held) → Holds pool c.target (b ∷ bs) held → held_steps pool c held ≡ last_part c.target (b ∷ bs)
     by None plain = rw plain refl
     by (Some h) holds =
-        rw (holds.gated, count-is, programs-same (first_in c.target.window) (held_page h.pages (bytes_of pool h.lease))
-        (λ i. last_for c.target.window (16 * first_in c.target.window + i) (b ∷ bs)) holds.pages) refl
+        rw (
+          holds.gated,
+          count-is,
+          programs-same (first_in c.target.window) (held_page h.pages (bytes_of pool h.lease))
+              (λ i. last_for c.target.window (16 * first_in c.target.window + i) (b ∷ bs)) holds.pages,
+        ) refl
 
 push-some : (blocks : List Uf2) (b : Uf2) → blocks ++ b ∷ [] ≢ []
 push-some [] b same = cc same
 push-some (x ∷ xs) b same = cc same
 
-pub held-last_push : (pool : Pool) (marks : Marked) (c : Current) (blocks : List Uf2) (b : Uf2) (t : Target) → c.target ≡ t
+pub held-last_push : (pool : Pool) (marks : Marked) (c : Current) (blocks : List Uf2) (b : Uf2) (t : Target)
+    → c.target ≡ t
     → Follows pool marks c (blocks ++ b ∷ []) → held_steps pool c c.held ≡ last_part t (blocks ++ b ∷ [])
 held-last_push pool marks c blocks b t same f =
     held-last pool marks c (blocks ++ b ∷ []) f (push-some blocks b) ∙ ap (λ u. last_part u (blocks ++ b ∷ [])) same

@@ -22,13 +22,15 @@ all-in_turn P Q steps each before (b ∷ bs) all =
     all-append P (steps before b) (in_turn steps (before ++ b ∷ []) bs) (each before b all.0)
     (all-in_turn P Q steps each (before ++ b ∷ []) bs all.1)
 
-fresh-all : (P : Step → Type 0) (erased : Bool) (sector page : ℕ) (bytes : List ℕ) → P (Erase sector) → P (Program page bytes)
+fresh-all : (P : Step → Type 0) (erased : Bool) (sector page : ℕ) (bytes : List ℕ) → P (Erase sector)
+    → P (Program page bytes)
     → AllByRecursion P (fresh_steps erased sector page bytes)
 fresh-all P true sector page bytes erase program = (program, tt)
 fresh-all P false sector page bytes erase program = (erase, (program, tt))
 
 -- a block's own steps lie in the window
-own-confined : (w : Window) (before : List Uf2) (b : Uf2) → HasWholeSectors w → IsInside w b → Confined (own_steps w before b) w
+own-confined : (w : Window) (before : List Uf2) (b : Uf2) → HasWholeSectors w → IsInside w b
+    → Confined (own_steps w before b) w
 own-confined w before b whole inside =
     let start = whole.start in
     let len = whole.len in
@@ -40,8 +42,13 @@ own-confined w before b whole inside =
 own-elsewhere : (w : Window) (before : List Uf2) (b : Uf2) → sector_in w b ≢ first_in w
     → AllByRecursion (IsElsewhere (first_in w)) (own_steps w before b)
 own-elsewhere w before b other =
-    fresh-all (IsElsewhere (first_in w)) (list_any (lies_in w (sector_in w b)) before) (sector_in w b) (page_in w b) b.page
-    other (elim (cases_lt (sector_in w b) (first_in w)) [ inl low ↦ inl (omega (arith, low)) | inr high ↦ inr (omega (arith, high, other)) ])
+    fresh-all (IsElsewhere (first_in w)) (list_any (lies_in w (sector_in w b)) before) (sector_in w b)
+    (page_in w b) b.page
+    other (elim (cases_lt (sector_in w b) (first_in w)) [
+      | inl low ↦ inl (omega (arith, low))
+      | inr high ↦ inr (omega
+          (arith, high, other))
+    ])
 
 later-all : (P : Step → Type 0) (w : Window) (before : List Uf2) (b : Uf2)
     → (sector_in w b ≢ first_in w → AllByRecursion P (own_steps w before b)) → AllByRecursion P (later_steps w before b)
@@ -57,8 +64,10 @@ programs-from : (s a n : ℕ) (f : ℕ → Option (List ℕ)) (P : Step → Type
     → AllByRecursion P (flat_map (λ i. program_of (16 * s + i) (f i)) (range_with_len a n))
 programs-from s a zero f P each = tt
 programs-from s a (suc n) f P each =
-    all-append P (program_of (16 * s + a) (f a)) (flat_map (λ i. program_of (16 * s + i) (f i)) (range_with_len (a + 1) n))
-    (here (f a)) (programs-from s (a + 1) n f P (λ i bytes low high. each i bytes (omega (arith, low)) (omega (arith, high))))
+    all-append P (program_of (16 * s + a) (f a)) (flat_map (λ i. program_of (16 * s + i) (f i)) (range_with_len
+    (a + 1) n))
+    (here (f a)) (programs-from s (a + 1) n f P (λ i bytes low high. each i bytes (omega (arith, low)) (omega
+    (arith, high))))
   where
     here : (o : Option (List ℕ)) → AllByRecursion P (program_of (16 * s + a) o)
     here None = tt
@@ -74,12 +83,14 @@ abbrev pub programs_above : (s a n : ℕ) → (ℕ → Option (List ℕ)) → Li
 programs_above s a n f = flat_map (λ i. program_of (16 * s + i) (f i)) (range_with_len a n)
 
 pages-above : (s a n x : ℕ) (f : ℕ → Option (List ℕ)) → x < 16 * s + a
-    → AllByRecursion (λ y. nat_eq x y ≡ false) (pages_of (flat_map (λ i. program_of (16 * s + i) (f i)) (range_with_len a n)))
+    → AllByRecursion (λ y. nat_eq x y ≡ false) (pages_of (flat_map (λ i. program_of (16 * s + i) (f i))
+    (range_with_len a n)))
 pages-above s a zero x f low = tt
 pages-above s a (suc n) x f low = by (f a) (pages-above s (a + 1) n x f (omega (arith, low)))
   where
     by : (o : Option (List ℕ)) → AllByRecursion (λ y. nat_eq x y ≡ false) (pages_of (programs_above s (a + 1) n f))
-        → AllByRecursion (λ y. nat_eq x y ≡ false) (pages_of (program_of (16 * s + a) o ++ programs_above s (a + 1) n f))
+        → AllByRecursion (λ y. nat_eq x y ≡ false) (pages_of (program_of (16 * s + a) o ++ programs_above s
+        (a + 1) n f))
     by None rest = rest
     by (Some bytes) rest = (grind (arith, nat_tests, low), rest)
 
@@ -89,10 +100,13 @@ pages-distinct s a zero f = IsDistinct-none
 pages-distinct s a (suc n) f =
     by (f a) (pages-above s (a + 1) n (16 * s + a) f (omega arith)) (pages-distinct s (a + 1) n f)
   where
-    by : (o : Option (List ℕ)) → AllByRecursion (λ y. nat_eq (16 * s + a) y ≡ false) (pages_of (programs_above s (a + 1) n f))
-        → IsDistinct nat_eq (pages_of (programs_above s (a + 1) n f)) → IsDistinct nat_eq (pages_of (program_of (16 * s + a) o ++ programs_above s (a + 1) n f))
+    by : (o : Option (List ℕ)) → AllByRecursion (λ y. nat_eq (16 * s + a) y
+        ≡ false) (pages_of (programs_above s (a + 1) n f))
+        → IsDistinct nat_eq (pages_of (programs_above s (a + 1) n f))
+        → IsDistinct nat_eq (pages_of (program_of (16 * s + a) o ++ programs_above s (a + 1) n f))
     by None differ distinct = distinct
-    by (Some bytes) differ distinct = IsDistinct-more (16 * s + a) (pages_of (programs_above s (a + 1) n f)) differ distinct
+    by (Some bytes) differ distinct = IsDistinct-more (16 * s + a) (pages_of (programs_above s
+        (a + 1) n f)) differ distinct
 
 pub programs-distinct : (s : ℕ) (f : ℕ → Option (List ℕ)) → IsDistinct nat_eq (pages_of (programs_in s f))
 unfolding programs_in
@@ -117,7 +131,11 @@ module _ (t : Target) (blocks : List Uf2) (is : HasWholeSectors t.window) where
 
   last-final : (there : Bool) → AllByRecursion (IsProgramIn (first_in t.window)) (last there)
   last-final true =
-      programs-all (first_in t.window) _ (IsProgramIn (first_in t.window)) (λ i bytes low. (omega arith, omega (arith, low)))
+      programs-all (first_in t.window) _ (IsProgramIn (first_in t.window)) (λ i bytes low. (
+        omega arith,
+        omega
+            (arith, low),
+      ))
   last-final false = tt
 
   last-distinct : (there : Bool) → IsDistinct nat_eq (pages_of (last there))
@@ -131,18 +149,28 @@ module _ (t : Target) (blocks : List Uf2) (is : HasWholeSectors t.window) where
       let len = is.len in
       let w = t.window in
       let elsewhere = in_turn (later_steps w) [] blocks in
-      inr (first_in w, elsewhere, last (is_whole blocks), record {
-        whole = refl;
-        first = omega arith;
-        confined = ((omega arith, omega arith), all-append (IsConfined w) elsewhere (last (is_whole blocks))
-            (all-in_turn (IsConfined w) (IsInside w) (later_steps w)
-            (λ before b here. later-all (IsConfined w) w before b (λ other. own-confined w before b is here)) [] blocks inside)
-            (last-confined (is_whole blocks)));
-        apart = all-in_turn (IsElsewhere (first_in w)) (IsInside w) (later_steps w)
-            (λ before b here. later-all (IsElsewhere (first_in w)) w before b (own-elsewhere w before b)) [] blocks inside;
-        final = last-final (is_whole blocks);
-        distinct = last-distinct (is_whole blocks);
-      })
+      inr (
+        first_in w,
+        elsewhere,
+        last (is_whole blocks),
+        record {
+          whole = refl;
+          first = omega arith;
+          confined = (
+            (omega arith, omega arith),
+            all-append (IsConfined w) elsewhere (last (is_whole blocks))
+                (all-in_turn (IsConfined w) (IsInside w) (later_steps w)
+                (λ before b here. later-all (IsConfined w) w before b
+                (λ other. own-confined w before b is here)) [] blocks inside)
+                (last-confined (is_whole blocks)),
+          );
+          apart = all-in_turn (IsElsewhere (first_in w)) (IsInside w) (later_steps w)
+              (λ before b here. later-all (IsElsewhere (first_in w)) w before b
+              (own-elsewhere w before b)) [] blocks inside;
+          final = last-final (is_whole blocks);
+          distinct = last-distinct (is_whole blocks);
+        },
+      )
 
 pub gated-download : (t : Target) (family count : ℕ) (blocks : List Uf2) → t.gated ≡ true
     → AreBlocks t family count blocks → AllByRecursion (IsInside t.window) blocks → Gated (placed t blocks) t.window

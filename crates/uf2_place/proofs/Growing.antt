@@ -20,7 +20,8 @@ pub in_turn-append : (steps : List Uf2 → Uf2 → List Step) (before xs ys : Li
 in_turn-append steps before [] ys = ap (λ (bs : List Uf2). in_turn steps bs ys) (sym (append-nil before))
 in_turn-append steps before (x ∷ xs) ys =
     ap (λ (rest : List Step). steps before x ++ rest) (in_turn-append steps (before ++ x ∷ []) xs ys
-    ∙ ap (λ (bs : List Uf2). in_turn steps (before ++ x ∷ []) xs ++ in_turn steps bs ys) (append_assoc before (x ∷ []) xs))
+    ∙ ap (λ (bs : List Uf2). in_turn steps (before ++ x ∷ []) xs ++ in_turn steps bs ys) (append_assoc before
+    (x ∷ []) xs))
     ∙ sym (append_assoc (steps before x) (in_turn steps (before ++ x ∷ []) xs) (in_turn steps (before ++ x ∷ xs) ys))
 
 pub numbers-below : (family count : ℕ) (blocks : List Uf2) → AllByRecursion (IsBlockOf family count) blocks
@@ -30,7 +31,8 @@ numbers-below family count (b ∷ bs) each =
     (omega (arith, each.0.is.number, each.0.same_count), numbers-below family count bs each.1)
 
 -- there are no more blocks than their count says
-pub few-blocks : (t : Target) (family count : ℕ) (blocks : List Uf2) → AreBlocks t family count blocks → length blocks ≤ count
+pub few-blocks : (t : Target) (family count : ℕ) (blocks : List Uf2) → AreBlocks t family count blocks
+    → length blocks ≤ count
 few-blocks t family count blocks are =
     omega (
       arith,
@@ -96,7 +98,8 @@ grown-is t xs ys more whole = ap (drop (length (placed t xs))) whole ∙ drop-ap
 pub grow : (t : Target) (family count : ℕ) (xs ys : List Uf2) → AreBlocks t family count (xs ++ ys)
     → placed t (xs ++ ys) ≡ placed t xs ++ grown t xs (xs ++ ys)
 grow t family count xs [] are =
-    let same : placed t (xs ++ []) ≡ placed t xs ++ [] = ap (placed t) (append-nil xs) ∙ sym (append-nil (placed t xs)) in
+    let same : placed t (xs ++ []) ≡ placed t xs ++ [] = ap (placed t) (append-nil xs)
+    ∙ sym (append-nil (placed t xs)) in
     same ∙ ap (λ (steps : List Step). placed t xs ++ steps) (sym (grown-is t xs [] [] same))
 grow t family count xs (y ∷ ys) are =
     let few : length xs < count =
@@ -112,8 +115,7 @@ whole-has_all t family count [] are some = (λ whole. cc whole, λ there. cc (th
 whole-has_all t family count (b ∷ bs) are some =
     let size = length-map (b ∷ bs) (λ (b : Uf2). b.number) in
     let same = are.each.0.same_count in
-    let few = few-blocks t family count (b ∷ bs) are in
-    (
+    let few = few-blocks t family count (b ∷ bs) are in (
       λ whole. each-number count (numbers_of (b ∷ bs)) (numbers-below family count (b ∷ bs) are.each) are.distinct
           (grind (arith, nat_tests, whole, same, size)),
       λ there. grind (arith, nat_tests, same, size, few, all-numbers count (numbers_of (b ∷ bs)) there),

@@ -48,7 +48,8 @@ above-same s a (suc n) f g same =
     (above-same s (a + 1) n f g (λ i low. same i (omega (arith, low)))))
 
 -- the same pages have the same programs
-pub programs-same : (s : ℕ) (f g : ℕ → Option (List ℕ)) → ((i : ℕ) → i < 16 → f i ≡ g i) → programs_in s f ≡ programs_in s g
+pub programs-same : (s : ℕ) (f g : ℕ → Option (List ℕ)) → ((i : ℕ) → i < 16 → f i ≡ g i)
+    → programs_in s f ≡ programs_in s g
 unfolding programs_in
 programs-same s f g same = above-same s 0 16 f g (λ i low. same i (omega (arith, low)))
 
@@ -70,11 +71,19 @@ patched-here xs at page within long =
 patched-size : (xs : List ℕ) (at : ℕ) (page : List ℕ) → at + 256 ≤ length xs → length page ≡ 256
     → length (patched xs at page) ≡ length xs
 patched-size xs at page within long =
-    omega (arith, length-append (take at xs) (page ++ drop (at + 256) xs), length-append page (drop (at + 256) xs),
-    length-take at xs, length-drop (at + 256) xs, within, long)
+    omega (
+      arith,
+      length-append (take at xs) (page ++ drop (at + 256) xs),
+      length-append page (drop (at + 256) xs),
+      length-take at xs,
+      length-drop (at + 256) xs,
+      within,
+      long,
+    )
 
 patched-other : (xs : List ℕ) (at other : ℕ) (page : List ℕ) → at + 256 ≤ length xs → length page ≡ 256
-    → (other + 256 ≤ at) ⊎ (at + 256 ≤ other) → slice_range (patched xs at page) other (other + 256) ≡ slice_range xs other (other + 256)
+    → (other + 256 ≤ at) ⊎ (at + 256 ≤ other) → slice_range (patched xs at page) other (other + 256)
+    ≡ slice_range xs other (other + 256)
 patched-other xs at other page within long apart =
     slice_range_ext (patched xs at page) xs other (other + 256) (patched-size xs at page within long)
     (λ i low high. grind (arith, places, within, long, apart, low, high))
@@ -93,32 +102,41 @@ page-held place page old pool bytes after pages low stood size long set copied =
   pages = λ i small. elim (differ place i) [
     | inl same ↦ here i same
     | inr other ↦ there i small other
-    ];
+  ];
   kept = KeepsOutBut-written pool old.lease after;
 }
   where
     before : bytes_of pool old.lease ≡ bytes
     before = get_or_from_slice_get pool.sectors old.lease bytes [] stood
+
     now : bytes_of (written pool old.lease after) old.lease ≡ patched bytes (256 * place) page
     now = get_or-set_same pool.sectors old.lease after [] (slice_get_within _ _ _ stood) ∙ copied
+
     here : (i : ℕ) → place ≡ i → held_page pages (bytes_of (written pool old.lease after) old.lease) i
         ≡ (if nat_eq place i then Some page else held_page old.pages (bytes_of pool old.lease) i)
     here i same =
-        let one : bit_at pages place ≡ 1 = ap (λ w. bit_at w place) set ∙ bit_at_set_same w16 old.pages place (omega (arith, low)) in
+        let one : bit_at pages place ≡ 1 = ap (λ w. bit_at w place) set
+        ∙ bit_at_set_same w16 old.pages place (omega (arith, low)) in
         let held : held_page pages (bytes_of (written pool old.lease after) old.lease) place ≡ Some page =
         held-at pages (bytes_of (written pool old.lease after) old.lease) place one
         ∙ ap (λ bs. Some (slice_range bs (256 * place) (256 * place + 256))) now
         ∙ ap Some (patched-here bytes (256 * place) page (omega (arith, size, low)) long) in
         rw ((Decides-eqb place i).1 same)
         (subst (λ k. held_page pages (bytes_of (written pool old.lease after) old.lease) k ≡ Some page) same held)
+
     there : (i : ℕ) → i < 16 → place ≢ i → held_page pages (bytes_of (written pool old.lease after) old.lease) i
         ≡ (if nat_eq place i then Some page else held_page old.pages (bytes_of pool old.lease) i)
     there i small other =
         let away : nat_eq place i ≡ false = grind (arith, nat_tests, other) in
         let bit : bit_at pages i ≡ bit_at old.pages i =
-        ap (λ w. bit_at w i) set ∙ bit_at_set_other w16 old.pages place (omega (arith, low)) i (λ same. other (sym same)) in
+        ap (λ w. bit_at w i) set ∙ bit_at_set_other w16 old.pages place (omega (arith, low)) i (λ same. other
+        (sym same)) in
         let apart : (256 * i + 256 ≤ 256 * place) ⊎ (256 * place + 256 ≤ 256 * i) =
-        elim (cases_lt i place) [ inl below ↦ inl (omega (arith, below)) | inr above ↦ inr (omega (arith, above, other)) ] in
+        elim (cases_lt i place) [
+          | inl below ↦ inl (omega (arith, below))
+          | inr above ↦ inr (omega
+              (arith, above, other))
+        ] in
         let same : slice_range (bytes_of (written pool old.lease after) old.lease) (256 * i) (256 * i + 256)
         ≡ slice_range (bytes_of pool old.lease) (256 * i) (256 * i + 256) =
         ap (λ bs. slice_range bs (256 * i) (256 * i + 256)) now

@@ -80,7 +80,14 @@ written-read b is =
     let fields : fields_of (written b) ≡ b = same-fields _ _ _ _ _ _ _ _ _ _ _ _
     (written-flags b is.flags) (written-address b is.address) (written-number b (omega arith))
     (written-count b (omega arith)) (written-family b is.family) (written-page b is.page) in
-    rw (magic, written-payload b, written-address b is.address, written-number b (omega arith), written-count b (omega arith))
+    rw (
+      magic,
+      written-payload b,
+      written-address b is.address,
+      written-number b (omega arith),
+      written-count b
+          (omega arith),
+    )
     (grind (arith, common_steps, fields, is.aligned, is.some, is.few, is.number))
   where
     same-fields : (f f' a a' n n' c c' m m' : ℕ) (p p' : List ℕ) → f ≡ f' → a ≡ a' → n ≡ n' → c ≡ c' → m ≡ m' → p ≡ p'

@@ -47,7 +47,8 @@ pub record IsAimed (table : Option Table) (b : Uf2) (t : Target) : Type 0 where
 
 aimed-is : (table : Option Table) (b : Uf2) (t : Target) (go r : Ruling) → Goes r → aimed table b t go ≡ r
     → IsAimed table b t × (go ≡ r)
-aimed-is table b t go r goes = by (is_within t.window.len b) refl (allowed_by table (sector_in t.window b) BootWrite) refl
+aimed-is table b t go r goes = by (is_within t.window.len b) refl (allowed_by table
+    (sector_in t.window b) BootWrite) refl
   where
     by : (x : Bool) → is_within t.window.len b ≡ x → (y : Bool) → allowed_by table (sector_in t.window b) BootWrite ≡ y
         → aimed table b t go ≡ r → IsAimed table b t × (go ≡ r)
@@ -57,7 +58,8 @@ aimed-is table b t go r goes = by (is_within t.window.len b) refl (allowed_by ta
     by false within y may is = absurd (goes (Err Outside) (sym is ∙ rw within refl))
 
 -- what is said of a block that begins a download into t
-pub record IsBegun (table : Option Table) (given : Option Target) (current : Option Current) (b : Uf2) (t : Target) : Type 0 where
+pub record IsBegun (table : Option Table) (given : Option Target) (current : Option Current) (b : Uf2)
+    (t : Target) : Type 0 where
   pub given_is : given ≡ Some t
   pub aimed : IsAimed table b t
   pub new : continues current b ≡ false
@@ -77,12 +79,14 @@ begun-is table b (Some u) t is =
     let same : u ≡ t = cc found.1 in
     (subst (λ v. IsAimed table b v) same found.0, ap Some same)
 
-begun-not : (table : Option Table) (b : Uf2) (given : Option Target) (t : Target) → begun table b given ≡ Continues t → ⊥
+begun-not : (table : Option Table) (b : Uf2) (given : Option Target) (t : Target) → begun table b given ≡ Continues t
+    → ⊥
 begun-not table b None t is = cc is
 begun-not table b (Some u) t is =
     let found = aimed-is table b u (Begins u) (Continues t) (continues-goes t) is in cc found.1
 
-continued-is : (table : Option Table) (numbers : List ℕ) (b : Uf2) (u t : Target) → continued table numbers b u ≡ Continues t
+continued-is : (table : Option Table) (numbers : List ℕ) (b : Uf2) (u t : Target)
+    → continued table numbers b u ≡ Continues t
     → IsAimed table b u × (u ≡ t) × (is_marked numbers b.number ≡ false)
 continued-is table numbers b u t = by (is_marked numbers b.number) refl
   where
@@ -93,24 +97,29 @@ continued-is table numbers b u t = by (is_marked numbers b.number) refl
         let found = aimed-is table b u (Continues u) (Continues t) (continues-goes t) (sym (rw marked refl) ∙ is) in
         (found.0, cc found.1, marked)
 
-continued-not : (table : Option Table) (numbers : List ℕ) (b : Uf2) (u t : Target) → continued table numbers b u ≡ Begins t → ⊥
+continued-not : (table : Option Table) (numbers : List ℕ) (b : Uf2) (u t : Target)
+    → continued table numbers b u ≡ Begins t → ⊥
 continued-not table numbers b u t = by (is_marked numbers b.number) refl
   where
     by : (x : Bool) → is_marked numbers b.number ≡ x → continued table numbers b u ≡ Begins t → ⊥
     by true marked is = begins-goes t (Ok Again) (sym is ∙ rw marked refl)
     by false marked is =
-        let found = aimed-is table b u (Continues u) (Begins t) (begins-goes t) (sym (rw marked refl) ∙ is) in cc found.1
+        let found = aimed-is table b u (Continues u) (Begins t) (begins-goes t) (sym (rw marked refl)
+        ∙ is) in cc found.1
 
 -- the ruling on a block that is not skipped
-ruled-is : (n : ℕ) (table : Option Table) (given : Option Target) (numbers : List ℕ) (current : Option Current) (b : Uf2)
+ruled-is : (n : ℕ) (table : Option Table) (given : Option Target) (numbers : List ℕ) (current : Option Current)
+    (b : Uf2)
     (r : Ruling) → Goes r → ruling n table given numbers current b ≡ r → ruled table given numbers b current ≡ r
 ruled-is n table given numbers current b r goes = by (is_skipped n b) refl
   where
-    by : (x : Bool) → is_skipped n b ≡ x → ruling n table given numbers current b ≡ r → ruled table given numbers b current ≡ r
+    by : (x : Bool) → is_skipped n b ≡ x → ruling n table given numbers current b ≡ r
+        → ruled table given numbers b current ≡ r
     by true skipped is = absurd (goes (Ok Skipped) (sym is ∙ rw skipped refl))
     by false skipped is = sym (rw skipped refl) ∙ is
 
-pub ruling-begins : (n : ℕ) (table : Option Table) (given : Option Target) (numbers : List ℕ) (current : Option Current) (b : Uf2)
+pub ruling-begins : (n : ℕ) (table : Option Table) (given : Option Target) (numbers : List ℕ) (current : Option Current)
+    (b : Uf2)
     (t : Target) → ruling n table given numbers current b ≡ Begins t → IsBegun table given current b t
 ruling-begins n table given numbers current b t is =
     by current (ruled-is n table given numbers current b (Begins t) (begins-goes t) is)
@@ -119,20 +128,23 @@ ruling-begins n table given numbers current b t is =
     by None is = let found = begun-is table b given t is in record { given_is = found.1; aimed = found.0; new = refl }
     by (Some c) is = of (is_of c b) refl is
       where
-        of : (x : Bool) → is_of c b ≡ x → ruled table given numbers b (Some c) ≡ Begins t → IsBegun table given (Some c) b t
+        of : (x : Bool) → is_of c b ≡ x → ruled table given numbers b (Some c) ≡ Begins t
+            → IsBegun table given (Some c) b t
         of true same is = absurd (continued-not table numbers b c.target t (sym (rw same refl) ∙ is))
         of false same is =
             let found = begun-is table b given t (sym (rw same refl) ∙ is) in
             record { given_is = found.1; aimed = found.0; new = same }
 
-pub ruling-continues : (n : ℕ) (table : Option Table) (given : Option Target) (numbers : List ℕ) (current : Option Current)
+pub ruling-continues : (n : ℕ) (table : Option Table) (given : Option Target) (numbers : List ℕ)
+    (current : Option Current)
     (b : Uf2) (t : Target) (c : Current) → current ≡ Some c → ruling n table given numbers current b ≡ Continues t
     → IsContinued table numbers c b t
 ruling-continues n table given numbers current b t c here is =
     of (is_of c b) refl (subst (λ former. ruled table given numbers b former ≡ Continues t) here
     (ruled-is n table given numbers current b (Continues t) (continues-goes t) is))
   where
-    of : (x : Bool) → is_of c b ≡ x → ruled table given numbers b (Some c) ≡ Continues t → IsContinued table numbers c b t
+    of : (x : Bool) → is_of c b ≡ x → ruled table given numbers b (Some c) ≡ Continues t
+        → IsContinued table numbers c b t
     of true same is =
         let found = continued-is table numbers b c.target t (sym (rw same refl) ∙ is) in
         record {
@@ -148,7 +160,8 @@ pub next-first : (c : Current) (b : Uf2) → c.family ≡ b.family → c.count �
 next-first c b family count = record { family = sym family; count = sym count; fresh = refl }
 
 -- a block that continues a download comes next
-pub next-after : (pool : Pool) (marks : Marked) (table : Option Table) (c : Current) (blocks : List Uf2) (b : Uf2) (t : Target)
+pub next-after : (pool : Pool) (marks : Marked) (table : Option Table) (c : Current) (blocks : List Uf2) (b : Uf2)
+    (t : Target)
     → Follows pool marks c blocks → IsContinued table marks.numbers c b t → IsNext c blocks b
 next-after pool marks table c blocks b t f is = record {
   family = let same = is.same in grind (arith, nat_tests, common_steps, same);
@@ -162,7 +175,8 @@ pub rules-begins : (s : State) (table : Option Table) (given : Option Target) (d
 rules-begins s table given d b t is =
     ruling-begins (length s.content.flash) table given d.marks.numbers d.current b t is
 
-pub rules-continues : (s : State) (table : Option Table) (given : Option Target) (d : Kept) (b : Uf2) (t : Target) (c : Current)
+pub rules-continues : (s : State) (table : Option Table) (given : Option Target) (d : Kept) (b : Uf2) (t : Target)
+    (c : Current)
     → d.current ≡ Some c → rules s table given d b ≡ Continues t → IsContinued table d.marks.numbers c b t
 rules-continues s table given d b t c here is =
     ruling-continues (length s.content.flash) table given d.marks.numbers d.current b t c here is

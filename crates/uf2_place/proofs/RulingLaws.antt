@@ -1,5 +1,5 @@
 -- The answers before any step, each exactly where its rule holds and no earlier one.
-use Rattle.std.proofs.Common.{◌≡◌, ◌↔◌, ℕ, Bool, true, false, if◌then◌else◌, Ok, Err, Option, None, Some, List, arith, refl, sym, ap, subst, ◌∙◌}
+use Rattle.std.proofs.Common.{Result, ◌≡◌, ◌↔◌, ℕ, Bool, true, false, if◌then◌else◌, Ok, Err, Option, None, Some, List, arith, refl, sym, ap, subst, ◌∙◌}
 use Rattle.std.proofs.lemmas.Bool.Decides.{nat_tests}
 use Rattle.std.proofs.lemmas.Grind.{common_steps}
 use Rattle.pico_board.specs.declared.Window.{Window}
@@ -7,12 +7,15 @@ use Rattle.part_table.specs.declared.Right.TheVariants.{BootWrite}
 use Rattle.part_table.specs.declared.Table.{Table}
 use Rattle.part_table.specs.declared.Target.{Target}
 use Rattle.part_table.specs.Rights.{allowed_by}
+use Rattle.uf2_place.specs.declared.answer.Accepted.{Accepted}
 use Rattle.uf2_place.specs.declared.answer.Accepted.TheVariants.{Again, Skipped}
+use Rattle.uf2_place.specs.declared.answer.PlaceFault.{PlaceFault}
 use Rattle.uf2_place.specs.declared.answer.PlaceFault.TheVariants.{NoTarget, NotPermitted, Outside}
 use Rattle.uf2_place.specs.declared.answer.Ruling.{Ruling}
 use Rattle.uf2_place.specs.declared.answer.Ruling.TheVariants.{Answered, Begins, Continues}
 use Rattle.uf2_place.specs.declared.block.Uf2.{Uf2}
 use Rattle.uf2_place.specs.declared.current.Current.{Current}
+use Rattle.uf2_place.specs.Accepting.{has_power}
 use Rattle.uf2_place.specs.Marks.{is_marked}
 use Rattle.uf2_place.specs.Placement.{IsInside, sector_in}
 use Rattle.uf2_place.specs.Rulings.{GoesTo, aimed, begun, continues, is_of, is_skipped, is_within, ruled, ruling, target_of, wanted}
@@ -24,7 +27,8 @@ within-is w b inside =
     let below = inside.below in
     grind (arith, nat_tests, common_steps, above, below)
 
-module _ (n : ℕ) (table : Option Table) (given : Option Target) (taken : List ℕ) (current : Option Current) (b : Uf2) where
+module _ (n : ℕ) (table : Option Table) (given : Option Target) (taken : List ℕ) (current : Option Current)
+    (b : Uf2) where
   abbrev r : Ruling
   r = ruling n table given taken current b
 
@@ -92,8 +96,10 @@ module _ (n : ℕ) (table : Option Table) (given : Option Target) (taken : List 
     where
       by : (x : Bool) → is_of c b ≡ x → (y : Bool) → is_marked taken b.number ≡ y
           → target_of given taken b (Some c) ≡ Some t
-          → ruled table given taken b (Some c) ≡ aimed table b t (if continues (Some c) b then Continues t else Begins t)
-      by true same true mark to = let none : target_of given taken b (Some c) ≡ None = rw (same, mark) refl in cc (none, to)
+          → ruled table given taken b (Some c) ≡ aimed table b t (if continues
+          (Some c) b then Continues t else Begins t)
+      by true same true mark to = let none : target_of given taken b (Some c)
+          ≡ None = rw (same, mark) refl in cc (none, to)
       by true same false mark to =
           let here : target_of given taken b (Some c) ≡ Some c.target = rw (same, mark) refl in
           let equal : c.target ≡ t = cc (here, to) in
@@ -105,7 +111,8 @@ module _ (n : ℕ) (table : Option Table) (given : Option Target) (taken : List 
   aims-is : (t : Target) → GoesTo n given taken current b t → r ≡ aimed table b t (go t)
   aims-is t to = ruled-of to.kept ∙ aims-of t current to.target
 
-  out-is : (t : Target) → GoesTo n given taken current b t → is_within t.window.len b ≡ false → r ≡ Answered (Err Outside)
+  out-is : (t : Target) → GoesTo n given taken current b t → is_within t.window.len b ≡ false
+      → r ≡ Answered (Err Outside)
   out-is t to out = aims-is t to ∙ rw out refl
 
   barred-is : (t : Target) → GoesTo n given taken current b t → is_within t.window.len b ≡ true
@@ -132,9 +139,11 @@ module _ (n : ℕ) (table : Option Table) (given : Option Target) (taken : List 
 
   aimed-by : (t : Target) → GoesTo n given taken current b t → Is
   aimed-by t to =
-      by (is_within t.window.len b) refl (allowed_by table (sector_in t.window b) BootWrite) refl (continues current b) refl
+      by (is_within t.window.len b) refl (allowed_by table (sector_in t.window b) BootWrite) refl
+      (continues current b) refl
     where
-      by : (x : Bool) → is_within t.window.len b ≡ x → (y : Bool) → allowed_by table (sector_in t.window b) BootWrite ≡ y
+      by : (x : Bool) → is_within t.window.len b ≡ x → (y : Bool)
+          → allowed_by table (sector_in t.window b) BootWrite ≡ y
           → (z : Bool) → continues current b ≡ z → Is
       by false out y may z same = outside t to out (out-is t to out)
       by true within false may z same = barred t to within may (barred-is t to within may)
@@ -184,7 +193,8 @@ module _ (n : ℕ) (table : Option Table) (given : Option Target) (taken : List 
       by true within = absurd (out (inside-is w b within))
       by false within = within
 
-  pub outside-is : (r ≡ Answered (Err Outside)) ↔ ((t : Target) × GoesTo n given taken current b t × ¬ (IsInside t.window b))
+  pub outside-is : (r ≡ Answered (Err Outside)) ↔ ((t : Target) × GoesTo n given taken current b t × ¬
+      (IsInside t.window b))
   outside-is = (by is, λ p. out-is p.0 p.1 (not-within (p.0).window p.2))
     where
       by : Is → r ≡ Answered (Err Outside) → (t : Target) × GoesTo n given taken current b t × ¬ (IsInside t.window b)
@@ -196,7 +206,8 @@ module _ (n : ℕ) (table : Option Table) (given : Option Target) (taken : List 
       by (continuing t to within may same e) h = cc (e, h)
       by (beginning t to within may same e) h = cc (e, h)
 
-  pub not_permitted-is : (r ≡ Answered (Err NotPermitted)) ↔ ((t : Target) × GoesTo n given taken current b t × IsInside t.window b
+  pub not_permitted-is : (r ≡ Answered (Err NotPermitted)) ↔
+      ((t : Target) × GoesTo n given taken current b t × IsInside t.window b
       × (allowed_by table (sector_in t.window b) BootWrite ≡ false))
   not_permitted-is = (by is, λ p. barred-is p.0 p.1 (within-is (p.0).window b p.2) p.3)
     where
@@ -212,7 +223,11 @@ module _ (n : ℕ) (table : Option Table) (given : Option Target) (taken : List 
 
   pub begins-is : (t : Target) → (r ≡ Begins t) ↔ ((continues current b ≡ false) × GoesTo n given taken current b t
       × IsInside t.window b × (allowed_by table (sector_in t.window b) BootWrite ≡ true))
-  begins-is t = (by is, λ p. may-is t p.1 (within-is t.window b p.2) p.3 ∙ ap (λ x. if x then Continues t else Begins t) p.0)
+  begins-is t = (
+    by is,
+    λ p. may-is t p.1 (within-is t.window b p.2) p.3
+        ∙ ap (λ x. if x then Continues t else Begins t) p.0,
+  )
     where
       by : Is → r ≡ Begins t → (continues current b ≡ false) × GoesTo n given taken current b t
           × IsInside t.window b × (allowed_by table (sector_in t.window b) BootWrite ≡ true)
@@ -230,7 +245,11 @@ module _ (n : ℕ) (table : Option Table) (given : Option Target) (taken : List 
 
   pub continues-is : (t : Target) → (r ≡ Continues t) ↔ ((continues current b ≡ true) × GoesTo n given taken current b t
       × IsInside t.window b × (allowed_by table (sector_in t.window b) BootWrite ≡ true))
-  continues-is t = (by is, λ p. may-is t p.1 (within-is t.window b p.2) p.3 ∙ ap (λ x. if x then Continues t else Begins t) p.0)
+  continues-is t = (
+    by is,
+    λ p. may-is t p.1 (within-is t.window b p.2) p.3
+        ∙ ap (λ x. if x then Continues t else Begins t) p.0,
+  )
     where
       by : Is → r ≡ Continues t → (continues current b ≡ true) × GoesTo n given taken current b t
           × IsInside t.window b × (allowed_by table (sector_in t.window b) BootWrite ≡ true)
@@ -245,3 +264,20 @@ module _ (n : ℕ) (table : Option Table) (given : Option Target) (taken : List 
           subst (λ v. (continues current b ≡ true) × GoesTo n given taken current b v
           × IsInside v.window b × (allowed_by table (sector_in v.window b) BootWrite ≡ true)) equal
           (same, to, inside-is u.window b within, may)
+
+  -- no answer before a step says that power was lost
+  pub answered-power : (a : Result Accepted PlaceFault) → r ≡ Answered a → has_power a ≡ true
+  answered-power a = by is
+    where
+      told : (early : Result Accepted PlaceFault) → has_power early ≡ true → r ≡ Answered early → r ≡ Answered a
+          → has_power a ≡ true
+      told early power e h = let same : early ≡ a = cc (e, h) in subst (λ x. has_power x ≡ true) same power
+
+      by : Is → r ≡ Answered a → has_power a ≡ true
+      by (skipped x e) h = told (Ok Skipped) refl e h
+      by (again e) h = told (Ok Again) refl e h
+      by (none kept same gone e) h = told (Err NoTarget) refl e h
+      by (outside t to out e) h = told (Err Outside) refl e h
+      by (barred t to within may e) h = told (Err NotPermitted) refl e h
+      by (continuing t to within may same e) h = cc (e, h)
+      by (beginning t to within may same e) h = cc (e, h)

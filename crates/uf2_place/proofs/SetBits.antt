@@ -65,6 +65,6 @@ module _ (words : List ℕ) (i j : ℕ) (within : i < 64 * length words) where
     | inl same ↦ elim (differ (j % 64) (i % 64)) [
       | inl bit ↦ same-bit same (sym bit)
       | inr bit ↦ other-bit same bit
-      ]
-    | inr other ↦ other-word other
     ]
+    | inr other ↦ other-word other
+  ]

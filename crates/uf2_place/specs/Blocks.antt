@@ -14,7 +14,8 @@ word_at bytes at = little_number 4 (drop at bytes)
 
 -- the words at 0, 4 and 508 are the three magic words
 abbrev pub has_magic : List ℕ → Bool
-has_magic bytes = word_at bytes 0 == START && (word_at bytes 4 == SECOND && word_at bytes 508 == END)
+has_magic bytes =
+    word_at bytes 0 == START && (word_at bytes 4 == SECOND && word_at bytes 508 == END)
 
 -- a file has 1 to 65,536 blocks, which are numbered from 0
 abbrev pub is_number : ℕ → ℕ → Bool

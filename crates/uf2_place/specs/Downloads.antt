@@ -38,13 +38,14 @@ abbrev pub held_page : ℕ → List ℕ → ℕ → Option (List ℕ)
 held_page pages bytes i =
     if bit_at pages i == 1 then Some (slice_range bytes (256 * i) (256 * i + 256)) else None
 
--- the pages of the first sector that some block names stand in the bytes of a lease that is out, each
--- as the last block for it has them, and no others are held
+-- the pages of the first sector that some block names stand in the bytes of a lease that is out,
+-- each as the last block for it has it, and no others are held
 pub record HoldsPages (pool : Pool) (t : Target) (blocks : List Uf2) (h : Held) : Type 0 where
   pub gated : t.gated ≡ true
   pub out : slice_get pool.out h.lease ≡ Some true
   pub pages : (i : ℕ) → i < 16
-      → held_page h.pages (bytes_of pool h.lease) i ≡ last_for t.window (16 * first_in t.window + i) blocks
+      → held_page h.pages (bytes_of pool h.lease) i
+      ≡ last_for t.window (16 * first_in t.window + i) blocks
 
 -- a gated target has its held pages in a lease, and another target holds none
 abbrev pub Holds : Pool → Target → List Uf2 → Option Held → Type 0

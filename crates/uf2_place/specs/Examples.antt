@@ -1,7 +1,6 @@
 -- Worked examples of blocks and of downloads, with their answers reckoned by hand from the rules.
 -- This project's own.
-use Rattle.std.specs.Prelude.{ℕ, Bool, true, false, List, [], None}
-use Rattle.pico_board.specs.declared.Window.{Window}
+use Rattle.std.specs.Prelude.{ℕ, Bool, false, List, [], None}
 use Rattle.part_table.specs.declared.Target.{Target}
 use Rattle.uf2_place.specs.declared.block.Uf2.{Uf2}
 use Rattle.uf2_place.specs.declared.current.Current.{Current}

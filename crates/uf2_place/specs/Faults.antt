@@ -22,7 +22,8 @@ HasBadAddress bytes = word_at bytes 12 % 256 ≢ 0
 -- the count is 0 or above 65,536, or the number is not below the count
 abbrev pub HasBadNumber : List ℕ → Type 0
 HasBadNumber bytes =
-    (word_at bytes 24 ≡ 0) ⊎ ((MOST_BLOCKS < word_at bytes 24) ⊎ (word_at bytes 24 ≤ word_at bytes 20))
+    (word_at bytes 24 ≡ 0)
+    ⊎ ((MOST_BLOCKS < word_at bytes 24) ⊎ (word_at bytes 24 ≤ word_at bytes 20))
 
 -- the fault of the bytes: each comes where its reason holds and none before it does
 abbrev pub IsUf2Fault : List ℕ → Uf2Fault → Type 0

@@ -33,7 +33,8 @@ file_block image family i = record {
 
 -- the blocks of the file, in their order
 abbrev pub file_blocks : List ℕ → ℕ → List Uf2
-file_blocks image family = map (file_block image family) (range_with_len 0 (page_count (length image)))
+file_blocks image family =
+    map (file_block image family) (range_with_len 0 (page_count (length image)))
 
 -- the bytes of the file
 abbrev pub file_bytes : List ℕ → ℕ → List ℕ

@@ -79,13 +79,14 @@ programs_in sector bytes_of =
 abbrev pub final_steps : Window → List Uf2 → List Step
 final_steps w blocks = programs_in (first_in w) (λ i. last_for w (16 * first_in w + i) blocks)
 
--- all numbers are there: the blocks, whose numbers differ, are as many as the first one's count says
+-- all numbers are there: the blocks, whose numbers differ, are as many as the first one's count
+-- says
 abbrev pub is_whole : List Uf2 → Bool
 is_whole [] = false
 is_whole (b ∷ bs) = length (b ∷ bs) == b.count
 
--- the steps of the blocks into a gated target: the erase of the first sector, what lies elsewhere as
--- it comes, and the first sector once all numbers are there
+-- the steps of the blocks into a gated target: the erase of the first sector, what lies elsewhere
+-- as it comes, and the first sector once all numbers are there
 abbrev pub gated_steps : Window → List Uf2 → List Step
 gated_steps w blocks =
     Erase (first_in w) ∷ (in_turn (later_steps w) [] blocks

@@ -20,7 +20,8 @@ pub record MarksSector (sector : ℕ) (old new : Marked) : Type 0 where
   pub numbers : new.numbers ≡ old.numbers
 
 -- page number `place` of the sector is held with these bytes, the others as before
-pub record HoldsPage (place : ℕ) (page : List ℕ) (old : Held) (before : Pool) (new : Held) (after : Pool) : Type 0 where
+pub record HoldsPage (place : ℕ) (page : List ℕ) (old : Held) (before : Pool) (new : Held)
+    (after : Pool) : Type 0 where
   pub lease : new.lease ≡ old.lease
   pub pages : (i : ℕ) → i < 16 → held_page new.pages (bytes_of after new.lease) i
       ≡ (if nat_eq place i then Some page else held_page old.pages (bytes_of before old.lease) i)
@@ -39,22 +40,31 @@ open_steps c =
 abbrev pub put_steps : Current → Marked → Uf2 → List Step
 put_steps c marks b =
     if is_held_back c b then []
-    else fresh_steps (is_marked marks.sectors (sector_in c.target.window b)) (sector_in c.target.window b)
-        (page_in c.target.window b) b.page
+    else fresh_steps (is_marked marks.sectors (sector_in c.target.window b))
+    (sector_in c.target.window b)
+    (page_in c.target.window b) b.page
 
 -- the programs of the held pages, once no block is to come
 abbrev pub held_steps : Pool → Current → Option Held → List Step
 held_steps pool c None = []
 held_steps pool c (Some h) =
-    if c.left == 0 then programs_in (first_in c.target.window) (held_page h.pages (bytes_of pool h.lease))
+    if c.left == 0 then programs_in (first_in c.target.window)
+    (held_page h.pages (bytes_of pool h.lease))
     else []
 
 -- a current download with other held pages
 abbrev pub with_held : Current → Option Held → Current
-with_held c held = record { family = c.family; count = c.count; target = c.target; left = c.left; held = held }
+with_held c held = record {
+  family = c.family;
+  count = c.count;
+  target = c.target;
+  left = c.left;
+  held = held;
+}
 
 -- a block that is held back: its page is held
-pub record HoldsBlock (b : Uf2) (old : Current) (before : Pool) (new : Current) (after : Pool) : Type 0 where
+pub record HoldsBlock (b : Uf2) (old : Current) (before : Pool) (new : Current) (after : Pool)
+    : Type 0 where
   pub former : Held
   pub now : Held
   pub had : old.held ≡ Some former
@@ -62,17 +72,25 @@ pub record HoldsBlock (b : Uf2) (old : Current) (before : Pool) (new : Current) 
   pub page : (place : ℕ) × (page_in old.target.window b ≡ 16 * first_in old.target.window + place)
       × HoldsPage place b.page former before now after
 
--- a block that may come next: of the family and the count of the download, and of a number that none
--- of its blocks has
+-- a block that may come next: of the family and the count of the download, and of a number that
+-- none of its blocks has
 pub record IsNext (c : Current) (blocks : List Uf2) (b : Uf2) : Type 0 where
   pub family : b.family ≡ c.family
   pub count : b.count ≡ c.count
   pub fresh : is_member nat_eq (numbers_of blocks) b.number ≡ false
 
 -- a block's number is taken, and one block less is to come
-pub record TakesNumber (b : Uf2) (old : Current) (before : Marked) (new : Current) (after : Marked) : Type 0 where
+pub record TakesNumber (b : Uf2) (old : Current) (before : Marked) (new : Current)
+    (after : Marked) : Type 0 where
   pub left : new.left + 1 ≡ old.left
-  pub rest : new ≡ record { family = old.family; count = old.count; target = old.target; left = new.left; held = old.held }
+  pub rest : new
+      ≡ record {
+        family = old.family;
+        count = old.count;
+        target = old.target;
+        left = new.left;
+        held = old.held;
+      }
   pub numbers : (i : ℕ) → is_marked after.numbers i
       ≡ (if nat_eq b.number i then true else is_marked before.numbers i)
   pub sectors : after.sectors ≡ before.sectors

@@ -1,7 +1,8 @@
 -- What the rules say of a block before any step: whether it is skipped, whether it continues the
 -- current download, and which refusal comes first.
 -- Source: the UF2 specification (github.com/microsoft/uf2) for the flags, and the RP2350 Datasheet,
--- chapter 5 (Bootrom), for the rights. Which blocks are skipped and the order are this project's own.
+-- chapter 5 (Bootrom), for the rights. Which blocks are skipped and the order are this project's
+-- own.
 use Rattle.std.specs.Prelude.{◌≡◌, ℕ, Bool, false, not, ◌+◌, ◌-◌, ◌==◌, ◌&&◌, ◌||◌, nat_le, if◌then◌else◌, Ok, Err, Option, None, Some, List}
 use Rattle.std.specs.Int.{bit_at}
 use Rattle.std.specs.Option.{option_map_or}
@@ -77,15 +78,15 @@ abbrev pub ruling : ℕ → Option Table → Option Target → List ℕ → Opti
 ruling flash_len table given numbers current b =
     if is_skipped flash_len b then Answered (Ok Skipped) else ruled table given numbers b current
 
--- the target of a block: that of the current download, where the block continues it and its number is
--- not taken, and otherwise the one that is given
+-- the target of a block: that of the current download, where the block continues it and its number
+-- is not taken, and the one that is given, where it begins a download
 abbrev pub target_of : Option Target → List ℕ → Uf2 → Option Current → Option Target
 target_of given numbers b None = given
 target_of given numbers b (Some c) =
     if is_of c b then (if is_marked numbers b.number then None else Some c.target) else given
 
 -- a block that is not skipped goes to this target, if its page may
-pub record GoesTo (n : ℕ) (given : Option Target) (numbers : List ℕ) (current : Option Current) (b : Uf2)
-    (t : Target) : Type 0 where
+pub record GoesTo (n : ℕ) (given : Option Target) (numbers : List ℕ) (current : Option Current)
+    (b : Uf2) (t : Target) : Type 0 where
   pub kept : is_skipped n b ≡ false
   pub target : target_of given numbers b current ≡ Some t

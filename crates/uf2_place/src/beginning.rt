@@ -39,6 +39,7 @@ fn give_back(pool: &mut SectorPool, held: Option<Held>)
 fn hold_none(pool: &mut SectorPool, target: Target) -> Option<Held>
     requires { HasFree pool.old }
     ensures pool { HandsOver None (lease_in result) pool.old pool.new }
+    ensures free { lease_in result ≡ None → HasFree pool.new }
     ensures gated { is_some result ≡ target.gated }
     ensures pages { IfSome result (λ h. h.pages ≡ 0) }
 {
@@ -63,6 +64,7 @@ pub fn begin(
     requires free { lease_of former ≡ None → HasFree pool.old }
     requires block { IsUf2 block.now }
     ensures pool { HandsOver (lease_of former) (lease_in result.held) pool.old pool.new }
+    ensures free { lease_in result.held ≡ None → HasFree pool.new }
     ensures target { result.target ≡ target }
     ensures family { result.family ≡ block.now.family }
     ensures count { result.count ≡ block.now.count }

@@ -8,7 +8,7 @@ ghost use Rattle.sector_pool.specs.Keeping.{HandsOver};
 ghost use Rattle.sector_pool.specs.Pool.{HasFree};
 ghost use Rattle.uf2_place.specs.declared.block.Uf2.{Uf2};
 ghost use Rattle.uf2_place.specs.declared.answer.Ruling.TheVariants.{Begins, Continues};
-ghost use Rattle.uf2_place.specs.Accepting.{AnswersAtOnce, Places, StandsFor, rules};
+ghost use Rattle.uf2_place.specs.Accepting.{AnswersAtOnce, Places, StandsFor, has_power, rules};
 ghost use Rattle.uf2_place.specs.Blocks.{IsUf2};
 ghost use Rattle.uf2_place.specs.Downloads.{Follows, IsOut, IsTargetIn, lease_in, lease_of};
 ghost use Rattle.uf2_place.specs.Placement.{IsInside};
@@ -120,6 +120,10 @@ impl Download {
             pool.new }
         ensures pool { HandsOver (lease_of self.old.current) (lease_of self.new.current)
             pool.old pool.new }
+        ensures free { lease_of self.new.current ≡ None → HasFree pool.new }
+        ensures power { (B.state board.new).powered ≡ has_power result }
+        ensures target { ForSome self.new.current
+            (λ c. IsTargetIn (length (B.state board.new).content.flash) c.target) }
     {
         match self.rule(board, table, target, block) {
             Ruling::Answered(answer) => answer,
@@ -176,6 +180,11 @@ impl Download {
             self.new pool.new }
         ensures pool { HandsOver (lease_in current.held) (lease_of self.new.current)
             pool.old pool.new }
+        ensures free { (lease_in current.held ≡ None → HasFree pool.old)
+            → lease_of self.new.current ≡ None → HasFree pool.new }
+        ensures power { (B.state board.new).powered ≡ has_power result }
+        ensures target { ForSome self.new.current
+            (λ c. IsTargetIn (length (B.state board.new).content.flash) c.target) }
     {
         let target = current.target;
         match place_block(board, pool, &mut self.marks, &mut current, block) {

@@ -71,19 +71,19 @@ pub fn pages_in_a_window()
 pub fn blocks_that_continue()
     ensures same { is_of (arm_download true) (arm_block 0 0x10000000 []) ≡ true }
     ensures family { is_of (record {
-          family = 0xe48bff5a;
-          count = 3;
-          target = slot true;
-          left = 2;
-          held = None;
-        }) (arm_block 0 0x10000000 []) ≡ false }
+      family = 0xe48bff5a;
+      count = 3;
+      target = slot true;
+      left = 2;
+      held = None;
+    }) (arm_block 0 0x10000000 []) ≡ false }
     ensures count { is_of (record {
-          family = 0xe48bff59;
-          count = 4;
-          target = slot true;
-          left = 2;
-          held = None;
-        }) (arm_block 0 0x10000000 []) ≡ false }
+      family = 0xe48bff59;
+      count = 4;
+      target = slot true;
+      left = 2;
+      held = None;
+    }) (arm_block 0 0x10000000 []) ≡ false }
     ensures wants { wanted 0x40000 None (arm_block 0 0x10000000 []) ≡ Some 0xe48bff59 }
     ensures current { wanted 0x40000 (Some (arm_download true)) (arm_block 0 0x10000000 [])
         ≡ None }
@@ -112,8 +112,8 @@ pub fn rulings_of_blocks()
         (arm_block 0 0x10020000 []) ≡ Answered (Err NoTarget) }
 {}
 
-/// Into a target that is not gated each page is written as it comes, and its sector is erased before
-/// the first page in it.
+/// Into a target that is not gated each page is written as it comes, and its sector is erased
+/// before the first page in it.
 pub fn pages_as_they_come()
     ensures none { placed (slot false) [] ≡ [] }
     ensures all { (a b c : List ℕ) → placed (slot false) (arm_block 2 0x10001100 a

@@ -50,7 +50,8 @@ fn continued(table: Option<&Table>, marks: &Marks, block: &Uf2, target: Target) 
     requires block { IsUf2 block.now }
     requires table { ForSome table (λ t. HasOneRight t.now) }
     requires near { target.window.start + target.window.len < 2 ^ 32 }
-    ensures { result ≡ continued (option_map (λ t. t.now) table.entry) marks.now.numbers block.now target }
+    ensures { result ≡ continued (option_map (λ t. t.now) table.entry) marks.now.numbers block.now
+        target }
 {
     if marks.has_number(block.number) {
         return Ruling::Answered(Ok(Accepted::Again));

@@ -11,14 +11,16 @@ mod bits;
 mod block;
 mod current;
 mod download;
-mod judging;
 pub mod examples;
+mod holding;
+mod judging;
 pub mod laws;
 mod marks;
 mod pages;
-mod holding;
 mod placing;
 mod reading;
+#[cfg(test)]
+mod tests;
 mod writing;
 
 pub use answer::{Accepted, PlaceFault};

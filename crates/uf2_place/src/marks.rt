@@ -1,7 +1,7 @@
 //! Which numbers a download has taken, and which sectors it has erased: a bit each.
 
 ghost use Rattle.std.specs.Prelude.{◌≡◌, ℕ, ◌<◌, false, true, IfOk, if◌then◌else◌, nat_eq};
-ghost use Rattle.uf2_place.specs.Marks.{Marked, is_marked};
+ghost use Rattle.uf2_place.specs.Marks.{HasNone, Marked, is_marked};
 
 use crate::bits::{clear_bits, has_bit, set_bit};
 use std::alloc::{AllocError, Global};
@@ -26,19 +26,27 @@ impl Model for Marks {
 
     ghost Value = { Marked };
 
-    ghost view = { λ marks. record { numbers = marks.numbers.items; sectors = marks.sectors.items } };
+    ghost view = { λ marks. record {
+      numbers = marks.numbers.items;
+      sectors = marks.sectors.items;
+    } };
 
-    ghost invariant = { λ marks. (length marks.numbers.items ≡ 1024) × (length marks.sectors.items ≡ 64) };
+    ghost invariant = { λ marks. (length marks.numbers.items ≡ 1024)
+        × (length marks.sectors.items ≡ 64) };
 }
 
 impl Marks {
     /// No bit set. It fails only where memory is out.
-    pub fn make(alloc: Global) -> Result<Marks, AllocError> {
+    pub fn make(alloc: Global) -> Result<Marks, AllocError>
+        ensures { IfOk result HasNone }
+    {
         let mut numbers = Vec::new(alloc);
         let mut sectors = Vec::new(alloc);
         numbers.resize(NUMBER_WORDS, 0)?;
         sectors.resize(SECTOR_WORDS, 0)?;
-        Ok(Marks { numbers, sectors })
+        let mut marks = Marks { numbers, sectors };
+        marks.clear();
+        Ok(marks)
     }
 
     /// Whether a number is taken.
@@ -79,8 +87,7 @@ impl Marks {
 
     /// Clears all bits.
     pub fn clear(&mut self)
-        ensures numbers { (i : ℕ) → is_marked self.new.numbers i ≡ false }
-        ensures sectors { (i : ℕ) → is_marked self.new.sectors i ≡ false }
+        ensures { HasNone self.new }
     {
         clear_bits(&mut self.numbers);
         clear_bits(&mut self.sectors);

@@ -59,7 +59,8 @@ fn write_fresh<B: Board>(
 fn open<B: Board>(board: &mut B, current: &Current) -> Result<(), PowerLost>
     requires power { IsTrue (B.state board.old).powered }
     requires target { IsTargetIn (length (B.state board.old).content.flash) current.now.target }
-    ensures { DoesAll B.state B.history board.old (open_steps current.now) (is_ok result) board.new }
+    ensures { DoesAll B.state B.history board.old (open_steps current.now) (is_ok result)
+        board.new }
 {
     if current.held.is_none() || current.left != current.count {
         return Ok(());
@@ -111,6 +112,7 @@ fn put<B: Board>(
     ensures target { current.new.target ≡ current.old.target }
     ensures lease { lease_in current.new.held ≡ lease_in current.old.held }
     ensures out { IsOut pool.new (lease_in current.old.held) }
+    ensures numbers { pool.new.out ≡ pool.old.out }
     ensures held { OnTrue (is_held_back current.old block.now)
         ((marks.new ≡ marks.old) × HoldsBlock block.now current.old pool.old current.new pool.new) }
     ensures same { OnFalse (is_held_back current.old block.now)
@@ -123,7 +125,13 @@ fn put<B: Board>(
         return Ok(());
     }
     let window = current.target.window;
-    write_fresh(board, marks, sector_in(window, block), page_in(window, block), &block.page)
+    write_fresh(
+        board,
+        marks,
+        sector_in(window, block),
+        page_in(window, block),
+        &block.page,
+    )
 }
 
 /// Programs the held pages, where no block is to come.
@@ -136,7 +144,13 @@ fn finish<B: Board>(board: &mut B, pool: &SectorPool, current: &Current) -> Resu
 {
     match &current.held {
         None => Ok(()),
-        Some(held) => finish_held(board, pool, held, current.left, first_in(current.target.window)),
+        Some(held) => finish_held(
+            board,
+            pool,
+            held,
+            current.left,
+            first_in(current.target.window),
+        ),
     }
 }
 
@@ -152,7 +166,8 @@ fn finish_held<B: Board>(
     requires range { 4096 * sector + 4096 ≤ length (B.state board.old).content.flash }
     requires out { slice_get pool.now.out held.now.lease ≡ Some true }
     ensures { DoesAll B.state B.history board.old
-        (if left == 0 then programs_in sector (held_page held.now.pages (bytes_of pool.now held.now.lease)) else [])
+        (if left == 0 then programs_in sector
+        (held_page held.now.pages (bytes_of pool.now held.now.lease)) else [])
         (is_ok result) board.new }
 {
     if left != 0 {
@@ -193,6 +208,10 @@ pub fn place_block<B: Board>(
         → IsNext current.old blocks block.now
         → OnOk result (Follows pool.new marks.new current.new (blocks ++ block.now ∷ [])) }
     ensures left { OnOk result (current.new.left + 1 ≡ current.old.left) }
+    ensures size { length (B.state board.new).content.flash
+        ≡ length (B.state board.old).content.flash }
+    ensures power { (B.state board.new).powered ≡ is_ok result }
+    ensures numbers { pool.new.out ≡ pool.old.out }
     ensures target { current.new.target ≡ current.old.target }
     ensures lease { lease_in current.new.held ≡ lease_in current.old.held }
     ensures pool { HandsOver (lease_in current.old.held) (lease_in current.old.held)

@@ -17,7 +17,8 @@ loop-place-init g c = record {
 pub loop-place-preserved : goal.loop-place-preserved
 loop-place-preserved g c = record {
   power = c.in_ok-program_page.ensures.power;
-  size = subst (λ n. 4096 * c.args.sector + 4096 ≤ n) (sym c.in_ok-program_page.ensures.size) c.loop-place.invariant.size;
+  size = subst (λ n. 4096 * c.args.sector + 4096 ≤ n) (sym c.in_ok-program_page.ensures.size)
+      c.loop-place.invariant.size;
   rest = λ ok new after. c.loop-place.invariant.rest ok new
       (subst (λ steps. DoesAll g.B.Board.state g.B.Board.history c.loop-place.board steps ok new)
       (programs-next c.args.sector c.loop-place.place (held_page c.args.pages c.args.bytes.now) c.loop-place-test.true)
@@ -30,11 +31,13 @@ returns-in_err-program_page g c =
     rw (lost.1) (c.loop-place.invariant.rest _ _
     (subst (λ steps. DoesAll g.B.Board.state g.B.Board.history c.loop-place.board steps false c.program_page.new.board)
     (programs-next c.args.sector c.loop-place.place (held_page c.args.pages c.args.bytes.now) c.loop-place-test.true)
-    (DoesAll-append_cut (programs_left c.args.sector (c.loop-place.place + 1) (held_page c.args.pages c.args.bytes.now)) c.in_err-program_page.ensures)))
+    (DoesAll-append_cut (programs_left c.args.sector (c.loop-place.place + 1)
+    (held_page c.args.pages c.args.bytes.now)) c.in_err-program_page.ensures)))
 
 pub returns : goal.returns
 returns g c =
     c.loop-place.invariant.rest _ _
     (subst (λ steps. DoesAll g.B.Board.state g.B.Board.history c.loop-place.board steps true c.loop-place.board)
-    (sym (programs-end c.args.sector c.loop-place.place (held_page c.args.pages c.args.bytes.now) c.loop-place-test.false))
+    (sym (programs-end c.args.sector c.loop-place.place
+    (held_page c.args.pages c.args.bytes.now) c.loop-place-test.false))
     (DoesAll-none _ c.loop-place.invariant.power))

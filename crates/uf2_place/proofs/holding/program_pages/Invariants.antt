@@ -11,6 +11,7 @@ invariant-loop-place g l = record {
   power : (g.B.Board.state l.board).powered ≡ true;
   size : 4096 * l.sector + 4096 ≤ length (g.B.Board.state l.board).content.flash;
   rest : (ok : Bool) (new : _)
-      → DoesAll g.B.Board.state g.B.Board.history l.board (programs_left l.sector l.place (held_page l.pages l.bytes)) ok new
+      → DoesAll g.B.Board.state g.B.Board.history l.board (programs_left l.sector l.place
+      (held_page l.pages l.bytes)) ok new
       → DoesAll g.B.Board.state g.B.Board.history l.fn.board (programs_in l.sector (held_page l.pages l.bytes)) ok new;
 }

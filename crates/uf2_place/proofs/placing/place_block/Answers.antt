@@ -20,7 +20,8 @@ returns-in_err-put-clause-steps g c = λ blocks f next.
     (subst (λ steps. DoesAll g.B.Board.state g.B.Board.history c.args.board.now steps false c.put.new.board)
     (sym (grown-parts c.args.pool.now c.args.marks.now c.args.current.now blocks c.args.block.now f c.requires.some))
     (DoesAll-append c.in_ok-open.ensures
-    (DoesAll-append_cut (last_part c.args.current.now.target (blocks ++ c.args.block.now ∷ [])) c.in_err-put.ensures.steps)))
+    (DoesAll-append_cut (last_part c.args.current.now.target
+    (blocks ++ c.args.block.now ∷ [])) c.in_err-put.ensures.steps)))
 
 pub returns-clause-follows : goal.returns-clause-follows
 returns-clause-follows g c = λ blocks f next.
@@ -39,9 +40,11 @@ returns-clause-steps g c = λ blocks f next.
     c.in_ok-put.ensures.same c.in_ok-put.ensures.marks c.take_number.ensures in
     let finished : DoesAll g.B.Board.state g.B.Board.history c.put.new.board
     (last_part c.args.current.now.target (blocks ++ c.args.block.now ∷ [])) (is_ok c.finish.result) c.finish.new.board =
-    subst (λ steps. DoesAll g.B.Board.state g.B.Board.history c.put.new.board steps (is_ok c.finish.result) c.finish.new.board)
+    subst (λ steps. DoesAll g.B.Board.state g.B.Board.history c.put.new.board steps
+    (is_ok c.finish.result) c.finish.new.board)
     (held-last_push c.put.new.pool c.take_number.new.marks c.take_number.new.current blocks c.args.block.now
     c.args.current.now.target target followed) c.finish.ensures in
-    subst (λ steps. DoesAll g.B.Board.state g.B.Board.history c.args.board.now steps (is_ok c.finish.result) c.finish.new.board)
+    subst (λ steps. DoesAll g.B.Board.state g.B.Board.history c.args.board.now steps
+    (is_ok c.finish.result) c.finish.new.board)
     (sym (grown-parts c.args.pool.now c.args.marks.now c.args.current.now blocks c.args.block.now f c.requires.some))
     (DoesAll-append c.in_ok-open.ensures (DoesAll-append c.in_ok-put.ensures.steps finished))

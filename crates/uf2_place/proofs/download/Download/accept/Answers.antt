@@ -8,6 +8,7 @@ use Rattle.uf2_place.specs.Downloads.{Follows, IsTargetIn, lease_of}
 use Rattle.uf2_place.specs.Marks.{Marked}
 use Rattle.uf2_place.specs.Placement.{IsInside}
 use Rattle.uf2_place.proofs.Ruled.{rules-begins, rules-continues, next-first, next-after}
+use Rattle.uf2_place.proofs.RulingLaws.{answered-power}
 use Rattle.uf2_place.proofs.download.Download.accept.Goals as goal
 
 pub place-requires-clause-inside : goal.place-requires-clause-inside
@@ -36,7 +37,8 @@ returns-in-Begins-clause-begins g c = λ t is.
     c.args.self.now c.args.block.now c.in-Begins.target (sym c.rule.ensures ∙ c.in-Begins.is) in
     subst (λ u. Places g.B.Board.state g.B.Board.history u [] c.args.block.now c.args.board.now c.place.result
     c.place.new.board c.place.new.self c.place.new.pool) (c.begin-current.ensures.target ∙ same)
-    (c.place.ensures.places [] (c.begin-current.ensures.follows (c.requires.target c.in-Begins.target begun.given_is).whole)
+    (c.place.ensures.places [] (c.begin-current.ensures.follows
+    (c.requires.target c.in-Begins.target begun.given_is).whole)
     (next-first c.begin-current.result c.args.block.now c.begin-current.ensures.family c.begin-current.ensures.count))
 
 pub place-requires-in-Some-clause-target : goal.place-requires-in-Some-clause-target
@@ -51,12 +53,23 @@ returns-in-Some-clause-continues g c = λ t blocks is stands.
     let same : stands.current ≡ c.in-Some.current = cc (here, stands.is) in
     let follows : Follows c.args.pool.now c.args.self.now.marks c.in-Some.current blocks =
     subst (λ d. Follows c.args.pool.now c.args.self.now.marks d blocks) same stands.follows in
-    let continued = rules-continues (g.B.Board.state c.args.board.now) (option_map (λ t. t.now) c.args.table) c.args.target
+    let continued = rules-continues (g.B.Board.state c.args.board.now) (option_map
+    (λ t. t.now) c.args.table) c.args.target
     c.args.self.now c.args.block.now t c.in-Some.current here is in
     let next = next-after c.args.pool.now c.args.self.now.marks (option_map (λ t. t.now) c.args.table) c.in-Some.current
     blocks c.args.block.now t follows continued in
-    subst (λ u. Places g.B.Board.state g.B.Board.history u blocks c.args.block.now c.args.board.now c.place-in-Some.result
+    subst (λ u. Places g.B.Board.state g.B.Board.history u blocks c.args.block.now c.args.board.now
+    c.place-in-Some.result
     c.place-in-Some.new.board c.place-in-Some.new.self c.place-in-Some.new.pool) continued.target
     (c.place-in-Some.ensures.places blocks
     (subst (λ (m : Marked). Follows c.args.pool.now m c.in-Some.current blocks)
     (sym (ap (λ (k : Kept). k.marks) c.self.view_is)) follows) next)
+
+pub returns-in-Answered-clause-power : goal.returns-in-Answered-clause-power
+returns-in-Answered-clause-power g c =
+    c.requires.power ∙ sym (answered-power (length (g.B.Board.state c.args.board.now).content.flash)
+    (option_map (λ t. t.now) c.args.table) c.args.target c.args.self.now.marks.numbers c.args.self.now.current
+    c.args.block.now c.in-Answered.answer (sym c.rule.ensures ∙ c.in-Answered.is))
+
+pub returns-in-Begins-clause-free : goal.returns-in-Begins-clause-free
+returns-in-Begins-clause-free g c = c.place.ensures.free c.begin-current.ensures.free
