@@ -10,7 +10,8 @@ use pico_board::{Store, StoreFail};
 use std::fs;
 use std::rt::Files;
 
-/// The files of the machine, by path. Each error of the system, and each write that takes no byte, counts as a fault.
+/// The files of the machine, by path. Each error of the system, and each write that takes no byte,
+/// counts as a fault.
 #[derive(Drop)]
 pub struct Disk<'a, R: Files> {
     files: &'a R,
@@ -34,7 +35,12 @@ impl<'a, R: Files> Disk<'a, R> {
 impl<R: Files> Store for Disk<'_, R> {
     ghost use Rattle.std.specs.Prelude.{None, false};
 
-    ghost state = { λ disk. record { files = None; read_faults = disk.read_faults; write_faults = disk.write_faults; steady = false } };
+    ghost state = { λ disk. record {
+      files = None;
+      read_faults = disk.read_faults;
+      write_faults = disk.write_faults;
+      steady = false;
+    } };
 
     // It keeps no record of its calls.
     ghost history = { λ disk calls. Unit {0} };

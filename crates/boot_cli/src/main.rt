@@ -1,4 +1,5 @@
-//! The program: the words after its name, real files and standard output go to `run`, whose status ends it.
+//! The program: the words after its name, real files and standard output go to `run`, whose status
+//! ends it.
 #![tactic(auto)]
 
 mod console;
@@ -16,7 +17,8 @@ use std::fs::Files;
 use std::io::{ErrorKind, Print};
 use std::process::ExitCode;
 
-/// The words after the program's name. Words that are not all UTF-8 are no command, and are given as none.
+/// The words after the program's name. Words that are not all UTF-8 are no command, and are given
+/// as none.
 fn words<R: Env + AllocGlobal>(rt: &R) -> Result<Vec<String>, AllocError> {
     let mut words = Vec::new(rt.alloc());
     match env::args(rt) {

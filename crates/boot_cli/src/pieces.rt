@@ -13,8 +13,8 @@ use std::io::{Read, Write};
 /// The bytes that are read of a file at once.
 const PIECE: usize = 65536;
 
-/// Reads the next bytes, at most so many in all and at most as many as the buffer has now, to the end of `into`. The
-/// answer is whether there may be more. An error of the reader is a fault.
+/// Reads the next bytes, at most so many in all and at most as many as the buffer has now, to the
+/// end of `into`. The answer is whether there may be more. An error of the reader is a fault.
 fn read_piece<R: Read>(
     reader: &mut R,
     buffer: &mut [u8],
@@ -24,9 +24,12 @@ fn read_piece<R: Read>(
     requires buffer { 0 < length buffer.old }
     requires most { length into.old.items ≤ most }
     ensures room { OnOk result (length into.new.items ≤ most) }
-    ensures next { OnOk result (TakesFrom (R.remaining reader.old) into.old.items (R.remaining reader.new) into.new.items) }
+    ensures next { OnOk result
+        (TakesFrom (R.remaining reader.old) into.old.items
+        (R.remaining reader.new) into.new.items) }
     ensures more { result ≡ Ok true → length into.old.items < length into.new.items }
-    ensures last { result ≡ Ok false → (length into.new.items ≡ most) ⊎ IsAtEnd (R.remaining reader.new) }
+    ensures last { result ≡ Ok false → (length into.new.items ≡ most)
+        ⊎ IsAtEnd (R.remaining reader.new) }
 {
     let room = (most - into.len()).min(buffer.len());
     if room == 0 {
@@ -41,7 +44,8 @@ fn read_piece<R: Read>(
     }
 }
 
-/// Reads into an empty vector, a buffer's bytes at a time, until the reader ends, but at most so many bytes.
+/// Reads into an empty vector, a buffer's bytes at a time, until the reader ends, but at most so
+/// many bytes.
 fn read_pieces<R: Read>(
     reader: &mut R,
     buffer: &mut [u8],
@@ -51,19 +55,21 @@ fn read_pieces<R: Read>(
     requires buffer { 0 < length buffer.old }
     requires empty { into.old.items ≡ [] }
     ensures room { OnOk result (length into.new.items ≤ most) }
-    ensures front { OnOk result (IfSome (R.remaining reader.old) (λ bytes. into.new.items ≡ take most bytes)) }
+    ensures front { OnOk result
+        (IfSome (R.remaining reader.old) (λ bytes. into.new.items ≡ take most bytes)) }
 {
     while read_piece(reader, buffer, most, into)? {}
     Ok(())
 }
 
-/// Reads into an empty vector until the reader ends, but at most so many bytes. A read of no byte is the end. Nothing is said of `into`
-/// after an error.
+/// Reads into an empty vector until the reader ends, but at most so many bytes. A read of no byte
+/// is the end. Nothing is said of `into` after an error.
 pub fn read_up_to<R: Read>(reader: &mut R, most: usize, into: &mut Vec<u8>) -> Result<(), StoreFail>
     requires { into.old.items ≡ [] }
     ensures room { OnOk result (length into.new.items ≤ most) }
     // Where the reader's bytes are known, these are the first of them, or all where it has fewer.
-    ensures front { OnOk result (IfSome (R.remaining reader.old) (λ bytes. into.new.items ≡ take most bytes)) }
+    ensures front { OnOk result
+        (IfSome (R.remaining reader.old) (λ bytes. into.new.items ≡ take most bytes)) }
 {
     let mut buffer = [0u8; PIECE];
     read_pieces(reader, &mut buffer, most, into)
@@ -72,7 +78,8 @@ pub fn read_up_to<R: Read>(reader: &mut R, most: usize, into: &mut Vec<u8>) -> R
 /// Writes some of the bytes, and answers how many the writer took: none where it answers an error.
 fn write_piece<W: Write>(writer: &mut W, bytes: &[u8]) -> usize
     ensures most { result ≤ length bytes.now }
-    ensures taken { Appends (W.contents writer.old) (W.contents writer.new) (take result bytes.now) }
+    ensures taken { Appends (W.contents writer.old) (W.contents writer.new)
+        (take result bytes.now) }
 {
     match writer.write(bytes) {
         Ok(count) => count,
@@ -80,10 +87,13 @@ fn write_piece<W: Write>(writer: &mut W, bytes: &[u8]) -> usize
     }
 }
 
-/// Writes all the bytes, and answers whether the writer took them: not where it answers an error, or takes no byte of what is left.
+/// Writes all the bytes, and answers whether the writer took them: not where it answers an error,
+/// or takes no byte of what is left.
 pub fn write_whole<W: Write>(writer: &mut W, bytes: &[u8]) -> bool
-    ensures whole { IsTrue result → Appends (W.contents writer.old) (W.contents writer.new) bytes.now }
-    ensures part { IsFalse result → AppendsInPart (W.contents writer.old) (W.contents writer.new) bytes.now }
+    ensures whole { IsTrue result
+        → Appends (W.contents writer.old) (W.contents writer.new) bytes.now }
+    ensures part { IsFalse result
+        → AppendsInPart (W.contents writer.old) (W.contents writer.new) bytes.now }
 {
     let mut rest = bytes;
     while !rest.is_empty() {

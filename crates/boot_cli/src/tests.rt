@@ -1,4 +1,5 @@
-//! What no clause says: which words are given, and the number with which each status ends the program.
+//! What no clause says: which words are given, and the number with which each status ends the
+//! program.
 
 use crate::words;
 use boot_run::Status;
@@ -75,6 +76,6 @@ fn exit_statuses_are_numbered_in_order(rt: HostRuntime) {
         (Status::OutputFault, 6),
         (Status::Memory, 7),
     ] {
-        assert_eq!(rt; status as u8, number);
+        assert_eq!(rt; status.number(), number);
     }
 }

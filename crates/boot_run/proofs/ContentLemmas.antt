@@ -35,9 +35,11 @@ pub given : (c : Content) → IsContent c → IsGiven c
 given c is =
     let long : length (bytes_of c.otp) ≡ 16384 = length-bytes_of c.otp ∙ ap (λ n. 4 * n) is.otp_length in
     let narrow : All (λ row. row < 2 ^ 24) (rows_of (bytes_of c.otp)) = subst (All (λ row. row < 2 ^ 24)) (sym (rows-back c.otp is.otp_rows)) is.otp_rows in
-    let least = is.flash_length.least in let most = is.flash_length.most in
-    (c.flash, bytes_of c.otp,
-    (λ e. let none : length c.flash ≡ 0 = ap (λ (xs : List ℕ). length xs) e in absurd (omega arith), most),
-    (omega arith, omega arith, narrow),
-    ap (λ flash. record { flash = flash; otp = otp_of (bytes_of c.otp) }) (flash-back c.flash is.flash_length.whole least)
-    ∙ ap (λ otp. record { flash = c.flash; otp = otp }) (otp-back c.otp is.otp_rows is.otp_length))
+    let least = is.flash_length.least in let most = is.flash_length.most in (
+      c.flash,
+      bytes_of c.otp,
+      (λ e. let none : length c.flash ≡ 0 = ap (λ (xs : List ℕ). length xs) e in absurd (omega arith), most),
+      (omega arith, omega arith, narrow),
+      ap (λ flash. record { flash = flash; otp = otp_of (bytes_of c.otp) }) (flash-back c.flash is.flash_length.whole least)
+          ∙ ap (λ otp. record { flash = c.flash; otp = otp }) (otp-back c.otp is.otp_rows is.otp_length),
+    )

@@ -153,6 +153,7 @@ then-falls flash otp f g cpu kind w is falls =
 -- a boot ends with Bootsel exactly where the rules name a fall
 pub falls-exactly : (flash otp f g : List ℕ) (cpu : Cpu) (kind : BootKind) (w : Outcome) → w.status ≡ decided_status (decision_in (content_of f g) cpu kind)
     → ((judged (first_fault (flash_and_otp flash otp) (f ∷ g ∷ [])) w).status ≡ Bootsel) ↔ FallsOn f g cpu kind
-falls-exactly flash otp f g cpu kind w is =
-    (falls-then flash otp f g cpu kind w is (first_fault (flash_and_otp flash otp) (f ∷ g ∷ [])) (judged-first (flash_and_otp flash otp) (f ∷ g ∷ []) refl),
-    then-falls flash otp f g cpu kind w is)
+falls-exactly flash otp f g cpu kind w is = (
+  falls-then flash otp f g cpu kind w is (first_fault (flash_and_otp flash otp) (f ∷ g ∷ [])) (judged-first (flash_and_otp flash otp) (f ∷ g ∷ []) refl),
+  then-falls flash otp f g cpu kind w is,
+)

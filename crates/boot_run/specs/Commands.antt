@@ -32,12 +32,14 @@ hex_digit code =
 -- the number of these digits behind those of a first number
 abbrev pub hex_value : ℕ → List ℕ → Option ℕ
 hex_value first [] = Some first
-hex_value first (code ∷ codes) = option_and_then (λ digit. hex_value (16 * first + digit) codes) (hex_digit code)
+hex_value first (code ∷ codes) =
+    option_and_then (λ digit. hex_value (16 * first + digit) codes) (hex_digit code)
 
 -- the base of an update: `update=0x` and eight hexadecimal digits
 abbrev pub update_base : List ℕ → Option ℕ
 update_base word =
-    if length word == 17 && bytes_eq (take 9 word) (codes "update=0x") then hex_value 0 (drop 9 word)
+    if length word == 17 && bytes_eq (take 9 word) (codes "update=0x")
+    then hex_value 0 (drop 9 word)
     else None
 
 -- the word of a boot type
@@ -57,7 +59,8 @@ one_word name =
 -- the name of a command and three words
 abbrev pub four_words : List ℕ → List ℕ → List ℕ → Option Cpu → Option Command
 four_words name flash otp None = None
-four_words name flash otp (Some cpu) = if bytes_eq name (codes "info") then Some (Info flash otp cpu) else None
+four_words name flash otp (Some cpu) =
+    if bytes_eq name (codes "info") then Some (Info flash otp cpu) else None
 
 -- the name of a command and four words
 abbrev pub five_words : List ℕ → List ℕ → List ℕ → Option Cpu → Option BootKind → Option Command
@@ -72,7 +75,8 @@ five_words name flash otp (Some cpu) (Some kind) =
 abbrev pub command_of : List (List ℕ) → Option Command
 command_of (name ∷ []) = one_word name
 command_of (name ∷ flash ∷ otp ∷ cpu ∷ []) = four_words name flash otp (cpu_of cpu)
-command_of (name ∷ flash ∷ otp ∷ cpu ∷ kind ∷ []) = five_words name flash otp (cpu_of cpu) (kind_of kind)
+command_of (name ∷ flash ∷ otp ∷ cpu ∷ kind ∷ []) =
+    five_words name flash otp (cpu_of cpu) (kind_of kind)
 command_of _ = None
 
 -- the command of a run's words

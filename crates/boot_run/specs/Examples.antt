@@ -31,7 +31,8 @@ abbrev pub example_choice : Started → Choice
 example_choice image = record { image = image; member = A; other = None; updated = false }
 
 abbrev pub example_part : Partition
-example_part = record { location = 0; flags = 0; id = None; families = record { items = [] }; name = None }
+example_part =
+    record { location = 0; flags = 0; id = None; families = record { items = [] }; name = None }
 
 -- a table of version 1.9 with two partitions, in slot 1
 abbrev pub example_found : Found

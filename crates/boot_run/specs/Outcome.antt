@@ -1,4 +1,5 @@
--- What a run is to answer, put and write, as a function of its words and of the bytes of its files. This project's own.
+-- What a run is to answer, put and write, as a function of its words and of the bytes of its files.
+-- This project's own.
 use Rattle.std.specs.Prelude.{ℕ, Bool, true, false, if◌then◌else◌, List, [], ◌∷◌, ◌++◌, map, length, Option, Some, None, option_map, option_and_then, option_to_list, codes}
 use Rattle.std.specs.List.{flat_map}
 use Rattle.std.specs.Option.{option_or}
@@ -41,7 +42,8 @@ pub record Input : Type 0 where
 
 -- a flash file and an OTP file
 abbrev pub flash_and_otp : List ℕ → List ℕ → List Input
-flash_and_otp flash otp = record { name = flash; form = Flash } ∷ record { name = otp; form = Otp } ∷ []
+flash_and_otp flash otp =
+    record { name = flash; form = Flash } ∷ record { name = otp; form = Otp } ∷ []
 
 -- the inputs of a command, in word order
 abbrev pub inputs_of : Command → List Input
@@ -83,7 +85,8 @@ answered_status false = Done
 
 -- the outcome of a work
 abbrev pub worked : Work → Outcome
-worked (Answers falls text files) = record { status = answered_status falls; text = text; files = files }
+worked (Answers falls text files) =
+    record { status = answered_status falls; text = text; files = files }
 worked (Refuses name fault) = refused name fault
 
 -- an input whose bytes do not have its form, with their fault
@@ -92,7 +95,8 @@ named_fault input bytes = option_map (refused input.name) (form_fault input.form
 
 -- the first input in word order whose bytes do not have its form
 abbrev pub first_fault : List Input → List (List ℕ) → Option Outcome
-first_fault (input ∷ inputs) (bytes ∷ read) = option_or (named_fault input bytes) (first_fault inputs read)
+first_fault (input ∷ inputs) (bytes ∷ read) =
+    option_or (named_fault input bytes) (first_fault inputs read)
 first_fault _ _ = None
 
 -- the first fault of a form comes before the work
@@ -102,7 +106,8 @@ judged None outcome = outcome
 
 -- the outcome of a command on the bytes of its inputs
 abbrev pub command_outcome : Command → List (List ℕ) → Outcome
-command_outcome command read = judged (first_fault (inputs_of command) read) (worked (work_of command read))
+command_outcome command read =
+    judged (first_fault (inputs_of command) read) (worked (work_of command read))
 
 -- the inputs of the words, which have none where they are no command
 abbrev pub inputs_in : Option Command → List Input

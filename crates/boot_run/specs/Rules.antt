@@ -1,4 +1,5 @@
--- What is right for each command, in the words of the rules. This project's own, over the rules of a boot.
+-- What is right for each command, in the words of the rules. This project's own, over the rules of
+-- a boot.
 use Rattle.std.specs.Prelude.{◌≡◌, ◌⊎◌, ⊤, ℕ, true, false, List, [], ◌∷◌, ◌++◌}
 use Rattle.std.specs.List.{flat_map}
 use Rattle.pico_board.specs.declared.boot.Cpu.{Cpu}
@@ -26,7 +27,8 @@ use Rattle.boot_run.specs.Texts.{line, decision_line, table_text, valid_text, in
 use Rattle.boot_run.specs.Works.{windows_in, decided_data, data_line}
 use Rattle.boot_run.specs.Outcome.{Outcome, Input, inputs_of, refused}
 
--- the first input in word order that does not have its form has this name, and its bytes have this fault
+-- the first input in word order that does not have its form has this name, and its bytes have this
+-- fault
 abbrev pub IsFirstFault : List Input → List (List ℕ) → List ℕ → List ℕ → Type 0
 IsFirstFault (input ∷ inputs) (bytes ∷ read) name fault =
     ((name ≡ input.name) × IsFault input.form bytes fault)
@@ -41,11 +43,14 @@ AreFormed _ _ = ⊥
 
 -- an input of the command breaks its form
 abbrev pub IsRefused : Command → List (List ℕ) → Type 0
-IsRefused command read = (name : List ℕ) × (fault : List ℕ) × IsFirstFault (inputs_of command) read name fault
+IsRefused command read =
+    (name : List ℕ) × (fault : List ℕ) × IsFirstFault (inputs_of command) read name fault
 
 -- the outcome names the first input that breaks its form, with its fault
 abbrev pub IsRefusal : List Input → List (List ℕ) → Outcome → Type 0
-IsRefusal inputs read o = (name : List ℕ) × (fault : List ℕ) × IsFirstFault inputs read name fault × (o ≡ refused name fault)
+IsRefusal inputs read o =
+    (name : List ℕ) × (fault : List ℕ) × IsFirstFault inputs read name fault
+    × (o ≡ refused name fault)
 
 -- the status of a decision
 abbrev pub decided_status : Decision → Status
@@ -59,7 +64,8 @@ pub record FallsOn (f g : List ℕ) (cpu : Cpu) (kind : BootKind) : Type 0 where
   pub otp : HasForm Otp g
   pub chosen : Chosen (content_of f g) cpu kind (FallsToBootsel fall)
 
--- `boot`: the outcome tells the one decision that the rules name, whose image, where one starts, is not below its rollback rows
+-- `boot`: the outcome tells the one decision that the rules name, whose image, where one starts, is
+-- not below its rollback rows
 pub record IsBootOf (c : Content) (cpu : Cpu) (kind : BootKind) (o : Outcome) : Type 0 where
   pub decision : Decision
   pub chosen : Chosen c cpu kind decision
@@ -68,7 +74,8 @@ pub record IsBootOf (c : Content) (cpu : Cpu) (kind : BootKind) (o : Outcome) : 
   pub text : o.text ≡ decision_line decision
   pub files : o.files ≡ []
 
--- the line of a window tells its image, which is valid with trial not allowed, or the first rule that fails
+-- the line of a window tells its image, which is valid with trial not allowed, or the first rule
+-- that fails
 abbrev pub IsLineOf : Content → Cpu → Window → List ℕ → Type 0
 IsLineOf c cpu w text =
     ((s : Started) × Valid c w cpu false s × (text ≡ line (valid_text w s)))
@@ -78,7 +85,8 @@ IsLineOf c cpu w text =
 abbrev pub AreLinesOf : Content → Cpu → List Window → List ℕ → Type 0
 AreLinesOf c cpu [] text = text ≡ []
 AreLinesOf c cpu (w ∷ ws) text =
-    (first : List ℕ) × (rest : List ℕ) × IsLineOf c cpu w first × AreLinesOf c cpu ws rest × (text ≡ first ++ rest)
+    (first : List ℕ) × (rest : List ℕ) × IsLineOf c cpu w first × AreLinesOf c cpu ws rest
+    × (text ≡ first ++ rest)
 
 -- `info`: the outcome tells the table, and then each window
 pub record IsInfoOf (c : Content) (cpu : Cpu) (o : Outcome) : Type 0 where
@@ -88,7 +96,8 @@ pub record IsInfoOf (c : Content) (cpu : Cpu) (o : Outcome) : Type 0 where
   pub text : o.text ≡ line (table_text (table_in c)) ++ lines
   pub files : o.files ≡ []
 
--- `data`: the outcome tells the one decision that the rules name, and then the windows of the data of a started image
+-- `data`: the outcome tells the one decision that the rules name, and then the windows of the data
+-- of a started image
 pub record IsDataOf (c : Content) (cpu : Cpu) (kind : BootKind) (o : Outcome) : Type 0 where
   pub decision : Decision
   pub chosen : Chosen c cpu kind decision

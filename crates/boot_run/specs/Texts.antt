@@ -28,7 +28,8 @@ line text = text ++ (10 ∷ [])
 
 -- lower-case hexadecimal digits, at least so many, as `{:08x}` prints eight
 abbrev pub hex_digits : ℕ → ℕ → List ℕ
-hex_digits width n = padded_integral (format_spec 32 0 4 width (2 ^ 64 - 1)) false [] (digits 16 false n)
+hex_digits width n =
+    padded_integral (format_spec 32 0 4 width (2 ^ 64 - 1)) false [] (digits 16 false n)
 
 -- a number as 0x and eight digits
 abbrev pub hex_word : ℕ → List ℕ
@@ -58,7 +59,8 @@ window_text w = codes "window=" ++ (hex_word w.start ++ (codes "+" ++ hex_word w
 -- where an image starts: the place of its block, PC, SP and the stack limit
 abbrev pub entry_text : Started → List ℕ
 entry_text s =
-    codes "block=" ++ (hex_word s.block ++ (codes " pc=" ++ (hex_word s.pc ++ (codes " sp=" ++ (hex_word s.sp
+    codes "block="
+    ++ (hex_word s.block ++ (codes " pc=" ++ (hex_word s.pc ++ (codes " sp=" ++ (hex_word s.sp
     ++ (codes " limit=" ++ hex_word s.limit))))))
 
 abbrev pub version_text : Version → List ℕ
@@ -67,8 +69,11 @@ version_text v = codes "version=" ++ (decimal v.major ++ (codes "." ++ decimal v
 -- an image that starts
 abbrev pub start_text : Started → List ℕ
 start_text s =
-    codes "start " ++ (window_text s.window ++ (codes " " ++ (entry_text s ++ (codes " " ++ (version_text s.version
-    ++ (codes " rollback=" ++ (rollback_text s.rollback ++ (codes " trial=" ++ yes_or_no s.trial))))))))
+    codes "start "
+    ++ (window_text s.window
+    ++ (codes " " ++ (entry_text s ++ (codes " " ++ (version_text s.version
+    ++ (codes " rollback="
+    ++ (rollback_text s.rollback ++ (codes " trial=" ++ yes_or_no s.trial))))))))
 
 -- why a boot falls to BOOTSEL
 abbrev pub fall_text : Fall → List ℕ
@@ -113,7 +118,8 @@ entry_fault_text Pc = codes "entry pc"
 
 -- a rollback version that is below the count of its rows
 abbrev pub below_text : ℕ → ℕ → List ℕ
-below_text version count = codes "rollback " ++ (decimal version ++ (codes " below " ++ decimal count))
+below_text version count =
+    codes "rollback " ++ (decimal version ++ (codes " below " ++ decimal count))
 
 -- why an image is not valid
 abbrev pub why_text : Why → List ℕ

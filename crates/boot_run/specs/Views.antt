@@ -22,7 +22,12 @@ file_from file = record { name = file.name.now; bytes = file.bytes.items }
 
 -- an answer, as an outcome
 abbrev pub outcome_from : Answer → Outcome
-outcome_from answer = record { status = answer.status; text = string_bytes answer.text; files = map file_from answer.files.items }
+outcome_from answer =
+    record {
+      status = answer.status;
+      text = string_bytes answer.text;
+      files = map file_from answer.files.items;
+    }
 
 -- a command, with its names as text
 abbrev pub command_from : CommandWords → Command

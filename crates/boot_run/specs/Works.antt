@@ -19,8 +19,9 @@ use Rattle.boot_rules.specs.Tables.{table_in}
 use Rattle.boot_rules.specs.Data.{data_of}
 use Rattle.boot_run.specs.Texts.{line, decision_line, table_text, image_text, data_text}
 
--- What the work of a command comes to on the bytes of its inputs: it answers whether a boot falls to BOOTSEL, the text and the files to
--- write, in word order; or it refuses an input, by its word, with a fault.
+-- What the work of a command comes to on the bytes of its inputs: it answers whether a boot falls
+-- to BOOTSEL, the text and the files to write, in word order; or it refuses an input, by its word,
+-- with a fault.
 pub data Work : Type 0 where
   Answers : (falls : Bool) → (text : List ℕ) → (files : List File) → Work
   Refuses : (name fault : List ℕ) → Work
@@ -31,13 +32,15 @@ is_fall (Start choice) = false
 is_fall (Bootsel fall) = true
 
 abbrev pub boot_work : Content → Cpu → BootKind → Work
-boot_work c cpu kind = Answers (is_fall (decision_in c cpu kind)) (decision_line (decision_in c cpu kind)) []
+boot_work c cpu kind =
+    Answers (is_fall (decision_in c cpu kind)) (decision_line (decision_in c cpu kind)) []
 
 -- the windows of a unit's members, A first
 abbrev pub unit_windows : SlotUnit → List Window
 unit_windows u = u.a ∷ option_to_list u.b
 
--- the windows of a flash of n bytes with slots of z bytes: those of the table's partitions, in table order, or without a table those of the members of its one unit
+-- the windows of a flash of n bytes with slots of z bytes: those of the table's partitions, in
+-- table order, or without a table those of the members of its one unit
 abbrev pub windows_of : Option Found → ℕ → ℕ → Cpu → List Window
 windows_of None n z cpu = flat_map unit_windows (units None n z cpu)
 windows_of (Some found) n z cpu = map part_window found.table.parts.items
@@ -51,7 +54,9 @@ abbrev pub window_line : Content → Cpu → Window → List ℕ
 window_line c cpu w = line (image_text w (image_at c w cpu false))
 
 abbrev pub info_work : Content → Cpu → Work
-info_work c cpu = Answers false (line (table_text (table_in c)) ++ flat_map (window_line c cpu) (windows_in c cpu)) []
+info_work c cpu =
+    Answers false
+    (line (table_text (table_in c)) ++ flat_map (window_line c cpu) (windows_in c cpu)) []
 
 -- the windows of the data of a decision; a fall has none
 abbrev pub decided_data : Content → Decision → List Window
@@ -64,4 +69,5 @@ data_line w = line (data_text w)
 
 abbrev pub data_work : Content → Cpu → BootKind → Work
 data_work c cpu kind =
-    let d = decision_in c cpu kind in Answers (is_fall d) (decision_line d ++ flat_map data_line (decided_data c d)) []
+    let d = decision_in c cpu kind in Answers (is_fall d)
+    (decision_line d ++ flat_map data_line (decided_data c d)) []

@@ -54,15 +54,18 @@ fn part_windows(parts: &[Partition]) -> ArrayVec<Window, 15>
     windows
 }
 
-/// The windows of a flash: those of its table's partitions, in table order, or without a table those of the members
-/// of its one unit.
+/// The windows of a flash: those of its table's partitions, in table order, or without a table
+/// those of the members of its one unit.
 fn windows_of<B: Board>(board: &B, found: Option<&Found>, cpu: Cpu) -> ArrayVec<Window, 15>
     requires power { IsTrue (B.state board.now).powered }
     requires sound { IfSome (option_map (λ f. f.now) found)
         (λ f. IsSoundTable f.table (length (B.state board.now).content.flash / 4096)) }
-    ensures value { result.items ≡ windows_of (option_map (λ f. f.now) found.entry) (length (B.state board.now).content.flash)
+    ensures value { result.items
+        ≡ windows_of (option_map (λ f. f.now) found.entry)
+        (length (B.state board.now).content.flash)
         (slot_size (B.state board.now).content.otp (length (B.state board.now).content.flash)) cpu }
-    ensures inside { All (λ w. w.start + w.len ≤ length (B.state board.now).content.flash) result.items }
+    ensures inside { All
+        (λ w. w.start + w.len ≤ length (B.state board.now).content.flash) result.items }
 {
     match found {
         Some(found) => part_windows(found.table.parts.as_slice()),
@@ -70,7 +73,8 @@ fn windows_of<B: Board>(board: &B, found: Option<&Found>, cpu: Cpu) -> ArrayVec<
     }
 }
 
-/// The lines of windows, each with its image, where a trial image is not allowed, or why there is none.
+/// The lines of windows, each with its image, where a trial image is not allowed, or why there is
+/// none.
 fn window_lines<B: Board>(
     alloc: Global,
     board: &B,
@@ -80,8 +84,10 @@ fn window_lines<B: Board>(
 ) -> Result<String, AllocError>
     requires power { IsTrue (B.state board.now).powered }
     requires free { HasFree pool.old }
-    requires inside { All (λ w. w.start + w.len ≤ length (B.state board.now).content.flash) windows.now }
-    ensures { IfOk result (λ t. string_bytes t ≡ flat_map (window_line (B.state board.now).content cpu) windows.now) }
+    requires inside { All
+        (λ w. w.start + w.len ≤ length (B.state board.now).content.flash) windows.now }
+    ensures { IfOk result
+        (λ t. string_bytes t ≡ flat_map (window_line (B.state board.now).content cpu) windows.now) }
 {
     let mut text = String::new(alloc);
     for window in windows {
@@ -138,7 +144,8 @@ pub fn boot_answer<'a, B: Board>(
 ) -> Result<Answer<'a>, AllocError>
     requires power { IsTrue (B.state board.now).powered }
     requires free { HasFree pool.old }
-    ensures { IfOk result (λ answer. outcome_from answer ≡ worked (boot_work (B.state board.now).content cpu kind)) }
+    ensures { IfOk result
+        (λ answer. outcome_from answer ≡ worked (boot_work (B.state board.now).content cpu kind)) }
 {
     let decision = decide(board, pool, cpu, kind);
     let text = decision_line(alloc, &decision)?;
@@ -158,7 +165,8 @@ pub fn info_answer<'a, B: Board>(
 ) -> Result<Answer<'a>, AllocError>
     requires power { IsTrue (B.state board.now).powered }
     requires free { HasFree pool.old }
-    ensures { IfOk result (λ answer. outcome_from answer ≡ worked (info_work (B.state board.now).content cpu)) }
+    ensures { IfOk result
+        (λ answer. outcome_from answer ≡ worked (info_work (B.state board.now).content cpu)) }
 {
     let found = find_table(board);
     let mut text = table_line(alloc, found.as_ref())?;
@@ -182,7 +190,8 @@ pub fn data_answer<'a, B: Board>(
 ) -> Result<Answer<'a>, AllocError>
     requires power { IsTrue (B.state board.now).powered }
     requires free { HasFree pool.old }
-    ensures { IfOk result (λ answer. outcome_from answer ≡ worked (data_work (B.state board.now).content cpu kind)) }
+    ensures { IfOk result
+        (λ answer. outcome_from answer ≡ worked (data_work (B.state board.now).content cpu kind)) }
 {
     let decision = decide(board, pool, cpu, kind);
     let mut text = decision_line(alloc, &decision)?;

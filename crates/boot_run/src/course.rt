@@ -1,4 +1,5 @@
-//! The course of a run: it reads the inputs, and then writes the files and puts the text of an answer.
+//! The course of a run: it reads the inputs, and then writes the files and puts the text of an
+//! answer.
 
 ghost use Rattle.std.specs.Prelude.{◌≡◌, [], map};
 ghost use Rattle.pico_board.specs.Files.{Reads, Writes, Serves};
@@ -66,7 +67,8 @@ fn read_file<S: Store>(
     input: &InputWord<'_>,
     store: &mut S,
 ) -> Result<Vec<u8>, StoreFail>
-    ensures { Serves S.state S.history store.old (Reads input.now.name.now (limit_of input.now.form) (read_of result)) store.new }
+    ensures { Serves S.state S.history store.old
+        (Reads input.now.name.now (limit_of input.now.form) (read_of result)) store.new }
 {
     let mut bytes = Vec::new(alloc);
     store.read(input.name, input.form.limit(), &mut bytes)?;
@@ -79,7 +81,8 @@ pub fn read_all<S: Store>(
     inputs: &[InputWord<'_>],
     store: &mut S,
 ) -> Result<Vec<Vec<u8>>, Status>
-    ensures { ReadsIn S.state S.history (map input_from inputs.now) [] store.old (reading_of result) store.new }
+    ensures { ReadsIn S.state S.history (map input_from inputs.now) [] store.old
+        (reading_of result) store.new }
 {
     let mut files = Vec::new(alloc);
     for input in inputs {
@@ -97,7 +100,8 @@ pub fn read_all<S: Store>(
 
 /// Writes a file in one call.
 fn write_file<S: Store>(file: &OutFile<'_>, store: &mut S) -> Result<(), StoreFail>
-    ensures { Serves S.state S.history store.old (Writes file.now.name.now file.now.bytes.items result) store.new }
+    ensures { Serves S.state S.history store.old
+        (Writes file.now.name.now file.now.bytes.items result) store.new }
 {
     store.write(file.name, &file.bytes)
 }
@@ -128,7 +132,8 @@ pub fn put_text<K: Sink>(out: &mut K, text: &[u8], status: Status) -> Status
 
 /// Writes the files of an answer and then puts its text. The answer is the status of the run.
 pub fn finish<S: Store, K: Sink>(answer: &Answer<'_>, store: &mut S, out: &mut K) -> Status
-    ensures { Finishes S.state S.history K.state K.history (outcome_from answer.now) store.old out.old result store.new out.new }
+    ensures { Finishes S.state S.history K.state K.history
+        (outcome_from answer.now) store.old out.old result store.new out.new }
 {
     match write_all(&answer.files, store) {
         None => put_text(out, answer.text.as_bytes(), answer.status),

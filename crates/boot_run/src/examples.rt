@@ -1,4 +1,5 @@
-//! Worked examples of the definitions, proved by computing: each is the `ensures` of a function that does nothing.
+//! Worked examples of the definitions, proved by computing: each is the `ensures` of a function
+//! that does nothing.
 
 ghost use Rattle.std.specs.Prelude.{◌≡◌, ℕ, List, [], ◌∷◌, ◌++◌, replicate, codes, map, Some, None, Err, true, false};
 ghost use Rattle.pico_board.specs.declared.boot.Cpu.TheVariants.{Arm, Riscv};
@@ -43,7 +44,8 @@ pub fn decision_lines()
 /// The texts of tables, windows and data.
 pub fn window_texts()
     ensures none { table_text None ≡ codes "table none" }
-    ensures found { table_text (Some example_found) ≡ codes "table slot=1 version=1.9 partitions=2" }
+    ensures found { table_text (Some example_found)
+        ≡ codes "table slot=1 version=1.9 partitions=2" }
     ensures valid { valid_text small_window (example_image 1 9 (Some 3) false)
         ≡ codes "image window=0x00000000+0x00002000 ok version=1.9 rollback=3" }
     ensures invalid { image_text small_window (Err (Loop TooMany))
@@ -84,13 +86,16 @@ pub fn other_lines()
 
 /// The words of each command.
 pub fn words_of_commands()
-    ensures boot { command_of (codes "boot" ∷ codes "f" ∷ codes "o" ∷ codes "arm" ∷ codes "normal" ∷ [])
+    ensures boot { command_of
+        (codes "boot" ∷ codes "f" ∷ codes "o" ∷ codes "arm" ∷ codes "normal" ∷ [])
         ≡ Some (Boot (codes "f") (codes "o") Arm Normal) }
-    ensures bootsel { command_of (codes "boot" ∷ codes "" ∷ codes "o" ∷ codes "riscv" ∷ codes "bootsel" ∷ [])
+    ensures bootsel { command_of
+        (codes "boot" ∷ codes "" ∷ codes "o" ∷ codes "riscv" ∷ codes "bootsel" ∷ [])
         ≡ Some (Boot (codes "") (codes "o") Riscv AskBootsel) }
     ensures info { command_of (codes "info" ∷ codes "f" ∷ codes "o" ∷ codes "arm" ∷ [])
         ≡ Some (Info (codes "f") (codes "o") Arm) }
-    ensures data { command_of (codes "data" ∷ codes "f" ∷ codes "o" ∷ codes "arm" ∷ codes "normal" ∷ [])
+    ensures data { command_of
+        (codes "data" ∷ codes "f" ∷ codes "o" ∷ codes "arm" ∷ codes "normal" ∷ [])
         ≡ Some (OwnedData (codes "f") (codes "o") Arm Normal) }
     ensures help { command_of (codes "--help" ∷ []) ≡ Some Usage }
     ensures release { command_of (codes "--version" ∷ []) ≡ Some Release }
@@ -116,10 +121,15 @@ pub fn update_words()
 pub fn other_words()
     ensures none { command_of [] ≡ None }
     ensures three { command_of (codes "boot" ∷ codes "f" ∷ codes "o" ∷ []) ≡ None }
-    ensures six { command_of (codes "boot" ∷ codes "f" ∷ codes "o" ∷ codes "arm" ∷ codes "normal" ∷ codes "" ∷ []) ≡ None }
-    ensures cpu { command_of (codes "boot" ∷ codes "f" ∷ codes "o" ∷ codes "Arm" ∷ codes "normal" ∷ []) ≡ None }
-    ensures kind { command_of (codes "boot" ∷ codes "f" ∷ codes "o" ∷ codes "arm" ∷ codes "Normal" ∷ []) ≡ None }
-    ensures name { command_of (codes "info" ∷ codes "f" ∷ codes "o" ∷ codes "arm" ∷ codes "normal" ∷ []) ≡ None }
+    ensures six { command_of
+        (codes "boot" ∷ codes "f" ∷ codes "o" ∷ codes "arm" ∷ codes "normal" ∷ codes "" ∷ [])
+        ≡ None }
+    ensures cpu { command_of
+        (codes "boot" ∷ codes "f" ∷ codes "o" ∷ codes "Arm" ∷ codes "normal" ∷ []) ≡ None }
+    ensures kind { command_of
+        (codes "boot" ∷ codes "f" ∷ codes "o" ∷ codes "arm" ∷ codes "Normal" ∷ []) ≡ None }
+    ensures name { command_of
+        (codes "info" ∷ codes "f" ∷ codes "o" ∷ codes "arm" ∷ codes "normal" ∷ []) ≡ None }
     ensures four { command_of (codes "boot" ∷ codes "f" ∷ codes "o" ∷ codes "arm" ∷ []) ≡ None }
     ensures info_cpu { command_of (codes "info" ∷ codes "f" ∷ codes "o" ∷ codes "x86" ∷ []) ≡ None }
     ensures one { command_of (codes "-h" ∷ []) ≡ None }
@@ -136,7 +146,8 @@ pub fn forms_of_files()
     ensures three { form_fault Otp (0 ∷ 0 ∷ 0 ∷ []) ≡ Some (codes "otp-length") }
     ensures rows { rows_of (1 ∷ 2 ∷ 3 ∷ 0 ∷ 255 ∷ 255 ∷ 255 ∷ 0 ∷ []) ≡ 0x030201 ∷ 0xffffff ∷ [] }
     ensures narrow { form_fault Otp (0 ∷ 0 ∷ 0 ∷ 0 ∷ 255 ∷ 255 ∷ 255 ∷ 0 ∷ []) ≡ None }
-    ensures wide { form_fault Otp (0 ∷ 0 ∷ 0 ∷ 0 ∷ 0 ∷ 0 ∷ 0 ∷ 1 ∷ 0 ∷ 0 ∷ 0 ∷ 2 ∷ []) ≡ Some (codes "otp-row 0x001") }
+    ensures wide { form_fault Otp (0 ∷ 0 ∷ 0 ∷ 0 ∷ 0 ∷ 0 ∷ 0 ∷ 1 ∷ 0 ∷ 0 ∷ 0 ∷ 2 ∷ [])
+        ≡ Some (codes "otp-row 0x001") }
     ensures part_of_wide { form_fault Otp (0 ∷ 0 ∷ 0 ∷ 1 ∷ 0 ∷ []) ≡ Some (codes "otp-length") }
 {}
 
@@ -149,17 +160,25 @@ pub fn filled_lengths()
     ensures most { filled_length 16777215 ≡ 16777216 }
 {}
 
-/// Of two inputs that break their form the first in word order is named; a lacking name has no text.
+/// Of two inputs that break their form the first in word order is named; a lacking name has no
+/// text.
 pub fn first_faults()
-    ensures flash { command_outcome (Boot (codes "f") (codes "o") Arm Normal) ([] ∷ (0 ∷ []) ∷ []) ≡ refused (codes "f") (codes "empty") }
-    ensures otp { command_outcome (Info (codes "f") (codes "o") Arm) ((0 ∷ []) ∷ (0 ∷ []) ∷ []) ≡ refused (codes "o") (codes "otp-length") }
-    ensures data { command_outcome (OwnedData (codes "f") (codes "o") Arm Normal) ([] ∷ (0 ∷ []) ∷ []) ≡ refused (codes "f") (codes "empty") }
-    ensures lacking { outcome_on (Some (Boot (codes "f") (codes "o") Arm Normal)) (record { name = codes "f"; bytes = [] } ∷ []) ≡ unread }
+    ensures flash { command_outcome (Boot (codes "f") (codes "o") Arm Normal) ([] ∷ (0 ∷ []) ∷ [])
+        ≡ refused (codes "f") (codes "empty") }
+    ensures otp { command_outcome (Info (codes "f") (codes "o") Arm) ((0 ∷ []) ∷ (0 ∷ []) ∷ [])
+        ≡ refused (codes "o") (codes "otp-length") }
+    ensures data { command_outcome (OwnedData (codes "f") (codes "o") Arm Normal)
+        ([] ∷ (0 ∷ []) ∷ []) ≡ refused (codes "f") (codes "empty") }
+    ensures lacking { outcome_on (Some (Boot (codes "f") (codes "o") Arm Normal))
+        (record { name = codes "f"; bytes = [] } ∷ []) ≡ unread }
     ensures words { outcome_on None [] ≡ not_understood }
 {}
 
 /// Of two writes of one name the later bytes stand.
 pub fn the_later_bytes_stand()
-    ensures { saved (record { name = codes "a"; bytes = 1 ∷ [] } ∷ record { name = codes "a"; bytes = 2 ∷ [] } ∷ []) []
-        ≡ record { name = codes "a"; bytes = 2 ∷ [] } ∷ record { name = codes "a"; bytes = 1 ∷ [] } ∷ [] }
+    ensures { saved
+        (record { name = codes "a"; bytes = 1 ∷ [] } ∷ record { name = codes "a"; bytes = 2 ∷ [] }
+        ∷ []) []
+        ≡ record { name = codes "a"; bytes = 2 ∷ [] } ∷ record { name = codes "a"; bytes = 1 ∷ [] }
+        ∷ [] }
 {}

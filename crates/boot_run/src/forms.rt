@@ -101,7 +101,8 @@ fn whole_sectors(length: usize) -> usize
     (4096 * length.div_ceil(4096)).max(8192)
 }
 
-/// Fills a flash file to whole sectors, and at least two, with 0xff. It fails only where memory is out.
+/// Fills a flash file to whole sectors, and at least two, with 0xff. It fails only where memory is
+/// out.
 #[tactic(auto, unfolding(crate::specs::Forms::filled))]
 fn fill(flash: &mut Vec<u8>) -> Result<(), AllocError>
     requires { length flash.old.items ≤ 16777216 }
@@ -127,13 +128,15 @@ fn file_rows(alloc: Global, file: &[u8]) -> Result<Vec<u32>, AllocError>
 /// Fills rows with 0 to so many.
 fn pad(rows: &mut Vec<u32>, count: usize) -> Result<(), AllocError>
     requires { length rows.old.items ≤ count }
-    ensures rows { OnOk result (rows.new.items ≡ rows.old.items ++ replicate (count - length rows.old.items) 0) }
+    ensures rows { OnOk result
+        (rows.new.items ≡ rows.old.items ++ replicate (count - length rows.old.items) 0) }
     ensures count { OnOk result (length rows.new.items ≡ count) }
 {
     rows.resize(count, 0)
 }
 
-/// The 4096 rows that an OTP file gives, with 0 for those that it does not have. It fails only where memory is out.
+/// The 4096 rows that an OTP file gives, with 0 for those that it does not have. It fails only
+/// where memory is out.
 #[tactic(auto, unfolding(crate::specs::Forms::otp_of))]
 fn otp_rows(alloc: Global, file: &[u8]) -> Result<Vec<u32>, AllocError>
     requires { length file.now ≤ 16384 }
@@ -155,11 +158,13 @@ fn want_of_memory(error: BoardError) -> AllocError
     }
 }
 
-/// The board in memory of a flash file and an OTP file, which have their forms. It fails only where memory is out.
+/// The board in memory of a flash file and an OTP file, which have their forms. It fails only where
+/// memory is out.
 pub fn board_of(alloc: Global, flash: Vec<u8>, otp: &[u8]) -> Result<MemBoard, AllocError>
     requires flash { HasForm Form.Flash flash.items }
     requires otp { HasForm Form.Otp otp.now }
-    ensures { IfOk result (λ board. state_of board ≡ new_state (filled flash.items) (otp_of otp.now)) }
+    ensures { IfOk result
+        (λ board. state_of board ≡ new_state (filled flash.items) (otp_of otp.now)) }
 {
     let mut whole = flash;
     fill(&mut whole)?;

@@ -1,4 +1,5 @@
-//! Laws of the program's definitions, proved: each is the `ensures` of a function that does nothing.
+//! Laws of the program's definitions, proved: each is the `ensures` of a function that does
+//! nothing.
 
 ghost use Rattle.std.specs.Prelude.{◌≡◌, ◌↔◌, ℕ, List, [], ◌∷◌, Some, None, length};
 ghost use Rattle.pico_board.specs.declared.boot.Cpu.{Cpu};
@@ -31,7 +32,8 @@ pub fn statuses_have_numbers()
 pub fn forms_are_judged()
     ensures fault { (form : Form) (bytes fault : List ℕ)
         → (form_fault form bytes ≡ Some fault) ↔ IsFault form bytes fault }
-    ensures none { (form : Form) (bytes : List ℕ) → (form_fault form bytes ≡ None) ↔ HasForm form bytes }
+    ensures none { (form : Form) (bytes : List ℕ) → (form_fault form bytes ≡ None)
+        ↔ HasForm form bytes }
 {}
 
 /// Every content is that of a flash file and an OTP file that have their forms.
@@ -42,26 +44,33 @@ pub fn every_content_is_given()
 
 /// The outcome of a command on the bytes of its inputs is the one that is right by the rules.
 pub fn outcomes_are_right()
-    ensures right { (command : Command) (read : List (List ℕ)) → length read ≡ length (inputs_of command)
+    ensures right { (command : Command) (read : List (List ℕ))
+        → length read ≡ length (inputs_of command)
         → Obeys command read (command_outcome command read) }
     ensures only { (command : Command) (read : List (List ℕ)) (o : Outcome)
         → Obeys command read o → o ≡ command_outcome command read }
     ensures whole { (command : Command) (files : List File) (read : List (List ℕ))
-        → found files (inputs_of command) ≡ Some read → Obeys command read (outcome_on (Some command) files) }
+        → found files (inputs_of command) ≡ Some read
+        → Obeys command read (outcome_on (Some command) files) }
 {}
 
-/// The status is Input exactly where an input breaks its form, and Bootsel exactly where a boot that was asked for falls.
+/// The status is Input exactly where an input breaks its form, and Bootsel exactly where a boot
+/// that was asked for falls.
 pub fn statuses_come_exactly()
-    ensures input { (command : Command) (read : List (List ℕ)) → length read ≡ length (inputs_of command)
+    ensures input { (command : Command) (read : List (List ℕ))
+        → length read ≡ length (inputs_of command)
         → ((command_outcome command read).status ≡ Input) ↔ IsRefused command read }
     ensures boot { (flash otp f g : List ℕ) (cpu : Cpu) (kind : BootKind)
-        → ((command_outcome (Boot flash otp cpu kind) (f ∷ g ∷ [])).status ≡ Bootsel) ↔ FallsOn f g cpu kind }
+        → ((command_outcome (Boot flash otp cpu kind) (f ∷ g ∷ [])).status ≡ Bootsel)
+        ↔ FallsOn f g cpu kind }
     ensures data { (flash otp f g : List ℕ) (cpu : Cpu) (kind : BootKind)
-        → ((command_outcome (OwnedData flash otp cpu kind) (f ∷ g ∷ [])).status ≡ Bootsel) ↔ FallsOn f g cpu kind }
+        → ((command_outcome (OwnedData flash otp cpu kind) (f ∷ g ∷ [])).status ≡ Bootsel)
+        ↔ FallsOn f g cpu kind }
 {}
 
 /// What is read of files that are longer decides as the whole files do.
 pub fn longer_files_decide()
-    ensures { (command : Command) (whole : List (List ℕ)) → length whole ≡ length (inputs_of command)
+    ensures { (command : Command) (whole : List (List ℕ))
+        → length whole ≡ length (inputs_of command)
         → command_outcome command (cut (inputs_of command) whole) ≡ command_outcome command whole }
 {}

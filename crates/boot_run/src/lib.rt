@@ -8,6 +8,8 @@ mod forms;
 pub mod laws;
 mod program;
 mod status;
+#[cfg(test)]
+mod tests;
 mod text;
 mod usage;
 mod why;

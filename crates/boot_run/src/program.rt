@@ -59,7 +59,8 @@ fn run_words<S: Store, K: Sink>(
     store: &mut S,
     out: &mut K,
 ) -> Status
-    ensures { Runs S.state S.history K.state K.history (inputs_in (asked words.now)) (outcome_in (asked words.now))
+    ensures { Runs S.state S.history K.state K.history (inputs_in (asked words.now))
+        (outcome_in (asked words.now))
         store.old out.old result store.new out.new }
 {
     match command(words) {
@@ -68,42 +69,50 @@ fn run_words<S: Store, K: Sink>(
     }
 }
 
-/// All that the program does, for its words without the program's own name: reads the input files in word order, does
-/// the work in memory, writes the output files, and puts the text in one call. The answer is the status with which
-/// the program ends.
+/// All that the program does, for its words without the program's own name: reads the input files
+/// in word order, does the work in memory, writes the output files, and puts the text in one call.
+/// The answer is the status with which the program ends.
 ///
-/// `Words`: the words are no command. `Input`: the line names the first input, in word order, that breaks its form.
-/// `Bootsel`: a boot that was asked for falls to BOOTSEL. `ReadFault`, `WriteFault` and `OutputFault`: the count of
-/// read faults, of write faults or of the sink's faults rose. `Memory`: there was no memory; it may come anywhere.
+/// `Words`: the words are no command. `Input`: the line names the first input, in word order, that
+/// breaks its form. `Bootsel`: a boot that was asked for falls to BOOTSEL. `ReadFault`,
+/// `WriteFault` and `OutputFault`: the count of read faults, of write faults or of the sink's
+/// faults rose. `Memory`: there was no memory; it may come anywhere.
 pub fn run<S: Store, K: Sink>(
     alloc: Global,
     words: &Vec<String>,
     store: &mut S,
     out: &mut K,
 ) -> Status
-    // The first half of the headline, on told files, for every content, processor and boot type: where the whole text
-    // was put, `boot` names exactly the image, or the fall to BOOTSEL, that the rules choose, never below its
-    // rollback rows.
-    ensures boot { (flash otp f g : List ℕ) (cpu : Cpu) (kind : BootKind) (files : List File) (d : Decision)
+    // The first half of the headline, on told files, for every content, processor and boot type:
+    // where the whole text was put, `boot` names exactly the image, or the fall to BOOTSEL, that
+    // the rules choose, never below its rollback rows.
+    ensures boot { (flash otp f g : List ℕ) (cpu : Cpu) (kind : BootKind) (files : List File)
+        (d : Decision)
         → asked words.now ≡ Some (Boot flash otp cpu kind) → (S.state store.old).files ≡ Some files
-        → file_of files flash ≡ Some f → file_of files otp ≡ Some g → HasForm Form.Flash f → HasForm Form.Otp g
+        → file_of files flash ≡ Some f → file_of files otp ≡ Some g → HasForm Form.Flash f
+        → HasForm Form.Otp g
         → is_finished result ≡ true → Chosen (content_of f g) cpu kind d
-        → (result ≡ decided_status d) × IsPut (K.state out.old).bytes (decision_line d) (K.state out.new).bytes
+        → (result ≡ decided_status d)
+        × IsPut (K.state out.old).bytes (decision_line d) (K.state out.new).bytes
         × ((choice : Choice) → d ≡ Start choice → NotBelow (content_of f g).otp choice.image) }
 
-    // What the rules say, on every store: the run read some bytes, and the text that it put, its files and its status
-    // are right for the command on those bytes. `Input` comes exactly where one of them breaks its form.
+    // What the rules say, on every store: the run read some bytes, and the text that it put, its
+    // files and its status are right for the command on those bytes. `Input` comes exactly where
+    // one of them breaks its form.
     ensures obeys { (command : Command) → asked words.now ≡ Some command → is_finished result ≡ true
         → (read : List (List ℕ)) × (o : Outcome) × Obeys command read o × (result ≡ o.status)
         × ((result ≡ Status.Input) ↔ IsRefused command read)
-        × Does S.state S.history K.state K.history (inputs_of command) read o store.old out.old store.new out.new }
+        × Does S.state S.history K.state K.history
+        (inputs_of command) read o store.old out.old store.new out.new }
 
     // The calls of a run in their order, how it ends, and its outcome by the bytes that were read.
-    ensures course { Runs S.state S.history K.state K.history (inputs_in (asked words.now)) (outcome_in (asked words.now))
+    ensures course { Runs S.state S.history K.state K.history (inputs_in (asked words.now))
+        (outcome_in (asked words.now))
         store.old out.old result store.new out.new }
 
     // On told files: the status, the text and the files are those of the words on whole files.
-    ensures told { (files : List File) → (S.state store.old).files ≡ Some files → is_finished result ≡ true
+    ensures told { (files : List File) → (S.state store.old).files ≡ Some files
+        → is_finished result ≡ true
         → IsAsTold (outcome_on (asked words.now) files) (S.state store.old) (K.state out.old) result
         (S.state store.new) (K.state out.new) }
     ensures lacking { (files : List File) → (S.state store.old).files ≡ Some files
@@ -112,20 +121,27 @@ pub fn run<S: Store, K: Sink>(
 
     // Causes, and what an early end leaves.
     ensures words { (result ≡ Status.Words → asked words.now ≡ None)
-        × (asked words.now ≡ None → (result ≡ Status.Words) ⊎ ((result ≡ Status.OutputFault) ⊎ (result ≡ Status.Memory))) }
-    ensures read_fault { result ≡ Status.ReadFault → Rose (S.state store.old).read_faults (S.state store.new).read_faults
+        × (asked words.now ≡ None → (result ≡ Status.Words)
+        ⊎ ((result ≡ Status.OutputFault) ⊎ (result ≡ Status.Memory))) }
+    ensures read_fault { result ≡ Status.ReadFault
+        → Rose (S.state store.old).read_faults (S.state store.new).read_faults
         × (out.new ≡ out.old) × ((S.state store.new).files ≡ (S.state store.old).files) }
-    ensures write_fault { result ≡ Status.WriteFault → Rose (S.state store.old).write_faults (S.state store.new).write_faults
+    ensures write_fault { result ≡ Status.WriteFault
+        → Rose (S.state store.old).write_faults (S.state store.new).write_faults
         × (out.new ≡ out.old) × IsCutShort (S.state store.old).files (inputs_in (asked words.now))
         (outcome_in (asked words.now)) (S.state store.new).files }
-    ensures output_fault { result ≡ Status.OutputFault → Rose (K.state out.old).faults (K.state out.new).faults
-        × IsPutShort K.state K.history (S.state store.old).files (inputs_in (asked words.now)) (outcome_in (asked words.now))
+    ensures output_fault { result ≡ Status.OutputFault
+        → Rose (K.state out.old).faults (K.state out.new).faults
+        × IsPutShort K.state K.history (S.state store.old).files (inputs_in (asked words.now))
+        (outcome_in (asked words.now))
         (S.state store.new).files out.old SinkFail.Fault out.new }
     ensures memory { result ≡ Status.Memory
         → ((out.new ≡ out.old) × (((S.state store.new).files ≡ (S.state store.old).files)
-        ⊎ IsCutShort (S.state store.old).files (inputs_in (asked words.now)) (outcome_in (asked words.now))
+        ⊎ IsCutShort (S.state store.old).files (inputs_in (asked words.now))
+        (outcome_in (asked words.now))
         (S.state store.new).files))
-        ⊎ IsPutShort K.state K.history (S.state store.old).files (inputs_in (asked words.now)) (outcome_in (asked words.now))
+        ⊎ IsPutShort K.state K.history (S.state store.old).files (inputs_in (asked words.now))
+        (outcome_in (asked words.now))
         (S.state store.new).files out.old SinkFail.Memory out.new }
 
     // Completeness.

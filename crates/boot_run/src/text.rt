@@ -126,7 +126,8 @@ fn table_text(alloc: Global, found: Option<&Found>) -> Result<String, AllocError
 
 /// Its line.
 pub fn table_line(alloc: Global, found: Option<&Found>) -> Result<String, AllocError>
-    ensures { IfOk result (λ t. string_bytes t ≡ line (table_text (option_map (λ f. f.now) found.entry))) }
+    ensures { IfOk result
+        (λ t. string_bytes t ≡ line (table_text (option_map (λ f. f.now) found.entry))) }
 {
     let text = table_text(alloc, found)?;
     format!(in alloc; "{text}\n")

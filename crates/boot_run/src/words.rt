@@ -115,7 +115,8 @@ fn one_word(name: &str) -> Option<CommandWords<'static>>
 
 /// The command of four words.
 fn four_words<'a>(name: &str, flash: &'a str, otp: &'a str, cpu: &str) -> Option<CommandWords<'a>>
-    ensures { option_map command_from result ≡ four_words name.now flash.entry.now otp.entry.now (cpu_of cpu.now) }
+    ensures { option_map command_from result
+        ≡ four_words name.now flash.entry.now otp.entry.now (cpu_of cpu.now) }
 {
     let cpu = cpu_word(cpu)?;
     if name == "info" {
@@ -133,7 +134,8 @@ fn five_words<'a>(
     cpu: &str,
     kind: &str,
 ) -> Option<CommandWords<'a>>
-    ensures { option_map command_from result ≡ five_words name.now flash.entry.now otp.entry.now (cpu_of cpu.now) (kind_of kind.now) }
+    ensures { option_map command_from result
+        ≡ five_words name.now flash.entry.now otp.entry.now (cpu_of cpu.now) (kind_of kind.now) }
 {
     let cpu = cpu_word(cpu)?;
     let kind = kind_word(kind)?;

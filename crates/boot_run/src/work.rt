@@ -24,7 +24,8 @@ fn flash_and_otp<'a>(
     flash: &'a str,
     otp: &'a str,
 ) -> Result<Vec<InputWord<'a>>, AllocError>
-    ensures { IfOk result (λ inputs. map input_from inputs.items ≡ flash_and_otp flash.entry.now otp.entry.now) }
+    ensures { IfOk result
+        (λ inputs. map input_from inputs.items ≡ flash_and_otp flash.entry.now otp.entry.now) }
 {
     let flash = InputWord {
         name: flash,
@@ -42,7 +43,8 @@ pub fn inputs<'a>(
     alloc: Global,
     command: &CommandWords<'a>,
 ) -> Result<Vec<InputWord<'a>>, AllocError>
-    ensures { IfOk result (λ inputs. map input_from inputs.items ≡ inputs_of (command_from command.now)) }
+    ensures { IfOk result
+        (λ inputs. map input_from inputs.items ≡ inputs_of (command_from command.now)) }
 {
     match command {
         CommandWords::Boot { flash, otp, .. } => flash_and_otp(alloc, flash, otp),
@@ -71,7 +73,9 @@ fn first_fault(
     inputs: &[InputWord<'_>],
     files: &[Vec<u8>],
 ) -> Result<Option<Answer<'static>>, AllocError>
-    ensures { IfOk result (λ fault. option_map outcome_from fault ≡ first_fault (map input_from inputs.now) (bytes_of files.now)) }
+    ensures { IfOk result
+        (λ fault. option_map outcome_from fault
+        ≡ first_fault (map input_from inputs.now) (bytes_of files.now)) }
 {
     for (i, input) in inputs.iter().enumerate() {
         let Some(file) = files.get(i) else {
@@ -116,7 +120,9 @@ fn board_work<'a>(
     board: &MemBoard,
 ) -> Result<Answer<'a>, AllocError>
     requires { IsTrue (state_of board.now).powered }
-    ensures { IfOk result (λ answer. outcome_from answer ≡ worked (content_work (command_from command.now) (state_of board.now).content)) }
+    ensures { IfOk result
+        (λ answer. outcome_from answer
+        ≡ worked (content_work (command_from command.now) (state_of board.now).content)) }
 {
     let mut pool = SectorPool::make(alloc, 4)?;
     match command {
@@ -136,8 +142,11 @@ fn files_work<'a>(
     command: &CommandWords<'a>,
     files: Vec<Vec<u8>>,
 ) -> Result<Answer<'a>, AllocError>
-    requires { (f o : List ℕ) → bytes_of files.items ≡ (f ∷ o ∷ []) → HasForm Form.Flash f × HasForm Form.Otp o }
-    ensures { IfOk result (λ answer. outcome_from answer ≡ worked (files_work (command_from command.now) (bytes_of files.items))) }
+    requires { (f o : List ℕ) → bytes_of files.items ≡ (f ∷ o ∷ []) → HasForm Form.Flash f
+        × HasForm Form.Otp o }
+    ensures { IfOk result
+        (λ answer. outcome_from answer
+        ≡ worked (files_work (command_from command.now) (bytes_of files.items))) }
 {
     match two(files) {
         Some((flash, otp)) => {
@@ -155,7 +164,9 @@ fn work<'a>(
     files: Vec<Vec<u8>>,
 ) -> Result<Answer<'a>, AllocError>
     requires { first_fault (inputs_of (command_from command.now)) (bytes_of files.items) ≡ None }
-    ensures { IfOk result (λ answer. outcome_from answer ≡ worked (work_of (command_from command.now) (bytes_of files.items))) }
+    ensures { IfOk result
+        (λ answer. outcome_from answer
+        ≡ worked (work_of (command_from command.now) (bytes_of files.items))) }
 {
     match command {
         CommandWords::Boot { .. } => files_work(alloc, command, files),
@@ -174,7 +185,9 @@ pub fn answer<'a>(
     files: Vec<Vec<u8>>,
 ) -> Result<Answer<'a>, AllocError>
     requires { map input_from inputs.now ≡ inputs_of (command_from command.now) }
-    ensures { IfOk result (λ answer. outcome_from answer ≡ command_outcome (command_from command.now) (bytes_of files.items)) }
+    ensures { IfOk result
+        (λ answer. outcome_from answer
+        ≡ command_outcome (command_from command.now) (bytes_of files.items)) }
 {
     match first_fault(alloc, inputs, &files)? {
         Some(fault) => Ok(fault),

@@ -1,4 +1,5 @@
-//! What no clause can say: what the adapter reads and writes of real files, and which calls count as faults.
+//! What no clause can say: what the adapter reads and writes of real files, and which calls count
+//! as faults.
 
 use super::Disk;
 use pico_board::{Store, StoreFail};
