@@ -132,7 +132,8 @@ valid-parts w cpu trial otp bytes s v =
       not-below in_flash w cpu trial otp bytes s v,
     )
 
-pub parts-valid : (w : Window) (cpu : Cpu) (trial : Bool) (otp bytes : List ℕ) (s : Started) → s.window ≡ w → Holds cpu bytes s
+pub parts-valid : (w : Window) (cpu : Cpu) (trial : Bool) (otp bytes : List ℕ) (s : Started) → s.window ≡ w
+    → Holds cpu bytes s
     → (s.trial ≡ true → trial ≡ true) → NotBelow otp s → IsValidImage in_flash w cpu trial otp bytes s
 parts-valid w cpu trial otp bytes s here h may not =
     let rows = subst (NotBelow otp) h.started not in
@@ -147,7 +148,8 @@ parts-valid w cpu trial otp bytes s here h may not =
     }
 
 -- a window that begins with an erased sector
-pub erased-none : (a : Addressing) (w : Window) (cpu : Cpu) (trial : Bool) (otp bytes : List ℕ) → IsErasedFrom bytes 0 4096
+pub erased-none : (a : Addressing) (w : Window) (cpu : Cpu) (trial : Bool) (otp bytes : List ℕ)
+    → IsErasedFrom bytes 0 4096
     → image_in a w cpu trial otp bytes ≡ Err NoBlock
 erased-none a w cpu trial otp bytes erased =
     why-answered cpu bytes a w trial otp NoBlock (IsFault-from_answer bytes NoFirst (loop_of-blank bytes erased))

@@ -73,8 +73,8 @@ pub fn an_open_loop_has_a_first_block()
         → IsWhyNot a cpu trial otp bytes (Loop NoFirst) → ⊥ }
 {}
 
-/// An image that is valid where no trial image is allowed is no trial, and is valid where one is; and
-/// one that is no trial and is valid where a trial image is allowed is valid where none is.
+/// An image that is valid where no trial image is allowed is no trial, and is valid where one is;
+/// and one that is no trial and is valid where a trial image is allowed is valid where none is.
 pub fn trial_allows_more()
     ensures more { (a : Addressing) (w : Window) (cpu : Cpu) (otp bytes : List ℕ) (s : Started)
         → IsValidImage a w cpu false otp bytes s → IsValidImage a w cpu true otp bytes s }
@@ -85,8 +85,8 @@ pub fn trial_allows_more()
         → IsValidImage a w cpu false otp bytes s }
 {}
 
-/// Validity in three parts: the window holds the image, by its bytes alone; the image is no trial, or
-/// one is allowed; and it is not below its rollback rows, which alone reads the OTP.
+/// Validity in three parts: the window holds the image, by its bytes alone; the image is no trial,
+/// or one is allowed; and it is not below its rollback rows, which alone reads the OTP.
 pub fn validity_in_three_parts()
     ensures { (w : Window) (cpu : Cpu) (trial : Bool) (otp bytes : List ℕ) (s : Started)
         → IsValidImage in_flash w cpu trial otp bytes s

@@ -34,7 +34,8 @@ const DIGEST: [u32; 8] = [
     0x9f01_d02c,
 ];
 
-/// A flash of 8192 bytes with the vectors at its start and these words at 0x100, and 0xff elsewhere.
+/// A flash of 8192 bytes with the vectors at its start and these words at 0x100, and 0xff
+/// elsewhere.
 fn flash_with(alloc: Global, words: &[u32]) -> Result<Vec<u8>, AllocError> {
     let mut flash = Vec::new(alloc);
     for place in 0..2048u32 {
@@ -306,8 +307,8 @@ fn loops_and_items_have_their_faults(rt: HostRuntime) -> Result<(), Fail> {
     Ok(())
 }
 
-/// What the check answers of an Arm image in RAM at 0x20001000, whose bytes are those of a flash with
-/// these words at 0x100.
+/// What the check answers of an Arm image in RAM at 0x20001000, whose bytes are those of a flash
+/// with these words at 0x100.
 fn checked_in_ram(
     rt: &impl Abort,
     alloc: Global,
@@ -379,8 +380,8 @@ fn a_delta_is_refused(rt: HostRuntime) -> Result<(), Fail> {
     Ok(())
 }
 
-/// Whether two flashes of 8192 bytes, of which the first has these words at 0x100 and holds an image,
-/// hold the same image.
+/// Whether two flashes of 8192 bytes, of which the first has these words at 0x100 and holds an
+/// image, hold the same image.
 fn same_images(rt: &impl Abort, alloc: Global, one: &[u32], two: &[u32]) -> Result<bool, Fail> {
     let first = board_of(alloc, flash_with(alloc, one)?)?;
     let second = board_of(alloc, flash_with(alloc, two)?)?;
