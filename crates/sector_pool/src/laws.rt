@@ -1,7 +1,7 @@
 //! Laws of the words by which calls that borrow from a pool say what they leave as it was.
 
-ghost use Rattle.std.specs.Prelude.{◌≡◌, ◌≢◌, ℕ, List, Some, true, false, slice_get};
-ghost use Rattle.sector_pool.specs.Keeping.{KeepsOut, KeepsOutBut};
+ghost use Rattle.std.specs.Prelude.{◌≡◌, ◌≢◌, ℕ, List, None, Option, Some, true, false, slice_get};
+ghost use Rattle.sector_pool.specs.Keeping.{HandsOver, KeepsOut, KeepsOutBut};
 ghost use Rattle.sector_pool.specs.Pool.{Pool, leased, returned, written};
 
 /// A pool that is left alone keeps what is out, and two calls that do keep it one after the other.
@@ -22,4 +22,18 @@ pub fn writing_leaves_others()
 /// A free sector that is lent, written while it is out and given back leaves every other sector that is out as it was.
 pub fn lending_leaves_others()
     ensures { (old new : Pool) (k : ℕ) → slice_get old.out k ≡ Some false → KeepsOutBut k (leased old k) new → KeepsOut old (returned new k) }
+{}
+
+/// A caller that leases, writes through its lease or gives it back hands over what it holds, and so
+/// do two such calls.
+pub fn handing_over_composes()
+    ensures leased { (old : Pool) (k : ℕ) → slice_get old.out k ≡ Some false
+        → HandsOver None (Some k) old (leased old k) }
+    ensures written { (old : Pool) (k : ℕ) (bytes : List ℕ) → slice_get old.out k ≡ Some true
+        → HandsOver (Some k) (Some k) old (written old k bytes) }
+    ensures returned { (old : Pool) (k : ℕ) → slice_get old.out k ≡ Some true
+        → HandsOver (Some k) None old (returned old k) }
+    ensures none { (old new : Pool) → KeepsOut old new → HandsOver None None old new }
+    ensures two { (a b c : Option ℕ) (p q r : Pool) → HandsOver a b p q → HandsOver b c q r
+        → HandsOver a c p r }
 {}

@@ -54,8 +54,8 @@ answer_after true t blocks = if is_whole blocks then Ok (Done t) else Ok Taken
 answer_after false t blocks = Err PowerLost
 
 -- The board does the steps by which the list of the former blocks grows with one more, whole or
--- until power is lost. Where more blocks are to come the download then stands for the new list; it has no
--- current download where it is done or power was lost.
+-- until power is lost. Where more blocks are to come the download then stands for the new list; it
+-- has no current download where it is done or power was lost.
 pub record Places {B : Type 0} (state : B → State) (history : B → List Step → Type 0) (t : Target)
     (former : List Uf2) (b : Uf2) (old : B) (answer : Result Accepted PlaceFault) (new : B)
     (d : Kept) (pool : Pool) : Type 0 where

@@ -89,7 +89,10 @@ impl Download {
     /// Places a block, without the boot that may follow.
     ///
     /// `target` is where a new download of the block's family goes; it is looked at only where
-    /// [`Download::wants`] gives a family.
+    /// [`Download::wants`] gives a family. A block that is skipped, repeated or refused changes
+    /// nothing, and the rules are judged in the order of [`Accepted`] and [`PlaceFault`]. A block
+    /// that begins a download drops the former one. Lost power drops the current one, and the
+    /// steps up to the lost one are done. The lease of a gated download is out while it is current.
     pub fn accept<B: Board>(
         &mut self,
         board: &mut B,
