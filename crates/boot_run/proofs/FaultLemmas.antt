@@ -1,10 +1,9 @@
 -- The first input that does not have its form.
-use Rattle.std.proofs.Common.{◌≡◌, List, ℕ, [], ◌∷◌, Option, Some, None, option_map, refl, sym, subst, ◌∙◌, ap}
+use Rattle.std.proofs.Common.{◌≡◌, List, ℕ, [], ◌∷◌, Option, Some, None, option_map, refl, subst}
 use Rattle.std.specs.Option.{option_or}
-use Rattle.boot_run.specs.declared.forms.Form.{Form}
 use Rattle.boot_run.specs.declared.forms.Form.TheVariants.{Flash, Otp}
 use Rattle.boot_run.specs.Forms.{HasForm, form_fault}
-use Rattle.boot_run.specs.Outcome.{Input, Outcome, first_fault, flash_and_otp, named_fault, refused}
+use Rattle.boot_run.specs.Outcome.{Input, first_fault, flash_and_otp, named_fault, refused}
 use Rattle.boot_run.proofs.FormLemmas.{formed}
 
 -- inputs without bytes have no fault
@@ -20,15 +19,23 @@ or-none (Some x) b h = cc
 pub named-none : (input : Input) (bytes : List ℕ) → named_fault input bytes ≡ None → form_fault input.form bytes ≡ None
 named-none input bytes h = go (form_fault input.form bytes) refl h
   where
-    go : (o : Option (List ℕ)) → form_fault input.form bytes ≡ o → option_map (refused input.name) o ≡ None → form_fault input.form bytes ≡ None
+    go : (o : Option (List ℕ)) → form_fault input.form bytes ≡ o → option_map (refused input.name) o ≡ None
+        → form_fault input.form bytes ≡ None
     go None is e = is
     go (Some fault) is e = cc
 
 -- a flash file and an OTP file without a fault have their forms
-pub both-formed : (flash otp : List ℕ) (read : List (List ℕ)) (f o : List ℕ) → first_fault (flash_and_otp flash otp) read ≡ None → read ≡ (f ∷ o ∷ [])
+pub both-formed : (flash otp : List ℕ) (read : List (List ℕ)) (f o : List ℕ)
+    → first_fault (flash_and_otp flash otp) read ≡ None → read ≡ (f ∷ o ∷ [])
     → HasForm Flash f × HasForm Otp o
 both-formed flash otp read f o h is =
-    let none : first_fault (flash_and_otp flash otp) (f ∷ o ∷ []) ≡ None = subst (λ r. first_fault (flash_and_otp flash otp) r ≡ None) is h in
-    let first = or-none (named_fault (record { name = flash; form = Flash }) f) (option_or (named_fault (record { name = otp; form = Otp }) o) None) none in
-    let second = or-none (named_fault (record { name = otp; form = Otp }) o) None first.1 in
-    (formed Flash f (named-none (record { name = flash; form = Flash }) f first.0), formed Otp o (named-none (record { name = otp; form = Otp }) o second.0))
+    let none : first_fault (flash_and_otp flash otp) (f ∷ o ∷ []) ≡ None =
+    subst (λ r. first_fault (flash_and_otp flash otp) r ≡ None) is h in
+    let first =
+    or-none (named_fault (record { name = flash; form = Flash }) f)
+    (option_or (named_fault (record { name = otp; form = Otp }) o) None) none in
+    let second = or-none (named_fault (record { name = otp; form = Otp }) o) None first.1 in (
+      formed Flash f (named-none (record { name = flash; form = Flash }) f first.0),
+      formed Otp o
+          (named-none (record { name = otp; form = Otp }) o second.0),
+    )

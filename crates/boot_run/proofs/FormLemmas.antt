@@ -1,13 +1,12 @@
 -- A file has its form exactly where it has no fault, and a fault is the one that the rules name.
-use Rattle.std.proofs.Common.{◌≡◌, ◌≢◌, ◌⊎◌, ℕ, zero, suc, ◌+◌, ◌*◌, ◌/◌, ◌%◌, ◌^◌, ◌<◌, ◌≤◌, ◌==◌, Bool, true, false, cond, nat_lt, nat_eq, List, [], ◌∷◌, ◌++◌, length, take, drop, get_or, map, All, Option, Some, None, option_map, codes, refl, sym, ◌∙◌, ap, subst, inl, inr, arith}
+use Rattle.std.proofs.Common.{◌≡◌, ℕ, zero, suc, ◌+◌, ◌%◌, ◌^◌, ◌<◌, ◌≤◌, ◌==◌, Bool, true, false, cond, nat_lt, List, [], ◌∷◌, ◌++◌, length, take, All, Option, Some, None, option_map, codes, refl, sym, ◌∙◌, ap, subst, inl, inr, arith}
 use Rattle.std.proofs.lemmas.Bool.{ltb-true, ltb-false, lt-ltb, le-ltb, eqb-true, eqb-false, eq-eqb, ne_eqb}
 use Rattle.std.proofs.lemmas.List.Elements.{All-cons, All-head, All-tail}
 use Rattle.pico_board.specs.Rows.{IsFirstWide}
 use Rattle.boot_run.specs.declared.forms.Form.{Form}
 use Rattle.boot_run.specs.declared.forms.Form.TheVariants.{Flash, Otp}
-use Rattle.boot_run.specs.declared.forms.TheConstants.{FLASH_LIMIT, OTP_LIMIT}
 use Rattle.boot_run.specs.Texts.{hex_row}
-use Rattle.boot_run.specs.Forms.{limit_of, rows_of, HasForm, IsTooLarge, IsOwnFault, IsFault, wide_from, otp_fault, own_fault, form_fault}
+use Rattle.boot_run.specs.Forms.{limit_of, rows_of, HasForm, IsOwnFault, IsFault, wide_from, otp_fault, own_fault, form_fault}
 
 abbrev pub IsNarrow : List ℕ → Type 0
 IsNarrow rows = All (λ row. row < 2 ^ 24) rows
@@ -23,7 +22,8 @@ pub wide-none : (n : ℕ) (rows : List ℕ) → wide_from n rows ≡ None → Is
 wide-none n [] h = none-narrow
 wide-none n (x ∷ rows) h = go (nat_lt x (2 ^ 24)) refl h (wide-none (n + 1) rows)
   where
-    go : (t : Bool) → nat_lt x (2 ^ 24) ≡ t → cond t (wide_from (n + 1) rows) (Some n) ≡ None → (wide_from (n + 1) rows ≡ None → IsNarrow rows) → IsNarrow (x ∷ rows)
+    go : (t : Bool) → nat_lt x (2 ^ 24) ≡ t → cond t (wide_from (n + 1) rows) (Some n) ≡ None
+        → (wide_from (n + 1) rows ≡ None → IsNarrow rows) → IsNarrow (x ∷ rows)
     go true is e rest = All-cons IsSmall x rows (ltb-true x (2 ^ 24) is) (rest e)
     go false is e rest = cc
 
@@ -41,11 +41,19 @@ pub wide-some : (n : ℕ) (rows : List ℕ) (m : ℕ) → wide_from n rows ≡ S
 wide-some n [] m h = cc
 wide-some n (x ∷ rows) m h = go (nat_lt x (2 ^ 24)) refl h (wide-some (n + 1) rows m)
   where
-    go : (t : Bool) → nat_lt x (2 ^ 24) ≡ t → cond t (wide_from (n + 1) rows) (Some n) ≡ Some m → (wide_from (n + 1) rows ≡ Some m → IsFound (n + 1) rows m) → IsFound n (x ∷ rows) m
+    go : (t : Bool) → nat_lt x (2 ^ 24) ≡ t → cond t (wide_from (n + 1) rows) (Some n) ≡ Some m
+        → (wide_from (n + 1) rows ≡ Some m → IsFound (n + 1) rows m) → IsFound n (x ∷ rows) m
     go true is e rest =
         let r = rest e in
-        let inside : suc r.0 < suc (length rows) = omega (arith, r.2.inside) in
-        (suc r.0, omega (arith, r.1), record { inside = inside; wide = r.2.wide; least = All-cons IsSmall x (take r.0 rows) (ltb-true x (2 ^ 24) is) r.2.least })
+        let inside : suc r.0 < suc (length rows) = omega (arith, r.2.inside) in (
+          suc r.0,
+          omega (arith, r.1),
+          record {
+            inside = inside;
+            wide = r.2.wide;
+            least = All-cons IsSmall x (take r.0 rows) (ltb-true x (2 ^ 24) is) r.2.least;
+          },
+        )
     go false is e rest =
         let here : m ≡ n = cc in
         (0, omega (arith, here), record { inside = omega arith; wide = ltb-false x (2 ^ 24) is; least = none-narrow })
@@ -57,7 +65,8 @@ some-wide n (x ∷ rows) zero is =
 some-wide n (x ∷ rows) (suc i) is =
     let inside : i < length rows = omega (arith, is.inside) in
     ap (λ t. cond t (wide_from (n + 1) rows) (Some n)) (lt-ltb x (2 ^ 24) (All-head IsSmall x (take i rows) is.least))
-    ∙ some-wide (n + 1) rows i (record { inside = inside; wide = is.wide; least = All-tail IsSmall x (take i rows) is.least })
+    ∙ some-wide (n + 1) rows i
+    (record { inside = inside; wide = is.wide; least = All-tail IsSmall x (take i rows) is.least })
     ∙ ap Some (omega arith)
 
 row-text : Option ℕ → Option (List ℕ)
@@ -67,12 +76,14 @@ row-text found = option_map (λ row. codes "otp-row " ++ hex_row row) found
 otp-formed : (bytes : List ℕ) → otp_fault bytes ≡ None → (length bytes % 4 ≡ 0) × IsNarrow (rows_of bytes)
 otp-formed bytes h = go (length bytes % 4 == 0) refl h
   where
-    rows : (found : Option ℕ) → wide_from 0 (rows_of bytes) ≡ found → option_map (λ row. codes "otp-row " ++ hex_row row) found ≡ None → IsNarrow (rows_of bytes)
+    rows : (found : Option ℕ) → wide_from 0 (rows_of bytes) ≡ found
+        → option_map (λ row. codes "otp-row " ++ hex_row row) found ≡ None → IsNarrow (rows_of bytes)
     rows None is e = wide-none 0 (rows_of bytes) is
     rows (Some row) is e = cc
 
     go : (t : Bool) → (length bytes % 4 == 0) ≡ t
-        → cond t (option_map (λ row. codes "otp-row " ++ hex_row row) (wide_from 0 (rows_of bytes))) (Some (codes "otp-length")) ≡ None
+        → cond t (option_map (λ row. codes "otp-row " ++ hex_row row) (wide_from 0 (rows_of bytes)))
+        (Some (codes "otp-length")) ≡ None
         → (length bytes % 4 ≡ 0) × IsNarrow (rows_of bytes)
     go true is e = (eqb-true (length bytes % 4) 0 is, rows (wide_from 0 (rows_of bytes)) refl e)
     go false is e = cc
@@ -80,7 +91,8 @@ otp-formed bytes h = go (length bytes % 4 == 0) refl h
 otp-faulty : (bytes fault : List ℕ) → otp_fault bytes ≡ Some fault → IsOwnFault Otp bytes fault
 otp-faulty bytes fault h = go (length bytes % 4 == 0) refl h
   where
-    rows : length bytes % 4 ≡ 0 → (found : Option ℕ) → wide_from 0 (rows_of bytes) ≡ found → option_map (λ row. codes "otp-row " ++ hex_row row) found ≡ Some fault
+    rows : length bytes % 4 ≡ 0 → (found : Option ℕ) → wide_from 0 (rows_of bytes) ≡ found
+        → option_map (λ row. codes "otp-row " ++ hex_row row) found ≡ Some fault
         → IsOwnFault Otp bytes fault
     rows whole None is e = cc
     rows whole (Some row) is e =
@@ -90,13 +102,15 @@ otp-faulty bytes fault h = go (length bytes % 4 == 0) refl h
         inr (whole, row, subst (IsFirstWide (rows_of bytes)) (sym same) f.2, text)
 
     go : (t : Bool) → (length bytes % 4 == 0) ≡ t
-        → cond t (option_map (λ row. codes "otp-row " ++ hex_row row) (wide_from 0 (rows_of bytes))) (Some (codes "otp-length")) ≡ Some fault
+        → cond t (option_map (λ row. codes "otp-row " ++ hex_row row) (wide_from 0 (rows_of bytes)))
+        (Some (codes "otp-length")) ≡ Some fault
         → IsOwnFault Otp bytes fault
     go true is e = rows (eqb-true (length bytes % 4) 0 is) (wide_from 0 (rows_of bytes)) refl e
     go false is e = let text : fault ≡ codes "otp-length" = cc in inl (eqb-false (length bytes % 4) 0 is, text)
 
 -- the same of a file of either form
-own-formed : (form : Form) (bytes : List ℕ) → length bytes ≤ limit_of form → own_fault form bytes ≡ None → HasForm form bytes
+own-formed : (form : Form) (bytes : List ℕ) → length bytes ≤ limit_of form → own_fault form bytes ≡ None
+    → HasForm form bytes
 own-formed Flash [] few h = cc
 own-formed Flash (b ∷ bytes) few h = (λ (e : (b ∷ bytes) ≡ []). cc, few)
 own-formed Otp bytes few h = let o = otp-formed bytes h in (few, o.0, o.1)
@@ -110,7 +124,8 @@ own-faulty Otp bytes fault h = otp-faulty bytes fault h
 pub formed : (form : Form) (bytes : List ℕ) → form_fault form bytes ≡ None → HasForm form bytes
 formed form bytes h = go (nat_lt (limit_of form) (length bytes)) refl h
   where
-    go : (t : Bool) → nat_lt (limit_of form) (length bytes) ≡ t → cond t (Some (codes "too-large")) (own_fault form bytes) ≡ None → HasForm form bytes
+    go : (t : Bool) → nat_lt (limit_of form) (length bytes) ≡ t
+        → cond t (Some (codes "too-large")) (own_fault form bytes) ≡ None → HasForm form bytes
     go true is e = cc
     go false is e = own-formed form bytes (ltb-false (limit_of form) (length bytes) is) e
 
@@ -118,7 +133,8 @@ formed form bytes h = go (nat_lt (limit_of form) (length bytes)) refl h
 pub faulty : (form : Form) (bytes fault : List ℕ) → form_fault form bytes ≡ Some fault → IsFault form bytes fault
 faulty form bytes fault h = go (nat_lt (limit_of form) (length bytes)) refl h
   where
-    go : (t : Bool) → nat_lt (limit_of form) (length bytes) ≡ t → cond t (Some (codes "too-large")) (own_fault form bytes) ≡ Some fault → IsFault form bytes fault
+    go : (t : Bool) → nat_lt (limit_of form) (length bytes) ≡ t
+        → cond t (Some (codes "too-large")) (own_fault form bytes) ≡ Some fault → IsFault form bytes fault
     go true is e = let text : fault ≡ codes "too-large" = cc in inl (ltb-true (limit_of form) (length bytes) is, text)
     go false is e = inr (ltb-false (limit_of form) (length bytes) is, own-faulty form bytes fault e)
 
@@ -134,11 +150,14 @@ form-apart Otp bytes fault form (inr (few, inr (whole, row, wide, text))) =
 -- a fault that the rules name is the one that is found
 otp-exact : (bytes fault : List ℕ) → IsOwnFault Otp bytes fault → otp_fault bytes ≡ Some fault
 otp-exact bytes fault (inl (part, text)) =
-    ap (λ t. cond t (option_map (λ row. codes "otp-row " ++ hex_row row) (wide_from 0 (rows_of bytes))) (Some (codes "otp-length"))) (ne_eqb (length bytes % 4) 0 part)
+    ap (λ t. cond t (option_map (λ row. codes "otp-row " ++ hex_row row) (wide_from 0 (rows_of bytes)))
+    (Some (codes "otp-length"))) (ne_eqb (length bytes % 4) 0 part)
     ∙ ap Some (sym text)
 otp-exact bytes fault (inr (whole, row, wide, text)) =
-    ap (λ t. cond t (option_map (λ row. codes "otp-row " ++ hex_row row) (wide_from 0 (rows_of bytes))) (Some (codes "otp-length"))) (eq-eqb (length bytes % 4) 0 whole)
-    ∙ (ap (λ found. option_map (λ row. codes "otp-row " ++ hex_row row) found) (some-wide 0 (rows_of bytes) row wide ∙ ap Some (omega arith))
+    ap (λ t. cond t (option_map (λ row. codes "otp-row " ++ hex_row row) (wide_from 0 (rows_of bytes)))
+    (Some (codes "otp-length"))) (eq-eqb (length bytes % 4) 0 whole)
+    ∙ (ap (λ found. option_map (λ row. codes "otp-row " ++ hex_row row) found)
+    (some-wide 0 (rows_of bytes) row wide ∙ ap Some (omega arith))
     ∙ ap Some (sym text))
 
 own-exact : (form : Form) (bytes fault : List ℕ) → IsOwnFault form bytes fault → own_fault form bytes ≡ Some fault
@@ -148,6 +167,8 @@ own-exact Otp bytes fault own = otp-exact bytes fault own
 
 pub fault-exact : (form : Form) (bytes fault : List ℕ) → IsFault form bytes fault → form_fault form bytes ≡ Some fault
 fault-exact form bytes fault (inl large) =
-    ap (λ t. cond t (Some (codes "too-large")) (own_fault form bytes)) (lt-ltb (limit_of form) (length bytes) large.0) ∙ ap Some (sym large.1)
+    ap (λ t. cond t (Some (codes "too-large")) (own_fault form bytes))
+    (lt-ltb (limit_of form) (length bytes) large.0) ∙ ap Some (sym large.1)
 fault-exact form bytes fault (inr (few, own)) =
-    ap (λ t. cond t (Some (codes "too-large")) (own_fault form bytes)) (le-ltb (limit_of form) (length bytes) few) ∙ own-exact form bytes fault own
+    ap (λ t. cond t (Some (codes "too-large")) (own_fault form bytes))
+    (le-ltb (limit_of form) (length bytes) few) ∙ own-exact form bytes fault own

@@ -1,5 +1,5 @@
 -- No other outcome is right by the rules.
-use Rattle.std.proofs.Common.{◌≡◌, ◌⊎◌, ◌↔◌, ℕ, suc, true, false, List, [], ◌∷◌, ◌++◌, length, Option, Some, None, Result, Ok, Err, option_map, refl, sym, ◌∙◌, ap, subst, inl, inr}
+use Rattle.std.proofs.Common.{◌≡◌, ◌⊎◌, ◌↔◌, ℕ, suc, false, List, [], ◌∷◌, ◌++◌, length, Option, Some, None, option_map, refl, sym, ◌∙◌, ap, subst, inl, inr}
 use Rattle.std.specs.List.{flat_map}
 use Rattle.std.specs.Option.{option_or}
 use Rattle.pico_board.specs.declared.boot.Cpu.{Cpu}
@@ -8,7 +8,6 @@ use Rattle.pico_board.specs.declared.window.Window.{Window}
 use Rattle.pico_board.specs.Content.{Content, window_bytes}
 use Rattle.pico_board.specs.Files.{File, file_of}
 use Rattle.image_check.specs.Addressing.{in_flash}
-use Rattle.image_check.specs.Image.{image_at}
 use Rattle.image_check.proofs.LawLemmas.{at-valid, why-exactly}
 use Rattle.boot_rules.specs.declared.decision.Decision.{Decision}
 use Rattle.boot_rules.specs.declared.decision.Decision.TheVariants.{Start, Bootsel as FallsToBootsel}
@@ -17,13 +16,13 @@ use Rattle.boot_rules.specs.Choosing.{decision_in}
 use Rattle.boot_rules.specs.Chosen.{Chosen}
 use Rattle.boot_rules.proofs.DecisionLemmas.{decision-chosen, chosen-decision}
 use Rattle.boot_run.specs.declared.status.Status.{Status}
-use Rattle.boot_run.specs.declared.status.Status.TheVariants.{Done, Input as Refused, Bootsel}
+use Rattle.boot_run.specs.declared.status.Status.TheVariants.{Done, Bootsel}
 use Rattle.boot_run.specs.declared.forms.Form.TheVariants.{Flash, Otp}
 use Rattle.boot_run.specs.Commands.{Command, Boot, Info, OwnedData, Usage, Release}
-use Rattle.boot_run.specs.Forms.{HasForm, IsFault, form_fault, content_of}
+use Rattle.boot_run.specs.Forms.{HasForm, content_of}
 use Rattle.boot_run.specs.Texts.{line, decision_line, table_text, image_text}
-use Rattle.boot_run.specs.Works.{is_fall, boot_work, info_work, data_work, window_line, windows_in, decided_data, data_line}
-use Rattle.boot_run.specs.Outcome.{Input, Outcome, inputs_of, inputs_in, flash_and_otp, refused, worked, answered_status, first_fault, judged, command_outcome, outcome_on, outcome_found, found, found_next}
+use Rattle.boot_run.specs.Works.{boot_work, info_work, data_work, window_line, windows_in, decided_data, data_line}
+use Rattle.boot_run.specs.Outcome.{Input, Outcome, inputs_of, flash_and_otp, refused, worked, first_fault, judged, command_outcome, outcome_on, outcome_found, found, found_next}
 use Rattle.boot_run.specs.Rules.{IsFirstFault, IsRefusal, decided_status, IsBootOf, IsLineOf, AreLinesOf, IsInfoOf, IsDataOf, Obeys, FallsOn}
 use Rattle.boot_run.proofs.FormLemmas.{fault-exact}
 use Rattle.boot_run.proofs.OutcomeLemmas.{no-fault}
@@ -31,17 +30,21 @@ use Rattle.boot_run.proofs.RuleLemmas.{obeys, Judged, all_formed, one_faulty, ju
 use Rattle.boot_run.proofs.RunLemmas.{no-first, decided, fall-status, worked-decided}
 
 -- an outcome is its status, its text and its files
-same-outcome : (o : Outcome) (s : Status) (t : List ℕ) (files : List File) → o.status ≡ s → o.text ≡ t → o.files ≡ files → o ≡ record { status = s; text = t; files = files }
+same-outcome : (o : Outcome) (s : Status) (t : List ℕ) (files : List File) → o.status ≡ s → o.text ≡ t → o.files ≡ files
+    → o ≡ record { status = s; text = t; files = files }
 same-outcome o s t files a b c =
     ap (λ x. record { status = x; text = o.text; files = o.files }) a
-    ∙ (ap (λ x. record { status = s; text = x; files = o.files }) b ∙ ap (λ x. record { status = s; text = t; files = x }) c)
+    ∙ (ap (λ x. record { status = s; text = x; files = o.files }) b ∙ ap
+    (λ x. record { status = s; text = t; files = x }) c)
 
 -- the first fault by the rules is the one that is found
-first-exact : (inputs : List Input) (read : List (List ℕ)) (name fault : List ℕ) → IsFirstFault inputs read name fault → first_fault inputs read ≡ Some (refused name fault)
+first-exact : (inputs : List Input) (read : List (List ℕ)) (name fault : List ℕ) → IsFirstFault inputs read name fault
+    → first_fault inputs read ≡ Some (refused name fault)
 first-exact [] read name fault first = absurd first
 first-exact (input ∷ inputs) [] name fault first = absurd first
 first-exact (input ∷ inputs) (bytes ∷ read) name fault (inl (is, wrong)) =
-    ap (λ o. option_or (option_map (refused input.name) o) (first_fault inputs read)) (fault-exact input.form bytes fault wrong)
+    ap (λ o. option_or (option_map (refused input.name) o) (first_fault inputs read))
+    (fault-exact input.form bytes fault wrong)
     ∙ ap (λ n. Some (refused n fault)) (sym is)
 first-exact (input ∷ inputs) (bytes ∷ read) name fault (inr (form, first)) =
     ap (λ o. option_or (option_map (refused input.name) o) (first_fault inputs read)) (no-fault input.form bytes form)
@@ -56,54 +59,70 @@ pair-only flash otp f g Right w o only (inl (name, fault, first, is)) =
 pair-only flash otp f g Right w o only (inr (flash_form, otp_form, right)) =
     only right ∙ sym (ap (λ j. judged j w) (no-first flash otp f g flash_form otp_form))
 
-boot-only : (c : Content) (cpu : Cpu) (kind : BootKind) (o : Outcome) → IsBootOf c cpu kind o → o ≡ worked (boot_work c cpu kind)
+boot-only : (c : Content) (cpu : Cpu) (kind : BootKind) (o : Outcome) → IsBootOf c cpu kind o
+    → o ≡ worked (boot_work c cpu kind)
 boot-only c cpu kind o right =
     same-outcome o (decided_status right.decision) (decision_line right.decision) [] right.status right.text right.files
     ∙ (ap decided (chosen-decision c cpu kind right.decision right.chosen) ∙ sym (worked-decided c cpu kind))
 
 line-only : (c : Content) (cpu : Cpu) (w : Window) (text : List ℕ) → IsLineOf c cpu w text → text ≡ window_line c cpu w
-line-only c cpu w text (inl (s, valid, is)) = is ∙ sym (ap (λ r. line (image_text w r)) (at-valid c w cpu false s valid))
+line-only c cpu w text (inl (s, valid, is)) =
+    is ∙ sym (ap (λ r. line (image_text w r)) (at-valid c w cpu false s valid))
 line-only c cpu w text (inr (why, not, is)) =
     is ∙ sym (ap (λ r. line (image_text w r)) ((why-exactly in_flash w cpu false c.otp (window_bytes c w) why).0 not))
 
-lines-only : (c : Content) (cpu : Cpu) (ws : List Window) (text : List ℕ) → AreLinesOf c cpu ws text → text ≡ flat_map (window_line c cpu) ws
+lines-only : (c : Content) (cpu : Cpu) (ws : List Window) (text : List ℕ) → AreLinesOf c cpu ws text
+    → text ≡ flat_map (window_line c cpu) ws
 lines-only c cpu [] text is = is
 lines-only c cpu (w ∷ ws) text (first, rest, one, others, is) =
-    is ∙ (ap (λ x. x ++ rest) (line-only c cpu w first one) ∙ ap (λ x. window_line c cpu w ++ x) (lines-only c cpu ws rest others))
+    is ∙ (ap (λ x. x ++ rest) (line-only c cpu w first one) ∙ ap (λ x. window_line c cpu w ++ x)
+    (lines-only c cpu ws rest others))
 
 info-only : (c : Content) (cpu : Cpu) (o : Outcome) → IsInfoOf c cpu o → o ≡ worked (info_work c cpu)
 info-only c cpu o right =
     same-outcome o Done _ [] right.status
-    (right.text ∙ ap (λ x. line (table_text (table_in c)) ++ x) (lines-only c cpu (windows_in c cpu) right.lines right.windows)) right.files
+    (right.text ∙ ap (λ x. line (table_text (table_in c)) ++ x)
+    (lines-only c cpu (windows_in c cpu) right.lines right.windows)) right.files
 
 -- the outcome of data by its decision
 told-data : Content → Decision → Outcome
-told-data c d = record { status = decided_status d; text = decision_line d ++ flat_map data_line (decided_data c d); files = [] }
+told-data c d =
+    record { status = decided_status d; text = decision_line d ++ flat_map data_line (decided_data c d); files = [] }
 
-data-only : (c : Content) (cpu : Cpu) (kind : BootKind) (o : Outcome) → IsDataOf c cpu kind o → o ≡ worked (data_work c cpu kind)
+data-only : (c : Content) (cpu : Cpu) (kind : BootKind) (o : Outcome) → IsDataOf c cpu kind o
+    → o ≡ worked (data_work c cpu kind)
 unfolding told-data
 data-only c cpu kind o right =
     same-outcome o (decided_status right.decision) _ [] right.status right.text right.files
     ∙ (ap (told-data c) (chosen-decision c cpu kind right.decision right.chosen)
-    ∙ sym (ap (λ s. record { status = s; text = decision_line (decision_in c cpu kind) ++ flat_map data_line (decided_data c (decision_in c cpu kind)); files = [] }) (fall-status (decision_in c cpu kind))))
+    ∙ sym (ap
+    (λ s. record {
+      status = s;
+      text = decision_line (decision_in c cpu kind) ++ flat_map data_line (decided_data c (decision_in c cpu kind));
+      files = [];
+    }) (fall-status (decision_in c cpu kind))))
 
 abbrev pub IsOnly : Command → List (List ℕ) → Outcome → Type 0
 IsOnly command read o = Obeys command read o → o ≡ command_outcome command read
 
 -- only the outcome of a command is right
-pub only : (command : Command) (read : List (List ℕ)) (o : Outcome) → Obeys command read o → o ≡ command_outcome command read
+pub only : (command : Command) (read : List (List ℕ)) (o : Outcome) → Obeys command read o
+    → o ≡ command_outcome command read
 only (Boot flash otp cpu kind) (f ∷ g ∷ []) o =
-    pair-only flash otp f g (IsBootOf (content_of f g) cpu kind) (worked (boot_work (content_of f g) cpu kind)) o (boot-only (content_of f g) cpu kind o)
+    pair-only flash otp f g (IsBootOf (content_of f g) cpu kind) (worked (boot_work (content_of f g) cpu kind)) o
+    (boot-only (content_of f g) cpu kind o)
 only (Boot flash otp cpu kind) [] o = λ right. absurd right
 only (Boot flash otp cpu kind) (f ∷ []) o = λ right. absurd right
 only (Boot flash otp cpu kind) (f ∷ g ∷ h ∷ read) o = λ right. absurd right
 only (Info flash otp cpu) (f ∷ g ∷ []) o =
-    pair-only flash otp f g (IsInfoOf (content_of f g) cpu) (worked (info_work (content_of f g) cpu)) o (info-only (content_of f g) cpu o)
+    pair-only flash otp f g (IsInfoOf (content_of f g) cpu) (worked (info_work (content_of f g) cpu)) o
+    (info-only (content_of f g) cpu o)
 only (Info flash otp cpu) [] o = λ right. absurd right
 only (Info flash otp cpu) (f ∷ []) o = λ right. absurd right
 only (Info flash otp cpu) (f ∷ g ∷ h ∷ read) o = λ right. absurd right
 only (OwnedData flash otp cpu kind) (f ∷ g ∷ []) o =
-    pair-only flash otp f g (IsDataOf (content_of f g) cpu kind) (worked (data_work (content_of f g) cpu kind)) o (data-only (content_of f g) cpu kind o)
+    pair-only flash otp f g (IsDataOf (content_of f g) cpu kind) (worked (data_work (content_of f g) cpu kind)) o
+    (data-only (content_of f g) cpu kind o)
 only (OwnedData flash otp cpu kind) [] o = λ right. absurd right
 only (OwnedData flash otp cpu kind) (f ∷ []) o = λ right. absurd right
 only (OwnedData flash otp cpu kind) (f ∷ g ∷ h ∷ read) o = λ right. absurd right
@@ -112,24 +131,31 @@ only Usage (f ∷ read) o = λ right. absurd right
 only Release [] o = λ right. right
 only Release (f ∷ read) o = λ right. absurd right
 
-found-more : (files : List File) (inputs : List Input) (here : Option (List ℕ)) (rest : Option (List (List ℕ))) (read : List (List ℕ))
-    → ((r : List (List ℕ)) → rest ≡ Some r → length r ≡ length inputs) → found_next here rest ≡ Some read → length read ≡ suc (length inputs)
+found-more : (files : List File) (inputs : List Input) (here : Option (List ℕ)) (rest : Option (List (List ℕ)))
+    (read : List (List ℕ))
+    → ((r : List (List ℕ)) → rest ≡ Some r → length r ≡ length inputs) → found_next here rest ≡ Some read
+    → length read ≡ suc (length inputs)
 found-more files inputs None rest read long h = cc
 found-more files inputs (Some bytes) None read long h = cc
 found-more files inputs (Some bytes) (Some r) read long h =
     let e : read ≡ bytes ∷ r = cc in ap (λ xs. length xs) e ∙ ap suc (long r refl)
 
-found-long : (files : List File) (inputs : List Input) (read : List (List ℕ)) → found files inputs ≡ Some read → length read ≡ length inputs
+found-long : (files : List File) (inputs : List Input) (read : List (List ℕ)) → found files inputs ≡ Some read
+    → length read ≡ length inputs
 found-long files [] read h = let e : [] ≡ read = cc in sym (ap (λ xs. length xs) e)
 found-long files (input ∷ inputs) read h =
-    found-more files inputs (file_of files input.name) (found files inputs) read (λ r is. found-long files inputs r is) h
+    found-more files inputs (file_of files input.name) (found files inputs) read
+    (λ r is. found-long files inputs r is) h
 
 -- the outcome on files that have all inputs is right
-pub whole-right : (command : Command) (files : List File) (read : List (List ℕ)) → found files (inputs_of command) ≡ Some read → Obeys command read (outcome_on (Some command) files)
+pub whole-right : (command : Command) (files : List File) (read : List (List ℕ))
+    → found files (inputs_of command) ≡ Some read → Obeys command read (outcome_on (Some command) files)
 whole-right command files read there =
-    subst (Obeys command read) (sym (ap (outcome_found (Some command)) there)) (obeys command read (found-long files (inputs_of command) read there))
+    subst (Obeys command read) (sym (ap (outcome_found (Some command)) there))
+    (obeys command read (found-long files (inputs_of command) read there))
 
-fall-then : (f g : List ℕ) (cpu : Cpu) (kind : BootKind) (d : Decision) → decision_in (content_of f g) cpu kind ≡ d → decided_status d ≡ Bootsel
+fall-then : (f g : List ℕ) (cpu : Cpu) (kind : BootKind) (d : Decision) → decision_in (content_of f g) cpu kind ≡ d
+    → decided_status d ≡ Bootsel
     → HasForm Flash f → HasForm Otp g → FallsOn f g cpu kind
 fall-then f g cpu kind (Start choice) is h flash otp = cc
 fall-then f g cpu kind (FallsToBootsel fall) is h flash otp = record {
@@ -139,21 +165,28 @@ fall-then f g cpu kind (FallsToBootsel fall) is h flash otp = record {
   chosen = subst (λ (d : Decision). Chosen (content_of f g) cpu kind d) is (decision-chosen (content_of f g) cpu kind);
 }
 
-falls-then : (flash otp f g : List ℕ) (cpu : Cpu) (kind : BootKind) (w : Outcome) → w.status ≡ decided_status (decision_in (content_of f g) cpu kind)
-    → (o : Option Outcome) → Judged (flash_and_otp flash otp) (f ∷ g ∷ []) o → (judged o w).status ≡ Bootsel → FallsOn f g cpu kind
-falls-then flash otp f g cpu kind w is None (all_formed all) h = fall-then f g cpu kind (decision_in (content_of f g) cpu kind) refl (sym is ∙ h) all.0 all.1.0
+falls-then : (flash otp f g : List ℕ) (cpu : Cpu) (kind : BootKind) (w : Outcome)
+    → w.status ≡ decided_status (decision_in (content_of f g) cpu kind)
+    → (o : Option Outcome) → Judged (flash_and_otp flash otp) (f ∷ g ∷ []) o → (judged o w).status ≡ Bootsel
+    → FallsOn f g cpu kind
+falls-then flash otp f g cpu kind w is None (all_formed all) h =
+    fall-then f g cpu kind (decision_in (content_of f g) cpu kind) refl (sym is ∙ h) all.0 all.1.0
 falls-then flash otp f g cpu kind w is (Some _) (one_faulty name fault first) h = cc
 
-then-falls : (flash otp f g : List ℕ) (cpu : Cpu) (kind : BootKind) (w : Outcome) → w.status ≡ decided_status (decision_in (content_of f g) cpu kind)
+then-falls : (flash otp f g : List ℕ) (cpu : Cpu) (kind : BootKind) (w : Outcome)
+    → w.status ≡ decided_status (decision_in (content_of f g) cpu kind)
     → FallsOn f g cpu kind → (judged (first_fault (flash_and_otp flash otp) (f ∷ g ∷ [])) w).status ≡ Bootsel
 then-falls flash otp f g cpu kind w is falls =
     ap (λ o. (judged o w).status) (no-first flash otp f g falls.flash falls.otp)
-    ∙ (is ∙ ap decided_status (sym (chosen-decision (content_of f g) cpu kind (FallsToBootsel falls.fall) falls.chosen)))
+    ∙ (is ∙ ap decided_status
+    (sym (chosen-decision (content_of f g) cpu kind (FallsToBootsel falls.fall) falls.chosen)))
 
 -- a boot ends with Bootsel exactly where the rules name a fall
-pub falls-exactly : (flash otp f g : List ℕ) (cpu : Cpu) (kind : BootKind) (w : Outcome) → w.status ≡ decided_status (decision_in (content_of f g) cpu kind)
+pub falls-exactly : (flash otp f g : List ℕ) (cpu : Cpu) (kind : BootKind) (w : Outcome)
+    → w.status ≡ decided_status (decision_in (content_of f g) cpu kind)
     → ((judged (first_fault (flash_and_otp flash otp) (f ∷ g ∷ [])) w).status ≡ Bootsel) ↔ FallsOn f g cpu kind
 falls-exactly flash otp f g cpu kind w is = (
-  falls-then flash otp f g cpu kind w is (first_fault (flash_and_otp flash otp) (f ∷ g ∷ [])) (judged-first (flash_and_otp flash otp) (f ∷ g ∷ []) refl),
+  falls-then flash otp f g cpu kind w is (first_fault (flash_and_otp flash otp) (f ∷ g ∷ []))
+      (judged-first (flash_and_otp flash otp) (f ∷ g ∷ []) refl),
   then-falls flash otp f g cpu kind w is,
 )

@@ -1,15 +1,16 @@
 -- The rows of an OTP file, one after another.
-use Rattle.std.proofs.Common.{◌≡◌, ℕ, ◌+◌, ◌*◌, ◌/◌, ◌^◌, ◌<◌, ◌≤◌, List, [], ◌∷◌, ◌++◌, ◌-◌, length, replicate, take, drop, get_or, Option, Some, None, sym, ap, ◌∙◌, nat_lt, cond, arith}
+use Rattle.std.proofs.Common.{◌≡◌, ℕ, ◌+◌, ◌*◌, ◌/◌, ◌^◌, ◌<◌, ◌≤◌, List, [], ◌∷◌, ◌++◌, length, take, drop, get_or, Some, None, sym, ap, ◌∙◌, cond, arith}
 use Rattle.std.proofs.lemmas.List.{take_more, take_rest, take_all, drop_more, drop_all}
 use Rattle.std.proofs.lemmas.Bool.{lt-ltb, le-ltb}
 use Rattle.std.specs.List.{slice_range}
 use Rattle.byteorder.specs.Endian.{little_number}
 use Rattle.block_codec.specs.Words.{word_of, words_of}
 use Rattle.block_codec.proofs.WordLemmas.{length-words_of, get_or-words_of}
-use Rattle.boot_run.specs.Forms.{wide_from, rows_of, otp_of}
+use Rattle.boot_run.specs.Forms.{wide_from}
 
 -- what is read at a row's place is that row
-pub row-read : (file : List ℕ) (place x : ℕ) → 4 * place + 4 ≤ length file → x ≡ little_number 4 (slice_range file (4 * place) (length file)) → x ≡ get_or (words_of file) place 0
+pub row-read : (file : List ℕ) (place x : ℕ) → 4 * place + 4 ≤ length file
+    → x ≡ little_number 4 (slice_range file (4 * place) (length file)) → x ≡ get_or (words_of file) place 0
 unfolding word_of
 row-read file place x room e =
     e ∙ ap (little_number 4) (take_rest file (4 * place)) ∙ sym (get_or-words_of file place room)
@@ -19,10 +20,12 @@ pub rows-more : (file read more : List ℕ) (place x : ℕ) → place < length f
     → read ≡ take place (words_of file) → more ≡ read ++ x ∷ [] → more ≡ take (place + 1) (words_of file)
 rows-more file read more place x lt last was is =
     let long = length-words_of file in
-    is ∙ ap (λ xs. xs ++ x ∷ []) was ∙ ap (λ y. take place (words_of file) ++ y ∷ []) last ∙ sym (take_more (words_of file) place 0 (omega arith))
+    is ∙ ap (λ xs. xs ++ x ∷ []) was ∙ ap (λ y. take place (words_of file) ++ y ∷ []) last ∙ sym
+    (take_more (words_of file) place 0 (omega arith))
 
 -- all rows were read
-pub rows-all : (file read : List ℕ) (place : ℕ) → place ≡ length file / 4 → read ≡ take place (words_of file) → read ≡ words_of file
+pub rows-all : (file read : List ℕ) (place : ℕ) → place ≡ length file / 4 → read ≡ take place (words_of file)
+    → read ≡ words_of file
 rows-all file read place end was =
     let long = length-words_of file in was ∙ take_all place (words_of file) (omega arith)
 
@@ -32,7 +35,8 @@ pub wide-more : (file : List ℕ) (place : ℕ) → place < length file / 4 → 
 wide-more file place lt small =
     let long = length-words_of file in
     ap (wide_from place) (drop_more (words_of file) place 0 (omega arith))
-    ∙ ap (λ t. cond t (wide_from (place + 1) (drop (place + 1) (words_of file))) (Some place)) (lt-ltb (get_or (words_of file) place 0) (2 ^ 24) small)
+    ∙ ap (λ t. cond t (wide_from (place + 1) (drop (place + 1) (words_of file))) (Some place))
+    (lt-ltb (get_or (words_of file) place 0) (2 ^ 24) small)
 
 -- a row of more is the least one
 pub wide-here : (file : List ℕ) (place : ℕ) → place < length file / 4 → 2 ^ 24 ≤ get_or (words_of file) place 0
@@ -40,10 +44,12 @@ pub wide-here : (file : List ℕ) (place : ℕ) → place < length file / 4 → 
 wide-here file place lt wide =
     let long = length-words_of file in
     ap (wide_from place) (drop_more (words_of file) place 0 (omega arith))
-    ∙ ap (λ t. cond t (wide_from (place + 1) (drop (place + 1) (words_of file))) (Some place)) (le-ltb (get_or (words_of file) place 0) (2 ^ 24) wide)
+    ∙ ap (λ t. cond t (wide_from (place + 1) (drop (place + 1) (words_of file))) (Some place))
+    (le-ltb (get_or (words_of file) place 0) (2 ^ 24) wide)
 
 -- there is none
-pub wide-none : (file : List ℕ) (place : ℕ) → place ≡ length file / 4 → wide_from place (drop place (words_of file)) ≡ None
+pub wide-none : (file : List ℕ) (place : ℕ) → place ≡ length file / 4
+    → wide_from place (drop place (words_of file)) ≡ None
 wide-none file place end =
     let long = length-words_of file in ap (wide_from place) (drop_all place (words_of file) (omega arith))
 

@@ -1,5 +1,5 @@
 -- What the clauses of the top call say, from the course of a run.
-use Rattle.std.proofs.Common.{◌≡◌, ◌≢◌, ◌⊎◌, ◌↔◌, ℕ, Bool, true, false, IsTrue, Result, Ok, Err, Option, Some, None, option_map, List, [], ◌∷◌, length, refl, sym, ◌∙◌, ap, subst, inl, inr}
+use Rattle.std.proofs.Common.{◌≡◌, ◌⊎◌, ◌↔◌, ℕ, true, IsTrue, Option, Some, None, option_map, List, [], ◌∷◌, length, refl, sym, ◌∙◌, ap, subst, inl, inr}
 use Rattle.std.specs.Option.{option_or}
 use Rattle.pico_board.specs.declared.boot.Cpu.{Cpu}
 use Rattle.pico_board.specs.declared.boot.BootKind.{BootKind}
@@ -15,19 +15,18 @@ use Rattle.boot_rules.specs.Choosing.{decision_in}
 use Rattle.boot_rules.specs.Chosen.{Chosen}
 use Rattle.boot_rules.proofs.DecisionLemmas.{chosen-decision, chosen-not_below}
 use Rattle.boot_run.specs.declared.status.Status.{Status}
-use Rattle.boot_run.specs.declared.status.Status.TheVariants.{Done, Words, Input as Refused, Bootsel, ReadFault, WriteFault, OutputFault, Memory}
-use Rattle.boot_run.specs.declared.forms.Form.{Form}
+use Rattle.boot_run.specs.declared.status.Status.TheVariants.{Words, Input as Refused, ReadFault, WriteFault, OutputFault, Memory}
 use Rattle.boot_run.specs.declared.forms.Form.TheVariants.{Flash, Otp}
 use Rattle.boot_run.specs.Commands.{Command, Boot}
 use Rattle.boot_run.specs.Forms.{HasForm, content_of}
 use Rattle.boot_run.specs.Texts.{decision_line}
 use Rattle.boot_run.specs.Works.{boot_work, is_fall}
-use Rattle.boot_run.specs.Outcome.{Outcome, Input, inputs_of, inputs_in, flash_and_otp, outcome_in, outcome_on, outcome_found, found, found_next, command_outcome, worked, judged, first_fault, named_fault, refused, answered_status, is_finished, not_understood}
+use Rattle.boot_run.specs.Outcome.{Outcome, inputs_of, inputs_in, flash_and_otp, outcome_in, outcome_on, outcome_found, found, found_next, command_outcome, worked, judged, first_fault, refused, answered_status, is_finished}
 use Rattle.boot_run.specs.Rules.{Obeys, IsRefused, decided_status}
-use Rattle.boot_run.specs.Ends.{AreRead, LacksOne, Does, IsAsTold, IsCutShort, IsPutShort, LeftAt}
+use Rattle.boot_run.specs.Ends.{AreRead, LacksOne, Does, IsAsTold, LeftAt}
 use Rattle.boot_run.proofs.RuleLemmas.{obeys, refused-exactly}
 use Rattle.boot_run.proofs.OutcomeLemmas.{outcome-finished, outcome-words, outcome-told, not-lacking, no-fault}
-use Rattle.boot_run.proofs.EndLemmas.{not-finished, RunEnd, room, unread, cut_short, whole, put_fault, put_memory, Finished, end-finished, end-read_fault, end-write_fault, end-output_fault, end-memory}
+use Rattle.boot_run.proofs.EndLemmas.{RunEnd, room, unread, cut_short, whole, put_fault, put_memory, Finished, end-finished}
 
 -- a decision's outcome
 abbrev pub decided : Decision → Outcome
@@ -37,35 +36,48 @@ pub fall-status : (d : Decision) → answered_status (is_fall d) ≡ decided_sta
 fall-status (Start choice) = refl
 fall-status (FallsToBootsel fall) = refl
 
-pub worked-decided : (c : Content) (cpu : Cpu) (kind : BootKind) → worked (boot_work c cpu kind) ≡ decided (decision_in c cpu kind)
-worked-decided c cpu kind = ap (λ s. record { status = s; text = decision_line (decision_in c cpu kind); files = [] }) (fall-status (decision_in c cpu kind))
+pub worked-decided : (c : Content) (cpu : Cpu) (kind : BootKind)
+    → worked (boot_work c cpu kind) ≡ decided (decision_in c cpu kind)
+worked-decided c cpu kind =
+    ap (λ s. record { status = s; text = decision_line (decision_in c cpu kind); files = [] })
+    (fall-status (decision_in c cpu kind))
 
 -- two files that have their forms have no fault
-pub no-first : (flash otp f g : List ℕ) → HasForm Flash f → HasForm Otp g → first_fault (flash_and_otp flash otp) (f ∷ g ∷ []) ≡ None
+pub no-first : (flash otp f g : List ℕ) → HasForm Flash f → HasForm Otp g
+    → first_fault (flash_and_otp flash otp) (f ∷ g ∷ []) ≡ None
 no-first flash otp f g flash_form otp_form =
-    ap (λ o. option_or (option_map (refused flash) o) (first_fault (record { name = otp; form = Otp } ∷ []) (g ∷ []))) (no-fault Flash f flash_form)
+    ap (λ o. option_or (option_map (refused flash) o) (first_fault (record { name = otp; form = Otp } ∷ []) (g ∷ [])))
+    (no-fault Flash f flash_form)
     ∙ ap (λ o. option_or (option_map (refused otp) o) None) (no-fault Otp g otp_form)
 
 -- the outcome of a boot on told files that have their forms is the decision that the rules name
-pub boot-told : (flash otp f g : List ℕ) (cpu : Cpu) (kind : BootKind) (files : List File) (d : Decision) (command : Option Command)
+pub boot-told : (flash otp f g : List ℕ) (cpu : Cpu) (kind : BootKind) (files : List File) (d : Decision)
+    (command : Option Command)
     → command ≡ Some (Boot flash otp cpu kind) → file_of files flash ≡ Some f → file_of files otp ≡ Some g
     → HasForm Flash f → HasForm Otp g → Chosen (content_of f g) cpu kind d → outcome_on command files ≡ decided d
 boot-told flash otp f g cpu kind files d command asks is_f is_g flash_form otp_form chosen =
     let boot : Command = Boot flash otp cpu kind in
     let there : found files (flash_and_otp flash otp) ≡ Some (f ∷ g ∷ []) =
-    ap (λ h. found_next h (found_next (file_of files otp) (Some []))) is_f ∙ ap (λ h. found_next (Some f) (found_next h (Some []))) is_g in
+    ap (λ h. found_next h (found_next (file_of files otp) (Some []))) is_f ∙ ap
+    (λ h. found_next (Some f) (found_next h (Some []))) is_g in
     ap (λ c. outcome_on c files) asks
     ∙ (ap (outcome_found (Some boot)) there
     ∙ (ap (λ o. judged o (worked (boot_work (content_of f g) cpu kind))) (no-first flash otp f g flash_form otp_form)
-    ∙ (worked-decided (content_of f g) cpu kind ∙ ap decided (sym (chosen-decision (content_of f g) cpu kind d chosen)))))
+    ∙ (worked-decided (content_of f g) cpu kind ∙ ap decided
+    (sym (chosen-decision (content_of f g) cpu kind d chosen)))))
 
-module _ {S : Type 0} (state : S → StoreState) (history : S → List Access → Type 0) {K : Type 0} (shown : K → SinkState) (taken : K → List Put → Type 0)
+module _ {S : Type 0} (state : S → StoreState) (history : S → List Access → Type 0) {K : Type 0} (shown : K → SinkState)
+    (taken : K → List Put → Type 0)
     (command : Option Command) (old new : S) (before after : K) (status : Status) where
   abbrev pub Ends : Type 0
   Ends = RunEnd state history shown taken (inputs_in command) (outcome_in command) old before status new after
 
-  done : Ends → is_finished status ≡ true → Finished state history shown taken (inputs_in command) (outcome_in command) (outcome-finished command) old before status new after
-  done ends h = end-finished state history shown taken (inputs_in command) (outcome_in command) (outcome-finished command) old new before after status ends h
+  done : Ends → is_finished status ≡ true
+      → Finished state history shown taken (inputs_in command) (outcome_in command)
+      (outcome-finished command) old before status new after
+  done ends h =
+      end-finished state history shown taken (inputs_in command) (outcome_in command)
+      (outcome-finished command) old new before after status ends h
 
   pub run-told : Ends → (files : List File) → (state old).files ≡ Some files → is_finished status ≡ true
       → IsAsTold (outcome_on command files) (state old) (shown before) status (state new) (shown after)
@@ -77,21 +89,29 @@ module _ {S : Type 0} (state : S → StoreState) (history : S → List Access �
       (record { answer = f.is; text = f.does.puts.bytes; files = f.saved })
 
   pub run-boot : Ends → (flash otp f g : List ℕ) (cpu : Cpu) (kind : BootKind) (files : List File) (d : Decision)
-      → command ≡ Some (Boot flash otp cpu kind) → (state old).files ≡ Some files → file_of files flash ≡ Some f → file_of files otp ≡ Some g
+      → command ≡ Some (Boot flash otp cpu kind) → (state old).files ≡ Some files → file_of files flash ≡ Some f
+      → file_of files otp ≡ Some g
       → HasForm Flash f → HasForm Otp g → is_finished status ≡ true → Chosen (content_of f g) cpu kind d
       → (status ≡ decided_status d) × IsPut (shown before).bytes (decision_line d) (shown after).bytes
       × ((choice : Choice) → d ≡ Start choice → NotBelow (content_of f g).otp choice.image)
   run-boot ends flash otp f g cpu kind files d asks told is_f is_g flash_form otp_form h chosen =
       let same = boot-told flash otp f g cpu kind files d command asks is_f is_g flash_form otp_form chosen in
-      let t = subst (λ o. IsAsTold o (state old) (shown before) status (state new) (shown after)) same (run-told ends files told h) in
-      (t.answer, t.text, λ choice starts. chosen-not_below (content_of f g) cpu kind choice (subst (λ (e : Decision). Chosen (content_of f g) cpu kind e) starts chosen))
+      let t = subst (λ o. IsAsTold o (state old) (shown before) status (state new) (shown after)) same
+      (run-told ends files told h) in (
+        t.answer,
+        t.text,
+        λ choice starts. chosen-not_below (content_of f g) cpu kind choice
+            (subst (λ (e : Decision). Chosen (content_of f g) cpu kind e) starts chosen),
+      )
 
-  pub run-lacking : Ends → (files : List File) → (state old).files ≡ Some files → LacksOne (Some files) (inputs_in command)
+  pub run-lacking : Ends → (files : List File) → (state old).files ≡ Some files
+      → LacksOne (Some files) (inputs_in command)
       → (status ≡ ReadFault) ⊎ (status ≡ Memory)
   run-lacking ends files told lacks = go ends
     where
       no : (read : List (List ℕ)) → AreRead (state old).files (inputs_in command) read → ⊥
-      no read are = not-lacking files (inputs_in command) read (subst (λ t. AreRead t (inputs_in command) read) told are) lacks
+      no read are =
+          not-lacking files (inputs_in command) read (subst (λ t. AreRead t (inputs_in command) read) told are) lacks
 
       go : Ends → (status ≡ ReadFault) ⊎ (status ≡ Memory)
       go (room is same kept) = inr is
@@ -114,14 +134,16 @@ module _ {S : Type 0} (state : S → StoreState) (history : S → List Access �
   run-no_command (room is same kept) none = inr (inr is)
   run-no_command (unread is some same kept rose lack) none = absurd (some (ap inputs_in none))
   run-no_command (cut_short cut same why) none =
-      absurd (let left : LeftAt (state old).files [] (state new).files = subst (λ c. LeftAt (state old).files (outcome_in c cut.read).files (state new).files) none cut.left in left)
+      absurd (let left : LeftAt (state old).files [] (state new).files = subst
+      (λ c. LeftAt (state old).files (outcome_in c cut.read).files (state new).files) none cut.left in left)
   run-no_command (whole read are long saved does is) none = inl (is ∙ ap (λ c. (outcome_in c read).status) none)
   run-no_command (put_fault short is) none = inr (inl is)
   run-no_command (put_memory short is) none = inr (inr is)
 
   abbrev pub Complete : Type 0
   Complete = (is_finished status ≡ true) ⊎ ((status ≡ Memory)
-      ⊎ (Rose (state old).read_faults (state new).read_faults ⊎ (Rose (state old).write_faults (state new).write_faults ⊎ Rose (shown before).faults (shown after).faults)))
+      ⊎ (Rose (state old).read_faults (state new).read_faults
+      ⊎ (Rose (state old).write_faults (state new).write_faults ⊎ Rose (shown before).faults (shown after).faults)))
 
   pub run-complete : Ends → Complete
   run-complete (room is same kept) = inr (inl is)
@@ -132,7 +154,8 @@ module _ {S : Type 0} (state : S → StoreState) (history : S → List Access �
   run-complete (put_fault short is) = inr (inr (inr (inr (short.puts.fault refl))))
   run-complete (put_memory short is) = inr (inl is)
 
-  pub run-steady : Ends → IsTrue (state old).steady → IsTrue (shown before).steady → (LacksOne (state old).files (inputs_in command) → ⊥)
+  pub run-steady : Ends → IsTrue (state old).steady → IsTrue (shown before).steady
+      → (LacksOne (state old).files (inputs_in command) → ⊥)
       → (is_finished status ≡ true) ⊎ (status ≡ Memory)
   run-steady (room is same kept) s k lacks = inr is
   run-steady (unread is some same kept rose lack) s k lacks = absurd (lacks (lack s))
@@ -163,5 +186,7 @@ module _ {S : Type 0} (state : S → StoreState) (history : S → List Access �
         right = obeys c f.read long;
         answer = is;
         input = (λ e. exactly.0 (sym is ∙ e), λ r. is ∙ exactly.1 r);
-        does = subst (λ x. Does state history shown taken (inputs_in x) f.read (outcome_in x f.read) old before new after) asks f.does;
+        does = subst
+            (λ x. Does state history shown taken (inputs_in x) f.read
+            (outcome_in x f.read) old before new after) asks f.does;
       }

@@ -1,15 +1,16 @@
 -- The digits of a hexadecimal number, one after another.
-use Rattle.std.proofs.Common.{◌≡◌, ℕ, suc, ◌+◌, ◌*◌, ◌^◌, ◌<◌, ◌≤◌, ◌≢◌, List, [], ◌∷◌, length, map, drop, get_or, Option, Some, None, refl, ◌∙◌, ap, arith}
+use Rattle.std.proofs.Common.{◌≡◌, ℕ, ◌+◌, ◌*◌, ◌^◌, ◌<◌, ◌≤◌, ◌≢◌, List, [], ◌∷◌, length, map, drop, get_or, Some, None, refl, ◌∙◌, ap, arith}
 use Rattle.std.specs.Prelude.{option_and_then, String, string_bytes}
 use Rattle.std.specs.declared.alloc.Global.{Global}
-use Rattle.std.proofs.lemmas.List.{drop_more, drop_all}
+use Rattle.std.proofs.lemmas.List.{drop_more}
 use Rattle.std.proofs.Math.Nat.{pow-le-pow_right, pow-succ'}
 use Rattle.boot_run.specs.Commands.{hex_digit, hex_value, command_of}
 
 -- the number of fewer than eight digits has room for one more
 pub room-for_digit : (i n : ℕ) → i < 8 → n < 16 ^ i → n < 2 ^ 28
 room-for_digit i n few small =
-    let most : 16 ^ i ≤ 16 ^ 7 = let seven : i ≤ 7 = omega arith in pow-le-pow_right {n = 16} (omega arith) seven in omega (arith, most)
+    let most : 16 ^ i ≤ 16 ^ 7 = let seven : i ≤ 7 =
+    omega arith in pow-le-pow_right {n = 16} (omega arith) seven in omega (arith, most)
 
 -- one digit more
 pub small-more : (i n d : ℕ) → n < 16 ^ i → d < 16 → 16 * n + d < 16 ^ (i + 1)
@@ -22,13 +23,15 @@ hex-more digits i n d lt is =
     ap (hex_value n) (drop_more digits i 0 lt)
     ∙ ap (λ found. option_and_then (λ digit. hex_value (16 * n + digit) (drop (i + 1) digits)) found) is
 
-pub hex-stops : (digits : List ℕ) (i n : ℕ) → i < length digits → hex_digit (get_or digits i 0) ≡ None → hex_value n (drop i digits) ≡ None
+pub hex-stops : (digits : List ℕ) (i n : ℕ) → i < length digits → hex_digit (get_or digits i 0) ≡ None
+    → hex_value n (drop i digits) ≡ None
 hex-stops digits i n lt is =
     ap (hex_value n) (drop_more digits i 0 lt)
     ∙ ap (λ found. option_and_then (λ digit. hex_value (16 * n + digit) (drop (i + 1) digits)) found) is
 
 -- words of another number are no command
-pub no_command : (words : List (String Global)) → length words ≢ 1 → length words ≢ 4 → length words ≢ 5 → command_of (map string_bytes words) ≡ None
+pub no_command : (words : List (String Global)) → length words ≢ 1 → length words ≢ 4 → length words ≢ 5
+    → command_of (map string_bytes words) ≡ None
 no_command [] one four five = refl
 no_command (a ∷ []) one four five = absurd (one refl)
 no_command (a ∷ b ∷ []) one four five = refl

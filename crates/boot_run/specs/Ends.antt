@@ -1,6 +1,6 @@
 -- What a run leaves: the calls that it made, and the files that stand afterwards. This project's
 -- own.
-use Rattle.std.specs.Prelude.{◌≡◌, ◌⊎◌, ⊤, ℕ, ◌+◌, take, List, [], ◌∷◌, ◌++◌, Option, Some, None, Result, Ok, Err}
+use Rattle.std.specs.Prelude.{◌≡◌, ◌⊎◌, ⊤, ℕ, ◌+◌, take, List, [], ◌∷◌, ◌++◌, Option, Some, None, Ok, Err}
 use Rattle.pico_board.specs.declared.sink.SinkFail.{SinkFail}
 use Rattle.pico_board.specs.Files.{File, StoreState, Access, Reads, Writes, IsReadOf, IsKeptBut, Lacks, ServesAll, file_of}
 use Rattle.pico_board.specs.Puts.{SinkState, Put, IsPut, Takes}

@@ -1,5 +1,5 @@
 -- What starts, and which table is found, in the worked examples. This project's own.
-use Rattle.std.specs.Prelude.{ℕ, [], ◌∷◌, List, None, Some, Option, Bool, true, false}
+use Rattle.std.specs.Prelude.{ℕ, [], ◌∷◌, None, Option, Bool, false}
 use Rattle.pico_board.specs.declared.window.Window.{Window}
 use Rattle.image_def.specs.declared.started.Started.{Started}
 use Rattle.part_table.specs.declared.partition.Partition.{Partition}

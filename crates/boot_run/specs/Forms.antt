@@ -1,7 +1,6 @@
 -- The forms of input files, and the content that a flash file and an OTP file give. This project's
 -- own.
 use Rattle.std.specs.Prelude.{◌≡◌, ◌≢◌, ◌⊎◌, ℕ, ◌+◌, ◌-◌, ◌*◌, ◌/◌, ◌%◌, ◌^◌, ◌<◌, ◌≤◌, ◌==◌, max, if◌then◌else◌, nat_lt, List, [], ◌∷◌, ◌++◌, length, replicate, All, Option, Some, None, option_map, codes}
-use Rattle.std.specs.Option.{option_or}
 use Rattle.pico_board.specs.Content.{Content}
 use Rattle.pico_board.specs.Rows.{IsFirstWide}
 use Rattle.block_codec.specs.Words.{words_of}

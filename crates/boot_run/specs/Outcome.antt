@@ -1,11 +1,7 @@
 -- What a run is to answer, put and write, as a function of its words and of the bytes of its files.
 -- This project's own.
-use Rattle.std.specs.Prelude.{ℕ, Bool, true, false, if◌then◌else◌, List, [], ◌∷◌, ◌++◌, map, length, Option, Some, None, option_map, option_and_then, option_to_list, codes}
-use Rattle.std.specs.List.{flat_map}
+use Rattle.std.specs.Prelude.{ℕ, Bool, true, false, List, [], ◌∷◌, Option, Some, None, option_map, codes}
 use Rattle.std.specs.Option.{option_or}
-use Rattle.pico_board.specs.declared.boot.Cpu.{Cpu}
-use Rattle.pico_board.specs.declared.boot.BootKind.{BootKind}
-use Rattle.pico_board.specs.declared.window.Window.{Window}
 use Rattle.pico_board.specs.Content.{Content}
 use Rattle.pico_board.specs.Files.{File, file_of}
 use Rattle.boot_run.specs.declared.status.Status.{Status}

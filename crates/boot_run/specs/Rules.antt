@@ -1,6 +1,6 @@
 -- What is right for each command, in the words of the rules. This project's own, over the rules of
 -- a boot.
-use Rattle.std.specs.Prelude.{◌≡◌, ◌⊎◌, ⊤, ℕ, true, false, List, [], ◌∷◌, ◌++◌}
+use Rattle.std.specs.Prelude.{◌≡◌, ◌⊎◌, ⊤, ℕ, false, List, [], ◌∷◌, ◌++◌}
 use Rattle.std.specs.List.{flat_map}
 use Rattle.pico_board.specs.declared.boot.Cpu.{Cpu}
 use Rattle.pico_board.specs.declared.boot.BootKind.{BootKind}
@@ -19,7 +19,6 @@ use Rattle.boot_rules.specs.Chosen.{Chosen}
 use Rattle.boot_rules.specs.Tables.{table_in}
 use Rattle.boot_run.specs.declared.status.Status.{Status}
 use Rattle.boot_run.specs.declared.status.Status.TheVariants.{Done, Bootsel}
-use Rattle.boot_run.specs.declared.forms.Form.{Form}
 use Rattle.boot_run.specs.declared.forms.Form.TheVariants.{Flash, Otp}
 use Rattle.boot_run.specs.Commands.{Command, Boot, Info, OwnedData, Usage, Release}
 use Rattle.boot_run.specs.Forms.{HasForm, IsFault, content_of}

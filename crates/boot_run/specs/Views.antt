@@ -1,5 +1,5 @@
 -- What the types of the code stand for. This project's own.
-use Rattle.std.specs.Prelude.{ℕ, Option, Some, None, Result, Ok, Err, List, map, Vec, string_bytes}
+use Rattle.std.specs.Prelude.{ℕ, Result, Ok, Err, List, map, Vec, string_bytes}
 use Rattle.std.specs.declared.alloc.Global.{Global}
 use Rattle.pico_board.specs.declared.store.StoreFail.{StoreFail}
 use Rattle.pico_board.specs.Files.{File}

@@ -7,5 +7,6 @@ use Rattle.boot_run.proofs.boards.window_lines.Given as goal
 abbrev pub invariant-loop-window : goal.invariant-loop-window
 invariant-loop-window g l = record {
   free : HasFree l.pool;
-  lines : string_bytes l.text ≡ flat_map (window_line (g.B.Board.state l.board).content l.cpu) (take l.window-index l.windows);
+  lines : string_bytes l.text
+      ≡ flat_map (window_line (g.B.Board.state l.board).content l.cpu) (take l.window-index l.windows);
 }

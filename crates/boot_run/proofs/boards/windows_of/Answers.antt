@@ -13,4 +13,5 @@ returns-in-Some-clause-inside g c =
     subst (All (λ (w : Window). w.start + w.len ≤ n))
     (sym (c.part_windows.ensures ∙ ap (λ (parts : List Partition). map part_window parts) c.as_slice.ensures.value))
     (parts-inside c.in-Some.found.now.table n
-    (subst (λ (found : Option (Bor Found)). IfSome (option_map (λ (f : Bor Found). f.now) found) (λ f. IsSoundTable f.table (n / 4096))) c.in-Some.is c.requires.sound))
+    (subst (λ (found : Option (Bor Found)). IfSome (option_map (λ (f : Bor Found). f.now) found)
+    (λ f. IsSoundTable f.table (n / 4096))) c.in-Some.is c.requires.sound))

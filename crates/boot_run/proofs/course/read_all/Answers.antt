@@ -5,17 +5,22 @@ use Rattle.boot_run.proofs.course.read_all.Goals as goal
 pub returns-in-Err : goal.returns-in-Err
 returns-in-Err g c =
     rw c.unread_status.ensures (c.loop-input.invariant _ _
-    (reads-fail g.S.Store.state g.S.Store.history c.args.inputs.now c.loop-input.input-index _ _ c.loop-input.store c.read_file.new.store c.in-Err.fail
+    (reads-fail g.S.Store.state g.S.Store.history c.args.inputs.now c.loop-input.input-index _ _ c.loop-input.store
+    c.read_file.new.store c.in-Err.fail
     c.loop-input-test.true c.in-Err.ensures))
 
 pub returns-in-Err-push : goal.returns-in-Err-push
 returns-in-Err-push g c =
     c.loop-input.invariant _ _
-    (reads-more g.S.Store.state g.S.Store.history c.args.inputs.now c.loop-input.input-index _ _ _ c.loop-input.store c.read_file.new.store c.read_file.new.store
-    c.in-Ok.file.items _ c.loop-input-test.true c.in-Ok.ensures refl (reads-stop g.S.Store.state g.S.Store.history _ _ c.read_file.new.store))
+    (reads-more g.S.Store.state g.S.Store.history c.args.inputs.now c.loop-input.input-index _ _ _ c.loop-input.store
+    c.read_file.new.store c.read_file.new.store
+    c.in-Ok.file.items _ c.loop-input-test.true c.in-Ok.ensures refl
+    (reads-stop g.S.Store.state g.S.Store.history _ _ c.read_file.new.store))
 
 pub loop-input-preserved : goal.loop-input-preserved
 loop-input-preserved g c = λ end new rest.
     c.loop-input.invariant _ _
-    (reads-more g.S.Store.state g.S.Store.history c.args.inputs.now c.loop-input.input-index _ _ _ c.loop-input.store c.read_file.new.store new
-    c.in-Ok.file.items end c.loop-input-test.true c.in-Ok.ensures (bytes-more c.loop-input.files.items c.push.new.self.items c.in-Ok.file c.in-Ok-push.ensures.items) rest)
+    (reads-more g.S.Store.state g.S.Store.history c.args.inputs.now c.loop-input.input-index _ _ _ c.loop-input.store
+    c.read_file.new.store new
+    c.in-Ok.file.items end c.loop-input-test.true c.in-Ok.ensures
+    (bytes-more c.loop-input.files.items c.push.new.self.items c.in-Ok.file c.in-Ok-push.ensures.items) rest)

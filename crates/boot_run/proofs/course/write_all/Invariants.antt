@@ -1,4 +1,4 @@
-use Rattle.std.proofs.Common.{ℕ, Option, map, drop}
+use Rattle.std.proofs.Common.{Option, map, drop}
 use Rattle.boot_run.specs.declared.status.Status.{Status}
 use Rattle.boot_run.specs.Courses.{WritesOut}
 use Rattle.boot_run.specs.Views.{file_from}

@@ -12,8 +12,10 @@ returns-clause-input c = refused-exactly
 
 pub returns-clause-boot : goal.returns-clause-boot
 returns-clause-boot c = λ flash otp f g cpu kind.
-    falls-exactly flash otp f g cpu kind (worked (boot_work (content_of f g) cpu kind)) (fall-status (decision_in (content_of f g) cpu kind))
+    falls-exactly flash otp f g cpu kind (worked (boot_work (content_of f g) cpu kind))
+    (fall-status (decision_in (content_of f g) cpu kind))
 
 pub returns-clause-data : goal.returns-clause-data
 returns-clause-data c = λ flash otp f g cpu kind.
-    falls-exactly flash otp f g cpu kind (worked (data_work (content_of f g) cpu kind)) (fall-status (decision_in (content_of f g) cpu kind))
+    falls-exactly flash otp f g cpu kind (worked (data_work (content_of f g) cpu kind))
+    (fall-status (decision_in (content_of f g) cpu kind))

@@ -10,4 +10,5 @@ overflow_mul-number c =
 pub overflow_add-number : goal.overflow_add-number
 overflow_add-number c =
     let room : c.loop-code.number < 2 ^ 28 =
-    room-for_digit c.loop-code.code-index c.loop-code.number (omega arith) c.loop-code.invariant.small in omega (arith, c.in-Some.ensures.small)
+    room-for_digit c.loop-code.code-index c.loop-code.number (omega arith) c.loop-code.invariant.small in omega
+    (arith, c.in-Some.ensures.small)

@@ -1,4 +1,4 @@
-use Rattle.std.proofs.Common.{◌≤◌, length, map, drop, sym, ◌∙◌, ap, arith}
+use Rattle.std.proofs.Common.{◌≤◌, length, map, drop, sym, ◌∙◌, ap}
 use Rattle.std.proofs.lemmas.List.{drop_all}
 use Rattle.boot_run.specs.Outcome.{first_fault}
 use Rattle.boot_run.specs.Views.{input_from, bytes_of}
@@ -9,5 +9,6 @@ pub returns-in_default : goal.returns-in_default
 returns-in_default c =
     let past : length c.args.files.now ≤ c.loop-i.i = c.in_default.ensures.lookup.3 in
     sym (sym c.loop-i.invariant
-    ∙ (ap (λ files. first_fault (map input_from (drop c.loop-i.i c.args.inputs.now)) (bytes_of files)) (drop_all c.loop-i.i c.args.files.now past)
+    ∙ (ap (λ files. first_fault (map input_from (drop c.loop-i.i c.args.inputs.now)) (bytes_of files))
+    (drop_all c.loop-i.i c.args.files.now past)
     ∙ fault-none (map input_from (drop c.loop-i.i c.args.inputs.now))))
