@@ -16,13 +16,16 @@ size cmd = little_number 4 (drop 4 cmd.args)
 abbrev pub offset : Cmd → ℕ
 offset cmd = address cmd - flash_base
 
--- a reboot has its flags in its first word, and p0 in its third; the delay in the second and p1 in
--- the fourth are not read
+-- a reboot has its flags in its first word, p0 in its third and p1 in its fourth; the delay in the
+-- second is not read, and p1 only where a range in RAM is started
 abbrev pub reboot_flags : Cmd → ℕ
 reboot_flags cmd = little_number 4 cmd.args
 
 abbrev pub reboot_p0 : Cmd → ℕ
 reboot_p0 cmd = little_number 4 (drop 8 cmd.args)
+
+abbrev pub reboot_p1 : Cmd → ℕ
+reboot_p1 cmd = little_number 4 (drop 12 cmd.args)
 
 -- a read and a write of OTP rows have the first row and the number of rows, in two bytes each, and
 -- a byte that asks for error correction

@@ -1,7 +1,7 @@
 //! The arguments of a command.
 
 ghost use Rattle.std.specs.Prelude.{◌≡◌};
-ghost use Rattle.picoboot_cmd.specs.Arguments.{address, ecc, first_row, offset, reboot_flags, reboot_p0, row_count, size};
+ghost use Rattle.picoboot_cmd.specs.Arguments.{address, ecc, first_row, offset, reboot_flags, reboot_p0, reboot_p1, row_count, size};
 
 use crate::cmd::Cmd;
 use byteorder::{ByteOrder, LittleEndian};
@@ -11,14 +11,14 @@ pub(crate) const FLASH_BASE: u32 = 0x1000_0000;
 
 impl Cmd {
     /// The address of an erase, a read or a write.
-    pub(crate) fn address(&self) -> u32
+    pub fn address(&self) -> u32
         ensures { result ≡ address self.now }
     {
         LittleEndian::read_u32(&self.args)
     }
 
     /// The number of bytes of an erase, a read or a write.
-    pub(crate) fn size(&self) -> u32
+    pub fn size(&self) -> u32
         ensures { result ≡ size self.now }
     {
         LittleEndian::read_u32(&self.args[4..])
@@ -32,17 +32,24 @@ impl Cmd {
     }
 
     /// The flags of a reboot.
-    pub(crate) fn reboot_flags(&self) -> u32
+    pub fn reboot_flags(&self) -> u32
         ensures { result ≡ reboot_flags self.now }
     {
         LittleEndian::read_u32(&self.args)
     }
 
     /// The parameter p0 of a reboot, the address of an updated region.
-    pub(crate) fn reboot_p0(&self) -> u32
+    pub fn reboot_p0(&self) -> u32
         ensures { result ≡ reboot_p0 self.now }
     {
         LittleEndian::read_u32(&self.args[8..])
+    }
+
+    /// The parameter p1 of a reboot, the size of a range in RAM. A reboot from flash does not read it.
+    pub fn reboot_p1(&self) -> u32
+        ensures { result ≡ reboot_p1 self.now }
+    {
+        LittleEndian::read_u32(&self.args[12..])
     }
 
     /// The first OTP row of a read or a write.

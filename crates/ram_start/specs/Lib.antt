@@ -1,0 +1,4 @@
+pub mod Sram
+pub mod Images
+pub mod Serving
+pub mod Examples

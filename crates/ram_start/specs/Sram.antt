@@ -1,0 +1,41 @@
+-- The SRAM that a host writes (RP2350 Datasheet, section 2.2, Address map).
+use Rattle.std.specs.Prelude.{◌≡◌, ℕ, ◌+◌, ◌-◌, ◌≤◌, ◌<◌, ◌&&◌, Bool, nat_le, List, [], ◌∷◌, ◌++◌, All, length, replicate, take, drop}
+use Rattle.load_map.specs.declared.addresses.TheConstants.{SRAM_END, SRAM_START}
+
+-- the number of its bytes
+abbrev pub sram_size : ℕ
+sram_size = SRAM_END - SRAM_START
+
+-- all bytes 0
+unfoldable pub zero_ram : List ℕ
+zero_ram = replicate 532480 0
+
+-- the SRAM is so many bytes
+pub record IsSram (ram : List ℕ) : Type 0 where
+  pub long : length ram ≡ 532480
+  pub bytes : All (λ b. b < 256) ram
+
+-- the range of addresses lies in SRAM; a size of 0 at either end is inside
+abbrev pub is_in_sram : ℕ → ℕ → Bool
+is_in_sram address size = nat_le SRAM_START address && nat_le (address + size) SRAM_END
+
+-- the bytes are stored at an offset
+abbrev pub stored : List ℕ → ℕ → List ℕ → List ℕ
+stored ram at bytes = take at ram ++ (bytes ++ drop (at + length bytes) ram)
+
+-- a write: the address of its first byte, and its bytes
+pub record RamWrite : Type 0 where
+  pub address : ℕ
+  pub bytes : List ℕ
+
+-- the SRAM after one more write
+abbrev pub written : List ℕ → RamWrite → List ℕ
+written ram w = stored ram (w.address - SRAM_START) w.bytes
+
+-- RamAfter: the SRAM after these writes of a list of zeros, in order
+abbrev pub written_all : List ℕ → List RamWrite → List ℕ
+written_all ram [] = ram
+written_all ram (w ∷ ws) = written_all (written ram w) ws
+
+abbrev pub ram_after : List RamWrite → List ℕ
+ram_after writes = written_all zero_ram writes
