@@ -46,7 +46,8 @@ abbrev pub counting : Bool → Option Started → Option Started
 counting allowed None = None
 counting allowed (Some s) = if s.trial && not allowed then None else Some s
 
--- the images of a flash, by the one that begins at each of these two offsets; no other window has one
+-- the images of a flash, by the one that begins at each of these two offsets; no other window has
+-- one
 abbrev pub images_at : ℕ → Option Started → ℕ → Option Started → Window → Bool → Option Started
 images_at first a second b w allowed =
     if w.start == first then counting allowed a
@@ -58,10 +59,20 @@ pair_images a b = images_at 0x2000 a 0x20000 b
 
 -- the start of an image in the pair's A, and in its B
 abbrev pub starts_a : Bool → Started → Choice
-starts_a updated s = record { image = s; member = A; other = Some (window_at 0x20000 0x1e000); updated = updated }
+starts_a updated s = record {
+  image = s;
+  member = A;
+  other = Some (window_at 0x20000 0x1e000);
+  updated = updated;
+}
 
 abbrev pub starts_b : Bool → Started → Choice
-starts_b updated s = record { image = s; member = B; other = Some (window_at 0x2000 0x1e000); updated = updated }
+starts_b updated s = record {
+  image = s;
+  member = B;
+  other = Some (window_at 0x2000 0x1e000);
+  updated = updated;
+}
 
 -- the start of an image in a unit alone
 abbrev pub starts_alone : Bool → Started → Choice
@@ -84,7 +95,8 @@ found_in number t = record { slot = number; table = t }
 -- version word
 abbrev pub small_items : ℕ → ℕ → List ℕ
 small_items header version =
-    header ∷ 0xfc008000 ∷ sectors 2 3 ∷ 0xfc020000 ∷ sectors 4 5 ∷ 0xfc020002 ∷ 0x00000248 ∷ version ∷ []
+    header ∷ 0xfc008000 ∷ sectors 2 3 ∷ 0xfc020000 ∷ sectors 4 5 ∷ 0xfc020002 ∷ 0x00000248 ∷ version
+    ∷ []
 
 -- its first word where it is no singleton, and where it is one
 abbrev pub several : ℕ
@@ -100,7 +112,8 @@ small_table alone high low = record {
   singleton = alone;
   unpartitioned = 0xfc008000;
   parts = record {
-    items = plain_partition (sectors 2 3) 0xfc020000 ∷ plain_partition (sectors 4 5) 0xfc020002 ∷ [];
+    items =
+        plain_partition (sectors 2 3) 0xfc020000 ∷ plain_partition (sectors 4 5) 0xfc020002 ∷ [];
   };
 }
 
@@ -183,14 +196,18 @@ rows_with flags size =
 
 -- a flash of 24 KiB with these two table slots, and nothing behind them
 abbrev pub tables_content : ℕ → List ℕ → List ℕ → Content
-tables_content size one two =
-    record { flash = one ++ (two ++ replicate (0x6000 - length one - length two) 255); otp = rows_with 0 size }
+tables_content size one two = record {
+  flash = one ++ (two ++ replicate (0x6000 - length one - length two) 255);
+  otp = rows_with 0 size;
+}
 
--- a flash of 256 KiB with the table of a pair, 30 sectors each, and what stands in its members; with
--- these boot flags
+-- a flash of 256 KiB with the table of a pair, 30 sectors each, and what stands in its members;
+-- with these boot flags
 abbrev pub pair_content : ℕ → List ℕ → List ℕ → Content
-pair_content flags a b =
-    record { flash = region 0x2000 (framed pair_items 0) ++ (a ++ (b ++ replicate 0x2000 255)); otp = rows_with flags 0 }
+pair_content flags a b = record {
+  flash = region 0x2000 (framed pair_items 0) ++ (a ++ (b ++ replicate 0x2000 255));
+  otp = rows_with flags 0;
+}
 
 -- a member without an image
 abbrev pub bare : List ℕ

@@ -17,7 +17,8 @@ ghost use Rattle.boot_rules.specs.declared.decision.Fall.TheVariants.{FlashOff, 
 /// versions, of equal ones, and a singleton.
 pub fn tables_in_slots()
     ensures none { table_in (tables_content 0 (region 0x1000 []) (region 0x1000 [])) ≡ None }
-    ensures first { table_in (tables_content 0 (region 0x1000 (framed (small_items several 0x10000) 0))
+    ensures first { table_in
+        (tables_content 0 (region 0x1000 (framed (small_items several 0x10000) 0))
         (region 0x1000 [])) ≡ Some (found_in 0 (small_table false 1 0)) }
     ensures second { table_in (tables_content 0 (region 0x1000 [])
         (region 0x1000 (framed (small_items several 0x10000) 0)))
@@ -40,8 +41,8 @@ pub fn tables_in_slots()
         ≡ Some (found_in 1 (small_table false 1 9)) }
 {}
 
-/// Slots of 8 KiB by row 0x055: the second begins at 0x2000, a partition begins at sector 4 or behind
-/// it, and ends with the last sector of the flash or before.
+/// Slots of 8 KiB by row 0x055: the second begins at 0x2000, a partition begins at sector 4 or
+/// behind it, and ends with the last sector of the flash or before.
 pub fn tables_in_greater_slots()
     ensures first { table_in
         (tables_content 1 (region 0x2000 (framed (one_part (sectors 4 5) 0xfc020000) 0))
@@ -63,8 +64,9 @@ pub fn tables_in_greater_slots()
         ≡ None }
 {}
 
-/// A pair in a flash of 256 KiB: the greater version starts, A on a tie, the updated member before both;
-/// nothing starts where both are bare, where the flash is off, or where BOOTSEL is asked for.
+/// A pair in a flash of 256 KiB: the greater version starts, A on a tie, the updated member
+/// before both; nothing starts where both are bare, where the flash is off, or where BOOTSEL is
+/// asked for.
 pub fn a_pair_boots()
     ensures greater { decision_in
         (pair_content 0 (image_region 0x1e000 0x10210142 0x10009)
@@ -81,13 +83,14 @@ pub fn a_pair_boots()
     ensures other_processor { decision_in
         (pair_content 0 (image_region 0x1e000 0x10210142 0x10009) bare)
         Riscv Normal ≡ Bootsel NoImage }
-    ensures off { decision_in
-        (pair_content 2 (image_region 0x1e000 0x10210142 0x10009) bare) Arm Normal ≡ Bootsel FlashOff }
+    ensures off { decision_in (pair_content 2 (image_region 0x1e000 0x10210142 0x10009) bare) Arm
+        Normal ≡ Bootsel FlashOff }
     ensures off_update { decision_in
         (pair_content 2 (image_region 0x1e000 0x10210142 0x10009) bare) Arm (Update 0x10020000)
         ≡ Bootsel FlashOff }
     ensures off_and_bare { decision_in (pair_content 2 bare bare) Arm Normal ≡ Bootsel FlashOff }
-    ensures required_is_not_off { decision_in (pair_content 1 bare bare) Arm Normal ≡ Bootsel NoImage }
+    ensures required_is_not_off { decision_in (pair_content 1 bare bare) Arm Normal ≡ Bootsel
+        NoImage }
     ensures no_image { decision_in (pair_content 0 bare bare) Arm Normal ≡ Bootsel NoImage }
     ensures requested { decision_in
         (pair_content 0 (image_region 0x1e000 0x10210142 0x10009) bare) Arm AskBootsel
@@ -96,7 +99,8 @@ pub fn a_pair_boots()
         ≡ Bootsel Requested }
 {}
 
-/// Its downloads go to the member that a normal boot would not take, and to A where it would take none.
+/// Its downloads go to the member that a normal boot would not take, and to A where it would take
+/// none.
 pub fn a_pair_is_written()
     ensures second { target_of
         (pair_content 0 (image_region 0x1e000 0x10210142 0x10009)

@@ -43,7 +43,8 @@ pub fn a_table_is_found()
 /// The table of a loop is that of its last block that has one, and none where that is faulty or the
 /// loop is; its last partition ends at the last sector, and its first begins at the first free one.
 pub fn the_last_table_counts()
-    ensures only { table_in_loop 64 2 (Ok (small_block 0x10000 ∷ [])) ≡ Some (small_table false 1 0) }
+    ensures only { table_in_loop 64 2 (Ok (small_block 0x10000 ∷ [])) ≡ Some
+        (small_table false 1 0) }
     ensures last { table_in_loop 64 2 (Ok (small_block 0x20000 ∷ small_block 0x10000 ∷ []))
         ≡ Some (small_table false 1 0) }
     ensures before_image { table_in_loop 64 2 (Ok (small_block 0x10000 ∷ image_block ∷ []))
@@ -57,13 +58,14 @@ pub fn the_last_table_counts()
         ≡ Some (small_table false 1 0) }
     ensures without { table_in_loop 64 2 (Ok (image_block ∷ [])) ≡ None }
     ensures no_loop { table_in_loop 64 2 (Err NoBlock) ≡ None }
-    ensures fits { table_in_loop 6 2 (Ok (small_block 0x10000 ∷ [])) ≡ Some (small_table false 1 0) }
+    ensures fits { table_in_loop 6 2 (Ok (small_block 0x10000 ∷ [])) ≡ Some
+        (small_table false 1 0) }
     ensures too_long { table_in_loop 5 2 (Ok (small_block 0x10000 ∷ [])) ≡ None }
     ensures slots_before { table_in_loop 64 3 (Ok (small_block 0x10000 ∷ [])) ≡ None }
 {}
 
-/// The unit that decides on the member is that of the A's owner where the A has one, and otherwise the
-/// unit itself.
+/// The unit that decides on the member is that of the A's owner where the A has one, and
+/// otherwise the unit itself.
 pub fn deciding_units()
     ensures owned { deciding_unit (Some crossed_table) data_pair ≡ image_pair }
     ensures owned_alone { deciding_unit (Some crossed_table) (lone_unit fourth 4) ≡ image_pair }
@@ -103,10 +105,11 @@ pub fn partitions_that_stay()
     ensures nothing { stays None None ≡ false }
 {}
 
-/// The target in a member has its window, is gated for the families of executables, and stays where its
-/// own partition says so.
+/// The target in a member has its window, is gated for the families of executables, and stays
+/// where its own partition says so.
 pub fn targets_in_a_pair()
-    ensures first { pair_target (Some crossed_table) 0xe48bff59 image_pair third A ≡ to first true false }
+    ensures first { pair_target (Some crossed_table) 0xe48bff59 image_pair third A ≡ to first true
+        false }
     ensures second { pair_target (Some crossed_table) 0xe48bff59 image_pair third B
         ≡ to third true true }
     ensures data { pair_target (Some crossed_table) 0xe48bff58 data_pair zeroth A
@@ -118,7 +121,8 @@ pub fn targets_in_a_pair()
 {}
 
 /// The data of a start are the partitions that the unit's A owns: where A started themselves, and
-/// where B did their B if they have one; nothing where no partition is the unit's A, or without a table.
+/// where B did their B if they have one; nothing where no partition is the unit's A, or without a
+/// table.
 pub fn data_of_starts()
     ensures first { data_of (Some crossed_table) (start_in first A (Some third))
         ≡ second ∷ fourth ∷ [] }
