@@ -11,8 +11,10 @@ mod data;
 mod deciding;
 mod decision;
 pub mod examples;
+pub mod flash_examples;
 pub mod laws;
 mod picking;
+pub mod table_examples;
 mod tables;
 mod targets;
 

@@ -1,0 +1,120 @@
+//! Worked examples of whole flashes, byte for byte, proved by computing: each is the `ensures` of a
+//! function that does nothing.
+
+ghost use Rattle.std.specs.Prelude.{◌≡◌, [], ◌∷◌, ◌++◌, true, false, Some, None};
+ghost use Rattle.pico_board.specs.declared.boot.BootKind.TheVariants.{Normal, Update, Bootsel as AskBootsel};
+ghost use Rattle.pico_board.specs.declared.boot.Cpu.TheVariants.{Arm, Riscv};
+ghost use Rattle.part_table.specs.Examples.{one_part, pair_table, plain_partition, sectors, table_with};
+ghost use Rattle.slot_choice.specs.Examples.{window_at};
+ghost use Rattle.boot_rules.specs.Choosing.{decision_in};
+ghost use Rattle.boot_rules.specs.Examples.{bare, found_in, framed, image_region, in_a, in_b, pair_content, region, several, single, small_items, small_table, starts_a, starts_b, tables_content, to};
+ghost use Rattle.boot_rules.specs.Tables.{table_in};
+ghost use Rattle.boot_rules.specs.Targets.{target_of};
+ghost use Rattle.boot_rules.specs.declared.decision.Decision.TheVariants.{Bootsel, Start};
+ghost use Rattle.boot_rules.specs.declared.decision.Fall.TheVariants.{FlashOff, NoImage, Requested};
+
+/// Flashes of 24 KiB with tables in slot 0 and slot 1, of 4 KiB each: in one of them, of different
+/// versions, of equal ones, and a singleton.
+pub fn tables_in_slots()
+    ensures none { table_in (tables_content 0 (region 0x1000 []) (region 0x1000 [])) ≡ None }
+    ensures first { table_in
+        (tables_content 0 (region 0x1000 (framed (small_items several 0x10000) 0))
+        (region 0x1000 [])) ≡ Some (found_in 0 (small_table false 1 0)) }
+    ensures second { table_in (tables_content 0 (region 0x1000 [])
+        (region 0x1000 (framed (small_items several 0x10000) 0)))
+        ≡ Some (found_in 1 (small_table false 1 0)) }
+    ensures greater { table_in
+        (tables_content 0 (region 0x1000 (framed (small_items several 0x10009) 0))
+        (region 0x1000 (framed (small_items several 0x1000a) 0)))
+        ≡ Some (found_in 1 (small_table false 1 10)) }
+    ensures tie { table_in
+        (tables_content 0 (region 0x1000 (framed (small_items several 0x10009) 0))
+        (region 0x1000 (framed (small_items several 0x10009) 0)))
+        ≡ Some (found_in 0 (small_table false 1 9)) }
+    ensures singleton { table_in
+        (tables_content 0 (region 0x1000 (framed (small_items single 0x10009) 0))
+        (region 0x1000 (framed (small_items several 0x1000a) 0)))
+        ≡ Some (found_in 0 (small_table true 1 9)) }
+    ensures broken { table_in
+        (tables_content 0 (region 0x1000 (framed (small_items several 0x1000a) 0x1000))
+        (region 0x1000 (framed (small_items several 0x10009) 0)))
+        ≡ Some (found_in 1 (small_table false 1 9)) }
+{}
+
+/// Slots of 8 KiB by row 0x055: the second begins at 0x2000, a partition begins at sector 4 or
+/// behind it, and ends with the last sector of the flash or before.
+pub fn tables_in_greater_slots()
+    ensures first { table_in
+        (tables_content 1 (region 0x2000 (framed (one_part (sectors 4 5) 0xfc020000) 0))
+        (region 0x2000 []))
+        ≡ Some (found_in 0 (table_with (plain_partition (sectors 4 5) 0xfc020000 ∷ []))) }
+    ensures second { table_in
+        (tables_content 1 (region 0x2000 [])
+        (region 0x2000 (framed (one_part (sectors 4 5) 0xfc020000) 0)))
+        ≡ Some (found_in 1 (table_with (plain_partition (sectors 4 5) 0xfc020000 ∷ []))) }
+    ensures before { table_in
+        (tables_content 1 (region 0x2000 (framed (one_part (sectors 3 5) 0xfc020000) 0))
+        (region 0x2000 [])) ≡ None }
+    ensures behind { table_in
+        (tables_content 1 (region 0x2000 (framed (one_part (sectors 4 6) 0xfc020000) 0))
+        (region 0x2000 [])) ≡ None }
+    ensures third_slot { table_in
+        (tables_content 0 (region 0x1000 [])
+        (region 0x2000 [] ++ region 0x1000 (framed (one_part (sectors 4 5) 0xfc020000) 0)))
+        ≡ None }
+{}
+
+/// A pair in a flash of 256 KiB: the greater version starts, A on a tie, the updated member
+/// before both; nothing starts where both are bare, where the flash is off, or where BOOTSEL is
+/// asked for.
+pub fn a_pair_boots()
+    ensures greater { decision_in
+        (pair_content 0 (image_region 0x1e000 0x10210142 0x10009)
+        (image_region 0x1e000 0x10210142 0x1000a))
+        Arm Normal ≡ Start (starts_b false (in_b 1 10 false)) }
+    ensures tie { decision_in
+        (pair_content 0 (image_region 0x1e000 0x10210142 0x10009)
+        (image_region 0x1e000 0x10210142 0x10009))
+        Arm Normal ≡ Start (starts_a false (in_a 1 9 false)) }
+    ensures update { decision_in
+        (pair_content 0 (image_region 0x1e000 0x10210142 0x10000)
+        (image_region 0x1e000 0x90210142 0x10001))
+        Arm (Update 0x10020000) ≡ Start (starts_b true (in_b 1 1 true)) }
+    ensures other_processor { decision_in
+        (pair_content 0 (image_region 0x1e000 0x10210142 0x10009) bare)
+        Riscv Normal ≡ Bootsel NoImage }
+    ensures off { decision_in (pair_content 2 (image_region 0x1e000 0x10210142 0x10009) bare) Arm
+        Normal ≡ Bootsel FlashOff }
+    ensures off_update { decision_in
+        (pair_content 2 (image_region 0x1e000 0x10210142 0x10009) bare) Arm (Update 0x10020000)
+        ≡ Bootsel FlashOff }
+    ensures off_and_bare { decision_in (pair_content 2 bare bare) Arm Normal ≡ Bootsel FlashOff }
+    ensures required_is_not_off { decision_in (pair_content 1 bare bare) Arm Normal ≡ Bootsel
+        NoImage }
+    ensures no_image { decision_in (pair_content 0 bare bare) Arm Normal ≡ Bootsel NoImage }
+    ensures requested { decision_in
+        (pair_content 0 (image_region 0x1e000 0x10210142 0x10009) bare) Arm AskBootsel
+        ≡ Bootsel Requested }
+    ensures requested_and_off { decision_in (pair_content 2 bare bare) Arm AskBootsel
+        ≡ Bootsel Requested }
+{}
+
+/// Its downloads go to the member that a normal boot would not take, and to A where it would take
+/// none.
+pub fn a_pair_is_written()
+    ensures second { target_of
+        (pair_content 0 (image_region 0x1e000 0x10210142 0x10009)
+        (image_region 0x1e000 0x90210142 0x10000))
+        (Some pair_table) Arm 0xe48bff59 ≡ Some (to (window_at 0x20000 0x1e000) true false) }
+    ensures first { target_of
+        (pair_content 0 (image_region 0x1e000 0x10210142 0x10009)
+        (image_region 0x1e000 0x10210142 0x1000a))
+        (Some pair_table) Arm 0xe48bff59 ≡ Some (to (window_at 0x2000 0x1e000) true false) }
+    ensures none { target_of (pair_content 0 bare bare) (Some pair_table) Arm 0xe48bff59
+        ≡ Some (to (window_at 0x2000 0x1e000) true false) }
+    ensures absolute { target_of (pair_content 0 bare bare) (Some pair_table) Arm 0xe48bff57
+        ≡ Some (to (window_at 0 0x40000) false false) }
+    ensures data { target_of (pair_content 0 bare bare) (Some pair_table) Arm 0xe48bff58 ≡ None }
+    ensures slots { target_of (pair_content 0 bare bare) None Arm 0xe48bff59
+        ≡ Some (to (window_at 0 0x40000) false false) }
+{}
