@@ -30,27 +30,36 @@ pub AreWords-block : (p items : List ℕ) (link : ℤ) → IsBlock p items link 
 AreWords-block p items link block = AreWords-frame items link block.few block.words block.fits
 
 -- the words of bytes that begin with a block
-pub words_of-block : (p items rest : List ℕ) (link : ℤ) → IsBlock p items link → words_of (p ++ rest) ≡ frame items link ++ words_of rest
+pub words_of-block : (p items rest : List ℕ) (link : ℤ) → IsBlock p items link
+    → words_of (p ++ rest) ≡ frame items link ++ words_of rest
 words_of-block p items rest link block =
-    ap (λ bs. words_of (bs ++ rest)) block.spelled ∙ words_of-append (frame items link) rest (AreWords-block p items link block)
+    ap (λ bs. words_of (bs ++ rest)) block.spelled
+    ∙ words_of-append (frame items link) rest (AreWords-block p items link block)
 
 -- the same block by equal parts
 same_view : (x : ℕ) (xs ys : List ℕ) (k l : ℤ) → xs ≡ ys → k ≡ l →
-    ◌≡◌ {A = Option BlockView} (Some (record { at = x; items = xs; link = k })) (Some (record { at = x; items = ys; link = l }))
+    ◌≡◌ {A = Option BlockView} (Some (record { at = x; items = xs; link = k }))
+    (Some (record { at = x; items = ys; link = l }))
 same_view x xs ys k l e f = rw (e, f) refl
 
 -- what the words of a block give
-block_of-block : (x : ℕ) (bytes ws p items rest : List ℕ) (link : ℤ) → IsBlock p items link → take (4 * length items + 16) bytes ≡ p → ws ≡ frame items link ++ rest →
+block_of-block : (x : ℕ) (bytes ws p items rest : List ℕ) (link : ℤ) → IsBlock p items link
+    → take (4 * length items + 16) bytes ≡ p → ws ≡ frame items link ++ rest →
     option_and_then (block_of x bytes ws) (item_words ws) ≡ Some (record { at = x; items = items; link = link })
 block_of-block x bytes ws p items rest link block front is =
     let found : item_words ws ≡ Some (length items) = ap item_words is ∙ item_words-frame items link rest block.whole in
     let test : are_bytes (take (4 * length items + 16) bytes) ≡ true =
-    ap are_bytes (front ∙ block.spelled) ∙ are_bytes-true (bytes_of (frame items link)) (AreBytes-bytes_of (frame items link)) in
-    let same_items : take (length items) (drop 1 ws) ≡ items = ap (λ xs. take (length items) (drop 1 xs)) is ∙ frame-items items link rest in
+    ap are_bytes (front ∙ block.spelled)
+    ∙ are_bytes-true (bytes_of (frame items link)) (AreBytes-bytes_of (frame items link)) in
+    let same_items : take (length items) (drop 1 ws) ≡ items = ap (λ xs. take (length items) (drop 1 xs)) is
+    ∙ frame-items items link rest in
     let same_link : cast_signed w32 (get_or ws (length items + 2) 0) ≡ link =
-    ap (cast_signed w32) (ap (λ xs. get_or xs (length items + 2) 0) is ∙ frame-link items link rest) ∙ to_z-of_z w32 link block.fits in
+    ap (cast_signed w32) (ap (λ xs. get_or xs (length items + 2) 0) is ∙ frame-link items link rest)
+    ∙ to_z-of_z w32 link block.fits in
     ap (option_and_then (block_of x bytes ws)) found
-    ∙ ap (λ t. cond t (Some (record { at = x; items = take (length items) (drop 1 ws); link = cast_signed w32 (get_or ws (length items + 2) 0) })) None) test
+    ∙ ap (λ t. cond t (Some (record
+    { at = x; items = take (length items) (drop 1 ws); link = cast_signed w32 (get_or ws (length items + 2) 0) }))
+    None) test
     ∙ same_view x _ items _ link same_items same_link
 
 -- the front of enough bytes
@@ -76,7 +85,8 @@ front_block-found x p items rest link block =
     let few = block.few in
     let front = front-of 640 p rest (omega arith) in
     ap (λ t. begun_block t x (p ++ rest)) (eq-eqb _ start_word (word_of-block p items rest link block))
-    ∙ block_of-block x (p ++ rest) (words_of (take 640 (p ++ rest))) p items (words_of (take (640 - length p) rest)) link block
+    ∙ block_of-block x (p ++ rest) (words_of (take 640 (p ++ rest))) p items
+    (words_of (take (640 - length p) rest)) link block
     (take_at p rest (4 * length items + 16) long)
     (ap words_of front ∙ words_of-block p items (take (640 - length p) rest) link block)
 
@@ -100,7 +110,8 @@ module _ (f : List ℕ) (n : ℕ) (bytes : AreBytes (take (4 * (n + 4)) f)) (fra
   first_words = subst AreWords (words_of-take (n + 4) f) (AreWords-words_of (take (4 * (n + 4)) f) bytes)
 
   link_word : get_or (words_of f) (n + 2) 0 < 2 ^ 32
-  link_word = subst (λ w. w < 2 ^ 32) (get_or-take (n + 4) (words_of f) (n + 2) 0 (omega arith)) (AreWords-at _ (n + 2) first_words)
+  link_word = subst (λ w. w < 2 ^ 32) (get_or-take (n + 4) (words_of f) (n + 2) 0 (omega arith))
+      (AreWords-at _ (n + 2) first_words)
 
   module _ (start : word_of f ≡ start_word) where
     start_first : get_or (words_of f) 0 0 ≡ start_word
@@ -109,10 +120,12 @@ module _ (f : List ℕ) (n : ℕ) (bytes : AreBytes (take (4 * (n + 4)) f)) (fra
         let long = length-words_of f in
         get_or-words_of f 0 (omega arith) ∙ start
 
-    spelled_words : take (n + 4) (words_of f) ≡ frame (take n (drop 1 (words_of f))) (cast_signed w32 (get_or (words_of f) (n + 2) 0))
+    spelled_words : take (n + 4) (words_of f)
+        ≡ frame (take n (drop 1 (words_of f))) (cast_signed w32 (get_or (words_of f) (n + 2) 0))
     spelled_words = frame-from_framed (words_of f) n framed start_first link_word
 
-    block-from_framed : n ≤ 156 → IsBlock (take (4 * (n + 4)) f) (take n (drop 1 (words_of f))) (cast_signed w32 (get_or (words_of f) (n + 2) 0))
+    block-from_framed : n ≤ 156 → IsBlock (take (4 * (n + 4)) f) (take n (drop 1 (words_of f)))
+        (cast_signed w32 (get_or (words_of f) (n + 2) 0))
     block-from_framed few = record {
       spelled =
           let room = framed.inside in
@@ -128,9 +141,14 @@ none_some : {P : Type 0} (b : BlockView) → None ≡ Some b → P
 none_some b e = absurd (none-some b e)
 
 -- framed words in the first m bytes are a block at the front of the bytes
-stands_framed : (m x n : ℕ) (bytes : List ℕ) → m ≤ 640 → 4 ≤ m → are_bytes (take (4 * n + 16) bytes) ≡ true → word_of bytes ≡ start_word →
+stands_framed : (m x n : ℕ) (bytes : List ℕ) → m ≤ 640 → 4 ≤ m → are_bytes (take (4 * n + 16) bytes) ≡ true
+    → word_of bytes ≡ start_word →
     IsFramed (words_of (take m bytes)) n →
-    Begins x bytes (record { at = x; items = take n (drop 1 (words_of (take m bytes))); link = cast_signed w32 (get_or (words_of (take m bytes)) (n + 2) 0) })
+    Begins x bytes (record {
+      at = x;
+      items = take n (drop 1 (words_of (take m bytes)));
+      link = cast_signed w32 (get_or (words_of (take m bytes)) (n + 2) 0);
+    })
 stands_framed m x n bytes most least test start framed =
     let room = framed.inside in
     let long = length-words_of (take m bytes) in
@@ -139,26 +157,37 @@ stands_framed m x n bytes most least test start framed =
     let same : take (4 * (n + 4)) (take m bytes) ≡ take (4 * n + 16) bytes =
     take-take (4 * (n + 4)) m bytes (omega arith) ∙ ap (λ k. take k bytes) size in
     let items_long : length (take n (drop 1 (words_of (take m bytes)))) ≡ n =
-    length-take-le n (drop 1 (words_of (take m bytes))) (let tail = length-drop 1 (words_of (take m bytes)) in omega (arith, tail)) in
-    let block = block-from_framed (take m bytes) n (subst AreBytes (sym same) (AreBytes-from_test _ test)) framed (word_of-take m bytes least ∙ start) (omega arith) in
-    let bytes_are : take (4 * (n + 4)) (take m bytes) ≡ take (4 * length (take n (drop 1 (words_of (take m bytes)))) + 16) bytes =
+    length-take-le n (drop 1 (words_of (take m bytes)))
+    (let tail = length-drop 1 (words_of (take m bytes)) in omega (arith, tail)) in
+    let block = block-from_framed (take m bytes) n (subst AreBytes (sym same) (AreBytes-from_test _ test)) framed
+    (word_of-take m bytes least ∙ start) (omega arith) in
+    let bytes_are : take (4 * (n + 4)) (take m bytes)
+    ≡ take (4 * length (take n (drop 1 (words_of (take m bytes)))) + 16) bytes =
     same ∙ ap (λ k. take (4 * k + 16) bytes) (sym items_long) in
-    record { placed = refl; stands = subst (λ p. IsBlock p (take n (drop 1 (words_of (take m bytes)))) (cast_signed w32 (get_or (words_of (take m bytes)) (n + 2) 0))) bytes_are block }
+    record {
+      placed = refl;
+      stands =
+          subst (λ p. IsBlock p (take n (drop 1 (words_of (take m bytes))))
+          (cast_signed w32 (get_or (words_of (take m bytes)) (n + 2) 0))) bytes_are block;
+    }
 
-begun-stands : (x : ℕ) (bytes : List ℕ) (b : BlockView) → word_of bytes ≡ start_word → begun_block true x bytes ≡ Some b → Begins x bytes b
+begun-stands : (x : ℕ) (bytes : List ℕ) (b : BlockView) → word_of bytes ≡ start_word
+    → begun_block true x bytes ≡ Some b → Begins x bytes b
 begun-stands x bytes b start e =
     option_and_then_some (block_of x bytes (words_of (take 640 bytes))) (item_words (words_of (take 640 bytes))) b e
     (λ n found made.
     let (test, same) = cond_some (are_bytes (take (4 * n + 16) bytes)) _ b made in
     subst (λ v. Begins x bytes v) same
-    (stands_framed 640 x n bytes (omega arith) (omega arith) test start (IsFramed-from_found (words_of (take 640 bytes)) n found)))
+    (stands_framed 640 x n bytes (omega arith) (omega arith) test start
+    (IsFramed-from_found (words_of (take 640 bytes)) n found)))
 
 -- what is found at the front is a block
 pub front_block-stands : (x : ℕ) (bytes : List ℕ) (b : BlockView) → front_block x bytes ≡ Some b → Begins x bytes b
 unfolding front_block
 front_block-stands x bytes b e =
     elim (cases_eq (word_of bytes) start_word) [
-      | inl start ↦ begun-stands x bytes b start (ap (λ t. begun_block t x bytes) (sym (eq-eqb (word_of bytes) start_word start)) ∙ e)
+      | inl start ↦ begun-stands x bytes b start
+          (ap (λ t. begun_block t x bytes) (sym (eq-eqb (word_of bytes) start_word start)) ∙ e)
       | inr other ↦ none_some b (ap (λ t. begun_block t x bytes) (sym (ne_eqb (word_of bytes) start_word other)) ∙ e)
     ]
 
@@ -169,7 +198,8 @@ Begins-from_block x n bytes items link block =
     let long = length-block (take n bytes) items link block in
     let room = length-take n bytes in
     let same : take n bytes ≡ take (4 * length items + 16) bytes =
-    sym (take_all (4 * length items + 16) (take n bytes) (omega arith)) ∙ take-take (4 * length items + 16) n bytes (omega arith) in
+    sym (take_all (4 * length items + 16) (take n bytes) (omega arith))
+    ∙ take-take (4 * length items + 16) n bytes (omega arith) in
     record { placed = refl; stands = subst (λ p. IsBlock p items link) same block }
 
 -- the bytes are long enough

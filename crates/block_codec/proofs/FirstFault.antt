@@ -21,26 +21,32 @@ module _ {X F : Type 0} (judge : List X → X → Option F) where
   abbrev no_fault_from : List X → List X → Type 0
   no_fault_from before xs = (j : ℕ) (x : X) → slice_get xs j ≡ Some x → judge (before ++ take j xs) x ≡ None
 
-  no_fault-tail : (before : List X) (x : X) (xs : List X) → no_fault_from before (x ∷ xs) → no_fault_from (before ++ x ∷ []) xs
+  no_fault-tail : (before : List X) (x : X) (xs : List X) → no_fault_from before (x ∷ xs)
+      → no_fault_from (before ++ x ∷ []) xs
   no_fault-tail before x xs h j y at = ap (λ ys. judge ys y) (append_assoc before (x ∷ []) (take j xs)) ∙ h (suc j) y at
 
-  first_judged : (before : List X) (x : X) (xs : List X) (o : Option F) → judge (before ++ []) x ≡ o → first_from judge before (x ∷ xs) ≡ option_or o (first_from judge (before ++ x ∷ []) xs)
+  first_judged : (before : List X) (x : X) (xs : List X) (o : Option F) → judge (before ++ []) x ≡ o
+      → first_from judge before (x ∷ xs) ≡ option_or o (first_from judge (before ++ x ∷ []) xs)
   first_judged before x xs o e =
-      ap (λ f. option_or f (first_from judge (before ++ x ∷ []) xs)) (ap (λ ys. judge ys x) (sym (append-nil before)) ∙ e)
+      ap (λ f. option_or f (first_from judge (before ++ x ∷ []) xs))
+      (ap (λ ys. judge ys x) (sym (append-nil before)) ∙ e)
 
   first_from-none : (before xs : List X) → no_fault_from before xs → first_from judge before xs ≡ None
   first_from-none before [] h = refl
   first_from-none before (x ∷ xs) h =
       first_judged before x xs None (h 0 x refl) ∙ first_from-none (before ++ x ∷ []) xs (no_fault-tail before x xs h)
 
-  first_from-some : (before xs : List X) (i : ℕ) (x : X) (f : F) → slice_get xs i ≡ Some x → judge (before ++ take i xs) x ≡ Some f →
-      ((j : ℕ) (y : X) → j < i → slice_get xs j ≡ Some y → judge (before ++ take j xs) y ≡ None) → first_from judge before xs ≡ Some f
+  first_from-some : (before xs : List X) (i : ℕ) (x : X) (f : F) → slice_get xs i ≡ Some x
+      → judge (before ++ take i xs) x ≡ Some f →
+      ((j : ℕ) (y : X) → j < i → slice_get xs j ≡ Some y → judge (before ++ take j xs) y ≡ None)
+      → first_from judge before xs ≡ Some f
   first_from-some before [] i x f at fault h = absurd (none-some x at)
   first_from-some before (y ∷ xs) zero x f at fault h =
       first_judged before y xs (Some f) (subst (λ z. judge (before ++ []) z ≡ Some f) (sym (same_Some y x at)) fault)
   first_from-some before (y ∷ xs) (suc i) x f at fault h =
       first_judged before y xs None (h 0 y (omega arith) refl)
-      ∙ first_from-some (before ++ y ∷ []) xs i x f at (ap (λ ys. judge ys x) (append_assoc before (y ∷ []) (take i xs)) ∙ fault)
+      ∙ first_from-some (before ++ y ∷ []) xs i x f at
+      (ap (λ ys. judge ys x) (append_assoc before (y ∷ []) (take i xs)) ∙ fault)
       (λ j z lt here. ap (λ ys. judge ys z) (append_assoc before (y ∷ []) (take j xs)) ∙ h (suc j) z (omega arith) here)
 
   -- no element was judged yet
@@ -48,7 +54,8 @@ module _ {X F : Type 0} (judge : List X → X → Option F) where
   sound_none xs j x lt at = absurd (omega arith)
 
   -- the element at place n has no fault either
-  pub sound_more : (xs : List X) (n : ℕ) (x : X) → AreSound judge xs n → slice_get xs n ≡ Some x → judge (take n xs) x ≡ None → AreSound judge xs (n + 1)
+  pub sound_more : (xs : List X) (n : ℕ) (x : X) → AreSound judge xs n → slice_get xs n ≡ Some x
+      → judge (take n xs) x ≡ None → AreSound judge xs (n + 1)
   sound_more xs n x sound here none j y lt at =
       elim (cases_lt j n) [
         | inl less ↦ sound j y less at
@@ -70,11 +77,13 @@ module _ {X F : Type 0} (judge : List X → X → Option F) where
       first_from-some [] xs i x f at fault first.before
 
   -- the element at place n, behind those without a fault, has the first
-  pub first_at : (xs : List X) (n : ℕ) (x : X) (f : F) → AreSound judge xs n → slice_get xs n ≡ Some x → judge (take n xs) x ≡ Some f → IsFirst judge xs n f
+  pub first_at : (xs : List X) (n : ℕ) (x : X) (f : F) → AreSound judge xs n → slice_get xs n ≡ Some x
+      → judge (take n xs) x ≡ Some f → IsFirst judge xs n f
   first_at xs n x f sound here fault = record { here = (x, here, fault); before = sound }
 
   -- the first n elements have no fault, or one of the list's elements has the first
-  pub sound_or_first : (xs : List X) (n : ℕ) → n ≤ length xs → AreSound judge xs n ⊎ ((i : ℕ) × (f : F) × IsFirst judge xs i f)
+  pub sound_or_first : (xs : List X) (n : ℕ) → n ≤ length xs
+      → AreSound judge xs n ⊎ ((i : ℕ) × (f : F) × IsFirst judge xs i f)
   sound_or_first xs zero room = inl (sound_none xs)
   sound_or_first xs (suc n) room =
       elim (sound_or_first xs n (omega arith)) [

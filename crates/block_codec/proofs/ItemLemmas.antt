@@ -31,7 +31,8 @@ words_before-skip zero ws = sym (later-zero (words_before 0 ws))
 words_before-skip (suc k) [] = refl
 words_before-skip (suc k) (w ∷ ws) = ap (option_map suc) (words_before-skip k ws) ∙ suc-later k _
 
-words_before-item : (h : ℕ) (ws : List ℕ) → type_byte h ≢ 255 → size_of h ≢ 0 → words_before 0 (h ∷ ws) ≡ option_map suc (words_before (size_of h - 1) ws)
+words_before-item : (h : ℕ) (ws : List ℕ) → type_byte h ≢ 255 → size_of h ≢ 0
+    → words_before 0 (h ∷ ws) ≡ option_map suc (words_before (size_of h - 1) ws)
 words_before-item h ws kind size =
     let e = ne_eqb (type_byte h) 255 kind in
     let f = ne_eqb (size_of h) 0 size in
@@ -51,8 +52,10 @@ step_from ws at size n h is_size is_suc kind =
     ∙ ap (λ k. later k (words_before 0 (drop (at + size) ws))) (sym is_suc)
 
 -- a whole item in front is stepped over
-pub words_before-step : (ws : List ℕ) (at : ℕ) → at < length ws → type_byte (get_or ws at 0) ≢ 255 → size_of (get_or ws at 0) ≢ 0 →
-    words_before 0 (drop at ws) ≡ later (size_of (get_or ws at 0)) (words_before 0 (drop (at + size_of (get_or ws at 0)) ws))
+pub words_before-step : (ws : List ℕ) (at : ℕ) → at < length ws → type_byte (get_or ws at 0) ≢ 255
+    → size_of (get_or ws at 0) ≢ 0 →
+    words_before 0 (drop at ws) ≡ later (size_of (get_or ws at 0))
+    (words_before 0 (drop (at + size_of (get_or ws at 0)) ws))
 words_before-step ws at h kind size =
     ap (words_before 0) (drop_more ws at 0 h)
     ∙ step_from ws at (size_of (get_or ws at 0)) (size_of (get_or ws at 0) - 1) (get_or ws at 0) refl (omega arith) kind
@@ -67,10 +70,14 @@ some_suc : (o : Option ℕ) (n : ℕ) → option_map suc o ≡ Some n → (m : �
 some_suc None n e = cc
 some_suc (Some m) n e = (m, refl, cc)
 
-Ends-item : (h : ℕ) (ws : List ℕ) (m : ℕ) → type_byte h ≢ 255 → size_of h ≢ 0 → Ends (size_of h - 1) ws m → Ends 0 (h ∷ ws) (suc m)
-Ends-item h ws m kind size e = record { inside = let f = e.inside in omega (arith, f); last = e.last; items = (kind, omega arith, e.items) }
+Ends-item : (h : ℕ) (ws : List ℕ) (m : ℕ) → type_byte h ≢ 255 → size_of h ≢ 0 → Ends (size_of h - 1) ws m
+    → Ends 0 (h ∷ ws) (suc m)
+Ends-item h ws m kind size e =
+    record { inside = let f = e.inside in omega (arith, f); last = e.last; items = (kind, omega arith, e.items) }
 
-Ends-zero : (h : ℕ) (ws : List ℕ) (n : ℕ) → ((m : ℕ) → words_before (size_of h - 1) ws ≡ Some m → Ends (size_of h - 1) ws m) → words_before 0 (h ∷ ws) ≡ Some n → Ends 0 (h ∷ ws) n
+Ends-zero : (h : ℕ) (ws : List ℕ) (n : ℕ)
+    → ((m : ℕ) → words_before (size_of h - 1) ws ≡ Some m → Ends (size_of h - 1) ws m)
+    → words_before 0 (h ∷ ws) ≡ Some n → Ends 0 (h ∷ ws) n
 Ends-zero h ws n ih e =
     elim (cases_eq (type_byte h) 255) [
       | inl last ↦
@@ -96,15 +103,18 @@ Ends-from_found zero (h ∷ ws) n e = Ends-zero h ws n (λ m. Ends-from_found (s
 Ends-from_found (suc k) (w ∷ ws) n e =
     let (m, found, is) = some_suc _ n e in
     let ends = Ends-from_found k ws m found in
-    subst (λ m. Ends (suc k) (w ∷ ws) m) (sym is) (record { inside = omega arith; last = ends.last; items = ends.items })
+    subst (λ m. Ends (suc k) (w ∷ ws) m) (sym is)
+    (record { inside = omega arith; last = ends.last; items = ends.items })
 
 -- after whole items the last item is found
-pub words_before-items : (k : ℕ) (ws : List ℕ) (h : ℕ) (rest : List ℕ) → AreItemsAfter k ws → type_byte h ≡ 255 → words_before k (ws ++ h ∷ rest) ≡ Some (length ws)
+pub words_before-items : (k : ℕ) (ws : List ℕ) (h : ℕ) (rest : List ℕ) → AreItemsAfter k ws → type_byte h ≡ 255
+    → words_before k (ws ++ h ∷ rest) ≡ Some (length ws)
 words_before-items zero [] h rest items last = rw (eq-eqb (type_byte h) 255 last) refl
 words_before-items (suc k) [] h rest items last = absurd items
 words_before-items zero (x ∷ ws) h rest items last =
     let size : size_of x ≢ 0 = λ e. omega (arith, items.1, e) in
-    words_before-item x (ws ++ h ∷ rest) items.0 size ∙ ap (option_map suc) (words_before-items (size_of x - 1) ws h rest items.2 last)
+    words_before-item x (ws ++ h ∷ rest) items.0 size
+    ∙ ap (option_map suc) (words_before-items (size_of x - 1) ws h rest items.2 last)
 words_before-items (suc k) (x ∷ ws) h rest items last = ap (option_map suc) (words_before-items k ws h rest items last)
 
 -- words that follow whole items
@@ -142,9 +152,11 @@ pub record StepsOver (ws : List ℕ) (at size : ℕ) : Type 0 where
   pub some : 1 ≤ size
   pub inside : at + size ≤ length ws
   pub rest : AreItems (drop (at + size) ws)
-  pub items : (place : ℕ) → items_from place 0 (drop at ws) ≡ item_at place (get_or ws at 0) ∷ items_from (place + size) 0 (drop (at + size) ws)
+  pub items : (place : ℕ) → items_from place 0 (drop at ws) ≡ item_at place (get_or ws at 0)
+      ∷ items_from (place + size) 0 (drop (at + size) ws)
 
-step_over : (ws tail : List ℕ) (at size n h : ℕ) → at < length ws → h ≡ get_or ws at 0 → tail ≡ drop (at + 1) ws → size_of h ≡ size → size ≡ suc n → AreItems (h ∷ tail) →
+step_over : (ws tail : List ℕ) (at size n h : ℕ) → at < length ws → h ≡ get_or ws at 0 → tail ≡ drop (at + 1) ws
+    → size_of h ≡ size → size ≡ suc n → AreItems (h ∷ tail) →
     drop at ws ≡ h ∷ tail → StepsOver ws at size
 step_over ws tail at size n h lt is_h is_tail is_size is_suc items front =
     let rest : size_of h - 1 ≡ n = omega arith in
@@ -152,7 +164,8 @@ step_over ws tail at size n h lt is_h is_tail is_size is_suc items front =
     let after : AreItemsAfter n tail = subst (λ k. AreItemsAfter k tail) rest items.2 in
     let long = room_for n tail after in
     let tail_long = ap length is_tail ∙ length-drop (at + 1) ws in
-    let dropped : drop n tail ≡ drop (at + size) ws = ap (drop n) is_tail ∙ drop-drop n (at + 1) ws ∙ ap (λ k. drop k ws) place in
+    let dropped : drop n tail ≡ drop (at + size) ws = ap (drop n) is_tail ∙ drop-drop n (at + 1) ws
+    ∙ ap (λ k. drop k ws) place in
     record {
       kind = subst (λ w. type_byte w ≢ 255) is_h items.0;
       some = omega arith;
@@ -168,12 +181,14 @@ step_over ws tail at size n h lt is_h is_tail is_size is_suc items front =
     }
 
 -- one item of whole items is stepped over
-pub StepsOver-at : (ws : List ℕ) (at size : ℕ) → at < length ws → AreItems (drop at ws) → size ≡ size_of (get_or ws at 0) → StepsOver ws at size
+pub StepsOver-at : (ws : List ℕ) (at size : ℕ) → at < length ws → AreItems (drop at ws)
+    → size ≡ size_of (get_or ws at 0) → StepsOver ws at size
 StepsOver-at ws at size lt items is =
     let front = drop_more ws at 0 lt in
     let whole : AreItems (get_or ws at 0 ∷ drop (at + 1) ws) = subst AreItems front items in
     let some = whole.1 in
-    step_over ws (drop (at + 1) ws) at size (size - 1) (get_or ws at 0) lt refl refl (sym is) (omega (arith, some, is)) whole front
+    step_over ws (drop (at + 1) ws) at size (size - 1) (get_or ws at 0) lt refl refl (sym is)
+    (omega (arith, some, is)) whole front
 
 -- the items among words that stand at a place, each with its bounds and its header
 pub record IsItemFrom (place : ℕ) (ws : List ℕ) (item : Item) : Type 0 where
@@ -183,7 +198,8 @@ pub record IsItemFrom (place : ℕ) (ws : List ℕ) (item : Item) : Type 0 where
   pub kind : item.kind ≢ 255
   pub is : item ≡ item_at item.first (get_or ws (item.first - place) 0)
 
-IsItemFrom-tail : (place w : ℕ) (ws : List ℕ) (item : Item) → IsItemFrom (place + 1) ws item → IsItemFrom place (w ∷ ws) item
+IsItemFrom-tail : (place w : ℕ) (ws : List ℕ) (item : Item) → IsItemFrom (place + 1) ws item
+    → IsItemFrom place (w ∷ ws) item
 IsItemFrom-tail place w ws item i =
     let first = i.first in
     let inside = i.inside in
@@ -196,15 +212,23 @@ IsItemFrom-tail place w ws item i =
       is = i.is ∙ ap (λ k. item_at item.first (get_or (w ∷ ws) k 0)) (sym e);
     }
 
-IsItemFrom-head : (place h : ℕ) (ws : List ℕ) (item : Item) → AreItems (h ∷ ws) → Some (item_at place h) ≡ Some item → IsItemFrom place (h ∷ ws) item
+IsItemFrom-head : (place h : ℕ) (ws : List ℕ) (item : Item) → AreItems (h ∷ ws) → Some (item_at place h) ≡ Some item
+    → IsItemFrom place (h ∷ ws) item
 IsItemFrom-head place h ws item items e =
     let room = room_for (size_of h - 1) ws items.2 in
     let some = items.1 in
     let zero : 0 ≡ place - place = omega arith in
     subst (IsItemFrom place (h ∷ ws)) (same_Some (item_at place h) item e)
-    (record { first = omega arith; some = some; inside = omega arith; kind = items.0; is = ap (λ k. item_at place (get_or (h ∷ ws) k 0)) zero })
+    (record {
+      first = omega arith;
+      some = some;
+      inside = omega arith;
+      kind = items.0;
+      is = ap (λ k. item_at place (get_or (h ∷ ws) k 0)) zero;
+    })
 
-pub items_from-get : (place k : ℕ) (ws : List ℕ) (j : ℕ) (item : Item) → AreItemsAfter k ws → slice_get (items_from place k ws) j ≡ Some item → IsItemFrom place ws item
+pub items_from-get : (place k : ℕ) (ws : List ℕ) (j : ℕ) (item : Item) → AreItemsAfter k ws
+    → slice_get (items_from place k ws) j ≡ Some item → IsItemFrom place ws item
 items_from-get place k [] j item items e = absurd (none-some item e)
 items_from-get place zero (h ∷ ws) zero item items e = IsItemFrom-head place h ws item items e
 items_from-get place zero (h ∷ ws) (suc j) item items e =
@@ -213,7 +237,8 @@ items_from-get place (suc k) (w ∷ ws) j item items e =
     IsItemFrom-tail place w ws item (items_from-get (place + 1) k ws j item items e)
 
 -- each of a block's items lies in it and is what its header says
-pub IsItemOf-from_get : (ws : List ℕ) (j : ℕ) (item : Item) → AreItems ws → slice_get (items_of ws) j ≡ Some item → IsItemOf ws item
+pub IsItemOf-from_get : (ws : List ℕ) (j : ℕ) (item : Item) → AreItems ws → slice_get (items_of ws) j ≡ Some item
+    → IsItemOf ws item
 IsItemOf-from_get ws j item items e =
     let i = items_from-get 1 0 ws j item items e in
     record { first = i.first; some = i.some; inside = i.inside; kind = i.kind; is = i.is }
@@ -224,13 +249,19 @@ IsItemOf-from_contains ws item items (k, lt, is) =
 
 -- the items of whole items, read with `drop`
 pub items_by_drop : (h : ℕ) (ws : List ℕ) →
-    AreItems (h ∷ ws) ↔ ((type_byte h ≢ 255) × (1 ≤ size_of h) × (size_of h ≤ length (h ∷ ws)) × AreItems (drop (size_of h) (h ∷ ws)))
+    AreItems (h ∷ ws) ↔ ((type_byte h ≢ 255) × (1 ≤ size_of h) × (size_of h ≤ length (h ∷ ws))
+    × AreItems (drop (size_of h) (h ∷ ws)))
 items_by_drop h ws = (
   (λ items.
       let some = items.1 in
       let e : size_of h ≡ suc (size_of h - 1) = omega arith in
-      let room = room_for (size_of h - 1) ws items.2 in
-      (items.0, some, omega arith, subst (λ k. AreItems (drop k (h ∷ ws))) (sym e) (AreItemsAfter-skip (size_of h - 1) ws items.2))),
+      let room = room_for (size_of h - 1) ws items.2 in (
+        items.0,
+        some,
+        omega arith,
+        subst (λ k. AreItems (drop k (h ∷ ws))) (sym e)
+            (AreItemsAfter-skip (size_of h - 1) ws items.2),
+      )),
   (λ p.
       let some = p.1 in
       let room = p.2 in
@@ -238,7 +269,8 @@ items_by_drop h ws = (
       (p.0, some, AreItemsAfter-back (size_of h - 1) ws (omega arith) (subst (λ k. AreItems (drop k (h ∷ ws))) e p.3))),
 )
 
-pub get_at_drop : {X : Type 0} (xs : List X) (i : ℕ) (y : X) (ys : List X) → drop i xs ≡ y ∷ ys → slice_get xs i ≡ Some y
+pub get_at_drop : {X : Type 0} (xs : List X) (i : ℕ) (y : X) (ys : List X) → drop i xs ≡ y ∷ ys
+    → slice_get xs i ≡ Some y
 get_at_drop [] zero y ys e = cc
 get_at_drop [] (suc i) y ys e = cc
 get_at_drop (x ∷ xs) zero y ys e = cc
@@ -246,16 +278,20 @@ get_at_drop (x ∷ xs) (suc i) y ys e = get_at_drop xs i y ys e
 
 -- one item more was counted
 pub counted-more : (ws : List ℕ) (at size count total : ℕ) → StepsOver ws at size →
-    total ≡ count + length (items_from (1 + at) 0 (drop at ws)) → total ≡ (count + 1) + length (items_from (1 + (at + size)) 0 (drop (at + size) ws))
+    total ≡ count + length (items_from (1 + at) 0 (drop at ws))
+    → total ≡ (count + 1) + length (items_from (1 + (at + size)) 0 (drop (at + size) ws))
 counted-more ws at size count total step counted =
-    let e : length (items_from (1 + at) 0 (drop at ws)) ≡ suc (length (items_from ((1 + at) + size) 0 (drop (at + size) ws))) =
+    let e : length (items_from (1 + at) 0 (drop at ws))
+    ≡ suc (length (items_from ((1 + at) + size) 0 (drop (at + size) ws))) =
     ap length (step.items (1 + at)) in
-    let f : length (items_from ((1 + at) + size) 0 (drop (at + size) ws)) ≡ length (items_from (1 + (at + size)) 0 (drop (at + size) ws)) =
+    let f : length (items_from ((1 + at) + size) 0 (drop (at + size) ws))
+    ≡ length (items_from (1 + (at + size)) 0 (drop (at + size) ws)) =
     ap (λ p. length (items_from p 0 (drop (at + size) ws))) (omega arith) in
     omega arith
 
 -- where items are left, words are
-pub words_left : (place : ℕ) (ws : List ℕ) (at n : ℕ) (items : List Item) → drop n items ≡ items_from place 0 (drop at ws) → n < length items → at < length ws
+pub words_left : (place : ℕ) (ws : List ℕ) (at n : ℕ) (items : List Item)
+    → drop n items ≡ items_from place 0 (drop at ws) → n < length items → at < length ws
 words_left place ws at n items e lt =
     elim (cases_lt at (length ws)) [
       | inl less ↦ less
@@ -268,7 +304,8 @@ words_left place ws at n items e lt =
 
 -- behind one item come the others
 pub rest-more : (ws : List ℕ) (at size n : ℕ) (items : List Item) → StepsOver ws at size →
-    drop n items ≡ items_from (1 + at) 0 (drop at ws) → drop (n + 1) items ≡ items_from (1 + (at + size)) 0 (drop (at + size) ws)
+    drop n items ≡ items_from (1 + at) 0 (drop at ws)
+    → drop (n + 1) items ≡ items_from (1 + (at + size)) 0 (drop (at + size) ws)
 rest-more ws at size n items step e =
     sym (drop-drop 1 n items) ∙ ap (drop 1) (e ∙ step.items (1 + at))
     ∙ ap (λ p. items_from p 0 (drop (at + size) ws)) (omega arith)
@@ -278,4 +315,6 @@ pub item_here : (ws : List ℕ) (at size n first : ℕ) (items : List Item) → 
     drop n items ≡ items_from (1 + at) 0 (drop at ws) → slice_get items n ≡ Some (item_at first (get_or ws at 0))
 item_here ws at size n first items step is e =
     let same : first ≡ 1 + at = omega arith in
-    get_at_drop items n (item_at first (get_or ws at 0)) _ (e ∙ step.items (1 + at) ∙ ap (λ p. item_at p (get_or ws at 0) ∷ items_from ((1 + at) + size) 0 (drop (at + size) ws)) (sym same))
+    get_at_drop items n (item_at first (get_or ws at 0)) _
+    (e ∙ step.items (1 + at) ∙ ap
+    (λ p. item_at p (get_or ws at 0) ∷ items_from ((1 + at) + size) 0 (drop (at + size) ws)) (sym same))

@@ -6,7 +6,8 @@ use Rattle.std.proofs.lemmas.List.{append-nil}
 use Rattle.block_codec.specs.Words.{bytes_of, word_bytes}
 
 pub bytes_of_one_more : (words : List ℕ) (from k : ℕ) → from ≤ k → k < length words
-    → bytes_of (slice_range words from (k + 1)) ≡ bytes_of (slice_range words from k) ++ word_bytes (slice_index words k)
+    → bytes_of (slice_range words from (k + 1)) ≡ bytes_of (slice_range words from k)
+    ++ word_bytes (slice_index words k)
 bytes_of_one_more words from k le lt =
     ap bytes_of (between_more words from k 0 le lt)
     ∙ flat_map-append word_bytes (slice_range words from k) (slice_index words k ∷ [])

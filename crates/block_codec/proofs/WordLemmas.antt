@@ -73,7 +73,8 @@ four_cells : (x y z w a b c d : ℕ) → x ≡ a → y ≡ b → z ≡ c → w �
 four_cells x y z w a b c d e f g h = cc
 
 -- the bytes of the word in four bytes are those bytes
-pub word_bytes-word_of : (a b c d : ℕ) → a < 256 → b < 256 → c < 256 → d < 256 → word_bytes (word_of (a ∷ b ∷ c ∷ d ∷ [])) ≡ a ∷ b ∷ c ∷ d ∷ []
+pub word_bytes-word_of : (a b c d : ℕ) → a < 256 → b < 256 → c < 256 → d < 256
+    → word_bytes (word_of (a ∷ b ∷ c ∷ d ∷ [])) ≡ a ∷ b ∷ c ∷ d ∷ []
 unfolding word_bytes word_of
 word_bytes-word_of a b c d ha hb hc hd =
     four_cells _ _ _ _ a b c d (omega arith) (omega arith) (omega arith) (omega arith)
@@ -81,7 +82,8 @@ word_bytes-word_of a b c d ha hb hc hd =
 pub length-bytes_of : (ws : List ℕ) → length (bytes_of ws) ≡ 4 * length ws
 length-bytes_of [] = refl
 length-bytes_of (w ∷ ws) =
-    length-append (word_bytes w) (bytes_of ws) ∙ (rw length-word_bytes (let ih = length-bytes_of ws in omega (arith, ih)))
+    length-append (word_bytes w) (bytes_of ws)
+    ∙ (rw length-word_bytes (let ih = length-bytes_of ws in omega (arith, ih)))
 
 pub length-words_of : (bs : List ℕ) → length (words_of bs) ≡ length bs / 4
 length-words_of [] = refl
@@ -91,7 +93,8 @@ length-words_of (a ∷ b ∷ c ∷ []) = omega arith
 length-words_of (a ∷ b ∷ c ∷ d ∷ bs) = let ih = length-words_of bs in omega (arith, ih)
 
 -- the word at a place of the bytes
-pub get_or-words_of : (bs : List ℕ) (k : ℕ) → 4 * k + 4 ≤ length bs → get_or (words_of bs) k 0 ≡ word_of (drop (4 * k) bs)
+pub get_or-words_of : (bs : List ℕ) (k : ℕ) → 4 * k + 4 ≤ length bs
+    → get_or (words_of bs) k 0 ≡ word_of (drop (4 * k) bs)
 get_or-words_of [] k h = absurd (omega arith)
 get_or-words_of (a ∷ []) k h = absurd (omega arith)
 get_or-words_of (a ∷ b ∷ []) k h = absurd (omega arith)
@@ -132,7 +135,8 @@ words_of-drop (suc n) (a ∷ b ∷ c ∷ d ∷ bs) =
     rw e (words_of-drop n bs)
 
 -- the bytes of the first n words are the first bytes
-pub bytes_of-words_of : (n : ℕ) (bs : List ℕ) → 4 * n ≤ length bs → AreBytes (take (4 * n) bs) → bytes_of (take n (words_of bs)) ≡ take (4 * n) bs
+pub bytes_of-words_of : (n : ℕ) (bs : List ℕ) → 4 * n ≤ length bs → AreBytes (take (4 * n) bs)
+    → bytes_of (take n (words_of bs)) ≡ take (4 * n) bs
 bytes_of-words_of zero bs h bytes = refl
 bytes_of-words_of (suc n) [] h bytes = absurd (omega arith)
 bytes_of-words_of (suc n) (a ∷ []) h bytes = absurd (omega arith)
@@ -140,7 +144,8 @@ bytes_of-words_of (suc n) (a ∷ b ∷ []) h bytes = absurd (omega arith)
 bytes_of-words_of (suc n) (a ∷ b ∷ c ∷ []) h bytes = absurd (omega arith)
 bytes_of-words_of (suc n) (a ∷ b ∷ c ∷ d ∷ bs) h bytes =
     let e : 4 * suc n ≡ suc (suc (suc (suc (4 * n)))) = omega arith in
-    let all : AreBytes (a ∷ b ∷ c ∷ d ∷ take (4 * n) bs) = subst (λ m. AreBytes (take m (a ∷ b ∷ c ∷ d ∷ bs))) e bytes in
+    let all : AreBytes (a ∷ b ∷ c ∷ d ∷ take (4 * n) bs) =
+    subst (λ m. AreBytes (take m (a ∷ b ∷ c ∷ d ∷ bs))) e bytes in
     let ih = bytes_of-words_of n bs (omega arith) (λ i. all (suc (suc (suc (suc i))))) in
     rw e (ap (λ xs. xs ++ bytes_of (take n (words_of bs))) (word_bytes-word_of a b c d (all 0) (all 1) (all 2) (all 3))
     ∙ ap (λ xs. a ∷ b ∷ c ∷ d ∷ xs) ih)
@@ -150,5 +155,8 @@ AreWords-words_of [] h = tt
 AreWords-words_of (a ∷ []) h = tt
 AreWords-words_of (a ∷ b ∷ []) h = tt
 AreWords-words_of (a ∷ b ∷ c ∷ []) h = tt
-AreWords-words_of (a ∷ b ∷ c ∷ d ∷ bs) h =
-    (let e = word_of-append a b c d bs in let lt = word_of-lt (a ∷ b ∷ c ∷ d ∷ bs) h in rw e at lt, AreWords-words_of bs (λ i. h (suc (suc (suc (suc i))))))
+AreWords-words_of (a ∷ b ∷ c ∷ d ∷ bs) h = (
+  let e = word_of-append a b c d bs in let lt = word_of-lt (a ∷ b ∷ c ∷ d ∷ bs) h in
+      rw e at lt,
+  AreWords-words_of bs (λ i. h (suc (suc (suc (suc i))))),
+)

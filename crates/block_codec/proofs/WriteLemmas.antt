@@ -18,20 +18,24 @@ ended_item zero (w ∷ ws) e = absurd (omega arith)
 ended_item (suc k) [] e = absurd (omega arith)
 ended_item (suc k) (w ∷ ws) e = ended_item k ws (omega arith)
 
-one_item : (h : ℕ) (ws : List ℕ) (size n : ℕ) → type_byte h ≢ 255 → size ≡ size_of h → size ≡ suc n → length ws ≡ n → AreItems (h ∷ ws)
+one_item : (h : ℕ) (ws : List ℕ) (size n : ℕ) → type_byte h ≢ 255 → size ≡ size_of h → size ≡ suc n → length ws ≡ n
+    → AreItems (h ∷ ws)
 one_item h ws size n kind is is_suc long = (kind, omega arith, ended_item (size_of h - 1) ws (omega arith))
 
 -- a whole item more was checked
-pub checked-more : (ws : List ℕ) (at size : ℕ) → at < length ws → (get_or ws at 0 % 256 ≡ 255 → ⊥) → size ≡ size_of (get_or ws at 0) → (size ≡ 0 → ⊥) → at + size ≤ length ws →
+pub checked-more : (ws : List ℕ) (at size : ℕ) → at < length ws → (get_or ws at 0 % 256 ≡ 255 → ⊥)
+    → size ≡ size_of (get_or ws at 0) → (size ≡ 0 → ⊥) → at + size ≤ length ws →
     AreItems (take at ws) → AreItems (take (at + size) ws)
 checked-more ws at size lt kind is some room whole =
     let tail = take (size - 1) (drop (at + 1) ws) in
     let is_suc : size ≡ suc (size - 1) = omega arith in
     let front : take size (drop at ws) ≡ get_or ws at 0 ∷ tail =
     ap (take size) (drop_more ws at 0 lt) ∙ ap (λ k. take k (get_or ws at 0 ∷ drop (at + 1) ws)) is_suc in
-    let long : length tail ≡ size - 1 = length-take-le (size - 1) (drop (at + 1) ws) (let rest = length-drop (at + 1) ws in omega (arith, rest)) in
+    let long : length tail ≡ size - 1 =
+    length-take-le (size - 1) (drop (at + 1) ws) (let rest = length-drop (at + 1) ws in omega (arith, rest)) in
     let item = one_item (get_or ws at 0) tail size (size - 1) kind is is_suc long in
-    subst AreItems (sym (take-add at size ws)) (AreItemsAfter-append 0 (take at ws) (take size (drop at ws)) whole (subst AreItems (sym front) item))
+    subst AreItems (sym (take-add at size ws))
+    (AreItemsAfter-append 0 (take at ws) (take size (drop at ws)) whole (subst AreItems (sym front) item))
 
 -- what follows whole items in whole items is whole items
 rest_are : (k : ℕ) (xs ys : List ℕ) → AreItemsAfter k xs → AreItemsAfter k (xs ++ ys) → AreItems ys
@@ -61,7 +65,8 @@ not_bad ws i j lt room whole bad =
 -- an item of whole items is good
 pub IsBadAt-whole : (ws : List ℕ) (i : ℕ) → AreItems ws → IsBadAt ws i → ⊥
 IsBadAt-whole ws i whole bad =
-    not_bad ws i (length ws) bad.inside (omega arith) (subst AreItems (sym (take_all (length ws) ws (omega arith))) whole) bad
+    not_bad ws i (length ws) bad.inside (omega arith)
+    (subst AreItems (sym (take_all (length ws) ws (omega arith))) whole) bad
 
 -- items have one bad place at most
 pub IsBadAt-unique : (ws : List ℕ) (i j : ℕ) → IsBadAt ws i → IsBadAt ws j → i ≡ j
@@ -79,17 +84,23 @@ regroup a b c d e = simp (append_assoc, append-nil)
 
 -- what was written is the block's bytes
 pub frame-written : (items : List ℕ) (link : ℤ) (k : ℕ) → length items ≤ k →
-    word_bytes start_word ++ bytes_of (take k items) ++ word_bytes (last_item (length items)) ++ word_bytes (cast_unsigned w32 link) ++ word_bytes end_word ≡ bytes_of (frame items link)
+    word_bytes start_word ++ bytes_of (take k items) ++ word_bytes (last_item (length items))
+    ++ word_bytes (cast_unsigned w32 link) ++ word_bytes end_word ≡ bytes_of (frame items link)
 unfolding frame
 frame-written items link k all =
     let last = last_item (length items) in
-    ap (λ xs. word_bytes start_word ++ bytes_of xs ++ word_bytes last ++ word_bytes (cast_unsigned w32 link) ++ word_bytes end_word) (take_all k items all)
-    ∙ regroup (word_bytes start_word) (bytes_of items) (word_bytes last) (word_bytes (cast_unsigned w32 link)) (word_bytes end_word)
-    ∙ ap (λ xs. word_bytes start_word ++ xs) (sym (flat_map-append word_bytes items (last ∷ cast_unsigned w32 link ∷ end_word ∷ [])))
+    ap (λ xs. word_bytes start_word ++ bytes_of xs ++ word_bytes last ++ word_bytes (cast_unsigned w32 link)
+    ++ word_bytes end_word) (take_all k items all)
+    ∙ regroup (word_bytes start_word) (bytes_of items) (word_bytes last) (word_bytes (cast_unsigned w32 link))
+    (word_bytes end_word)
+    ∙ ap (λ xs. word_bytes start_word ++ xs)
+    (sym (flat_map-append word_bytes items (last ∷ cast_unsigned w32 link ∷ end_word ∷ [])))
 
 -- the bytes that five writes leave, one after the other
-pub all_written : (items a b c d : List ℕ) (link : ℤ) (k last word : ℕ) → length items ≤ k → a ≡ word_bytes start_word ++ bytes_of (take k items) →
-    last ≡ last_item (length items) → b ≡ a ++ word_bytes last → word ≡ cast_unsigned w32 link → c ≡ b ++ word_bytes word → d ≡ c ++ word_bytes end_word →
+pub all_written : (items a b c d : List ℕ) (link : ℤ) (k last word : ℕ) → length items ≤ k
+    → a ≡ word_bytes start_word ++ bytes_of (take k items) →
+    last ≡ last_item (length items) → b ≡ a ++ word_bytes last → word ≡ cast_unsigned w32 link
+    → c ≡ b ++ word_bytes word → d ≡ c ++ word_bytes end_word →
     d ≡ bytes_of (frame items link)
 all_written items a b c d link k last word all is_a is_last is_b is_word is_c is_d =
     is_d ∙ ap (λ xs. xs ++ word_bytes end_word)

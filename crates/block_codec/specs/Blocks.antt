@@ -21,7 +21,8 @@ start_word = 0xffffded3
 abbrev pub end_word : ℕ
 end_word = 0xab123579
 
--- the last item: type byte 0xff, the number of words of all items before it in two bytes, and a byte 0
+-- the last item: type byte 0xff, the number of words of all items before it in two bytes, and a
+-- byte 0
 abbrev pub last_item : ℕ → ℕ
 last_item count = 255 + 256 * count
 
@@ -76,10 +77,13 @@ words_before zero (h ∷ ws) =
     else (if size_of h == 0 then None else option_map suc (words_before (size_of h - 1) ws))
 words_before (suc k) (w ∷ ws) = option_map suc (words_before k ws)
 
--- the number of item words, where the right last item stands after them and the end word two further
+-- the number of item words, where the right last item stands after them and the end word two
+-- further
 abbrev pub if_ended : List ℕ → ℕ → Option ℕ
 if_ended ws n =
-    if slice_index ws (n + 1) == last_item n && slice_index ws (n + 3) == end_word then Some n else None
+    if slice_index ws (n + 1) == last_item n && slice_index ws (n + 3) == end_word
+    then Some n
+    else None
 
 -- the number of item words of the block that begins a list of words with the start word
 unfoldable pub item_words : List ℕ → Option ℕ
@@ -90,7 +94,11 @@ item_words ws = option_and_then (if_ended ws) (words_before 0 (drop 1 ws))
 abbrev pub block_of : ℕ → List ℕ → List ℕ → ℕ → Option BlockView
 block_of x bytes ws n =
     if are_bytes (take (4 * n + 16) bytes)
-    then Some (record { at = x; items = take n (drop 1 ws); link = cast_signed w32 (slice_index ws (n + 2)) })
+    then Some (record {
+      at = x;
+      items = take n (drop 1 ws);
+      link = cast_signed w32 (slice_index ws (n + 2));
+    })
     else None
 
 -- the block at the front of bytes that begin with the start word, or not; it has at most 640 bytes
@@ -100,7 +108,8 @@ begun_block true x bytes =
     let ws = words_of (take 640 bytes) in
     option_and_then (block_of x bytes ws) (item_words ws)
 
--- the block at the front of the bytes, with x as its offset; None where no prefix of them is a block
+-- the block at the front of the bytes, with x as its offset; None where no prefix of them is a
+-- block
 unfoldable pub front_block : ℕ → List ℕ → Option BlockView
 front_block x bytes = begun_block (word_of bytes == start_word) x bytes
 

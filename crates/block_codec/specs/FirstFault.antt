@@ -6,7 +6,8 @@ use Rattle.std.specs.Option.{option_or}
 -- the first fault among the elements, where the list `before` was judged already
 abbrev pub first_from : {X F : Type 0} → (List X → X → Option F) → List X → List X → Option F
 first_from judge before [] = None
-first_from judge before (x ∷ xs) = option_or (judge before x) (first_from judge (before ++ x ∷ []) xs)
+first_from judge before (x ∷ xs) =
+    option_or (judge before x) (first_from judge (before ++ x ∷ []) xs)
 
 -- the first fault of a list
 abbrev pub first_fault : {X F : Type 0} → (List X → X → Option F) → List X → Option F

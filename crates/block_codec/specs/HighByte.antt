@@ -30,5 +30,11 @@ changed_block a u b =
 abbrev pub with_high : ℕ → ℕ → Item → Item
 with_high place u item =
     if item.first == place
-    then record { first = item.first; words = item.words; kind = item.kind; low = item.low; high = high_byte u }
+    then record {
+      first = item.first;
+      words = item.words;
+      kind = item.kind;
+      low = item.low;
+      high = high_byte u;
+    }
     else item

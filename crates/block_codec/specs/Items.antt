@@ -25,7 +25,8 @@ size_of h = if nat_le 128 (type_byte h) then h / 256 % 65536 else h / 256 % 256
 abbrev pub AreItemsAfter : ℕ → List ℕ → Type 0
 AreItemsAfter zero [] = Unit {0}
 AreItemsAfter (suc k) [] = ⊥
-AreItemsAfter zero (h ∷ ws) = (type_byte h ≢ 255) × (1 ≤ size_of h) × AreItemsAfter (size_of h - 1) ws
+AreItemsAfter zero (h ∷ ws) = (type_byte h ≢ 255) × (1 ≤ size_of h)
+    × AreItemsAfter (size_of h - 1) ws
 AreItemsAfter (suc k) (w ∷ ws) = AreItemsAfter k ws
 
 -- the words are a list of items; `items_by_headers` says the same with `drop`
@@ -34,9 +35,16 @@ AreItems ws = AreItemsAfter 0 ws
 
 -- the item whose header h stands at a word of its block
 abbrev pub item_at : ℕ → ℕ → Item
-item_at place h = record { first = place; words = size_of h; kind = type_byte h; low = low_byte h; high = high_byte h }
+item_at place h = record {
+  first = place;
+  words = size_of h;
+  kind = type_byte h;
+  low = low_byte h;
+  high = high_byte h;
+}
 
--- the items among words that stand at a place of their block, after k words of an item that has begun
+-- the items among words that stand at a place of their block, after k words of an item that has
+-- begun
 abbrev pub items_from : ℕ → ℕ → List ℕ → List Item
 items_from place k [] = []
 items_from place zero (h ∷ ws) = item_at place h ∷ items_from (place + 1) (size_of h - 1) ws

@@ -11,7 +11,8 @@ use Rattle.block_codec.specs.Words.{bytes_of, low_half, high_half}
 abbrev pub first_spelling : ℕ → ℕ
 first_spelling kind =
     if kind == LONG_LOAD_MAP then LOAD_MAP
-    else (if kind == LONG_HASH_VALUE then HASH_VALUE else (if kind == LONG_PARTITION_TABLE then PARTITION_TABLE else kind))
+    else (if kind == LONG_HASH_VALUE then HASH_VALUE
+    else (if kind == LONG_PARTITION_TABLE then PARTITION_TABLE else kind))
 
 -- an item is of this kind, which is named by its first spelling
 abbrev pub is_of_kind : ℕ → Item → Bool
@@ -35,17 +36,25 @@ version_words rows = if rows == 0 then 2 else 2 + (rows + 2) / 2
 abbrev pub version_of : List ℕ → Item → Option Version
 version_of words item =
     if item.words == version_words item.high
-    then Some (record { major = high_half (slice_index words (item.first + 1)); minor = low_half (slice_index words (item.first + 1)) })
+    then Some (record {
+      major = high_half (slice_index words (item.first + 1));
+      minor = low_half (slice_index words (item.first + 1));
+    })
     else None
 
 -- the number of hashed words of a HASH_DEF item among a block's words: the low half of the word
--- after the header; None exactly where its size is not 2 or its fourth header byte is not 1, SHA-256
+-- after the header; None exactly where its size is not 2 or its fourth header byte is not 1,
+-- SHA-256
 abbrev pub hash_count_of : List ℕ → Item → Option ℕ
 hash_count_of words item =
-    if item.words == 2 && item.high == 1 then Some (low_half (slice_index words (item.first + 1))) else None
+    if item.words == 2 && item.high == 1
+    then Some (low_half (slice_index words (item.first + 1)))
+    else None
 
 -- the 32 digest bytes of a HASH_VALUE item among a block's words, in order; None exactly where its
 -- size is not 9
 abbrev pub digest_of : List ℕ → Item → Option (List ℕ)
 digest_of words item =
-    if item.words == 9 then Some (bytes_of (slice_range words (item.first + 1) (item.first + 9))) else None
+    if item.words == 9
+    then Some (bytes_of (slice_range words (item.first + 1) (item.first + 9)))
+    else None

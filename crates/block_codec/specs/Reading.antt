@@ -17,4 +17,8 @@ pub record IsFramed (ws : List ℕ) (n : ℕ) : Type 0 where
 
 -- the block at an offset of framed words
 abbrev pub view_of : ℕ → List ℕ → ℕ → BlockView
-view_of x ws n = record { at = x; items = take n (drop 1 ws); link = cast_signed w32 (slice_index ws (n + 2)) }
+view_of x ws n = record {
+  at = x;
+  items = take n (drop 1 ws);
+  link = cast_signed w32 (slice_index ws (n + 2));
+}

@@ -7,4 +7,5 @@ use Rattle.block_codec.specs.Items.{AreItems, type_byte, size_of}
 pub record IsBadAt (words : List ℕ) (i : ℕ) : Type 0 where
   pub before : AreItems (take i words)
   pub inside : i < length words
-  pub bad : (type_byte (slice_index words i) ≡ 255) ⊎ (size_of (slice_index words i) ≡ 0) ⊎ (length words < i + size_of (slice_index words i))
+  pub bad : (type_byte (slice_index words i) ≡ 255) ⊎ (size_of (slice_index words i) ≡ 0)
+      ⊎ (length words < i + size_of (slice_index words i))

@@ -34,7 +34,8 @@ pub fn type_bytes_of_kinds()
     ensures partition_table { PARTITION_TABLE ≡ 0x0a }
 {}
 
-/// The first item of a kind is the first in either spelling, and the items of a kind are all of them.
+/// The first item of a kind is the first in either spelling, and the items of a kind are all of
+/// them.
 #[tactic(auto, unfolding(crate::specs::Items::size_of))]
 pub fn items_of_one_kind()
     ensures first { item_of_kind 6 (item_at 1 0x142 ∷ item_at 2 0x186 ∷ item_at 3 0x106 ∷ [])
@@ -46,8 +47,9 @@ pub fn items_of_one_kind()
     ensures not_of_kind { is_of_kind 6 (item_at 1 0x142) ≡ false }
 {}
 
-/// A VERSION item has two words without rows, and otherwise a word more for each two of the rollback
-/// version and the rows; minor is the low half of its version word and major the high half.
+/// A VERSION item has two words without rows, and otherwise a word more for each two of the
+/// rollback version and the rows; minor is the low half of its version word and major the high
+/// half.
 #[tactic(auto, unfolding(crate::specs::Items::size_of))]
 pub fn versions_of_items()
     ensures no_row { version_words 0 ≡ 2 }
@@ -58,14 +60,16 @@ pub fn versions_of_items()
     ensures halves { version_of (7 ∷ 0x248 ∷ 0x00030005 ∷ []) (item_at 1 0x248)
         ≡ Some (record { major = 3; minor = 5 }) }
     ensures too_long { version_of (7 ∷ 0x348 ∷ 0x00030005 ∷ 0 ∷ []) (item_at 1 0x348) ≡ None }
-    ensures too_short { version_of (7 ∷ 0x01000248 ∷ 0x00030005 ∷ []) (item_at 1 0x01000248) ≡ None }
+    ensures too_short { version_of (7 ∷ 0x01000248 ∷ 0x00030005 ∷ []) (item_at 1 0x01000248)
+        ≡ None }
 {}
 
-/// A HASH_DEF item has two words and names SHA-256 by a fourth byte of 1; its number of words is the
-/// low half of the word behind its header.
+/// A HASH_DEF item has two words and names SHA-256 by a fourth byte of 1; its number of words is
+/// the low half of the word behind its header.
 #[tactic(auto, unfolding(crate::specs::Items::size_of))]
 pub fn hash_counts_of_items()
-    ensures low_half { hash_count_of (7 ∷ 0x01000247 ∷ 0x00050009 ∷ []) (item_at 1 0x01000247) ≡ Some 9 }
+    ensures low_half { hash_count_of (7 ∷ 0x01000247 ∷ 0x00050009 ∷ []) (item_at 1 0x01000247)
+        ≡ Some 9 }
     ensures other_hash { hash_count_of (7 ∷ 0x00000247 ∷ 9 ∷ []) (item_at 1 0x00000247) ≡ None }
     ensures too_long { hash_count_of (7 ∷ 0x01000347 ∷ 9 ∷ 0 ∷ []) (item_at 1 0x01000347) ≡ None }
 {}
@@ -79,5 +83,6 @@ pub fn digests_of_items()
         (item_at 0 0x94b)
         ≡ Some (1 ∷ 2 ∷ 3 ∷ 4 ∷ 5 ∷ 6 ∷ 7 ∷ 8 ∷ 9 ∷ 10 ∷ 11 ∷ 12 ∷ 13 ∷ 14 ∷ 15 ∷ 16
         ∷ 17 ∷ 18 ∷ 19 ∷ 20 ∷ 21 ∷ 22 ∷ 23 ∷ 24 ∷ 25 ∷ 26 ∷ 27 ∷ 28 ∷ 29 ∷ 30 ∷ 31 ∷ 32 ∷ []) }
-    ensures too_short { digest_of (0x84b ∷ 1 ∷ 2 ∷ 3 ∷ 4 ∷ 5 ∷ 6 ∷ 7 ∷ []) (item_at 0 0x84b) ≡ None }
+    ensures too_short { digest_of (0x84b ∷ 1 ∷ 2 ∷ 3 ∷ 4 ∷ 5 ∷ 6 ∷ 7 ∷ []) (item_at 0 0x84b)
+        ≡ None }
 {}

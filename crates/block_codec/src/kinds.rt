@@ -49,8 +49,8 @@ pub fn kind_of(type_byte: u8) -> u8
     }
 }
 
-/// The number of the block's words, from the start word on, that a HASH_DEF item names; None exactly
-/// where its size is not 2 or it does not name SHA-256.
+/// The number of the block's words, from the start word on, that a HASH_DEF item names; None
+/// exactly where its size is not 2 or it does not name SHA-256.
 pub fn hash_count(block: &Block, item: &Item) -> Option<u32>
     requires of_block { Contains (items_of block.now.items) item.now }
     ensures { result ≡ hash_count_of (block_words block.now) item.now }
@@ -66,7 +66,8 @@ pub fn hash_count(block: &Block, item: &Item) -> Option<u32>
 fn digest_bytes(block: &Block, item: &Item) -> ArrayVec<u8, 32>
     requires of_block { Contains (items_of block.now.items) item.now }
     requires size { item.now.words ≡ 9 }
-    ensures value { result.items ≡ bytes_of (slice_range (block_words block.now) (item.now.first + 1) (item.now.first + 9)) }
+    ensures value { result.items ≡ bytes_of
+        (slice_range (block_words block.now) (item.now.first + 1) (item.now.first + 9)) }
     ensures len { length result.items ≡ 32 }
 {
     let mut bytes = ArrayVec::new();

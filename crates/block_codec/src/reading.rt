@@ -105,7 +105,8 @@ pub fn read_block(piece: &[u8], at: u32) -> Option<Block>
     ensures exact { result ≡ front_block at piece.now }
     ensures found { IfSome result (λ b. Begins at piece.now b) }
     ensures whole { IfSome result (λ b. IsWhole b) }
-    ensures none { IfNone result ((n : ℕ) (items : List ℕ) (link : ℤ) → IsBlock (take n piece.now) items link → ⊥) }
+    ensures none { IfNone result ((n : ℕ) (items : List ℕ) (link : ℤ)
+        → IsBlock (take n piece.now) items link → ⊥) }
 {
     let front = front_words(piece);
     let words = front.as_slice();

@@ -84,8 +84,10 @@ pub fn write_block(
     ensures block { OnOk result (IsBlock (bytes_of (frame items.now link)) items.now link) }
 
     // More than 156 words are refused first.
-    ensures too_long { (n : ℕ) → IsErrOf result (BlockError.TooLong n) ↔ ((156 < length items.now) × (n ≡ 4 * length items.now + 16)) }
-    ensures item_size { (i : ℕ) → IsErrOf result (BlockError.ItemSize i) ↔ ((length items.now ≤ 156) × IsBadAt items.now i) }
+    ensures too_long { (n : ℕ) → IsErrOf result (BlockError.TooLong n) ↔
+        ((156 < length items.now) × (n ≡ 4 * length items.now + 16)) }
+    ensures item_size { (i : ℕ) → IsErrOf result (BlockError.ItemSize i) ↔
+        ((length items.now ≤ 156) × IsBadAt items.now i) }
     ensures err { OnErr result (out.new.items ≡ out.old.items) }
 {
     if items.len() > MOST_ITEM_WORDS {

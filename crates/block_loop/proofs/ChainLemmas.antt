@@ -31,13 +31,15 @@ pub record IsFirstFrom (w : List ℕ) (n x : ℕ) (b : BlockView) : Type 0 where
   pub least : (y : ℕ) (c : BlockView) → x ≤ y → y < b.at → BlockAt w y c → ⊥
 
 -- no block stands between two multiples of 4
-between_none : (w : List ℕ) (x y : ℕ) (c : BlockView) → x % 4 ≡ 0 → block_at w x ≡ None → x ≤ y → y < x + 4 → BlockAt w y c → ⊥
+between_none : (w : List ℕ) (x y : ℕ) (c : BlockView) → x % 4 ≡ 0 → block_at w x ≡ None → x ≤ y → y < x + 4
+    → BlockAt w y c → ⊥
 between_none w x y c aligned none low high at =
     let even = at.aligned in
     let same : y ≡ x = omega arith in
     no_block-from_none w x c none (subst (λ k. BlockAt w k c) same at)
 
-pub first_from-found : (w : List ℕ) (n x : ℕ) (b : BlockView) → x % 4 ≡ 0 → first_from n x (drop x w) ≡ Some b → IsFirstFrom w n x b
+pub first_from-found : (w : List ℕ) (n x : ℕ) (b : BlockView) → x % 4 ≡ 0 → first_from n x (drop x w) ≡ Some b
+    → IsFirstFrom w n x b
 first_from-found w zero x b aligned e = absurd (none-some b (sym (first_from-end x (drop x w)) ∙ e))
 first_from-found w (suc n) x b aligned e =
     elim (none_or_some (front_block x (drop x w))) [
@@ -69,7 +71,8 @@ first_from-found w (suc n) x b aligned e =
           }
     ]
 
-pub first_from-none : (w : List ℕ) (n x : ℕ) → x % 4 ≡ 0 → first_from n x (drop x w) ≡ None → (y : ℕ) (c : BlockView) → x ≤ y → y < x + 4 * n → BlockAt w y c → ⊥
+pub first_from-none : (w : List ℕ) (n x : ℕ) → x % 4 ≡ 0 → first_from n x (drop x w) ≡ None → (y : ℕ) (c : BlockView)
+    → x ≤ y → y < x + 4 * n → BlockAt w y c → ⊥
 first_from-none w zero x aligned e y c low high at = omega arith
 first_from-none w (suc n) x aligned e y c low high at =
     elim (none_or_some (front_block x (drop x w))) [
@@ -100,7 +103,8 @@ first_block-stands w b first =
           let c = some.0 in
           let other = first_block-found w c some.1 in
           elim (cases_order b.at c.at) [
-            | inl same ↦ some.1 ∙ ap Some (BlockAt-unique w c.at c b other.stands (subst (λ x. BlockAt w x b) same first.stands))
+            | inl same ↦ some.1 ∙ ap Some
+                (BlockAt-unique w c.at c b other.stands (subst (λ x. BlockAt w x b) same first.stands))
             | inr apart ↦ elim apart [
               | inl less ↦ absurd (other.least b.at b less first.stands)
               | inr more ↦ absurd (first.least c.at c more other.stands)
@@ -118,7 +122,8 @@ first_block-nowhere w none =
     ]
 
 -- an element of a list with one more at its end is one of the list's, or that one
-push_cases : (bs : List BlockView) (c : BlockView) (i : ℕ) (b : BlockView) → slice_get (bs ++ c ∷ []) i ≡ Some b → (slice_get bs i ≡ Some b) ⊎ ((i ≡ length bs) × (c ≡ b))
+push_cases : (bs : List BlockView) (c : BlockView) (i : ℕ) (b : BlockView) → slice_get (bs ++ c ∷ []) i ≡ Some b
+    → (slice_get bs i ≡ Some b) ⊎ ((i ≡ length bs) × (c ≡ b))
 push_cases [] c zero b at = inr (refl, same_Some c b at)
 push_cases [] c (suc i) b at = absurd (none-some b at)
 push_cases (a ∷ bs) c zero b at = inl at
@@ -129,7 +134,8 @@ pushed : (bs : List BlockView) (c : BlockView) → slice_get (bs ++ c ∷ []) (l
 pushed [] c = refl
 pushed (b ∷ bs) c = pushed bs c
 
-kept : (bs : List BlockView) (c : BlockView) (i : ℕ) (b : BlockView) → slice_get bs i ≡ Some b → slice_get (bs ++ c ∷ []) i ≡ Some b
+kept : (bs : List BlockView) (c : BlockView) (i : ℕ) (b : BlockView) → slice_get bs i ≡ Some b
+    → slice_get (bs ++ c ∷ []) i ≡ Some b
 kept [] c i b at = absurd (none-some b at)
 kept (a ∷ bs) c zero b at = at
 kept (a ∷ bs) c (suc i) b at = kept bs c i b at
@@ -166,7 +172,8 @@ IsWalk-first w b first = record {
     alone_at i j c d lt here there = let most = slice_get_within (b ∷ []) j d there in omega arith
 
 -- a block at the last one's target that shares no byte makes the chain longer
-pub IsWalk-more : (w : List ℕ) (x : ℕ) (bs : List BlockView) (z c : BlockView) → IsWalk w x bs z → length bs < 32 → BlockAt w c.at c → target z ≡ pos c.at →
+pub IsWalk-more : (w : List ℕ) (x : ℕ) (bs : List BlockView) (z c : BlockView) → IsWalk w x bs z → length bs < 32
+    → BlockAt w c.at c → target z ≡ pos c.at →
     ((k : ℕ) (b : BlockView) → slice_get bs k ≡ Some b → shares b c ≡ false) → IsWalk w x (bs ++ c ∷ []) c
 IsWalk-more w x bs z c walk few at leads alone =
     let long = length-append bs (c ∷ []) in
@@ -194,7 +201,8 @@ IsWalk-more w x bs z c walk few at leads alone =
           | inr new ↦ let none = new.0 in let some = walk.chain.some in absurd (omega arith)
         ]
 
-    joined : (i : ℕ) (b d : BlockView) → slice_get (bs ++ c ∷ []) i ≡ Some b → slice_get (bs ++ c ∷ []) (i + 1) ≡ Some d → target b ≡ pos d.at
+    joined : (i : ℕ) (b d : BlockView) → slice_get (bs ++ c ∷ []) i ≡ Some b
+        → slice_get (bs ++ c ∷ []) (i + 1) ≡ Some d → target b ≡ pos d.at
     joined i b d here there =
         elim (push_cases bs c i b here) [
           | inr new ↦
@@ -211,7 +219,8 @@ IsWalk-more w x bs z c walk few at leads alone =
           ]
         ]
 
-    separate : (i j : ℕ) (b d : BlockView) → i < j → slice_get (bs ++ c ∷ []) i ≡ Some b → slice_get (bs ++ c ∷ []) j ≡ Some d → shares b d ≡ false
+    separate : (i j : ℕ) (b d : BlockView) → i < j → slice_get (bs ++ c ∷ []) i ≡ Some b
+        → slice_get (bs ++ c ∷ []) j ≡ Some d → shares b d ≡ false
     separate i j b d lt here there =
         elim (push_cases bs c i b here) [
           | inr new ↦
@@ -226,7 +235,8 @@ IsWalk-more w x bs z c walk few at leads alone =
         ]
 
 -- a walk whose last link leads to its first block is the loop
-IsLoop-closed : (w : List ℕ) (x : ℕ) (bs : List BlockView) (z : BlockView) → IsWalk w x bs z → is_offset (target z) x ≡ true → IsLoop w bs
+IsLoop-closed : (w : List ℕ) (x : ℕ) (bs : List BlockView) (z : BlockView) → IsWalk w x bs z
+    → is_offset (target z) x ≡ true → IsLoop w bs
 IsLoop-closed w x bs z walk closed = record {
   chain = walk.chain;
   closed = λ a y first last.
@@ -234,7 +244,8 @@ IsLoop-closed w x bs z walk closed = record {
       ap target (sym same) ∙ is_offset-true (target z) x closed ∙ ap pos (sym (walk.first a first));
 }
 
-IsOpenChain-far : (w : List ℕ) (x : ℕ) (bs : List BlockView) (z : BlockView) → IsWalk w x bs z → is_offset (target z) x ≡ false → IsOpenChain w bs
+IsOpenChain-far : (w : List ℕ) (x : ℕ) (bs : List BlockView) (z : BlockView) → IsWalk w x bs z
+    → is_offset (target z) x ≡ false → IsOpenChain w bs
 IsOpenChain-far w x bs z walk far = record {
   chain = walk.chain;
   leads_on = λ a y first last e.
@@ -250,7 +261,8 @@ Says w (Ok bs) = IsLoop w bs
 Says w (Err f) = IsFault w f
 
 -- the function that goes from link to link answers the loop or the fault
-follow-says : (n : ℕ) (w : List ℕ) (x : ℕ) (bs : List BlockView) (z : BlockView) → IsWalk w x bs z → length bs + n ≡ 32 → Says w (follow n w x bs z)
+follow-says : (n : ℕ) (w : List ℕ) (x : ℕ) (bs : List BlockView) (z : BlockView) → IsWalk w x bs z → length bs + n ≡ 32
+    → Says w (follow n w x bs z)
 follow-says zero w x bs z walk count =
     elim (cases_Bool (is_offset (target z) x)) [
       | inl closed ↦ subst (Says w) (sym (follow-closed 0 w x bs z closed)) (IsLoop-closed w x bs z walk closed)
@@ -266,7 +278,8 @@ follow-says (suc n) w x bs z walk count =
               IsOpenChain-far w x bs z walk far,
               omega arith,
               (λ y last. ap (λ (v : BlockView). v.at) (same_Some y z (sym last ∙ walk.last))),
-              (λ c next. none-some c (sym none ∙ block_at_offset-stands w (target z) c (next.leads z walk.last) next.stands)),
+              (λ c next. none-some c (sym none
+                  ∙ block_at_offset-stands w (target z) c (next.leads z walk.last) next.stands)),
             )
         | inr some ↦
             let c = some.0 in
@@ -281,14 +294,20 @@ follow-says (suc n) w x bs z walk count =
                     omega arith,
                     (
                       c,
-                      record { stands = at.0; leads = λ y last. ap target (same_Some y z (sym last ∙ walk.last)) ∙ at.1 },
+                      record {
+                        stands = at.0;
+                        leads = λ y last. ap target (same_Some y z (sym last ∙ walk.last))
+                            ∙ at.1;
+                      },
                       subst (IsFirstShared bs c) (omega arith) (record { here = first.here; before = first.before }),
                     ),
                   )
               | inl alone ↦
-                  let longer = IsWalk-more w x bs z c walk (omega arith) at.0 at.1 (λ k b here. none-place (λ (b : BlockView). shares b c) 0 bs k b alone here) in
+                  let longer = IsWalk-more w x bs z c walk (omega arith) at.0 at.1
+                  (λ k b here. none-place (λ (b : BlockView). shares b c) 0 bs k b alone here) in
                   let long = length-append bs (c ∷ []) in
-                  subst (Says w) (sym (follow-more n w x bs z c far some.1 alone)) (follow-says n w x (bs ++ c ∷ []) c longer (omega arith))
+                  subst (Says w) (sym (follow-more n w x bs z c far some.1 alone))
+                  (follow-says n w x (bs ++ c ∷ []) c longer (omega arith))
             ]
       ]
     ]
@@ -300,7 +319,8 @@ loop_of-says w =
       | inl none ↦ subst (Says w) (sym (loop_of-none w none)) (first_block-none w none)
       | inr some ↦
           subst (Says w) (sym (loop_of-first w some.0 some.1))
-          (follow-says 31 w some.0.at (some.0 ∷ []) some.0 (IsWalk-first w some.0 (first_block-found w some.0 some.1)) refl)
+          (follow-says 31 w some.0.at (some.0 ∷ []) some.0
+          (IsWalk-first w some.0 (first_block-found w some.0 some.1)) refl)
     ]
 
 -- blocks that share no byte stand at different offsets
@@ -308,15 +328,18 @@ pub apart_places : (b c : BlockView) → shares b c ≡ false → b.at ≢ c.at
 apart_places b c alone same = true_false (sym (grind (arith, nat_tests)) ∙ alone)
 
 -- the front of a list by one more
-front_more : (bs : List BlockView) (k : ℕ) (c : BlockView) → slice_get bs k ≡ Some c → take (k + 1) bs ≡ take k bs ++ c ∷ []
+front_more : (bs : List BlockView) (k : ℕ) (c : BlockView) → slice_get bs k ≡ Some c
+    → take (k + 1) bs ≡ take k bs ++ c ∷ []
 front_more bs k c at =
     take_more bs k c (slice_get_within bs k c at) ∙ ap (λ b. take k bs ++ b ∷ []) (get_or_from_slice_get bs k c c at)
 
-front_get : (n : ℕ) (bs : List BlockView) (k : ℕ) (b : BlockView) → slice_get (take n bs) k ≡ Some b → slice_get bs k ≡ Some b × (k < n)
+front_get : (n : ℕ) (bs : List BlockView) (k : ℕ) (b : BlockView) → slice_get (take n bs) k ≡ Some b
+    → slice_get bs k ≡ Some b × (k < n)
 front_get zero bs k b at = absurd (none-some b at)
 front_get (suc n) [] k b at = absurd (none-some b at)
 front_get (suc n) (c ∷ bs) zero b at = (at, omega arith)
-front_get (suc n) (c ∷ bs) (suc k) b at = let rest = front_get n bs k b at in (rest.0, let lt = rest.1 in omega (arith, lt))
+front_get (suc n) (c ∷ bs) (suc k) b at = let rest = front_get n bs k b at in
+    (rest.0, let lt = rest.1 in omega (arith, lt))
 
 pub some_at : (bs : List BlockView) (k : ℕ) → k < length bs → (b : BlockView) × (slice_get bs k ≡ Some b)
 some_at [] k lt = absurd (omega arith)
@@ -324,10 +347,12 @@ some_at (b ∷ bs) zero lt = (b, refl)
 some_at (b ∷ bs) (suc k) lt = some_at bs k (omega arith)
 
 -- the function follows each chain
-module _ (w : List ℕ) (bs : List BlockView) (a : BlockView) (chain : IsChain w bs) (first : slice_get bs 0 ≡ Some a) where
+module _ (w : List ℕ) (bs : List BlockView) (a : BlockView) (chain : IsChain w bs)
+    (first : slice_get bs 0 ≡ Some a) where
   begins_chain : loop_of w ≡ follow 31 w a.at (take 1 bs) a
   begins_chain =
-      loop_of-first w a (first_block-stands w a (chain.first a first)) ∙ ap (λ cs. follow 31 w a.at cs a) (sym (front_more bs 0 a first))
+      loop_of-first w a (first_block-stands w a (chain.first a first))
+      ∙ ap (λ cs. follow 31 w a.at cs a) (sym (front_more bs 0 a first))
 
   goes_on : (k n : ℕ) (y z : BlockView) → slice_get bs k ≡ Some y → slice_get bs (k + 1) ≡ Some z →
       follow (suc n) w a.at (take (k + 1) bs) y ≡ follow n w a.at (take (k + 1 + 1) bs) z
@@ -340,12 +365,14 @@ module _ (w : List ℕ) (bs : List BlockView) (a : BlockView) (chain : IsChain w
             let same : a.at ≡ z.at = cc in
             absurd (apart_places a z (chain.apart 0 (k + 1) a z (omega arith) first there) same)
       ] in
-      follow-more n w a.at (take (k + 1) bs) y z far (block_at_offset-stands w (target y) z leads (chain.stand (k + 1) z there))
+      follow-more n w a.at (take (k + 1) bs) y z far
+      (block_at_offset-stands w (target y) z leads (chain.stand (k + 1) z there))
       (place-none (λ (b : BlockView). shares b z) 0 (take (k + 1) bs)
       (λ i b at. let (among, lt) = front_get (k + 1) bs i b at in chain.apart i (k + 1) b z lt among there))
       ∙ ap (λ cs. follow n w a.at cs z) (sym (front_more bs (k + 1) z there))
 
-  follows_chain : (k : ℕ) (z : BlockView) → slice_get bs k ≡ Some z → loop_of w ≡ follow (31 - k) w a.at (take (k + 1) bs) z
+  follows_chain : (k : ℕ) (z : BlockView) → slice_get bs k ≡ Some z
+      → loop_of w ≡ follow (31 - k) w a.at (take (k + 1) bs) z
   follows_chain zero z at = begins_chain ∙ ap (follow 31 w a.at (take 1 bs)) (same_Some a z (sym first ∙ at))
   follows_chain (suc k) z at =
       let lt = slice_get_within bs (suc k) z at in
@@ -364,7 +391,8 @@ module _ (w : List ℕ) (bs : List BlockView) (a : BlockView) (chain : IsChain w
       ∙ ap (λ cs. follow (32 - length bs) w a.at cs z) (take_all (length bs - 1 + 1) bs (omega arith))
 
 -- the ends of a chain
-pub ends : (w : List ℕ) (bs : List BlockView) → IsChain w bs → (a : BlockView) × (z : BlockView) × (slice_get bs 0 ≡ Some a) × IsLast bs z
+pub ends : (w : List ℕ) (bs : List BlockView) → IsChain w bs
+    → (a : BlockView) × (z : BlockView) × (slice_get bs 0 ≡ Some a) × IsLast bs z
 ends w bs chain =
     let some = chain.some in
     let (a, first) = some_at bs 0 (omega arith) in
@@ -378,7 +406,8 @@ loop_of-loop w bs loop =
     follows_whole w bs a loop.chain first z last
     ∙ follow-closed (32 - length bs) w a.at bs z (is_offset-same (target z) a.at (loop.closed a z first last))
 
-open_far : (w : List ℕ) (bs : List BlockView) (a z : BlockView) → IsOpenChain w bs → slice_get bs 0 ≡ Some a → IsLast bs z → is_offset (target z) a.at ≡ false
+open_far : (w : List ℕ) (bs : List BlockView) (a z : BlockView) → IsOpenChain w bs → slice_get bs 0 ≡ Some a
+    → IsLast bs z → is_offset (target z) a.at ≡ false
 open_far w bs a z chain first last =
     elim (cases_Bool (is_offset (target z) a.at)) [
       | inr far ↦ far
@@ -386,13 +415,18 @@ open_far w bs a z chain first last =
     ]
 
 -- where no block stands at the last one's target, none is found
-no_next : (w : List ℕ) (bs : List BlockView) (z : BlockView) → IsLast bs z → ((c : BlockView) → IsNext w bs c → ⊥) → block_at_offset w (target z) ≡ None
+no_next : (w : List ℕ) (bs : List BlockView) (z : BlockView) → IsLast bs z → ((c : BlockView) → IsNext w bs c → ⊥)
+    → block_at_offset w (target z) ≡ None
 no_next w bs z last none =
     elim (none_or_some (block_at_offset w (target z))) [
       | inl e ↦ e
       | inr some ↦
           let (stands, leads) = block_at_offset-found w (target z) some.0 some.1 in
-          absurd (none some.0 (record { stands = stands; leads = λ y at. ap target (same_Some y z (sym at ∙ last)) ∙ leads }))
+          absurd (none some.0 (record {
+            stands = stands;
+            leads = λ y at. ap target (same_Some y z (sym at ∙ last))
+                ∙ leads;
+          }))
     ]
 
 -- so is its fault
@@ -415,5 +449,6 @@ loop_of-fault w (Overlap i j) (bs, open_chain, count, few, next) =
     follows_whole w bs a open_chain.chain first z last ∙ ap (λ n. follow n w a.at bs z) more
     ∙ follow-overlap (31 - length bs) w a.at bs z c i (open_far w bs a z open_chain first last)
     (block_at_offset-stands w (target z) c (stands.leads z last) stands.stands)
-    (place-some (λ (b : BlockView). shares b c) 0 bs i (record { here = shared.here; before = shared.before }) ∙ ap Some (omega arith))
+    (place-some (λ (b : BlockView). shares b c) 0 bs i (record { here = shared.here; before = shared.before })
+    ∙ ap Some (omega arith))
     ∙ ap (λ n. Err (Overlap i n)) count

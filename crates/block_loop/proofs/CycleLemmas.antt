@@ -10,7 +10,8 @@ use Rattle.block_loop.specs.Cycles.{IsLike, IsSameCycle, BeginsAmong, KeepsLinks
 use Rattle.block_loop.proofs.ChainLemmas.{apart_places, some_at, ends}
 
 -- the blocks of a chain stand at different offsets
-distinct_places : (w : List ℕ) (bs : List BlockView) → IsChain w bs → (i j : ℕ) (b c : BlockView) → slice_get bs i ≡ Some b → slice_get bs j ≡ Some c → b.at ≡ c.at → i ≡ j
+distinct_places : (w : List ℕ) (bs : List BlockView) → IsChain w bs → (i j : ℕ) (b c : BlockView)
+    → slice_get bs i ≡ Some b → slice_get bs j ≡ Some c → b.at ≡ c.at → i ≡ j
 distinct_places w bs chain i j b c here there same =
     elim (cases_order i j) [
       | inl is ↦ is
@@ -29,7 +30,8 @@ same_place x y e = cc
 -- a loop of v that begins at a block of the loop of w, where the blocks that stand in v at the
 -- offsets of that loop have its links
 module _ (w v : List ℕ) (bs cs : List BlockView) (loop : IsLoop w bs) (other : IsLoop v cs)
-    (begins : (c : BlockView) → slice_get cs 0 ≡ Some c → (i : ℕ) × (b : BlockView) × (slice_get bs i ≡ Some b) × (c.at ≡ b.at))
+    (begins : (c : BlockView) → slice_get cs 0 ≡ Some c
+    → (i : ℕ) × (b : BlockView) × (slice_get bs i ≡ Some b) × (c.at ≡ b.at))
     (links : (i : ℕ) (b c : BlockView) → slice_get bs i ≡ Some b → BlockAt v b.at c → c.link ≡ b.link) where
   -- a block of the other loop at a place of this one is like it
   like : (i k : ℕ) (b c : BlockView) → slice_get bs i ≡ Some b → slice_get cs k ≡ Some c → c.at ≡ b.at → IsLike b c
@@ -37,7 +39,8 @@ module _ (w v : List ℕ) (bs cs : List BlockView) (loop : IsLoop w bs) (other :
       record { place = same; link = links i b c here (subst (λ x. BlockAt v x c) same (other.chain.stand k c there)) }
 
   -- the other loop follows this one from place i on
-  follows : (i k : ℕ) (b c : BlockView) → ((d e : BlockView) → slice_get bs i ≡ Some d → slice_get cs 0 ≡ Some e → e.at ≡ d.at) →
+  follows : (i k : ℕ) (b c : BlockView)
+      → ((d e : BlockView) → slice_get bs i ≡ Some d → slice_get cs 0 ≡ Some e → e.at ≡ d.at) →
       slice_get bs (i + k) ≡ Some b → slice_get cs k ≡ Some c → IsLike b c
   follows i zero b c start here there =
       let at : slice_get bs i ≡ Some b = ap (slice_get bs) (omega arith) ∙ here in
@@ -54,10 +57,12 @@ module _ (w v : List ℕ) (bs cs : List BlockView) (loop : IsLoop w bs) (other :
       let goes = other.chain.linked k e c behind after in
       like (i + suc k) (suc k) b c here there (same_place c.at b.at (sym goes ∙ like_target d e same ∙ leads))
 
-  module _ (i : ℕ) (a f b : BlockView) (first : slice_get cs 0 ≡ Some a) (front : slice_get bs 0 ≡ Some f) (here : slice_get bs i ≡ Some b) (same : a.at ≡ b.at) where
+  module _ (i : ℕ) (a f b : BlockView) (first : slice_get cs 0 ≡ Some a) (front : slice_get bs 0 ≡ Some f)
+      (here : slice_get bs i ≡ Some b) (same : a.at ≡ b.at) where
     start : (d e : BlockView) → slice_get bs i ≡ Some d → slice_get cs 0 ≡ Some e → e.at ≡ d.at
     start d e at there =
-        ap (λ (x : BlockView). x.at) (same_Some e a (sym there ∙ first)) ∙ same ∙ ap (λ (x : BlockView). x.at) (same_Some b d (sym here ∙ at))
+        ap (λ (x : BlockView). x.at) (same_Some e a (sym there ∙ first)) ∙ same
+        ∙ ap (λ (x : BlockView). x.at) (same_Some b d (sym here ∙ at))
 
     -- the other loop doesn't close before this one's last block
     long_enough : length bs ≤ i + length cs
@@ -129,14 +134,17 @@ module _ (w v : List ℕ) (bs cs : List BlockView) (loop : IsLoop w bs) (other :
               let (e, at) = some_at cs (length bs - 1) (omega arith) in
               let (c, next) = some_at cs (length bs - 1 + 1) (omega arith) in
               let home = leads_home 0 a f f first front front (sym lead) (length bs - 1) e (omega arith) at in
-              let there : c.at ≡ a.at = same_place c.at f.at (sym (other.chain.linked (length bs - 1) e c at next) ∙ home) ∙ lead in
+              let there : c.at ≡ a.at = same_place c.at f.at
+              (sym (other.chain.linked (length bs - 1) e c at next) ∙ home) ∙ lead in
               let is = distinct_places v cs other.chain (length bs - 1 + 1) 0 c a next first there in
               absurd (omega arith)
         ];
         each = λ k d c there at. follows 0 k d c from_first (ap (slice_get bs) (omega arith) ∙ there) at;
       }
 
-offsets_same : (bs cs : List BlockView) → length cs ≡ length bs → ((k : ℕ) (b c : BlockView) → slice_get bs k ≡ Some b → slice_get cs k ≡ Some c → IsLike b c) → offsets_of cs ≡ offsets_of bs
+offsets_same : (bs cs : List BlockView) → length cs ≡ length bs
+    → ((k : ℕ) (b c : BlockView) → slice_get bs k ≡ Some b → slice_get cs k ≡ Some c → IsLike b c)
+    → offsets_of cs ≡ offsets_of bs
 offsets_same [] [] e h = refl
 offsets_same [] (c ∷ cs) e h = absurd (omega arith)
 offsets_same (b ∷ bs) [] e h = absurd (omega arith)
@@ -149,5 +157,6 @@ pub IsSameCycle-offsets : (bs cs : List BlockView) → IsSameCycle bs cs → off
 IsSameCycle-offsets bs cs same = offsets_same bs cs same.count same.each
 
 -- a loop that begins among the blocks of another and keeps their links leads through the same places
-pub IsSameCycle-from_links : (w v : List ℕ) (bs cs : List BlockView) → IsLoop w bs → IsLoop v cs → BeginsAmong bs cs → KeepsLinks bs v → IsSameCycle bs cs
+pub IsSameCycle-from_links : (w v : List ℕ) (bs cs : List BlockView) → IsLoop w bs → IsLoop v cs → BeginsAmong bs cs
+    → KeepsLinks bs v → IsSameCycle bs cs
 IsSameCycle-from_links w v bs cs loop other begins keeps = same_cycle w v bs cs loop other begins.begins keeps.links

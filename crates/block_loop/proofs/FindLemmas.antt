@@ -15,38 +15,51 @@ pub found_at : (w : List ℕ) (x : ℕ) (r : Option BlockView) → r ≡ block_a
 found_at w x None e = tt
 found_at w x (Some b) e = BlockAt-from_found w x b (sym e)
 
-pub none_at : (w : List ℕ) (x : ℕ) (r : Option BlockView) → r ≡ block_at w x → IfNone r ((b : BlockView) → BlockAt w x b → ⊥)
+pub none_at : (w : List ℕ) (x : ℕ) (r : Option BlockView) → r ≡ block_at w x
+    → IfNone r ((b : BlockView) → BlockAt w x b → ⊥)
 none_at w x None e = λ b. no_block-from_none w x b (sym e)
 none_at w x (Some b) e = tt
 
 -- no block stands at an offset that is no multiple of 4, or past the window
-pub nowhere : {X : Type 0} (w : List ℕ) (x n : ℕ) → n ≡ length w → (x % 4 ≢ 0) ⊎ (X × (n ≤ x)) → (b : BlockView) → BlockAt w x b → ⊥
+pub nowhere : {X : Type 0} (w : List ℕ) (x n : ℕ) → n ≡ length w → (x % 4 ≢ 0) ⊎ (X × (n ≤ x)) → (b : BlockView)
+    → BlockAt w x b → ⊥
 nowhere w x n long (inl odd) b at = odd at.aligned
 nowhere w x n long (inr past) b at = let room = BlockAt-room w x b at in let far = past.1 in omega arith
 
 -- a block is found in as many bytes as it can have
-front_block-part : (n x : ℕ) (bytes : List ℕ) → n ≡ min 640 (length bytes) → front_block x (take n bytes) ≡ front_block x bytes
-front_block-part n x bytes is = same_found _ _ (λ b e. front_block-begins x bytes b (longer b (front_block-stands x (take n bytes) b e)))
+front_block-part : (n x : ℕ) (bytes : List ℕ) → n ≡ min 640 (length bytes)
+    → front_block x (take n bytes) ≡ front_block x bytes
+front_block-part n x bytes is =
+    same_found _ _ (λ b e. front_block-begins x bytes b (longer b (front_block-stands x (take n bytes) b e)))
     (λ b e. front_block-begins x (take n bytes) b (shorter b (front_block-stands x bytes b e)))
   where
     longer : (b : BlockView) → Begins x (take n bytes) b → Begins x bytes b
     longer b begins =
         let room = Begins-room x (take n bytes) b begins in
         let long = length-take n bytes in
-        record { placed = begins.placed; stands = subst (λ p. IsBlock p b.items b.link) (take-take (block_size b) n bytes (omega arith)) begins.stands }
+        record {
+          placed = begins.placed;
+          stands = subst (λ p. IsBlock p b.items b.link) (take-take (block_size b) n bytes (omega arith)) begins.stands;
+        }
 
     shorter : (b : BlockView) → Begins x bytes b → Begins x (take n bytes) b
     shorter b begins =
         let room = Begins-room x bytes b begins in
         let few = begins.stands.few in
-        record { placed = begins.placed; stands = subst (λ p. IsBlock p b.items b.link) (sym (take-take (block_size b) n bytes (omega arith))) begins.stands }
+        record {
+          placed = begins.placed;
+          stands = subst (λ p. IsBlock p b.items b.link)
+              (sym (take-take (block_size b) n bytes (omega arith))) begins.stands;
+        }
 
 -- the part of the window that is read for an offset
-pub part_read : (w : List ℕ) (x n : ℕ) → x % 4 ≡ 0 → n ≡ min 640 (length w - x) → front_block x (slice_range w x (x + n)) ≡ block_at w x
+pub part_read : (w : List ℕ) (x n : ℕ) → x % 4 ≡ 0 → n ≡ min 640 (length w - x)
+    → front_block x (slice_range w x (x + n)) ≡ block_at w x
 part_read w x n aligned is =
     let long = length-drop x w in
     let size : x + n - x ≡ n = omega arith in
-    ap (λ k. front_block x (take k (drop x w))) size ∙ front_block-part n x (drop x w) (omega arith) ∙ sym (block_at-aligned w x aligned)
+    ap (λ k. front_block x (take k (drop x w))) size ∙ front_block-part n x (drop x w) (omega arith)
+    ∙ sym (block_at-aligned w x aligned)
 
 -- no block stands at a negative offset, or past the window
 pub nowhere_to : (w : List ℕ) (t : ℤ) → (t <ℤ pos 0) ⊎ (pos (length w) ≤ℤ t) → block_at_offset w t ≡ None
@@ -63,15 +76,19 @@ search_more w k lt none =
     let more : 1024 - k ≡ suc (1024 - (k + 1)) = omega arith in
     let next : 4 * k + 4 ≡ 4 * (k + 1) = omega arith in
     ap (λ n. first_from n (4 * k) (drop (4 * k) w)) more
-    ∙ first_from-later (1024 - (k + 1)) (4 * k) (drop (4 * k) w) (sym (block_at-aligned w (4 * k) (omega arith)) ∙ sym none)
+    ∙ first_from-later (1024 - (k + 1)) (4 * k) (drop (4 * k) w)
+    (sym (block_at-aligned w (4 * k) (omega arith)) ∙ sym none)
     ∙ ap (first_from (1024 - (k + 1)) (4 * k + 4)) (drop-drop 4 (4 * k) w)
     ∙ ap (λ x. first_from (1024 - (k + 1)) x (drop x w)) next
 
-pub search_here : (w : List ℕ) (k : ℕ) (b : BlockView) → k < 1024 → Some b ≡ block_at w (4 * k) → first_from (1024 - k) (4 * k) (drop (4 * k) w) ≡ Some b
+pub search_here : (w : List ℕ) (k : ℕ) (b : BlockView) → k < 1024 → Some b ≡ block_at w (4 * k)
+    → first_from (1024 - k) (4 * k) (drop (4 * k) w) ≡ Some b
 search_here w k b lt found =
     let more : 1024 - k ≡ suc (1024 - (k + 1)) = omega arith in
     ap (λ n. first_from n (4 * k) (drop (4 * k) w)) more
-    ∙ first_from-here (1024 - (k + 1)) (4 * k) (drop (4 * k) w) b (sym (block_at-aligned w (4 * k) (omega arith)) ∙ sym found)
+    ∙ first_from-here (1024 - (k + 1)) (4 * k) (drop (4 * k) w) b
+    (sym (block_at-aligned w (4 * k) (omega arith)) ∙ sym found)
 
 pub search_end : (w : List ℕ) (k : ℕ) → 1024 ≤ k → first_from (1024 - k) (4 * k) (drop (4 * k) w) ≡ None
-search_end w k past = let none : 1024 - k ≡ 0 = omega arith in ap (λ n. first_from n (4 * k) (drop (4 * k) w)) none ∙ first_from-end (4 * k) (drop (4 * k) w)
+search_end w k past = let none : 1024 - k ≡ 0 = omega arith in ap (λ n. first_from n (4 * k) (drop (4 * k) w)) none
+    ∙ first_from-end (4 * k) (drop (4 * k) w)

@@ -8,11 +8,13 @@ use Rattle.block_codec.proofs.AtLemmas.{block_at-stands, BlockAt-from_found}
 use Rattle.block_loop.specs.Loop.{target, first_from, first_block, block_at_offset, is_offset, first_shared, follow, loop_of}
 use Rattle.block_loop.specs.declared.fault.LoopFault.TheVariants.{NoBlock, Broken, TooMany, Overlap}
 
-pub first_from-here : (n x : ℕ) (bytes : List ℕ) (b : BlockView) → front_block x bytes ≡ Some b → first_from (suc n) x bytes ≡ Some b
+pub first_from-here : (n x : ℕ) (bytes : List ℕ) (b : BlockView) → front_block x bytes ≡ Some b
+    → first_from (suc n) x bytes ≡ Some b
 unfolding first_from
 first_from-here n x bytes b e = rw (e, first_from) refl
 
-pub first_from-later : (n x : ℕ) (bytes : List ℕ) → front_block x bytes ≡ None → first_from (suc n) x bytes ≡ first_from n (x + 4) (drop 4 bytes)
+pub first_from-later : (n x : ℕ) (bytes : List ℕ) → front_block x bytes ≡ None
+    → first_from (suc n) x bytes ≡ first_from n (x + 4) (drop 4 bytes)
 unfolding first_from
 first_from-later n x bytes e = rw (e, first_from) refl
 
@@ -20,26 +22,31 @@ pub first_from-end : (x : ℕ) (bytes : List ℕ) → first_from 0 x bytes ≡ N
 unfolding first_from
 first_from-end x bytes = refl
 
-pub follow-closed : (n : ℕ) (w : List ℕ) (x : ℕ) (bs : List BlockView) (z : BlockView) → is_offset (target z) x ≡ true → follow n w x bs z ≡ Ok bs
+pub follow-closed : (n : ℕ) (w : List ℕ) (x : ℕ) (bs : List BlockView) (z : BlockView) → is_offset (target z) x ≡ true
+    → follow n w x bs z ≡ Ok bs
 unfolding follow
 follow-closed zero w x bs z closed = rw (closed, follow) refl
 follow-closed (suc n) w x bs z closed = rw (closed, follow) refl
 
-pub follow-many : (w : List ℕ) (x : ℕ) (bs : List BlockView) (z : BlockView) → is_offset (target z) x ≡ false → follow 0 w x bs z ≡ Err TooMany
+pub follow-many : (w : List ℕ) (x : ℕ) (bs : List BlockView) (z : BlockView) → is_offset (target z) x ≡ false
+    → follow 0 w x bs z ≡ Err TooMany
 unfolding follow
 follow-many w x bs z far = rw (far, follow) refl
 
-pub follow-broken : (n : ℕ) (w : List ℕ) (x : ℕ) (bs : List BlockView) (z : BlockView) → is_offset (target z) x ≡ false → block_at_offset w (target z) ≡ None →
+pub follow-broken : (n : ℕ) (w : List ℕ) (x : ℕ) (bs : List BlockView) (z : BlockView) → is_offset (target z) x ≡ false
+    → block_at_offset w (target z) ≡ None →
     follow (suc n) w x bs z ≡ Err (Broken z.at)
 unfolding follow
 follow-broken n w x bs z far none = rw (far, none, follow) refl
 
-pub follow-overlap : (n : ℕ) (w : List ℕ) (x : ℕ) (bs : List BlockView) (z c : BlockView) (i : ℕ) → is_offset (target z) x ≡ false → block_at_offset w (target z) ≡ Some c →
+pub follow-overlap : (n : ℕ) (w : List ℕ) (x : ℕ) (bs : List BlockView) (z c : BlockView) (i : ℕ)
+    → is_offset (target z) x ≡ false → block_at_offset w (target z) ≡ Some c →
     first_shared bs c ≡ Some i → follow (suc n) w x bs z ≡ Err (Overlap i (length bs))
 unfolding follow
 follow-overlap n w x bs z c i far next shared = rw (far, next, shared, follow) refl
 
-pub follow-more : (n : ℕ) (w : List ℕ) (x : ℕ) (bs : List BlockView) (z c : BlockView) → is_offset (target z) x ≡ false → block_at_offset w (target z) ≡ Some c →
+pub follow-more : (n : ℕ) (w : List ℕ) (x : ℕ) (bs : List BlockView) (z c : BlockView) → is_offset (target z) x ≡ false
+    → block_at_offset w (target z) ≡ Some c →
     first_shared bs c ≡ None → follow (suc n) w x bs z ≡ follow n w x (bs ++ c ∷ []) c
 unfolding follow
 follow-more n w x bs z c far next shared = rw (far, next, shared, follow) refl
@@ -61,36 +68,44 @@ pub is_offset-same : (t : ℤ) (x : ℕ) → t ≡ pos x → is_offset t x ≡ t
 is_offset-same t x e = ap (λ s. is_offset s x) e ∙ eq-eqb x x refl
 
 -- a block at a signed offset
-pub block_at_offset-found : (w : List ℕ) (t : ℤ) (c : BlockView) → block_at_offset w t ≡ Some c → BlockAt w c.at c × (t ≡ pos c.at)
+pub block_at_offset-found : (w : List ℕ) (t : ℤ) (c : BlockView) → block_at_offset w t ≡ Some c
+    → BlockAt w c.at c × (t ≡ pos c.at)
 block_at_offset-found w (pos y) c e =
     let at = BlockAt-from_found w y c e in
     (subst (λ x. BlockAt w x c) (sym at.placed) at, ap pos (sym at.placed))
 block_at_offset-found w (negsuc n) c e = absurd (none-some c e)
 
-pub block_at_offset-stands : (w : List ℕ) (t : ℤ) (c : BlockView) → t ≡ pos c.at → BlockAt w c.at c → block_at_offset w t ≡ Some c
+pub block_at_offset-stands : (w : List ℕ) (t : ℤ) (c : BlockView) → t ≡ pos c.at → BlockAt w c.at c
+    → block_at_offset w t ≡ Some c
 block_at_offset-stands w t c e at = ap (block_at_offset w) e ∙ block_at-stands w c.at c at
 
 -- the first place that passes a test
 module _ (p : BlockView → Bool) where
-  pub place-none : (j : ℕ) (bs : List BlockView) → ((k : ℕ) (b : BlockView) → slice_get bs k ≡ Some b → p b ≡ false) → position_from p j bs ≡ None
+  pub place-none : (j : ℕ) (bs : List BlockView) → ((k : ℕ) (b : BlockView) → slice_get bs k ≡ Some b → p b ≡ false)
+      → position_from p j bs ≡ None
   place-none j [] h = refl
   place-none j (b ∷ bs) h =
-      ap (λ t. cond t (Some j) (position_from p (j + 1) bs)) (h 0 b refl) ∙ place-none (j + 1) bs (λ k c at. h (suc k) c at)
+      ap (λ t. cond t (Some j) (position_from p (j + 1) bs)) (h 0 b refl)
+      ∙ place-none (j + 1) bs (λ k c at. h (suc k) c at)
 
-  tested : (j : ℕ) (b : BlockView) (bs : List BlockView) (t : Bool) → p b ≡ t → position_from p j (b ∷ bs) ≡ cond t (Some j) (position_from p (j + 1) bs)
+  tested : (j : ℕ) (b : BlockView) (bs : List BlockView) (t : Bool) → p b ≡ t
+      → position_from p j (b ∷ bs) ≡ cond t (Some j) (position_from p (j + 1) bs)
   tested j b bs t e = ap (λ t. cond t (Some j) (position_from p (j + 1) bs)) e
 
-  none-place-behind : (j : ℕ) (c : BlockView) (bs : List BlockView) (k : ℕ) (b : BlockView) → p c ≡ false → slice_get (c ∷ bs) k ≡ Some b →
+  none-place-behind : (j : ℕ) (c : BlockView) (bs : List BlockView) (k : ℕ) (b : BlockView) → p c ≡ false
+      → slice_get (c ∷ bs) k ≡ Some b →
       ((i : ℕ) → slice_get bs i ≡ Some b → p b ≡ false) → p b ≡ false
   none-place-behind j c bs zero b fails at rest = subst (λ d. p d ≡ false) (same_Some c b at) fails
   none-place-behind j c bs (suc k) b fails at rest = rest k at
 
-  pub none-place : (j : ℕ) (bs : List BlockView) (k : ℕ) (b : BlockView) → position_from p j bs ≡ None → slice_get bs k ≡ Some b → p b ≡ false
+  pub none-place : (j : ℕ) (bs : List BlockView) (k : ℕ) (b : BlockView) → position_from p j bs ≡ None
+      → slice_get bs k ≡ Some b → p b ≡ false
   none-place j [] k b e at = absurd (none-some b at)
   none-place j (c ∷ bs) k b e at =
       elim (cases_Bool (p c)) [
         | inl passes ↦ absurd (none-some j (sym e ∙ tested j c bs true passes))
-        | inr fails ↦ none-place-behind j c bs k b fails at (λ i here. none-place (j + 1) bs i b (sym (tested j c bs false fails) ∙ e) here)
+        | inr fails ↦ none-place-behind j c bs k b fails at
+            (λ i here. none-place (j + 1) bs i b (sym (tested j c bs false fails) ∙ e) here)
       ]
 
   -- the place that was found passes, and none before it does
@@ -98,12 +113,14 @@ module _ (p : BlockView → Bool) where
     pub here : (b : BlockView) × (slice_get bs i ≡ Some b) × (p b ≡ true)
     pub before : (k : ℕ) (b : BlockView) → k < i → slice_get bs k ≡ Some b → p b ≡ false
 
-  before_more : (c : BlockView) (bs : List BlockView) (i : ℕ) → p c ≡ false → ((k : ℕ) (b : BlockView) → k < i → slice_get bs k ≡ Some b → p b ≡ false) →
+  before_more : (c : BlockView) (bs : List BlockView) (i : ℕ) → p c ≡ false
+      → ((k : ℕ) (b : BlockView) → k < i → slice_get bs k ≡ Some b → p b ≡ false) →
       (k : ℕ) (b : BlockView) → k < suc i → slice_get (c ∷ bs) k ≡ Some b → p b ≡ false
   before_more c bs i fails before zero b lt at = subst (λ d. p d ≡ false) (same_Some c b at) fails
   before_more c bs i fails before (suc k) b lt at = before k b (omega arith) at
 
-  pub some-place : (j : ℕ) (bs : List BlockView) (m : ℕ) → position_from p j bs ≡ Some m → (i : ℕ) × (m ≡ j + i) × IsFirstPlace bs i
+  pub some-place : (j : ℕ) (bs : List BlockView) (m : ℕ) → position_from p j bs ≡ Some m
+      → (i : ℕ) × (m ≡ j + i) × IsFirstPlace bs i
   some-place j [] m e = absurd (none-some m e)
   some-place j (c ∷ bs) m e =
       elim (cases_Bool (p c)) [
@@ -112,15 +129,21 @@ module _ (p : BlockView → Bool) where
             (0, omega arith, record { here = (c, refl, passes); before = λ k b lt. absurd (omega arith) })
         | inr fails ↦
             let rest = some-place (j + 1) bs m (sym (tested j c bs false fails) ∙ e) in
-            let at = rest.1 in
-            (suc rest.0, omega arith, record { here = rest.2.here; before = before_more c bs rest.0 fails rest.2.before })
+            let at = rest.1 in (
+              suc rest.0,
+              omega arith,
+              record
+                  { here = rest.2.here; before = before_more c bs rest.0 fails rest.2.before },
+            )
       ]
 
   pub place-some : (j : ℕ) (bs : List BlockView) (i : ℕ) → IsFirstPlace bs i → position_from p j bs ≡ Some (j + i)
   place-some j [] i first = absurd (none-some _ first.here.1)
   place-some j (c ∷ bs) zero first =
-      tested j c bs true (subst (λ d. p d ≡ true) (sym (same_Some c _ first.here.1)) first.here.2) ∙ ap Some (omega arith)
+      tested j c bs true (subst (λ d. p d ≡ true) (sym (same_Some c _ first.here.1)) first.here.2)
+      ∙ ap Some (omega arith)
   place-some j (c ∷ bs) (suc i) first =
       tested j c bs false (first.before 0 c (omega arith) refl)
-      ∙ place-some (j + 1) bs i (record { here = first.here; before = λ k b lt at. first.before (suc k) b (omega arith) at })
+      ∙ place-some (j + 1) bs i (record
+      { here = first.here; before = λ k b lt at. first.before (suc k) b (omega arith) at })
       ∙ ap Some (omega arith)

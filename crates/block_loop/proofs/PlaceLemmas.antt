@@ -17,7 +17,8 @@ abbrev found-loop : List BlockView → Result (List BlockView) LoopFault
 found-loop bs = Ok bs
 
 -- the offsets are those of the one loop
-the-loop : (w offsets : List ℕ) → AreLoop w offsets → (loop : List BlockView) → loop_of w ≡ Ok loop → offsets_of loop ≡ offsets
+the-loop : (w offsets : List ℕ) → AreLoop w offsets → (loop : List BlockView) → loop_of w ≡ Ok loop
+    → offsets_of loop ≡ offsets
 the-loop w offsets are loop is =
     let found = are.blocks in
     let same : loop ≡ found.0 = same-loop loop found.0 (sym is ∙ loop_of-loop w found.0 found.1) in
@@ -26,12 +27,14 @@ the-loop w offsets are loop is =
     same-loop : (xs ys : List BlockView) → found-loop xs ≡ found-loop ys → xs ≡ ys
     same-loop xs ys h = cc
 
-mapped : (o : Option BlockView) (x : ℕ) → option_map (λ (b : BlockView). b.at) o ≡ Some x → (b : BlockView) × (o ≡ Some b) × (b.at ≡ x)
+mapped : (o : Option BlockView) (x : ℕ) → option_map (λ (b : BlockView). b.at) o ≡ Some x
+    → (b : BlockView) × (o ≡ Some b) × (b.at ≡ x)
 mapped None x h = cc
 mapped (Some b) x h = (b, refl, cc)
 
 -- the block at a place of the loop stands at the offset there
-pub at-place : (w offsets : List ℕ) (i x : ℕ) → AreLoop w offsets → slice_get offsets i ≡ Some x → (loop : List BlockView) → loop_of w ≡ Ok loop
+pub at-place : (w offsets : List ℕ) (i x : ℕ) → AreLoop w offsets → slice_get offsets i ≡ Some x
+    → (loop : List BlockView) → loop_of w ≡ Ok loop
     → (b : BlockView) × (slice_get loop i ≡ Some b) × (block_at w x ≡ Some b)
 at-place w offsets i x are at loop is =
     let same = the-loop w offsets are loop is in
@@ -50,5 +53,7 @@ stands-at w offsets i x are at =
     (b.0, b.2)
 
 -- the loop has as many blocks as offsets
-pub as-many : (w offsets : List ℕ) → AreLoop w offsets → (loop : List BlockView) → loop_of w ≡ Ok loop → length loop ≡ length offsets
-as-many w offsets are loop is = sym (length-map loop (λ (b : BlockView). b.at)) ∙ ap length (the-loop w offsets are loop is)
+pub as-many : (w offsets : List ℕ) → AreLoop w offsets → (loop : List BlockView) → loop_of w ≡ Ok loop
+    → length loop ≡ length offsets
+as-many w offsets are loop is = sym (length-map loop (λ (b : BlockView). b.at))
+    ∙ ap length (the-loop w offsets are loop is)

@@ -36,7 +36,8 @@ IsFault-unique w f g one two = let e = sym (loop_of-fault w f one) ∙ loop_of-f
 pub no_loop_and_fault : (w : List ℕ) (bs : List BlockView) (f : LoopFault) → IsLoop w bs → IsFault w f → ⊥
 no_loop_and_fault w bs f loop fault = let e = sym (loop_of-loop w bs loop) ∙ loop_of-fault w f fault in cc
 
-loop_or_fault-by : (w : List ℕ) (r : Result (List BlockView) LoopFault) → Says w r → ((bs : List BlockView) × IsLoop w bs) ⊎ ((f : LoopFault) × IsFault w f)
+loop_or_fault-by : (w : List ℕ) (r : Result (List BlockView) LoopFault) → Says w r
+    → ((bs : List BlockView) × IsLoop w bs) ⊎ ((f : LoopFault) × IsFault w f)
 loop_or_fault-by w (Ok bs) says = inl (bs, says)
 loop_or_fault-by w (Err f) says = inr (f, says)
 
@@ -54,12 +55,18 @@ module _ (w v : List ℕ) (same : (x : ℕ) → block_at w x ≡ block_at v x) w
   first_block-same : first_block w ≡ first_block v
   first_block-same =
       elim (none_or_some (first_block w)) [
-        | inl none ↦ none ∙ sym (first_block-nowhere v (λ x b lt at. first_block-none w none x b lt (same_stands x b at)))
+        | inl none ↦ none ∙ sym (first_block-nowhere v
+            (λ x b lt at. first_block-none w none x b lt (same_stands x b at)))
         | inr some ↦
             let b = some.0 in
             let first = first_block-found w b some.1 in
             some.1
-            ∙ sym (first_block-stands v b (record { stands = stands_same b.at b first.stands; low = first.low; least = λ x c lt at. first.least x c lt (same_stands x c at) }))
+            ∙ sym (first_block-stands v b
+            (record {
+              stands = stands_same b.at b first.stands;
+              low = first.low;
+              least = λ x c lt at. first.least x c lt (same_stands x c at);
+            }))
       ]
 
   at_offset-same : (t : ℤ) → block_at_offset w t ≡ block_at_offset v t
@@ -76,13 +83,16 @@ module _ (w v : List ℕ) (same : (x : ℕ) → block_at w x ≡ block_at v x) w
       elim (cases_Bool (is_offset (target z) x)) [
         | inl closed ↦ follow-closed (suc n) w x bs z closed ∙ sym (follow-closed (suc n) v x bs z closed)
         | inr far ↦ elim (none_or_some (block_at_offset w (target z))) [
-          | inl none ↦ follow-broken n w x bs z far none ∙ sym (follow-broken n v x bs z far (sym (at_offset-same (target z)) ∙ none))
+          | inl none ↦ follow-broken n w x bs z far none
+              ∙ sym (follow-broken n v x bs z far (sym (at_offset-same (target z)) ∙ none))
           | inr some ↦
               let c = some.0 in
               let there = sym (at_offset-same (target z)) ∙ some.1 in
               elim (none_or_place (first_shared bs c)) [
-                | inr place ↦ follow-overlap n w x bs z c place.0 far some.1 place.1 ∙ sym (follow-overlap n v x bs z c place.0 far there place.1)
-                | inl alone ↦ follow-more n w x bs z c far some.1 alone ∙ follow-same n x (bs ++ c ∷ []) c ∙ sym (follow-more n v x bs z c far there alone)
+                | inr place ↦ follow-overlap n w x bs z c place.0 far some.1 place.1
+                    ∙ sym (follow-overlap n v x bs z c place.0 far there place.1)
+                | inl alone ↦ follow-more n w x bs z c far some.1 alone ∙ follow-same n x (bs ++ c ∷ []) c
+                    ∙ sym (follow-more n v x bs z c far there alone)
               ]
         ]
       ]
@@ -93,7 +103,8 @@ module _ (w v : List ℕ) (same : (x : ℕ) → block_at w x ≡ block_at v x) w
       elim (none_or_some (first_block w)) [
         | inl none ↦ loop_of-none w none ∙ sym (loop_of-none v (sym first_block-same ∙ none))
         | inr some ↦
-            loop_of-first w some.0 some.1 ∙ follow-same 31 some.0.at (some.0 ∷ []) some.0 ∙ sym (loop_of-first v some.0 (sym first_block-same ∙ some.1))
+            loop_of-first w some.0 some.1 ∙ follow-same 31 some.0.at (some.0 ∷ []) some.0
+            ∙ sym (loop_of-first v some.0 (sym first_block-same ∙ some.1))
       ]
 
 -- erased bytes behind a window leave its loop and its fault
@@ -105,14 +116,17 @@ pub loop_of-blank : (w : List ℕ) → IsErasedFrom w 0 4096 → loop_of w ≡ E
 loop_of-blank w erased = loop_of-fault w NoBlock (λ x b lt. no_block_at_erased w x b (erased x (omega arith) lt))
 
 -- an element of a mapped list
-get_map : (f : BlockView → BlockView) (bs : List BlockView) (i : ℕ) (c : BlockView) → slice_get (map f bs) i ≡ Some c → (b : BlockView) × (slice_get bs i ≡ Some b) × (f b ≡ c)
+get_map : (f : BlockView → BlockView) (bs : List BlockView) (i : ℕ) (c : BlockView) → slice_get (map f bs) i ≡ Some c
+    → (b : BlockView) × (slice_get bs i ≡ Some b) × (f b ≡ c)
 get_map f [] i c at = absurd (none-some c at)
 get_map f (b ∷ bs) zero c at = (b, refl, same_Some (f b) c at)
 get_map f (b ∷ bs) (suc i) c at = get_map f bs i c at
 
 -- a window v whose blocks are those of w, each changed in place, with the same size
-module _ (w v : List ℕ) (f : BlockView → BlockView) (places : (b : BlockView) → (f b).at ≡ b.at) (sizes : (b : BlockView) → block_size (f b) ≡ block_size b)
-    (stands : (x : ℕ) (b : BlockView) → BlockAt w x b → BlockAt v x (f b)) (back : (x : ℕ) (c : BlockView) → BlockAt v x c → (b : BlockView) × BlockAt w x b) where
+module _ (w v : List ℕ) (f : BlockView → BlockView) (places : (b : BlockView) → (f b).at ≡ b.at)
+    (sizes : (b : BlockView) → block_size (f b) ≡ block_size b)
+    (stands : (x : ℕ) (b : BlockView) → BlockAt w x b → BlockAt v x (f b))
+    (back : (x : ℕ) (c : BlockView) → BlockAt v x c → (b : BlockView) × BlockAt w x b) where
   changed_stands_at : (b : BlockView) → BlockAt w b.at b → BlockAt v (f b).at (f b)
   changed_stands_at b at = subst (λ x. BlockAt v x (f b)) (sym (places b)) (stands b.at b at)
 
@@ -137,7 +151,8 @@ module _ (w v : List ℕ) (f : BlockView → BlockView) (places : (b : BlockView
       }
 
   -- the changed blocks of a loop are a loop, where they keep their links
-  pub IsLoop-changed : (bs : List BlockView) → ((i : ℕ) (b : BlockView) → slice_get bs i ≡ Some b → (f b).link ≡ b.link) → IsLoop w bs → IsLoop v (map f bs)
+  pub IsLoop-changed : (bs : List BlockView)
+      → ((i : ℕ) (b : BlockView) → slice_get bs i ≡ Some b → (f b).link ≡ b.link) → IsLoop w bs → IsLoop v (map f bs)
   IsLoop-changed bs links loop =
       let long = length-map bs f in
       let some = loop.chain.some in
@@ -146,22 +161,27 @@ module _ (w v : List ℕ) (f : BlockView → BlockView) (places : (b : BlockView
         chain = record {
           some = omega arith;
           few = omega arith;
-          first = λ c here. let (b, at, is) = get_map f bs 0 c here in subst (IsFirstBlock v) is (changed_first b (loop.chain.first b at));
-          stand = λ i c here. let (b, at, is) = get_map f bs i c here in subst (λ (d : BlockView). BlockAt v d.at d) is (changed_stands_at b (loop.chain.stand i b at));
+          first = λ c here. let (b, at, is) = get_map f bs 0 c here in
+              subst (IsFirstBlock v) is (changed_first b (loop.chain.first b at));
+          stand = λ i c here. let (b, at, is) = get_map f bs i c here in
+              subst (λ (d : BlockView). BlockAt v d.at d) is (changed_stands_at b (loop.chain.stand i b at));
           linked = λ i c d here there.
               let (b, at, is) = get_map f bs i c here in
               let (e, next, that) = get_map f bs (i + 1) d there in
-              ap target (sym is) ∙ changed_target b (links i b at) ∙ loop.chain.linked i b e at next ∙ ap pos (sym (places e)) ∙ ap (λ (g : BlockView). pos g.at) that;
+              ap target (sym is) ∙ changed_target b (links i b at) ∙ loop.chain.linked i b e at next
+              ∙ ap pos (sym (places e)) ∙ ap (λ (g : BlockView). pos g.at) that;
           apart = λ i j c d lt here there.
               let (b, at, is) = get_map f bs i c here in
               let (e, next, that) = get_map f bs j d there in
-              ap (λ g. shares g d) (sym is) ∙ ap (shares (f b)) (sym that) ∙ changed_shares b e ∙ loop.chain.apart i j b e lt at next;
+              ap (λ g. shares g d) (sym is) ∙ ap (shares (f b)) (sym that) ∙ changed_shares b e
+              ∙ loop.chain.apart i j b e lt at next;
         };
         closed = λ c y first last.
             let (b, at, is) = get_map f bs 0 c first in
             let (e, end_, that) = get_map f bs (length (map f bs) - 1) y last in
             let at_end : slice_get bs (length bs - 1) ≡ Some e = ap (slice_get bs) (omega arith) ∙ end_ in
-            ap target (sym that) ∙ changed_target e (links (length (map f bs) - 1) e end_) ∙ loop.closed b e at at_end ∙ ap pos (sym (places b))
+            ap target (sym that) ∙ changed_target e (links (length (map f bs) - 1) e end_) ∙ loop.closed b e at at_end
+            ∙ ap pos (sym (places b))
             ∙ ap (λ (g : BlockView). pos g.at) is;
       }
 
@@ -179,15 +199,19 @@ swapped (inr q) = inl q
 
 -- a change of the fourth byte of an IMAGE_TYPE header of one of a loop's blocks keeps the loop: that
 -- block has the changed word, and the others are as they were
-module _ (w v : List ℕ) (a k : ℕ) (bs : List BlockView) (d : BlockView) (change : ChangesHighByte w v a) (loop : IsLoop w bs) (here : slice_get bs k ≡ Some d)
+module _ (w v : List ℕ) (a k : ℕ) (bs : List BlockView) (d : BlockView) (change : ChangesHighByte w v a)
+    (loop : IsLoop w bs) (here : slice_get bs k ≡ Some d)
     (low : d.at + 4 ≤ a) (high : a < d.at + 4 + 4 * length d.items) where
-  apart_from : (b : BlockView) → (d.at + block_size d ≤ b.at) ⊎ (b.at + block_size b ≤ d.at) → changed_block a (word_of (drop a v)) b ≡ b
+  apart_from : (b : BlockView) → (d.at + block_size d ≤ b.at) ⊎ (b.at + block_size b ≤ d.at)
+      → changed_block a (word_of (drop a v)) b ≡ b
   apart_from b apart =
-      changed_apart a (word_of (drop a v)) b (elim apart [ inl behind ↦ inl (omega arith) | inr before ↦ inr (omega arith) ])
+      changed_apart a (word_of (drop a v)) b
+      (elim apart [ inl behind ↦ inl (omega arith) | inr before ↦ inr (omega arith) ])
       (λ e. elim apart [ inl behind ↦ omega arith | inr before ↦ omega arith ])
 
   -- the other blocks of the loop stay
-  pub changed_others : (i : ℕ) (b : BlockView) → i ≢ k → slice_get bs i ≡ Some b → changed_block a (word_of (drop a v)) b ≡ b
+  pub changed_others : (i : ℕ) (b : BlockView) → i ≢ k → slice_get bs i ≡ Some b
+      → changed_block a (word_of (drop a v)) b ≡ b
   changed_others i b other at =
       elim (cases_order i k) [
         | inl same ↦ absurd (other same)
@@ -197,7 +221,8 @@ module _ (w v : List ℕ) (a k : ℕ) (bs : List BlockView) (d : BlockView) (cha
         ]
       ]
 
-  same_links : (i : ℕ) (b : BlockView) → slice_get bs i ≡ Some b → (changed_block a (word_of (drop a v)) b).link ≡ b.link
+  same_links : (i : ℕ) (b : BlockView) → slice_get bs i ≡ Some b
+      → (changed_block a (word_of (drop a v)) b).link ≡ b.link
   same_links i b at =
       elim (cases_eq i k) [
         | inr other ↦ ap (λ (c : BlockView). c.link) (changed_others i b other at)
@@ -212,5 +237,10 @@ module _ (w v : List ℕ) (a k : ℕ) (bs : List BlockView) (d : BlockView) (cha
   loop_of-changed =
       let u = word_of (drop a v) in
       loop_of-loop v (map (changed_block a u) bs)
-      (IsLoop-changed w v (changed_block a u) (changed_block-at a u) (λ b. ap (λ n. 4 * n + 16) (changed_block-length a u b)) (λ x b. changed-stands w v a x b change)
-      (λ x c at. (changed_block a (word_of (drop a w)) c, changed-stands v w a x c (ChangesHighByte-back w v a change) at)) bs same_links loop)
+      (IsLoop-changed w v (changed_block a u) (changed_block-at a u)
+      (λ b. ap (λ n. 4 * n + 16) (changed_block-length a u b)) (λ x b. changed-stands w v a x b change)
+      (λ x c at. (
+        changed_block a (word_of (drop a w)) c,
+        changed-stands v w a x c
+            (ChangesHighByte-back w v a change) at,
+      )) bs same_links loop)

@@ -29,8 +29,10 @@ pub record IsChain (w : List ℕ) (bs : List BlockView) : Type 0 where
   pub few : length bs ≤ 32
   pub first : (b : BlockView) → slice_get bs 0 ≡ Some b → IsFirstBlock w b
   pub stand : (i : ℕ) (b : BlockView) → slice_get bs i ≡ Some b → BlockAt w b.at b
-  pub linked : (i : ℕ) (b c : BlockView) → slice_get bs i ≡ Some b → slice_get bs (i + 1) ≡ Some c → target b ≡ pos c.at
-  pub apart : (i j : ℕ) (b c : BlockView) → i < j → slice_get bs i ≡ Some b → slice_get bs j ≡ Some c → shares b c ≡ false
+  pub linked : (i : ℕ) (b c : BlockView) → slice_get bs i ≡ Some b → slice_get bs (i + 1) ≡ Some c
+      → target b ≡ pos c.at
+  pub apart : (i j : ℕ) (b c : BlockView) → i < j → slice_get bs i ≡ Some b
+      → slice_get bs j ≡ Some c → shares b c ≡ false
 
 -- the last block of a chain
 abbrev pub IsLast : List BlockView → BlockView → Type 0
@@ -94,7 +96,8 @@ first_shared bs c = position_from (λ (b : BlockView). shares b c) 0 bs
 
 -- the loop or its fault, where the blocks bs were found already, the first at offset x and the last
 -- of them z, and at most n more may come
-unfoldable pub follow : ℕ → List ℕ → ℕ → List BlockView → BlockView → Result (List BlockView) LoopFault
+unfoldable pub follow : ℕ → List ℕ → ℕ → List BlockView → BlockView
+    → Result (List BlockView) LoopFault
 follow zero w x bs z = elim (is_offset (target z) x) [ true ↦ Ok bs | false ↦ Err TooMany ]
 follow (suc n) w x bs z =
     elim (is_offset (target z) x) [

@@ -98,7 +98,8 @@ fn loop_in<V: View>(view: &V) -> Result<BlockLoop, LoopFault>
 pub fn walk<V: View>(view: &V) -> Result<BlockLoop, LoopFault>
     ensures exact { result ≡ loop_offsets (loop_of (V.bytes view.now)) }
     ensures loop_ { IfOk result (λ offsets. AreLoop (V.bytes view.now) offsets) }
-    ensures each_loop { (offsets : List ℕ) → AreLoop (V.bytes view.now) offsets → result ≡ Ok offsets }
+    ensures each_loop { (offsets : List ℕ) → AreLoop (V.bytes view.now) offsets
+        → result ≡ Ok offsets }
     ensures fault { (f : LoopFault) → IsErrOf result f ↔ IsFault (V.bytes view.now) f }
 {
     loop_in(view)
@@ -108,7 +109,8 @@ pub fn walk<V: View>(view: &V) -> Result<BlockLoop, LoopFault>
 pub fn block_of<V: View>(view: &V, found: &BlockLoop, i: u32) -> Block
     requires loop_ { AreLoop (V.bytes view.now) found.now }
     requires inside { i < length found.now }
-    ensures exact { (loop : List BlockView) → loop_of (V.bytes view.now) ≡ Ok loop → slice_get loop i ≡ Some result }
+    ensures exact { (loop : List BlockView) → loop_of (V.bytes view.now) ≡ Ok loop
+        → slice_get loop i ≡ Some result }
     ensures whole { IsWhole result }
 {
     match block_at(view, found.at(i)) {

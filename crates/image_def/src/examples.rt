@@ -123,7 +123,8 @@ pub fn fields_of_definitions()
     ensures others { def_of (arm_block (0x00000209 ∷ 7 ∷ 0x0000010a ∷ 0x00000209 ∷ 7 ∷ 0x0000010a
         ∷ 0x0000010c ∷ 0x000001fe ∷ []))
         ≡ Ok arm_def }
-    ensures other_spellings { def_of (arm_block (0x00000183 ∷ 0x00000185 ∷ 0x000001c2 ∷ 0x000001c4 ∷ 0x000001c7
+    ensures other_spellings { def_of
+        (arm_block (0x00000183 ∷ 0x00000185 ∷ 0x000001c2 ∷ 0x000001c4 ∷ 0x000001c7
         ∷ 0x000001c8 ∷ []))
         ≡ Ok arm_def }
 {}
@@ -236,9 +237,11 @@ pub fn items_that_stand_twice()
     ensures load_map_long { arm_fault (0x00000106 ∷ 0x00000186 ∷ []) ≡ Some (Repeated 0x06) }
     ensures hash_def { arm_fault (0x01000247 ∷ 1 ∷ 0x01000247 ∷ 1 ∷ []) ≡ Some (Repeated 0x47) }
     ensures version { arm_fault (0x00000248 ∷ 0 ∷ 0x00000248 ∷ 0 ∷ []) ≡ Some (Repeated 0x48) }
-    ensures hash_value { arm_fault (0x01000247 ∷ 1 ∷ (value_item 0x0000094b ++ value_item 0x0000094b))
+    ensures hash_value { arm_fault
+        (0x01000247 ∷ 1 ∷ (value_item 0x0000094b ++ value_item 0x0000094b))
         ≡ Some (Repeated 0x4b) }
-    ensures hash_value_long { arm_fault (0x01000247 ∷ 1 ∷ (value_item 0x0000094b ++ value_item 0x000009cb))
+    ensures hash_value_long { arm_fault
+        (0x01000247 ∷ 1 ∷ (value_item 0x0000094b ++ value_item 0x000009cb))
         ≡ Some (Repeated 0x4b) }
 {}
 
@@ -362,7 +365,8 @@ pub fn order_of_faults()
 pub fn trial_bits()
     ensures set { trial_cleared (block_with (0x90210142 ∷ [])) ≡ arm_block [] }
     ensures clear { trial_cleared (arm_block []) ≡ arm_block [] }
-    ensures second { trial_cleared (block_with (0x00000203 ∷ 0x80000000 ∷ 0x90210142 ∷ 0x90210142 ∷ []))
+    ensures second { trial_cleared
+        (block_with (0x00000203 ∷ 0x80000000 ∷ 0x90210142 ∷ 0x90210142 ∷ []))
         ≡ block_with (0x00000203 ∷ 0x80000000 ∷ 0x10210142 ∷ 0x90210142 ∷ []) }
     ensures other { trial_cleared (block_with (0x900001fe ∷ [])) ≡ block_with (0x900001fe ∷ []) }
 {}

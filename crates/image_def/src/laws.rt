@@ -47,8 +47,8 @@ pub fn one_item_of_each_kind()
 {}
 
 /// A block whose trial bit is cleared, as a buy leaves it, gives the same definition but for that
-/// bit of its flags, or the same fault; it has the same size, the same other items, and suits the same
-/// processors.
+/// bit of its flags, or the same fault; it has the same size, the same other items, and suits the
+/// same processors.
 pub fn trial_bit_cleared()
     ensures definition { (b : BlockView) → AreItems b.items → has_image_type b ≡ true
         → def_of (trial_cleared b) ≡ untried_answer (def_of b) }
@@ -58,7 +58,8 @@ pub fn trial_bit_cleared()
         → does_suit cpu (trial_cleared b) ≡ does_suit cpu b }
     ensures size { (b : BlockView) → AreItems b.items → has_image_type b ≡ true
         → block_size (trial_cleared b) ≡ block_size b }
-    ensures items { (b : BlockView) (j : ℕ) (item : Item) → AreItems b.items → has_image_type b ≡ true
+    ensures items { (b : BlockView) (j : ℕ) (item : Item) → AreItems b.items
+        → has_image_type b ≡ true
         → slice_get (items_of b.items) j ≡ Some item → is_of_kind IMAGE_TYPE item ≡ false
         → slice_get (items_of (trial_cleared b).items) j ≡ Some item }
     ensures changed { (b : BlockView) (item : Item) → AreItems b.items → image_type_of b ≡ Some item

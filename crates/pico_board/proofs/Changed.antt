@@ -27,7 +27,8 @@ inside_from k f at n (x ∷ xs) zero low high within =
     let e : (nat_le at k && nat_lt k (at + n)) ≡ true = in_range at k n (omega arith) (omega arith) in
     ap (λ b. cond b (f (k - at) x) x) e ∙ ap (λ (j : ℕ). f (j - at) x) (omega arith)
 inside_from k f at n (x ∷ xs) (suc i) low high within =
-    inside_from (k + 1) f at n xs i (omega arith) (omega arith) (omega arith) ∙ ap (λ (j : ℕ). f (j - at) (get_or xs i 0)) (omega arith)
+    inside_from (k + 1) f at n xs i (omega arith) (omega arith) (omega arith)
+    ∙ ap (λ (j : ℕ). f (j - at) (get_or xs i 0)) (omega arith)
 
 outside_from : (k : ℕ) (f : ℕ → ℕ → ℕ) (at n : ℕ) (xs : List ℕ) (i : ℕ) → (k + i < at) ⊎ (at + n ≤ k + i)
     → get_or (changed_from k f at n xs) i 0 ≡ get_or xs i 0
@@ -45,13 +46,15 @@ outside_from k f at n (x ∷ xs) (suc i) out = outside_from (k + 1) f at n xs i 
 pub changed-inside : (f : ℕ → ℕ → ℕ) (at n : ℕ) (xs : List ℕ) (i : ℕ) → at ≤ i → i < at + n → i < length xs
     → get_or (changed f at n xs) i 0 ≡ f (i - at) (get_or xs i 0)
 changed-inside f at n xs i low high within =
-    inside_from 0 f at n xs i (omega arith) (omega arith) within ∙ ap (λ (j : ℕ). f (j - at) (get_or xs i 0)) (omega arith)
+    inside_from 0 f at n xs i (omega arith) (omega arith) within
+    ∙ ap (λ (j : ℕ). f (j - at) (get_or xs i 0)) (omega arith)
 
 -- an element at place i of the range
 pub changed-at : (f : ℕ → ℕ → ℕ) (at n : ℕ) (xs : List ℕ) (i : ℕ) → i < n → at + i < length xs
     → get_or (changed f at n xs) (at + i) 0 ≡ f i (get_or xs (at + i) 0)
 changed-at f at n xs i lt within =
-    changed-inside f at n xs (at + i) (omega arith) (omega arith) within ∙ ap (λ (j : ℕ). f j (get_or xs (at + i) 0)) (omega arith)
+    changed-inside f at n xs (at + i) (omega arith) (omega arith) within
+    ∙ ap (λ (j : ℕ). f j (get_or xs (at + i) 0)) (omega arith)
 
 -- an element out of the range
 pub changed-outside : (f : ℕ → ℕ → ℕ) (at n : ℕ) (xs : List ℕ) (i : ℕ) → (i < at) ⊎ (at + n ≤ i)
@@ -79,7 +82,8 @@ pub changed_more : (f : ℕ → ℕ → ℕ) (at n : ℕ) (xs : List ℕ) → at
     → changed f at (n + 1) xs ≡ set (changed f at n xs) (at + n) (f n (get_or xs (at + n) 0))
 changed_more f at n xs within =
     ext_get_or 0 (changed f at (n + 1) xs) (set (changed f at n xs) (at + n) (f n (get_or xs (at + n) 0)))
-    (length-changed f at (n + 1) xs ∙ sym (length-set (changed f at n xs) (at + n) (f n (get_or xs (at + n) 0)) ∙ length-changed f at n xs))
+    (length-changed f at (n + 1) xs
+    ∙ sym (length-set (changed f at n xs) (at + n) (f n (get_or xs (at + n) 0)) ∙ length-changed f at n xs))
     (λ k lt. each k (omega (arith, lt, length-changed f at (n + 1) xs)))
   where
     short : at + n < length (changed f at n xs)
@@ -90,19 +94,26 @@ changed_more f at n xs within =
     other k lt ne = elim (cases_lt k at) [
       | inl below ↦ changed-outside f at (n + 1) xs k (inl below) ∙ sym (changed-outside f at n xs k (inl below))
       | inr above ↦ elim (cases_lt k (at + n)) [
-        | inl inside ↦ changed-inside f at (n + 1) xs k above (omega arith) lt ∙ sym (changed-inside f at n xs k above inside lt)
-        | inr past ↦ changed-outside f at (n + 1) xs k (inr (omega arith)) ∙ sym (changed-outside f at n xs k (inr past))
+        | inl inside ↦ changed-inside f at (n + 1) xs k above (omega arith) lt
+            ∙ sym (changed-inside f at n xs k above inside lt)
+        | inr past ↦ changed-outside f at (n + 1) xs k (inr (omega arith))
+            ∙ sym (changed-outside f at n xs k (inr past))
       ]
     ]
 
-    here : (k : ℕ) → k ≡ at + n → get_or (changed f at (n + 1) xs) k 0 ≡ get_or (set (changed f at n xs) (at + n) (f n (get_or xs (at + n) 0))) k 0
+    here : (k : ℕ) → k ≡ at + n → get_or (changed f at (n + 1) xs) k 0
+        ≡ get_or (set (changed f at n xs) (at + n) (f n (get_or xs (at + n) 0))) k 0
     here k same =
-        let e : get_or (changed f at (n + 1) xs) (at + n) 0 ≡ get_or (set (changed f at n xs) (at + n) (f n (get_or xs (at + n) 0))) (at + n) 0 =
-        changed-at f at (n + 1) xs n (omega arith) within ∙ sym (get_or-set_same (changed f at n xs) (at + n) (f n (get_or xs (at + n) 0)) 0 short) in
-        subst (λ (j : ℕ). get_or (changed f at (n + 1) xs) j 0 ≡ get_or (set (changed f at n xs) (at + n) (f n (get_or xs (at + n) 0))) j 0) (sym same) e
+        let e : get_or (changed f at (n + 1) xs) (at + n) 0
+        ≡ get_or (set (changed f at n xs) (at + n) (f n (get_or xs (at + n) 0))) (at + n) 0 =
+        changed-at f at (n + 1) xs n (omega arith) within
+        ∙ sym (get_or-set_same (changed f at n xs) (at + n) (f n (get_or xs (at + n) 0)) 0 short) in
+        subst (λ (j : ℕ). get_or (changed f at (n + 1) xs) j 0
+        ≡ get_or (set (changed f at n xs) (at + n) (f n (get_or xs (at + n) 0))) j 0) (sym same) e
 
     each : (k : ℕ) → k < length xs
-        → get_or (changed f at (n + 1) xs) k 0 ≡ get_or (set (changed f at n xs) (at + n) (f n (get_or xs (at + n) 0))) k 0
+        → get_or (changed f at (n + 1) xs) k 0
+        ≡ get_or (set (changed f at n xs) (at + n) (f n (get_or xs (at + n) 0))) k 0
     each k lt = elim (cases_eq k (at + n)) [
       | inl same ↦ here k same
       | inr ne ↦ other k lt ne ∙ sym (get_or-set_other (changed f at n xs) (at + n) k (f n (get_or xs (at + n) 0)) 0 ne)

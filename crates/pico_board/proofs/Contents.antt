@@ -24,7 +24,8 @@ row_at xs all k = elim (cases_lt k (length xs)) [
 ]
 
 -- a change by bytes keeps a list of bytes
-pub All-changed : (f : ℕ → ℕ → ℕ) (at n : ℕ) (xs : List ℕ) → ((i b : ℕ) → b < 256 → f i b < 256) → All (λ b. b < 256) xs → All (λ b. b < 256) (changed f at n xs)
+pub All-changed : (f : ℕ → ℕ → ℕ) (at n : ℕ) (xs : List ℕ) → ((i b : ℕ) → b < 256 → f i b < 256)
+    → All (λ b. b < 256) xs → All (λ b. b < 256) (changed f at n xs)
 All-changed f at n xs small all =
     All-from_get_or (λ b. b < 256) (changed f at n xs) 0 (λ i lt. each i (omega (arith, lt, length-changed f at n xs)))
   where
@@ -32,7 +33,8 @@ All-changed f at n xs small all =
     each i lt = elim (cases_lt i at) [
       | inl below ↦ subst (λ (b : ℕ). b < 256) (sym (changed-outside f at n xs i (inl below))) (all i 0 lt)
       | inr above ↦ elim (cases_lt i (at + n)) [
-        | inl inside ↦ subst (λ (b : ℕ). b < 256) (sym (changed-inside f at n xs i above inside lt)) (small (i - at) (get_or xs i 0) (all i 0 lt))
+        | inl inside ↦ subst (λ (b : ℕ). b < 256) (sym (changed-inside f at n xs i above inside lt))
+            (small (i - at) (get_or xs i 0) (all i 0 lt))
         | inr past ↦ subst (λ (b : ℕ). b < 256) (sym (changed-outside f at n xs i (inr past))) (all i 0 lt)
       ]
     ]
@@ -48,17 +50,20 @@ IsContent-changed c f at n is small = record {
 }
 
 -- a content with another row of 24 bits is a content
-pub IsContent-row : (c : Content) (r v : ℕ) → IsContent c → v < 2 ^ 24 → IsContent (record { flash = c.flash; otp = slice_set c.otp r v })
+pub IsContent-row : (c : Content) (r v : ℕ) → IsContent c → v < 2 ^ 24
+    → IsContent (record { flash = c.flash; otp = slice_set c.otp r v })
 IsContent-row c r v is lt = record {
   flash_length = is.flash_length;
   flash_bytes = is.flash_bytes;
   otp_length = length-set c.otp r v ∙ is.otp_length;
-  otp_rows = All-from_get_or (λ v. v < 2 ^ 24) (set c.otp r v) 0 (λ i within. each i (omega (arith, within, length-set c.otp r v)));
+  otp_rows = All-from_get_or (λ v. v < 2 ^ 24) (set c.otp r v) 0
+      (λ i within. each i (omega (arith, within, length-set c.otp r v)));
 }
   where
     each : (i : ℕ) → i < length c.otp → get_or (set c.otp r v) i 0 < 2 ^ 24
     each i within = elim (cases_eq i r) [
-      | inl same ↦ subst (λ (w : ℕ). w < 2 ^ 24) (sym (ap (λ (j : ℕ). get_or (set c.otp r v) j 0) same ∙ get_or-set_same c.otp r v 0 (omega arith))) lt
+      | inl same ↦ subst (λ (w : ℕ). w < 2 ^ 24)
+          (sym (ap (λ (j : ℕ). get_or (set c.otp r v) j 0) same ∙ get_or-set_same c.otp r v 0 (omega arith))) lt
       | inr ne ↦ subst (λ (w : ℕ). w < 2 ^ 24) (sym (get_or-set_other c.otp r i v 0 ne)) (is.otp_rows i 0 within)
     ]
 
@@ -67,11 +72,14 @@ raised_lt : (c : Content) (r b : ℕ) → IsContent c → b < 2 ^ 24 → bit_or 
 raised_lt c r b is lt = or_lt 24 (slice_index c.otp r) b (row_at c.otp is.otp_rows r) lt
 
 -- a step of a content leaves a content
-pub IsContent-after : (c : Content) (step : Step) → IsContent c → IsStepIn (length c.flash) step → IsContent (after c step)
+pub IsContent-after : (c : Content) (step : Step) → IsContent c → IsStepIn (length c.flash) step
+    → IsContent (after c step)
 IsContent-after c (Erase s) is inside = IsContent-changed c (λ i b. 255) (4096 * s) 4096 is (λ i b lt. omega arith)
 IsContent-after c (Program p d) is inside =
-    IsContent-changed c (λ i b. bit_and b (slice_index d i)) (256 * p) 256 is (λ i b lt. omega (arith, lt, and_le_l b (slice_index d i)))
-IsContent-after c (Raise r b) is inside = IsContent-row c r (bit_or (slice_index c.otp r) b) is (raised_lt c r b is inside.1)
+    IsContent-changed c (λ i b. bit_and b (slice_index d i)) (256 * p) 256 is
+    (λ i b lt. omega (arith, lt, and_le_l b (slice_index d i)))
+IsContent-after c (Raise r b) is inside =
+    IsContent-row c r (bit_or (slice_index c.otp r) b) is (raised_lt c r b is inside.1)
 
 -- the flash keeps its length
 pub length-after : (c : Content) (step : Step) → length (after c step).flash ≡ length c.flash
@@ -84,7 +92,8 @@ pub pattern_at-lt : (pattern : List ℕ) → All (λ b. b < 256) pattern → (i 
 pattern_at-lt pattern small i = byte_at pattern small (i % length pattern)
 
 -- what a cut within a step leaves is a content
-pub IsContent-torn_by : (pattern : List ℕ) (c : Content) (step : Step) → All (λ b. b < 256) pattern → IsContent c → IsStepIn (length c.flash) step
+pub IsContent-torn_by : (pattern : List ℕ) (c : Content) (step : Step) → All (λ b. b < 256) pattern → IsContent c
+    → IsStepIn (length c.flash) step
     → IsContent (torn_by pattern c step)
 IsContent-torn_by pattern c (Erase s) small is inside =
     IsContent-changed c (λ i b. pattern_at pattern i) (4096 * s) 4096 is (λ i b lt. pattern_at-lt pattern small i)
@@ -93,10 +102,12 @@ IsContent-torn_by pattern c (Program p d) small is inside =
     (λ i b lt. omega (arith, lt, and_le_l b (bit_or (slice_index d i) (pattern_at pattern i))))
 IsContent-torn_by pattern c (Raise r b) small is inside =
     let m = bit_xor (pattern_row pattern) 0xff_ffff in
-    IsContent-row c r (bit_or (slice_index c.otp r) (bit_and b m)) is (raised_lt c r (bit_and b m) is (omega (arith, inside.1, and_le_l b m)))
+    IsContent-row c r (bit_or (slice_index c.otp r) (bit_and b m)) is
+    (raised_lt c r (bit_and b m) is (omega (arith, inside.1, and_le_l b m)))
 
 -- the same of a cut before a step or within it
-pub IsContent-cut_by : (cut : Cut) (c : Content) (step : Step) → All (λ b. b < 256) cut.pattern → IsContent c → IsStepIn (length c.flash) step
+pub IsContent-cut_by : (cut : Cut) (c : Content) (step : Step) → All (λ b. b < 256) cut.pattern → IsContent c
+    → IsStepIn (length c.flash) step
     → IsContent (cut_by cut c step)
 IsContent-cut_by cut c step small is inside = choose cut.within
   where
@@ -107,7 +118,8 @@ IsContent-cut_by cut c step small is inside = choose cut.within
 -- the flash keeps its length
 length-torn_by : (pattern : List ℕ) (c : Content) (step : Step) → length (torn_by pattern c step).flash ≡ length c.flash
 length-torn_by pattern c (Erase s) = length-changed (λ i b. pattern_at pattern i) (4096 * s) 4096 c.flash
-length-torn_by pattern c (Program p d) = length-changed (λ i b. bit_and b (bit_or (slice_index d i) (pattern_at pattern i))) (256 * p) 256 c.flash
+length-torn_by pattern c (Program p d) =
+    length-changed (λ i b. bit_and b (bit_or (slice_index d i) (pattern_at pattern i))) (256 * p) 256 c.flash
 length-torn_by pattern c (Raise r b) = refl
 
 pub length-cut_by : (cut : Cut) (c : Content) (step : Step) → length (cut_by cut c step).flash ≡ length c.flash

@@ -34,7 +34,8 @@ first_here : (b : Bool) (x : List ℕ) (rest : Option (List ℕ)) → b ≡ true
 first_here b x rest e = ap (λ (t : Bool). cond t (Some x) rest) e
 
 -- one more file that has another name
-pub lacks-more : (es : List Entry) (name : List ℕ) (i : ℕ) (d : Entry) → i < length es → file_of (files_from (take i es)) name ≡ None
+pub lacks-more : (es : List Entry) (name : List ℕ) (i : ℕ) (d : Entry) → i < length es
+    → file_of (files_from (take i es)) name ≡ None
     → bytes_eq (string_bytes (get_or es i d).0) name ≡ false → file_of (files_from (take (i + 1) es)) name ≡ None
 lacks-more [] name i d lt before other = absurd (omega arith)
 lacks-more (e ∷ es) name zero d lt before other = first_other (bytes_eq (string_bytes e.0) name) e.1.items None other
@@ -42,51 +43,70 @@ lacks-more (e ∷ es) name (suc i) d lt before other =
     let both = lacks (bytes_eq (string_bytes e.0) name) e.1.items (file_of (files_from (take i es)) name) before in
     let next : suc i + 1 ≡ suc (i + 1) = omega arith in
     subst (λ (k : ℕ). file_of (files_from (take k (e ∷ es))) name ≡ None) (sym next)
-    (first_other (bytes_eq (string_bytes e.0) name) e.1.items (file_of (files_from (take (i + 1) es)) name) both.0 ∙ lacks-more es name i d (omega arith) both.1 other)
+    (first_other (bytes_eq (string_bytes e.0) name) e.1.items (file_of (files_from (take (i + 1) es)) name) both.0
+    ∙ lacks-more es name i d (omega arith) both.1 other)
 
 -- the first file of a name has its bytes
-pub found : (es : List Entry) (name : List ℕ) (i : ℕ) (d : Entry) → i < length es → file_of (files_from (take i es)) name ≡ None
+pub found : (es : List Entry) (name : List ℕ) (i : ℕ) (d : Entry) → i < length es
+    → file_of (files_from (take i es)) name ≡ None
     → string_bytes (get_or es i d).0 ≡ name → file_of (files_from es) name ≡ Some (get_or es i d).1.items
 found [] name i d lt before here = absurd (omega arith)
-found (e ∷ es) name zero d lt before here = first_here (bytes_eq (string_bytes e.0) name) e.1.items (file_of (files_from es) name) (bytes_eq-same (string_bytes e.0) name here)
+found (e ∷ es) name zero d lt before here =
+    first_here (bytes_eq (string_bytes e.0) name) e.1.items (file_of (files_from es) name)
+    (bytes_eq-same (string_bytes e.0) name here)
 found (e ∷ es) name (suc i) d lt before here =
     let both = lacks (bytes_eq (string_bytes e.0) name) e.1.items (file_of (files_from (take i es)) name) before in
-    first_other (bytes_eq (string_bytes e.0) name) e.1.items (file_of (files_from es) name) both.0 ∙ found es name i d (omega arith) both.1 here
+    first_other (bytes_eq (string_bytes e.0) name) e.1.items (file_of (files_from es) name) both.0
+    ∙ found es name i d (omega arith) both.1 here
 
 -- the first file of a name is changed
-set_here : (es : List Entry) (name : List ℕ) (i : ℕ) (x : Entry) → i < length es → file_of (files_from (take i es)) name ≡ None
+set_here : (es : List Entry) (name : List ℕ) (i : ℕ) (x : Entry) → i < length es
+    → file_of (files_from (take i es)) name ≡ None
     → string_bytes x.0 ≡ name → file_of (files_from (set es i x)) name ≡ Some x.1.items
 set_here [] name i x lt before here = absurd (omega arith)
-set_here (e ∷ es) name zero x lt before here = first_here (bytes_eq (string_bytes x.0) name) x.1.items (file_of (files_from es) name) (bytes_eq-same (string_bytes x.0) name here)
+set_here (e ∷ es) name zero x lt before here =
+    first_here (bytes_eq (string_bytes x.0) name) x.1.items (file_of (files_from es) name)
+    (bytes_eq-same (string_bytes x.0) name here)
 set_here (e ∷ es) name (suc i) x lt before here =
     let both = lacks (bytes_eq (string_bytes e.0) name) e.1.items (file_of (files_from (take i es)) name) before in
-    first_other (bytes_eq (string_bytes e.0) name) e.1.items (file_of (files_from (set es i x)) name) both.0 ∙ set_here es name i x (omega arith) both.1 here
+    first_other (bytes_eq (string_bytes e.0) name) e.1.items (file_of (files_from (set es i x)) name) both.0
+    ∙ set_here es name i x (omega arith) both.1 here
 
-set_other : (es : List Entry) (other : List ℕ) (i : ℕ) (x d : Entry) → i < length es → string_bytes (get_or es i d).0 ≡ string_bytes x.0
+set_other : (es : List Entry) (other : List ℕ) (i : ℕ) (x d : Entry) → i < length es
+    → string_bytes (get_or es i d).0 ≡ string_bytes x.0
     → (string_bytes x.0 ≡ other → ⊥) → file_of (files_from (set es i x)) other ≡ file_of (files_from es) other
 set_other [] other i x d lt same ne = absurd (omega arith)
 set_other (e ∷ es) other zero x d lt same ne =
-    first_other (bytes_eq (string_bytes x.0) other) x.1.items (file_of (files_from es) other) (bytes_eq-other (string_bytes x.0) other ne)
-    ∙ sym (first_other (bytes_eq (string_bytes e.0) other) e.1.items (file_of (files_from es) other) (bytes_eq-other (string_bytes e.0) other (λ h. ne (sym same ∙ h))))
+    first_other (bytes_eq (string_bytes x.0) other) x.1.items (file_of (files_from es) other)
+    (bytes_eq-other (string_bytes x.0) other ne)
+    ∙ sym (first_other (bytes_eq (string_bytes e.0) other) e.1.items (file_of (files_from es) other)
+    (bytes_eq-other (string_bytes e.0) other (λ h. ne (sym same ∙ h))))
 set_other (e ∷ es) other (suc i) x d lt same ne =
-    ap (λ (rest : Option (List ℕ)). cond (bytes_eq (string_bytes e.0) other) (Some e.1.items) rest) (set_other es other i x d (omega arith) same ne)
+    ap (λ (rest : Option (List ℕ)). cond (bytes_eq (string_bytes e.0) other) (Some e.1.items) rest)
+    (set_other es other i x d (omega arith) same ne)
 
 -- a file of a new name stands at the end
-push_here : (es : List Entry) (name : List ℕ) (x : Entry) → file_of (files_from es) name ≡ None → string_bytes x.0 ≡ name
+push_here : (es : List Entry) (name : List ℕ) (x : Entry) → file_of (files_from es) name ≡ None
+    → string_bytes x.0 ≡ name
     → file_of (files_from (es ++ x ∷ [])) name ≡ Some x.1.items
-push_here [] name x before here = first_here (bytes_eq (string_bytes x.0) name) x.1.items None (bytes_eq-same (string_bytes x.0) name here)
+push_here [] name x before here =
+    first_here (bytes_eq (string_bytes x.0) name) x.1.items None (bytes_eq-same (string_bytes x.0) name here)
 push_here (e ∷ es) name x before here =
     let both = lacks (bytes_eq (string_bytes e.0) name) e.1.items (file_of (files_from es) name) before in
-    first_other (bytes_eq (string_bytes e.0) name) e.1.items (file_of (files_from (es ++ x ∷ [])) name) both.0 ∙ push_here es name x both.1 here
+    first_other (bytes_eq (string_bytes e.0) name) e.1.items (file_of (files_from (es ++ x ∷ [])) name) both.0
+    ∙ push_here es name x both.1 here
 
 push_other : (es : List Entry) (other : List ℕ) (x : Entry) → (string_bytes x.0 ≡ other → ⊥)
     → file_of (files_from (es ++ x ∷ [])) other ≡ file_of (files_from es) other
-push_other [] other x ne = first_other (bytes_eq (string_bytes x.0) other) x.1.items None (bytes_eq-other (string_bytes x.0) other ne)
+push_other [] other x ne = first_other (bytes_eq (string_bytes x.0) other) x.1.items None
+    (bytes_eq-other (string_bytes x.0) other ne)
 push_other (e ∷ es) other x ne =
-    ap (λ (rest : Option (List ℕ)). cond (bytes_eq (string_bytes e.0) other) (Some e.1.items) rest) (push_other es other x ne)
+    ap (λ (rest : Option (List ℕ)). cond (bytes_eq (string_bytes e.0) other) (Some e.1.items) rest)
+    (push_other es other x ne)
 
 -- the bytes of the first file of a name are replaced
-pub HasWritten-set : (es : List Entry) (name bytes : List ℕ) (i : ℕ) (x : Entry) → IsFirstOf es name i → string_bytes x.0 ≡ name → x.1.items ≡ bytes
+pub HasWritten-set : (es : List Entry) (name bytes : List ℕ) (i : ℕ) (x : Entry) → IsFirstOf es name i
+    → string_bytes x.0 ≡ name → x.1.items ≡ bytes
     → HasWritten (files_from es) name bytes (files_from (set es i x))
 HasWritten-set es name bytes i x is named same = record {
   here = set_here es name i x is.inside is.before named ∙ ap (λ (b : List ℕ). Some b) same;
@@ -94,7 +114,8 @@ HasWritten-set es name bytes i x is named same = record {
 }
 
 -- a file of a new name is added
-pub HasWritten-push : (es : List Entry) (name bytes : List ℕ) (x : Entry) → file_of (files_from es) name ≡ None → string_bytes x.0 ≡ name → x.1.items ≡ bytes
+pub HasWritten-push : (es : List Entry) (name bytes : List ℕ) (x : Entry) → file_of (files_from es) name ≡ None
+    → string_bytes x.0 ≡ name → x.1.items ≡ bytes
     → HasWritten (files_from es) name bytes (files_from (es ++ x ∷ []))
 HasWritten-push es name bytes x none named same = record {
   here = push_here es name x none named ∙ ap (λ (b : List ℕ). Some b) same;

@@ -14,7 +14,8 @@ use Rattle.pico_board.specs.Sessions.{Confined, Gated, IsElsewhere, IsGated, IsP
 use Rattle.pico_board.proofs.Confinement.{Confined-left}
 
 -- the first elements have what all have
-pub AllByRecursion-left : {X : Type 0} (P : X → Type 0) (xs ys : List X) → AllByRecursion P (xs ++ ys) → AllByRecursion P xs
+pub AllByRecursion-left : {X : Type 0} (P : X → Type 0) (xs ys : List X) → AllByRecursion P (xs ++ ys)
+    → AllByRecursion P xs
 AllByRecursion-left P [] ys all = tt
 AllByRecursion-left P (x ∷ xs) ys all = (all.0, AllByRecursion-left P xs ys all.1)
 
@@ -30,14 +31,16 @@ pub IsDistinct-none : IsDistinct nat_eq []
 unfolding IsDistinct
 IsDistinct-none = tt
 
-pub IsDistinct-more : (x : ℕ) (xs : List ℕ) → AllByRecursion (λ y. nat_eq x y ≡ false) xs → IsDistinct nat_eq xs → IsDistinct nat_eq (x ∷ xs)
+pub IsDistinct-more : (x : ℕ) (xs : List ℕ) → AllByRecursion (λ y. nat_eq x y ≡ false) xs → IsDistinct nat_eq xs
+    → IsDistinct nat_eq (x ∷ xs)
 unfolding IsDistinct
 IsDistinct-more x xs first rest = (first, rest)
 
 IsDistinct-left : (xs ys : List ℕ) → IsDistinct nat_eq (xs ++ ys) → IsDistinct nat_eq xs
 IsDistinct-left [] ys distinct = IsDistinct-none
 IsDistinct-left (x ∷ xs) ys distinct =
-    IsDistinct-more x xs (AllByRecursion-left (λ y. nat_eq x y ≡ false) xs ys (IsDistinct-first x (xs ++ ys) distinct)) (IsDistinct-left xs ys (IsDistinct-rest x (xs ++ ys) distinct))
+    IsDistinct-more x xs (AllByRecursion-left (λ y. nat_eq x y ≡ false) xs ys (IsDistinct-first x (xs ++ ys) distinct))
+    (IsDistinct-left xs ys (IsDistinct-rest x (xs ++ ys) distinct))
 
 pub pages_of-append : (xs ys : List Step) → pages_of (xs ++ ys) ≡ pages_of xs ++ pages_of ys
 pages_of-append [] ys = refl
@@ -64,10 +67,16 @@ prefix_cases (x ∷ xs) ys (a ∷ e) l same =
     let tail : xs ++ ys ≡ e ++ l = cc in
     elim (prefix_cases xs ys e l tail) [
       | inl first ↦ inl (record { rest = first.rest; whole = cc (first.whole, head) })
-      | inr second ↦ inr (record { part = second.part; rest = second.rest; front = cc (second.front, head); back = second.back })
+      | inr second ↦ inr (record {
+        part = second.part;
+        rest = second.rest;
+        front = cc (second.front, head);
+        back = second.back;
+      })
     ]
 
-gated_front : (x : Step) (xs ys : List Step) (w : Window) (s : ℕ) (e l : List Step) → IsGated (x ∷ xs ++ ys) w s e l → Gated (x ∷ xs) w
+gated_front : (x : Step) (xs ys : List Step) (w : Window) (s : ℕ) (e l : List Step) → IsGated (x ∷ xs ++ ys) w s e l
+    → Gated (x ∷ xs) w
 gated_front x xs ys w s e l gated =
     let head : x ≡ Erase s = cc gated.whole in
     let tail : xs ++ ys ≡ e ++ l = cc gated.whole in
@@ -81,7 +90,8 @@ gated_front x xs ys w s e l gated =
           whole = cc (head, append-nil xs);
           first = gated.first;
           confined = confined;
-          apart = AllByRecursion-left (IsElsewhere s) xs first.rest (subst (AllByRecursion (IsElsewhere s)) first.whole gated.apart);
+          apart = AllByRecursion-left (IsElsewhere s) xs first.rest
+              (subst (AllByRecursion (IsElsewhere s)) first.whole gated.apart);
           final = tt;
           distinct = IsDistinct-none;
         },
@@ -95,9 +105,11 @@ gated_front x xs ys w s e l gated =
           first = gated.first;
           confined = confined;
           apart = gated.apart;
-          final = AllByRecursion-left (IsProgramIn s) second.part second.rest (subst (AllByRecursion (IsProgramIn s)) second.back gated.final);
+          final = AllByRecursion-left (IsProgramIn s) second.part second.rest
+              (subst (AllByRecursion (IsProgramIn s)) second.back gated.final);
           distinct = IsDistinct-left (pages_of second.part) (pages_of second.rest)
-              (subst (IsDistinct nat_eq) (ap pages_of second.back ∙ pages_of-append second.part second.rest) gated.distinct);
+              (subst (IsDistinct nat_eq) (ap pages_of second.back ∙ pages_of-append second.part second.rest)
+              gated.distinct);
         },
       )
     ]
@@ -109,34 +121,43 @@ Gated-left (x ∷ xs) ys w (inl none) = cc
 Gated-left (x ∷ xs) ys w (inr (s, e, l, gated)) = gated_front x xs ys w s e l gated
 
 -- the pages of programs of a sector
-pages_inside : (s : ℕ) (last : List Step) → AllByRecursion (IsProgramIn s) last → AllByRecursion (λ p. (16 * s ≤ p) × (p < 16 * s + 16)) (pages_of last)
+pages_inside : (s : ℕ) (last : List Step) → AllByRecursion (IsProgramIn s) last
+    → AllByRecursion (λ p. (16 * s ≤ p) × (p < 16 * s + 16)) (pages_of last)
 pages_inside s [] all = tt
 pages_inside s (Erase t ∷ last) all = absurd all.0
 pages_inside s (Program p d ∷ last) all = ((omega arith, omega arith), pages_inside s last all.1)
 pages_inside s (Raise r b ∷ last) all = absurd all.0
 
-length-pages_of : (s : ℕ) (last : List Step) → AllByRecursion (IsProgramIn s) last → length (pages_of last) ≡ length last
+length-pages_of : (s : ℕ) (last : List Step) → AllByRecursion (IsProgramIn s) last
+    → length (pages_of last) ≡ length last
 length-pages_of s [] all = refl
 length-pages_of s (Erase t ∷ last) all = absurd all.0
 length-pages_of s (Program p d ∷ last) all = ap suc (length-pages_of s last all.1)
 length-pages_of s (Raise r b ∷ last) all = absurd all.0
 
-in_sector : (s : ℕ) (ps : List ℕ) (q : ℕ) → AllByRecursion (λ p. (16 * s ≤ p) × (p < 16 * s + 16)) ps → is_member nat_eq ps q ≡ true
+in_sector : (s : ℕ) (ps : List ℕ) (q : ℕ) → AllByRecursion (λ p. (16 * s ≤ p) × (p < 16 * s + 16)) ps
+    → is_member nat_eq ps q ≡ true
     → is_member nat_eq (range_with_len (16 * s) 16) q ≡ true
 in_sector s ps q all member =
     let held = (is_member-Decides Decides-eqb ps q).0 member in
     let bounds = All-from_recursion (λ p. (16 * s ≤ p) × (p < 16 * s + 16)) ps all held.0 q held.1 in
     let low : 16 * s ≤ q = omega (arith, bounds.0, held.2) in
     let high : q < 16 * s + 16 = omega (arith, bounds.1, held.2) in
-    (is_member-Decides Decides-eqb (range_with_len (16 * s) 16) q).1
-    (q - 16 * s, omega (arith, low, high, length-range_with_len (16 * s) 16), get_or-range_with_len (16 * s) 16 (q - 16 * s) q (omega (arith, low, high)) ∙ omega (arith, low))
+    (is_member-Decides Decides-eqb (range_with_len (16 * s) 16) q).1 (
+      q - 16 * s,
+      omega (arith, low, high, length-range_with_len (16 * s) 16),
+      get_or-range_with_len (16 * s) 16
+          (q - 16 * s) q (omega (arith, low, high)) ∙ omega (arith, low),
+    )
 
 -- a gated list ends with at most sixteen programs
-pub sixteen : (steps : List Step) (w : Window) (s : ℕ) (elsewhere last : List Step) → IsGated steps w s elsewhere last → length last ≤ 16
+pub sixteen : (steps : List Step) (w : Window) (s : ℕ) (elsewhere last : List Step) → IsGated steps w s elsewhere last
+    → length last ≤ 16
 sixteen steps w s elsewhere last gated =
     omega (
       arith,
       length-pages_of s last gated.final,
       length-range_with_len (16 * s) 16,
-      length-le_from_is_member nat_eq_equiv (pages_of last) (range_with_len (16 * s) 16) gated.distinct (λ q member. in_sector s (pages_of last) q (pages_inside s last gated.final) member),
+      length-le_from_is_member nat_eq_equiv (pages_of last) (range_with_len (16 * s) 16) gated.distinct
+          (λ q member. in_sector s (pages_of last) q (pages_inside s last gated.final) member),
     )

@@ -16,17 +16,22 @@ not_unfinished c steps w s d first blank unfinished =
     unfinished.touched.2 (ap (λ (n : ℕ). slice_index d.flash (n + i)) (sym first) ∙ blank i unfinished.touched.1)
 
 -- a cut in one of the first steps, which stand elsewhere, keeps the sector blank
-blank_cut : (c : Content) (s : ℕ) (xs ys : List Step) (j : ℕ) (step : Step) (d : Content) → AllByRecursion (IsElsewhere s) xs
-    → j < length xs → IsBlank s c → slice_get (xs ++ ys) j ≡ Some step → Torn (after_all c (take j (xs ++ ys))) step d → IsBlank s d
+blank_cut : (c : Content) (s : ℕ) (xs ys : List Step) (j : ℕ) (step : Step) (d : Content)
+    → AllByRecursion (IsElsewhere s) xs
+    → j < length xs → IsBlank s c → slice_get (xs ++ ys) j ≡ Some step → Torn (after_all c (take j (xs ++ ys))) step d
+    → IsBlank s d
 blank_cut c s [] ys j step d all lt blank stands torn = absurd (omega arith)
 blank_cut c s (x ∷ xs) ys zero step d all lt blank stands torn =
     let same : x ≡ step = cc in
     IsBlank-kept s c d blank (elsewhere-torn c s step d (subst (IsElsewhere s) same all.0) torn)
 blank_cut c s (x ∷ xs) ys (suc j) step d all lt blank stands torn =
-    blank_cut (after c x) s xs ys j step d all.1 (omega arith) (IsBlank-kept s c (after c x) blank (elsewhere-after c s x all.0)) stands torn
+    blank_cut (after c x) s xs ys j step d all.1 (omega arith)
+    (IsBlank-kept s c (after c x) blank (elsewhere-after c s x all.0)) stands torn
 
-pub cut_elsewhere : (c : Content) (steps : List Step) (w : Window) (s : ℕ) (elsewhere last : List Step) (k : ℕ) (step : Step) (d : Content)
-    → IsGated steps w s elsewhere last → w.start + w.len ≤ length c.flash → 1 ≤ k → k ≤ length elsewhere → IsCutAt c steps k step d
+pub cut_elsewhere : (c : Content) (steps : List Step) (w : Window) (s : ℕ) (elsewhere last : List Step) (k : ℕ)
+    (step : Step) (d : Content)
+    → IsGated steps w s elsewhere last → w.start + w.len ≤ length c.flash → 1 ≤ k → k ≤ length elsewhere
+    → IsCutAt c steps k step d
     → Unfinished c steps w d → ⊥
 cut_elsewhere c steps w s elsewhere last zero step d gated inside some few at = absurd (omega arith)
 cut_elsewhere c steps w s elsewhere last (suc j) step d gated inside some few at =
@@ -40,7 +45,9 @@ front_of : (steps elsewhere last : List Step) (s : ℕ) → steps ≡ Erase s �
     → take (suc (length elsewhere)) steps ≡ Erase s ∷ elsewhere
 front_of steps elsewhere last s whole =
     ap (λ (xs : List Step). take (suc (length elsewhere)) xs) whole
-    ∙ ap (λ (xs : List Step). Erase s ∷ xs) (take-append-le (length elsewhere) elsewhere last (omega arith) ∙ take_all (length elsewhere) elsewhere (omega arith))
+    ∙ ap (λ (xs : List Step). Erase s ∷ xs)
+    (take-append-le (length elsewhere) elsewhere last (omega arith)
+    ∙ take_all (length elsewhere) elsewhere (omega arith))
 
 pub cut_before_final : (c : Content) (steps : List Step) (w : Window) (s : ℕ) (elsewhere last : List Step)
     → IsGated steps w s elsewhere last → w.start + w.len ≤ length c.flash

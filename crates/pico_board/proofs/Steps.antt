@@ -1,6 +1,7 @@
--- The composition of lists of steps: a list that a board does whole and then another is their concatenation, and a list that power is
--- lost in is lost whatever was to follow. A caller cites `DoesAll-none` where nothing is left to do, `DoesAll-step` and `DoesAll-cut` for
--- one step, and `DoesAll-append` and `DoesAll-append_cut` for a call that does a list.
+-- The composition of lists of steps: a list that a board does whole and then another is their concatenation, and a list
+-- that power is lost in is lost whatever was to follow. A caller cites `DoesAll-none` where nothing is left to do,
+-- `DoesAll-step` and `DoesAll-cut` for one step, and `DoesAll-append` and `DoesAll-append_cut` for a call that does a
+-- list.
 use Rattle.std.proofs.Common.{◌≡◌, ◌⊎◌, ℕ, ◌≤◌, Bool, true, false, cond, Option, None, Some, List, [], ◌∷◌, ◌++◌, length, refl, sym, ◌∙◌, ap, subst, inl, inr, arith}
 use Rattle.std.specs.Bool.{OnTrue, OnFalse}
 use Rattle.std.proofs.lemmas.List.{append_assoc, append-nil}
@@ -30,19 +31,22 @@ CutOf-append_left c (x ∷ xs) ys d (inl torn) = inl torn
 CutOf-append_left c (x ∷ xs) ys d (inr later) = inr (CutOf-append_left (after c x) xs ys d later)
 
 -- a cut in the second list comes after the first
-pub CutOf-append_right : (c : Content) (xs ys : List Step) (d : Content) → CutOf (after_all c xs) ys d → CutOf c (xs ++ ys) d
+pub CutOf-append_right : (c : Content) (xs ys : List Step) (d : Content) → CutOf (after_all c xs) ys d
+    → CutOf c (xs ++ ys) d
 CutOf-append_right c [] ys d cut = cut
 CutOf-append_right c (x ∷ xs) ys d cut = inr (CutOf-append_right (after c x) xs ys d cut)
 
 -- a cut of two lists falls in the first or in the second
-pub CutOf-append_cases : (c : Content) (xs ys : List Step) (d : Content) → CutOf c (xs ++ ys) d → CutOf c xs d ⊎ CutOf (after_all c xs) ys d
+pub CutOf-append_cases : (c : Content) (xs ys : List Step) (d : Content) → CutOf c (xs ++ ys) d
+    → CutOf c xs d ⊎ CutOf (after_all c xs) ys d
 CutOf-append_cases c [] ys d cut = inr cut
 CutOf-append_cases c (x ∷ xs) ys d (inl torn) = inl (inl torn)
 CutOf-append_cases c (x ∷ xs) ys d (inr later) =
     elim (CutOf-append_cases (after c x) xs ys d later) [ inl first ↦ inl (inr first) | inr second ↦ inr second ]
 
 -- a told cut goes on with the rest, or stops
-pub told_next-true : (o : Told) (rest : Option Cut → Content → Told) → o.answer ≡ true → told_next o rest ≡ rest o.armed o.content
+pub told_next-true : (o : Told) (rest : Option Cut → Content → Told) → o.answer ≡ true
+    → told_next o rest ≡ rest o.armed o.content
 told_next-true o rest e = ap (λ b. cond b (rest o.armed o.content) o) e
 
 pub told_next-false : (o : Told) (rest : Option Cut → Content → Told) → o.answer ≡ false → told_next o rest ≡ o
@@ -56,10 +60,12 @@ told_next_assoc false o f g h e same =
     told_next-false o h e ∙ sym (ap (λ (p : Told). told_next p g) (told_next-false o f e) ∙ told_next-false o g e)
 
 -- what a told cut says of a list of steps and then others
-pub told_all-append : (xs ys : List Step) (cut : Option Cut) (c : Content) → told_all (xs ++ ys) cut c ≡ told_next (told_all xs cut c) (told_all ys)
+pub told_all-append : (xs ys : List Step) (cut : Option Cut) (c : Content)
+    → told_all (xs ++ ys) cut c ≡ told_next (told_all xs cut c) (told_all ys)
 told_all-append [] ys cut c = refl
 told_all-append (x ∷ xs) ys cut c =
-    told_next_assoc (told cut c x).answer (told cut c x) (told_all xs) (told_all ys) (told_all (xs ++ ys)) refl (told_all-append xs ys)
+    told_next_assoc (told cut c x).answer (told cut c x) (told_all xs) (told_all ys) (told_all (xs ++ ys)) refl
+    (told_all-append xs ys)
 
 told_none : (a : Option (Option Cut)) (t : State) → t.armed ≡ a → IsToldAll a t.content [] true t
 told_none None t e = e
@@ -68,14 +74,18 @@ told_none (Some cut) t e = record { answer = refl; content = refl; armed = e }
 IsAs-same : (o p : Told) (ok : Bool) (t : State) → p ≡ o → IsAs o ok t → IsAs p ok t
 IsAs-same o p ok t e is = subst (λ q. IsAs q ok t) (sym e) is
 
-told_then : (a : Option (Option Cut)) (c : Content) (step : Step) (steps : List Step) (m : State) (ok : Bool) (t : State)
+told_then : (a : Option (Option Cut)) (c : Content) (step : Step) (steps : List Step) (m : State) (ok : Bool)
+    (t : State)
     → IsTold a c step true m → IsToldAll m.armed m.content steps ok t → IsToldAll a c (step ∷ steps) ok t
 told_then None c step steps m ok t one rest = subst (λ a. IsToldAll a m.content steps ok t) one rest
 told_then (Some cut) c step steps m ok t one rest =
     let o = told cut c step in
-    let armed : IsToldAll (Some o.armed) m.content steps ok t = subst (λ a. IsToldAll a m.content steps ok t) one.armed rest in
-    let moved : IsAs (told_all steps o.armed o.content) ok t = subst (λ d. IsAs (told_all steps o.armed d) ok t) one.content armed in
-    IsAs-same (told_all steps o.armed o.content) (told_next o (told_all steps)) ok t (told_next-true o (told_all steps) one.answer) moved
+    let armed : IsToldAll (Some o.armed) m.content steps ok t =
+    subst (λ a. IsToldAll a m.content steps ok t) one.armed rest in
+    let moved : IsAs (told_all steps o.armed o.content) ok t =
+    subst (λ d. IsAs (told_all steps o.armed d) ok t) one.content armed in
+    IsAs-same (told_all steps o.armed o.content) (told_next o (told_all steps)) ok t
+    (told_next-true o (told_all steps) one.answer) moved
 
 told_lost : (a : Option (Option Cut)) (c : Content) (step : Step) (steps : List Step) (t : State)
     → IsTold a c step false t → IsToldAll a c (step ∷ steps) false t
@@ -89,16 +99,20 @@ told_both : (a : Option (Option Cut)) (c : Content) (xs ys : List Step) (m : Sta
 told_both None c xs ys m ok t first second = subst (λ a. IsToldAll a m.content ys ok t) first second
 told_both (Some cut) c xs ys m ok t first second =
     let o = told_all xs cut c in
-    let armed : IsToldAll (Some o.armed) m.content ys ok t = subst (λ a. IsToldAll a m.content ys ok t) first.armed second in
-    let moved : IsAs (told_all ys o.armed o.content) ok t = subst (λ d. IsAs (told_all ys o.armed d) ok t) first.content armed in
-    IsAs-same (told_all ys o.armed o.content) (told_all (xs ++ ys) cut c) ok t (told_all-append xs ys cut c ∙ told_next-true o (told_all ys) first.answer) moved
+    let armed : IsToldAll (Some o.armed) m.content ys ok t =
+    subst (λ a. IsToldAll a m.content ys ok t) first.armed second in
+    let moved : IsAs (told_all ys o.armed o.content) ok t =
+    subst (λ d. IsAs (told_all ys o.armed d) ok t) first.content armed in
+    IsAs-same (told_all ys o.armed o.content) (told_all (xs ++ ys) cut c) ok t
+    (told_all-append xs ys cut c ∙ told_next-true o (told_all ys) first.answer) moved
 
 told_both_lost : (a : Option (Option Cut)) (c : Content) (xs ys : List Step) (t : State)
     → IsToldAll a c xs false t → IsToldAll a c (xs ++ ys) false t
 told_both_lost None c xs ys t first = first
 told_both_lost (Some cut) c xs ys t first =
     let o = told_all xs cut c in
-    IsAs-same o (told_all (xs ++ ys) cut c) false t (told_all-append xs ys cut c ∙ told_next-false o (told_all ys) first.answer) first
+    IsAs-same o (told_all (xs ++ ys) cut c) false t
+    (told_all-append xs ys cut c ∙ told_next-false o (told_all ys) first.answer) first
 
 -- a count that rose before another rise, or after it, rose in both
 pub Rose-later : (a b c : ℕ) → a ≤ b → Rose b c → Rose a c
@@ -123,20 +137,25 @@ module _ {B : Type 0} {state : B → State} {history : B → List Step → Type 
 
   -- a step that completes, and then the others
   pub DoesAll-step : {old mid new : B} {step : Step} {steps : List Step} {ok : Bool}
-      → Does state history old step true mid → DoesAll state history mid steps ok new → DoesAll state history old (step ∷ steps) ok new
+      → Does state history old step true mid → DoesAll state history mid steps ok new
+      → DoesAll state history old (step ∷ steps) ok new
   DoesAll-step {old} {mid} {new} {step} {steps} {ok} one rest = record {
     done = subst (λ c. OnTrue ok ((state new).content ≡ after_all c steps)) one.done rest.done;
-    torn = OnFalse-map ok (λ cut. inr cut) (subst (λ c. OnFalse ok (CutOf c steps (state new).content)) one.done rest.torn);
+    torn = OnFalse-map ok (λ cut. inr cut)
+        (subst (λ c. OnFalse ok (CutOf c steps (state new).content)) one.done rest.torn);
     size = rest.size ∙ one.size;
     power = rest.power;
     later = omega (arith, one.later, rest.later);
-    rose = OnFalse-map ok (λ rose. Rose-later (state old).cuts (state mid).cuts (state new).cuts one.later rose) rest.rose;
+    rose = OnFalse-map ok (λ rose. Rose-later (state old).cuts (state mid).cuts (state new).cuts one.later rose)
+        rest.rose;
     told = told_then (state old).armed (state old).content step steps (state mid) ok (state new) one.told rest.told;
-    recorded = OnTrue-map ok (λ goes_on h held. subst (history new) (append_assoc h (step ∷ []) steps) (goes_on (h ++ step ∷ []) (one.recorded h held))) rest.recorded;
+    recorded = OnTrue-map ok (λ goes_on h held. subst (history new) (append_assoc h (step ∷ []) steps)
+        (goes_on (h ++ step ∷ []) (one.recorded h held))) rest.recorded;
   }
 
   -- power is lost in the first step, whatever was to follow
-  pub DoesAll-cut : {old new : B} {step : Step} (steps : List Step) → Does state history old step false new → DoesAll state history old (step ∷ steps) false new
+  pub DoesAll-cut : {old new : B} {step : Step} (steps : List Step) → Does state history old step false new
+      → DoesAll state history old (step ∷ steps) false new
   DoesAll-cut {old} {new} {step} steps one = record {
     done = tt;
     torn = inl one.torn;
@@ -149,13 +168,15 @@ module _ {B : Type 0} {state : B → State} {history : B → List Step → Type 
   }
 
   -- one step, done or lost, is a list of one
-  pub DoesAll-one : {old new : B} {step : Step} (ok : Bool) → Does state history old step ok new → DoesAll state history old (step ∷ []) ok new
+  pub DoesAll-one : {old new : B} {step : Step} (ok : Bool) → Does state history old step ok new
+      → DoesAll state history old (step ∷ []) ok new
   DoesAll-one true one = DoesAll-step one (DoesAll-none _ one.power)
   DoesAll-one false one = DoesAll-cut [] one
 
   -- a list that is done, and then another
   pub DoesAll-append : {old mid new : B} {xs ys : List Step} {ok : Bool}
-      → DoesAll state history old xs true mid → DoesAll state history mid ys ok new → DoesAll state history old (xs ++ ys) ok new
+      → DoesAll state history old xs true mid → DoesAll state history mid ys ok new
+      → DoesAll state history old (xs ++ ys) ok new
   DoesAll-append {old} {mid} {new} {xs} {ys} {ok} first second = record {
     done = subst (λ c. OnTrue ok ((state new).content ≡ c)) (sym (after_all-append (state old).content xs ys))
         (subst (λ c. OnTrue ok ((state new).content ≡ after_all c ys)) first.done second.done);
@@ -164,13 +185,16 @@ module _ {B : Type 0} {state : B → State} {history : B → List Step → Type 
     size = second.size ∙ first.size;
     power = second.power;
     later = omega (arith, first.later, second.later);
-    rose = OnFalse-map ok (λ rose. Rose-later (state old).cuts (state mid).cuts (state new).cuts first.later rose) second.rose;
+    rose = OnFalse-map ok (λ rose. Rose-later (state old).cuts (state mid).cuts (state new).cuts first.later rose)
+        second.rose;
     told = told_both (state old).armed (state old).content xs ys (state mid) ok (state new) first.told second.told;
-    recorded = OnTrue-map ok (λ goes_on h held. subst (history new) (append_assoc h xs ys) (goes_on (h ++ xs) (first.recorded h held))) second.recorded;
+    recorded = OnTrue-map ok (λ goes_on h held. subst (history new) (append_assoc h xs ys)
+        (goes_on (h ++ xs) (first.recorded h held))) second.recorded;
   }
 
   -- power is lost in the first list, whatever was to follow
-  pub DoesAll-append_cut : {old new : B} {xs : List Step} (ys : List Step) → DoesAll state history old xs false new → DoesAll state history old (xs ++ ys) false new
+  pub DoesAll-append_cut : {old new : B} {xs : List Step} (ys : List Step) → DoesAll state history old xs false new
+      → DoesAll state history old (xs ++ ys) false new
   DoesAll-append_cut {old} {new} {xs} ys first = record {
     done = tt;
     torn = CutOf-append_left (state old).content xs ys (state new).content first.torn;
@@ -183,7 +207,8 @@ module _ {B : Type 0} {state : B → State} {history : B → List Step → Type 
   }
 
   -- the content that is left is one that the steps may leave
-  pub MayLeave-from : {old new : B} {steps : List Step} (ok : Bool) → DoesAll state history old steps ok new → MayLeave (state old).content steps (state new).content
+  pub MayLeave-from : {old new : B} {steps : List Step} (ok : Bool) → DoesAll state history old steps ok new
+      → MayLeave (state old).content steps (state new).content
   MayLeave-from true does = inl does.done
   MayLeave-from false does = inr does.torn
 
@@ -193,7 +218,8 @@ module _ {B : Type 0} {state : B → State} {history : B → List Step → Type 
   DoesAll-empty false does = absurd does.torn
 
   -- a board that is powered again, and then does a list
-  pub DoesAll-powered : {old mid new : B} {steps : List Step} {ok : Bool} → Becomes state history old (with_power (state old)) mid
+  pub DoesAll-powered : {old mid new : B} {steps : List Step} {ok : Bool}
+      → Becomes state history old (with_power (state old)) mid
       → DoesAll state history mid steps ok new → DoesAll state history old steps ok new
   DoesAll-powered {old} {mid} {new} {steps} {ok} on does =
       let content : (state mid).content ≡ (state old).content = ap (λ (s : State). s.content) on.same in
@@ -206,6 +232,7 @@ module _ {B : Type 0} {state : B → State} {history : B → List Step → Type 
         power = does.power;
         later = omega (arith, cuts, does.later);
         rose = subst (λ (n : ℕ). OnFalse ok (Rose n (state new).cuts)) cuts does.rose;
-        told = subst (λ a. IsToldAll a (state old).content steps ok (state new)) armed (subst (λ c. IsToldAll (state mid).armed c steps ok (state new)) content does.told);
+        told = subst (λ a. IsToldAll a (state old).content steps ok (state new)) armed
+            (subst (λ c. IsToldAll (state mid).armed c steps ok (state new)) content does.told);
         recorded = OnTrue-map ok (λ goes_on h held. goes_on h (on.recorded h held)) does.recorded;
       }

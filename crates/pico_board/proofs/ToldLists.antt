@@ -7,51 +7,89 @@ use Rattle.pico_board.specs.Cuts.{Cut, Told, cut_by, told, told_all, told_next}
 use Rattle.pico_board.specs.Board.{State, IsAs, IsToldAll, DoesAll}
 
 -- with no cut armed every step completes
-pub told_all-none : (steps : List Step) (c : Content) → told_all steps None c ≡ record { answer = true; content = after_all c steps; armed = None }
+pub told_all-none : (steps : List Step) (c : Content)
+    → told_all steps None c ≡ record { answer = true; content = after_all c steps; armed = None }
 told_all-none [] c = refl
 told_all-none (step ∷ steps) c = told_all-none steps (after c step)
 
 -- a cut with steps left
 told-later : (left : ℕ) (within : Bool) (pattern : List ℕ) (c : Content) (step : Step) → 0 < left
     → told (Some (record { left = left; within = within; pattern = pattern })) c step
-    ≡ record { answer = true; content = after c step; armed = Some (record { left = left - 1; within = within; pattern = pattern }) }
+    ≡ record {
+      answer = true;
+      content = after c step;
+      armed = Some (record { left = left - 1; within = within; pattern = pattern });
+    }
 told-later left within pattern c step lt =
     let test : (left == 0) ≡ false = grind (arith, nat_tests) in
     ap (λ (b : Bool). cond b (told_lost) (told_done)) test
   where
     told_lost : Told
-    told_lost = record { answer = false; content = cut_by (record { left = left; within = within; pattern = pattern }) c step; armed = None }
+    told_lost = record {
+      answer = false;
+      content = cut_by (record { left = left; within = within; pattern = pattern }) c step;
+      armed = None;
+    }
 
     told_done : Told
-    told_done = record { answer = true; content = after c step; armed = Some (record { left = left - 1; within = within; pattern = pattern }) }
+    told_done = record {
+      answer = true;
+      content = after c step;
+      armed = Some (record { left = left - 1; within = within; pattern = pattern });
+    }
 
 -- a cut with more steps left than there are comes no nearer than by their number
-pub told_all-whole : (steps : List Step) (left : ℕ) (within : Bool) (pattern : List ℕ) (c : Content) → length steps ≤ left
+pub told_all-whole : (steps : List Step) (left : ℕ) (within : Bool) (pattern : List ℕ) (c : Content)
+    → length steps ≤ left
     → told_all steps (Some (record { left = left; within = within; pattern = pattern })) c
-    ≡ record { answer = true; content = after_all c steps; armed = Some (record { left = left - length steps; within = within; pattern = pattern }) }
+    ≡ record {
+      answer = true;
+      content = after_all c steps;
+      armed = Some (record { left = left - length steps; within = within; pattern = pattern });
+    }
 told_all-whole [] left within pattern c le =
     ap (λ (n : ℕ). told_from n) (omega arith)
   where
     told_from : ℕ → Told
-    told_from n = record { answer = true; content = c; armed = Some (record { left = n; within = within; pattern = pattern }) }
+    told_from n = record {
+      answer = true;
+      content = c;
+      armed = Some (record { left = n; within = within; pattern = pattern });
+    }
 told_all-whole (step ∷ steps) left within pattern c le =
     ap (λ (o : Told). told_next o (told_all steps)) (told-later left within pattern c step (omega arith))
-    ∙ (told_all-whole steps (left - 1) within pattern (after c step) (omega arith) ∙ ap (λ (n : ℕ). told_from n) (omega arith))
+    ∙ (told_all-whole steps (left - 1) within pattern (after c step) (omega arith)
+    ∙ ap (λ (n : ℕ). told_from n) (omega arith))
   where
     told_from : ℕ → Told
-    told_from n = record { answer = true; content = after_all c (step ∷ steps); armed = Some (record { left = n; within = within; pattern = pattern }) }
+    told_from n = record {
+      answer = true;
+      content = after_all c (step ∷ steps);
+      armed = Some (record { left = n; within = within; pattern = pattern });
+    }
 
 -- a cut whose number of steps left is that of a step falls in that step
-pub told_all-cut : (steps : List Step) (left : ℕ) (within : Bool) (pattern : List ℕ) (c : Content) (step : Step) → slice_get steps left ≡ Some step
+pub told_all-cut : (steps : List Step) (left : ℕ) (within : Bool) (pattern : List ℕ) (c : Content) (step : Step)
+    → slice_get steps left ≡ Some step
     → told_all steps (Some (record { left = left; within = within; pattern = pattern })) c
-    ≡ record { answer = false; content = cut_by (record { left = left; within = within; pattern = pattern }) (after_all c (take left steps)) step; armed = None }
+    ≡ record {
+      answer = false;
+      content =
+          cut_by (record { left = left; within = within; pattern = pattern })
+          (after_all c (take left steps)) step;
+      armed = None;
+    }
 told_all-cut [] left within pattern c step stands = cc
 told_all-cut (x ∷ steps) zero within pattern c step stands =
     let same : x ≡ step = cc in
     ap (λ (y : Step). told_at y) same
   where
     told_at : Step → Told
-    told_at y = record { answer = false; content = cut_by (record { left = 0; within = within; pattern = pattern }) c y; armed = None }
+    told_at y = record {
+      answer = false;
+      content = cut_by (record { left = 0; within = within; pattern = pattern }) c y;
+      armed = None;
+    }
 told_all-cut (x ∷ steps) (suc left) within pattern c step stands =
     let e : suc left - 1 ≡ left = omega arith in
     ap (λ (o : Told). told_next o (told_all steps)) (told-later (suc left) within pattern c x (omega arith))
@@ -60,7 +98,8 @@ told_all-cut (x ∷ steps) (suc left) within pattern c step stands =
 
 module _ {B : Type 0} {state : B → State} {history : B → List Step → Type 0} where
   -- a board that tells that no cut is armed completes every step, and none is armed afterwards
-  pub DoesAll-unarmed : {old new : B} {steps : List Step} {ok : Bool} → (state old).armed ≡ Some None → DoesAll state history old steps ok new
+  pub DoesAll-unarmed : {old new : B} {steps : List Step} {ok : Bool} → (state old).armed ≡ Some None
+      → DoesAll state history old steps ok new
       → (ok ≡ true) × ((state new).armed ≡ Some None)
   DoesAll-unarmed {old} {new} {steps} {ok} unarmed does =
       let told : IsAs (told_all steps None (state old).content) ok (state new) =

@@ -40,15 +40,27 @@ between_and o d p k = elim (cases_eq (bit_at p k) 0) [
 between_or : (v b m : ℕ) → IsBetween v (bit_or v b) (bit_or v (bit_and b m))
 between_or v b m k = elim (cases_eq (bit_at m k) 0) [
   | inl zero ↦ inl (omega (arith, zero, bit_at_or v (bit_and b m) k, bit_at_and b m k))
-  | inr one ↦ inr (omega (arith, one, bit_at-lt b k, bit_at-lt m k, bit_at_or v b k, bit_at_or v (bit_and b m) k, bit_at_and b m k))
+  | inr one ↦ inr (omega (
+    arith,
+    one,
+    bit_at-lt b k,
+    bit_at-lt m k,
+    bit_at_or v b k,
+    bit_at_or v
+        (bit_and b m) k,
+    bit_at_and b m k,
+  ))
 ]
 
 -- a cut within a step
-Torn-torn_by : (pattern : List ℕ) (c : Content) (step : Step) → All (λ b. b < 256) pattern → length c.otp ≡ 4096 → IsStepIn (length c.flash) step
+pub Torn-torn_by : (pattern : List ℕ) (c : Content) (step : Step) → All (λ b. b < 256) pattern → length c.otp ≡ 4096
+    → IsStepIn (length c.flash) step
     → Torn c step (torn_by pattern c step)
 Torn-torn_by pattern c (Erase s) small rows inside = record {
   outside = changed-same (λ i b. pattern_at pattern i) (4096 * s) 4096 c.flash;
-  bytes = λ i lt. subst (λ (b : ℕ). b < 256) (sym (changed-at (λ i b. pattern_at pattern i) (4096 * s) 4096 c.flash i lt (omega (arith, lt, inside)))) (pattern_at-lt pattern small i);
+  bytes = λ i lt. subst (λ (b : ℕ). b < 256)
+      (sym (changed-at (λ i b. pattern_at pattern i) (4096 * s) 4096 c.flash i lt (omega (arith, lt, inside))))
+      (pattern_at-lt pattern small i);
   rows = refl;
 }
 Torn-torn_by pattern c (Program p d) small rows inside = record {
@@ -56,20 +68,27 @@ Torn-torn_by pattern c (Program p d) small rows inside = record {
   between = λ i lt.
       let within : 256 * p + i < length c.flash = omega (arith, lt, inside) in
       let done = changed-at (λ i b. bit_and b (slice_index d i)) (256 * p) 256 c.flash i lt within in
-      let torn = changed-at (λ i b. bit_and b (bit_or (slice_index d i) (pattern_at pattern i))) (256 * p) 256 c.flash i lt within in
+      let torn = changed-at (λ i b. bit_and b (bit_or (slice_index d i) (pattern_at pattern i)))
+      (256 * p) 256 c.flash i lt within in
       let o = slice_index c.flash (256 * p + i) in
-      subst (λ (a : ℕ). IsBetween o a (get_or (changed (λ i b. bit_and b (bit_or (slice_index d i) (pattern_at pattern i))) (256 * p) 256 c.flash) (256 * p + i) 0)) (sym done)
-      (subst (λ (x : ℕ). IsBetween o (bit_and o (slice_index d i)) x) (sym torn) (between_and o (slice_index d i) (pattern_at pattern i)));
+      subst (λ (a : ℕ). IsBetween o a
+      (get_or (changed (λ i b. bit_and b (bit_or (slice_index d i) (pattern_at pattern i))) (256 * p) 256 c.flash)
+      (256 * p + i) 0)) (sym done)
+      (subst (λ (x : ℕ). IsBetween o (bit_and o (slice_index d i)) x) (sym torn)
+      (between_and o (slice_index d i) (pattern_at pattern i)));
   rows = refl;
 }
 Torn-torn_by pattern c (Raise r b) small rows inside = record {
-  outside = SameOutside-set c.otp r (bit_or (slice_index c.otp r) (bit_and b (bit_xor (pattern_row pattern) 0xff_ffff)));
+  outside = SameOutside-set c.otp r
+      (bit_or (slice_index c.otp r) (bit_and b (bit_xor (pattern_row pattern) 0xff_ffff)));
   between =
       let within : r < length c.otp = omega (arith, inside.0, rows) in
       let v = slice_index c.otp r in
       let m = bit_xor (pattern_row pattern) 0xff_ffff in
-      subst (λ (a : ℕ). IsBetween v a (get_or (slice_set c.otp r (bit_or v (bit_and b m))) r 0)) (sym (get_or-set_same c.otp r (bit_or v b) 0 within))
-      (subst (λ (x : ℕ). IsBetween v (bit_or v b) x) (sym (get_or-set_same c.otp r (bit_or v (bit_and b m)) 0 within)) (between_or v b m));
+      subst (λ (a : ℕ). IsBetween v a (get_or (slice_set c.otp r (bit_or v (bit_and b m))) r 0))
+      (sym (get_or-set_same c.otp r (bit_or v b) 0 within))
+      (subst (λ (x : ℕ). IsBetween v (bit_or v b) x) (sym (get_or-set_same c.otp r (bit_or v (bit_and b m)) 0 within))
+      (between_or v b m));
   bytes = refl;
 }
 
@@ -82,7 +101,8 @@ Torn-before c (Erase s) is = record {
 }
 Torn-before c (Program p d) is = record {
   outside = SameOutside-refl (256 * p) 256 c.flash;
-  between = λ i lt. IsBetween-first (slice_index c.flash (256 * p + i)) (slice_index (after c (Program p d)).flash (256 * p + i));
+  between = λ i lt. IsBetween-first (slice_index c.flash (256 * p + i))
+      (slice_index (after c (Program p d)).flash (256 * p + i));
   rows = refl;
 }
 Torn-before c (Raise r b) is = record {
@@ -92,7 +112,8 @@ Torn-before c (Raise r b) is = record {
 }
 
 -- what a told cut leaves is torn
-pub Torn-cut_by : (cut : Cut) (c : Content) (step : Step) → All (λ b. b < 256) cut.pattern → IsContent c → IsStepIn (length c.flash) step
+pub Torn-cut_by : (cut : Cut) (c : Content) (step : Step) → All (λ b. b < 256) cut.pattern → IsContent c
+    → IsStepIn (length c.flash) step
     → Torn c step (cut_by cut c step)
 Torn-cut_by cut c step small is inside = choose cut.within
   where

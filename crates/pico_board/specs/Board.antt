@@ -7,15 +7,16 @@ use Rattle.pico_board.specs.Steps.{Step, after, after_all, Torn, CutOf}
 use Rattle.pico_board.specs.Cuts.{Cut, Told, told, told_all}
 use Rattle.pico_board.specs.Histories.{Extends}
 
--- what is known of a board: its content, whether it is powered, how often power was lost, and its armed cut, where the outer
--- option is None for a board that does not tell it and the inner one is None where no cut is armed
+-- what is known of a board: its content, whether it is powered, how often power was lost, and its
+-- armed cut, where the outer option is None for a board that does not tell it and the inner one is
+-- None where no cut is armed
 pub record State : Type 0 where
   pub content : Content
   pub powered : Bool
   pub cuts : ℕ
   pub armed : Option (Option Cut)
 
--- a count rose, or stands at the last value of its 64 bits
+-- a count is greater than before, or stands at 2^64 - 1: a count of 64 bits saturates there
 abbrev pub Rose : ℕ → ℕ → Type 0
 Rose before now = min (before + 1) (2 ^ 64 - 1) ≤ now
 
@@ -25,7 +26,8 @@ pub record IsAs (o : Told) (ok : Bool) (t : State) : Type 0 where
   pub content : t.content ≡ o.content
   pub armed : t.armed ≡ Some o.armed
 
--- a board that tells its armed cut does with the step what the cut says, and goes on telling; one that does not goes on so
+-- a board that tells its armed cut does with the step what the cut says, and tells the cut that is
+-- armed afterwards; a board that does not tell its cut does not tell it afterwards either
 abbrev pub IsTold : Option (Option Cut) → Content → Step → Bool → State → Type 0
 IsTold None c step ok t = t.armed ≡ None
 IsTold (Some cut) c step ok t = IsAs (told cut c step) ok t
@@ -35,10 +37,12 @@ abbrev pub IsToldAll : Option (Option Cut) → Content → List Step → Bool �
 IsToldAll None c steps ok t = t.armed ≡ None
 IsToldAll (Some cut) c steps ok t = IsAs (told_all steps cut c) ok t
 
--- The old board does the step and is then the new one: where the answer is Ok, the step completed, the board is powered, and each
--- list that the board had done goes on with the step; otherwise power was lost in it, the count of cuts rose or stands at its last
--- value, and the board is not powered. The flash keeps its length, the count of cuts never falls, and a told cut decides.
-pub record Does {B : Type 0} (state : B → State) (history : B → List Step → Type 0) (old : B) (step : Step) (ok : Bool) (new : B) : Type 0 where
+-- The old board does the step and is then the new one. Where the answer is Ok, the step completed,
+-- the board is powered, and the step is appended to the history. Otherwise power was lost in the
+-- step, the board is not powered, and the count of cuts rose (it saturates). The flash keeps its
+-- length, the count of cuts never falls, and where the board tells its armed cut, that cut decides.
+pub record Does {B : Type 0} (state : B → State) (history : B → List Step → Type 0) (old : B)
+    (step : Step) (ok : Bool) (new : B) : Type 0 where
   pub done : OnTrue ok ((state new).content ≡ after (state old).content step)
   pub torn : OnFalse ok (Torn (state old).content step (state new).content)
   pub size : length (state new).content.flash ≡ length (state old).content.flash
@@ -48,9 +52,11 @@ pub record Does {B : Type 0} (state : B → State) (history : B → List Step �
   pub told : IsTold (state old).armed (state old).content step ok (state new)
   pub recorded : OnTrue ok (Extends history old (step ∷ []) new)
 
--- The old board does the steps, in their order, and is then the new one: where the answer is Ok, all of them completed; otherwise
--- power was lost in one of them. The rest is as for one step.
-pub record DoesAll {B : Type 0} (state : B → State) (history : B → List Step → Type 0) (old : B) (steps : List Step) (ok : Bool) (new : B) : Type 0 where
+-- The old board does the steps, in their order, and is then the new one: where the answer is Ok,
+-- all of them completed and are appended to the history; otherwise power was lost in one of them.
+-- The rest is as for one step.
+pub record DoesAll {B : Type 0} (state : B → State) (history : B → List Step → Type 0) (old : B)
+    (steps : List Step) (ok : Bool) (new : B) : Type 0 where
   pub done : OnTrue ok ((state new).content ≡ after_all (state old).content steps)
   pub torn : OnFalse ok (CutOf (state old).content steps (state new).content)
   pub size : length (state new).content.flash ≡ length (state old).content.flash
@@ -62,13 +68,19 @@ pub record DoesAll {B : Type 0} (state : B → State) (history : B → List Step
 
 -- the state with another cut armed, where the board tells it
 abbrev pub with_cut : State → Cut → State
-with_cut s cut = record { content = s.content; powered = s.powered; cuts = s.cuts; armed = option_map (λ former. Some cut) s.armed }
+with_cut s cut = record {
+  content = s.content;
+  powered = s.powered;
+  cuts = s.cuts;
+  armed = option_map (λ former. Some cut) s.armed;
+}
 
 -- the state with power
 abbrev pub with_power : State → State
 with_power s = record { content = s.content; powered = true; cuts = s.cuts; armed = s.armed }
 
 -- the new board has this state, and has done each list that the old one had done
-pub record Becomes {B : Type 0} (state : B → State) (history : B → List Step → Type 0) (old : B) (s : State) (new : B) : Type 0 where
+pub record Becomes {B : Type 0} (state : B → State) (history : B → List Step → Type 0) (old : B)
+    (s : State) (new : B) : Type 0 where
   pub same : state new ≡ s
   pub recorded : (h : List Step) → history old h → history new h

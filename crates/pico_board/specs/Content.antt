@@ -1,5 +1,6 @@
 -- The contents of a board and the windows of its flash.
--- Source: RP2350 Datasheet, chapters 5 (Bootrom) and 13 (OTP). The limits on the length of the flash are this project's own.
+-- Source: RP2350 Datasheet, chapters 5 (Bootrom) and 13 (OTP). The limits on the length of the
+-- flash are this project's own.
 use Rattle.std.specs.Prelude.{◌≡◌, ◌⊎◌, ℕ, ◌+◌, ◌%◌, ◌^◌, ◌<◌, ◌≤◌, List, length, slice_range, All}
 use Rattle.pico_board.specs.declared.window.Window.{Window}
 
@@ -8,20 +9,23 @@ pub record Content : Type 0 where
   pub flash : List ℕ
   pub otp : List ℕ
 
--- a flash has whole sectors of 4096 bytes, at least two of them and at most 4096 (RP2350 Datasheet, section 4.4: 16 MiB a chip select)
+-- a flash has whole sectors of 4096 bytes, at least two of them and at most 4096 (RP2350 Datasheet,
+-- section 4.4: 16 MiB a chip select)
 pub record IsFlashLength (n : ℕ) : Type 0 where
   pub whole : n % 4096 ≡ 0
   pub least : 8192 ≤ n
   pub most : n ≤ 16777216
 
--- a content has a flash of whole sectors, whose elements are bytes, and 4096 rows of 24 bits (RP2350 Datasheet, chapter 13, OTP)
+-- a content has a flash of whole sectors, whose elements are bytes, and 4096 rows of 24 bits
+-- (RP2350 Datasheet, chapter 13, OTP)
 pub record IsContent (c : Content) : Type 0 where
   pub flash_length : IsFlashLength (length c.flash)
   pub flash_bytes : All (λ b. b < 256) c.flash
   pub otp_length : length c.otp ≡ 4096
   pub otp_rows : All (λ v. v < 2 ^ 24) c.otp
 
--- the address at which the first byte of a flash window is seen (RP2350 Datasheet, section 2.2, Address map)
+-- the address at which the first byte of a flash window is seen (RP2350 Datasheet, section 2.2,
+-- Address map)
 abbrev pub flash_base : ℕ
 flash_base = 0x10000000
 

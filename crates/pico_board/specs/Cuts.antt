@@ -3,8 +3,8 @@ use Rattle.std.specs.Prelude.{◌≡◌, ℕ, ◌+◌, ◌-◌, ◌*◌, ◌%◌
 use Rattle.pico_board.specs.Content.{Content}
 use Rattle.pico_board.specs.Steps.{Step, Erase, Program, Raise, changed, after}
 
--- a cut that is armed: the steps that complete before it, whether it falls within the next step or before it, and the pattern that
--- a cut within leaves
+-- a cut that is armed: the steps that complete before it, whether it falls within the next step or
+-- before it, and the pattern that a cut within leaves
 pub record Cut : Type 0 where
   pub left : ℕ
   pub within : Bool
@@ -25,14 +25,26 @@ pattern_at pattern i = slice_index pattern (i % length pattern)
 
 -- the first three bytes of the repeated pattern as a little-endian number
 abbrev pub pattern_row : List ℕ → ℕ
-pattern_row pattern = pattern_at pattern 0 + 256 * pattern_at pattern 1 + 65536 * pattern_at pattern 2
+pattern_row pattern =
+    pattern_at pattern 0 + 256 * pattern_at pattern 1 + 65536 * pattern_at pattern 2
 
--- what a cut within the step leaves: an erase the pattern's bytes, a program `old & (d | pattern)`, and a raise
--- `row | (bits & !pattern)`, the complement being that of 24 bits
+-- what a cut within the step leaves: an erase the pattern's bytes, a program `old & (d | pattern)`,
+-- and a raise `row | (bits & !pattern)`, the complement being that of 24 bits
 abbrev pub torn_by : List ℕ → Content → Step → Content
-torn_by pattern c (Erase s) = record { flash = changed (λ i b. pattern_at pattern i) (4096 * s) 4096 c.flash; otp = c.otp }
-torn_by pattern c (Program p d) = record { flash = changed (λ i b. bit_and b (bit_or (slice_index d i) (pattern_at pattern i))) (256 * p) 256 c.flash; otp = c.otp }
-torn_by pattern c (Raise r b) = record { flash = c.flash; otp = slice_set c.otp r (bit_or (slice_index c.otp r) (bit_and b (bit_xor (pattern_row pattern) 0xff_ffff))) }
+torn_by pattern c (Erase s) =
+    record { flash = changed (λ i b. pattern_at pattern i) (4096 * s) 4096 c.flash; otp = c.otp }
+torn_by pattern c (Program p d) =
+    record {
+      flash = changed (λ i b. bit_and b (bit_or (slice_index d i) (pattern_at pattern i)))
+          (256 * p) 256 c.flash;
+      otp = c.otp;
+    }
+torn_by pattern c (Raise r b) =
+    record {
+      flash = c.flash;
+      otp = slice_set c.otp r
+          (bit_or (slice_index c.otp r) (bit_and b (bit_xor (pattern_row pattern) 0xff_ffff)));
+    }
 
 -- what the cut leaves when it falls due in the step: before the step nothing has changed
 abbrev pub cut_by : Cut → Content → Step → Content
@@ -48,8 +60,8 @@ pub record Told : Type 0 where
 abbrev pub nearer : Cut → Cut
 nearer cut = record { left = cut.left - 1; within = cut.within; pattern = cut.pattern }
 
--- a step: power is lost exactly where the cut has no step left, which leaves what the cut does and no cut armed; a completed step
--- takes one from the steps left
+-- a step: power is lost exactly where the cut has no step left, which leaves what the cut does and
+-- no cut armed; a completed step takes one from the steps left
 abbrev pub told : Option Cut → Content → Step → Told
 told None c step = record { answer = true; content = after c step; armed = None }
 told (Some cut) c step =

@@ -11,3 +11,4 @@ pub mod MemFiles
 pub mod Files
 pub mod Puts
 pub mod Histories
+pub mod Examples

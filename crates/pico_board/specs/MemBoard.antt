@@ -14,18 +14,23 @@ state_of board = record {
   armed = Some (armed_of board.supply);
 }
 
--- it keeps no list of what it has done, so that every list may be its history
+-- a board in memory keeps no list of its steps, so nothing is claimed of its history
 abbrev pub history_of : MemBoard → List Step → Type 0
 history_of board h = Unit {0}
 
--- the number of completed steps, which stays at its last value
+-- the number of completed steps, which saturates at 2^64 - 1
 abbrev pub steps_of : MemBoard → ℕ
 steps_of board = board.supply.steps
 
--- the number after a step that was answered so
+-- the number after a step, where `ok` says whether the step completed
 abbrev pub counted : ℕ → Bool → ℕ
 counted n ok = if ok then min (n + 1) (2 ^ 64 - 1) else n
 
 -- the state of a new board: powered, with no cut armed
 abbrev pub new_state : List ℕ → List ℕ → State
-new_state flash otp = record { content = record { flash = flash; otp = otp }; powered = true; cuts = 0; armed = Some None }
+new_state flash otp = record {
+  content = record { flash = flash; otp = otp };
+  powered = true;
+  cuts = 0;
+  armed = Some None;
+}

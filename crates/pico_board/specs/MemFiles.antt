@@ -38,7 +38,7 @@ bad_reads_of store = store.bad_reads.items
 abbrev pub bad_writes_of : MemStore → List ℕ
 bad_writes_of store = store.bad_writes.items
 
--- a store with no call that is to fail never fails by itself
+-- a store is steady where no call is listed to fail
 abbrev pub store_state : MemStore → StoreState
 store_state store = record {
   files = Some (files_of store);
@@ -57,11 +57,12 @@ abbrev pub is_write : Access → Bool
 is_write (Reads name limit answer) = false
 is_write (Writes name bytes answer) = true
 
--- a count that rises by one from 0 on, and stands still at the last value of its 64 bits
+-- a count of n calls, which saturates at 2^64 - 1
 abbrev pub counted_to : ℕ → ℕ
 counted_to n = min n (2 ^ 64 - 1)
 
--- A store in memory may have answered these calls: it has counted as many reads and as many writes. It keeps no more of them.
+-- A store in memory may have answered these calls: it has counted as many reads and as many writes.
+-- It keeps no more of them.
 pub record HasAnswered (store : MemStore) (calls : List Access) : Type 0 where
   pub reads : reads_of store ≡ counted_to (count_by is_read calls)
   pub writes : writes_of store ≡ counted_to (count_by is_write calls)
@@ -77,11 +78,15 @@ bad_puts_of sink = sink.bad_puts.items
 abbrev pub put_bytes : MemSink → List ℕ
 put_bytes sink = sink.bytes.items
 
--- a sink with no put that is to fail never fails by itself
+-- a sink is steady where no put is listed to fail
 abbrev pub sink_state : MemSink → SinkState
-sink_state sink = record { bytes = Some (put_bytes sink); faults = sink.faults; steady = length sink.bad_puts.items == 0 }
+sink_state sink = record {
+  bytes = Some (put_bytes sink);
+  faults = sink.faults;
+  steady = length sink.bad_puts.items == 0;
+}
 
--- what a put that was answered so appended
+-- what a put of these bytes with this answer appended
 abbrev pub appended : List ℕ → Result (Unit {0}) SinkFail → List ℕ
 appended bytes (Ok done) = bytes
 appended bytes (Err fail) = []
@@ -90,13 +95,15 @@ appended bytes (Err fail) = []
 abbrev pub appended_by : Put → List ℕ
 appended_by put = appended put.bytes put.answer
 
--- A sink in memory may have answered these puts: it has counted as many, and its bytes are those of the ones that succeeded.
+-- A sink in memory may have answered these puts: it has counted as many, and its bytes are those of
+-- the ones that succeeded.
 pub record HasTaken (sink : MemSink) (puts : List Put) : Type 0 where
   pub number : puts_of sink ≡ counted_to (length puts)
   pub bytes : put_bytes sink ≡ flat_map appended_by puts
 
 -- i is the place of the first file of the name
-pub record IsFirstOf (entries : List (String Global × Vec ℕ Global)) (name : List ℕ) (i : ℕ) : Type 0 where
+pub record IsFirstOf (entries : List (String Global × Vec ℕ Global)) (name : List ℕ)
+    (i : ℕ) : Type 0 where
   pub inside : i < length entries
   pub before : file_of (files_from (take i entries)) name ≡ None
   pub here : (d : String Global × Vec ℕ Global) → string_bytes (slice_index_or entries i d).0 ≡ name

@@ -1,4 +1,5 @@
--- Lists of steps that keep to one window, and those that write its first sector last. This project's own.
+-- Lists of steps that keep to one window, and those that write its first sector last. This
+-- project's own.
 use Rattle.std.specs.Prelude.{◌≡◌, ◌≢◌, ◌⊎◌, ℕ, ◌+◌, ◌*◌, ◌<◌, ◌≤◌, List, [], ◌∷◌, ◌++◌, slice_index, nat_eq}
 use Rattle.std.specs.List.{AllByRecursion, IsDistinct}
 use Rattle.pico_board.specs.declared.window.Window.{Window}
@@ -39,9 +40,10 @@ pages_of (Erase s ∷ steps) = pages_of steps
 pages_of (Program p d ∷ steps) = p ∷ pages_of steps
 pages_of (Raise r b ∷ steps) = pages_of steps
 
--- the steps are confined to the window and are the erase of its first sector s, then steps elsewhere, and then programs of
--- different pages of that sector
-pub record IsGated (steps : List Step) (w : Window) (s : ℕ) (elsewhere last : List Step) : Type 0 where
+-- the steps are confined to the window and are the erase of its first sector s, then steps
+-- elsewhere, and then programs of different pages of that sector
+pub record IsGated (steps : List Step) (w : Window) (s : ℕ)
+    (elsewhere last : List Step) : Type 0 where
   pub whole : steps ≡ Erase s ∷ (elsewhere ++ last)
   pub first : 4096 * s ≡ w.start
   pub confined : Confined steps w
@@ -49,12 +51,14 @@ pub record IsGated (steps : List Step) (w : Window) (s : ℕ) (elsewhere last : 
   pub final : AllByRecursion (IsProgramIn s) last
   pub distinct : IsDistinct nat_eq (pages_of last)
 
--- the list is empty, or it is confined, begins with the erase of the window's first sector, goes on with steps elsewhere and ends
--- with programs of different pages of the first sector
+-- the list is empty, or it is confined, begins with the erase of the window's first sector, goes on
+-- with steps elsewhere and ends with programs of different pages of the first sector
 abbrev pub Gated : List Step → Window → Type 0
-Gated steps w = (steps ≡ []) ⊎ ((s : ℕ) × (elsewhere : List Step) × (last : List Step) × IsGated steps w s elsewhere last)
+Gated steps w = (steps ≡ []) ⊎
+    ((s : ℕ) × (elsewhere : List Step) × (last : List Step) × IsGated steps w s elsewhere last)
 
--- d is neither the content before the steps nor the one after them, and some byte of the window's first sector in d is not 0xff
+-- d is neither the content before the steps nor the one after them, and some byte of the window's
+-- first sector in d is not 0xff
 pub record Unfinished (c : Content) (steps : List Step) (w : Window) (d : Content) : Type 0 where
   pub moved : d ≢ c
   pub short : d ≢ after_all c steps
@@ -70,7 +74,8 @@ IsBlankPage p d = (i : ℕ) → i < 256 → slice_index d.flash (256 * p + i) �
 
 -- each byte of page p is the same in both
 abbrev pub IsSamePage : ℕ → Content → Content → Type 0
-IsSamePage p z d = (i : ℕ) → i < 256 → slice_index d.flash (256 * p + i) ≡ slice_index z.flash (256 * p + i)
+IsSamePage p z d = (i : ℕ) → i < 256
+    → slice_index d.flash (256 * p + i) ≡ slice_index z.flash (256 * p + i)
 
 -- page p is one of sector s
 abbrev pub IsPageOf : ℕ → ℕ → Type 0
@@ -81,15 +86,18 @@ pub record SameButSector (s : ℕ) (c d : Content) : Type 0 where
   pub outside : SameOutside (4096 * s) 4096 c.flash d.flash
   pub rows : d.otp ≡ c.otp
 
--- power was lost in the program of page p of sector s, the last sector written: d is the finished content z but for sector s, whose
--- other pages are each 0xff or z's, and page p lies bit by bit between 0xff and z's
+-- power was lost in the program of page p of sector s, the last sector written: d is the finished
+-- content z but for sector s, whose other pages are each 0xff or z's, and page p lies bit by bit
+-- between 0xff and z's
 pub record IsClosing (z : Content) (s p : ℕ) (d : Content) : Type 0 where
   pub same : SameButSector s z d
   pub page : IsPageOf s p
   pub others : (q : ℕ) → IsPageOf s q → q ≢ p → IsBlankPage q d ⊎ IsSamePage q z d
-  pub between : (i : ℕ) → i < 256 → IsBetween 255 (slice_index z.flash (256 * p + i)) (slice_index d.flash (256 * p + i))
+  pub between : (i : ℕ) → i < 256
+      → IsBetween 255 (slice_index z.flash (256 * p + i)) (slice_index d.flash (256 * p + i))
 
--- the steps of the last sector are done in part: d is the finished content z but for sector s, whose pages are each 0xff or z's
+-- the steps of the last sector are done in part: d is the finished content z but for sector s,
+-- whose pages are each 0xff or z's
 pub record IsPartial (z : Content) (s : ℕ) (d : Content) : Type 0 where
   pub same : SameButSector s z d
   pub pages : (q : ℕ) → IsPageOf s q → IsBlankPage q d ⊎ IsSamePage q z d

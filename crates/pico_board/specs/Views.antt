@@ -11,12 +11,16 @@ pub record IsViewed (xs : List ℕ) : Type 0 where
   pub bytes : All (λ b. b < 256) xs
 
 -- the bytes of a window of a content are a view
-pub IsViewed-window : (c : Content) (w : Window) → IsContent c → w.start + w.len ≤ length c.flash → IsViewed (window_bytes c w)
+pub IsViewed-window : (c : Content) (w : Window) → IsContent c → w.start + w.len ≤ length c.flash
+    → IsViewed (window_bytes c w)
 IsViewed-window c w is inside =
-    let long : length (window_bytes c w) ≡ w.start + w.len - w.start = length-between c.flash w.start (w.start + w.len) inside in
+    let long : length (window_bytes c w) ≡ w.start + w.len - w.start =
+    length-between c.flash w.start (w.start + w.len) inside in
     record {
       short = omega (arith, is.flash_length.most, long);
       bytes = λ k d lt.
           let near : w.start + k < w.start + w.len = omega (arith, lt, long) in
-          subst (λ (b : ℕ). b < 256) (sym (get_or-between c.flash w.start (w.start + w.len) k d near)) (is.flash_bytes (w.start + k) d (omega (arith, near, inside)));
+          subst (λ (b : ℕ). b < 256) (sym
+          (get_or-between c.flash w.start (w.start + w.len) k d near))
+          (is.flash_bytes (w.start + k) d (omega (arith, near, inside)));
     }

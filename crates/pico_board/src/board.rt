@@ -1,4 +1,5 @@
-//! The board: a flash and an OTP that are read, and written by steps of which each completes or is torn by a lost supply.
+//! The board: a flash and an OTP that are read, and written by steps of which each completes or is
+//! torn by a lost supply.
 
 ghost use Rattle.std.specs.Prelude.{◌≡◌, ◌+◌, ◌*◌, ◌^◌, ◌<◌, ◌≤◌, List, length, IsTrue, is_ok, slice_index, slice_range};
 ghost use Rattle.pico_board.specs.Content.{IsContent};
@@ -8,15 +9,16 @@ ghost use Rattle.pico_board.specs.Board.{State, Does, Becomes, with_cut, with_po
 
 use thiserror::Error;
 
-/// Power was lost in a step. The board is not powered from then on, until its bench powers it again.
+/// Power was lost in a step. The board is not powered from then on, until its bench powers it
+/// again.
 #[derive(Clone, Copy, Debug, PartialEq, Eq, Error)]
 #[error("power was lost")]
 pub struct PowerLost;
 
 /// A board: its flash, its OTP, whether it is powered, and how often power was lost.
 ///
-/// `erase`, `program` and `raise` are the atomic steps. Each answers Ok with the step completed and the board
-/// powered, or PowerLost with the step torn and the board not powered. Reads cannot fail.
+/// `erase`, `program` and `raise` are the atomic steps. Each answers Ok with the step completed and
+/// the board powered, or PowerLost with the step torn and the board not powered. Reads cannot fail.
 pub trait Board {
     ghost state: { Self → State };
 
@@ -68,8 +70,8 @@ pub trait Board {
 
 /// A board on a test bench, whose supply can be cut and can come back.
 pub trait Bench: Board {
-    /// Arms a cut in place of a former one: the step after `after` further completed steps loses power, within it
-    /// or before it. A cut within leaves what the pattern says. It needs no power.
+    /// Arms a cut in place of a former one: the step after `after` further completed steps loses
+    /// power, within it or before it. A cut within leaves what the pattern says. It needs no power.
     fn arm_cut(&mut self, after: u32, within: bool, pattern: &[u8])
         requires { IsPattern within pattern.now }
         ensures { Becomes Self.state Self.history self.old
@@ -77,5 +79,6 @@ pub trait Bench: Board {
 
     /// Powers the board.
     fn power_on(&mut self)
-        ensures { Becomes Self.state Self.history self.old (with_power (Self.state self.old)) self.new };
+        ensures { Becomes Self.state Self.history self.old
+            (with_power (Self.state self.old)) self.new };
 }

@@ -1,4 +1,5 @@
-//! Laws on what steps leave, done or torn. Each is a function that does nothing, whose contract is the law.
+//! Laws on what steps leave, done or torn. Each is a function that does nothing, whose contract is
+//! the law.
 
 ghost use Rattle.std.specs.Prelude.{◌≡◌, ◌⊎◌, ◌↔◌, ℕ, ◌+◌, ◌-◌, ◌≤◌, All, Bool, List, None, Some, [], ◌∷◌, ◌++◌, length, slice_get, take, true, false};
 ghost use Rattle.std.specs.List.{AllByRecursion};
@@ -23,18 +24,21 @@ pub fn cut_of_two_lists()
 /// Power may be lost before a step has changed anything, and after it has changed all of its range.
 pub fn torn_may_be_either_end()
     ensures before { (c : Content) (step : Step) → IsContent c → Torn c step c }
-    ensures after { (c : Content) (step : Step) → IsContent c → IsStepIn (length c.flash) step → Torn c step (after c step) }
+    ensures after { (c : Content) (step : Step) → IsContent c → IsStepIn (length c.flash) step
+        → Torn c step (after c step) }
 {}
 
 /// What a proper prefix of a list leaves is a cut of the list.
 pub fn prefix_is_a_cut()
-    ensures { (c : Content) (xs : List Step) (step : Step) (ys : List Step) → IsContent c → All (IsStepIn (length c.flash)) xs
+    ensures { (c : Content) (xs : List Step) (step : Step) (ys : List Step) → IsContent c
+        → All (IsStepIn (length c.flash)) xs
         → CutOf c (xs ++ step ∷ ys) (after_all c xs) }
 {}
 
 /// Whatever steps leave, done or torn, is a content.
 pub fn steps_leave_a_content()
-    ensures { (c : Content) (steps : List Step) (d : Content) → IsContent c → All (IsStepIn (length c.flash)) steps → MayLeave c steps d
+    ensures { (c : Content) (steps : List Step) (d : Content) → IsContent c
+        → All (IsStepIn (length c.flash)) steps → MayLeave c steps d
         → IsContent d }
 {}
 
@@ -46,19 +50,24 @@ pub fn confined_steps_keep_the_rest()
         → SameButWindow w c d → AreApart w v → window_bytes d v ≡ window_bytes c v }
 {}
 
-/// A torn raise, and what the loss of power leaves of a list of raises, lies bit by bit between before and after.
+/// A torn raise, and what the loss of power leaves of a list of raises, lies bit by bit between
+/// before and after.
 pub fn raises_only_set_bits()
     ensures one { (c : Content) (row bits : ℕ) (d : Content)
         → Torn c (Raise row bits) d → IsRaisedIn c d (after c (Raise row bits)) }
-    ensures list { (c : Content) (steps : List Step) (d : Content) → AllByRecursion IsRaise steps → CutOf c steps d
+    ensures list { (c : Content) (steps : List Step) (d : Content) → AllByRecursion IsRaise steps
+        → CutOf c steps d
         → IsRaisedIn c d (after_all c steps) }
 {}
 
-/// A told cut falls in the step whose number is that of its steps left, or comes nearer by the number of the steps.
+/// A told cut falls in the step whose number is that of its steps left, or comes nearer by the
+/// number of the steps.
 pub fn told_cut_falls_at_its_step()
     ensures none { (steps : List Step) (c : Content)
-        → told_all steps None c ≡ record { answer = true; content = after_all c steps; armed = None } }
-    ensures cut { (steps : List Step) (left : ℕ) (within : Bool) (pattern : List ℕ) (c : Content) (step : Step)
+        → told_all steps None c ≡ record
+        { answer = true; content = after_all c steps; armed = None } }
+    ensures cut { (steps : List Step) (left : ℕ) (within : Bool) (pattern : List ℕ) (c : Content)
+        (step : Step)
         → slice_get steps left ≡ Some step
         → told_all steps (Some (cut_with left within pattern)) c ≡ record {
           answer = false;
@@ -81,32 +90,41 @@ pub fn prefix_of_gated_is_gated()
         → IsGated steps w s elsewhere last → length last ≤ 16 }
 {}
 
-/// The phases of a gated list of a window inside the flash: the loss of power leaves its first sector torn and all
-/// else as before, or its first sector blank, or the finished content but for some pages of the first sector. Only the
-/// first and the last of these can be unfinished. A prefix that is done leaves the content before, or the first sector
-/// blank, or the finished content but for blank pages of the first sector.
+/// The phases of a gated list of a window inside the flash: the loss of power leaves its first
+/// sector torn and all else as before, or its first sector blank, or the finished content but for
+/// some pages of the first sector. Only the first and the last of these can be unfinished. A prefix
+/// that is done leaves the content before, or the first sector blank, or the finished content but
+/// for blank pages of the first sector.
 pub fn phases_of_a_gated_list()
-    ensures cut { (c : Content) (steps : List Step) (w : Window) (s : ℕ) (elsewhere last : List Step) (d : Content)
+    ensures cut { (c : Content) (steps : List Step) (w : Window) (s : ℕ)
+        (elsewhere last : List Step) (d : Content)
         → IsGated steps w s elsewhere last → w.start + w.len ≤ length c.flash → CutOf c steps d
         → TornErase c s d ⊎ (IsBlank s d ⊎ ((p : ℕ) × IsClosing (after_all c steps) s p d)) }
-    ensures unfinished { (c : Content) (steps : List Step) (w : Window) (s : ℕ) (elsewhere last : List Step) (d : Content)
-        → IsGated steps w s elsewhere last → w.start + w.len ≤ length c.flash → CutOf c steps d → Unfinished c steps w d
+    ensures unfinished { (c : Content) (steps : List Step) (w : Window) (s : ℕ)
+        (elsewhere last : List Step) (d : Content)
+        → IsGated steps w s elsewhere last → w.start + w.len ≤ length c.flash → CutOf c steps d
+        → Unfinished c steps w d
         → TornErase c s d ⊎ ((p : ℕ) × IsClosing (after_all c steps) s p d) }
-    ensures prefix { (c : Content) (steps : List Step) (w : Window) (s : ℕ) (elsewhere last xs ys : List Step)
+    ensures prefix { (c : Content) (steps : List Step) (w : Window) (s : ℕ)
+        (elsewhere last xs ys : List Step)
         → IsGated steps w s elsewhere last → w.start + w.len ≤ length c.flash → steps ≡ xs ++ ys
-        → (xs ≡ []) ⊎ (IsBlank s (after_all c xs) ⊎ IsPartial (after_all c steps) s (after_all c xs)) }
+        → (xs ≡ []) ⊎ (IsBlank s (after_all c xs)
+        ⊎ IsPartial (after_all c steps) s (after_all c xs)) }
 {}
 
-/// Which cuts of a gated list of a window inside the flash leave no unfinished content: those in any
-/// step but the first and the final programs, one before the first step, and one before the first of
-/// the final programs.
+/// Which cuts of a gated list of a window inside the flash leave no unfinished content: those in
+/// any step but the first and the final programs, one before the first step, and one before the
+/// first of the final programs.
 pub fn cuts_that_leave_nothing_unfinished()
-    ensures elsewhere { (c : Content) (steps : List Step) (w : Window) (s : ℕ) (elsewhere last : List Step)
+    ensures elsewhere { (c : Content) (steps : List Step) (w : Window) (s : ℕ)
+        (elsewhere last : List Step)
         (k : ℕ) (step : Step) (d : Content)
         → IsGated steps w s elsewhere last → w.start + w.len ≤ length c.flash
         → 1 ≤ k → k ≤ length elsewhere → IsCutAt c steps k step d → ¬ (Unfinished c steps w d) }
-    ensures before_all { (c : Content) (steps : List Step) (w : Window) → ¬ (Unfinished c steps w c) }
-    ensures before_final { (c : Content) (steps : List Step) (w : Window) (s : ℕ) (elsewhere last : List Step)
+    ensures before_all { (c : Content) (steps : List Step) (w : Window)
+        → ¬ (Unfinished c steps w c) }
+    ensures before_final { (c : Content) (steps : List Step) (w : Window) (s : ℕ)
+        (elsewhere last : List Step)
         → IsGated steps w s elsewhere last → w.start + w.len ≤ length c.flash
         → ¬ (Unfinished c steps w (after_all c (take (1 + length elsewhere) steps))) }
 {}

@@ -1,9 +1,11 @@
-//! The board of the RP2350 as its boot decision sees it: flash and OTP, the three writes that can be torn by a lost
-//! supply, views of flash windows, and the store and the sink of a program's files and text.
+//! The board of the RP2350 as its boot decision sees it: flash and OTP, the three writes that can
+//! be torn by a lost supply, views of flash windows, and the store and the sink of a program's
+//! files and text.
 #![tactic(auto)]
 
 mod board;
 mod boot;
+pub mod examples;
 pub mod laws;
 mod mem_board;
 mod mem_sink;

@@ -32,7 +32,8 @@ pub enum BoardError {
     Memory,
 }
 
-/// A board in memory, on a bench. It tells its armed cut, and loses power exactly where that falls due.
+/// A board in memory, on a bench. It tells its armed cut, and loses power exactly where that falls
+/// due.
 #[derive(Drop)]
 pub struct MemBoard {
     flash: Vec<u8>,
@@ -64,15 +65,18 @@ fn first_wide(rows: &[u32]) -> Option<u32>
 impl MemBoard {
     ghost use Rattle.pico_board.specs.MemBoard.{state_of, steps_of, new_state};
 
-    /// A powered board with these contents and no cut armed. The checks stand in the order of the errors.
+    /// A powered board with these contents and no cut armed. The checks stand in the order of the
+    /// errors.
     pub fn new(alloc: Global, flash: Vec<u8>, otp: Vec<u32>) -> Result<MemBoard, BoardError>
         ensures made { IfOk result (λ board. state_of board ≡ new_state flash.items otp.items) }
         ensures counted { IfOk result (λ board. steps_of board ≡ 0) }
-        ensures flash_length { IsErrOf result BoardError.BadFlashLength ↔ ¬ (IsFlashLength (length flash.items)) }
+        ensures flash_length { IsErrOf result BoardError.BadFlashLength ↔ ¬
+            (IsFlashLength (length flash.items)) }
         ensures otp_length { IsErrOf result BoardError.BadOtpLength
             ↔ (IsFlashLength (length flash.items) × (length otp.items ≢ 4096)) }
         ensures wide_row { (row : ℕ) → IsErrOf result (BoardError.OtpRowWide row)
-            ↔ (IsFlashLength (length flash.items) × (length otp.items ≡ 4096) × IsFirstWide otp.items row) }
+            ↔ (IsFlashLength (length flash.items) × (length otp.items ≡ 4096)
+            × IsFirstWide otp.items row) }
     {
         if !is_flash_length(flash.len()) {
             return Err(BoardError::BadFlashLength);
@@ -153,7 +157,8 @@ impl Board for MemBoard {
     fn program(&mut self, page: u32, bytes: &[u8; 256]) -> Result<(), PowerLost>
         requires power { IsTrue (state_of self.old).powered }
         requires range { 256 * page + 256 ≤ length (state_of self.old).content.flash }
-        ensures does { Does state_of history_of self.old (Program page bytes.now) (is_ok result) self.new }
+        ensures does { Does state_of history_of self.old (Program page bytes.now)
+            (is_ok result) self.new }
         ensures counts { steps_of self.new ≡ counted (steps_of self.old) (is_ok result) }
     {
         let at = PAGE * page as usize;
@@ -209,7 +214,8 @@ impl Bench for MemBoard {
     }
 
     fn power_on(&mut self)
-        ensures powers { Becomes state_of history_of self.old (with_power (state_of self.old)) self.new }
+        ensures powers { Becomes state_of history_of self.old
+            (with_power (state_of self.old)) self.new }
         ensures counts { steps_of self.new ≡ steps_of self.old }
     {
         self.supply.powered = true;

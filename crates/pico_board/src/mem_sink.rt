@@ -18,7 +18,8 @@ pub struct MemSink {
 impl MemSink {
     ghost use Rattle.pico_board.specs.MemFiles.{sink_state, put_bytes, puts_of, bad_puts_of, HasTaken};
 
-    /// An empty sink. Puts are numbered from 0; a put whose number is listed is at fault and appends nothing.
+    /// An empty sink. Puts are numbered from 0; a put whose number is listed is at fault and
+    /// appends nothing.
     pub fn make(alloc: Global, bad_puts: Vec<u64>) -> MemSink
         ensures bytes { put_bytes result ≡ [] }
         ensures faults { (sink_state result).faults ≡ 0 }
@@ -51,9 +52,11 @@ impl Sink for MemSink {
     ghost history = { HasTaken };
 
     fn put(&mut self, bytes: &[u8]) -> Result<(), SinkFail>
-        ensures taken { Takes sink_state HasTaken self.old (record { bytes = bytes.now; answer = result }) self.new }
+        ensures taken { Takes sink_state HasTaken self.old
+            (record { bytes = bytes.now; answer = result }) self.new }
         // A fault comes exactly at the listed puts, and no failed put appends anything.
-        ensures listed { IsErrOf result SinkFail.Fault ↔ IsTrue (is_listed (bad_puts_of self.old) (puts_of self.old)) }
+        ensures listed { IsErrOf result SinkFail.Fault ↔ IsTrue
+            (is_listed (bad_puts_of self.old) (puts_of self.old)) }
         ensures nothing { OnErr result (put_bytes self.new ≡ put_bytes self.old) }
         ensures number { puts_of self.new ≡ min (puts_of self.old + 1) (2 ^ 64 - 1) }
         ensures same_list { bad_puts_of self.new ≡ bad_puts_of self.old }

@@ -23,8 +23,9 @@ pub struct MemStore {
 impl MemStore {
     ghost use Rattle.pico_board.specs.MemFiles.{store_state, files_of, reads_of, writes_of, bad_reads_of, bad_writes_of, HasAnswered};
 
-    /// A store with these files; of two files of one name the first counts. Reads and writes are numbered from 0,
-    /// each by themselves; a call whose number is listed is at fault and changes no file.
+    /// A store with these files; of two files of one name the first counts. Reads and writes are
+    /// numbered from 0, each by themselves; a call whose number is listed is at fault and changes
+    /// no file.
     pub fn make(
         alloc: Global,
         files: Vec<(String, Vec<u8>)>,
@@ -38,7 +39,8 @@ impl MemStore {
         ensures writes { writes_of result ≡ 0 }
         ensures bad_reads { bad_reads_of result ≡ bad_reads.items }
         ensures bad_writes { bad_writes_of result ≡ bad_writes.items }
-        ensures steady { IsTrue (store_state result).steady ↔ ((bad_reads.items ≡ []) × (bad_writes.items ≡ [])) }
+        ensures steady { IsTrue (store_state result).steady ↔
+            ((bad_reads.items ≡ []) × (bad_writes.items ≡ [])) }
         ensures unused { HasAnswered result [] }
     {
         MemStore {
@@ -100,9 +102,11 @@ impl Store for MemStore {
     }
 
     fn write(&mut self, name: &str, bytes: &[u8]) -> Result<(), StoreFail>
-        ensures served { Serves store_state HasAnswered self.old (Writes name.now bytes.now result) self.new }
+        ensures served { Serves store_state HasAnswered self.old
+            (Writes name.now bytes.now result) self.new }
         // A fault comes exactly at the listed writes, and no failed write changes a file.
-        ensures exact { IsErrOf result StoreFail.Fault ↔ IsTrue (is_listed (bad_writes_of self.old) (writes_of self.old)) }
+        ensures exact { IsErrOf result StoreFail.Fault ↔ IsTrue
+            (is_listed (bad_writes_of self.old) (writes_of self.old)) }
         ensures nothing { OnErr result (files_of self.new ≡ files_of self.old) }
         ensures number { writes_of self.new ≡ min (writes_of self.old + 1) (2 ^ 64 - 1) }
         ensures same_number { reads_of self.new ≡ reads_of self.old }
@@ -121,7 +125,8 @@ impl Store for MemStore {
 
 /// The place of the first file of the name.
 fn find_file(files: &[(String, Vec<u8>)], name: &str) -> Option<usize>
-    ensures { MatchOption result (file_of (files_from files.now) name.now ≡ None) (IsFirstOf files.now name.now) }
+    ensures { MatchOption result (file_of (files_from files.now) name.now ≡ None)
+        (IsFirstOf files.now name.now) }
 {
     for (i, file) in files.iter().enumerate() {
         if file.0.as_str() == name {
@@ -152,7 +157,8 @@ fn put_file(
     name: &str,
     bytes: &[u8],
 ) -> Result<(), StoreFail>
-    ensures ok { OnOk result (HasWritten (files_from files.old.items) name.now bytes.now (files_from files.new.items)) }
+    ensures ok { OnOk result (HasWritten (files_from files.old.items) name.now bytes.now
+        (files_from files.new.items)) }
     ensures err { OnErr result (files_from files.new.items ≡ files_from files.old.items) }
     ensures memory { ¬ (IsErrOf result StoreFail.Fault) }
 {

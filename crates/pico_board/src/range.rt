@@ -52,7 +52,8 @@ fn paint_sector(flash: &mut [u8], at: usize, pattern: &[u8])
 fn paint_page(flash: &mut [u8], at: usize, bytes: &[u8; 256], pattern: &[u8])
     requires range { at + 256 ≤ length flash.old }
     requires pattern { 1 ≤ length pattern.now }
-    ensures { flash.new ≡ changed (λ i b. bit_and b (bit_or (slice_index bytes.now i) (pattern_at pattern.now i)))
+    ensures { flash.new ≡ changed
+        (λ i b. bit_and b (bit_or (slice_index bytes.now i) (pattern_at pattern.now i)))
         at 256 flash.old }
 {
     for i in 0..PAGE {
@@ -64,7 +65,9 @@ fn paint_page(flash: &mut [u8], at: usize, bytes: &[u8; 256], pattern: &[u8])
 pub fn cut_erase(flash: &mut [u8], at: usize, within: bool, pattern: &[u8])
     requires range { at + 4096 ≤ length flash.old }
     requires pattern { IsTrue within → 1 ≤ length pattern.now }
-    ensures { flash.new ≡ (if within then changed (λ i b. pattern_at pattern.now i) at 4096 flash.old else flash.old) }
+    ensures { flash.new ≡ (if within
+        then changed (λ i b. pattern_at pattern.now i) at 4096 flash.old
+        else flash.old) }
 {
     if within {
         paint_sector(flash, at, pattern);
@@ -76,7 +79,9 @@ pub fn cut_program(flash: &mut [u8], at: usize, bytes: &[u8; 256], within: bool,
     requires range { at + 256 ≤ length flash.old }
     requires pattern { IsTrue within → 1 ≤ length pattern.now }
     ensures { flash.new ≡ (if within
-        then changed (λ i b. bit_and b (bit_or (slice_index bytes.now i) (pattern_at pattern.now i))) at 256 flash.old
+        then changed
+        (λ i b. bit_and b (bit_or (slice_index bytes.now i) (pattern_at pattern.now i)))
+        at 256 flash.old
         else flash.old) }
 {
     if within {
@@ -101,7 +106,8 @@ pub fn cut_raise(otp: &mut [u32], row: usize, bits: u32, within: bool, pattern: 
     requires range { row < length otp.old }
     requires pattern { IsTrue within → 1 ≤ length pattern.now }
     ensures { otp.new ≡ (if within
-        then slice_set otp.old row (bit_or (slice_index otp.old row) (bit_and bits (bit_xor (pattern_row pattern.now) 0xff_ffff)))
+        then slice_set otp.old row (bit_or (slice_index otp.old row)
+        (bit_and bits (bit_xor (pattern_row pattern.now) 0xff_ffff)))
         else otp.old) }
 {
     if within {

@@ -16,8 +16,8 @@ pub enum SinkFail {
     Memory,
 }
 
-/// Takes bytes in order. A sink may tell the bytes that were put so far, and one that does may also tell that it
-/// never fails by itself.
+/// Takes bytes in order. A sink may tell the bytes that were put so far, and one that does may also
+/// be steady, that is, tell that no put of it is ever at fault.
 pub trait Sink {
     ghost state: { Self → SinkState };
 
@@ -26,5 +26,6 @@ pub trait Sink {
 
     /// Appends the bytes, or a prefix of them after an error.
     fn put(&mut self, bytes: &[u8]) -> Result<(), SinkFail>
-        ensures { Takes state history self.old (record { bytes = bytes.now; answer = result }) self.new };
+        ensures { Takes state history self.old
+            (record { bytes = bytes.now; answer = result }) self.new };
 }

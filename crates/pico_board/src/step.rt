@@ -9,9 +9,11 @@ use crate::board::{Board, PowerLost};
 /// A write of the board that is one step: it completes, or power is lost in it.
 #[derive(Clone, Copy)]
 pub enum Step {
-    /// The erase of the sector of this number, which has the 4096 bytes from 4096 times the number on.
+    /// The erase of the sector of this number, which has the 4096 bytes from 4096 times the number
+    /// on.
     Erase(u32),
-    /// The program of these bytes into the page of this number, which has the 256 bytes from 256 times the number on.
+    /// The program of these bytes into the page of this number, which has the 256 bytes from 256
+    /// times the number on.
     Program(u32, [u8; 256]),
     /// The raise of the OTP row of this number, below 4096, by these bits, below 2^24.
     Raise(u16, u32),

@@ -16,15 +16,16 @@ pub enum StoreFail {
     Memory,
 }
 
-/// Files by name. A store may tell its files, and one that does may also tell that it never fails by itself.
+/// Files by name. A store may tell its files, and one that does may also be steady, that is, tell
+/// that it faults only on a read of a missing name.
 pub trait Store {
     ghost state: { Self → StoreState };
 
     // The store has answered these calls, in this order, where it has a record.
     ghost history: { Self → List Access → Type 0 };
 
-    /// Reads the first `limit + 1` bytes of a file into an empty vector, or all where the file has fewer. Nothing is
-    /// said of `into` after an error.
+    /// Reads the first `limit + 1` bytes of a file into an empty vector, or all where the file has
+    /// fewer. Nothing is said of `into` after an error.
     fn read(&mut self, name: &str, limit: u32, into: &mut Vec<u8>) -> Result<(), StoreFail>
         requires { into.old.items ≡ [] }
         ensures served { Serves state history self.old
@@ -33,5 +34,6 @@ pub trait Store {
 
     /// Makes the bytes those of the name. After an error nothing is known of that name.
     fn write(&mut self, name: &str, bytes: &[u8]) -> Result<(), StoreFail>
-        ensures served { Serves state history self.old (Writes name.now bytes.now result) self.new };
+        ensures served { Serves state history self.old
+            (Writes name.now bytes.now result) self.new };
 }

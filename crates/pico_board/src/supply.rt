@@ -7,8 +7,8 @@ use std::alloc::{AllocError, Global};
 /// The most bytes of a pattern.
 const PATTERN: usize = 4096;
 
-/// The supply: its power, the cut that is armed, and what it counts. The room for a pattern is taken when it is
-/// made.
+/// The supply: its power, the cut that is armed, and what it counts. The room for a pattern is
+/// taken when it is made.
 #[derive(Drop)]
 pub struct Supply {
     pub powered: bool,

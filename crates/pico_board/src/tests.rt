@@ -1,4 +1,5 @@
-//! What no clause says: that calls succeed with ample memory, and values that were worked out by hand.
+//! What no clause says: that calls succeed with ample memory, and values that were worked out by
+//! hand.
 
 ghost use Rattle.pico_board.specs.Steps.{IsStepIn};
 ghost use Rattle.pico_board.specs.Cuts.{IsPattern};
@@ -65,8 +66,8 @@ fn a_new_board_has_its_contents(rt: HostRuntime) -> Result<(), Fail> {
     Ok(())
 }
 
-/// What a cut of this pattern leaves of the step: the last byte of the first sector, the first three of the second
-/// one, and the row that is raised.
+/// What a cut of this pattern leaves of the step: the last byte of the first sector, the first
+/// three of the second one, and the row that is raised.
 fn cut(
     rt: &impl Abort,
     alloc: Global,

@@ -18,7 +18,8 @@ count_by-All (is_out ∷ rest) all =
     rw (sum_by-cons one_if_free is_out rest, here) (omega (arith, count_by-All rest others))
 
 -- a lease takes one from the free sectors
-pub free_count-leased : (pool : Pool) (k : ℕ) → slice_get pool.out k ≡ Some false → free_count (leased pool k) + 1 ≡ free_count pool
+pub free_count-leased : (pool : Pool) (k : ℕ) → slice_get pool.out k ≡ Some false
+    → free_count (leased pool k) + 1 ≡ free_count pool
 free_count-leased pool k was_free =
     let within : k < length pool.out = slice_get_within _ _ _ was_free in
     let moved = sum_by-set one_if_free pool.out k true true within in
@@ -26,7 +27,8 @@ free_count-leased pool k was_free =
     omega (arith, rw was at moved)
 
 -- what is given back is free
-pub free_count-returned : (pool : Pool) (k : ℕ) → slice_get pool.out k ≡ Some true → free_count (returned pool k) ≡ free_count pool + 1
+pub free_count-returned : (pool : Pool) (k : ℕ) → slice_get pool.out k ≡ Some true
+    → free_count (returned pool k) ≡ free_count pool + 1
 free_count-returned pool k was_out =
     let within : k < length pool.out = slice_get_within _ _ _ was_out in
     let moved = sum_by-set one_if_free pool.out k false true within in
@@ -34,20 +36,26 @@ free_count-returned pool k was_out =
     omega (arith, rw was at moved)
 
 -- a lease comes where some sector is free
-pub lent_if_free : (pool : Pool) (lease : Option ℕ) → (IsNone lease ↔ All (λ is_out. is_out ≡ true) pool.out) → HasFree pool → IsSome lease
+pub lent_if_free : (pool : Pool) (lease : Option ℕ) → (IsNone lease ↔ All (λ is_out. is_out ≡ true) pool.out)
+    → HasFree pool → IsSome lease
 lent_if_free pool None none free = absurd (let all_out = count_by-All pool.out (none.0 refl) in omega arith)
 lent_if_free pool (Some k) none free = refl
 
 -- what is lent is out
-pub out_if_lent : (old new : Pool) (lease : Option ℕ) → IfSome lease (λ k. slice_get old.out k ≡ Some false) → IfSome lease (λ k. new ≡ leased old k) → IfSome lease (λ k. slice_get new.out k ≡ Some true)
+pub out_if_lent : (old new : Pool) (lease : Option ℕ) → IfSome lease (λ k. slice_get old.out k ≡ Some false)
+    → IfSome lease (λ k. new ≡ leased old k) → IfSome lease (λ k. slice_get new.out k ≡ Some true)
 out_if_lent old new None was_free lent = tt
 out_if_lent old new (Some k) was_free lent = rw lent (slice_get-set_same old.out k false true was_free)
 
 -- what was out is out after a lease of another number
-pub still_out : (pool : Pool) (j k : ℕ) → slice_get pool.out j ≡ Some true → slice_get pool.out k ≡ Some false → slice_get (leased pool k).out j ≡ Some true
-still_out pool j k was_out was_free = slice_get-set_other pool.out k j true (is_other pool.out j k was_out was_free) ∙ was_out
+pub still_out : (pool : Pool) (j k : ℕ) → slice_get pool.out j ≡ Some true → slice_get pool.out k ≡ Some false
+    → slice_get (leased pool k).out j ≡ Some true
+still_out pool j k was_out was_free = slice_get-set_other pool.out k j true (is_other pool.out j k was_out was_free)
+    ∙ was_out
 
 -- the same after a call that may have lent one
-pub still_out_if_lent : (old new : Pool) (lease : Option ℕ) → IfSome lease (λ k. slice_get old.out k ≡ Some false) → IfSome lease (λ k. new ≡ leased old k) → IfNone lease (new ≡ old) → (j : ℕ) → slice_get old.out j ≡ Some true → slice_get new.out j ≡ Some true
+pub still_out_if_lent : (old new : Pool) (lease : Option ℕ) → IfSome lease (λ k. slice_get old.out k ≡ Some false)
+    → IfSome lease (λ k. new ≡ leased old k) → IfNone lease (new ≡ old) → (j : ℕ) → slice_get old.out j ≡ Some true
+    → slice_get new.out j ≡ Some true
 still_out_if_lent old new None was_free lent unchanged j was_out = rw unchanged was_out
 still_out_if_lent old new (Some k) was_free lent unchanged j was_out = rw lent (still_out old j k was_out was_free)

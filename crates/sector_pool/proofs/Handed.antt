@@ -38,7 +38,8 @@ HandsOver-same {old} {new} k was_out keeps = record {
 }
 
 -- a lease that is taken
-pub HandsOver-leased : (old : Pool) (k : ℕ) → slice_get old.out k ≡ Some false → HandsOver None (Some k) old (leased old k)
+pub HandsOver-leased : (old : Pool) (k : ℕ) → slice_get old.out k ≡ Some false
+    → HandsOver None (Some k) old (leased old k)
 HandsOver-leased old k was_free = record {
   mine = λ j has. let same : k ≡ j = cc has in
       subst (λ i. slice_get (leased old k).out i ≡ Some true) same (slice_get-set_same old.out k false true was_free);
@@ -49,7 +50,8 @@ HandsOver-leased old k was_free = record {
 }
 
 -- a lease that is given back
-pub HandsOver-returned : (old : Pool) (k : ℕ) → slice_get old.out k ≡ Some true → HandsOver (Some k) None old (returned old k)
+pub HandsOver-returned : (old : Pool) (k : ℕ) → slice_get old.out k ≡ Some true
+    → HandsOver (Some k) None old (returned old k)
 HandsOver-returned old k was_out = record {
   mine = λ j has. cc has;
   fresh = λ j has other. cc has;

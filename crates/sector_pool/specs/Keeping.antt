@@ -5,16 +5,18 @@ use Rattle.sector_pool.specs.Pool.{Pool}
 -- the numbers out are the same, and every sector that was out keeps its bytes
 pub record KeepsOut (old new : Pool) : Type 0 where
   pub same : new.out ≡ old.out
-  pub kept : (j : ℕ) → slice_get old.out j ≡ Some true → slice_get new.sectors j ≡ slice_get old.sectors j
+  pub kept : (j : ℕ) → slice_get old.out j ≡ Some true
+      → slice_get new.sectors j ≡ slice_get old.sectors j
 
 -- the numbers out are the same, and every sector that was out keeps its bytes, but for sector k
 pub record KeepsOutBut (k : ℕ) (old new : Pool) : Type 0 where
   pub same : new.out ≡ old.out
-  pub kept : (j : ℕ) → j ≢ k → slice_get old.out j ≡ Some true → slice_get new.sectors j ≡ slice_get old.sectors j
+  pub kept : (j : ℕ) → j ≢ k → slice_get old.out j ≡ Some true
+      → slice_get new.sectors j ≡ slice_get old.sectors j
 
--- the caller had one lease or none and now has another one, the same or none: the one that it has is
--- out, and was free before where it is another; the one that it had and has no more is free; every
--- other number is as it was, and every sector of these that is out keeps its bytes
+-- the caller had one lease or none and now has another one, the same or none: the one that it has
+-- is out, and was free before where it is another; the one that it had and has no more is free;
+-- every other number is as it was, and every sector of these that is out keeps its bytes
 pub record HandsOver (had has : Option ℕ) (old new : Pool) : Type 0 where
   pub mine : (k : ℕ) → has ≡ Some k → slice_get new.out k ≡ Some true
   pub fresh : (k : ℕ) → has ≡ Some k → had ≢ Some k → slice_get old.out k ≡ Some false

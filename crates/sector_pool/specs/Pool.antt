@@ -27,7 +27,10 @@ erased = replicate 4096 255
 
 -- the pool with number k out, and that sector's bytes all 0xff
 abbrev pub leased : Pool → ℕ → Pool
-leased pool k = record { out = slice_set pool.out k true; sectors = slice_set pool.sectors k erased }
+leased pool k = record {
+  out = slice_set pool.out k true;
+  sectors = slice_set pool.sectors k erased;
+}
 
 -- the pool with these bytes in sector k
 abbrev pub written : Pool → ℕ → List ℕ → Pool

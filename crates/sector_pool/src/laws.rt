@@ -9,19 +9,24 @@ pub fn keeping_composes()
     ensures none { (pool : Pool) → KeepsOut pool pool }
     ensures two { (a b c : Pool) → KeepsOut a b → KeepsOut b c → KeepsOut a c }
     ensures none_but { (k : ℕ) (pool : Pool) → KeepsOutBut k pool pool }
-    ensures two_but { (k : ℕ) (a b c : Pool) → KeepsOutBut k a b → KeepsOutBut k b c → KeepsOutBut k a c }
+    ensures two_but { (k : ℕ) (a b c : Pool) → KeepsOutBut k a b → KeepsOutBut k b c
+        → KeepsOutBut k a c }
     ensures all_but { (k : ℕ) (a b : Pool) → KeepsOut a b → KeepsOutBut k a b }
 {}
 
 /// A write through the lease of sector `k` changes no byte of a sector with another number.
 pub fn writing_leaves_others()
-    ensures others { (pool : Pool) (k j : ℕ) (bytes : List ℕ) → j ≢ k → slice_get (written pool k bytes).sectors j ≡ slice_get pool.sectors j }
-    ensures keeps { (pool : Pool) (k : ℕ) (bytes : List ℕ) → KeepsOutBut k pool (written pool k bytes) }
+    ensures others { (pool : Pool) (k j : ℕ) (bytes : List ℕ) → j ≢ k
+        → slice_get (written pool k bytes).sectors j ≡ slice_get pool.sectors j }
+    ensures keeps { (pool : Pool) (k : ℕ) (bytes : List ℕ)
+        → KeepsOutBut k pool (written pool k bytes) }
 {}
 
-/// A free sector that is lent, written while it is out and given back leaves every other sector that is out as it was.
+/// A free sector that is lent, written while it is out and given back leaves every other sector
+/// that is out as it was.
 pub fn lending_leaves_others()
-    ensures { (old new : Pool) (k : ℕ) → slice_get old.out k ≡ Some false → KeepsOutBut k (leased old k) new → KeepsOut old (returned new k) }
+    ensures { (old new : Pool) (k : ℕ) → slice_get old.out k ≡ Some false
+        → KeepsOutBut k (leased old k) new → KeepsOut old (returned new k) }
 {}
 
 /// A caller that leases, writes through its lease or gives it back hands over what it holds, and so

@@ -44,7 +44,8 @@ impl Model for SectorPool {
 
     ghost view = { λ pool. record { out = pool.out.items; sectors = pool.sectors.items } };
 
-    ghost invariant = { λ pool. (length pool.out.items ≡ length pool.sectors.items) × (length pool.out.items ≤ 16) };
+    ghost invariant = { λ pool. (length pool.out.items ≡ length pool.sectors.items)
+        × (length pool.out.items ≤ 16) };
 }
 
 impl SectorPool {
@@ -68,15 +69,18 @@ impl SectorPool {
         self.out.iter().filter(|is_out| !**is_out).count() as u32
     }
 
-    /// Lends the free sector of the least number, with all its bytes 0xff. None exactly where all are out.
+    /// Lends the free sector of the least number, with all its bytes 0xff. None exactly where all
+    /// are out.
     pub fn lease(&mut self) -> Option<Lease>
         ensures none { IsNone result ↔ All (λ is_out. is_out ≡ true) self.old.out }
         ensures some { HasFree self.old → IsSome result }
         ensures free { IfSome result (λ k. slice_get self.old.out k ≡ Some false) }
-        ensures least { IfSome result (λ k. (j : ℕ) → j < k → slice_get self.old.out j ≡ Some true) }
+        ensures least { IfSome result
+            (λ k. (j : ℕ) → j < k → slice_get self.old.out j ≡ Some true) }
         ensures lent { IfSome result (λ k. self.new ≡ leased self.old k) }
         ensures out { IfSome result (λ k. slice_get self.new.out k ≡ Some true) }
-        ensures still_out { (j : ℕ) → slice_get self.old.out j ≡ Some true → slice_get self.new.out j ≡ Some true }
+        ensures still_out { (j : ℕ) → slice_get self.old.out j ≡ Some true
+            → slice_get self.new.out j ≡ Some true }
         ensures unchanged { IfNone result (self.new ≡ self.old) }
     {
         self.take_least()
@@ -87,7 +91,8 @@ impl SectorPool {
     fn take_least(&mut self) -> Option<Lease>
         ensures none { IsNone result ↔ All (λ is_out. is_out ≡ true) self.old.out }
         ensures free { IfSome result (λ k. slice_get self.old.out k ≡ Some false) }
-        ensures least { IfSome result (λ k. (j : ℕ) → j < k → slice_get self.old.out j ≡ Some true) }
+        ensures least { IfSome result
+            (λ k. (j : ℕ) → j < k → slice_get self.old.out j ≡ Some true) }
         ensures lent { IfSome result (λ k. self.new ≡ leased self.old k) }
         ensures unchanged { IfNone result (self.new ≡ self.old) }
     {
@@ -108,7 +113,8 @@ impl SectorPool {
         whole(&self.sectors[lease.number as usize])
     }
 
-    /// The 4096 bytes of a sector that is out here, for writing. Nothing else of the pool is changed through them.
+    /// The 4096 bytes of a sector that is out here, for writing. Nothing else of the pool is
+    /// changed through them.
     pub fn bytes_mut(&mut self, lease: &Lease) -> &mut [u8]
         requires { slice_get self.old.out lease.now ≡ Some true }
         ensures* writes_back { sem 𝓛 (LendsSector self.entry lease.now result) }
@@ -119,7 +125,8 @@ impl SectorPool {
         self.sectors[lease.number as usize].as_mut_slice()
     }
 
-    /// Takes a lease that is out here back: its sector is free again, and its bytes stay as they are.
+    /// Takes a lease that is out here back: its sector is free again, and its bytes stay as they
+    /// are.
     pub fn give_back(&mut self, lease: Lease)
         requires { slice_get self.old.out lease ≡ Some true }
         ensures { self.new ≡ returned self.old lease }

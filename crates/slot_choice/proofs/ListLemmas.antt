@@ -32,7 +32,8 @@ pub mapped-more : {X : Type 0} (f : ℕ → X) (p : ℕ → Bool) (n : ℕ)
     → map f (filter p (range_with_len 0 (n + 1))) ≡ map f (filter p (range_with_len 0 n)) ++ cond (p n) (f n ∷ []) []
 mapped-more f p n = ap (map f) (passing-more p n) ∙ mapped-by f (filter p (range_with_len 0 n)) n (p n)
 
-module _ {X : Type 0} (f : ℕ → X) (p : ℕ → Bool) (n : ℕ) (xs : List X) (made : xs ≡ map f (filter p (range_with_len 0 n))) where
+module _ {X : Type 0} (f : ℕ → X) (p : ℕ → Bool) (n : ℕ) (xs : List X)
+    (made : xs ≡ map f (filter p (range_with_len 0 n))) where
   -- of a number that passes something is made
   pub made-more : (y : X) → p n ≡ true → y ≡ f n → xs ++ y ∷ [] ≡ map f (filter p (range_with_len 0 (n + 1)))
   made-more y passes same =

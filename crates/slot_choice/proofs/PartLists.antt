@@ -19,7 +19,8 @@ kept false a rest i k at = (k, at)
 -- a list of rising numbers above one that a test may have added in front rises
 rises : (yes : Bool) (a : ℕ) (rest : List ℕ) → ((k y : ℕ) → slice_get rest k ≡ Some y → a < y)
     → ((j k x y : ℕ) → j < k → slice_get rest j ≡ Some x → slice_get rest k ≡ Some y → x < y)
-    → (j k x y : ℕ) → j < k → slice_get (cond yes (a ∷ rest) rest) j ≡ Some x → slice_get (cond yes (a ∷ rest) rest) k ≡ Some y → x < y
+    → (j k x y : ℕ) → j < k → slice_get (cond yes (a ∷ rest) rest) j ≡ Some x
+    → slice_get (cond yes (a ∷ rest) rest) k ≡ Some y → x < y
 rises true a rest above rising zero zero x y lt one two = absurd (omega arith)
 rises true a rest above rising zero (suc k) x y lt one two =
     let same : a ≡ x = cc in
@@ -30,7 +31,8 @@ rises false a rest above rising j k x y lt one two = rising j k x y lt one two
 
 module _ (test : ℕ → Bool) where
   -- a number of the list is in the range and passes the test
-  pub passing : (a n j i : ℕ) → slice_get (filter test (range_with_len a n)) j ≡ Some i → (a ≤ i) × (i < a + n) × (test i ≡ true)
+  pub passing : (a n j i : ℕ) → slice_get (filter test (range_with_len a n)) j ≡ Some i
+      → (a ≤ i) × (i < a + n) × (test i ≡ true)
   passing a zero j i at = cc
   passing a (suc n) j i at =
       elim (added (test a) a (filter test (range_with_len (a + 1) n)) j i at) [
@@ -65,7 +67,8 @@ module _ (test : ℕ → Bool) where
       elim (cases_eq a i) [
         | inl same ↦ (
           0,
-          ap (λ yes. slice_get (cond yes (a ∷ filter test (range_with_len (a + 1) n)) (filter test (range_with_len (a + 1) n))) 0)
+          ap (λ yes. slice_get (cond yes (a ∷ filter test (range_with_len (a + 1) n))
+              (filter test (range_with_len (a + 1) n))) 0)
               (ap test same ∙ passes)
               ∙ ap Some same,
         )

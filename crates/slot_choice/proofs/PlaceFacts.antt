@@ -68,11 +68,13 @@ unit_at t n z cpu i lt first free kept =
     listed (λ l. begins_boot_unit cpu (part_at parts l)) 0 (length parts) i (omega arith) (omega arith)
     (all_not _ _ _ first free kept) in (
       at.0,
-      slice_get-map (unit_of parts) (parts_where (begins_boot_unit cpu) parts) at.0 ∙ ap (option_map (unit_of parts)) at.1,
+      slice_get-map (unit_of parts) (parts_where (begins_boot_unit cpu) parts) at.0
+          ∙ ap (option_map (unit_of parts)) at.1,
     )
 
 -- the partition of a boot unit, and what it is
-pub unit_listed : (t : Table) (n z : ℕ) (cpu : Cpu) (k : ℕ) (u : SlotUnit) → slice_get (units (Some t) n z cpu) k ≡ Some u
+pub unit_listed : (t : Table) (n z : ℕ) (cpu : Cpu) (k : ℕ) (u : SlotUnit)
+    → slice_get (units (Some t) n z cpu) k ≡ Some u
     → (i : ℕ) × (i < length t.parts.items) × (is_second (part_at t.parts.items i) ≡ false)
     × (is_owned (part_at t.parts.items i) ≡ false)
     × (is_ignored cpu (part_at t.parts.items i) ≡ false)
@@ -89,7 +91,8 @@ units_ordered t n z cpu j k u v a b lt one two is_a is_b =
     let p : (i : ℕ) × IsBootUnit t.parts.items cpu j u i = boot_unit t n z cpu j u one in
     let q : (i : ℕ) × IsBootUnit t.parts.items cpu k v i = boot_unit t n z cpu k v two in
     let up : p.0 < q.0 =
-    rising (λ l. begins_boot_unit cpu (part_at t.parts.items l)) 0 (length t.parts.items) j k p.0 q.0 lt p.1.listed q.1.listed in
+    rising (λ l. begins_boot_unit cpu (part_at t.parts.items l)) 0
+    (length t.parts.items) j k p.0 q.0 lt p.1.listed q.1.listed in
     let of_a : p.0 ≡ a = same_Some p.0 a (ap (λ (w : SlotUnit). w.a_part) (sym p.1.unit) ∙ is_a) in
     let of_b : q.0 ≡ b = same_Some q.0 b (ap (λ (w : SlotUnit). w.a_part) (sym q.1.unit) ∙ is_b) in
     omega (arith, up, of_a, of_b)
@@ -102,7 +105,8 @@ boot_units_apart t s n z cpu sound j k u v differ one two w x in_u in_v =
     let a : (i : ℕ) × IsBootUnit t.parts.items cpu j u i = boot_unit t n z cpu j u one in
     let b : (i : ℕ) × IsBootUnit t.parts.items cpu k v i = boot_unit t n z cpu k v two in
     units_apart t s sound a.0 b.0 a.1.within b.1.within a.1.first b.1.first
-    (different (λ i. begins_boot_unit cpu (part_at t.parts.items i)) 0 (length t.parts.items) j k a.0 b.0 differ a.1.listed b.1.listed)
+    (different (λ i. begins_boot_unit cpu (part_at t.parts.items i)) 0
+    (length t.parts.items) j k a.0 b.0 differ a.1.listed b.1.listed)
     w x (subst (λ y. IsMember y w) a.1.unit in_u) (subst (λ y. IsMember y x) b.1.unit in_v)
 
 -- the two members of a boot unit of a table stand apart
@@ -110,7 +114,8 @@ pub boot_pair_apart : (t : Table) (s n z : ℕ) (cpu : Cpu) → IsSoundTable t s
     → slice_get (units (Some t) n z cpu) k ≡ Some u → (w : Window) → u.b ≡ Some w → AreApart u.a w
 boot_pair_apart t s n z cpu sound k u at w pair =
     let a : (i : ℕ) × IsBootUnit t.parts.items cpu k u i = boot_unit t n z cpu k u at in
-    subst (λ y. AreApart y.a w) (sym a.1.unit) (pair_apart t s sound a.0 a.1.within w (subst (λ y. y.b ≡ Some w) a.1.unit pair))
+    subst (λ y. AreApart y.a w) (sym a.1.unit)
+    (pair_apart t s sound a.0 a.1.within w (subst (λ y. y.b ≡ Some w) a.1.unit pair))
 
 -- the members of the boot units of a table stand where its partitions stand
 pub boot_members_placed : (t : Table) (s m n z : ℕ) (cpu : Cpu) → table_fault t s m ≡ None → (k : ℕ) (u : SlotUnit)
@@ -133,36 +138,54 @@ pub record IsLoadUnit (parts : List Partition) (family : ℕ) (u : SlotUnit) (i 
   pub unit : u ≡ unit_of parts i
 
 -- the unit that accepts a family is that of a partition
-pub accepting : (parts : List Partition) (family : ℕ) (u : SlotUnit) → accepting_unit parts family ≡ Some u → (i : ℕ) × IsLoadUnit parts family u i
+pub accepting : (parts : List Partition) (family : ℕ) (u : SlotUnit) → accepting_unit parts family ≡ Some u
+    → (i : ℕ) × IsLoadUnit parts family u i
 accepting parts family u at =
-    let found : (i : ℕ) × (find (λ i. accepts (part_at parts i) family) (parts_where begins_load_unit parts) ≡ Some i) × (u ≡ unit_of parts i) =
-    mapped_some (unit_of parts) (find (λ i. accepts (part_at parts i) family) (parts_where begins_load_unit parts)) u at in
-    let there : (k : ℕ) × (slice_get (parts_where begins_load_unit parts) k ≡ Some found.0) × (accepts (part_at parts found.0) family ≡ true) =
+    let found : (i : ℕ) × (find (λ i. accepts (part_at parts i) family) (parts_where begins_load_unit parts) ≡ Some i)
+    × (u ≡ unit_of parts i) =
+    mapped_some (unit_of parts) (find (λ i. accepts (part_at parts i) family) (parts_where begins_load_unit parts)) u
+    at in
+    let there : (k : ℕ) × (slice_get (parts_where begins_load_unit parts) k ≡ Some found.0)
+    × (accepts (part_at parts found.0) family ≡ true) =
     found_place (λ i. accepts (part_at parts i) family) (parts_where begins_load_unit parts) found.0 found.1 in
-    let passes : _ = passing (λ i. begins_load_unit (part_at parts i)) 0 (length parts) there.0 found.0 there.1 in
-    (found.0, record { within = omega (arith, passes.1); first = not_true _ passes.2; accepting = there.2; unit = found.2 })
+    let passes : _ = passing (λ i. begins_load_unit (part_at parts i)) 0 (length parts) there.0 found.0 there.1 in (
+      found.0,
+      record {
+        within = omega (arith, passes.1);
+        first = not_true _ passes.2;
+        accepting = there.2;
+        unit = found.2;
+      },
+    )
 
-either : (yes : Bool) (one two : Option SlotUnit) (u : SlotUnit) → (if yes then one else two) ≡ Some u → (one ≡ Some u) ⊎ (two ≡ Some u)
+either : (yes : Bool) (one two : Option SlotUnit) (u : SlotUnit) → (if yes then one else two) ≡ Some u
+    → (one ≡ Some u) ⊎ (two ≡ Some u)
 either true one two u e = inl e
 either false one two u e = inr e
 
 -- a unit of a download that names a partition is that partition's unit
-pub load_unit_part : (t : Table) (n z family : ℕ) (u : SlotUnit) (i : ℕ) → load_unit (Some t) n z family ≡ Some u → u.a_part ≡ Some i
+pub load_unit_part : (t : Table) (n z family : ℕ) (u : SlotUnit) (i : ℕ) → load_unit (Some t) n z family ≡ Some u
+    → u.a_part ≡ Some i
     → IsLoadUnit t.parts.items family u i
 load_unit_part t n z family u i at part =
     elim (either (family == absolute_family) (absolute_unit (Some t) n) (accepting_unit t.parts.items family) u at) [
       | inl whole ↦ absurd (no_part (accepts_absolute t) u i whole part)
       | inr accepted ↦
           let found : (k : ℕ) × IsLoadUnit t.parts.items family u k = accepting t.parts.items family u accepted in
-          subst (λ k. IsLoadUnit t.parts.items family u k) (same_part t.parts.items found.0 u i found.1.unit part) found.1
+          subst (λ k. IsLoadUnit t.parts.items family u k)
+          (same_part t.parts.items found.0 u i found.1.unit part) found.1
     ]
   where
-    no_part : (yes : Bool) (v : SlotUnit) (k : ℕ) → (if yes then Some (whole_flash n) else None) ≡ Some v → v.a_part ≡ Some k → ⊥
-    no_part true v k e part_is = let same : whole_flash n ≡ v = cc in let none : None ≡ Some k = ap (λ (y : SlotUnit). y.a_part) same ∙ part_is in cc
+    no_part : (yes : Bool) (v : SlotUnit) (k : ℕ) → (if yes then Some (whole_flash n) else None) ≡ Some v
+        → v.a_part ≡ Some k → ⊥
+    no_part true v k e part_is = let same : whole_flash n ≡ v = cc in
+        let none : None ≡ Some k = ap (λ (y : SlotUnit). y.a_part) same ∙ part_is in cc
     no_part false v k e part_is = cc
 
-    same_part : (parts : List Partition) (k : ℕ) (v : SlotUnit) (l : ℕ) → v ≡ unit_of parts k → v.a_part ≡ Some l → k ≡ l
-    same_part parts k v l is part_is = let numbers : Some k ≡ Some l = ap (λ (y : SlotUnit). y.a_part) (sym is) ∙ part_is in cc
+    same_part : (parts : List Partition) (k : ℕ) (v : SlotUnit) (l : ℕ) → v ≡ unit_of parts k → v.a_part ≡ Some l
+        → k ≡ l
+    same_part parts k v l is part_is = let numbers : Some k ≡ Some l = ap (λ (y : SlotUnit). y.a_part) (sym is)
+        ∙ part_is in cc
 
 -- the members of an owned load unit stand apart from those of every boot unit
 pub owned_unit_apart : (t : Table) (s n z family : ℕ) (cpu : Cpu) → IsSoundTable t s → (k : ℕ) (u v : SlotUnit) (i : ℕ)
@@ -172,7 +195,8 @@ owned_unit_apart t s n z family cpu sound k u v i loaded part owned at w x in_u 
     let a : IsLoadUnit t.parts.items family u i = load_unit_part t n z family u i loaded part in
     let b : (j : ℕ) × IsBootUnit t.parts.items cpu k v j = boot_unit t n z cpu k v at in
     units_apart t s sound i b.0 a.within b.1.within a.first b.1.first
-    (λ same. let free : is_owned (part_at t.parts.items i) ≡ false = subst (λ l. is_owned (part_at t.parts.items l) ≡ false) (sym same) b.1.free in cc)
+    (λ same. let free : is_owned (part_at t.parts.items i) ≡ false =
+    subst (λ l. is_owned (part_at t.parts.items l) ≡ false) (sym same) b.1.free in cc)
     w x (subst (λ y. IsMember y w) a.unit in_u) (subst (λ y. IsMember y x) b.1.unit in_v)
 
 -- the members of a load unit that names a partition stand where partitions stand
@@ -188,12 +212,14 @@ whole_placed s some w (inl a) = subst (λ x. IsPlaced x s 0) (sym a)
     (record { starts = refl; whole = omega arith; some = omega arith; inside = omega arith; free = omega arith })
 whole_placed s some w (inr b) = cc
 
-slots_placed : (s z : ℕ) → z % 4096 ≡ 0 → 4096 ≤ z → 2 * z ≤ 4096 * s → (w : Window) → IsMember (slot_pair z) w → IsPlaced w s 0
+slots_placed : (s z : ℕ) → z % 4096 ≡ 0 → 4096 ≤ z → 2 * z ≤ 4096 * s → (w : Window) → IsMember (slot_pair z) w
+    → IsPlaced w s 0
 slots_placed s z whole some fits w (inl a) = subst (λ x. IsPlaced x s 0) (sym a)
     (record { starts = refl; whole = whole; some = some; inside = omega arith; free = omega arith })
 slots_placed s z whole some fits w (inr b) =
     let same : record { start = z; len = z } ≡ w = cc in
-    subst (λ x. IsPlaced x s 0) same (record { starts = whole; whole = whole; some = some; inside = omega arith; free = omega arith })
+    subst (λ x. IsPlaced x s 0) same
+    (record { starts = whole; whole = whole; some = some; inside = omega arith; free = omega arith })
 
 tableless_by : (large : Bool) (s z : ℕ) → nat_lt 4096 z ≡ large → 1 ≤ s → z % 4096 ≡ 0 → (4096 < z → 2 * z ≤ 4096 * s)
     → (w : Window) → IsMember (if large then slot_pair z else whole_flash (4096 * s)) w → IsPlaced w s 0
@@ -208,7 +234,8 @@ tableless_placed s z some whole fits w member = tableless_by (nat_lt 4096 z) s z
 
 tableless_apart_by : (large : Bool) (n z : ℕ) (w : Window) → (if large then slot_pair z else whole_flash n).b ≡ Some w
     → AreApart (if large then slot_pair z else whole_flash n).a w
-tableless_apart_by true n z w at = let same : record { start = z; len = z } ≡ w = cc in subst (λ x. AreApart (slot_pair z).a x) same (inl (omega arith))
+tableless_apart_by true n z w at = let same : record { start = z; len = z } ≡ w = cc in
+    subst (λ x. AreApart (slot_pair z).a x) same (inl (omega arith))
 tableless_apart_by false n z w at = cc
 
 pub tableless_apart : (n z : ℕ) (w : Window) → (tableless_unit n z).b ≡ Some w → AreApart (tableless_unit n z).a w

@@ -17,18 +17,21 @@ use Rattle.pico_board.specs.Content.{flash_base}
 use Rattle.slot_choice.specs.Updates.{member_at, has_member_at, updated_member, moved_to_front, update_order, IsUpdateless, IsUpdateOf}
 
 -- moving an element to the front changes the order alone
-pub front_permutes : {X : Type 0} (xs : List X) (k : ℕ) (x : X) → slice_get xs k ≡ Some x → moved_to_front xs k ≡ x ∷ remove xs k
+pub front_permutes : {X : Type 0} (xs : List X) (k : ℕ) (x : X) → slice_get xs k ≡ Some x
+    → moved_to_front xs k ≡ x ∷ remove xs k
 front_permutes xs k x at =
     let lt : k < length xs = slice_get_within xs k x at in
     let is : get_or xs k x ≡ x = get_or_from_slice_get xs k x x at in
-    let cut : take 1 (drop k xs) ≡ take 1 (get_or xs k x ∷ drop (k + 1) xs) = ap (λ ys. take 1 ys) (drop_more xs k x lt) in
+    let cut : take 1 (drop k xs) ≡ take 1 (get_or xs k x ∷ drop (k + 1) xs) =
+    ap (λ ys. take 1 ys) (drop_more xs k x lt) in
     ap (λ ys. ys ++ remove xs k) (cut ∙ ap (λ y. y ∷ []) is)
 
 -- a unit that stands for one past the end of a list
 nowhere : SlotUnit
 nowhere = record { a = record { start = 0; len = 0 }; b = None; a_part = None; b_part = None }
 
-permutes_by : (us : List SlotUnit) (o : Option ℕ) → ((k : ℕ) → o ≡ Some k → k < length us) → IsPermutation us (option_map_or (moved_to_front us) o us)
+permutes_by : (us : List SlotUnit) (o : Option ℕ) → ((k : ℕ) → o ≡ Some k → k < length us)
+    → IsPermutation us (option_map_or (moved_to_front us) o us)
 permutes_by us None within = IsPermutation-refl us
 permutes_by us (Some k) within =
     let lt : k < length us = within k refl in
@@ -45,9 +48,11 @@ if_permutes false us vs p = IsPermutation-refl us
 pub order_permutes : (us : List SlotUnit) (base : ℕ) → IsPermutation us (update_order us base)
 order_permutes us base =
     if_permutes (nat_le flash_base base) us _
-    (permutes_by us (position (has_member_at (base - flash_base)) us) (λ k at. (passes_at_position (has_member_at (base - flash_base)) us k nowhere at).0))
+    (permutes_by us (position (has_member_at (base - flash_base)) us)
+    (λ k at. (passes_at_position (has_member_at (base - flash_base)) us k nowhere at).0))
 
-second_starts : (start : ℕ) (w : Window) (m : Member) (yes : Bool) → (w.start == start) ≡ yes → (if yes then Some B else None) ≡ Some m
+second_starts : (start : ℕ) (w : Window) (m : Member) (yes : Bool) → (w.start == start) ≡ yes
+    → (if yes then Some B else None) ≡ Some m
     → (m ≡ B) × (w.start ≡ start)
 second_starts start w m true is e = (cc, eqb-true _ _ is)
 second_starts start w m false is e = cc
@@ -58,7 +63,8 @@ starts_by : (start : ℕ) (a : Window) (b : Option Window) (m : Member) (yes : B
 starts_by start a b m true is e = inl (cc, eqb-true _ _ is)
 starts_by start a None m false is e = cc
 starts_by start a (Some w) m false is e =
-    let second : (m ≡ B) × (w.start ≡ start) = second_starts start w m (w.start == start) refl e in inr (second.0, w, refl, second.1)
+    let second : (m ≡ B) × (w.start ≡ start) = second_starts start w m (w.start == start) refl e in
+    inr (second.0, w, refl, second.1)
 
 -- the member that starts at an offset has a window that does
 pub member_starts : (start : ℕ) (u : SlotUnit) (m : Member) → member_at start u ≡ Some m
@@ -79,24 +85,30 @@ none_by start a None false is e w (inr two) = λ same. cc
 none_by start a (Some v) false is e w (inr two) = λ same.
     let one : v ≡ w = cc in
     let yes : (v.start == start) ≡ true = eq-eqb _ _ (ap (λ (y : Window). y.start) one ∙ same) in
-    let some : is_some (if v.start == start then Some B else None) ≡ true = ap (λ b. is_some (if b then Some B else None)) yes in
+    let some : is_some (if v.start == start then Some B else None) ≡ true =
+    ap (λ b. is_some (if b then Some B else None)) yes in
     cc
 
 -- where no member starts at an offset, no window of the unit does
-pub none_starts : (start : ℕ) (u : SlotUnit) → has_member_at start u ≡ false → (w : Window) → IsMember u w → w.start ≢ start
+pub none_starts : (start : ℕ) (u : SlotUnit) → has_member_at start u ≡ false → (w : Window) → IsMember u w
+    → w.start ≢ start
 none_starts start u no_member w member = none_by start u.a u.b (u.a.start == start) refl no_member w member
 
 -- a member that is searched for in the units from an address on
 sought_from : (us : List SlotUnit) (base : ℕ) (yes : Bool) (k : ℕ) (u : SlotUnit) (m : Option Member) → yes ≡ true
     → Found (has_member_at (base - flash_base)) us k u
-    → (if yes then option_and_then (member_at (base - flash_base)) (find (has_member_at (base - flash_base)) us) else None) ≡ m
+    → (if yes then option_and_then (member_at (base - flash_base))
+    (find (has_member_at (base - flash_base)) us) else None) ≡ m
     → member_at (base - flash_base) u ≡ m
 sought_from us base false k u m is found e = cc
-sought_from us base true k u m is found e = ap (λ o. option_and_then (member_at (base - flash_base)) o) (sym found.sought) ∙ e
+sought_from us base true k u m is found e =
+    ap (λ o. option_and_then (member_at (base - flash_base)) o) (sym found.sought) ∙ e
 
 -- the order that a place gives, from an address on
-ordered_by : (us : List SlotUnit) (base : ℕ) (yes : Bool) (o : Option ℕ) → yes ≡ true → position (has_member_at (base - flash_base)) us ≡ o
-    → (if yes then option_map_or (moved_to_front us) (position (has_member_at (base - flash_base)) us) us else us) ≡ option_map_or (moved_to_front us) o us
+ordered_by : (us : List SlotUnit) (base : ℕ) (yes : Bool) (o : Option ℕ) → yes ≡ true
+    → position (has_member_at (base - flash_base)) us ≡ o
+    → (if yes then option_map_or (moved_to_front us) (position (has_member_at (base - flash_base)) us) us else us)
+    ≡ option_map_or (moved_to_front us) o us
 ordered_by us base false o is e = cc
 ordered_by us base true o is e = ap (λ p. option_map_or (moved_to_front us) p us) e
 
@@ -107,14 +119,18 @@ below_order us base true is = cc
 below_order us base false is = refl
 
 below_member : (us : List SlotUnit) (base : ℕ) (yes : Bool) (m : Member) → yes ≡ false
-    → (if yes then option_and_then (member_at (base - flash_base)) (find (has_member_at (base - flash_base)) us) else None) ≡ Some m → ⊥
+    → (if yes then option_and_then (member_at (base - flash_base))
+    (find (has_member_at (base - flash_base)) us) else None) ≡ Some m → ⊥
 below_member us base true m is e = cc
 below_member us base false m is e = cc
 
-absent_member : (us : List SlotUnit) (base : ℕ) (yes : Bool) (m : Member) → Absent (has_member_at (base - flash_base)) us
-    → (if yes then option_and_then (member_at (base - flash_base)) (find (has_member_at (base - flash_base)) us) else None) ≡ Some m → ⊥
+absent_member : (us : List SlotUnit) (base : ℕ) (yes : Bool) (m : Member)
+    → Absent (has_member_at (base - flash_base)) us
+    → (if yes then option_and_then (member_at (base - flash_base))
+    (find (has_member_at (base - flash_base)) us) else None) ≡ Some m → ⊥
 absent_member us base true m absent e =
-    let none : None ≡ Some m = ap (λ o. option_and_then (member_at (base - flash_base)) o) (sym absent.unfound) ∙ e in cc
+    let none : None ≡ Some m = ap (λ o. option_and_then (member_at (base - flash_base)) o) (sym absent.unfound) ∙ e in
+    cc
 absent_member us base false m absent e = cc
 
 some_is_some : (o : Option Member) → is_some o ≡ true → o ≡ None → ⊥
@@ -161,14 +177,16 @@ fails_before us start k place j v at =
     subst (λ y. has_member_at start y ≡ false) is (fails_before_position (has_member_at start) us k v place j lt)
 
 -- the updated member is one of the unit that comes first, and starts where the address points
-pub updated : (us : List SlotUnit) (base : ℕ) (m : Member) → updated_member us base ≡ Some m → (u : SlotUnit) × (w : Window) × IsUpdateOf us base m u w
+pub updated : (us : List SlotUnit) (base : ℕ) (m : Member) → updated_member us base ≡ Some m
+    → (u : SlotUnit) × (w : Window) × IsUpdateOf us base m u w
 updated us base m some =
     elim (leb_tells flash_base base) [
       | inl above ↦ elim (search_of (has_member_at (base - flash_base)) us) [
         | inl absent ↦ absurd (absent_member us base (nat_le flash_base base) m absent some)
         | inr found ↦
             let start : (w : Window) × (member_window m found.1 ≡ Some w) × (w.start ≡ base - flash_base) =
-            member_starts (base - flash_base) found.1 m (sought_from us base (nat_le flash_base base) found.0 found.1 (Some m) above.0 found.2 some) in (
+            member_starts (base - flash_base) found.1 m
+            (sought_from us base (nat_le flash_base base) found.0 found.1 (Some m) above.0 found.2 some) in (
               found.1,
               start.0,
               record {
@@ -180,7 +198,8 @@ updated us base m some =
                 window = start.1;
                 pointed = omega (arith, above.1, start.2);
                 first = λ j v x at member same.
-                    none_starts (base - flash_base) v (fails_before us (base - flash_base) found.0 found.2.place j v at) x member
+                    none_starts (base - flash_base) v
+                    (fails_before us (base - flash_base) found.0 found.2.place j v at) x member
                     (omega arith);
               },
             )
@@ -189,7 +208,8 @@ updated us base m some =
     ]
 
 sought_by : (us : List SlotUnit) (base start : ℕ) (yes : Bool) → yes ≡ true → start ≡ base - flash_base
-    → (if yes then option_and_then (member_at (base - flash_base)) (find (has_member_at (base - flash_base)) us) else None)
+    → (if yes then option_and_then (member_at (base - flash_base))
+    (find (has_member_at (base - flash_base)) us) else None)
     ≡ option_and_then (member_at start) (find (has_member_at start) us)
 sought_by us base start false is e = cc
 sought_by us base start true is e = ap (λ s. option_and_then (member_at s) (find (has_member_at s) us)) (sym e)

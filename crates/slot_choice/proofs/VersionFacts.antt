@@ -9,17 +9,20 @@ use Rattle.slot_choice.specs.Versions.{is_below, better}
 below_numbers_irreflexive : (a b : ℕ) → (nat_lt a a || (a == a && nat_lt b b)) ≡ false
 below_numbers_irreflexive a b = grind (arith, nat_tests)
 
-below_numbers_transitive : (a b c d e f : ℕ) → (nat_lt a c || (a == c && nat_lt b d)) ≡ true → (nat_lt c e || (c == e && nat_lt d f)) ≡ true
+below_numbers_transitive : (a b c d e f : ℕ) → (nat_lt a c || (a == c && nat_lt b d)) ≡ true
+    → (nat_lt c e || (c == e && nat_lt d f)) ≡ true
     → (nat_lt a e || (a == e && nat_lt b f)) ≡ true
 below_numbers_transitive a b c d e f one two = grind (arith, nat_tests)
 
-below_numbers_total : (a b c d : ℕ) → (nat_lt a c || (a == c && nat_lt b d)) ≡ false → (nat_lt c a || (c == a && nat_lt d b)) ≡ false
+below_numbers_total : (a b c d : ℕ) → (nat_lt a c || (a == c && nat_lt b d)) ≡ false
+    → (nat_lt c a || (c == a && nat_lt d b)) ≡ false
     → (a ≡ c) × (b ≡ d)
 below_numbers_total a b c d one two = grind (arith, nat_tests)
 
 -- versions whose numbers are equal are equal
 same_version : (v w : Version) → (v.major ≡ w.major) × (v.minor ≡ w.minor) → v ≡ w
-same_version v w same = ap (λ m. record { major = m; minor = v.minor }) same.0 ∙ ap (λ m. record { major = w.major; minor = m }) same.1
+same_version v w same = ap (λ m. record { major = m; minor = v.minor }) same.0
+    ∙ ap (λ m. record { major = w.major; minor = m }) same.1
 
 pub irreflexive : (v : Version) → is_below v v ≡ false
 irreflexive v = below_numbers_irreflexive v.major v.minor
@@ -55,4 +58,5 @@ none_better (Some v) (Some w) = ((λ e. cc), λ both. cc)
 
 -- of two different versions the same one is better whichever member has it
 pub swapped : (v w : Version) → v ≢ w → better (Some v) (Some w) ≡ Some A → better (Some w) (Some v) ≡ Some B
-swapped v w differ first = (second_better w v).1 (never_false (is_below w v) (λ above. differ (total v w (chosen_a (is_below v w) first) above)))
+swapped v w differ first = (second_better w v).1
+    (never_false (is_below w v) (λ above. differ (total v w (chosen_a (is_below v w) first) above)))

@@ -6,7 +6,8 @@ use std::test::Fail;
 
 fn lent(rt: &impl Abort, pool: &mut SectorPool) -> Lease
     ensures out { slice_get pool.new.out result ≡ Some true }
-    ensures still_out { (j : ℕ) → slice_get pool.old.out j ≡ Some true → slice_get pool.new.out j ≡ Some true }
+    ensures still_out { (j : ℕ) → slice_get pool.old.out j ≡ Some true
+        → slice_get pool.new.out j ≡ Some true }
 {
     pool.lease().expect(rt, "a free sector")
 }

@@ -5,7 +5,8 @@ use Rattle.block_codec.proofs.items.count_in.Goals as goal
 pub loop-at-preserved : goal.loop-at-preserved
 loop-at-preserved c =
     let ws = c.args.items.now in
-    let step = StepsOver-at ws c.loop-at.at c.item_size-at.result c.loop-at-test.true c.loop-at.invariant.whole c.item_size-at.ensures.value in
+    let step = StepsOver-at ws c.loop-at.at c.item_size-at.result c.loop-at-test.true c.loop-at.invariant.whole
+    c.item_size-at.ensures.value in
     let some = step.some in
     record {
       whole = step.rest;

@@ -16,7 +16,8 @@ loop-k-preserved c =
       so_far =
           c.put.ensures.items
           ∙ ap (λ xs. xs ++ word_bytes c.item_word.result) c.loop-k.invariant.so_far
-          ∙ ap (λ w. bytes_of (slice_range (block_words b) (first + 1) (first + c.loop-k.k)) ++ word_bytes w) c.item_word.ensures.value
+          ∙ ap (λ w. bytes_of (slice_range (block_words b) (first + 1) (first + c.loop-k.k)) ++ word_bytes w)
+          c.item_word.ensures.value
           ∙ sym more
           ∙ ap (λ n. bytes_of (slice_range (block_words b) (first + 1) n)) (sym next);
       long = omega arith;

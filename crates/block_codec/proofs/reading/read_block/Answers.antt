@@ -21,10 +21,12 @@ returns-in-Some-clause-found c = front_block-stands c.args.at c.args.piece.now c
 
 pub returns-in-None-clause-exact : goal.returns-in-None-clause-exact
 returns-in-None-clause-exact c =
-    front_block-none c.args.at c.args.piece.now c.as_slice-words.result.now (c.as_slice-words.ensures.value ∙ c.front_words-front.ensures)
+    front_block-none c.args.at c.args.piece.now c.as_slice-words.result.now
+    (c.as_slice-words.ensures.value ∙ c.front_words-front.ensures)
     c.in-None.ensures.value
 
 pub returns-in-None-clause-none : goal.returns-in-None-clause-none
 returns-in-None-clause-none c =
-    no_block_in_front c.args.piece.now c.as_slice-words.result.now (c.as_slice-words.ensures.value ∙ c.front_words-front.ensures)
+    no_block_in_front c.args.piece.now c.as_slice-words.result.now
+    (c.as_slice-words.ensures.value ∙ c.front_words-front.ensures)
     c.in-None.ensures.value

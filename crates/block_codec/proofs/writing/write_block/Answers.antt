@@ -25,7 +25,8 @@ the_bad ws place few bad i = (
 )
 
 pub returns-in-Some-clause-item_size : goal.returns-in-Some-clause-item_size
-returns-in-Some-clause-item_size c i = the_bad c.args.items.now c.in-Some.place c.if-items-gt-MOST_ITEM_WORDS.false c.in-Some.ensures.found i
+returns-in-Some-clause-item_size c i =
+    the_bad c.args.items.now c.in-Some.place c.if-items-gt-MOST_ITEM_WORDS.false c.in-Some.ensures.found i
 
 pub returns-in-None-clause-block : goal.returns-in-None-clause-block
 returns-in-None-clause-block c =
@@ -39,4 +40,5 @@ returns-in-None-clause-block c =
     })
 
 pub returns-in-None-clause-item_size : goal.returns-in-None-clause-item_size
-returns-in-None-clause-item_size c i = not_bad c.args.items.now c.append.result c.append.ensures.memory c.in-None.ensures.none i
+returns-in-None-clause-item_size c i =
+    not_bad c.args.items.now c.append.result c.append.ensures.memory c.in-None.ensures.none i

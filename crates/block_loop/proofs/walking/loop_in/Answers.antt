@@ -4,4 +4,5 @@ use Rattle.block_loop.proofs.FollowLemmas.{loop_of-none}
 use Rattle.block_loop.proofs.walking.loop_in.Goals as goal
 
 pub returns-in-None : goal.returns-in-None
-returns-in-None g c = sym (ap loop_offsets (loop_of-none (g.V.View.bytes c.args.view.now) (sym c.in-None.ensures.exact)))
+returns-in-None g c = sym (ap loop_offsets
+    (loop_of-none (g.V.View.bytes c.args.view.now) (sym c.in-None.ensures.exact)))

@@ -6,7 +6,8 @@ use Rattle.image_def.proofs.FaultLemmas.{held-vector, held-entry, held-delta, he
 use Rattle.image_def.proofs.reading.def_from.Goals as goal
 
 -- what the item of a slot has
-in_slot : {P : Item → Type 0} (slot found : Option Item) → slot ≡ found → ((item : Item) → found ≡ Some item → P item) → IfSome slot P
+in_slot : {P : Item → Type 0} (slot found : Option Item) → slot ≡ found → ((item : Item) → found ≡ Some item → P item)
+    → IfSome slot P
 in_slot None found e all = tt
 in_slot (Some item) found e all = all item (sym e)
 

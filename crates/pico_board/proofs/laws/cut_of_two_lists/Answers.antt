@@ -6,5 +6,9 @@ use Rattle.pico_board.proofs.laws.cut_of_two_lists.Goals as goal
 pub returns : goal.returns
 returns c = λ before xs ys left. (
   CutOf-append_cases before xs ys left,
-  λ cut. elim cut [ inl first ↦ CutOf-append_left before xs ys left first | inr second ↦ CutOf-append_right before xs ys left second ],
+  λ cut. elim cut [
+    | inl first ↦ CutOf-append_left before xs ys left first
+    | inr second ↦ CutOf-append_right before xs
+        ys left second
+  ],
 )

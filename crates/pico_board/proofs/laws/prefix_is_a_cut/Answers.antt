@@ -6,4 +6,5 @@ use Rattle.pico_board.proofs.Cuttings.{CutOf-prefix}
 use Rattle.pico_board.proofs.laws.prefix_is_a_cut.Goals as goal
 
 pub returns : goal.returns
-returns c = λ before xs step ys is all. CutOf-prefix before xs step ys is (recursion_from_All (IsStepIn (length before.flash)) xs all)
+returns c = λ before xs step ys is all. CutOf-prefix before xs step ys is
+    (recursion_from_All (IsStepIn (length before.flash)) xs all)

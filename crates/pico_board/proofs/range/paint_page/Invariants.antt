@@ -6,4 +6,5 @@ use Rattle.pico_board.specs.Steps.{changed}
 use Rattle.pico_board.proofs.range.paint_page.Given as goal
 
 abbrev pub invariant-loop-i : goal.invariant-loop-i
-invariant-loop-i l = l.flash ≡ changed (λ i b. bit_and b (bit_or (get_or l.bytes i 0) (pattern_at l.pattern i))) l.at l.i l.initial.flash
+invariant-loop-i l = l.flash ≡ changed
+    (λ i b. bit_and b (bit_or (get_or l.bytes i 0) (pattern_at l.pattern i))) l.at l.i l.initial.flash

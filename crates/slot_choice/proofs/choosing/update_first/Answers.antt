@@ -17,4 +17,5 @@ returns-clause-member c =
     c.in_ok-place.place c.remove-unit.result
     (sym (c.in_ok-place.ensures.value ∙ ap (position (has_member_at c.in_ok-start.start)) c.as_slice.ensures.value))
     (slice_get-get_or c.args.units.now.items c.in_ok-place.place c.remove-unit.result
-    (subst (λ us. c.in_ok-place.place < length us) c.as_slice.ensures.value c.in_ok-place.ensures.inside) ∙ ap Some (sym c.remove-unit.ensures.value))
+    (subst (λ us. c.in_ok-place.place < length us) c.as_slice.ensures.value c.in_ok-place.ensures.inside)
+    ∙ ap Some (sym c.remove-unit.ensures.value))

@@ -7,4 +7,5 @@ use Rattle.slot_choice.proofs.units.accepting_unit.Given as goal
 
 abbrev pub invariant-loop-i : goal.invariant-loop-i
 invariant-loop-i l =
-    find (λ k. accepts (part_at l.parts k) l.family) (filter (λ k. begins_load_unit (part_at l.parts k)) (range_with_len 0 l.i)) ≡ None
+    find (λ k. accepts (part_at l.parts k) l.family)
+    (filter (λ k. begins_load_unit (part_at l.parts k)) (range_with_len 0 l.i)) ≡ None

@@ -6,5 +6,6 @@ use Rattle.slot_choice.proofs.units.units_of.Given as goal
 
 abbrev pub invariant-loop-i : goal.invariant-loop-i
 invariant-loop-i l =
-    (l.units.items ≡ map (unit_of l.parts) (filter (λ k. begins_boot_unit l.cpu (part_at l.parts k)) (range_with_len 0 l.i)))
+    (l.units.items ≡ map (unit_of l.parts)
+    (filter (λ k. begins_boot_unit l.cpu (part_at l.parts k)) (range_with_len 0 l.i)))
     × (length l.units.items ≤ l.i)

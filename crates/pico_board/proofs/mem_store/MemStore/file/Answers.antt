@@ -7,6 +7,9 @@ use Rattle.pico_board.proofs.mem_store.MemStore.file.Goals as goal
 pub returns-in-Some : goal.returns-in-Some
 returns-in-Some c =
     let entries = c.args.self.now.files.items in
-    let is : IsFirstOf entries c.args.name.now c.in-Some.place = subst (λ (es : List Entry). IsFirstOf es c.args.name.now c.in-Some.place) c.deref.ensures.value c.in-Some.ensures in
+    let is : IsFirstOf entries c.args.name.now c.in-Some.place =
+    subst (λ (es : List Entry). IsFirstOf es c.args.name.now c.in-Some.place) c.deref.ensures.value
+    c.in-Some.ensures in
     found entries c.args.name.now c.in-Some.place c.index.result.now is.inside is.before (is.here c.index.result.now)
-    ∙ (ap (λ (x : Entry). Some x.1.items) (sym c.index.ensures) ∙ ap (λ (b : List ℕ). Some b) (sym c.as_slice.ensures.value))
+    ∙ (ap (λ (x : Entry). Some x.1.items) (sym c.index.ensures)
+    ∙ ap (λ (b : List ℕ). Some b) (sym c.as_slice.ensures.value))

@@ -9,5 +9,6 @@ returns g c =
     let xs = (g.B.Board.state c.args.self.now.board.now).content.flash in
     let w = c.args.self.now.window in
     let inside : w.start + w.len ≤ length xs = c.args.self.now.inside in
-    let within : c.args.at + length c.args.into.now ≤ w.len = omega (arith, c.requires, length-between xs w.start (w.start + w.len) inside) in
+    let within : c.args.at + length c.args.into.now ≤ w.len =
+    omega (arith, c.requires, length-between xs w.start (w.start + w.len) inside) in
     c.read.ensures ∙ sym (slice_range-slice_range xs w.start w.len c.args.at (length c.args.into.now) inside within)

@@ -1,0 +1,30 @@
+-- Worked examples of the lists of steps that a session does: two sectors are written, the first of
+-- them last, and power is lost within the last step. This project's own.
+use Rattle.std.specs.Prelude.{ℕ, List, [], ◌∷◌, true}
+use Rattle.pico_board.specs.declared.window.Window.{Window}
+use Rattle.pico_board.specs.Content.{Content}
+use Rattle.pico_board.specs.Steps.{Step, Erase, Program, after_all}
+use Rattle.pico_board.specs.Cuts.{cut_by, cut_with}
+
+-- the window of sectors 2 and 3
+abbrev pub two_sectors : Window
+two_sectors = record { start = 8192; len = 8192 }
+
+-- the steps between the first one and the programs of the first sector: they write page 48, which
+-- is the first of sector 3
+abbrev pub second_sector : List ℕ → List Step
+second_sector other = Erase 3 ∷ Program 48 other ∷ []
+
+-- the programs of the first sector, sector 2: that of its first page, 32
+abbrev pub first_sector : List ℕ → List Step
+first_sector page = Program 32 page ∷ []
+
+-- the steps that write a page of sector 3 and then the first page of sector 2
+abbrev pub two_pages : List ℕ → List ℕ → List Step
+two_pages page other = Erase 2 ∷ Erase 3 ∷ Program 48 other ∷ Program 32 page ∷ []
+
+-- what is left of a content when power is lost in the last of these steps, which is torn by the
+-- pattern 0x0f: it clears no bit among the low four of a byte
+abbrev pub half_done : Content → List ℕ → List ℕ → Content
+half_done c page other = cut_by (cut_with 0 true (0x0f ∷ []))
+    (after_all c (Erase 2 ∷ Erase 3 ∷ Program 48 other ∷ [])) (Program 32 page)
