@@ -9,3 +9,4 @@ pub mod StartLemmas
 pub mod TargetLemmas
 pub mod DataLemmas
 pub mod PickLaws
+pub mod HomeLemmas

@@ -9,7 +9,7 @@ ghost use Rattle.part_table.specs.declared.target.Target.{Target};
 ghost use Rattle.part_table.specs.Windows.{partition_window};
 ghost use Rattle.slot_choice.specs.declared.unit.Member.{Member};
 ghost use Rattle.slot_choice.specs.declared.unit.SlotUnit.{SlotUnit};
-ghost use Rattle.slot_choice.specs.Units.{unit_of};
+ghost use Rattle.slot_choice.specs.Units.{unit_of, IsMember};
 ghost use Rattle.image_def.specs.declared.started.Started.{Started};
 ghost use Rattle.image_check.specs.Valid.{Valid};
 ghost use Rattle.owner_data.specs.Owners.{data_parts};
@@ -28,9 +28,9 @@ ghost use Rattle.slot_choice.specs.declared.Choice.{Choice};
 ghost use Rattle.image_check.specs.NotBelow.{NotBelow};
 ghost use Rattle.boot_rules.specs.declared.decision.Decision.{Decision};
 ghost use Rattle.boot_rules.specs.declared.decision.Decision.TheVariants.{Start};
-ghost use Rattle.boot_rules.specs.Choosing.{Order, choose, decision_in, images_in};
+ghost use Rattle.boot_rules.specs.Choosing.{Order, boot_units_in, choose, decision_in, images_in};
 ghost use Rattle.boot_rules.specs.Changes.{Images, HaveSameImages, HaveSameImagesBut, AreInPlace, IsNotIn, IsIn};
-ghost use Rattle.boot_rules.specs.Chosen.{Chosen};
+ghost use Rattle.boot_rules.specs.Chosen.{Chosen, Home};
 
 /// For each content, processor and boot type the rules name exactly one decision: that of the choice as a function of the images.
 pub fn one_decision()
@@ -136,4 +136,14 @@ pub fn owned_data()
         → target_of c (Some found.table) cpu family ≡ Some target → Confined steps target.window → MayLeave c steps d
         → Chosen c cpu Normal (Start choice)
         → slice_get (data_of (Some found.table) choice) k ≡ Some w → window_bytes d w ≡ window_bytes c w }
+{}
+
+/// A window is home exactly where it is a member of a boot unit that has two members.
+pub fn home_is_a_pair()
+    ensures pair { (c : Content) (w : Window) (cpu : Cpu) → Home c w cpu
+        → (i : ℕ) × (u : SlotUnit) × (second : Window)
+        × (slice_get (boot_units_in c cpu) i ≡ Some u) × (u.b ≡ Some second) × IsMember u w }
+    ensures members { (c : Content) (w : Window) (cpu : Cpu) (i : ℕ) (u : SlotUnit) (second : Window)
+        → slice_get (boot_units_in c cpu) i ≡ Some u → u.b ≡ Some second → IsMember u w
+        → Home c w cpu }
 {}

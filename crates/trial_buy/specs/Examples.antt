@@ -31,4 +31,5 @@ an_image major minor = record {
 
 -- the start of an image of version 1.0 in a member
 abbrev pub started_in : Member → Bool → Choice
-started_in member updated = record { image = an_image 1 0; member = member; other = None; updated = updated }
+started_in member updated =
+    record { image = an_image 1 0; member = member; other = None; updated = updated }
