@@ -23,16 +23,19 @@ use Rattle.slot_choice.proofs.UnitFacts.{units_apart}
 use Rattle.owner_data.specs.Owners.{owner_pair, is_owned_by, taken_part, data_parts, IsDataOf}
 
 -- an owner pair, by whether there is an owner
-owner_none : (yes : Bool) (v : ℕ) (f : ℕ → ℕ × Option ℕ) → option_map f (if yes then Some v else None) ≡ None → yes ≡ false
+owner_none : (yes : Bool) (v : ℕ) (f : ℕ → ℕ × Option ℕ) → option_map f (if yes then Some v else None) ≡ None
+    → yes ≡ false
 owner_none true v f e = cc
 owner_none false v f e = refl
 
 -- there is no owner pair exactly where there is no owner
-pub without_owner : (parts : List Partition) (i : ℕ) → (owner_pair parts i ≡ None) ↔ (is_owned (part_at parts i) ≡ false)
+pub without_owner : (parts : List Partition) (i : ℕ)
+    → (owner_pair parts i ≡ None) ↔ (is_owned (part_at parts i) ≡ false)
 without_owner parts i =
     let p : Partition = part_at parts i in (
       owner_none (is_owned p) (link_value p) (λ owner. (owner, pair_of parts owner)),
-      λ free. ap (λ b. option_map (λ owner. (owner, pair_of parts owner)) (if b then Some (link_value p) else None)) free,
+      λ free. ap (λ b. option_map (λ owner. (owner, pair_of parts owner)) (if b then Some (link_value p) else None))
+          free,
     )
 
 -- the owner of an owner pair is right
@@ -46,7 +49,8 @@ with_owner parts none i o b lt is =
     let same : found.0 ≡ o = ap (λ (x : ℕ × Option ℕ). x.0) (sym found.2) in
     let other : b ≡ pair_of parts found.0 = ap (λ (x : ℕ × Option ℕ). x.1) found.2 in
     let owner : owner_of (part_at parts i) ≡ Some o = found.1 ∙ ap Some same in
-    let right : (o < length parts) × (o ≢ i) × (link_type (part_at parts o) ≡ 0) = right_owner_of parts none i o lt owner in
+    let right : (o < length parts) × (o ≢ i) × (link_type (part_at parts o) ≡ 0) =
+    right_owner_of parts none i o lt owner in
     (owner, right.0, right.1, right.2, other ∙ ap (pair_of parts) same)
 
 -- a partition is owned by its owner alone
@@ -83,7 +87,8 @@ taken_of parts i lt (Some b) is =
 
 -- it is a partition, and a member of the unit of the first
 taken : (parts : List Partition) (second : Bool) (i : ℕ) → i < length parts
-    → (taken_part parts second i < length parts) × IsMember (unit_of parts i) (unit_of parts (taken_part parts second i)).a
+    → (taken_part parts second i < length parts)
+    × IsMember (unit_of parts i) (unit_of parts (taken_part parts second i)).a
 taken parts true i lt = taken_of parts i lt (pair_of parts i) refl
 taken parts false i lt = (lt, inl refl)
 
@@ -94,13 +99,15 @@ record IsListed (parts : List Partition) (owner : ℕ) (second : Bool) (k i j : 
   pub owned : is_owned_by owner (part_at parts i) ≡ true
   pub is : j ≡ taken_part parts second i
 
-data_at : (parts : List Partition) (owner : ℕ) (second : Bool) (k j : ℕ) → slice_get (data_parts parts owner second) k ≡ Some j
+data_at : (parts : List Partition) (owner : ℕ) (second : Bool) (k j : ℕ)
+    → slice_get (data_parts parts owner second) k ≡ Some j
     → (i : ℕ) × IsListed parts owner second k i j
 data_at parts owner second k j at =
     let test : ℕ → Bool = λ l. is_owned_by owner (part_at parts l) in
     let numbers : List ℕ = filter test (range_with_len 0 (length parts)) in
     let found : (i : ℕ) × (slice_get numbers k ≡ Some i) × (j ≡ taken_part parts second i) =
-    mapped_some (taken_part parts second) (slice_get numbers k) j (sym (slice_get-map (taken_part parts second) numbers k) ∙ at) in
+    mapped_some (taken_part parts second) (slice_get numbers k) j
+    (sym (slice_get-map (taken_part parts second) numbers k) ∙ at) in
     let passes : _ = passing test 0 (length parts) k found.0 found.1 in
     (found.0, record { place = found.1; within = omega (arith, passes.1); owned = passes.2; is = found.2 })
 
@@ -131,7 +138,8 @@ data_whole parts owner second i lt is =
     let test : ℕ → Bool = λ l. is_owned_by owner (part_at parts l) in
     let numbers : List ℕ = filter test (range_with_len 0 (length parts)) in
     let own : test i ≡ true = owner_is (is_owned (part_at parts i)) (link_value (part_at parts i)) owner is in
-    let at : (k : ℕ) × (slice_get numbers k ≡ Some i) = listed test 0 (length parts) i (omega arith) (omega arith) own in (
+    let at : (k : ℕ) × (slice_get numbers k ≡ Some i) =
+    listed test 0 (length parts) i (omega arith) (omega arith) own in (
       at.0,
       taken_part parts second i,
       slice_get-map (taken_part parts second) numbers at.0 ∙ ap (option_map (taken_part parts second)) at.1,
@@ -162,17 +170,22 @@ module _ (test : ℕ → Bool) (o : ℕ) (out : test o ≡ false) where
       → (length (xs ++ cond yes (n ∷ []) []) ≤ n + 1) × (o < n + 1 → length (xs ++ cond yes (n ∷ []) []) < n + 1)
   counted_by n true xs is few =
       let long : length (xs ++ n ∷ []) ≡ length xs + 1 = length-append xs (n ∷ []) in
-      let other : o ≢ n = λ same. let fails : test n ≡ false = subst (λ k. test k ≡ false) same out in cc in
-      (omega (arith, long, few.0), λ lt. let before : o < n = omega (arith, other, lt) in omega (arith, long, few.1 before))
+      let other : o ≢ n = λ same. let fails : test n ≡ false = subst (λ k. test k ≡ false) same out in cc in (
+        omega (arith, long, few.0),
+        λ lt. let before : o < n = omega (arith, other, lt) in
+            omega (arith, long, few.1 before),
+      )
   counted_by n false xs is few =
       let long : length (xs ++ []) ≡ length xs + 0 = length-append xs [] in
       (omega (arith, long, few.0), λ lt. omega (arith, long, few.0))
 
-  pub counted : (n : ℕ) → (length (filter test (range_with_len 0 n)) ≤ n) × (o < n → length (filter test (range_with_len 0 n)) < n)
+  pub counted : (n : ℕ) → (length (filter test (range_with_len 0 n)) ≤ n)
+      × (o < n → length (filter test (range_with_len 0 n)) < n)
   counted zero = (omega arith, λ lt. absurd (omega (arith, lt)))
   counted (suc n) =
       let step = counted_by n (test n) (filter test (range_with_len 0 n)) refl (counted n) in
-      subst (λ m. (length (filter test (range_with_len 0 m)) ≤ m) × (o < m → length (filter test (range_with_len 0 m)) < m)) (add-one n)
+      subst (λ m. (length (filter test (range_with_len 0 m)) ≤ m)
+      × (o < m → length (filter test (range_with_len 0 m)) < m)) (add-one n)
       (subst (λ xs. (length xs ≤ n + 1) × (o < n + 1 → length xs < n + 1)) (sym (passing-more test n)) step)
 
 -- an owner has fewer data than there are partitions
@@ -187,13 +200,16 @@ data_few parts none owner second lt =
     omega (arith, long, few)
 
 -- there is room for one more before partition i, which the owner owns
-pub room : (parts : List Partition) → link_fault parts ≡ None → (owner : ℕ) (second : Bool) (i : ℕ) → owner < length parts → i < length parts
+pub room : (parts : List Partition) → link_fault parts ≡ None → (owner : ℕ) (second : Bool) (i : ℕ)
+    → owner < length parts → i < length parts
     → is_owned_by owner (part_at parts i) ≡ true
-    → length (map (taken_part parts second) (filter (λ l. is_owned_by owner (part_at parts l)) (range_with_len 0 i))) + 1 < length parts
+    → length (map (taken_part parts second)
+    (filter (λ l. is_owned_by owner (part_at parts l)) (range_with_len 0 i))) + 1 < length parts
 room parts none owner second i lt i_lt own =
     let test : ℕ → Bool = λ l. is_owned_by owner (part_at parts l) in
     let out : test owner ≡ false = not_own parts none owner lt in
-    let long : length (map (taken_part parts second) (filter test (range_with_len 0 i))) ≡ length (filter test (range_with_len 0 i)) =
+    let long : length (map (taken_part parts second) (filter test (range_with_len 0 i)))
+    ≡ length (filter test (range_with_len 0 i)) =
     length-map (filter test (range_with_len 0 i)) (taken_part parts second) in
     let few = counted test owner out i in
     let other : owner ≢ i = λ same. let fails : test i ≡ false = subst (λ k. test k ≡ false) same out in cc in

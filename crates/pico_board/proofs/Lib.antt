@@ -8,6 +8,7 @@ pub mod FileLists
 pub mod Gates
 pub mod Histories
 pub mod Phases
+pub mod Pieces
 pub mod Sessions
 pub mod SettledCuts
 pub mod Raises

@@ -40,6 +40,10 @@ other_first (inr (s, e, l, gated)) =
     let same : 3 ≡ s = cc gated.whole in
     absurd (omega (arith, same, gated.first))
 
+not_elsewhere : (page : List ℕ) (s : ℕ) → 2 ≡ s → IsElsewhere s (Program 32 page) → ⊥
+not_elsewhere page s same (inl below) = absurd (omega (arith, same, below))
+not_elsewhere page s same (inr above) = absurd (omega (arith, same, above))
+
 -- the first sector is programmed at the end
 pub too_early : (page : List ℕ) → Gated (Erase 2 ∷ Program 32 page ∷ Erase 3 ∷ []) two_sectors → ⊥
 too_early page (inl none) = absurd cc
@@ -49,11 +53,7 @@ too_early page (inr (s, [], l, gated)) =
 too_early page (inr (s, x ∷ e, l, gated)) =
     let same : 2 ≡ s = cc gated.whole in
     let head : Program 32 page ≡ x = cc gated.whole in
-    let apart : IsElsewhere s (Program 32 page) = subst (IsElsewhere s) (sym head) gated.apart.0 in
-    elim apart [
-      | inl below ↦ absurd (omega (arith, same, below))
-      | inr above ↦ absurd (omega (arith, same, above))
-    ]
+    not_elsewhere page s same (subst (IsElsewhere s) (sym head) gated.apart.0)
 
 -- no page of the first sector is programmed twice
 pub twice : (page : List ℕ) → Gated (Erase 2 ∷ Program 32 page ∷ Program 32 page ∷ []) two_sectors → ⊥
@@ -66,11 +66,7 @@ twice page (inr (s, [], l, gated)) =
 twice page (inr (s, x ∷ e, l, gated)) =
     let same : 2 ≡ s = cc gated.whole in
     let head : Program 32 page ≡ x = cc gated.whole in
-    let apart : IsElsewhere s (Program 32 page) = subst (IsElsewhere s) (sym head) gated.apart.0 in
-    elim apart [
-      | inl below ↦ absurd (omega (arith, same, below))
-      | inr above ↦ absurd (omega (arith, same, above))
-    ]
+    not_elsewhere page s same (subst (IsElsewhere s) (sym head) gated.apart.0)
 
 module _ (c : Content) (page other : List ℕ) (room : 16384 ≤ length c.flash) where
   abbrev before : Content

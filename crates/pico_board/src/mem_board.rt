@@ -93,7 +93,7 @@ impl MemBoard {
         }
     }
 
-    /// The number of completed steps since the board was made, which stays at its last value.
+    /// The number of completed steps since the board was made, which saturates at 2^64 - 1.
     pub fn steps(&self) -> u64
         ensures { result ≡ steps_of self.now }
     {

@@ -1,26 +1,10 @@
 -- What is put, piece by piece.
-use Rattle.std.proofs.Common.{◌≡◌, ℕ, ◌+◌, ◌-◌, ◌<◌, ◌≤◌, List, [], ◌∷◌, ◌++◌, length, take, drop, get_or, arith, refl, sym, ap, ◌∙◌, append_assoc}
+use Rattle.std.proofs.Common.{◌≡◌, ℕ, ◌+◌, ◌-◌, ◌<◌, ◌≤◌, List, [], ◌∷◌, ◌++◌, length, take, drop, get_or, arith, sym, ap, ◌∙◌, append_assoc}
 use Rattle.std.specs.Prelude.{slice_range, slice_index}
-use Rattle.std.proofs.Math.Seq.{take-add}
-use Rattle.std.proofs.lemmas.List.{drop-drop, drop_more, append-nil}
+use Rattle.std.proofs.lemmas.List.{drop_more, append-nil}
 use Rattle.std.proofs.lemmas.Grind.{flat_map-append}
 use Rattle.block_codec.specs.Words.{bytes_of, word_bytes}
-
--- a range that goes on for n elements
-pub range-add : (xs : List ℕ) (s d n : ℕ)
-    → slice_range xs s (s + (d + n)) ≡ slice_range xs s (s + d) ++ slice_range xs (s + d) (s + d + n)
-range-add xs s d n =
-    let one : s + (d + n) - s ≡ d + n = omega arith in
-    let two : s + d - s ≡ d = omega arith in
-    let three : s + d + n - (s + d) ≡ n = omega arith in
-    rw (one, two, three, take-add d n (drop s xs), drop-drop d s xs) refl
-
--- what is put before a piece of the range, and the piece
-pub range-put : (xs before piece : List ℕ) (s d n k : ℕ) → k ≡ n → piece ≡ slice_range xs (s + d) (s + d + k)
-    → (before ++ slice_range xs s (s + d)) ++ piece ≡ before ++ slice_range xs s (s + (d + n))
-range-put xs before piece s d n k long is =
-    rw (is, long, range-add xs s d n)
-    (append_assoc before (slice_range xs s (s + d)) (slice_range xs (s + d) (s + d + n)))
+use Rattle.pico_board.proofs.Pieces.{range-add}
 
 -- a range of one element
 one-element : (xs : List ℕ) (s : ℕ) → s < length xs → slice_range xs s (s + 1) ≡ get_or xs s 0 ∷ []

@@ -1,6 +1,6 @@
 -- Words that have each raised bit of their rows.
 use Rattle.std.proofs.Common.{◌≡◌, ℕ, zero, suc, ◌+◌, ◌<◌, ◌≤◌, Bool, true, false, ◌&&◌, ◌==◌, List, [], ◌∷◌, length, get_or, min, refl, subst, ◌∙◌, ap, arith, eq-eqb}
-use Rattle.std.specs.Prelude.{bit_and}
+use Rattle.std.specs.Prelude.{bit_and, slice_index}
 use Rattle.std.specs.Int.{bit_at}
 use Rattle.std.proofs.lemmas.Bool.Decides.{nat_tests}
 use Rattle.std.proofs.lemmas.Nat.Bits.{bit_at_and, same_from_bits}
@@ -35,7 +35,7 @@ module _ (otp : List ℕ) where
   keeps-bits row (w ∷ words) kept zero lt =
       let here : row ≡ row + 0 = omega arith in
       subst (λ r. HasBitsOf w (get_or otp r 0)) here
-      (row-bits (get_or otp row 0) w (same_number _ _ ((both_of _ _ kept).0)))
+      (row-bits (slice_index otp row) w (same_number _ _ ((both_of _ _ kept).0)))
   keeps-bits row (w ∷ words) kept (suc i) lt =
       let there : row + 1 + i ≡ row + suc i = omega arith in
       subst (λ r. HasBitsOf (get_or words i 0) (get_or otp r 0)) there
@@ -47,9 +47,9 @@ module _ (otp : List ℕ) where
   keeps-from_bits row [] has = refl
   keeps-from_bits row (w ∷ words) has =
       let here : row + 0 ≡ row = omega arith in
-      let first : HasBitsOf w (get_or otp row 0) =
+      let first : HasBitsOf w (slice_index otp row) =
       subst (λ r. HasBitsOf w (get_or otp r 0)) here (has zero (omega arith)) in
-      ap (λ b. b && keeps_raised otp (row + 1) words) (eq-eqb _ _ (row-kept (get_or otp row 0) w first))
+      ap (λ b. b && keeps_raised otp (row + 1) words) (eq-eqb _ _ (row-kept (slice_index otp row) w first))
       ∙ keeps-from_bits (row + 1) words (λ i lt.
       let there : row + suc i ≡ row + 1 + i = omega arith in
       subst (λ r. HasBitsOf (get_or words i 0) (get_or otp r 0)) there (has (suc i) (omega arith)))

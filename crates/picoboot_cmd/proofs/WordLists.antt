@@ -1,6 +1,6 @@
 -- The words of a payload one after another.
 use Rattle.std.proofs.Common.{◌≡◌, ℕ, ◌+◌, ◌^◌, ◌<◌, ◌≤◌, true, ◌&&◌, ◌==◌, List, nat_lt, length, drop, get_or, sym, ◌∙◌, ap, ap₂, arith, eq-eqb}
-use Rattle.std.specs.Prelude.{bit_and}
+use Rattle.std.specs.Prelude.{bit_and, slice_index}
 use Rattle.std.proofs.lemmas.List.{drop_more, drop_all}
 use Rattle.picoboot_cmd.specs.Rows.{are_row_words, keeps_raised}
 
@@ -12,7 +12,7 @@ module _ (words : List ℕ) (k : ℕ) where
 
   pub keeps-first : (otp : List ℕ) (row : ℕ) → k < length words
       → keeps_raised otp row (drop k words)
-      ≡ ((bit_and (get_or otp row 0) (get_or words k 0) == get_or otp row 0)
+      ≡ ((bit_and (slice_index otp row) (get_or words k 0) == slice_index otp row)
       && keeps_raised otp (row + 1) (drop (k + 1) words))
   keeps-first otp row lt = ap (keeps_raised otp row) (drop_more words k 0 lt)
 

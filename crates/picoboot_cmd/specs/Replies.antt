@@ -3,7 +3,7 @@ use Rattle.std.specs.Prelude.{◌≡◌, ℕ, ◌-◌, ◌^◌, min, List, lengt
 use Rattle.sha2.specs.Hashers.{Holds256}
 use Rattle.picoboot_cmd.specs.declared.reply.HashReply.{HashReply}
 
--- the count is the number of the bytes, or the last value of its 32 bits, and the hasher holds them
+-- the count is the number of the bytes, which saturates at 2^32 - 1, and the hasher holds them
 pub record HasTaken (r : HashReply) (bytes : List ℕ) : Type 0 where
   pub count : r.count ≡ min (length bytes) (2 ^ 32 - 1)
   pub hasher : Holds256 r.hasher bytes

@@ -6,11 +6,6 @@ use Rattle.part_table.specs.declared.table.Right.{Right}
 use Rattle.part_table.specs.declared.table.Table.{Table}
 use Rattle.part_table.specs.Faults.{permissions_fault, overlap_fault}
 use Rattle.part_table.specs.Rights.{allowed_by}
-use Rattle.part_table.specs.Sound.{IsSoundTable}
-
--- a table, where there is one, is sound for a flash of n bytes (this project's own)
-abbrev pub IsSoundFor : Option Table → ℕ → Type 0
-IsSoundFor t n = IfSome t (λ table. IsSoundTable table (n / 4096))
 
 -- a table, where there is one, tells the permissions of each sector in one way (this project's own)
 abbrev pub TellsRights : Option Table → Type 0

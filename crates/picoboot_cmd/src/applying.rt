@@ -3,7 +3,7 @@
 ghost use Rattle.std.specs.Prelude.{◌≡◌, ◌≢◌, ◌++◌, ℕ, List, IfOk, IsTrue, is_ok, length};
 ghost use Rattle.std.specs.Option.{option_map};
 ghost use Rattle.pico_board.specs.Board.{DoesAll};
-ghost use Rattle.picoboot_cmd.specs.Sectors.{IsSoundFor};
+ghost use Rattle.part_table.specs.Sound.{IsSoundFor};
 ghost use Rattle.picoboot_cmd.specs.Served.{command_of, done_of};
 
 use crate::cmd::Cmd;

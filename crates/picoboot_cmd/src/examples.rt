@@ -8,7 +8,7 @@ ghost use Rattle.part_table.specs.Examples.{guarded_table};
 ghost use Rattle.picoboot_cmd.specs.declared.cmd.CmdFault.TheVariants.{Magic};
 ghost use Rattle.picoboot_cmd.specs.Commands.{command_in, written};
 ghost use Rattle.picoboot_cmd.specs.Examples.{answer, busy_answer, command, erase_command, guarded_answer, otp_read_command, otp_write_command, plain_command, range_args, read_command, reboot_command, row_args, unread_answer, word, write_command};
-ghost use Rattle.picoboot_cmd.specs.Sectors.{IsSoundFor};
+ghost use Rattle.part_table.specs.Sound.{IsSoundFor};
 ghost use Rattle.picoboot_cmd.specs.WellFormed.{IsErase, IsReboot, IsWrite};
 ghost use Rattle.picoboot_cmd.specs.Served.{boot_of, reply_of, steps_of};
 

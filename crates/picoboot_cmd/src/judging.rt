@@ -7,7 +7,8 @@ ghost use Rattle.picoboot_cmd.specs.Arguments.{address, first_row, offset, row_c
 ghost use Rattle.picoboot_cmd.specs.ByCommand.{erase_checks, exclusive_checks, lengths, otp_read_checks, otp_write_checks, read_checks, reboot_checks, write_checks, xip_checks};
 ghost use Rattle.picoboot_cmd.specs.Checks.{are_reboot_flags, first_failing, is_in_flash, status_of};
 ghost use Rattle.picoboot_cmd.specs.Rows.{are_row_words, keeps_raised};
-ghost use Rattle.picoboot_cmd.specs.Sectors.{IsSoundFor, TellsRights, all_allowed, range_allowed};
+ghost use Rattle.part_table.specs.Sound.{IsSoundFor};
+ghost use Rattle.picoboot_cmd.specs.Sectors.{TellsRights, all_allowed, range_allowed};
 
 use crate::arguments::FLASH_BASE;
 use crate::cmd::Cmd;

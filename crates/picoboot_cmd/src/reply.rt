@@ -17,8 +17,8 @@ pub trait Reply {
             → stands_for self.new (before ++ bytes.now) };
 }
 
-/// A reply that keeps the number of its bytes, which stays at its last value, and the state of
-/// their SHA-256.
+/// A reply that keeps the number of its bytes, which saturates at 2^32 - 1, and the state of their
+/// SHA-256.
 #[derive(Drop)]
 pub struct HashReply {
     count: u32,
@@ -36,7 +36,7 @@ impl HashReply {
         }
     }
 
-    /// The number of the bytes, which stays at its last value, 2^32 - 1.
+    /// The number of the bytes, which saturates at 2^32 - 1.
     pub fn count(&self) -> u32
         ensures { (bytes : List ℕ) → HasTaken self.now bytes
             → result ≡ min (length bytes) (2 ^ 32 - 1) }

@@ -1,6 +1,6 @@
 -- The boot units of a flash.
 use Rattle.std.specs.Prelude.{◌≡◌, ◌⊎◌, ℕ, Bool, ◌&&◌, not, List, [], ◌∷◌, length, map, filter, nat_lt, if◌then◌else◌}
-use Rattle.std.specs.Prelude.{Option, None, Some, option_map, IfSome, ◌/◌}
+use Rattle.std.specs.Prelude.{Option, None, Some, option_map}
 use Rattle.std.specs.List.{range_with_len}
 use Rattle.pico_board.specs.declared.boot.Cpu.{Cpu}
 use Rattle.pico_board.specs.declared.window.Window.{Window}
@@ -9,7 +9,8 @@ use Rattle.part_table.specs.declared.table.Table.{Table}
 use Rattle.part_table.specs.Fields.{is_ignored}
 use Rattle.part_table.specs.Links.{is_second, is_owned, pair_of}
 use Rattle.part_table.specs.Partitions.{part_at}
-use Rattle.part_table.specs.Sound.{IsSoundTable}
+-- other crates may name this from here as well
+pub use Rattle.part_table.specs.Sound.{IsSoundFor}
 use Rattle.part_table.specs.Windows.{part_window}
 use Rattle.slot_choice.specs.declared.unit.SlotUnit.{SlotUnit}
 use Rattle.slot_choice.specs.declared.unit.Member.{Member}
@@ -68,7 +69,3 @@ member_window B u = u.b
 -- a window is a member of a unit where it is A's or B's (this project's own)
 abbrev pub IsMember : SlotUnit → Window → Type 0
 IsMember u w = (w ≡ u.a) ⊎ (u.b ≡ Some w)
-
--- a table, where one is given, is sound for a flash of n bytes (this project's own)
-abbrev pub IsSoundFor : Option Table → ℕ → Type 0
-IsSoundFor table n = IfSome table (λ t. IsSoundTable t (n / 4096))

@@ -16,7 +16,8 @@ push-requires c =
     ap (is_owned_by c.args.owner) (sym at) ∙ sym c.is_owned_by.ensures ∙ c.if-is_owned_by.true in
     let left : length c.loop-i.data.items + 1 < length c.args.parts.now =
     subst (λ (xs : List ℕ). length xs + 1 < length c.args.parts.now) (sym c.loop-i.invariant)
-    (room c.args.parts.now c.requires.links c.args.owner c.args.second c.loop-i.i c.requires.owner c.loop-i-test.true own) in
+    (room c.args.parts.now c.requires.links c.args.owner c.args.second c.loop-i.i c.requires.owner c.loop-i-test.true
+    own) in
     let few : length c.loop-i.data.items < 14 = omega (arith, left, c.requires.few) in
     (omega arith, few)
 
@@ -30,10 +31,13 @@ loop-i-preserved c =
       | then-is_owned_by w ↦
           ap (λ (xs : ArrayVec ℕ). xs.items) w.data-is
           ∙ w.push.ensures.items
-          ∙ made-more (taken_part c.args.parts.now c.args.second) (λ k. is_owned_by c.args.owner (part_at c.args.parts.now k)) c.loop-i.i
-          c.loop-i.data.items c.loop-i.invariant w.taken_part.result (sym tells ∙ w.if-is_owned_by.true) w.taken_part.ensures
+          ∙ made-more (taken_part c.args.parts.now c.args.second)
+          (λ k. is_owned_by c.args.owner (part_at c.args.parts.now k)) c.loop-i.i
+          c.loop-i.data.items c.loop-i.invariant w.taken_part.result
+          (sym tells ∙ w.if-is_owned_by.true) w.taken_part.ensures
       | else-is_owned_by w ↦
           ap (λ (xs : ArrayVec ℕ). xs.items) w.data-is
-          ∙ made-same (taken_part c.args.parts.now c.args.second) (λ k. is_owned_by c.args.owner (part_at c.args.parts.now k)) c.loop-i.i
+          ∙ made-same (taken_part c.args.parts.now c.args.second)
+          (λ k. is_owned_by c.args.owner (part_at c.args.parts.now k)) c.loop-i.i
           c.loop-i.data.items c.loop-i.invariant (sym tells ∙ w.if-is_owned_by.false)
     ]
