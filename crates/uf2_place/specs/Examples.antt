@@ -46,6 +46,14 @@ slot gated = record {
   stay = false;
 }
 
+-- sectors 2 to 31 as a target that is not gated
+abbrev pub first_slot : Target
+first_slot = record {
+  window = record { start = 0x2000; len = 0x1e000 };
+  gated = false;
+  stay = false;
+}
+
 -- a download of arm blocks into that slot
 abbrev pub arm_download : Bool → Current
 arm_download gated = record {

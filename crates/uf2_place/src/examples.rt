@@ -3,12 +3,12 @@
 
 ghost use Rattle.std.specs.Prelude.{◌≡◌, ℕ, ◌++◌, Err, None, Ok, Some, List, [], ◌∷◌, false, length, replicate, true};
 ghost use Rattle.pico_board.specs.declared.Step.TheVariants.{Erase, Program};
-ghost use Rattle.part_table.specs.Examples.{pair_table};
+ghost use Rattle.part_table.specs.Examples.{guarded_table, pair_table};
 ghost use Rattle.uf2_place.specs.declared.answer.Accepted.TheVariants.{Again, Skipped};
-ghost use Rattle.uf2_place.specs.declared.answer.PlaceFault.TheVariants.{NoTarget, Outside};
+ghost use Rattle.uf2_place.specs.declared.answer.PlaceFault.TheVariants.{NoTarget, NotPermitted, Outside};
 ghost use Rattle.uf2_place.specs.declared.answer.Ruling.TheVariants.{Answered, Begins, Continues};
 ghost use Rattle.uf2_place.specs.Blocks.{is_number, written};
-ghost use Rattle.uf2_place.specs.Examples.{absolute_block, arm_block, arm_download, flagged, slot};
+ghost use Rattle.uf2_place.specs.Examples.{absolute_block, arm_block, arm_download, first_slot, flagged, slot};
 ghost use Rattle.uf2_place.specs.Files.{file_block, filled, page_count};
 ghost use Rattle.uf2_place.specs.Placement.{is_whole, placed};
 ghost use Rattle.uf2_place.specs.Rulings.{is_of, is_skipped, is_within, ruling, wanted};
@@ -110,6 +110,18 @@ pub fn rulings_of_blocks()
         (Some (arm_download true)) (arm_block 0 0x10020000 []) ≡ Answered (Ok Again) }
     ensures no_target_and_outside { ruling 0x40000 (Some pair_table) None [] None
         (arm_block 0 0x10020000 []) ≡ Answered (Err NoTarget) }
+{}
+
+/// A sector that the bootloader may not write is refused, behind a page outside the window.
+pub fn rulings_by_rights()
+    ensures refused { ruling 0x40000 (Some guarded_table) (Some first_slot) [] None
+        (arm_block 0 0x1001df00 []) ≡ Answered (Err NotPermitted) }
+    ensures outside { ruling 0x40000 (Some guarded_table) (Some first_slot) [] None
+        (arm_block 0 0x1001e000 []) ≡ Answered (Err Outside) }
+    ensures permitted { ruling 0x40000 (Some guarded_table) (Some (slot true)) [] None
+        (arm_block 0 0x1001df00 []) ≡ Begins (slot true) }
+    ensures no_table { ruling 0x40000 None (Some first_slot) [] None
+        (arm_block 0 0x1001df00 []) ≡ Begins first_slot }
 {}
 
 /// Into a target that is not gated each page is written as it comes, and its sector is erased

@@ -11,6 +11,8 @@ mod bits;
 mod block;
 mod current;
 mod download;
+#[cfg(test)]
+mod download_tests;
 pub mod examples;
 mod holding;
 mod judging;

@@ -21,7 +21,7 @@ use std::test::Fail;
 const ARM_S: u32 = 0xe48b_ff59;
 
 /// A powered board of 262,144 bytes 0, whose OTP is 0.
-fn board(alloc: Global) -> Result<MemBoard, Fail>
+pub fn board(alloc: Global) -> Result<MemBoard, Fail>
     ensures power { IfOk result (λ made. IsTrue (state_of made).powered) }
     ensures size { IfOk result (λ made. length (state_of made).content.flash ≡ 262144) }
 {
@@ -47,7 +47,7 @@ fn arm_block(number: u32, address: u32, byte: u8) -> Uf2
 }
 
 /// The slot of sectors 32 to 61.
-fn slot(gated: bool) -> Target
+pub fn slot(gated: bool) -> Target
     ensures { IsTargetIn 262144 result }
 {
     Target {
@@ -61,7 +61,7 @@ fn slot(gated: bool) -> Target
 }
 
 /// A byte of the flash.
-fn byte_at(board: &MemBoard, at: u32) -> u8
+pub fn byte_at(board: &MemBoard, at: u32) -> u8
     requires power { IsTrue (state_of board.now).powered }
     requires range { at + 1 ≤ length (state_of board.now).content.flash }
 {
