@@ -11,7 +11,8 @@ pub takes-none : (known : Option (List ℕ)) (read : List ℕ) → TakesFrom kno
 takes-none known read = record { bytes = []; grows = sym (append-nil read); taken = Consumes-nil known }
 
 -- a piece more
-pub takes-more : (a b c : Option (List ℕ)) (old mid new : List ℕ) → TakesFrom a old b mid → TakesFrom b mid c new → TakesFrom a old c new
+pub takes-more : (a b c : Option (List ℕ)) (old mid new : List ℕ) → TakesFrom a old b mid → TakesFrom b mid c new
+    → TakesFrom a old c new
 takes-more a b c old mid new first next = record {
   bytes = first.bytes ++ next.bytes;
   grows = next.grows ∙ (ap (λ x. x ++ next.bytes) first.grows ∙ append_assoc old first.bytes next.bytes);
@@ -31,16 +32,24 @@ takes-front (Some xs) (Some ys) most read takes room (inr end) =
     sym (ap (take most) all ∙ take_all most read room)
 
 -- what a writer took of the rest goes behind the front
-pub front-more : (bytes front rest : List ℕ) (count : ℕ) → bytes ≡ front ++ rest → bytes ≡ (front ++ take count rest) ++ take (length rest - count) (drop count rest)
+pub front-more : (bytes front rest : List ℕ) (count : ℕ) → bytes ≡ front ++ rest
+    → bytes ≡ (front ++ take count rest) ++ take (length rest - count) (drop count rest)
 front-more bytes front rest count whole =
-    whole ∙ (ap (λ x. front ++ x) (sym (take-append-drop count rest)) ∙ (sym (append_assoc front (take count rest) (drop count rest))
+    whole ∙ (ap (λ x. front ++ x) (sym (take-append-drop count rest))
+    ∙ (sym (append_assoc front (take count rest) (drop count rest))
     ∙ ap (λ x. (front ++ take count rest) ++ x) (sym (take_rest rest count))))
 
 -- a writer that took the front, and then no byte more, has a prefix of the bytes
-pub in-part : (a b c : Option (List ℕ)) (bytes front rest : List ℕ) (count : ℕ) → bytes ≡ front ++ rest → Appends a b front → count ≡ 0
+pub in-part : (a b c : Option (List ℕ)) (bytes front rest : List ℕ) (count : ℕ) → bytes ≡ front ++ rest
+    → Appends a b front → count ≡ 0
     → Appends b c (take count rest) → AppendsInPart a c bytes
 in-part a b c bytes front rest count whole took none more =
     let long : length bytes ≡ length front + length rest = ap (λ x. length x) whole ∙ length-append front rest in
     let seam : take (length front) bytes ≡ front = ap (take (length front)) whole ∙ take-append_seam front rest in
-    let same : front ++ take count rest ≡ take (length front) bytes = ap (λ n. front ++ take n rest) none ∙ (append-nil front ∙ sym seam) in
-    (length front, omega (arith, long), subst (Appends a c) same (Appends-trans a b c front (take count rest) took more))
+    let same : front ++ take count rest ≡ take (length front) bytes = ap (λ n. front ++ take n rest) none
+    ∙ (append-nil front ∙ sym seam) in (
+      length front,
+      omega (arith, long),
+      subst (Appends a c) same
+          (Appends-trans a b c front (take count rest) took more),
+    )

@@ -27,7 +27,8 @@ member-same : (f g : Images) (u : SlotUnit) (us : List SlotUnit) → HaveSameIma
     → (m : Member) (trial : Bool) → member_image f u m trial ≡ member_image g u m trial
 member-same f g u us a m trial = go (member_window m u) refl
   where
-    go : (o : Option Window) → member_window m u ≡ o → option_and_then (λ w. f w trial) o ≡ option_and_then (λ w. g w trial) o
+    go : (o : Option Window) → member_window m u ≡ o
+        → option_and_then (λ w. f w trial) o ≡ option_and_then (λ w. g w trial) o
     go None e = refl
     go (Some w) e = a.same 0 u m w trial refl e
 
@@ -40,7 +41,8 @@ updating u m a b = option_or (option_map (choice_of u m true) a) (option_map (ch
 unit-same : (f g : Images) (u : SlotUnit) (us : List SlotUnit) → HaveSameImages f g (u ∷ us)
     → (updated : Option Member) → unit_choice f u updated ≡ unit_choice g u updated
 unit-same f g u us a None = ap2 (plain u) _ _ _ _ (member-same f g u us a A false) (member-same f g u us a B false)
-unit-same f g u us a (Some m) = ap2 (updating u m) _ _ _ _ (member-same f g u us a m true) (member-same f g u us a (other_of m) false)
+unit-same f g u us a (Some m) =
+    ap2 (updating u m) _ _ _ _ (member-same f g u us a m true) (member-same f g u us a (other_of m) false)
 
 ordered-same : (f g : Images) (us : List SlotUnit) (updated : Option Member)
     → HaveSameImages f g us → ordered_choice f us updated ≡ ordered_choice g us updated
@@ -82,15 +84,19 @@ module _ (w : Window) where
   abbrev without : Images → Images
   without f v trial = kept v (decide-window v w) (f v trial)
 
-  without-same : (f g : Images) (us : List SlotUnit) → HaveSameImagesBut w f g us → HaveSameImages (without f) (without g) us
-  without-same f g us a = record { same = λ i u m v trial tried stands. go i u m v trial tried stands (decide-window v w) }
+  without-same : (f g : Images) (us : List SlotUnit) → HaveSameImagesBut w f g us
+      → HaveSameImages (without f) (without g) us
+  without-same f g us a = record
+      { same = λ i u m v trial tried stands. go i u m v trial tried stands (decide-window v w) }
     where
-      go : (i : ℕ) (u : SlotUnit) (m : Member) (v : Window) (trial : Bool) → slice_get us i ≡ Some u → member_window m u ≡ Some v
+      go : (i : ℕ) (u : SlotUnit) (m : Member) (v : Window) (trial : Bool) → slice_get us i ≡ Some u
+          → member_window m u ≡ Some v
           → (d : (v ≡ w) ⊎ (v ≢ w)) → kept v d (f v trial) ≡ kept v d (g v trial)
       go i u m v trial tried stands (inl e) = refl
       go i u m v trial tried stands (inr n) = a.same i u m v trial tried stands n
 
-  without-none : (g : Images) (us : List SlotUnit) → ((trial : Bool) → g w trial ≡ None) → HaveSameImages g (without g) us
+  without-none : (g : Images) (us : List SlotUnit) → ((trial : Bool) → g w trial ≡ None)
+      → HaveSameImages g (without g) us
   without-none g us none = record { same = λ i u m v trial tried stands. go v trial (decide-window v w) }
     where
       go : (v : Window) (trial : Bool) (d : (v ≡ w) ⊎ (v ≢ w)) → g v trial ≡ kept v d (g v trial)
@@ -103,22 +109,26 @@ module _ (w : Window) where
     taken : left ≡ None → ((s : Started) → image ≡ Some s → s.window ≡ w) → Left image left
 
   module _ (f : Images) (placed : AreInPlace f) where
-    member-left : (u : SlotUnit) (m : Member) (trial : Bool) → Left (member_image f u m trial) (member_image (without f) u m trial)
+    member-left : (u : SlotUnit) (m : Member) (trial : Bool)
+        → Left (member_image f u m trial) (member_image (without f) u m trial)
     member-left u m trial = go (member_window m u)
       where
         by_window : (v : Window) (d : (v ≡ w) ⊎ (v ≢ w)) → Left (f v trial) (kept v d (f v trial))
         by_window v (inl e) = taken refl (λ s h. placed v trial s h ∙ e)
         by_window v (inr n) = stayed refl
 
-        go : (o : Option Window) → Left (option_and_then (λ v. f v trial) o) (option_and_then (λ v. without f v trial) o)
+        go : (o : Option Window) → Left (option_and_then (λ v. f v trial) o)
+            (option_and_then (λ v. without f v trial) o)
         go None = stayed refl
         go (Some v) = by_window v (decide-window v w)
 
-    plain-left : (u : SlotUnit) (a b x y : Option Started) → Left a x → Left b y → IsNotIn w (plain u a b) → plain u x y ≡ plain u a b
+    plain-left : (u : SlotUnit) (a b x y : Option Started) → Left a x → Left b y → IsNotIn w (plain u a b)
+        → plain u x y ≡ plain u a b
     plain-left u a b x y (stayed p) (stayed q) out = ap2 (plain u) x a y b p q
     plain-left u a b x y (taken p away) (stayed q) out = ap2 (plain u) x None y b p q ∙ go a b away out
       where
-        go : (c d : Option Started) → ((s : Started) → c ≡ Some s → s.window ≡ w) → IsNotIn w (plain u c d) → plain u None d ≡ plain u c d
+        go : (c d : Option Started) → ((s : Started) → c ≡ Some s → s.window ≡ w) → IsNotIn w (plain u c d)
+            → plain u None d ≡ plain u c d
         go None d gone o = refl
         go (Some s) None gone o = absurd (o (gone s refl))
         go (Some s) (Some t) gone o = branch (is_below s.version t.version) o
@@ -129,7 +139,8 @@ module _ (w : Window) where
             branch false k = absurd (k (gone s refl))
     plain-left u a b x y (stayed p) (taken q away) out = ap2 (plain u) x a y None p q ∙ go a b away out
       where
-        go : (c d : Option Started) → ((s : Started) → d ≡ Some s → s.window ≡ w) → IsNotIn w (plain u c d) → plain u c None ≡ plain u c d
+        go : (c d : Option Started) → ((s : Started) → d ≡ Some s → s.window ≡ w) → IsNotIn w (plain u c d)
+            → plain u c None ≡ plain u c d
         go c None gone o = refl
         go None (Some t) gone o = absurd (o (gone t refl))
         go (Some s) (Some t) gone o = branch (is_below s.version t.version) o
@@ -140,7 +151,8 @@ module _ (w : Window) where
             branch false k = refl
     plain-left u a b x y (taken p gone) (taken q away) out = ap2 (plain u) x None y None p q ∙ go a b gone away out
       where
-        go : (c d : Option Started) → ((s : Started) → c ≡ Some s → s.window ≡ w) → ((s : Started) → d ≡ Some s → s.window ≡ w)
+        go : (c d : Option Started) → ((s : Started) → c ≡ Some s → s.window ≡ w)
+            → ((s : Started) → d ≡ Some s → s.window ≡ w)
             → IsNotIn w (plain u c d) → plain u None None ≡ plain u c d
         go None None h k o = refl
         go None (Some t) h k o = absurd (o (k t refl))
@@ -157,18 +169,22 @@ module _ (w : Window) where
     updating-left u m a b x y (stayed p) (stayed q) out = ap2 (updating u m) x a y b p q
     updating-left u m a b x y (taken p away) (stayed q) out = ap2 (updating u m) x None y b p q ∙ go a away out
       where
-        go : (c : Option Started) → ((s : Started) → c ≡ Some s → s.window ≡ w) → IsNotIn w (updating u m c b) → updating u m None b ≡ updating u m c b
+        go : (c : Option Started) → ((s : Started) → c ≡ Some s → s.window ≡ w) → IsNotIn w (updating u m c b)
+            → updating u m None b ≡ updating u m c b
         go None gone o = refl
         go (Some s) gone o = absurd (o (gone s refl))
     updating-left u m a b x y (stayed p) (taken q away) out = ap2 (updating u m) x a y None p q ∙ go a b away out
       where
-        go : (c d : Option Started) → ((s : Started) → d ≡ Some s → s.window ≡ w) → IsNotIn w (updating u m c d) → updating u m c None ≡ updating u m c d
+        go : (c d : Option Started) → ((s : Started) → d ≡ Some s → s.window ≡ w) → IsNotIn w (updating u m c d)
+            → updating u m c None ≡ updating u m c d
         go (Some s) d gone o = refl
         go None None gone o = refl
         go None (Some t) gone o = absurd (o (gone t refl))
-    updating-left u m a b x y (taken p gone) (taken q away) out = ap2 (updating u m) x None y None p q ∙ go a b gone away out
+    updating-left u m a b x y (taken p gone) (taken q away) out = ap2 (updating u m) x None y None p q
+        ∙ go a b gone away out
       where
-        go : (c d : Option Started) → ((s : Started) → c ≡ Some s → s.window ≡ w) → ((s : Started) → d ≡ Some s → s.window ≡ w)
+        go : (c d : Option Started) → ((s : Started) → c ≡ Some s → s.window ≡ w)
+            → ((s : Started) → d ≡ Some s → s.window ≡ w)
             → IsNotIn w (updating u m c d) → updating u m None None ≡ updating u m c d
         go None None h k o = refl
         go None (Some t) h k o = absurd (o (k t refl))
@@ -189,9 +205,11 @@ module _ (w : Window) where
       where
         go : (IsNotIn w (ordered_choice f us None) → ordered_choice (without f) us None ≡ ordered_choice f us None)
             → (o : Option Choice) → unit_choice f u updated ≡ o → IsNotIn w (option_or o (ordered_choice f us None))
-            → option_or (unit_choice (without f) u updated) (ordered_choice (without f) us None) ≡ option_or o (ordered_choice f us None)
+            → option_or (unit_choice (without f) u updated) (ordered_choice (without f) us None)
+            ≡ option_or o (ordered_choice f us None)
         go rest None e k = ap2 option_or _ _ _ _ (unit-left u updated (none-out _ e) ∙ e) (rest k)
-        go rest (Some c) e k = ap (λ o. option_or o (ordered_choice (without f) us None)) (unit-left u updated (subst (IsNotIn w) (sym e) k) ∙ e)
+        go rest (Some c) e k = ap (λ o. option_or o (ordered_choice (without f) us None))
+            (unit-left u updated (subst (IsNotIn w) (sym e) k) ∙ e)
 
     -- without the image of a window that is not taken the choice is the same
     left : (order : Order) → IsNotIn w (choose f order) → choose (without f) order ≡ choose f order
@@ -200,7 +218,8 @@ module _ (w : Window) where
   module _ (f g : Images) (order : Order) (but : HaveSameImagesBut w f g order.units) (placed : AreInPlace f)
       (out : IsNotIn w (choose f order)) where
     both-left : choose (without g) order ≡ choose f order
-    both-left = sym (choose-same (without f) (without g) order (without-same f g order.units but)) ∙ left f placed order out
+    both-left = sym (choose-same (without f) (without g) order (without-same f g order.units but))
+        ∙ left f placed order out
 
     pub changed-then-none : ((trial : Bool) → g w trial ≡ None) → choose g order ≡ choose f order
     changed-then-none none = choose-same g (without g) order (without-none g order.units none) ∙ both-left
@@ -208,7 +227,8 @@ module _ (w : Window) where
     pub changed : AreInPlace g → IsIn w (choose g order) ⊎ (choose g order ≡ choose f order)
     changed in_place = go (choose g order) refl
       where
-        there : (c : Choice) → choose g order ≡ Some c → (c.image.window ≡ w) ⊎ (c.image.window ≢ w) → IsIn w (choose g order) ⊎ (choose g order ≡ choose f order)
+        there : (c : Choice) → choose g order ≡ Some c → (c.image.window ≡ w) ⊎ (c.image.window ≢ w)
+            → IsIn w (choose g order) ⊎ (choose g order ≡ choose f order)
         there c e (inl here) = inl (record { start = c; chosen = e; there = here })
         there c e (inr n) = inr (sym (left g in_place order (subst (IsNotIn w) (sym e) n)) ∙ both-left)
 
@@ -217,7 +237,8 @@ module _ (w : Window) where
         go (Some c) e = there c e (decide-window c.image.window w)
 
 -- a start stays a start
-pub changed-stays : (w : Window) (f g : Images) (order : Order) → HaveSameImagesBut w f g order.units → AreInPlace f → AreInPlace g
+pub changed-stays : (w : Window) (f g : Images) (order : Order) → HaveSameImagesBut w f g order.units → AreInPlace f
+    → AreInPlace g
     → IsNotIn w (choose f order) → IsSome (choose f order) → IsSome (choose g order)
 changed-stays w f g order but placed in_place out some = go (changed w f g order but placed out in_place)
   where

@@ -43,10 +43,12 @@ module _ (c : Content) (cpu : Cpu) (images : Window → Bool → Option Started)
 
   counts-image : (o : Order) (i : ℕ) (u : SlotUnit) (m : Member) (s : Started)
       → Counts c cpu o i u m s → member_image images u m (is_updated o i m) ≡ Some s
-  counts-image o i u m s k = window-image images u m (is_updated o i m) k.window k.stands ∙ found k.window (is_updated o i m) s k.valid
+  counts-image o i u m s k = window-image images u m (is_updated o i m) k.window k.stands
+      ∙ found k.window (is_updated o i m) s k.valid
 
   -- what counts in the later units counts behind one more unit, and the other way round
-  counts-later : (v : SlotUnit) (us : List SlotUnit) (updated : Option Member) (i : ℕ) (u : SlotUnit) (m : Member) (s : Started)
+  counts-later : (v : SlotUnit) (us : List SlotUnit) (updated : Option Member) (i : ℕ) (u : SlotUnit) (m : Member)
+      (s : Started)
       → Counts c cpu (order us None) i u m s → Counts c cpu (order (v ∷ us) updated) (suc i) u m s
   counts-later v us updated i u m s k = record {
     window = k.window;
@@ -55,7 +57,8 @@ module _ (c : Content) (cpu : Cpu) (images : Window → Bool → Option Started)
     valid = subst (λ trial. Valid c k.window cpu trial s) (never-updated us i m) k.valid;
   }
 
-  counts-sooner : (v : SlotUnit) (us : List SlotUnit) (updated : Option Member) (i : ℕ) (u : SlotUnit) (m : Member) (s : Started)
+  counts-sooner : (v : SlotUnit) (us : List SlotUnit) (updated : Option Member) (i : ℕ) (u : SlotUnit) (m : Member)
+      (s : Started)
       → Counts c cpu (order (v ∷ us) updated) (suc i) u m s → Counts c cpu (order us None) i u m s
   counts-sooner v us updated i u m s k = record {
     window = k.window;
@@ -72,7 +75,8 @@ module _ (c : Content) (cpu : Cpu) (images : Window → Bool → Option Started)
       let none = unit-none images v updated (option_or-none _ _ h).0 m in
       let unit : v ≡ u = same-some v u k.tried in
       let some = counts-image (order (v ∷ us) updated) zero u m s k in
-      let here : counting images v updated m ≡ Some s = subst (λ (w : SlotUnit). counting images w updated m ≡ Some s) (sym unit) some in
+      let here : counting images v updated m ≡ Some s =
+      subst (λ (w : SlotUnit). counting images w updated m ≡ Some s) (sym unit) some in
       none-some _ none here
     where
       none-some : (o : Option Started) → o ≡ None → o ≡ Some s → ⊥
@@ -93,19 +97,24 @@ module _ (c : Content) (cpu : Cpu) (images : Window → Bool → Option Started)
     updated = p.updated_is;
   }
     where
-      seen : (t : Started) → Counts c cpu (order (v ∷ us) updated) zero v (other_of choice.member) t → counting images v updated (other_of choice.member) ≡ Some t
+      seen : (t : Started) → Counts c cpu (order (v ∷ us) updated) zero v (other_of choice.member) t
+          → counting images v updated (other_of choice.member) ≡ Some t
       seen t k = counts-image (order (v ∷ us) updated) zero v (other_of choice.member) t k
 
       best : (is_member updated choice.member ≡ true)
-          ⊎ (((t : Started) → is_member updated (other_of choice.member) ≡ true → counting images v updated (other_of choice.member) ≡ Some t → ⊥)
-          × ((t : Started) → counting images v updated (other_of choice.member) ≡ Some t → IsBetter choice.member choice.image.version t.version))
-          → IsTrue (is_updated (order (v ∷ us) updated) zero choice.member) ⊎ IsBest c cpu (order (v ∷ us) updated) zero v choice.member choice.image
+          ⊎ (((t : Started) → is_member updated (other_of choice.member) ≡ true
+          → counting images v updated (other_of choice.member) ≡ Some t → ⊥)
+          × ((t : Started) → counting images v updated (other_of choice.member) ≡ Some t
+          → IsBetter choice.member choice.image.version t.version))
+          → IsTrue (is_updated (order (v ∷ us) updated) zero choice.member)
+          ⊎ IsBest c cpu (order (v ∷ us) updated) zero v choice.member choice.image
       best (inl it) = inl it
       best (inr q) = inr (record { no_update = λ t it k. (q.0) t it (seen t k); better = λ t k. (q.1) t (seen t k) })
 
   -- the choice of a later unit
   start-later : (v : SlotUnit) (us : List SlotUnit) (updated : Option Member) (choice : Choice)
-      → unit_choice images v updated ≡ None → IsStart c cpu (order us None) choice → IsStart c cpu (order (v ∷ us) updated) choice
+      → unit_choice images v updated ≡ None → IsStart c cpu (order us None) choice
+      → IsStart c cpu (order (v ∷ us) updated) choice
   start-later v us updated choice none r = record {
     place = suc r.place;
     unit = r.unit;
@@ -116,24 +125,29 @@ module _ (c : Content) (cpu : Cpu) (images : Window → Bool → Option Started)
     updated = r.updated ∙ never-updated us r.place choice.member;
   }
     where
-      first : (i : ℕ) (u : SlotUnit) (m : Member) (s : Started) → i < suc r.place → Counts c cpu (order (v ∷ us) updated) i u m s → ⊥
+      first : (i : ℕ) (u : SlotUnit) (m : Member) (s : Started) → i < suc r.place
+          → Counts c cpu (order (v ∷ us) updated) i u m s → ⊥
       first zero u m s lt k = only (same-some v u k.tried) (counts-image (order (v ∷ us) updated) zero u m s k)
         where
           none-some : (o : Option Started) → o ≡ None → o ≡ Some s → ⊥
           none-some o e f = cc
 
           only : v ≡ u → counting images u updated m ≡ Some s → ⊥
-          only unit some = none-some _ (unit-none images v updated none m) (subst (λ (w : SlotUnit). counting images w updated m ≡ Some s) (sym unit) some)
+          only unit some = none-some _ (unit-none images v updated none m)
+              (subst (λ (w : SlotUnit). counting images w updated m ≡ Some s) (sym unit) some)
       first (suc i) u m s lt k = r.first i u m s (omega (arith, lt)) (counts-sooner v us updated i u m s k)
 
-      later : (t : Started) → Counts c cpu (order (v ∷ us) updated) (suc r.place) r.unit (other_of choice.member) t → Counts c cpu (order us None) r.place r.unit (other_of choice.member) t
+      later : (t : Started) → Counts c cpu (order (v ∷ us) updated) (suc r.place) r.unit (other_of choice.member) t
+          → Counts c cpu (order us None) r.place r.unit (other_of choice.member) t
       later t k = counts-sooner v us updated r.place r.unit (other_of choice.member) t k
 
       not-updated : is_updated (order us None) r.place choice.member ≡ true → ⊥
       not-updated it = let e : false ≡ true = sym (never-updated us r.place choice.member) ∙ it in cc
 
-      best : IsTrue (is_updated (order us None) r.place choice.member) ⊎ IsBest c cpu (order us None) r.place r.unit choice.member choice.image
-          → IsTrue (is_updated (order (v ∷ us) updated) (suc r.place) choice.member) ⊎ IsBest c cpu (order (v ∷ us) updated) (suc r.place) r.unit choice.member choice.image
+      best : IsTrue (is_updated (order us None) r.place choice.member)
+          ⊎ IsBest c cpu (order us None) r.place r.unit choice.member choice.image
+          → IsTrue (is_updated (order (v ∷ us) updated) (suc r.place) choice.member)
+          ⊎ IsBest c cpu (order (v ∷ us) updated) (suc r.place) r.unit choice.member choice.image
       best (inl it) = absurd (not-updated it)
       best (inr q) = inr (record { no_update = λ t (it : false ≡ true) k. cc; better = λ t k. q.better t (later t k) })
 
@@ -144,7 +158,9 @@ module _ (c : Content) (cpu : Cpu) (images : Window → Bool → Option Started)
   choice-starts (v ∷ us) updated choice h = go (choice-starts us None choice) (unit_choice images v updated) refl h
     where
       go : (ordered_choice images us None ≡ Some choice → IsStart c cpu (order us None) choice)
-          → (o : Option Choice) → unit_choice images v updated ≡ o → option_or o (ordered_choice images us None) ≡ Some choice → IsStart c cpu (order (v ∷ us) updated) choice
+          → (o : Option Choice) → unit_choice images v updated ≡ o
+          → option_or o (ordered_choice images us None) ≡ Some choice
+          → IsStart c cpu (order (v ∷ us) updated) choice
       go rest (Some ch) is e = start-here v us updated choice (unit-some images v updated choice (is ∙ e))
       go rest None is e = start-later v us updated choice is (rest e)
 
@@ -170,10 +186,12 @@ module _ (c : Content) (cpu : Cpu) (images : Window → Bool → Option Started)
   start-at o x s = record { counts = s.counts; best = s.best; other = s.other; updated = s.updated }
 
   -- at most one member is the updated one
-  one-updated : (o : Order) (i : ℕ) (m n : Member) → n ≡ other_of m → is_updated o i m ≡ true → is_updated o i n ≡ true → ⊥
+  one-updated : (o : Order) (i : ℕ) (m n : Member) → n ≡ other_of m → is_updated o i m ≡ true → is_updated o i n ≡ true
+      → ⊥
   one-updated o i m n e h k = go i o.updated m h (subst (λ (l : Member). is_updated o i l ≡ true) e k)
     where
-      go : (j : ℕ) (updated : Option Member) (l : Member) → is_updated (order o.units updated) j l ≡ true → is_updated (order o.units updated) j (other_of l) ≡ true → ⊥
+      go : (j : ℕ) (updated : Option Member) (l : Member) → is_updated (order o.units updated) j l ≡ true
+          → is_updated (order o.units updated) j (other_of l) ≡ true → ⊥
       go zero None l p q = cc
       go zero (Some A) A p q = cc
       go zero (Some A) B p q = cc
@@ -182,7 +200,8 @@ module _ (c : Content) (cpu : Cpu) (images : Window → Bool → Option Started)
       go (suc j) updated l p q = cc
 
   -- at most one member is better than the other
-  one-better : (m n : Member) (s t : Started) → n ≡ other_of m → IsBetter m s.version t.version → IsBetter n t.version s.version → ⊥
+  one-better : (m n : Member) (s t : Started) → n ≡ other_of m → IsBetter m s.version t.version
+      → IsBetter n t.version s.version → ⊥
   one-better m n s t e h k = go m h (subst (λ (l : Member). IsBetter l t.version s.version) e k)
     where
       go : (l : Member) → IsBetter l s.version t.version → IsBetter (other_of l) t.version s.version → ⊥
@@ -202,9 +221,11 @@ module _ (c : Content) (cpu : Cpu) (images : Window → Bool → Option Started)
           → IsTrue (is_updated o i y.member) ⊎ IsBest c cpu o i u y.member y.image → ⊥
       by_best e f (inl a) (inl b) = one-updated o i x.member y.member e a b
       by_best e f (inl a) (inr q) =
-          q.no_update x.image (subst (λ (l : Member). is_updated o i l ≡ true) f a) (subst (λ (l : Member). Counts c cpu o i u l x.image) f s.counts)
+          q.no_update x.image (subst (λ (l : Member). is_updated o i l ≡ true) f a)
+          (subst (λ (l : Member). Counts c cpu o i u l x.image) f s.counts)
       by_best e f (inr q) (inl b) =
-          q.no_update y.image (subst (λ (l : Member). is_updated o i l ≡ true) e b) (subst (λ (l : Member). Counts c cpu o i u l y.image) e t.counts)
+          q.no_update y.image (subst (λ (l : Member). is_updated o i l ≡ true) e b)
+          (subst (λ (l : Member). Counts c cpu o i u l y.image) e t.counts)
       by_best e f (inr q) (inr r) =
           one-better x.member y.member x.image y.image e
           (q.better y.image (subst (λ (l : Member). Counts c cpu o i u l y.image) e t.counts))
@@ -212,8 +233,11 @@ module _ (c : Content) (cpu : Cpu) (images : Window → Bool → Option Started)
 
       by_members : Members x.member y.member → x ≡ y
       by_members (same e) =
-          let k : Counts c cpu o i u x.member y.image = subst (λ (l : Member). Counts c cpu o i u l y.image) (sym e) t.counts in
-          let image : x.image ≡ y.image = same-some x.image y.image (sym (counts-image o i u x.member x.image s.counts) ∙ counts-image o i u x.member y.image k) in
+          let k : Counts c cpu o i u x.member y.image =
+          subst (λ (l : Member). Counts c cpu o i u l y.image) (sym e) t.counts in
+          let image : x.image ≡ y.image =
+          same-some x.image y.image (sym (counts-image o i u x.member x.image s.counts)
+          ∙ counts-image o i u x.member y.image k) in
           same-choice _ _ _ _ _ _ _ _ image e
           (s.other ∙ (ap (λ (l : Member). member_window (other_of l) u) e ∙ sym t.other))
           (s.updated ∙ (ap (λ (l : Member). is_updated o i l) e ∙ sym t.updated))
@@ -229,7 +253,8 @@ module _ (c : Content) (cpu : Cpu) (images : Window → Bool → Option Started)
       by_place : (s.place ≡ t.place) ⊎ ((s.place < t.place) ⊎ (t.place < s.place)) → x ≡ y
       by_place (inl e) =
           one-at o t.place t.unit x y
-          (subst (λ (u : SlotUnit). StartAt o t.place u x) (units e) (subst (λ (i : ℕ). StartAt o i s.unit x) e (start-at o x s)))
+          (subst (λ (u : SlotUnit). StartAt o t.place u x) (units e)
+          (subst (λ (i : ℕ). StartAt o i s.unit x) e (start-at o x s)))
           (start-at o y t)
       by_place (inr (inl lt)) = absurd (t.first s.place s.unit x.member x.image lt s.counts)
       by_place (inr (inr lt)) = absurd (s.first t.place t.unit y.member y.image lt t.counts)
@@ -245,7 +270,8 @@ module _ (c : Content) (cpu : Cpu) (images : Window → Bool → Option Started)
 
   -- and there is none where no image counts
   pub none-choice : (us : List SlotUnit) (updated : Option Member)
-      → ((i : ℕ) (u : SlotUnit) (m : Member) (s : Started) → Counts c cpu (order us updated) i u m s → ⊥) → ordered_choice images us updated ≡ None
+      → ((i : ℕ) (u : SlotUnit) (m : Member) (s : Started) → Counts c cpu (order us updated) i u m s → ⊥)
+      → ordered_choice images us updated ≡ None
   none-choice us updated nothing = go (ordered_choice images us updated) refl
     where
       go : (o : Option Choice) → ordered_choice images us updated ≡ o → o ≡ None

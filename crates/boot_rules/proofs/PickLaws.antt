@@ -18,13 +18,16 @@ use Rattle.boot_rules.proofs.UnitLemmas.{image-window, unit-none, unit-some, win
 
 module _ (c : Content) (u : SlotUnit) (cpu : Cpu) where
   -- the images of members, as the function of images has them
-  normal-image : (m : Member) (s : Started) → member_image (images_in c cpu) u m false ≡ Some s → IsNormalImage c cpu u m s
+  normal-image : (m : Member) (s : Started) → member_image (images_in c cpu) u m false ≡ Some s
+      → IsNormalImage c cpu u m s
   normal-image m s e =
       let found = image-window (images_in c cpu) u m false s e in
       record { window = found.0; stands = found.1; valid = found-valid c cpu found.0 false s found.2 }
 
-  image-normal : (m : Member) (s : Started) → IsNormalImage c cpu u m s → member_image (images_in c cpu) u m false ≡ Some s
-  image-normal m s is = window-image (images_in c cpu) u m false is.window is.stands ∙ valid-found c cpu is.window false s is.valid
+  image-normal : (m : Member) (s : Started) → IsNormalImage c cpu u m s
+      → member_image (images_in c cpu) u m false ≡ Some s
+  image-normal m s is = window-image (images_in c cpu) u m false is.window is.stands
+      ∙ valid-found c cpu is.window false s is.valid
 
   taken-pick : (choice : Choice) → taken c cpu u ≡ Some choice → IsPick c u cpu choice.image
   taken-pick choice e =
@@ -36,13 +39,17 @@ module _ (c : Content) (u : SlotUnit) (cpu : Cpu) where
       }
     where
       best : (is_member None choice.member ≡ true)
-          ⊎ (((t : Started) → is_member None (other_of choice.member) ≡ true → member_image (images_in c cpu) u (other_of choice.member) false ≡ Some t → ⊥)
-          × ((t : Started) → member_image (images_in c cpu) u (other_of choice.member) false ≡ Some t → IsBetter choice.member choice.image.version t.version))
-          → (t : Started) → IsNormalImage c cpu u (other_of choice.member) t → IsBetter choice.member choice.image.version t.version
+          ⊎ (((t : Started) → is_member None (other_of choice.member) ≡ true
+          → member_image (images_in c cpu) u (other_of choice.member) false ≡ Some t → ⊥)
+          × ((t : Started) → member_image (images_in c cpu) u (other_of choice.member) false ≡ Some t
+          → IsBetter choice.member choice.image.version t.version))
+          → (t : Started) → IsNormalImage c cpu u (other_of choice.member) t
+          → IsBetter choice.member choice.image.version t.version
       best (inl it) t is = let never : false ≡ true = it in cc
       best (inr q) t is = q.1 t (image-normal (other_of choice.member) t is)
 
-  pick-start : (s : Started) (is : IsPick c u cpu s) → IsStart c cpu (order (u ∷ []) None) (choice_of u is.member false s)
+  pick-start : (s : Started) (is : IsPick c u cpu s)
+      → IsStart c cpu (order (u ∷ []) None) (choice_of u is.member false s)
   pick-start s is = record {
     place = zero;
     unit = u;
@@ -63,9 +70,11 @@ module _ (c : Content) (u : SlotUnit) (cpu : Cpu) where
   pick-taken : (s : Started) (is : IsPick c u cpu s) → taken c cpu u ≡ Some (choice_of u is.member false s)
   pick-taken s is =
       or-none (taken c cpu u) (choice_of u is.member false s)
-      (start-choice c cpu (images_in c cpu) (found-valid c cpu) (valid-found c cpu) (u ∷ []) None (choice_of u is.member false s) (pick-start s is))
+      (start-choice c cpu (images_in c cpu) (found-valid c cpu) (valid-found c cpu) (u ∷ []) None
+      (choice_of u is.member false s) (pick-start s is))
 
-  picked : (o : Option Choice) → taken c cpu u ≡ o → (s : Started) → option_map (λ (x : Choice). x.image) o ≡ Some s → IsPick c u cpu s
+  picked : (o : Option Choice) → taken c cpu u ≡ o → (s : Started) → option_map (λ (x : Choice). x.image) o ≡ Some s
+      → IsPick c u cpu s
   picked None is s e = cc
   picked (Some choice) is s e = subst (IsPick c u cpu) (same_Some choice.image s e) (taken-pick choice is)
 
@@ -75,11 +84,15 @@ module _ (c : Content) (u : SlotUnit) (cpu : Cpu) where
   never : {P : Type 0} (o : Option Started) (s : Started) → o ≡ None → o ≡ Some s → P
   never o s e f = let h : None ≡ Some s = sym e ∙ f in cc
 
-  unpicked : (o : Option Choice) → taken c cpu u ≡ o → option_map (λ (x : Choice). x.image) o ≡ None → (m : Member) (s : Started) → IsNormalImage c cpu u m s → ⊥
-  unpicked None is e m s image = never (member_image (images_in c cpu) u m false) s (unit-none (images_in c cpu) u None is m) (image-normal m s image)
+  unpicked : (o : Option Choice) → taken c cpu u ≡ o → option_map (λ (x : Choice). x.image) o ≡ None
+      → (m : Member) (s : Started) → IsNormalImage c cpu u m s → ⊥
+  unpicked None is e m s image =
+      never (member_image (images_in c cpu) u m false) s (unit-none (images_in c cpu) u None is m)
+      (image-normal m s image)
   unpicked (Some choice) is e m s image = let h : Some choice.image ≡ None = e in cc
 
-  nothing : ((m : Member) (s : Started) → IsNormalImage c cpu u m s → ⊥) → (o : Option Choice) → taken c cpu u ≡ o → option_map (λ (x : Choice). x.image) o ≡ None
+  nothing : ((m : Member) (s : Started) → IsNormalImage c cpu u m s → ⊥) → (o : Option Choice) → taken c cpu u ≡ o
+      → option_map (λ (x : Choice). x.image) o ≡ None
   nothing none None is = refl
   nothing none (Some choice) is = absurd (none (taken-pick choice is).member choice.image (taken-pick choice is).image)
 

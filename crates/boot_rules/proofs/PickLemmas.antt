@@ -34,12 +34,14 @@ abbrev pub confirm_seen : Content → Option Window → Option Candidate → Opt
 confirm_seen c None seen = None
 confirm_seen c (Some w) seen = option_and_then (confirm_in c w) seen
 
-after-ok : {X Y F : Type 0} (r : Result X F) (f : X → Result Y F) → result_ok (and_then r f) ≡ option_and_then (λ x. result_ok (f x)) (result_ok r)
+after-ok : {X Y F : Type 0} (r : Result X F) (f : X → Result Y F)
+    → result_ok (and_then r f) ≡ option_and_then (λ x. result_ok (f x)) (result_ok r)
 after-ok (Ok x) f = refl
 after-ok (Err e) f = refl
 
 -- the image of a member is what is seen of it, judged by the last two rules
-window-image-seen : (c : Content) (cpu : Cpu) (o : Option Window) → option_and_then (λ w. images_in c cpu w false) o ≡ confirm_seen c o (seen_in c cpu o)
+window-image-seen : (c : Content) (cpu : Cpu) (o : Option Window)
+    → option_and_then (λ w. images_in c cpu w false) o ≡ confirm_seen c o (seen_in c cpu o)
 window-image-seen c cpu None = refl
 window-image-seen c cpu (Some w) =
     ap result_ok (sym (examined-image in_flash w cpu false c.otp (window_bytes c w)))
@@ -49,19 +51,23 @@ pub image-seen : (c : Content) (cpu : Cpu) (u : SlotUnit) (m : Member)
     → member_image (images_in c cpu) u m false ≡ confirm_seen c (member_window m u) (seen_in c cpu (member_window m u))
 image-seen c cpu u m = window-image-seen c cpu (member_window m u)
 
-unless-ok : {X F : Type 0} (o : Option F) (r : Result X F) (x : X) → result_ok (and_unless o r) ≡ Some x → result_ok r ≡ Some x
+unless-ok : {X F : Type 0} (o : Option F) (r : Result X F) (x : X) → result_ok (and_unless o r) ≡ Some x
+    → result_ok r ≡ Some x
 unless-ok None r x e = e
 unless-ok (Some f) r x e = cc
 
 -- a record has the version that was seen
-confirm-version : (c : Content) (w : Window) (seen : Candidate) (s : Started) → confirm_in c w seen ≡ Some s → s.version ≡ seen.def.version
+confirm-version : (c : Content) (w : Window) (seen : Candidate) (s : Started) → confirm_in c w seen ≡ Some s
+    → s.version ≡ seen.def.version
 confirm-version c w seen s e =
-    let judged = unless-ok (digest_fault (window_bytes c w) seen.block seen.def seen.loads.items seen.def.digest) _ s e in
+    let judged = unless-ok (digest_fault (window_bytes c w) seen.block seen.def seen.loads.items seen.def.digest) _ s e
+    in
     let made = unless-ok (delta_fault seen.def.delta) _ s judged in
     let same : started_of w (record { block = seen.block; def = seen.def }) seen.entry ≡ s = same_Some _ s made in
     sym (ap (λ (x : Started). x.version) same)
 
-seen-version : (c : Content) (o : Option Window) (seen : Option Candidate) (s : Started) → confirm_seen c o seen ≡ Some s → seen_version seen ≡ Some s.version
+seen-version : (c : Content) (o : Option Window) (seen : Option Candidate) (s : Started)
+    → confirm_seen c o seen ≡ Some s → seen_version seen ≡ Some s.version
 seen-version c None seen s e = cc
 seen-version c (Some w) None s e = cc
 seen-version c (Some w) (Some x) s e = ap Some (sym (confirm-version c w x s e))
@@ -114,7 +120,8 @@ module _ (u : SlotUnit) where
       let two : y ≡ t.version = same_Some y t.version (of_b t refl) in
       go (is_below x y) (ap (λ v. is_below v y) one ∙ ap (is_below s.version) two)
     where
-      go : (below : Bool) → below ≡ is_below s.version t.version → by_seen (Some (cond below B A)) (first (Some s)) (second (Some t)) ≡ chosen (Some s) (Some t)
+      go : (below : Bool) → below ≡ is_below s.version t.version
+          → by_seen (Some (cond below B A)) (first (Some s)) (second (Some t)) ≡ chosen (Some s) (Some t)
       go true e = ap (λ z. of_better u (Some (cond z B A)) (Some s) (Some t)) e
       go false e = ap (λ z. of_better u (Some (cond z B A)) (Some s) (Some t)) e
 
@@ -144,17 +151,21 @@ pub or-none : {X : Type 0} (x y : Option X) → x ≡ None → y ≡ option_or x
 or-none x y e = sym (ap (λ o. option_or o y) e)
 
 -- the choice of a confirmed member
-pub confirmed-choice : (c : Content) (cpu : Cpu) (u : SlotUnit) (m : Member) (w : Window) (seen : Option Candidate) (x : Candidate)
+pub confirmed-choice : (c : Content) (cpu : Cpu) (u : SlotUnit) (m : Member) (w : Window) (seen : Option Candidate)
+    (x : Candidate)
     → member_window m u ≡ Some w → seen ≡ Some x → seen ≡ seen_in c cpu (member_window m u)
     → (r : Result Started Why) → r ≡ confirmed_in w (window_bytes c w) x
-    → option_map (choice_of u m false) (result_ok r) ≡ option_map (choice_of u m false) (member_image (images_in c cpu) u m false)
+    → option_map (choice_of u m false) (result_ok r)
+    ≡ option_map (choice_of u m false) (member_image (images_in c cpu) u m false)
 confirmed-choice c cpu u m w seen x window some is r exact =
     ap (option_map (choice_of u m false))
-    (ap result_ok exact ∙ sym (image-seen c cpu u m ∙ ap (λ o. confirm_seen c (member_window m u) o) (sym is ∙ some) ∙ ap (λ o. confirm_seen c o (Some x)) window))
+    (ap result_ok exact ∙ sym (image-seen c cpu u m ∙ ap (λ o. confirm_seen c (member_window m u) o) (sym is ∙ some)
+    ∙ ap (λ o. confirm_seen c o (Some x)) window))
 
 pub unseen-choice : (c : Content) (cpu : Cpu) (u : SlotUnit) (m : Member) (w : Window) (seen : Option Candidate)
     → member_window m u ≡ Some w → seen ≡ None → seen ≡ seen_in c cpu (member_window m u)
     → None ≡ option_map (choice_of u m false) (member_image (images_in c cpu) u m false)
 unseen-choice c cpu u m w seen window none is =
     ap (option_map (choice_of u m false))
-    (sym (image-seen c cpu u m ∙ ap (λ o. confirm_seen c (member_window m u) o) (sym is ∙ none) ∙ ap (λ o. confirm_seen c o None) window))
+    (sym (image-seen c cpu u m ∙ ap (λ o. confirm_seen c (member_window m u) o) (sym is ∙ none)
+    ∙ ap (λ o. confirm_seen c o None) window))

@@ -36,7 +36,8 @@ flash-start c cpu kind choice h = go (flash_off c.otp) h
     start-bootsel : {P : Type 0} → Start choice ≡ Bootsel FlashOff → P
     start-bootsel e = cc
 
-    go : (off : Bool) → MatchBool off (Start choice ≡ Bootsel FlashOff) (IsStart c cpu (order_of kind (boot_units_in c cpu)) choice)
+    go : (off : Bool) → MatchBool off (Start choice ≡ Bootsel FlashOff)
+        (IsStart c cpu (order_of kind (boot_units_in c cpu)) choice)
         → IsStart c cpu (order_of kind (boot_units_in c cpu)) choice
     go true e = start-bootsel e
     go false s = s
@@ -67,12 +68,15 @@ module _ (c : Content) (cpu : Cpu) (kind : BootKind) (choice : Choice) (h : Chos
 
   -- the started image stands in the window of its member
   image-window-is : choice.image.window ≡ start.counts.window
-  image-window-is = valid-window c start.counts.window cpu (is_updated (order_of kind (boot_units_in c cpu)) start.place choice.member) choice.image start.counts.valid
+  image-window-is = valid-window c start.counts.window cpu
+      (is_updated (order_of kind (boot_units_in c cpu)) start.place choice.member) choice.image start.counts.valid
 
   pub of-unit : IsOfUnit c cpu choice start.unit
   of-unit =
-      let listed = all-at (Listed (boot_units_in c cpu)) (order_of kind (boot_units_in c cpu)).units start.place start.unit
-      (order-all (Listed (boot_units_in c cpu)) kind (boot_units_in c cpu) (all-listed (boot_units_in c cpu))) start.counts.tried in
+      let listed = all-at (Listed (boot_units_in c cpu))
+      (order_of kind (boot_units_in c cpu)).units start.place start.unit
+      (order-all (Listed (boot_units_in c cpu)) kind (boot_units_in c cpu) (all-listed (boot_units_in c cpu)))
+      start.counts.tried in
       record {
         place = listed.0;
         tried = listed.1;
@@ -86,7 +90,8 @@ module _ (c : Content) (cpu : Cpu) (kind : BootKind) (choice : Choice) (h : Chos
   any-trial w false v = trial-more in_flash w cpu c.otp (window_bytes c w) choice.image v
 
   pub start-valid : Valid c choice.image.window cpu true choice.image
-  start-valid = subst (λ w. Valid c w cpu true choice.image) (sym image-window-is) (any-trial start.counts.window _ start.counts.valid)
+  start-valid = subst (λ w. Valid c w cpu true choice.image) (sym image-window-is)
+      (any-trial start.counts.window _ start.counts.valid)
 
   pub start-trial : choice.image.trial ≡ true → choice.updated ≡ true
   start-trial is =
@@ -103,7 +108,8 @@ only : (v : SlotUnit) (k : ℕ) (u : SlotUnit) → slice_get (v ∷ []) k ≡ So
 only v zero u e = same_Some v u e
 only v (suc k) u e = cc
 
-pub boot-pair-apart : (t : Option Table) (n z : ℕ) (cpu : Cpu) → IsSoundFor t n → (k : ℕ) (u : SlotUnit) → slice_get (units t n z cpu) k ≡ Some u
+pub boot-pair-apart : (t : Option Table) (n z : ℕ) (cpu : Cpu) → IsSoundFor t n → (k : ℕ) (u : SlotUnit)
+    → slice_get (units t n z cpu) k ≡ Some u
     → (w : Window) → u.b ≡ Some w → AreApart u.a w
 boot-pair-apart None n z cpu sound k u at w b =
     let same = only (tableless_unit n z) k u at in
@@ -115,7 +121,8 @@ pub other-apart : (u : SlotUnit) → ((w : Window) → u.b ≡ Some w → AreApa
 other-apart u apart A v w one two = subst (λ x. AreApart x w) (same_Some u.a v one) (apart w two)
 other-apart u apart B v w one two = subst (λ x. AreApart v x) (same_Some u.a w two) (apart_sym u.a v (apart v one))
 
-module _ (c : Content) (cpu : Cpu) (kind : BootKind) (choice : Choice) (right : IsContent c) (h : Chosen c cpu kind (Start choice)) where
+module _ (c : Content) (cpu : Cpu) (kind : BootKind) (choice : Choice) (right : IsContent c)
+    (h : Chosen c cpu kind (Start choice)) where
   of : IsOfUnit c cpu choice (start c cpu kind choice h).unit
   of = of-unit c cpu kind choice h
 
@@ -130,6 +137,7 @@ module _ (c : Content) (cpu : Cpu) (kind : BootKind) (choice : Choice) (right : 
       let at : member_window (other_of choice.member) unit ≡ Some w = sym of.other ∙ is in (
         boot-unit-members c cpu right of.place unit of.tried w (is-member (other_of choice.member) unit w at),
         other-apart unit
-            (boot-pair-apart (table_of_content c) (length c.flash) (slot_size c.otp (length c.flash)) cpu (table-sound c (table_in c) refl) of.place unit of.tried)
+            (boot-pair-apart (table_of_content c) (length c.flash) (slot_size c.otp (length c.flash)) cpu
+            (table-sound c (table_in c) refl) of.place unit of.tried)
             choice.member choice.image.window w of.stands at,
       )

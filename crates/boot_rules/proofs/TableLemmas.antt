@@ -30,7 +30,8 @@ module _ (w offsets : List ℕ) (are : AreLoop w offsets) where
       → new ≡ (if has_table b then Some b else old) → new ≡ find has_table (reverse (take (i + 1) loop))
   last-step loop is i b at old new was now =
       let more : take (i + 1) loop ≡ take i loop ++ b ∷ [] =
-      take_more loop i b (slice_get_within loop i b at) ∙ ap (λ y. take i loop ++ y ∷ []) (get_or_from_slice_get loop i b b at) in
+      take_more loop i b (slice_get_within loop i b at)
+      ∙ ap (λ y. take i loop ++ y ∷ []) (get_or_from_slice_get loop i b b at) in
       now ∙ ap (λ o. if has_table b then Some b else o) was
       ∙ sym (ap (λ xs. find has_table (reverse xs)) more ∙ ap (find has_table) (reverse-append (take i loop) (b ∷ [])))
 
@@ -42,7 +43,8 @@ module _ (w offsets : List ℕ) (are : AreLoop w offsets) where
       was ∙ ap (λ xs. find has_table (reverse xs)) (take_all i loop (omega arith))
 
   -- the block that is found has a table
-  pub last-has : (o : Option BlockView) → ((loop : List BlockView) → loop_of w ≡ Ok loop → o ≡ find has_table (reverse loop))
+  pub last-has : (o : Option BlockView)
+      → ((loop : List BlockView) → loop_of w ≡ Ok loop → o ≡ find has_table (reverse loop))
       → IfSome o (λ b. has_table b ≡ true)
   last-has o last =
       let found = are.blocks in
@@ -53,7 +55,8 @@ module _ (w offsets : List ℕ) (are : AreLoop w offsets) where
       go (Some b) e = find-passes has_table (reverse are.blocks.0) b (sym e)
 
 -- the table of a slot has no fault
-from-block : (s m : ℕ) (b : BlockView) (r : Result Table TableFault) → table_of b s m ≡ r → (t : Table) → result_ok r ≡ Some t → table_fault t s m ≡ None
+from-block : (s m : ℕ) (b : BlockView) (r : Result Table TableFault) → table_of b s m ≡ r → (t : Table)
+    → result_ok r ≡ Some t → table_fault t s m ≡ None
 from-block s m b (Ok x) is t e = faultless_from_table_of b s m t (is ∙ ap Ok (same_Some x t e))
 from-block s m b (Err f) is t e = cc
 
@@ -61,7 +64,8 @@ from-option : (s m : ℕ) (o : Option BlockView) (t : Table) → table_in_block 
 from-option s m None t e = cc
 from-option s m (Some b) t e = from-block s m b (table_of b s m) refl t e
 
-from-loop : (s m : ℕ) (r : Result (List BlockView) LoopFault) (t : Table) → table_in_loop s m r ≡ Some t → table_fault t s m ≡ None
+from-loop : (s m : ℕ) (r : Result (List BlockView) LoopFault) (t : Table) → table_in_loop s m r ≡ Some t
+    → table_fault t s m ≡ None
 from-loop s m (Ok blocks) t e = from-option s m (find has_table (reverse blocks)) t e
 from-loop s m (Err f) t e = cc
 
@@ -84,7 +88,8 @@ found-from (Some t) None f e =
     (record { slot = omega arith; lower = λ h. refl; other = λ (h : 0 ≡ 1). absurd (omega arith) })
 found-from (Some t) (Some u) f e = go (t.singleton || not (is_below t.version u.version)) e
   where
-    go : (first : Bool) → (if first then Some (record { slot = 0; table = t }) else Some (record { slot = 1; table = u })) ≡ Some f → IsFoundIn (Some t) (Some u) f
+    go : (first : Bool) → (if first then Some (record { slot = 0; table = t }) else Some
+        (record { slot = 1; table = u })) ≡ Some f → IsFoundIn (Some t) (Some u) f
     go true h =
         subst (λ g. IsFoundIn (Some t) (Some u) g) (same_Some (record { slot = 0; table = t }) f h)
         (record { slot = omega arith; lower = λ k. refl; other = λ (k : 0 ≡ 1). absurd (omega arith) })
@@ -110,13 +115,19 @@ found-in c f e =
     let size = slot_size c.otp (length c.flash) in
     let s = length c.flash / 4096 in
     let m = 2 * size / 4096 in
-    let found = found-from (slot_table s m (window_bytes c (slot_window size 0))) (slot_table s m (window_bytes c (slot_window size 1))) f e in
-    (found.slot, found-faultless s m _ _ f (slot-faultless s m (window_bytes c (slot_window size 0))) (slot-faultless s m (window_bytes c (slot_window size 1))) found)
+    let found = found-from (slot_table s m (window_bytes c (slot_window size 0)))
+    (slot_table s m (window_bytes c (slot_window size 1))) f e in (
+      found.slot,
+      found-faultless s m _ _ f (slot-faultless s m (window_bytes c (slot_window size 0)))
+          (slot-faultless s m (window_bytes c (slot_window size 1))) found,
+    )
 
 pub found-sound : (c : Content) (f : Found) → table_in c ≡ Some f → IsSoundTable f.table (length c.flash / 4096)
-found-sound c f e = sound_from_faultless f.table (length c.flash / 4096) (2 * slot_size c.otp (length c.flash) / 4096) (found-in c f e).1
+found-sound c f e = sound_from_faultless f.table (length c.flash / 4096) (2 * slot_size c.otp (length c.flash) / 4096)
+    (found-in c f e).1
 
-pub found-some : (c : Content) (o : Option Found) → o ≡ table_in c → IfSome o (λ f. IsSoundTable f.table (length c.flash / 4096))
+pub found-some : (c : Content) (o : Option Found) → o ≡ table_in c
+    → IfSome o (λ f. IsSoundTable f.table (length c.flash / 4096))
 found-some c None e = tt
 found-some c (Some f) e = found-sound c f (sym e)
 

@@ -17,7 +17,8 @@ pub image-window : (images : Window → Bool → Option Started) (u : SlotUnit) 
     → member_image images u m trial ≡ Some s → (w : Window) × (member_window m u ≡ Some w) × (images w trial ≡ Some s)
 image-window images u m trial s h = parts (member_window m u) h
   where
-    parts : (o : Option Window) → option_and_then (λ w. images w trial) o ≡ Some s → (w : Window) × (o ≡ Some w) × (images w trial ≡ Some s)
+    parts : (o : Option Window) → option_and_then (λ w. images w trial) o ≡ Some s
+        → (w : Window) × (o ≡ Some w) × (images w trial ≡ Some s)
     parts None e = cc
     parts (Some w) e = (w, refl, e)
 
@@ -31,11 +32,14 @@ counting images u updated m = member_image images u m (is_member updated m)
 
 -- What the choice of a unit says of the images that count: it is that of its member; and this is the updated
 -- member, or the updated member has none and the other image is no better one.
-pub record IsUnitChoice (image : Member → Option Started) (u : SlotUnit) (updated : Option Member) (choice : Choice) : Type 0 where
+pub record IsUnitChoice (image : Member → Option Started) (u : SlotUnit) (updated : Option Member)
+    (choice : Choice) : Type 0 where
   pub image_is : image choice.member ≡ Some choice.image
   pub best : (is_member updated choice.member ≡ true)
-      ⊎ (((t : Started) → is_member updated (other_of choice.member) ≡ true → image (other_of choice.member) ≡ Some t → ⊥)
-      × ((t : Started) → image (other_of choice.member) ≡ Some t → IsBetter choice.member choice.image.version t.version))
+      ⊎ (((t : Started) → is_member updated (other_of choice.member) ≡ true → image (other_of choice.member) ≡ Some t
+      → ⊥)
+      × ((t : Started) → image (other_of choice.member) ≡ Some t
+      → IsBetter choice.member choice.image.version t.version))
   pub other : choice.other ≡ member_window (other_of choice.member) u
   pub updated_is : choice.updated ≡ is_member updated choice.member
 
@@ -53,7 +57,8 @@ module _ (u : SlotUnit) (image : Member → Option Started) where
   plain-none (Some s) None h = cc
   plain-none (Some s) (Some t) h = branch (is_below s.version t.version) h
     where
-      branch : (below : Bool) → of_better u (Some (cond below B A)) (Some s) (Some t) ≡ None → (Some s ≡ None) × (Some t ≡ None)
+      branch : (below : Bool) → of_better u (Some (cond below B A)) (Some s) (Some t) ≡ None
+          → (Some s ≡ None) × (Some t ≡ None)
       branch true e = cc
       branch false e = cc
 
@@ -63,7 +68,8 @@ module _ (u : SlotUnit) (image : Member → Option Started) where
   version-is : (o : Option Started) (s t : Started) → o ≡ Some s → o ≡ Some t → s.version ≡ t.version
   version-is o s t e f = ap (λ (x : Started). x.version) (some-is s t (sym e ∙ f))
 
-  plain-some : (a b : Option Started) → image A ≡ a → image B ≡ b → (choice : Choice) → plain a b ≡ Some choice → IsUnitChoice image u None choice
+  plain-some : (a b : Option Started) → image A ≡ a → image B ≡ b → (choice : Choice) → plain a b ≡ Some choice
+      → IsUnitChoice image u None choice
   plain-some None None ia ib choice h = cc
   plain-some None (Some t) ia ib choice h =
       subst (λ (ch : Choice). IsUnitChoice image u None ch) (some-is (choice_of u B false t) choice h) (record {
@@ -81,18 +87,27 @@ module _ (u : SlotUnit) (image : Member → Option Started) where
       })
   plain-some (Some s) (Some t) ia ib choice h = branch (is_below s.version t.version) refl h
     where
-      branch : (below : Bool) → is_below s.version t.version ≡ below → of_better u (Some (cond below B A)) (Some s) (Some t) ≡ Some choice → IsUnitChoice image u None choice
+      branch : (below : Bool) → is_below s.version t.version ≡ below
+          → of_better u (Some (cond below B A)) (Some s) (Some t) ≡ Some choice → IsUnitChoice image u None choice
       branch true is e =
           subst (λ (ch : Choice). IsUnitChoice image u None ch) (some-is (choice_of u B false t) choice e) (record {
             image_is = ib;
-            best = inr ((λ x (not_it : false ≡ true). cc), λ x held. ap (λ v. is_below v t.version) (sym (version-is (image A) s x ia held)) ∙ is);
+            best = inr (
+              (λ x (not_it : false ≡ true). cc),
+              λ x held. ap (λ v. is_below v t.version)
+                  (sym (version-is (image A) s x ia held)) ∙ is,
+            );
             other = refl;
             updated_is = refl;
           })
       branch false is e =
           subst (λ (ch : Choice). IsUnitChoice image u None ch) (some-is (choice_of u A false s) choice e) (record {
             image_is = ia;
-            best = inr ((λ x (not_it : false ≡ true). cc), λ x held. ap (λ v. is_below s.version v) (sym (version-is (image B) t x ib held)) ∙ is);
+            best = inr (
+              (λ x (not_it : false ≡ true). cc),
+              λ x held. ap (λ v. is_below s.version v)
+                  (sym (version-is (image B) t x ib held)) ∙ is,
+            );
             other = refl;
             updated_is = refl;
           })
@@ -122,9 +137,14 @@ module _ (u : SlotUnit) (image : Member → Option Started) where
       → updating m a b ≡ Some choice → IsUnitChoice image u (Some m) choice
   updating-some m None None ia ib choice h = cc
   updating-some m None (Some t) ia ib choice h =
-      subst (λ (ch : Choice). IsUnitChoice image u (Some m) ch) (some-is (choice_of u (other_of m) false t) choice h) (record {
+      subst (λ (ch : Choice). IsUnitChoice image u (Some m) ch) (some-is (choice_of u (other_of m) false t) choice h)
+      (record {
         image_is = ib;
-        best = inr ((λ x it held. none-some (image m) x ia (back x held)), λ x held. absurd (none-some (image m) x ia (back x held)));
+        best = inr (
+          (λ x it held. none-some (image m) x ia (back x held)),
+          λ x held. absurd
+              (none-some (image m) x ia (back x held)),
+        );
         other = refl;
         updated_is = sym (other-member m);
       })

@@ -1,6 +1,6 @@
--- The decision of a boot as a function of the images (RP2350 Datasheet, chapter 5, "A/B versions" and
--- "Flash update boot"; this project's own where the datasheet is open; the order of versions and the update rule as a
--- whole).
+-- The decision of a boot as a function of the images (RP2350 Datasheet, chapter 5, "A/B versions"
+-- and "Flash update boot"; this project's own where the datasheet is open; the order of versions
+-- and the update rule as a whole).
 --     images w trial     the image of window w, valid with trial allowed or not, or none
 use Rattle.std.specs.Prelude.{Bool, true, false, if◌then◌else◌, List, [], ◌∷◌, length, Option, Some, None, option_map, option_and_then}
 use Rattle.std.specs.Option.{option_or}
@@ -32,14 +32,17 @@ other_of A = B
 other_of B = A
 
 -- the image of a member
-abbrev pub member_image : (Window → Bool → Option Started) → SlotUnit → Member → Bool → Option Started
+abbrev pub member_image : (Window → Bool → Option Started) → SlotUnit → Member → Bool
+    → Option Started
 member_image images u m trial = option_and_then (λ w. images w trial) (member_window m u)
 
 -- the choice of a member's image
 abbrev pub choice_of : SlotUnit → Member → Bool → Started → Choice
-choice_of u m updated image = record { image = image; member = m; other = member_window (other_of m) u; updated = updated }
+choice_of u m updated image =
+    record { image = image; member = m; other = member_window (other_of m) u; updated = updated }
 
--- the choice in a unit without an update: of two images the one of the better member, or the only one
+-- the choice in a unit without an update: of two images the one of the better member, or the only
+-- one
 abbrev pub of_better : SlotUnit → Option Member → Option Started → Option Started → Option Choice
 of_better u None a b = None
 of_better u (Some A) a b = option_map (choice_of u A false) a
@@ -49,8 +52,8 @@ of_better u (Some B) a b = option_map (choice_of u B false) b
 abbrev pub version_of_image : Option Started → Option Version
 version_of_image image = option_map (λ (s : Started). s.version) image
 
--- the choice in a unit: the updated member's image where it is valid with trial allowed, or else the
--- other one's; without an updated member the better one's
+-- the choice in a unit: the updated member's image where it is valid with trial allowed, or else
+-- the other one's; without an updated member the better one's
 abbrev pub unit_choice : (Window → Bool → Option Started) → SlotUnit → Option Member → Option Choice
 unit_choice images u (Some m) =
     option_or (option_map (choice_of u m true) (member_image images u m true))
@@ -66,9 +69,11 @@ pub record Order : Type 0 where
   pub updated : Option Member
 
 -- the choice of the first unit that has one, where the updated member is one of the first unit
-abbrev pub ordered_choice : (Window → Bool → Option Started) → List SlotUnit → Option Member → Option Choice
+abbrev pub ordered_choice : (Window → Bool → Option Started) → List SlotUnit → Option Member
+    → Option Choice
 ordered_choice images [] updated = None
-ordered_choice images (u ∷ us) updated = option_or (unit_choice images u updated) (ordered_choice images us None)
+ordered_choice images (u ∷ us) updated =
+    option_or (unit_choice images u updated) (ordered_choice images us None)
 
 -- the choice of a boot, as a function of the images
 abbrev pub choose : (Window → Bool → Option Started) → Order → Option Choice
@@ -76,14 +81,16 @@ choose images order = ordered_choice images order.units order.updated
 
 -- a flash-update boot tries the updated member's unit first
 abbrev pub order_of : BootKind → List SlotUnit → Order
-order_of (Update base) us = record { units = update_order us base; updated = updated_member us base }
+order_of (Update base) us = record
+    { units = update_order us base; updated = updated_member us base }
 order_of Normal us = record { units = us; updated = None }
 order_of AskBootsel us = record { units = us; updated = None }
 
 -- the boot units of a content, in table order
 abbrev pub boot_units_in : Content → Cpu → List SlotUnit
 boot_units_in c cpu =
-    units (option_map (λ found. found.table) (table_in c)) (length c.flash) (slot_size c.otp (length c.flash)) cpu
+    units (option_map (λ found. found.table) (table_in c)) (length c.flash)
+    (slot_size c.otp (length c.flash)) cpu
 
 -- the images of a content
 abbrev pub images_in : Content → Cpu → Window → Bool → Option Started

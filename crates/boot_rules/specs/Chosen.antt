@@ -1,5 +1,6 @@
--- The decision of a boot as the rules name it (RP2350 Datasheet, chapter 5, Bootrom; this project's own
--- where the datasheet is open; the order of versions and the update rule as a whole): Chosen, and Home.
+-- The decision of a boot as the rules name it (RP2350 Datasheet, chapter 5, Bootrom; this project's
+-- own where the datasheet is open; the order of versions and the update rule as a whole): Chosen,
+-- and Home.
 use Rattle.std.specs.Prelude.{◌≡◌, ◌⊎◌, ℕ, zero, suc, ◌<◌, Bool, true, false, IsTrue, slice_get, Option, Some, None, MatchBool}
 use Rattle.pico_board.specs.declared.boot.Cpu.{Cpu}
 use Rattle.pico_board.specs.declared.boot.BootKind.{BootKind}
@@ -34,24 +35,28 @@ abbrev pub is_updated : Order → ℕ → Member → Bool
 is_updated order zero m = is_member order.updated m
 is_updated order (suc i) m = false
 
--- s is the image of member m of unit u at a place, and it counts: it is valid with trial allowed exactly
--- in the updated member
-pub record Counts (c : Content) (cpu : Cpu) (order : Order) (place : ℕ) (u : SlotUnit) (m : Member) (s : Started) : Type 0 where
+-- s is the image of member m of unit u at a place, and it counts: it is valid with trial allowed
+-- exactly in the updated member
+pub record Counts (c : Content) (cpu : Cpu) (order : Order) (place : ℕ) (u : SlotUnit) (m : Member)
+    (s : Started) : Type 0 where
   pub window : Window
   pub tried : slice_get order.units place ≡ Some u
   pub stands : member_window m u ≡ Some window
   pub valid : Valid c window cpu (is_updated order place m) s
 
--- a member whose image has the first version is better than the other one, whose image has the second:
--- the greater version is, and A where they are equal
+-- a member whose image has the first version is better than the other one, whose image has the
+-- second: the greater version is, and A where they are equal
 abbrev pub IsBetter : Member → Version → Version → Type 0
 IsBetter A version other = is_below version other ≡ false
 IsBetter B version other = is_below other version ≡ true
 
 -- neither is the updated member's image passed over, nor that of a better member
-pub record IsBest (c : Content) (cpu : Cpu) (order : Order) (place : ℕ) (u : SlotUnit) (m : Member) (s : Started) : Type 0 where
-  pub no_update : (t : Started) → IsTrue (is_updated order place (other_of m)) → Counts c cpu order place u (other_of m) t → ⊥
-  pub better : (t : Started) → Counts c cpu order place u (other_of m) t → IsBetter m s.version t.version
+pub record IsBest (c : Content) (cpu : Cpu) (order : Order) (place : ℕ) (u : SlotUnit) (m : Member)
+    (s : Started) : Type 0 where
+  pub no_update : (t : Started) → IsTrue (is_updated order place (other_of m))
+      → Counts c cpu order place u (other_of m) t → ⊥
+  pub better : (t : Started) → Counts c cpu order place u (other_of m) t
+      → IsBetter m s.version t.version
 
 -- the choice is that of a counting image: no member of a unit before its own has one, and it is the
 -- updated member's or the best of its unit
@@ -59,8 +64,10 @@ pub record IsStart (c : Content) (cpu : Cpu) (order : Order) (choice : Choice) :
   pub place : ℕ
   pub unit : SlotUnit
   pub counts : Counts c cpu order place unit choice.member choice.image
-  pub first : (i : ℕ) (u : SlotUnit) (m : Member) (s : Started) → i < place → Counts c cpu order i u m s → ⊥
-  pub best : IsTrue (is_updated order place choice.member) ⊎ IsBest c cpu order place unit choice.member choice.image
+  pub first : (i : ℕ) (u : SlotUnit) (m : Member) (s : Started) → i < place
+      → Counts c cpu order i u m s → ⊥
+  pub best : IsTrue (is_updated order place choice.member)
+      ⊎ IsBest c cpu order place unit choice.member choice.image
   pub other : choice.other ≡ member_window (other_of choice.member) unit
   pub updated : choice.updated ≡ is_updated order place choice.member
 
@@ -69,12 +76,14 @@ abbrev pub ChosenFrom : Content → Cpu → Order → Decision → Type 0
 ChosenFrom c cpu order (Start choice) = IsStart c cpu order choice
 ChosenFrom c cpu order (Bootsel Requested) = ⊥
 ChosenFrom c cpu order (Bootsel FlashOff) = ⊥
-ChosenFrom c cpu order (Bootsel NoImage) = (i : ℕ) (u : SlotUnit) (m : Member) (s : Started) → Counts c cpu order i u m s → ⊥
+ChosenFrom c cpu order (Bootsel NoImage) = (i : ℕ) (u : SlotUnit) (m : Member) (s : Started)
+    → Counts c cpu order i u m s → ⊥
 
 -- the decision of a boot from flash
 abbrev pub ChosenInFlash : Content → Cpu → BootKind → Decision → Type 0
 ChosenInFlash c cpu kind d =
-    MatchBool (flash_off c.otp) (d ≡ Bootsel FlashOff) (ChosenFrom c cpu (order_of kind (boot_units_in c cpu)) d)
+    MatchBool (flash_off c.otp) (d ≡ Bootsel FlashOff)
+    (ChosenFrom c cpu (order_of kind (boot_units_in c cpu)) d)
 
 -- Chosen: d is the decision of a boot of this kind on this content
 abbrev pub Chosen : Content → Cpu → BootKind → Decision → Type 0

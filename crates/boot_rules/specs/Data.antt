@@ -20,7 +20,8 @@ has_window w p = (part_window p).start == w.start && (part_window p).len == w.le
 
 -- the partition that is the started unit's A
 abbrev pub started_part : Table → Choice → Option ℕ
-started_part t choice = option_and_then (λ w. position (has_window w) t.parts.items) (first_window choice choice.member)
+started_part t choice = option_and_then (λ w. position (has_window w) t.parts.items)
+    (first_window choice choice.member)
 
 -- B is asked for
 abbrev pub is_second_member : Member → Bool
@@ -30,10 +31,11 @@ is_second_member B = true
 -- the windows of the data of an owner, if there is one
 abbrev pub owner_windows : Table → Bool → Option ℕ → List Window
 owner_windows t second None = []
-owner_windows t second (Some owner) = map (partition_window t) (data_parts t.parts.items owner second)
+owner_windows t second (Some owner) =
+    map (partition_window t) (data_parts t.parts.items owner second)
 
--- DataOf: of each partition whose owner is the A of the started unit, in table order, the window of its
--- B where B was started and it has one, and its own otherwise; nothing without a table
+-- DataOf: of each partition whose owner is the A of the started unit, in table order, the window of
+-- its B where B was started and it has one, and its own otherwise; nothing without a table
 abbrev pub data_of : Option Table → Choice → List Window
 data_of None choice = []
 data_of (Some t) choice = owner_windows t (is_second_member choice.member) (started_part t choice)

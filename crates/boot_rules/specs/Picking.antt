@@ -30,17 +30,19 @@ abbrev pub pick : Content → SlotUnit → Cpu → Option Started
 pick c u cpu = option_map (λ (choice : Choice). choice.image) (taken c cpu u)
 
 -- s is the image of member m of a unit, valid in a normal boot
-pub record IsNormalImage (c : Content) (cpu : Cpu) (u : SlotUnit) (m : Member) (s : Started) : Type 0 where
+pub record IsNormalImage (c : Content) (cpu : Cpu) (u : SlotUnit) (m : Member)
+    (s : Started) : Type 0 where
   pub window : Window
   pub stands : member_window m u ≡ Some window
   pub valid : Valid c window cpu false s
 
--- Pick in words: s is the normal-valid image of a member to which the other one, where it has such an
--- image too, is not preferred
+-- Pick in words: s is the normal-valid image of a member to which the other one, where it has such
+-- an image too, is not preferred
 pub record IsPick (c : Content) (u : SlotUnit) (cpu : Cpu) (s : Started) : Type 0 where
   pub member : Member
   pub image : IsNormalImage c cpu u member s
-  pub better : (t : Started) → IsNormalImage c cpu u (other_of member) t → IsBetter member s.version t.version
+  pub better : (t : Started) → IsNormalImage c cpu u (other_of member) t
+      → IsBetter member s.version t.version
 
 -- a window stands inside a flash of n bytes
 abbrev pub IsInside : ℕ → Window → Type 0

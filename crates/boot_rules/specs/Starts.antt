@@ -22,7 +22,8 @@ table_of_content c = option_map (λ (found : Found). found.table) (table_in c)
 
 -- the unit that a download of a family goes to, for the content's own table
 abbrev pub load_unit_in : Content → ℕ → Option SlotUnit
-load_unit_in c family = load_unit (table_of_content c) (length c.flash) (slot_size c.otp (length c.flash)) family
+load_unit_in c family = load_unit (table_of_content c) (length c.flash)
+    (slot_size c.otp (length c.flash)) family
 
 -- a window is of whole sectors, at least one, inside the flash
 abbrev pub IsPlacedIn : Content → Window → Type 0

@@ -1,5 +1,5 @@
--- The partition table of a flash (RP2350 Datasheet, chapter 5, "Partition tables"; the choice between
--- two tables is this project's own).
+-- The partition table of a flash (RP2350 Datasheet, chapter 5, "Partition tables"; the choice
+-- between two tables is this project's own).
 use Rattle.std.specs.Prelude.{ℕ, ◌*◌, ◌/◌, ◌||◌, not, if◌then◌else◌, List, length, reverse, find, Option, Some, None, Result, Ok, Err}
 use Rattle.std.specs.Result.{result_ok}
 use Rattle.pico_board.specs.declared.window.Window.{Window}
@@ -17,13 +17,15 @@ use Rattle.boot_rules.specs.declared.tables.Found.{Found}
 abbrev pub slot_window : ℕ → ℕ → Window
 slot_window size number = record { start = number * size; len = size }
 
--- the table of the last block of a loop that has a PARTITION_TABLE item, where it is read without fault
+-- the table of the last block of a loop that has a PARTITION_TABLE item, where it is read without
+-- fault
 abbrev pub table_in_block : ℕ → ℕ → Option BlockView → Option Table
 table_in_block sectors first None = None
 table_in_block sectors first (Some b) = result_ok (table_of b sectors first)
 
 abbrev pub table_in_loop : ℕ → ℕ → Result (List BlockView) LoopFault → Option Table
-table_in_loop sectors first (Ok blocks) = table_in_block sectors first (find has_table (reverse blocks))
+table_in_loop sectors first (Ok blocks) =
+    table_in_block sectors first (find has_table (reverse blocks))
 table_in_loop sectors first (Err fault) = None
 
 -- the table of a slot with these bytes, in a flash of so many sectors whose first free one is given

@@ -23,8 +23,8 @@ use Rattle.boot_rules.specs.Picking.{taken_member, AreInside}
 abbrev pub is_executable : ℕ → Bool
 is_executable family = family == arm_s_family || family == riscv_family || family == arm_ns_family
 
--- the unit whose choice decides on the member of a load unit: that of its A's owner where A has one,
--- and itself otherwise
+-- the unit whose choice decides on the member of a load unit: that of its A's owner where A has
+-- one, and itself otherwise
 abbrev pub deciding_in : List Partition → SlotUnit → Option ℕ → SlotUnit
 deciding_in parts u None = u
 deciding_in parts u (Some i) = option_map_or (unit_of parts) (owner_of (part_at parts i)) u
@@ -33,8 +33,9 @@ abbrev pub deciding_unit : Option Table → SlotUnit → SlotUnit
 deciding_unit None u = u
 deciding_unit (Some t) u = deciding_in t.parts.items u u.a_part
 
--- the target's member of a pair: B where A would be taken in the deciding unit, and A otherwise. So an
--- owned pair takes what its owner's choice leaves unread, and another pair what its own leaves unread.
+-- the target's member of a pair: B where A would be taken in the deciding unit, and A otherwise. So
+-- an owned pair takes what its owner's choice leaves unread, and another pair what its own leaves
+-- unread.
 abbrev pub member_for : Option Member → Member
 member_for (Some A) = B
 member_for (Some B) = A
@@ -65,8 +66,8 @@ target_of c t cpu family =
     option_map (λ (u : SlotUnit). unit_target c t cpu family u u.b)
     (load_unit t (length c.flash) (slot_size c.otp (length c.flash)) family)
 
--- a load unit stands inside a flash of n bytes, and so does the unit that decides on its member; its A
--- is a partition of the table, where it is one
+-- a load unit stands inside a flash of n bytes, and so does the unit that decides on its member;
+-- its A is a partition of the table, where it is one
 pub record AreLoadsOf (n : ℕ) (t : Option Table) (u : SlotUnit) : Type 0 where
   pub inside : AreInside n u
   pub decides : AreInside n (deciding_unit t u)

@@ -50,7 +50,8 @@ fn first_taken<B: Board>(
     requires power { IsTrue (B.state board.now).powered }
     requires free { HasFree pool.old }
     requires inside { All (AreInside (length (B.state board.now).content.flash)) units.now }
-    ensures exact { result ≡ ordered_choice (images_in (B.state board.now).content cpu) units.now None }
+    ensures exact { result ≡ ordered_choice
+        (images_in (B.state board.now).content cpu) units.now None }
     ensures kept { KeepsOut pool.old pool.new }
 {
     for unit in units {
@@ -72,7 +73,8 @@ fn ordered_choice<B: Board>(
     requires power { IsTrue (B.state board.now).powered }
     requires free { HasFree pool.old }
     requires inside { All (AreInside (length (B.state board.now).content.flash)) units.now }
-    ensures exact { result ≡ ordered_choice (images_in (B.state board.now).content cpu) units.now updated }
+    ensures exact { result ≡ ordered_choice
+        (images_in (B.state board.now).content cpu) units.now updated }
     ensures kept { KeepsOut pool.old pool.new }
 {
     let Some((first, others)) = units.split_first() else {
@@ -126,11 +128,11 @@ fn decision_in<B: Board>(board: &B, pool: &mut SectorPool, cpu: Cpu, kind: BootK
 
 /// Decides a boot: which image starts, or why none does. A boot that asks for BOOTSEL falls there
 /// first, then one where flash boot is off. Otherwise the boot units are tried in table order, the
-/// updated member's unit before the others: the updated member's image is taken where it is valid with
-/// a trial image allowed, otherwise the greater version of those that are valid with none allowed, A
-/// on a tie. The decision takes no memory, and the pool keeps what is out. (RP2350 Datasheet, chapter
-/// 5, Bootrom; this project's own where the datasheet is open; the order of versions and the update
-/// rule as a whole.)
+/// updated member's unit before the others: the updated member's image is taken where it is valid
+/// with a trial image allowed, otherwise the greater version of those that are valid with none
+/// allowed, A on a tie. The decision takes no memory, and the pool keeps what is out. (RP2350
+/// Datasheet, chapter 5, Bootrom; this project's own where the datasheet is open; the order of
+/// versions and the update rule as a whole.)
 pub fn decide<B: Board>(board: &B, pool: &mut SectorPool, cpu: Cpu, kind: BootKind) -> Decision
     requires power { IsTrue (B.state board.now).powered }
     requires lease { HasFree pool.old }

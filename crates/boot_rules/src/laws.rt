@@ -32,33 +32,45 @@ ghost use Rattle.boot_rules.specs.Choosing.{Order, boot_units_in, choose, decisi
 ghost use Rattle.boot_rules.specs.Changes.{Images, HaveSameImages, HaveSameImagesBut, AreInPlace, IsNotIn, IsIn};
 ghost use Rattle.boot_rules.specs.Chosen.{Chosen, Home};
 
-/// For each content, processor and boot type the rules name exactly one decision: that of the choice as a function of the images.
+/// For each content, processor and boot type the rules name exactly one decision: that of the
+/// choice as a function of the images.
 pub fn one_decision()
-    ensures exactly { (c : Content) (cpu : Cpu) (kind : BootKind) (d : Decision) → Chosen c cpu kind d ↔ (d ≡ decision_in c cpu kind) }
-    ensures some { (c : Content) (cpu : Cpu) (kind : BootKind) → Chosen c cpu kind (decision_in c cpu kind) }
-    ensures one { (c : Content) (cpu : Cpu) (kind : BootKind) (d e : Decision) → Chosen c cpu kind d → Chosen c cpu kind e → d ≡ e }
+    ensures exactly { (c : Content) (cpu : Cpu) (kind : BootKind) (d : Decision)
+        → Chosen c cpu kind d ↔ (d ≡ decision_in c cpu kind) }
+    ensures some { (c : Content) (cpu : Cpu) (kind : BootKind)
+        → Chosen c cpu kind (decision_in c cpu kind) }
+    ensures one { (c : Content) (cpu : Cpu) (kind : BootKind) (d e : Decision)
+        → Chosen c cpu kind d → Chosen c cpu kind e → d ≡ e }
 {}
 
 /// An image that a boot starts is never below its rollback rows.
 pub fn started_is_not_below()
-    ensures { (c : Content) (cpu : Cpu) (kind : BootKind) (choice : Choice) → Chosen c cpu kind (Start choice) → NotBelow c.otp choice.image }
+    ensures { (c : Content) (cpu : Cpu) (kind : BootKind) (choice : Choice)
+        → Chosen c cpu kind (Start choice) → NotBelow c.otp choice.image }
 {}
 
 /// The choice is a function of the images in the members' windows: equal images give equal choices.
 pub fn equal_images_equal_choices()
-    ensures { (f g : Images) (order : Order) → HaveSameImages f g order.units → choose f order ≡ choose g order }
+    ensures { (f g : Images) (order : Order) → HaveSameImages f g order.units
+        → choose f order ≡ choose g order }
 {}
 
-/// A change of one window's image, where the choice was of another window, leaves the choice or gives a start in that window; and a
-/// start stays a start.
+/// A change of one window's image, where the choice was of another window, leaves the choice or
+/// gives a start in that window; and a start stays a start.
 pub fn a_window_changes()
-    ensures choice { (w : Window) (f g : Images) (order : Order) → HaveSameImagesBut w f g order.units → AreInPlace f → AreInPlace g → IsNotIn w (choose f order) → IsIn w (choose g order) ⊎ (choose g order ≡ choose f order) }
-    ensures stays { (w : Window) (f g : Images) (order : Order) → HaveSameImagesBut w f g order.units → AreInPlace f → AreInPlace g → IsNotIn w (choose f order) → IsSome (choose f order) → IsSome (choose g order) }
+    ensures choice { (w : Window) (f g : Images) (order : Order)
+        → HaveSameImagesBut w f g order.units → AreInPlace f → AreInPlace g
+        → IsNotIn w (choose f order) → IsIn w (choose g order) ⊎ (choose g order ≡ choose f order) }
+    ensures stays { (w : Window) (f g : Images) (order : Order)
+        → HaveSameImagesBut w f g order.units → AreInPlace f → AreInPlace g
+        → IsNotIn w (choose f order) → IsSome (choose f order) → IsSome (choose g order) }
 {}
 
 /// A window that was not taken and then has no image changes nothing.
 pub fn a_window_empties()
-    ensures { (w : Window) (f g : Images) (order : Order) → HaveSameImagesBut w f g order.units → AreInPlace f → IsNotIn w (choose f order) → ((trial : Bool) → g w trial ≡ None) → choose g order ≡ choose f order }
+    ensures { (w : Window) (f g : Images) (order : Order) → HaveSameImagesBut w f g order.units
+        → AreInPlace f → IsNotIn w (choose f order) → ((trial : Bool) → g w trial ≡ None)
+        → choose g order ≡ choose f order }
 {}
 
 /// The images of a content name the windows in which they stand.
@@ -66,9 +78,9 @@ pub fn images_are_in_place()
     ensures { (c : Content) (cpu : Cpu) → AreInPlace (images_in c cpu) }
 {}
 
-/// What a start gives. Its image stands in a member of a boot unit, whose other member is `other`. Both
-/// windows are of whole sectors, at least one, inside the flash, and share no byte. The image is valid
-/// in its window with a trial image allowed, and it is a trial only in the updated member.
+/// What a start gives. Its image stands in a member of a boot unit, whose other member is `other`.
+/// Both windows are of whole sectors, at least one, inside the flash, and share no byte. The image
+/// is valid in its window with a trial image allowed, and it is a trial only in the updated member.
 pub fn what_a_start_gives()
     ensures unit { (c : Content) (cpu : Cpu) (kind : BootKind) (choice : Choice)
         → Chosen c cpu kind (Start choice) → (u : SlotUnit) × IsOfUnit c cpu choice u }
@@ -92,50 +104,65 @@ pub fn a_pick_is_the_better_image()
         → (pick c u cpu ≡ None) ↔ ((m : Member) (s : Started) → IsNormalImage c cpu u m s → ⊥) }
 {}
 
-/// The target of a download into a pair, for the content's own table, shares no byte with the window
-/// of the image that a normal boot starts.
+/// The target of a download into a pair, for the content's own table, shares no byte with the
+/// window of the image that a normal boot starts.
 pub fn a_target_never_runs()
-    ensures { (c : Content) (cpu : Cpu) (family : ℕ) (u : SlotUnit) (second : Window) (target : Target) (choice : Choice)
+    ensures { (c : Content) (cpu : Cpu) (family : ℕ) (u : SlotUnit) (second : Window)
+        (target : Target) (choice : Choice)
         → IsContent c → load_unit_in c family ≡ Some u → u.b ≡ Some second
         → target_of c (table_of_content c) cpu family ≡ Some target
         → Chosen c cpu Normal (Start choice) → AreApart target.window choice.image.window }
 {}
 
-/// The data of a started image are those of the partition that is its unit's A: of each partition with
-/// that owner its B where B was started and it has one, and itself otherwise.
+/// The data of a started image are those of the partition that is its unit's A: of each partition
+/// with that owner its B where B was started and it has one, and itself otherwise.
 pub fn data_of_a_start()
     ensures { (c : Content) (cpu : Cpu) (kind : BootKind) (choice : Choice) (found : Found)
         → IsContent c → table_in c ≡ Some found → Chosen c cpu kind (Start choice)
         → (i : ℕ) × IsOfUnit c cpu choice (unit_of found.table.parts.items i)
         × (data_of (Some found.table) choice
-        ≡ map (partition_window found.table) (data_parts found.table.parts.items i (is_second_member choice.member))) }
+        ≡ map (partition_window found.table)
+        (data_parts found.table.parts.items i (is_second_member choice.member))) }
 {}
 
-/// Steps that are confined to the target of a family in an owned pair, done or torn, leave the table
-/// and the decision of a normal boot; and where that is a start, the target shares no byte with the
-/// data of the started image, all of which keep their bytes.
+/// Steps that are confined to the target of a family in an owned pair, done or torn, leave the
+/// table and the decision of a normal boot; and where that is a start, the target shares no byte
+/// with the data of the started image, all of which keep their bytes.
 pub fn owned_data()
-    ensures table { (c : Content) (cpu : Cpu) (family : ℕ) (found : Found) (u : SlotUnit) (second : Window) (target : Target)
+    ensures table { (c : Content) (cpu : Cpu) (family : ℕ) (found : Found) (u : SlotUnit)
+        (second : Window) (target : Target)
         (steps : List Step) (d : Content)
-        → IsContent c → table_in c ≡ Some found → load_unit_in c family ≡ Some u → IsOwnedPair found.table u second
-        → target_of c (Some found.table) cpu family ≡ Some target → Confined steps target.window → MayLeave c steps d
+        → IsContent c → table_in c ≡ Some found → load_unit_in c family ≡ Some u
+        → IsOwnedPair found.table u second
+        → target_of c (Some found.table) cpu family ≡ Some target → Confined steps target.window
+        → MayLeave c steps d
         → table_in d ≡ Some found }
-    ensures decision { (c : Content) (cpu : Cpu) (family : ℕ) (found : Found) (u : SlotUnit) (second : Window) (target : Target)
+    ensures decision { (c : Content) (cpu : Cpu) (family : ℕ) (found : Found) (u : SlotUnit)
+        (second : Window) (target : Target)
         (steps : List Step) (d : Content) (e : Decision)
-        → IsContent c → table_in c ≡ Some found → load_unit_in c family ≡ Some u → IsOwnedPair found.table u second
-        → target_of c (Some found.table) cpu family ≡ Some target → Confined steps target.window → MayLeave c steps d
+        → IsContent c → table_in c ≡ Some found → load_unit_in c family ≡ Some u
+        → IsOwnedPair found.table u second
+        → target_of c (Some found.table) cpu family ≡ Some target → Confined steps target.window
+        → MayLeave c steps d
         → Chosen c cpu Normal e → Chosen d cpu Normal e }
-    ensures apart { (c : Content) (cpu : Cpu) (family : ℕ) (found : Found) (u : SlotUnit) (second : Window) (target : Target)
+    ensures apart { (c : Content) (cpu : Cpu) (family : ℕ) (found : Found) (u : SlotUnit)
+        (second : Window) (target : Target)
         (choice : Choice) (k : ℕ) (w : Window)
-        → IsContent c → table_in c ≡ Some found → load_unit_in c family ≡ Some u → IsOwnedPair found.table u second
-        → target_of c (Some found.table) cpu family ≡ Some target → Chosen c cpu Normal (Start choice)
-        → slice_get (data_of (Some found.table) choice) k ≡ Some w → AreApart target.window w }
-    ensures bytes { (c : Content) (cpu : Cpu) (family : ℕ) (found : Found) (u : SlotUnit) (second : Window) (target : Target)
-        (steps : List Step) (d : Content) (choice : Choice) (k : ℕ) (w : Window)
-        → IsContent c → table_in c ≡ Some found → load_unit_in c family ≡ Some u → IsOwnedPair found.table u second
-        → target_of c (Some found.table) cpu family ≡ Some target → Confined steps target.window → MayLeave c steps d
+        → IsContent c → table_in c ≡ Some found → load_unit_in c family ≡ Some u
+        → IsOwnedPair found.table u second
+        → target_of c (Some found.table) cpu family ≡ Some target
         → Chosen c cpu Normal (Start choice)
-        → slice_get (data_of (Some found.table) choice) k ≡ Some w → window_bytes d w ≡ window_bytes c w }
+        → slice_get (data_of (Some found.table) choice) k ≡ Some w → AreApart target.window w }
+    ensures bytes { (c : Content) (cpu : Cpu) (family : ℕ) (found : Found) (u : SlotUnit)
+        (second : Window) (target : Target)
+        (steps : List Step) (d : Content) (choice : Choice) (k : ℕ) (w : Window)
+        → IsContent c → table_in c ≡ Some found → load_unit_in c family ≡ Some u
+        → IsOwnedPair found.table u second
+        → target_of c (Some found.table) cpu family ≡ Some target → Confined steps target.window
+        → MayLeave c steps d
+        → Chosen c cpu Normal (Start choice)
+        → slice_get (data_of (Some found.table) choice) k ≡ Some w
+        → window_bytes d w ≡ window_bytes c w }
 {}
 
 /// A window is home exactly where it is a member of a boot unit that has two members.
@@ -143,7 +170,8 @@ pub fn home_is_a_pair()
     ensures pair { (c : Content) (w : Window) (cpu : Cpu) → Home c w cpu
         → (i : ℕ) × (u : SlotUnit) × (second : Window)
         × (slice_get (boot_units_in c cpu) i ≡ Some u) × (u.b ≡ Some second) × IsMember u w }
-    ensures members { (c : Content) (w : Window) (cpu : Cpu) (i : ℕ) (u : SlotUnit) (second : Window)
+    ensures members { (c : Content) (w : Window) (cpu : Cpu) (i : ℕ) (u : SlotUnit)
+        (second : Window)
         → slice_get (boot_units_in c cpu) i ≡ Some u → u.b ≡ Some second → IsMember u w
         → Home c w cpu }
 {}

@@ -63,7 +63,8 @@ fn member_image<B: Board>(
     requires power { IsTrue (B.state board.now).powered }
     requires free { HasFree pool.old }
     requires inside { AreInside (length (B.state board.now).content.flash) unit.now }
-    ensures exact { result ≡ member_image (images_in (B.state board.now).content cpu) unit.now member trial_ok }
+    ensures exact { result ≡ member_image
+        (images_in (B.state board.now).content cpu) unit.now member trial_ok }
     ensures kept { KeepsOut pool.old pool.new }
 {
     match member_window(unit, member) {
@@ -84,7 +85,8 @@ fn updated_choice<B: Board>(
     requires power { IsTrue (B.state board.now).powered }
     requires free { HasFree pool.old }
     requires inside { AreInside (length (B.state board.now).content.flash) unit.now }
-    ensures exact { result ≡ unit_choice (images_in (B.state board.now).content cpu) unit.now (Some member) }
+    ensures exact { result ≡ unit_choice (images_in (B.state board.now).content cpu) unit.now
+        (Some member) }
     ensures kept { KeepsOut pool.old pool.new }
 {
     if let Some(image) = member_image(board, pool, unit, member, cpu, true) {
@@ -139,7 +141,8 @@ fn confirmed<B: Board>(
     requires sound { IfSome seen.now (λ c. IsDefinition c.block c.def) }
     requires stored { (w : Window) → member_window member unit.now ≡ Some w → IfSome seen.now
         (λ c. AreStoredIn (length (window_bytes (B.state board.now).content w)) c.loads.items) }
-    ensures exact { (cpu : Cpu) → seen.now ≡ seen_in (B.state board.now).content cpu (member_window member unit.now)
+    ensures exact { (cpu : Cpu) → seen.now
+        ≡ seen_in (B.state board.now).content cpu (member_window member unit.now)
         → result ≡ option_map (choice_of unit.now member false)
         (member_image (images_in (B.state board.now).content cpu) unit.now member false) }
     ensures kept { KeepsOut pool.old pool.new }
@@ -156,9 +159,9 @@ fn confirmed<B: Board>(
     }
 }
 
-/// The choice in a unit without an update: of the members with a valid image, where no trial image is
-/// allowed, the one of greater version, A on a tie. The versions are read before a digest is made, and
-/// the digest of the other member is made only where that of the better one is wrong.
+/// The choice in a unit without an update: of the members with a valid image, where no trial image
+/// is allowed, the one of greater version, A on a tie. The versions are read before a digest is
+/// made, and the digest of the other member is made only where that of the better one is wrong.
 pub(crate) fn taken<B: Board>(
     board: &B,
     pool: &mut SectorPool,
@@ -197,7 +200,8 @@ pub(crate) fn unit_choice<B: Board>(
     requires power { IsTrue (B.state board.now).powered }
     requires free { HasFree pool.old }
     requires inside { AreInside (length (B.state board.now).content.flash) unit.now }
-    ensures exact { result ≡ unit_choice (images_in (B.state board.now).content cpu) unit.now updated }
+    ensures exact { result ≡ unit_choice
+        (images_in (B.state board.now).content cpu) unit.now updated }
     ensures kept { KeepsOut pool.old pool.new }
 {
     match updated {

@@ -62,7 +62,8 @@ fn table_of_slot<B: Board>(board: &B, size: u32, number: u32) -> Option<Table>
     requires power { IsTrue (B.state board.now).powered }
     requires number { number ≤ 1 }
     requires inside { 2 * size ≤ length (B.state board.now).content.flash }
-    ensures { result ≡ slot_table (length (B.state board.now).content.flash / 4096) (2 * size / 4096)
+    ensures { result ≡ slot_table (length (B.state board.now).content.flash / 4096)
+        (2 * size / 4096)
         (window_bytes (B.state board.now).content (record { start = number * size; len = size })) }
 {
     let window = Window {
@@ -107,11 +108,11 @@ fn table_in<B: Board>(board: &B) -> Option<Found>
     found_of(table_of_slot(board, size, 0), table_of_slot(board, size, 1))
 }
 
-/// The partition table of a board's flash and the slot that it stands in, 0 or 1. None exactly where
-/// neither slot has a table. A slot's table is that of the last block of its loop that has a
+/// The partition table of a board's flash and the slot that it stands in, 0 or 1. None exactly
+/// where neither slot has a table. A slot's table is that of the last block of its loop that has a
 /// PARTITION_TABLE item, where that is read without fault. A singleton in slot 0 is taken, and
-/// otherwise the greater version, slot 0 on a tie. (RP2350 Datasheet, chapter 5, "Partition tables";
-/// the choice between two tables is this project's own.)
+/// otherwise the greater version, slot 0 on a tie. (RP2350 Datasheet, chapter 5, "Partition
+/// tables"; the choice between two tables is this project's own.)
 pub fn find_table<B: Board>(board: &B) -> Option<Found>
     requires power { IsTrue (B.state board.now).powered }
     ensures exact { result ≡ table_in (B.state board.now).content }

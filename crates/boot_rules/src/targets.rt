@@ -80,7 +80,8 @@ fn pair_target(
     second: Window,
     member: Member,
 ) -> Target
-    ensures { result ≡ pair_target (option_map (λ t. t.now) table.entry) family unit.now second member }
+    ensures { result ≡ pair_target
+        (option_map (λ t. t.now) table.entry) family unit.now second member }
 {
     let gated = is_executable(family);
     match member {
@@ -122,9 +123,12 @@ fn unit_target<B: Board>(
 ) -> Target
     requires power { IsTrue (B.state board.now).powered }
     requires lease { HasFree pool.old }
-    requires sound { IsSoundFor (option_map (λ t. t.now) table) (length (B.state board.now).content.flash) }
-    requires loads { AreLoadsOf (length (B.state board.now).content.flash) (option_map (λ t. t.now) table) unit }
-    ensures exact { result ≡ unit_target (B.state board.now).content (option_map (λ t. t.now) table.entry) cpu family unit unit.b }
+    requires sound { IsSoundFor (option_map (λ t. t.now) table)
+        (length (B.state board.now).content.flash) }
+    requires loads { AreLoadsOf (length (B.state board.now).content.flash)
+        (option_map (λ t. t.now) table) unit }
+    ensures exact { result ≡ unit_target (B.state board.now).content
+        (option_map (λ t. t.now) table.entry) cpu family unit unit.b }
     ensures kept { KeepsOut pool.old pool.new }
 {
     let Some(second) = unit.b else {
@@ -140,11 +144,11 @@ fn unit_target<B: Board>(
 }
 
 /// Where a download of a UF2 family goes. None exactly where the family has no load unit. In a pair
-/// whose A has an owner it is B where a normal boot would take A of the owner's unit, and A otherwise;
-/// in another pair it is the member that a normal boot would not take, A where it would take none. The
-/// target is gated where it is a member of a pair and the family is one of the three of executables,
-/// and it stays where bit 13 of its partition's flags says so. It takes no memory, and the pool keeps
-/// what is out. (This project's own.)
+/// whose A has an owner it is B where a normal boot would take A of the owner's unit, and A
+/// otherwise; in another pair it is the member that a normal boot would not take, A where it would
+/// take none. The target is gated where it is a member of a pair and the family is one of the three
+/// of executables, and it stays where bit 13 of its partition's flags says so. It takes no memory,
+/// and the pool keeps what is out. (This project's own.)
 pub fn target<B: Board>(
     board: &B,
     pool: &mut SectorPool,
@@ -154,9 +158,12 @@ pub fn target<B: Board>(
 ) -> Option<Target>
     requires power { IsTrue (B.state board.now).powered }
     requires lease { HasFree pool.old }
-    requires sound { IsSoundFor (option_map (λ t. t.now) table) (length (B.state board.now).content.flash) }
-    ensures exact { result ≡ target_of (B.state board.now).content (option_map (λ t. t.now) table.entry) cpu family }
-    ensures placed { IfSome result (λ t. IsPlaced t.window (length (B.state board.now).content.flash / 4096) 0) }
+    requires sound { IsSoundFor (option_map (λ t. t.now) table)
+        (length (B.state board.now).content.flash) }
+    ensures exact { result ≡ target_of (B.state board.now).content
+        (option_map (λ t. t.now) table.entry) cpu family }
+    ensures placed { IfSome result
+        (λ t. IsPlaced t.window (length (B.state board.now).content.flash / 4096) 0) }
     ensures kept { KeepsOut pool.old pool.new }
 {
     match load_unit(table, board.flash_len(), slot_size(board), family) {

@@ -1,4 +1,5 @@
-//! What no clause says: that calls succeed, and the answers on contents that were worked out by hand.
+//! What no clause says: that calls succeed, and the answers on contents that were worked out by
+//! hand.
 
 ghost use Rattle.std.specs.Prelude.{◌≡◌, IsTrue, IfOk, Some, true, slice_get};
 ghost use Rattle.pico_board.specs.MemBoard.{state_of};
@@ -28,7 +29,8 @@ const PAIR: [u32; 10] = [
     0xab12_3579,
 ];
 
-/// The table block of a pair at 0x2000 and 0xa000, and of a pair of its data at 0x12000 and 0x1a000.
+/// The table block of a pair at 0x2000 and 0xa000, and of a pair of its data at 0x12000 and
+/// 0x1a000.
 const OWNED: [u32; 14] = [
     0xffff_ded3,
     0x0400_0a0a,

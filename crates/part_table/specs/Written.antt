@@ -72,8 +72,8 @@ table_body t = t.unpartitioned ∷ flat_map partition_text t.parts.items
 abbrev pub table_byte : Table → ℕ
 table_byte t = (if t.singleton then 128 else 0) + length t.parts.items
 
--- the PARTITION_TABLE item is its header, with that byte, and its body (RP2350 Datasheet, chapter 5,
--- Bootrom)
+-- the PARTITION_TABLE item is its header, with that byte, and its body (RP2350 Datasheet, chapter
+-- 5, Bootrom)
 abbrev pub table_item : Table → List ℕ
 table_item t = header PARTITION_TABLE (1 + length (table_body t)) (table_byte t) ∷ table_body t
 

@@ -39,7 +39,8 @@ cleared-whole xs new k long same is =
     take-length-append : (k : ℕ) (ys zs : List ℕ) → length ys ≡ k → take k (ys ++ zs) ≡ ys
     take-length-append k ys zs e = ap (λ n. take n (ys ++ zs)) (sym e) ∙ front ys zs
 
-module _ (c : Content) (bytes : List ℕ) (base : ℕ) (cpu : Cpu) (r : Result Started Why) (is : r ≡ ram_image c bytes base cpu) where
+module _ (c : Content) (bytes : List ℕ) (base : ℕ) (cpu : Cpu) (r : Result Started Why)
+    (is : r ≡ ram_image c bytes base cpu) where
   -- what the check answers is what is valid in RAM, and why not
   pub ram-valid : (s : Started) → (r ≡ Ok s) ↔ ValidRam c bytes base cpu s
   ram-valid s =

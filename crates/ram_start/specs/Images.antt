@@ -1,4 +1,5 @@
--- An image in RAM (RP2350 Datasheet, chapter 5, Bootrom; this project's own where the datasheet is open).
+-- An image in RAM (RP2350 Datasheet, chapter 5, Bootrom; this project's own where the datasheet is
+-- open).
 use Rattle.std.specs.Prelude.{ℕ, false, List, length, Result}
 use Rattle.pico_board.specs.declared.boot.Cpu.{Cpu}
 use Rattle.pico_board.specs.declared.window.Window.{Window}
@@ -14,10 +15,11 @@ use Rattle.image_check.specs.WhyNot.{IsWhyNot}
 abbrev pub ram_window : ℕ → List ℕ → Window
 ram_window base bytes = record { start = base; len = length bytes }
 
--- ValidRam: all rules of a valid image hold of the bytes, which are seen from the base on, and each load
--- map entry is used where it stands; no trial image is allowed
+-- ValidRam: all rules of a valid image hold of the bytes, which are seen from the base on, and each
+-- load map entry is used where it stands; no trial image is allowed
 abbrev pub ValidRam : Content → List ℕ → ℕ → Cpu → Started → Type 0
-ValidRam c bytes base cpu s = IsValidImage (in_ram base) (ram_window base bytes) cpu false c.otp bytes s
+ValidRam c bytes base cpu s =
+    IsValidImage (in_ram base) (ram_window base bytes) cpu false c.otp bytes s
 
 -- the first rule that fails
 abbrev pub WhyNotRam : Content → List ℕ → ℕ → Cpu → Why → Type 0

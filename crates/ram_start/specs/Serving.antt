@@ -1,4 +1,5 @@
--- What the RAM commands do: their checks, and what they leave and answer. The order of the checks is this project's own.
+-- What the RAM commands do: their checks, and what they leave and answer. The order of the checks
+-- is this project's own.
 use Rattle.std.specs.Prelude.{ℕ, ◌+◌, ◌-◌, ◌%◌, ◌==◌, ◌&&◌, ◌||◌, Bool, true, false, not, nat_le, if◌then◌else◌, Option, Some, None, List, [], ◌∷◌, Result, Ok, Err, is_some, slice_range}
 use Rattle.std.specs.Result.{result_ok}
 use Rattle.load_map.specs.declared.addresses.TheConstants.{SRAM_START}
@@ -14,19 +15,23 @@ use Rattle.ram_start.specs.declared.serving.RamDone.{RamDone}
 use Rattle.ram_start.specs.Images.{ram_image}
 use Rattle.ram_start.specs.Sram.{is_in_sram, stored}
 
--- a read or a write at an address of SRAM or above, and a reboot into RAM, each of its argument size
+-- a read or a write at an address of SRAM or above, and a reboot into RAM, each of its argument
+-- size
 abbrev pub asks_transfer : Cmd → Bool
-asks_transfer cmd = (cmd.id == READ || cmd.id == WRITE) && (cmd.arg_size == 8 && nat_le SRAM_START (address cmd))
+asks_transfer cmd = (cmd.id == READ || cmd.id == WRITE)
+    && (cmd.arg_size == 8 && nat_le SRAM_START (address cmd))
 
 abbrev pub asks_reboot : Cmd → Bool
-asks_reboot cmd = cmd.id == REBOOT && (cmd.arg_size == 16 && (reboot_flags cmd == 3 || reboot_flags cmd == 0x103))
+asks_reboot cmd = cmd.id == REBOOT
+    && (cmd.arg_size == 16 && (reboot_flags cmd == 3 || reboot_flags cmd == 0x103))
 
 abbrev pub is_ram_command : Cmd → Bool
 is_ram_command cmd = asks_transfer cmd || asks_reboot cmd
 
 -- the bytes of the range that a reboot names
 abbrev pub reboot_range : List ℕ → Cmd → List ℕ
-reboot_range ram cmd = slice_range ram (reboot_p0 cmd - SRAM_START) (reboot_p0 cmd - SRAM_START + reboot_p1 cmd)
+reboot_range ram cmd = slice_range ram (reboot_p0 cmd - SRAM_START)
+    (reboot_p0 cmd - SRAM_START + reboot_p1 cmd)
 
 -- the image that a reboot starts, if there is one
 abbrev pub reboot_image : Content → List ℕ → Cpu → Cmd → Option Started
@@ -34,7 +39,8 @@ reboot_image c ram cpu cmd = result_ok (ram_image c (reboot_range ram cmd) (rebo
 
 -- a range of words, at least one, that lies in SRAM
 abbrev pub is_range : Cmd → Bool
-is_range cmd = reboot_p0 cmd % 4 == 0 && (nat_le 4 (reboot_p1 cmd) && is_in_sram (reboot_p0 cmd) (reboot_p1 cmd))
+is_range cmd = reboot_p0 cmd % 4 == 0
+    && (nat_le 4 (reboot_p1 cmd) && is_in_sram (reboot_p0 cmd) (reboot_p1 cmd))
 
 -- the checks in their order
 abbrev pub ram_checks : Content → List ℕ → Cpu → Bool → Cmd → List ℕ → List Check
@@ -50,12 +56,14 @@ ram_status c ram cpu busy cmd payload = first_failing (ram_checks c ram cpu busy
 
 -- the SRAM after a command with status 0: a write stores its bytes
 abbrev pub ram_stored : List ℕ → Cmd → List ℕ → List ℕ
-ram_stored ram cmd payload = if cmd.id == WRITE then stored ram (address cmd - SRAM_START) payload else ram
+ram_stored ram cmd payload = if cmd.id == WRITE then stored ram
+    (address cmd - SRAM_START) payload else ram
 
 -- the reply: the bytes that are read
 abbrev pub ram_reply : List ℕ → Cmd → List ℕ
 ram_reply ram cmd =
-    if cmd.id == READ then slice_range ram (address cmd - SRAM_START) (address cmd - SRAM_START + size cmd) else []
+    if cmd.id == READ then slice_range ram (address cmd - SRAM_START)
+    (address cmd - SRAM_START + size cmd) else []
 
 -- what a command leaves, and what it answers: with another status than 0 it does nothing
 pub record RamServed : Type 0 where
@@ -76,7 +84,8 @@ ram_served status c ram cpu cmd payload =
     else record { status = status; ram = ram; reply = []; start = None }
 
 abbrev pub ram_command : Content → List ℕ → Cpu → Bool → Cmd → List ℕ → RamServed
-ram_command c ram cpu busy cmd payload = ram_served (ram_status c ram cpu busy cmd payload) c ram cpu cmd payload
+ram_command c ram cpu busy cmd payload =
+    ram_served (ram_status c ram cpu busy cmd payload) c ram cpu cmd payload
 
 -- what is left of the checks for a read and a write
 abbrev pub transfer_checks : Bool → Cmd → List ℕ → List Check
@@ -96,4 +105,5 @@ abbrev pub started_by : ℕ → Option Started → RamDone
 started_by status image = record { status = status; start = if status == 0 then image else None }
 
 abbrev pub reboot_done : Content → List ℕ → Cpu → Cmd → List ℕ → RamDone
-reboot_done c ram cpu cmd payload = started_by (first_failing (reboot_checks c ram cpu cmd payload)) (reboot_image c ram cpu cmd)
+reboot_done c ram cpu cmd payload =
+    started_by (first_failing (reboot_checks c ram cpu cmd payload)) (reboot_image c ram cpu cmd)

@@ -37,10 +37,10 @@ fn ram_image<B: Board, V: View>(
     check_view(board, pool, view, window, addressing, cpu, false)
 }
 
-/// The image of a view that is seen from `base` on, or exactly the first rule that fails. All rules of a
-/// valid image hold as in flash, with the base in place of the flash's; each load map entry is used where
-/// it stands, and no trial image is allowed. It takes no memory, and the pool keeps what is out. (This
-/// project's own where the datasheet is open.)
+/// The image of a view that is seen from `base` on, or exactly the first rule that fails. All rules
+/// of a valid image hold as in flash, with the base in place of the flash's; each load map entry is
+/// used where it stands, and no trial image is allowed. It takes no memory, and the pool keeps what
+/// is out. (This project's own where the datasheet is open.)
 pub fn ram_check<B: Board, V: View>(
     board: &B,
     pool: &mut SectorPool,
@@ -52,8 +52,10 @@ pub fn ram_check<B: Board, V: View>(
     requires free { HasFree pool.old }
     requires inside { base + length (V.bytes view.now) ≤ SRAM_END }
     ensures exact { result ≡ ram_image (B.state board.now).content (V.bytes view.now) base cpu }
-    ensures valid { (s : Started) → (result ≡ Ok s) ↔ ValidRam (B.state board.now).content (V.bytes view.now) base cpu s }
-    ensures why_not { (y : Why) → (result ≡ Err y) ↔ WhyNotRam (B.state board.now).content (V.bytes view.now) base cpu y }
+    ensures valid { (s : Started)
+        → (result ≡ Ok s) ↔ ValidRam (B.state board.now).content (V.bytes view.now) base cpu s }
+    ensures why_not { (y : Why) → (result ≡ Err y) ↔ WhyNotRam (B.state board.now).content
+        (V.bytes view.now) base cpu y }
     ensures kept { KeepsOut pool.old pool.new }
 {
     ram_image(board, pool, view, base, cpu)

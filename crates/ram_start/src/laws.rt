@@ -11,7 +11,8 @@ ghost use Rattle.ram_start.specs.Images.{ram_window, ValidRam};
 ghost use Rattle.ram_start.specs.Serving.{ram_checks, ram_command, ram_status};
 ghost use Rattle.ram_start.specs.Sram.{stored};
 
-/// The status of a RAM command is that of the first of its checks that fails, and 0 where none does.
+/// The status of a RAM command is that of the first of its checks that fails, and 0 where none
+/// does.
 pub fn the_status_of_a_ram_command()
     ensures { (c : Content) (ram : List ℕ) (cpu : Cpu) (busy : Bool) (cmd : Cmd) (payload : List ℕ)
         → IsAnswer (ram_checks c ram cpu busy cmd payload) (ram_status c ram cpu busy cmd payload) }
@@ -19,13 +20,16 @@ pub fn the_status_of_a_ram_command()
 
 /// A command with another status than 0 leaves the SRAM, replies nothing and starts nothing.
 pub fn a_refused_ram_command_does_nothing()
-    ensures ram { (c : Content) (ram : List ℕ) (cpu : Cpu) (busy : Bool) (cmd : Cmd) (payload : List ℕ) (n : ℕ)
+    ensures ram { (c : Content) (ram : List ℕ) (cpu : Cpu) (busy : Bool) (cmd : Cmd)
+        (payload : List ℕ) (n : ℕ)
         → ram_status c ram cpu busy cmd payload ≡ 1 + n
         → (ram_command c ram cpu busy cmd payload).ram ≡ ram }
-    ensures reply { (c : Content) (ram : List ℕ) (cpu : Cpu) (busy : Bool) (cmd : Cmd) (payload : List ℕ) (n : ℕ)
+    ensures reply { (c : Content) (ram : List ℕ) (cpu : Cpu) (busy : Bool) (cmd : Cmd)
+        (payload : List ℕ) (n : ℕ)
         → ram_status c ram cpu busy cmd payload ≡ 1 + n
         → (ram_command c ram cpu busy cmd payload).reply ≡ [] }
-    ensures start { (c : Content) (ram : List ℕ) (cpu : Cpu) (busy : Bool) (cmd : Cmd) (payload : List ℕ) (n : ℕ)
+    ensures start { (c : Content) (ram : List ℕ) (cpu : Cpu) (busy : Bool) (cmd : Cmd)
+        (payload : List ℕ) (n : ℕ)
         → ram_status c ram cpu busy cmd payload ≡ 1 + n
         → (ram_command c ram cpu busy cmd payload).start ≡ None }
 {}

@@ -48,8 +48,8 @@ fn asks_reboot(cmd: &Cmd) -> bool
         && (cmd.arg_size == 16 && (cmd.reboot_flags() == 3 || cmd.reboot_flags() == 0x103))
 }
 
-/// Whether a command is a RAM command: a read or a write of argument size 8 at an address of at least
-/// 0x20000000, or a reboot of argument size 16 whose flags are 3 or 0x103.
+/// Whether a command is a RAM command: a read or a write of argument size 8 at an address of at
+/// least 0x20000000, or a reboot of argument size 16 whose flags are 3 or 0x103.
 pub fn ram_asks(cmd: &Cmd) -> bool
     ensures { result ≡ is_ram_command cmd.now }
 {
@@ -152,7 +152,8 @@ fn reboot<B: Board>(
     requires free { HasFree pool.old }
     requires asks { is_ram_command cmd.now ≡ true }
     requires reboots { cmd.now.id ≡ REBOOT_ID }
-    ensures exact { result ≡ reboot_done (B.state board.now).content ram.now cpu cmd.now payload.now }
+    ensures exact { result ≡ reboot_done
+        (B.state board.now).content ram.now cpu cmd.now payload.now }
     ensures kept { KeepsOut pool.old pool.new }
 {
     if !has_transfer(cmd, payload) {
@@ -199,13 +200,13 @@ fn transfer<R: Reply>(ram: &mut Ram, cmd: &Cmd, payload: &[u8], reply: &mut R)
     }
 }
 
-/// Serves a RAM command, while a download is busy or not: a read or a write of SRAM, or a reboot that
-/// starts an image there. Its status is the number of the first of its checks that fails, and 0 where
-/// none does: 9, a write while a download is busy; 3, a transfer length that is not the size read or
-/// written, or a payload that is not that of a write; 4, a read or a write that leaves SRAM; 11, a reboot
-/// whose range does not begin with a word, has none, or leaves SRAM; 13, a reboot whose range holds no
-/// valid image. With another status than 0 it does nothing. It takes no memory, and the pool keeps what
-/// is out.
+/// Serves a RAM command, while a download is busy or not: a read or a write of SRAM, or a reboot
+/// that starts an image there. Its status is the number of the first of its checks that fails, and
+/// 0 where none does: 9, a write while a download is busy; 3, a transfer length that is not the
+/// size read or written, or a payload that is not that of a write; 4, a read or a write that leaves
+/// SRAM; 11, a reboot whose range does not begin with a word, has none, or leaves SRAM; 13, a
+/// reboot whose range holds no valid image. With another status than 0 it does nothing. It takes no
+/// memory, and the pool keeps what is out.
 pub fn ram_apply<B: Board, R: Reply>(
     board: &B,
     pool: &mut SectorPool,
@@ -219,11 +220,15 @@ pub fn ram_apply<B: Board, R: Reply>(
     requires power { IsTrue (B.state board.now).powered }
     requires free { HasFree pool.old }
     requires asks { is_ram_command cmd.now ≡ true }
-    ensures status { result.status ≡ (ram_command (B.state board.now).content ram.old cpu busy cmd.now payload.now).status }
-    ensures start { result.start ≡ (ram_command (B.state board.now).content ram.old cpu busy cmd.now payload.now).start }
-    ensures ram { ram.new ≡ (ram_command (B.state board.now).content ram.old cpu busy cmd.now payload.now).ram }
+    ensures status { result.status
+        ≡ (ram_command (B.state board.now).content ram.old cpu busy cmd.now payload.now).status }
+    ensures start { result.start ≡
+        (ram_command (B.state board.now).content ram.old cpu busy cmd.now payload.now).start }
+    ensures ram { ram.new ≡ (ram_command
+        (B.state board.now).content ram.old cpu busy cmd.now payload.now).ram }
     ensures reply { (before : List ℕ) → R.stands_for reply.old before → R.stands_for reply.new
-        (before ++ (ram_command (B.state board.now).content ram.old cpu busy cmd.now payload.now).reply) }
+        (before ++ (ram_command (B.state board.now).content ram.old cpu busy cmd.now
+        payload.now).reply) }
     ensures refused { result.status ≢ 0 → (ram.new ≡ ram.old) × (reply.new ≡ reply.old) }
     ensures kept { KeepsOut pool.old pool.new }
 {

@@ -57,9 +57,10 @@ fn served(
     assert!(rt; pool.free() == 1);
     assert!(rt; ram_asks(cmd));
     let done = ram_apply(board, pool, ram, Cpu::Arm, false, cmd, payload, &mut reply);
+    let status = done.status;
     match done.start {
-        Some(image) => (done.status, Some(image.window)),
-        None => (done.status, None),
+        Some(image) => (status, Some(image.window)),
+        None => (status, None),
     }
 }
 

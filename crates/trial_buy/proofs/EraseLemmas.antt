@@ -33,19 +33,23 @@ pub beside-b : (v w : Version) → (is_other_better B v w ≡ true) ↔ (better 
 beside-b v w = first-by (is_below w v)
 
 -- an image that is valid is the other member's image
-valid-image : (c : Content) (cpu : Cpu) (w : Window) (s : Started) → Valid c w cpu false s → other_image c cpu (Some w) ≡ Some s
+valid-image : (c : Content) (cpu : Cpu) (w : Window) (s : Started) → Valid c w cpu false s
+    → other_image c cpu (Some w) ≡ Some s
 valid-image c cpu w s v = ap result_ok (at-valid c w cpu false s v)
 
-no-image : (c : Content) (cpu : Cpu) (w : Window) → ((s : Started) → Valid c w cpu false s → ⊥) → other_image c cpu (Some w) ≡ None
+no-image : (c : Content) (cpu : Cpu) (w : Window) → ((s : Started) → Valid c w cpu false s → ⊥)
+    → other_image c cpu (Some w) ≡ None
 no-image c cpu w none = go (image_at c w cpu false) refl
   where
     go : (r : Result Started Why) → image_at c w cpu false ≡ r → result_ok r ≡ None
     go (Ok s) e = absurd (none s (valid-at c w cpu false s e))
     go (Err y) e = refl
 
-erase-by : (c : Content) (cpu : Cpu) (choice : Choice) (o : Option Window) (i : Option Started) → choice.other ≡ o → other_image c cpu o ≡ i
+erase-by : (c : Content) (cpu : Cpu) (choice : Choice) (o : Option Window) (i : Option Started) → choice.other ≡ o
+    → other_image c cpu o ≡ i
     → other_erase c cpu choice ≡ erase_of choice o i
-erase-by c cpu choice o i other image = ap (λ p. erase_of choice p (other_image c cpu p)) other ∙ ap (erase_of choice o) image
+erase-by c cpu choice o i other image = ap (λ p. erase_of choice p (other_image c cpu p)) other
+    ∙ ap (erase_of choice o) image
 
 both : (a b : Bool) → a ≡ true → b ≡ true → (a && b) ≡ true
 both true true e f = refl
@@ -56,19 +60,23 @@ either : (a b : Bool) → b ≡ false → (a && b) ≡ false
 either true b e = e
 either false b e = refl
 
-pub erased : (c : Content) (cpu : Cpu) (choice : Choice) (w : Window) (s : Started) → choice.updated ≡ true → choice.other ≡ Some w
-    → Valid c w cpu false s → is_other_better choice.member choice.image.version s.version ≡ true → other_erase c cpu choice ≡ Erase (w.start / 4096) ∷ []
+pub erased : (c : Content) (cpu : Cpu) (choice : Choice) (w : Window) (s : Started) → choice.updated ≡ true
+    → choice.other ≡ Some w
+    → Valid c w cpu false s → is_other_better choice.member choice.image.version s.version ≡ true
+    → other_erase c cpu choice ≡ Erase (w.start / 4096) ∷ []
 erased c cpu choice w s updated other valid is =
     erase-by c cpu choice (Some w) (Some s) other (valid-image c cpu w s valid)
     ∙ ap (λ yes. if yes then Erase (w.start / 4096) ∷ [] else []) (both choice.updated _ updated is)
 
 pub not-better : (c : Content) (cpu : Cpu) (choice : Choice) (w : Window) (s : Started) → choice.other ≡ Some w
-    → Valid c w cpu false s → is_other_better choice.member choice.image.version s.version ≡ false → other_erase c cpu choice ≡ []
+    → Valid c w cpu false s → is_other_better choice.member choice.image.version s.version ≡ false
+    → other_erase c cpu choice ≡ []
 not-better c cpu choice w s other valid is =
     erase-by c cpu choice (Some w) (Some s) other (valid-image c cpu w s valid)
     ∙ ap (λ yes. if yes then Erase (w.start / 4096) ∷ [] else []) (either choice.updated _ is)
 
-pub unheld : (c : Content) (cpu : Cpu) (choice : Choice) (w : Window) → choice.other ≡ Some w → ((s : Started) → Valid c w cpu false s → ⊥)
+pub unheld : (c : Content) (cpu : Cpu) (choice : Choice) (w : Window) → choice.other ≡ Some w
+    → ((s : Started) → Valid c w cpu false s → ⊥)
     → other_erase c cpu choice ≡ []
 unheld c cpu choice w other none = erase-by c cpu choice (Some w) None other (no-image c cpu w none)
 
@@ -82,4 +90,5 @@ not-updated c cpu choice plain = go choice.other (other_image c cpu choice.other
     go None i = refl
     go (Some w) None = refl
     go (Some w) (Some s) =
-        ap (λ yes. if yes && is_other_better choice.member choice.image.version s.version then Erase (w.start / 4096) ∷ [] else []) plain
+        ap (λ yes. if yes && is_other_better choice.member choice.image.version s.version then Erase (w.start / 4096)
+        ∷ [] else []) plain

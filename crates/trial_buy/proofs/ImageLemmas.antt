@@ -31,7 +31,8 @@ record IsDefinedBy (bytes : List ℕ) (s : Started) : Type 0 where
   pub rows : s.rows.items ≡ def.rows.items
   pub rollback : s.rollback ≡ def.rollback
 
-defined-by : (c : Content) (w : Window) (cpu : Cpu) (trial : Bool) (s : Started) → Valid c w cpu trial s → IsDefinedBy (window_bytes c w) s
+defined-by : (c : Content) (w : Window) (cpu : Cpu) (trial : Bool) (s : Started) → Valid c w cpu trial s
+    → IsDefinedBy (window_bytes c w) s
 defined-by c w cpu trial s v =
     let d = v.sound.defined in
     let last = d.defines in
@@ -42,7 +43,8 @@ defined-by c w cpu trial s v =
       block = v.image.block;
       def = v.image.def;
       stands = stands;
-      sound = definition_from_ok v.image.block v.image.def stands.stands.whole (suits-type cpu v.image.block last.here) d.items;
+      sound = definition_from_ok v.image.block v.image.def stands.stands.whole
+          (suits-type cpu v.image.block last.here) d.items;
       place = ap (λ (x : Started). x.image_at) v.started;
       rows = ap (λ (x : Started). x.rows.items) v.started;
       rollback = ap (λ (x : Started). x.rollback) v.started;

@@ -21,7 +21,8 @@ pub programs-all : (s : ℕ) (bytes : List ℕ) → page_programs s bytes ≡ pr
 unfolding page_programs
 programs-all s bytes = refl
 
-pub programs-more : (s : ℕ) (bytes : List ℕ) (i n : ℕ) → i < n → programs_from s bytes i (n - i) ≡ page_program s bytes i ∷ programs_from s bytes (i + 1) (n - (i + 1))
+pub programs-more : (s : ℕ) (bytes : List ℕ) (i n : ℕ) → i < n
+    → programs_from s bytes i (n - i) ≡ page_program s bytes i ∷ programs_from s bytes (i + 1) (n - (i + 1))
 programs-more s bytes i n lt =
     let more : n - i ≡ suc (n - (i + 1)) = omega arith in
     ap (programs_from s bytes i) more
@@ -34,7 +35,8 @@ pub erase-otp : (c : Content) (o : Option ℕ) → (after_all c (erase_in o)).ot
 erase-otp c None = refl
 erase-otp c (Some s) = refl
 
-programs-otp : (c : Content) (s : ℕ) (bytes : List ℕ) (ns : List ℕ) → (after_all c (map (page_program s bytes) ns)).otp ≡ c.otp
+programs-otp : (c : Content) (s : ℕ) (bytes : List ℕ) (ns : List ℕ)
+    → (after_all c (map (page_program s bytes) ns)).otp ≡ c.otp
 programs-otp c s bytes [] = refl
 programs-otp c s bytes (n ∷ ns) = programs-otp (after c (page_program s bytes n)) s bytes ns
 
@@ -46,26 +48,33 @@ rewrite-otp c s bytes =
 module _ {B : Type 0} {state : B → State} {history : B → List Step → Type 0} where
   -- the other member's image is erased, and then the rows rise
   pub settled : {old mid new : B} {ok : Bool} (c : Content) (cpu : Cpu) (choice : Choice) (o : Option ℕ)
-      → (state old).content.otp ≡ c.otp → erase_in o ≡ other_erase c cpu choice → DoesAll state history old (erase_in o) true mid
-      → DoesAll state history mid (image_raises (state mid).content.otp choice.image) ok new → DoesAll state history old (settling c cpu choice) ok new
+      → (state old).content.otp ≡ c.otp → erase_in o ≡ other_erase c cpu choice
+      → DoesAll state history old (erase_in o) true mid
+      → DoesAll state history mid (image_raises (state mid).content.otp choice.image) ok new
+      → DoesAll state history old (settling c cpu choice) ok new
   settled {old} {mid} {new} {ok} c cpu choice o otp is first second =
-      let kept : (state mid).content.otp ≡ c.otp = ap (λ (x : Content). x.otp) first.done ∙ erase-otp (state old).content o ∙ otp in
+      let kept : (state mid).content.otp ≡ c.otp = ap (λ (x : Content). x.otp) first.done
+      ∙ erase-otp (state old).content o ∙ otp in
       DoesAll-append (subst (λ steps. DoesAll state history old steps true mid) is first)
       (subst (λ rows. DoesAll state history mid (image_raises rows choice.image) ok new) kept second)
 
   pub started : {old new : B} {ok : Bool} (c : Content) (cpu : Cpu) (choice : Choice) → choice.image.trial ≡ false
-      → DoesAll state history old (settling c cpu choice) ok new → DoesAll state history old (start_steps c cpu choice) ok new
+      → DoesAll state history old (settling c cpu choice) ok new
+      → DoesAll state history old (start_steps c cpu choice) ok new
   started {old} {new} {ok} c cpu choice plain does =
       subst (λ trial. DoesAll state history old (if trial then [] else settling c cpu choice) ok new) (sym plain) does
 
   -- the sector of the trial bit is rewritten, and then the start is settled
   pub bought : {old mid new : B} {ok : Bool} (c : Content) (cpu : Cpu) (choice : Choice)
       → DoesAll state history old (clearing c.flash (trial_place choice.image)) true mid
-      → DoesAll state history mid (settling c cpu choice) ok new → DoesAll state history old (buy_steps c cpu choice) ok new
+      → DoesAll state history mid (settling c cpu choice) ok new
+      → DoesAll state history old (buy_steps c cpu choice) ok new
   bought c cpu choice first second = DoesAll-append first second
 
   -- power is lost in the erase, before the rows rise
-  pub cut-in_erase : {old new : B} (c : Content) (cpu : Cpu) (choice : Choice) (o : Option ℕ) → erase_in o ≡ other_erase c cpu choice
+  pub cut-in_erase : {old new : B} (c : Content) (cpu : Cpu) (choice : Choice) (o : Option ℕ)
+      → erase_in o ≡ other_erase c cpu choice
       → DoesAll state history old (erase_in o) false new → DoesAll state history old (settling c cpu choice) false new
   cut-in_erase {old} {new} c cpu choice o is lost =
-      DoesAll-append_cut (image_raises c.otp choice.image) (subst (λ steps. DoesAll state history old steps false new) is lost)
+      DoesAll-append_cut (image_raises c.otp choice.image)
+      (subst (λ steps. DoesAll state history old steps false new) is lost)

@@ -1,5 +1,5 @@
--- What a buy writes: BuySteps (RP2350 Datasheet, chapter 5, "Try before you buy"; the details are this
--- project's own).
+-- What a buy writes: BuySteps (RP2350 Datasheet, chapter 5, "Try before you buy"; the details are
+-- this project's own).
 use Rattle.std.specs.Prelude.{ℕ, ◌+◌, ◌*◌, ◌/◌, ◌%◌, List, ◌∷◌, ◌++◌, map, slice_index, slice_range, slice_set}
 use Rattle.std.specs.List.{range_with_len}
 use Rattle.pico_board.specs.declared.Step.{Step}
@@ -10,7 +10,8 @@ use Rattle.image_def.specs.declared.started.Started.{Started}
 use Rattle.slot_choice.specs.declared.choice.Choice.{Choice}
 use Rattle.trial_buy.specs.Starting.{settling}
 
--- the flash offset of the byte whose high bit is the trial bit: the fourth byte of the IMAGE_TYPE item
+-- the flash offset of the byte whose high bit is the trial bit: the fourth byte of the IMAGE_TYPE
+-- item
 abbrev pub trial_place : Started → ℕ
 trial_place s = s.window.start + s.image_at + 3
 
@@ -21,7 +22,8 @@ cleared bytes place = slice_set bytes place (slice_index bytes place % 128)
 -- the bytes of the sector of a place of the flash, with the high bit of the byte there cleared
 abbrev pub cleared_sector : List ℕ → ℕ → List ℕ
 cleared_sector flash place =
-    cleared (slice_range flash (4096 * (place / 4096)) (4096 * (place / 4096) + 4096)) (place % 4096)
+    cleared (slice_range flash (4096 * (place / 4096)) (4096 * (place / 4096) + 4096))
+    (place % 4096)
 
 -- the program of page i of sector s with its part of these bytes
 abbrev pub page_program : ℕ → List ℕ → ℕ → Step

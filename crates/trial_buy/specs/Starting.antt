@@ -1,5 +1,5 @@
--- What a start writes: StartSteps (RP2350 Datasheet, chapter 5, "A/B versions" and "Flash update boot";
--- the details are this project's own).
+-- What a start writes: StartSteps (RP2350 Datasheet, chapter 5, "A/B versions" and "Flash update
+-- boot"; the details are this project's own).
 use Rattle.std.specs.Prelude.{ℕ, ◌/◌, Bool, false, not, ◌&&◌, List, [], ◌∷◌, ◌++◌, if◌then◌else◌, Option, Some, None}
 use Rattle.std.specs.Result.{result_ok}
 use Rattle.pico_board.specs.declared.Step.{Step}
@@ -16,8 +16,8 @@ use Rattle.slot_choice.specs.declared.choice.Choice.{Choice}
 use Rattle.slot_choice.specs.Versions.{is_below}
 use Rattle.image_check.specs.Image.{image_at}
 
--- the other member's image is better than the started one: it has the greater version, or the same one
--- where B was started
+-- the other member's image is better than the started one: it has the greater version, or the same
+-- one where B was started
 abbrev pub is_other_better : Member → Version → Version → Bool
 is_other_better A started other = is_below started other
 is_other_better B started other = not (is_below other started)

@@ -38,7 +38,8 @@ fn program_pages<B: Board>(board: &mut B, sector: u32, bytes: &[u8]) -> Result<(
     requires power { IsTrue (B.state board.old).powered }
     requires inside { 4096 * sector + 4096 ≤ length (B.state board.old).content.flash }
     requires whole { length bytes.now ≡ 4096 }
-    ensures steps { DoesAll B.state B.history board.old (page_programs sector bytes.now) (is_ok result) board.new }
+    ensures steps { DoesAll B.state B.history board.old (page_programs sector bytes.now)
+        (is_ok result) board.new }
 {
     for i in 0..16u32 {
         board.program(16 * sector + i, &page_of(bytes, i))?;
@@ -51,19 +52,21 @@ fn rewrite<B: Board>(board: &mut B, sector: u32, bytes: &[u8]) -> Result<(), Pow
     requires power { IsTrue (B.state board.old).powered }
     requires inside { 4096 * sector + 4096 ≤ length (B.state board.old).content.flash }
     requires whole { length bytes.now ≡ 4096 }
-    ensures steps { DoesAll B.state B.history board.old (rewrite_steps sector bytes.now) (is_ok result) board.new }
+    ensures steps { DoesAll B.state B.history board.old (rewrite_steps sector bytes.now)
+        (is_ok result) board.new }
 {
     board.erase(sector)?;
     program_pages(board, sector, bytes)
 }
 
-/// Rewrites the sector of a place of the flash through a piece of 4096 bytes, with the high bit of the
-/// byte there cleared.
+/// Rewrites the sector of a place of the flash through a piece of 4096 bytes, with the high bit of
+/// the byte there cleared.
 fn clear_through<B: Board>(board: &mut B, piece: &mut [u8], place: u32) -> Result<(), PowerLost>
     requires power { IsTrue (B.state board.old).powered }
     requires inside { place < length (B.state board.old).content.flash }
     requires whole { length piece.old ≡ 4096 }
-    ensures steps { DoesAll B.state B.history board.old (clearing (B.state board.old).content.flash place) (is_ok result) board.new }
+    ensures steps { DoesAll B.state B.history board.old
+        (clearing (B.state board.old).content.flash place) (is_ok result) board.new }
 {
     let sector = place / 4096;
     board.read(4096 * sector, piece);
@@ -77,7 +80,8 @@ fn clear<B: Board>(board: &mut B, pool: &mut SectorPool, place: u32) -> Result<(
     requires power { IsTrue (B.state board.old).powered }
     requires lease { HasFree pool.old }
     requires inside { place < length (B.state board.old).content.flash }
-    ensures steps { DoesAll B.state B.history board.old (clearing (B.state board.old).content.flash place) (is_ok result) board.new }
+    ensures steps { DoesAll B.state B.history board.old
+        (clearing (B.state board.old).content.flash place) (is_ok result) board.new }
     ensures kept { KeepsOut pool.old pool.new }
 {
     match pool.lease() {
@@ -90,12 +94,13 @@ fn clear<B: Board>(board: &mut B, pool: &mut SectorPool, place: u32) -> Result<(
     }
 }
 
-/// Does what a buy of a running trial image writes: the sector that holds the trial bit is rewritten
-/// with that bit cleared, its 16 pages ascending; then, where the start was updated and the other member
-/// has a normal-valid image that is better than the started one, the first sector of the other is
-/// erased; then the image's rows are raised to its rollback version. The former sector is kept in a
-/// lease, and the pool keeps what is out. After lost power a part of the steps is done. (RP2350
-/// Datasheet, chapter 5, "Try before you buy"; the order of the steps is this project's own.)
+/// Does what a buy of a running trial image writes: the sector that holds the trial bit is
+/// rewritten with that bit cleared, its 16 pages ascending; then, where the start was updated and
+/// the other member has a normal-valid image that is better than the started one, the first sector
+/// of the other is erased; then the image's rows are raised to its rollback version. The former
+/// sector is kept in a lease, and the pool keeps what is out. After lost power a part of the steps
+/// is done. (RP2350 Datasheet, chapter 5, "Try before you buy"; the order of the steps is this
+/// project's own.)
 pub fn buy<B: Board>(
     board: &mut B,
     pool: &mut SectorPool,
@@ -105,7 +110,8 @@ pub fn buy<B: Board>(
     requires power { IsTrue (B.state board.old).powered }
     requires lease { HasFree pool.old }
     requires placed { IsPlacedChoice (B.state board.old).content choice.now }
-    requires valid { Valid (B.state board.old).content choice.now.image.window cpu true choice.now.image }
+    requires valid { Valid (B.state board.old).content choice.now.image.window cpu true
+        choice.now.image }
     requires trial { choice.now.image.trial ≡ true }
     ensures steps { DoesAll B.state B.history board.old
         (buy_steps (B.state board.old).content cpu choice.now) (is_ok result) board.new }

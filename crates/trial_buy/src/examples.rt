@@ -21,12 +21,16 @@ pub fn which_image_is_better()
 
 /// A better image is erased where the start was updated, and in no other case.
 pub fn which_sector_is_erased()
-    ensures better { erase_of (started_in Member.A true) (Some (in_window 0x20000)) (Some (an_image 2 0))
+    ensures better { erase_of (started_in Member.A true) (Some (in_window 0x20000))
+        (Some (an_image 2 0))
         ≡ Erase 32 ∷ [] }
-    ensures tie_of_a { erase_of (started_in Member.B true) (Some (in_window 0x2000)) (Some (an_image 1 0))
+    ensures tie_of_a { erase_of (started_in Member.B true) (Some (in_window 0x2000))
+        (Some (an_image 1 0))
         ≡ Erase 2 ∷ [] }
-    ensures tie_of_b { erase_of (started_in Member.A true) (Some (in_window 0x20000)) (Some (an_image 1 0)) ≡ [] }
-    ensures plain { erase_of (started_in Member.A false) (Some (in_window 0x20000)) (Some (an_image 2 0)) ≡ [] }
+    ensures tie_of_b { erase_of (started_in Member.A true) (Some (in_window 0x20000))
+        (Some (an_image 1 0)) ≡ [] }
+    ensures plain { erase_of (started_in Member.A false) (Some (in_window 0x20000))
+        (Some (an_image 2 0)) ≡ [] }
     ensures none { erase_of (started_in Member.A true) (Some (in_window 0x20000)) None ≡ [] }
     ensures alone { erase_of (started_in Member.A true) None None ≡ [] }
 {}

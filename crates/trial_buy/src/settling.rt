@@ -58,7 +58,8 @@ pub(crate) fn better_sector<B: Board>(
     requires free { HasFree pool.old }
     requires placed { IsPlacedChoice (B.state board.now).content choice.now }
     ensures exact { erase_in result ≡ other_erase (B.state board.now).content cpu choice.now }
-    ensures inside { IfSome result (λ s. 4096 * s + 4096 ≤ length (B.state board.now).content.flash) }
+    ensures inside { IfSome result
+        (λ s. 4096 * s + 4096 ≤ length (B.state board.now).content.flash) }
     ensures kept { KeepsOut pool.old pool.new }
 {
     let Some(window) = choice.other else {
@@ -77,7 +78,8 @@ pub(crate) fn better_sector<B: Board>(
 /// Erases the sector, where there is one.
 pub(crate) fn erase_in<B: Board>(board: &mut B, sector: Option<u32>) -> Result<(), PowerLost>
     requires power { IsTrue (B.state board.old).powered }
-    requires inside { IfSome sector (λ s. 4096 * s + 4096 ≤ length (B.state board.old).content.flash) }
+    requires inside { IfSome sector
+        (λ s. 4096 * s + 4096 ≤ length (B.state board.old).content.flash) }
     ensures steps { DoesAll B.state B.history board.old (erase_in sector) (is_ok result) board.new }
 {
     match sector {
@@ -100,11 +102,11 @@ pub(crate) fn raise_rows<B: Board>(board: &mut B, image: &Started) -> Result<(),
     }
 }
 
-/// Does what a start writes. For a trial image that is nothing. For another one, where the start was
-/// updated and the other member has a normal-valid image that is better than the started one, the first
-/// sector of the other is erased; then the image's rows are raised to its rollback version. The pool
-/// keeps what is out. After lost power a part of the steps is done. (RP2350 Datasheet, chapter 5,
-/// Bootrom; the order of the steps is this project's own.)
+/// Does what a start writes. For a trial image that is nothing. For another one, where the start
+/// was updated and the other member has a normal-valid image that is better than the started one,
+/// the first sector of the other is erased; then the image's rows are raised to its rollback
+/// version. The pool keeps what is out. After lost power a part of the steps is done. (RP2350
+/// Datasheet, chapter 5, Bootrom; the order of the steps is this project's own.)
 pub fn settle<B: Board>(
     board: &mut B,
     pool: &mut SectorPool,
@@ -114,7 +116,8 @@ pub fn settle<B: Board>(
     requires power { IsTrue (B.state board.old).powered }
     requires lease { HasFree pool.old }
     requires placed { IsPlacedChoice (B.state board.old).content choice.now }
-    requires valid { Valid (B.state board.old).content choice.now.image.window cpu true choice.now.image }
+    requires valid { Valid (B.state board.old).content choice.now.image.window cpu true
+        choice.now.image }
     ensures steps { DoesAll B.state B.history board.old
         (start_steps (B.state board.old).content cpu choice.now) (is_ok result) board.new }
     ensures kept { KeepsOut pool.old pool.new }

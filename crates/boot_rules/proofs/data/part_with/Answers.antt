@@ -7,9 +7,11 @@ use Rattle.boot_rules.proofs.data.part_with.Goals as goal
 
 pub returns-then-has_window-clause-value : goal.returns-then-has_window-clause-value
 returns-then-has_window-clause-value c =
-    sym (first_position (has_window c.args.window) c.args.parts.now c.loop-i.i no_partition (omega (arith, c.loop-i-test.true, c.requires.few))
+    sym (first_position (has_window c.args.window) c.args.parts.now c.loop-i.i no_partition
+    (omega (arith, c.loop-i-test.true, c.requires.few))
     (subst (λ p. has_window c.args.window p ≡ true)
-    (index_at c.args.parts.now c.loop-i.i c.index-parts-i.result (omega (arith, c.loop-i-test.true, c.requires.few)) c.index-parts-i.is)
+    (index_at c.args.parts.now c.loop-i.i c.index-parts-i.result
+    (omega (arith, c.loop-i-test.true, c.requires.few)) c.index-parts-i.is)
     (sym c.has_window.ensures ∙ c.if-has_window.true)) c.loop-i.invariant).1
 
 pub returns-clause-value : goal.returns-clause-value

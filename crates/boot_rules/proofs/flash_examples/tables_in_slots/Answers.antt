@@ -11,29 +11,36 @@ use Rattle.block_codec.specs.Words.{word_of, word_bytes}
 use Rattle.boot_rules.proofs.flash_examples.tables_in_slots.Goals as goal
 
 pub returns-clause-none : goal.returns-clause-none
-unfolding table_in decision_in image_in def_of loop_of follow first_from block_at front_block item_words frame size_of word_of word_bytes
+unfolding table_in decision_in image_in def_of loop_of follow first_from block_at front_block item_words frame size_of
+    word_of word_bytes
 returns-clause-none c = refl
 
 pub returns-clause-first : goal.returns-clause-first
-unfolding table_in decision_in image_in def_of loop_of follow first_from block_at front_block item_words frame size_of word_of word_bytes
+unfolding table_in decision_in image_in def_of loop_of follow first_from block_at front_block item_words frame size_of
+    word_of word_bytes
 returns-clause-first c = refl
 
 pub returns-clause-second : goal.returns-clause-second
-unfolding table_in decision_in image_in def_of loop_of follow first_from block_at front_block item_words frame size_of word_of word_bytes
+unfolding table_in decision_in image_in def_of loop_of follow first_from block_at front_block item_words frame size_of
+    word_of word_bytes
 returns-clause-second c = refl
 
 pub returns-clause-greater : goal.returns-clause-greater
-unfolding table_in decision_in image_in def_of loop_of follow first_from block_at front_block item_words frame size_of word_of word_bytes
+unfolding table_in decision_in image_in def_of loop_of follow first_from block_at front_block item_words frame size_of
+    word_of word_bytes
 returns-clause-greater c = refl
 
 pub returns-clause-tie : goal.returns-clause-tie
-unfolding table_in decision_in image_in def_of loop_of follow first_from block_at front_block item_words frame size_of word_of word_bytes
+unfolding table_in decision_in image_in def_of loop_of follow first_from block_at front_block item_words frame size_of
+    word_of word_bytes
 returns-clause-tie c = refl
 
 pub returns-clause-singleton : goal.returns-clause-singleton
-unfolding table_in decision_in image_in def_of loop_of follow first_from block_at front_block item_words frame size_of word_of word_bytes
+unfolding table_in decision_in image_in def_of loop_of follow first_from block_at front_block item_words frame size_of
+    word_of word_bytes
 returns-clause-singleton c = refl
 
 pub returns-clause-broken : goal.returns-clause-broken
-unfolding table_in decision_in image_in def_of loop_of follow first_from block_at front_block item_words frame size_of word_of word_bytes
+unfolding table_in decision_in image_in def_of loop_of follow first_from block_at front_block item_words frame size_of
+    word_of word_bytes
 returns-clause-broken c = refl

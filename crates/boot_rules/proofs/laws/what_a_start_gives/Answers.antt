@@ -2,7 +2,8 @@ use Rattle.boot_rules.proofs.StartLemmas.{of-unit, start, start-other, start-pla
 use Rattle.boot_rules.proofs.laws.what_a_start_gives.Goals as goal
 
 pub returns-clause-unit : goal.returns-clause-unit
-returns-clause-unit c = λ content cpu kind choice h. ((start content cpu kind choice h).unit, of-unit content cpu kind choice h)
+returns-clause-unit c = λ content cpu kind choice h.
+    ((start content cpu kind choice h).unit, of-unit content cpu kind choice h)
 
 pub returns-clause-window : goal.returns-clause-window
 returns-clause-window c = start-placed

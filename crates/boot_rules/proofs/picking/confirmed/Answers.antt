@@ -9,23 +9,27 @@ use Rattle.boot_rules.proofs.picking.confirmed.Goals as goal
 
 pub returns-in_default-seen-clause-exact : goal.returns-in_default-seen-clause-exact
 returns-in_default-seen-clause-exact g c = λ cpu is.
-    unseen-choice (g.B.Board.state c.args.board.now).content cpu c.args.unit.now c.args.member c.in-Some.window c.args.seen.now
+    unseen-choice (g.B.Board.state c.args.board.now).content cpu c.args.unit.now c.args.member c.in-Some.window
+    c.args.seen.now
     (sym c.in-Some.ensures) c.in_default-seen.is is
 
 pub confirm-requires-clause-stored : goal.confirm-requires-clause-stored
 confirm-requires-clause-stored g c =
-    subst (λ o. IfSome o (λ x. AreStoredIn (length (window_bytes (g.B.Board.state c.args.board.now).content c.in-Some.window)) x.loads.items))
+    subst (λ o. IfSome o (λ x. AreStoredIn
+    (length (window_bytes (g.B.Board.state c.args.board.now).content c.in-Some.window)) x.loads.items))
     c.in-Some-seen.is (c.requires.stored c.in-Some.window (sym c.in-Some.ensures))
 
 pub returns-in-Ok-clause-exact : goal.returns-in-Ok-clause-exact
 returns-in-Ok-clause-exact g c = λ cpu is.
     ap Some c.choice_of.ensures
     ∙ sym (ap (λ r. option_map (choice_of c.args.unit.now c.args.member false) (result_ok r)) c.in-Ok.is)
-    ∙ confirmed-choice (g.B.Board.state c.args.board.now).content cpu c.args.unit.now c.args.member c.in-Some.window c.args.seen.now
+    ∙ confirmed-choice (g.B.Board.state c.args.board.now).content cpu c.args.unit.now c.args.member c.in-Some.window
+    c.args.seen.now
     c.in-Some-seen.candidate (sym c.in-Some.ensures) c.in-Some-seen.is is c.confirm.result c.confirm.ensures.exact
 
 pub returns-in-Err-clause-exact : goal.returns-in-Err-clause-exact
 returns-in-Err-clause-exact g c = λ cpu is.
     sym (ap (λ r. option_map (choice_of c.args.unit.now c.args.member false) (result_ok r)) c.in-Err.is)
-    ∙ confirmed-choice (g.B.Board.state c.args.board.now).content cpu c.args.unit.now c.args.member c.in-Some.window c.args.seen.now
+    ∙ confirmed-choice (g.B.Board.state c.args.board.now).content cpu c.args.unit.now c.args.member c.in-Some.window
+    c.args.seen.now
     c.in-Some-seen.candidate (sym c.in-Some.ensures) c.in-Some-seen.is is c.confirm.result c.confirm.ensures.exact

@@ -7,11 +7,16 @@ pub loop-i-preserved : goal.loop-i-preserved
 loop-i-preserved g c = λ loop is.
     let w = g.V.View.bytes c.args.view.now in
     let at = c.block_of-block.ensures.exact loop is in
-    last-step w c.args.found.now c.requires.loop_ loop is c.loop-i.i c.block_of-block.result at c.loop-i.last c.if-has_table.last
+    last-step w c.args.found.now c.requires.loop_ loop is c.loop-i.i c.block_of-block.result at c.loop-i.last
+    c.if-has_table.last
     (c.loop-i.invariant loop is)
     (elim c.if-has_table.branch [
-      | then-has_table w ↦ w.last-is ∙ sym (ap (λ (t : Bool). cond t (Some c.block_of-block.result) c.loop-i.last) (sym c.has_table.ensures ∙ w.if-has_table.true))
-      | else-has_table w ↦ w.last-is ∙ sym (ap (λ (t : Bool). cond t (Some c.block_of-block.result) c.loop-i.last) (sym c.has_table.ensures ∙ w.if-has_table.false))
+      | then-has_table w ↦ w.last-is
+          ∙ sym (ap (λ (t : Bool). cond t (Some c.block_of-block.result) c.loop-i.last)
+          (sym c.has_table.ensures ∙ w.if-has_table.true))
+      | else-has_table w ↦ w.last-is
+          ∙ sym (ap (λ (t : Bool). cond t (Some c.block_of-block.result) c.loop-i.last)
+          (sym c.has_table.ensures ∙ w.if-has_table.false))
     ])
 
 pub returns-clause-last : goal.returns-clause-last

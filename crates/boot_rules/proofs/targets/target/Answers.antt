@@ -14,7 +14,8 @@ unit_target-requires-clause-loads g c =
     let t = option_map (λ t. t.now) c.args.table in
     loads-of t n (slot_size content.otp n) c.args.family c.requires.sound right.flash_length
     (slot-size content.otp n right.flash_length.least) c.in-Some.unit
-    (load-read t n (slot_size content.otp n) c.flash_len.result c.slot_size.result c.args.family c.in-Some.unit c.flash_len.ensures c.slot_size.ensures c.in-Some.ensures)
+    (load-read t n (slot_size content.otp n) c.flash_len.result c.slot_size.result c.args.family c.in-Some.unit
+    c.flash_len.ensures c.slot_size.ensures c.in-Some.ensures)
 
 pub returns-in-Some-clause-placed : goal.returns-in-Some-clause-placed
 returns-in-Some-clause-placed g c =
@@ -22,5 +23,7 @@ returns-in-Some-clause-placed g c =
     let n = length content.flash in
     let t = option_map (λ t. t.now) c.args.table in
     subst (λ (t : Target). IsPlaced t.window (n / 4096) 0) (sym c.unit_target.ensures.exact)
-    (target-placed content t c.args.cpu c.args.family (g.met.B.Board.is_content c.args.board.now) c.requires.sound c.in-Some.unit
-    (load-read t n (slot_size content.otp n) c.flash_len.result c.slot_size.result c.args.family c.in-Some.unit c.flash_len.ensures c.slot_size.ensures c.in-Some.ensures))
+    (target-placed content t c.args.cpu c.args.family
+    (g.met.B.Board.is_content c.args.board.now) c.requires.sound c.in-Some.unit
+    (load-read t n (slot_size content.otp n) c.flash_len.result c.slot_size.result c.args.family c.in-Some.unit
+    c.flash_len.ensures c.slot_size.ensures c.in-Some.ensures))

@@ -11,17 +11,21 @@ use Rattle.image_check.specs.Image.{image_in}
 use Rattle.image_check.proofs.digests.digests_of_loads.Goals as goal
 
 pub returns-clause-stored : goal.returns-clause-stored
-unfolding first_words schedule rounds compress hash_after digest_bytes sha256 covered_digest image_in def_of loop_of follow first_from block_at front_block item_words frame size_of word_of word_bytes
+unfolding first_words schedule rounds compress hash_after digest_bytes sha256 covered_digest image_in def_of loop_of
+    follow first_from block_at front_block item_words frame size_of word_of word_bytes
 returns-clause-stored c = refl
 
 pub returns-clause-other : goal.returns-clause-other
-unfolding first_words schedule rounds compress hash_after digest_bytes sha256 covered_digest image_in def_of loop_of follow first_from block_at front_block item_words frame size_of word_of word_bytes
+unfolding first_words schedule rounds compress hash_after digest_bytes sha256 covered_digest image_in def_of loop_of
+    follow first_from block_at front_block item_words frame size_of word_of word_bytes
 returns-clause-other c = refl
 
 pub returns-clause-clear : goal.returns-clause-clear
-unfolding first_words schedule rounds compress hash_after digest_bytes sha256 covered_digest image_in def_of loop_of follow first_from block_at front_block item_words frame size_of word_of word_bytes
+unfolding first_words schedule rounds compress hash_after digest_bytes sha256 covered_digest image_in def_of loop_of
+    follow first_from block_at front_block item_words frame size_of word_of word_bytes
 returns-clause-clear c = refl
 
 pub returns-clause-both : goal.returns-clause-both
-unfolding first_words schedule rounds compress hash_after digest_bytes sha256 covered_digest image_in def_of loop_of follow first_from block_at front_block item_words frame size_of word_of word_bytes
+unfolding first_words schedule rounds compress hash_after digest_bytes sha256 covered_digest image_in def_of loop_of
+    follow first_from block_at front_block item_words frame size_of word_of word_bytes
 returns-clause-both c = refl

@@ -11,13 +11,16 @@ use Rattle.image_check.specs.Image.{image_in}
 use Rattle.image_check.proofs.digests.digests_of_the_block.Goals as goal
 
 pub returns-clause-right : goal.returns-clause-right
-unfolding first_words schedule rounds compress hash_after digest_bytes sha256 covered_digest image_in def_of loop_of follow first_from block_at front_block item_words frame size_of word_of word_bytes
+unfolding first_words schedule rounds compress hash_after digest_bytes sha256 covered_digest image_in def_of loop_of
+    follow first_from block_at front_block item_words frame size_of word_of word_bytes
 returns-clause-right c = refl
 
 pub returns-clause-trial : goal.returns-clause-trial
-unfolding first_words schedule rounds compress hash_after digest_bytes sha256 covered_digest image_in def_of loop_of follow first_from block_at front_block item_words frame size_of word_of word_bytes
+unfolding first_words schedule rounds compress hash_after digest_bytes sha256 covered_digest image_in def_of loop_of
+    follow first_from block_at front_block item_words frame size_of word_of word_bytes
 returns-clause-trial c = refl
 
 pub returns-clause-wrong : goal.returns-clause-wrong
-unfolding first_words schedule rounds compress hash_after digest_bytes sha256 covered_digest image_in def_of loop_of follow first_from block_at front_block item_words frame size_of word_of word_bytes
+unfolding first_words schedule rounds compress hash_after digest_bytes sha256 covered_digest image_in def_of loop_of
+    follow first_from block_at front_block item_words frame size_of word_of word_bytes
 returns-clause-wrong c = refl

@@ -11,13 +11,16 @@ use Rattle.image_check.specs.Image.{image_in}
 use Rattle.image_check.proofs.digests.the_digest_before_the_delta.Goals as goal
 
 pub returns-clause-digest : goal.returns-clause-digest
-unfolding first_words schedule rounds compress hash_after digest_bytes sha256 covered_digest image_in def_of loop_of follow first_from block_at front_block item_words frame size_of word_of word_bytes
+unfolding first_words schedule rounds compress hash_after digest_bytes sha256 covered_digest image_in def_of loop_of
+    follow first_from block_at front_block item_words frame size_of word_of word_bytes
 returns-clause-digest c = refl
 
 pub returns-clause-delta : goal.returns-clause-delta
-unfolding first_words schedule rounds compress hash_after digest_bytes sha256 covered_digest image_in def_of loop_of follow first_from block_at front_block item_words frame size_of word_of word_bytes
+unfolding first_words schedule rounds compress hash_after digest_bytes sha256 covered_digest image_in def_of loop_of
+    follow first_from block_at front_block item_words frame size_of word_of word_bytes
 returns-clause-delta c = refl
 
 pub returns-clause-zero : goal.returns-clause-zero
-unfolding first_words schedule rounds compress hash_after digest_bytes sha256 covered_digest image_in def_of loop_of follow first_from block_at front_block item_words frame size_of word_of word_bytes
+unfolding first_words schedule rounds compress hash_after digest_bytes sha256 covered_digest image_in def_of loop_of
+    follow first_from block_at front_block item_words frame size_of word_of word_bytes
 returns-clause-zero c = refl

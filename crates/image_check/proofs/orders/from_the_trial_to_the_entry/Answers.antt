@@ -10,9 +10,11 @@ use Rattle.image_check.specs.Image.{image_in}
 use Rattle.image_check.proofs.orders.from_the_trial_to_the_entry.Goals as goal
 
 pub returns-clause-below : goal.returns-clause-below
-unfolding ones ones_in image_in def_of loop_of follow first_from block_at front_block item_words frame size_of word_of word_bytes
+unfolding ones ones_in image_in def_of loop_of follow first_from block_at front_block item_words frame size_of word_of
+    word_bytes
 returns-clause-below c = refl
 
 pub returns-clause-map : goal.returns-clause-map
-unfolding ones ones_in image_in def_of loop_of follow first_from block_at front_block item_words frame size_of word_of word_bytes
+unfolding ones ones_in image_in def_of loop_of follow first_from block_at front_block item_words frame size_of word_of
+    word_bytes
 returns-clause-map c = refl

@@ -10,5 +10,6 @@ use Rattle.image_check.specs.Image.{image_in}
 use Rattle.image_check.proofs.orders.whole_records.Goals as goal
 
 pub returns-clause-rows : goal.returns-clause-rows
-unfolding ones ones_in image_in def_of loop_of follow first_from block_at front_block item_words frame size_of word_of word_bytes
+unfolding ones ones_in image_in def_of loop_of follow first_from block_at front_block item_words frame size_of word_of
+    word_bytes
 returns-clause-rows c = refl

@@ -10,7 +10,8 @@ use Rattle.trial_buy.proofs.buying.buy.Goals as goal
 
 pub trial_place-requires : goal.trial_place-requires
 trial_place-requires g c =
-    let inside = trial-inside (g.B.Board.state c.args.board.now).content c.args.choice.now.image.window c.args.cpu _ c.args.choice.now.image
+    let inside = trial-inside (g.B.Board.state c.args.board.now).content c.args.choice.now.image.window c.args.cpu _
+    c.args.choice.now.image
     c.requires.valid refl c.requires.placed.started in
     let most = (g.met.B.Board.is_content c.args.board.now).flash_length.most in
     omega (arith, inside, most)
@@ -18,14 +19,16 @@ trial_place-requires g c =
 pub clear-requires-clause-inside : goal.clear-requires-clause-inside
 clear-requires-clause-inside g c =
     subst (λ place. place < length (g.B.Board.state c.args.board.now).content.flash) (sym c.trial_place.ensures)
-    (trial-inside (g.B.Board.state c.args.board.now).content c.args.choice.now.image.window c.args.cpu _ c.args.choice.now.image c.requires.valid refl
+    (trial-inside (g.B.Board.state c.args.board.now).content c.args.choice.now.image.window c.args.cpu _
+    c.args.choice.now.image c.requires.valid refl
     c.requires.placed.started)
 
 pub returns-in_err-clear-clause-steps : goal.returns-in_err-clear-clause-steps
 returns-in_err-clear-clause-steps g c =
     let lost = err_from_is_err_and c.from_residual.result c.from_residual.ensures.1 in
     rw (lost.1) (DoesAll-append_cut _
-    (subst (λ place. DoesAll g.B.Board.state g.B.Board.history c.args.board.now (clearing (g.B.Board.state c.args.board.now).content.flash place) false c.clear.new.board)
+    (subst (λ place. DoesAll g.B.Board.state g.B.Board.history c.args.board.now
+    (clearing (g.B.Board.state c.args.board.now).content.flash place) false c.clear.new.board)
     c.trial_place.ensures c.in_err-clear.ensures.steps))
 
 pub returns-in_err-erase_in-clause-steps : goal.returns-in_err-erase_in-clause-steps
@@ -33,25 +36,32 @@ returns-in_err-erase_in-clause-steps g c =
     let content = (g.B.Board.state c.args.board.now).content in
     let lost = err_from_is_err_and c.from_residual-in_err-erase_in.result c.from_residual-in_err-erase_in.ensures.1 in
     rw (lost.1) (bought content c.args.cpu c.args.choice.now
-    (subst (λ place. DoesAll g.B.Board.state g.B.Board.history c.args.board.now (clearing content.flash place) true c.clear.new.board)
+    (subst (λ place. DoesAll g.B.Board.state g.B.Board.history c.args.board.now
+    (clearing content.flash place) true c.clear.new.board)
     c.trial_place.ensures c.in_ok-clear.ensures.steps)
-    (cut-in_erase content c.args.cpu c.args.choice.now c.better_sector-sector.result c.better_sector-sector.ensures.exact c.in_err-erase_in.ensures.steps))
+    (cut-in_erase content c.args.cpu c.args.choice.now c.better_sector-sector.result
+    c.better_sector-sector.ensures.exact c.in_err-erase_in.ensures.steps))
 
 pub raise_rows-requires-clause-rows : goal.raise_rows-requires-clause-rows
 raise_rows-requires-clause-rows g c =
-    valid-rows (g.B.Board.state c.args.board.now).content c.args.choice.now.image.window c.args.cpu _ c.args.choice.now.image c.requires.valid
+    valid-rows (g.B.Board.state c.args.board.now).content c.args.choice.now.image.window c.args.cpu _
+    c.args.choice.now.image c.requires.valid
 
 pub raise_rows-requires-clause-version : goal.raise_rows-requires-clause-version
 raise_rows-requires-clause-version g c =
-    valid-version (g.B.Board.state c.args.board.now).content c.args.choice.now.image.window c.args.cpu _ c.args.choice.now.image c.requires.valid
+    valid-version (g.B.Board.state c.args.board.now).content c.args.choice.now.image.window c.args.cpu _
+    c.args.choice.now.image c.requires.valid
 
 pub returns-clause-steps : goal.returns-clause-steps
 returns-clause-steps g c =
     let content = (g.B.Board.state c.args.board.now).content in
-    let first = subst (λ place. DoesAll g.B.Board.state g.B.Board.history c.args.board.now (clearing content.flash place) true c.clear.new.board)
+    let first = subst (λ place. DoesAll g.B.Board.state g.B.Board.history c.args.board.now
+    (clearing content.flash place) true c.clear.new.board)
     c.trial_place.ensures c.in_ok-clear.ensures.steps in
     let kept = ap (λ (x : Content). x.otp) first.done
-    ∙ rewrite-otp content (trial_place c.args.choice.now.image / 4096) (cleared_sector content.flash (trial_place c.args.choice.now.image)) in
+    ∙ rewrite-otp content (trial_place c.args.choice.now.image / 4096)
+    (cleared_sector content.flash (trial_place c.args.choice.now.image)) in
     bought content c.args.cpu c.args.choice.now first
-    (settled content c.args.cpu c.args.choice.now c.better_sector-sector.result kept c.better_sector-sector.ensures.exact
+    (settled content c.args.cpu c.args.choice.now c.better_sector-sector.result kept
+    c.better_sector-sector.ensures.exact
     c.in_ok-erase_in.ensures.steps c.raise_rows.ensures.steps)

@@ -5,11 +5,13 @@ use Rattle.trial_buy.proofs.settling.settle.Goals as goal
 
 pub raise_rows-requires-clause-rows : goal.raise_rows-requires-clause-rows
 raise_rows-requires-clause-rows g c =
-    valid-rows (g.B.Board.state c.args.board.now).content c.args.choice.now.image.window c.args.cpu _ c.args.choice.now.image c.requires.valid
+    valid-rows (g.B.Board.state c.args.board.now).content c.args.choice.now.image.window c.args.cpu _
+    c.args.choice.now.image c.requires.valid
 
 pub raise_rows-requires-clause-version : goal.raise_rows-requires-clause-version
 raise_rows-requires-clause-version g c =
-    valid-version (g.B.Board.state c.args.board.now).content c.args.choice.now.image.window c.args.cpu _ c.args.choice.now.image c.requires.valid
+    valid-version (g.B.Board.state c.args.board.now).content c.args.choice.now.image.window c.args.cpu _
+    c.args.choice.now.image c.requires.valid
 
 pub returns-clause-steps : goal.returns-clause-steps
 returns-clause-steps g c =
