@@ -14,7 +14,7 @@ pub only-memory : (e : BoardError) (n m : ℕ) (rows : List ℕ) → IsFlashLeng
 only-memory BadFlashLength n m rows flash otp narrow a b wide = absurd (a refl flash)
 only-memory BadOtpLength n m rows flash otp narrow a b wide = absurd (b refl otp)
 only-memory (OtpRowWide row) n m rows flash otp narrow a b wide = let w = wide row refl in let small =
-    narrow row 0 w.inside in absurd (omega (arith, w.wide, small))
+    narrow row (0) w.inside in absurd (omega (arith, w.wide, small))
 only-memory Memory n m rows flash otp narrow a b wide = refl
 
 -- rows of 24 bits, filled with 0

@@ -145,7 +145,7 @@ form-apart Flash bytes fault form (inr (few, own)) = form.0 own.0
 form-apart Otp bytes fault form (inl large) = let few = form.0 in let many = large.0 in omega arith
 form-apart Otp bytes fault form (inr (few, inl (part, text))) = part form.1
 form-apart Otp bytes fault form (inr (few, inr (whole, row, wide, text))) =
-    let small = form.2 row 0 wide.inside in let large = wide.wide in omega arith
+    let small = form.2 row (0) wide.inside in let large = wide.wide in omega arith
 
 -- a fault that the rules name is the one that is found
 otp-exact : (bytes fault : List ℕ) → IsOwnFault Otp bytes fault → otp_fault bytes ≡ Some fault

@@ -45,7 +45,8 @@ impl Cmd {
         LittleEndian::read_u32(&self.args[8..])
     }
 
-    /// The parameter p1 of a reboot, the size of a range in RAM. A reboot from flash does not read it.
+    /// The parameter p1 of a reboot, the size of a range in RAM. A reboot from flash does not read
+    /// it.
     pub fn reboot_p1(&self) -> u32
         ensures { result ≡ reboot_p1 self.now }
     {

@@ -10,7 +10,7 @@ ghost use Rattle.uf2_place.specs.declared.answer.Ruling.TheVariants.{Answered, B
 ghost use Rattle.uf2_place.specs.Blocks.{is_number, written};
 ghost use Rattle.uf2_place.specs.Examples.{absolute_block, arm_block, arm_download, first_slot, flagged, slot};
 ghost use Rattle.uf2_place.specs.Files.{file_block, filled, page_count};
-ghost use Rattle.uf2_place.specs.Placement.{is_whole, placed};
+ghost use Rattle.uf2_place.specs.Placement.{HasWholeSectors, is_whole, placed};
 ghost use Rattle.uf2_place.specs.Rulings.{is_of, is_skipped, is_within, ruling, wanted};
 
 /// The bytes of a block: three magic words, and the words of its fields between them.
@@ -153,4 +153,9 @@ pub fn the_first_sector_last()
     ensures no_page { (a b c : List ℕ) → placed (slot true) (arm_block 0 0x10001000 a
         ∷ arm_block 1 0x10001100 b ∷ arm_block 2 0x10002000 c ∷ [])
         ≡ Erase 32 ∷ Erase 33 ∷ Program 528 a ∷ Program 529 b ∷ Erase 34 ∷ Program 544 c ∷ [] }
+{}
+
+/// A window of one whole sector is enough for a target.
+pub fn the_least_window()
+    ensures { HasWholeSectors (record { start = 0x2000; len = 4096 }) }
 {}
