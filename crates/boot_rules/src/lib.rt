@@ -25,7 +25,7 @@ pub use image_check::Started;
 pub use part_table::Target;
 pub use slot_choice::Choice;
 pub use tables::{Found, find_table};
-pub use targets::target;
+pub use targets::{is_executable, target};
 
 #[cfg(test)]
 mod tests;

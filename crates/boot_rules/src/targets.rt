@@ -24,7 +24,7 @@ const RISCV_FAMILY: u32 = 0xe48b_ff5a;
 const ARM_NS_FAMILY: u32 = 0xe48b_ff5b;
 
 /// Whether the family is one of the three of executables for the RP2350.
-fn is_executable(family: u32) -> bool
+pub fn is_executable(family: u32) -> bool
     ensures { result ≡ is_executable family }
 {
     family == ARM_S_FAMILY || family == RISCV_FAMILY || family == ARM_NS_FAMILY

@@ -38,11 +38,11 @@ pub struct Candidate {
 
 /// The definition of a window's image, and what it says.
 #[derive(Debug, Drop)]
-pub(crate) struct Defined {
+pub struct Defined {
     /// The definition's block.
-    pub(crate) block: Block,
+    pub block: Block,
     /// What its items say.
-    pub(crate) def: Def,
+    pub def: Def,
 }
 
 /// What was seen of a loop's blocks, in loop order.
@@ -118,7 +118,7 @@ fn definition_in<V: View>(view: &V, found: &BlockLoop, cpu: Cpu) -> Result<Block
 
 /// The definition of the window's image and what it says, or the answer of the first of the rules
 /// on the loop, the definition, the processor and the items.
-pub(crate) fn defined_in<V: View>(view: &V, cpu: Cpu) -> Result<Defined, Why>
+pub fn defined_in<V: View>(view: &V, cpu: Cpu) -> Result<Defined, Why>
     ensures exact { result ≡ defined_in cpu (V.bytes view.now) }
     ensures sound { IfOk result (λ image. IsDefinition image.block image.def) }
     ensures whole { IfOk result (λ image. IsWhole image.block) }
@@ -183,12 +183,7 @@ fn admit<B: Board>(board: &B, trial_ok: bool, def: &Def) -> Result<(), Why>
 }
 
 /// What the image's load map loads in a window of `len` bytes; nothing without one.
-pub(crate) fn loads_of(
-    addressing: Addressing,
-    len: u32,
-    block: &Block,
-    def: &Def,
-) -> Result<Loads, Why>
+pub fn loads_of(addressing: Addressing, len: u32, block: &Block, def: &Def) -> Result<Loads, Why>
     requires sound { IsDefinition block.now def.now }
     ensures exact { listed result ≡ map_answer addressing len block.now def.now }
     ensures stored { IfOk result (λ loads. AreStoredIn len loads.items) }

@@ -19,7 +19,7 @@ mod why;
 
 pub use addressing::Addressing;
 pub use checking::{check, check_view, confirm};
-pub use examining::{Candidate, examine};
+pub use examining::{Candidate, Defined, defined_in, examine, loads_of};
 pub use image_def::Started;
 pub use same::same_content;
 pub use why::{EntryFault, Why};

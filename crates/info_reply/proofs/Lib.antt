@@ -1,3 +1,3 @@
 mod Names
-mod Asking
+pub mod Asking
 mod Fitting

@@ -1,4 +1,5 @@
 use crate::Partition;
+use crate::faults::parts_fault;
 use crate::partition::has_bit;
 use arrayvec::ArrayVec;
 use block_codec::Version;
@@ -69,7 +70,7 @@ pub enum TableWriteFault {
 impl Table {
     ghost use Rattle.std.specs.Prelude.{◌≡◌, ◌+◌, ◌<◌, ◌≤◌, ◌^◌, length, None};
     ghost use Rattle.part_table.specs.Families.{accepts, accepts_absolute};
-    ghost use Rattle.part_table.specs.Faults.{permissions_fault, overlap_fault};
+    ghost use Rattle.part_table.specs.Faults.{permissions_fault, overlap_fault, table_fault};
     ghost use Rattle.part_table.specs.Fields.{first_sector, last_sector};
     ghost use Rattle.part_table.specs.Partitions.{part_at};
     ghost use Rattle.part_table.specs.Rights.{allowed, right_word, right_bit};
@@ -112,6 +113,14 @@ impl Table {
             }
         }
         self.unpartitioned
+    }
+
+    /// The first fault of the table's partitions in a flash of so many sectors, `first` of which
+    /// stand before the first free one: of permissions, then range, then overlap, then a link.
+    pub fn fault(&self, sectors: u32, first: u32) -> Option<TableFault>
+        ensures { result ≡ table_fault self.now sectors first }
+    {
+        parts_fault(self.parts.as_slice(), sectors, first)
     }
 
     /// Whether a sector has a right.

@@ -72,6 +72,13 @@ fn read(block: &Block, sectors: u32) -> Option<Result<Table, TableFault>> {
 }
 
 #[test]
+fn finds_the_fault_of_a_table(rt: HostRuntime) {
+    assert_eq!(rt; pair_table().fault(64, 2), None);
+    assert_eq!(rt; pair_table().fault(61, 2), Some(TableFault::Range(1)));
+    assert_eq!(rt; pair_table().fault(64, 3), Some(TableFault::Range(0)));
+}
+
+#[test]
 fn reads_the_table_of_a_pair(rt: HostRuntime) -> Result<(), Fail> {
     let block = block_from(rt.alloc(), &PAIR)?;
     assert_eq!(rt; read(&block, 64), Some(Ok(pair_table())));

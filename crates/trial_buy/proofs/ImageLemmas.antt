@@ -1,5 +1,5 @@
 -- What a valid image says of its rows and of the place of its trial bit.
-use Rattle.std.proofs.Common.{◌≡◌, ℕ, ◌+◌, ◌*◌, ◌<◌, Bool, List, [], ◌∷◌, ◌++◌, length, slice_get, Some, refl, sym, ap, ◌∙◌, subst, arith}
+use Rattle.std.proofs.Common.{◌≡◌, ℕ, ◌+◌, ◌*◌, ◌<◌, ◌≤◌, Bool, List, [], ◌∷◌, ◌++◌, length, slice_get, Some, refl, sym, ap, ◌∙◌, subst, arith}
 use Rattle.std.specs.Prelude.{IfSome}
 use Rattle.std.proofs.lemmas.List.Edits.{length-between}
 use Rattle.pico_board.specs.declared.boot.Cpu.{Cpu}
@@ -73,3 +73,13 @@ module _ (c : Content) (w : Window) (cpu : Cpu) (trial : Bool) (s : Started) (v 
       let start : s.window.start ≡ w.start = ap (λ (x : Window). x.start) same in
       let place = d.place in
       omega (arith, room, low, long, inside, start, place)
+
+  pub trial-within : IsPlacedIn c w → w.start + w.len ≤ length c.flash → s.image_at + 3 < w.len
+  trial-within placed inside =
+      let d = defined-by c w cpu trial s v in
+      let room = BlockAt-room (window_bytes c w) d.block.at d.block d.stands in
+      let item = d.sound.image.1 in
+      let low = item.inside in
+      let long = length-between c.flash w.start (w.start + w.len) inside in
+      let place = d.place in
+      omega (arith, room, low, long, inside, place)
