@@ -1,0 +1,4 @@
+pub mod Digits
+pub mod Texts
+pub mod Events
+pub mod Examples

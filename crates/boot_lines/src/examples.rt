@@ -1,0 +1,110 @@
+//! Worked examples of the texts, proved by computing: each is the `ensures` of a function that does
+//! nothing.
+
+ghost use Rattle.std.specs.Prelude.{◌≡◌, ◌++◌, [], ◌∷◌, length, codes, Some, None, true, false};
+ghost use Rattle.pico_board.specs.declared.window.Window.{Window};
+ghost use Rattle.uf2_place.specs.declared.block.Uf2Fault.TheVariants.{Magic, Payload, Alignment, Number};
+ghost use Rattle.uf2_place.specs.declared.answer.Accepted.TheVariants.{Skipped, Again, Taken, Done};
+ghost use Rattle.uf2_place.specs.declared.answer.PlaceFault.TheVariants.{NoTarget, Outside, NotPermitted, PowerLost};
+ghost use Rattle.boot_rules.specs.declared.decision.Decision.TheVariants.{Bootsel};
+ghost use Rattle.boot_rules.specs.declared.decision.Fall.TheVariants.{Requested, FlashOff, NoImage};
+ghost use Rattle.boot_lines.specs.Texts.{boot_text, booted_text, command_text, form_text, hex_byte, hex_word, accepted_text, ram_start_text, refused_text};
+ghost use Rattle.boot_lines.specs.Events.{event_text, Off, Ignored, CutArmed, LostPower, Ended, BuyDone, BuyNone, BadMagic, Rebooted, RamStarted, Downloaded};
+ghost use Rattle.boot_lines.specs.Examples.{image_in, ram_image, start_of, widest, command};
+
+/// A number has 0x and eight lower-case hexadecimal digits, and a byte two.
+pub fn hexadecimal_words()
+    ensures zero { hex_word 0 ≡ codes "0x00000000" }
+    ensures lower_case { hex_word 0xabcdef09 ≡ codes "0xabcdef09" }
+    ensures most { hex_word 0xffffffff ≡ codes "0xffffffff" }
+    ensures byte { hex_byte 0x0a ≡ codes "0x0a" }
+    ensures most_of_a_byte { hex_byte 0xff ≡ codes "0xff" }
+{}
+
+/// The texts of boots, and of boots that an event asks for.
+pub fn boots()
+    ensures start { boot_text (start_of (image_in 0x2000 0x1e000 0x100 1 0 None false))
+        ≡ codes "boot start window=0x00002000+0x0001e000 block=0x00000100 pc=0x10000201 "
+        ++ codes "sp=0x20082000 limit=0x00000000 version=1.0 rollback=none trial=no" }
+    ensures trial { boot_text (start_of (image_in 0x20000 0x1e000 0x100 1 1 (Some 3) true))
+        ≡ codes "boot start window=0x00020000+0x0001e000 block=0x00000100 pc=0x10000201 "
+        ++ codes "sp=0x20082000 limit=0x00000000 version=1.1 rollback=3 trial=yes" }
+    ensures requested { boot_text (Bootsel Requested) ≡ codes "boot bootsel requested" }
+    ensures flash_off { boot_text (Bootsel FlashOff) ≡ codes "boot bootsel flash-off" }
+    ensures no_image { boot_text (Bootsel NoImage) ≡ codes "boot bootsel no-image" }
+    ensures booted { booted_text (Bootsel NoImage) ≡ codes " boot bootsel no-image" }
+{}
+
+/// The texts of commands. A reply is shown for a read, an info command and an OTP read with status
+/// 0, and for no other.
+pub fn commands()
+    ensures xip { command_text (command 0x07 1) 0 [] ≡ codes "cmd 0x07 token=0x00000001 status=0" }
+    ensures refused { command_text (command 0x0d 4) 17 []
+        ≡ codes "cmd 0x0d token=0x00000004 status=17" }
+    ensures read { command_text (command 0x84 1) 0 (0x61 ∷ 0x62 ∷ 0x63 ∷ [])
+        ≡ codes "cmd 0x84 token=0x00000001 status=0 reply=3 sha256=ba7816bf8f01cfea"
+        ++ codes "414140de5dae2223b00361a396177a9cb410ff61f20015ad" }
+    ensures info { command_text (command 0x8b 2) 0 []
+        ≡ codes "cmd 0x8b token=0x00000002 status=0 reply=0 sha256=e3b0c44298fc1c14"
+        ++ codes "9afbf4c8996fb92427ae41e4649b934ca495991b7852b855" }
+    ensures otp_read { command_text (command 0x8c 3) 0 []
+        ≡ codes "cmd 0x8c token=0x00000003 status=0 reply=0 sha256=e3b0c44298fc1c14"
+        ++ codes "9afbf4c8996fb92427ae41e4649b934ca495991b7852b855" }
+    ensures not_served { command_text (command 0x8b 2) 12 []
+        ≡ codes "cmd 0x8b token=0x00000002 status=12" }
+    ensures write { command_text (command 0x05 1) 0 []
+        ≡ codes "cmd 0x05 token=0x00000001 status=0" }
+{}
+
+/// Commands that reboot.
+pub fn reboots()
+    ensures boot { event_text (Rebooted (command 0x0a 2) (Bootsel NoImage))
+        ≡ codes "cmd 0x0a token=0x00000002 status=0 boot bootsel no-image" }
+    ensures ram { event_text (RamStarted (command 0x0a 2) ram_image)
+        ≡ codes "cmd 0x0a token=0x00000002 status=0 boot start ram=0x20000000+0x0000001c "
+        ++ codes "block=0x00000008 pc=0x20000021 sp=0x20082000 limit=0x00000000 version=0.0 "
+        ++ codes "rollback=none trial=no" }
+{}
+
+/// The texts of UF2 blocks.
+pub fn blocks()
+    ensures magic { form_text Magic ≡ codes "uf2 bad magic" }
+    ensures payload { form_text Payload ≡ codes "uf2 bad payload" }
+    ensures alignment { form_text Alignment ≡ codes "uf2 bad alignment" }
+    ensures number { form_text Number ≡ codes "uf2 bad number" }
+    ensures no_target { refused_text NoTarget ≡ codes "uf2 refused no-target" }
+    ensures outside { refused_text Outside ≡ codes "uf2 refused outside" }
+    ensures not_permitted { refused_text NotPermitted ≡ codes "uf2 refused not-permitted" }
+    ensures power_lost { refused_text PowerLost ≡ codes "power lost" }
+    ensures skipped { accepted_text 7 Skipped ≡ codes "uf2 skipped" }
+    ensures again { accepted_text 1 Again ≡ codes "uf2 1 again" }
+    ensures taken { accepted_text 65535 Taken ≡ codes "uf2 65535 taken" }
+    ensures stay { (w : Window) → accepted_text 1
+        (Done (record { window = w; gated = true; stay = true })) ≡ codes "uf2 1 done stay" }
+    ensures done { (w : Window) → accepted_text 1
+        (Done (record { window = w; gated = true; stay = false })) ≡ codes "uf2 1 done" }
+    ensures booted { event_text (Downloaded 1 (start_of (image_in 0 0x100000 0x114 0 0 None false)))
+        ≡ codes "uf2 1 done boot start window=0x00000000+0x00100000 block=0x00000114 pc=0x10000201 "
+        ++ codes "sp=0x20082000 limit=0x00000000 version=0.0 rollback=none trial=no" }
+{}
+
+/// The texts of the other events.
+pub fn other_events()
+    ensures off { event_text Off ≡ codes "off" }
+    ensures ignored { event_text Ignored ≡ codes "ignored" }
+    ensures cut { event_text CutArmed ≡ codes "cut armed" }
+    ensures power { event_text LostPower ≡ codes "power lost" }
+    ensures end { event_text Ended ≡ codes "end" }
+    ensures bought { event_text BuyDone ≡ codes "buy done" }
+    ensures none { event_text BuyNone ≡ codes "buy none" }
+    ensures magic { event_text BadMagic ≡ codes "cmd bad-magic" }
+{}
+
+/// A longest text: a reboot command that starts an image with the greatest numbers.
+pub fn a_longest_text()
+    ensures text { event_text (Rebooted (command 0x0a 0xffffffff) (start_of widest))
+        ≡ codes "cmd 0x0a token=0xffffffff status=0 boot start window=0xffffffff+0xffffffff "
+        ++ codes "block=0xffffffff pc=0xffffffff sp=0xffffffff limit=0xffffffff "
+        ++ codes "version=65535.65535 rollback=65535 trial=yes" }
+    ensures len { length (event_text (Rebooted (command 0x0a 0xffffffff) (start_of widest))) ≡ 181 }
+{}
