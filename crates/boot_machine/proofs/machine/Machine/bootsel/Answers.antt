@@ -1,0 +1,21 @@
+use Rattle.std.proofs.Common.{None, sym, subst}
+use Rattle.boot_machine.specs.declared.parts.Parts.{Parts}
+use Rattle.boot_machine.specs.declared.state.State.TheVariants.{Off}
+use Rattle.boot_machine.proofs.Entries.{steady-entered}
+use Rattle.boot_machine.proofs.Rooms.{room-new}
+use Rattle.boot_machine.proofs.machine.Machine.bootsel.Goals as goal
+
+pub invariant_of-result : goal.invariant_of-result
+invariant_of-result g c =
+    let parts : Parts _ = record {
+      board = c.args.board;
+      pool = c.args.pool;
+      download = c.args.download;
+      ram = c.args.ram;
+      cpu = c.args.cpu;
+      state = Off;
+      slot = None;
+      found = None;
+    } in
+    steady-entered g.B.Board.state parts _ c.enter_bootsel.ensures c.requires.power c.requires.none
+    (room-new c.args.pool c.requires.leases)

@@ -1,0 +1,46 @@
+-- By computing.
+use Rattle.std.proofs.Common.{refl, inl, inr, arith}
+use Rattle.std.specs.Fmt.{padded_integral, digits, char_count}
+use Rattle.pico_board.specs.declared.Step.TheVariants.{Erase}
+use Rattle.pico_board.specs.Content.{IsContent}
+use Rattle.pico_board.specs.Steps.{after}
+use Rattle.pico_board.proofs.Contents.{IsContent-after}
+use Rattle.pico_board.proofs.TornSteps.{Torn-before}
+use Rattle.boot_machine.specs.RunExamples.{erased}
+use Rattle.boot_machine.proofs.ExampleLemmas.{all_below, content-by}
+use Rattle.boot_machine.proofs.play_examples.cuts_that_are_told.Goals as goal
+
+right : IsContent erased
+unfolding all_below
+right = content-by erased 0x2000 refl refl refl refl refl refl refl
+
+pub returns-clause-before : goal.returns-clause-before
+unfolding padded_integral digits char_count
+returns-clause-before c = inr (record {
+  content = inl (Torn-before erased (Erase 0) right);
+  armed_cut = record { answer = refl; left = refl; next = refl };
+  cpu = refl;
+  place = refl;
+  line = refl;
+})
+
+pub returns-clause-second : goal.returns-clause-second
+unfolding padded_integral digits char_count
+returns-clause-second c = inr (record {
+  content =
+      inr (inl (Torn-before (after erased (Erase 0)) (Erase 1) (IsContent-after erased (Erase 0) right (omega arith))));
+  armed_cut = record { answer = refl; left = refl; next = refl };
+  cpu = refl;
+  place = refl;
+  line = refl;
+})
+
+pub returns-clause-behind : goal.returns-clause-behind
+unfolding padded_integral digits char_count
+returns-clause-behind c = inl (record {
+  content = refl;
+  armed_cut = record { answer = refl; left = refl; next = refl };
+  cpu = refl;
+  place = refl;
+  line = refl;
+})

@@ -1,0 +1,10 @@
+use Rattle.std.proofs.Common.{ap, ◌∙◌}
+use Rattle.boot_machine.specs.Serving.{info_reply, info_text}
+use Rattle.boot_machine.proofs.serving.serve_info.Goals as goal
+
+pub returns-clause-text : goal.returns-clause-text
+returns-clause-text g c =
+    c.set_answer.ensures.text
+    (info_reply c.info_reply-status.result (g.B.Board.state c.args.board.now).content c.args.cpu c.args.found.now
+    c.args.cmd.now) (c.info_reply-status.ensures.reply c.new-reply.ensures) c.info_reply-status.ensures.few
+    ∙ ap (λ status. info_text status (g.B.Board.state c.args.board.now).content c.args.cpu c.args.found.now c.args.cmd.now) c.info_reply-status.ensures.status

@@ -1,0 +1,10 @@
+pub mod Machines
+pub mod Boots
+pub mod Serving
+pub mod Moves
+pub mod Standing
+pub mod Luck
+pub mod Crashes
+pub mod CrashExamples
+pub mod Runs
+pub mod RunExamples

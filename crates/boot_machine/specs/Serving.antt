@@ -1,0 +1,281 @@
+-- What BOOTSEL does for a host: the part of an event before the boot that it may ask for.
+-- Source: RP2350 Datasheet, chapter 5 (Bootrom); the texts, the info replies, the RAM commands and
+-- the rules on downloads are this project's own.
+use Rattle.std.specs.Prelude.{ℕ, ◌+◌, ◌==◌, ◌&&◌, Bool, true, false, nat_eq, if◌then◌else◌, is_some, List, [], ◌∷◌, ◌++◌, length, slice_index, Option, Some, None, Result, Ok, Err, codes, option_map}
+use Rattle.std.specs.Set.{is_member}
+use Rattle.pico_board.specs.declared.Step.{Step}
+use Rattle.pico_board.specs.declared.boot.Cpu.{Cpu}
+use Rattle.pico_board.specs.declared.boot.BootKind.{BootKind}
+use Rattle.pico_board.specs.declared.boot.BootKind.TheVariants.{Normal, Update}
+use Rattle.pico_board.specs.Content.{Content, flash_base}
+use Rattle.pico_board.specs.Steps.{after_all}
+use Rattle.otp_roll.specs.Flags.{slot_size}
+use Rattle.part_table.specs.declared.Table.{Table}
+use Rattle.part_table.specs.declared.Target.{Target}
+use Rattle.uf2_place.specs.declared.block.Uf2.{Uf2}
+use Rattle.uf2_place.specs.declared.block.Uf2Fault.{Uf2Fault}
+use Rattle.uf2_place.specs.declared.answer.Accepted.{Accepted}
+use Rattle.uf2_place.specs.declared.answer.Accepted.TheVariants.{Skipped, Again, Taken, Done}
+use Rattle.uf2_place.specs.declared.answer.PlaceFault.{PlaceFault}
+use Rattle.uf2_place.specs.declared.answer.PlaceFault.TheVariants.{NoTarget, Outside, NotPermitted, PowerLost as Lost}
+use Rattle.pico_board.specs.declared.board.PowerLost.{PowerLost}
+use Rattle.uf2_place.specs.declared.answer.Ruling.{Ruling}
+use Rattle.uf2_place.specs.declared.answer.Ruling.TheVariants.{Answered, Begins, Continues}
+use Rattle.uf2_place.specs.Blocks.{uf2_of}
+use Rattle.uf2_place.specs.Placement.{grown, is_whole, numbers_of}
+use Rattle.uf2_place.specs.Rulings.{aimed, begun, is_skipped}
+use Rattle.picoboot_cmd.specs.declared.cmd.Cmd.{Cmd}
+use Rattle.picoboot_cmd.specs.declared.cmd.CmdFault.{CmdFault}
+use Rattle.picoboot_cmd.specs.Commands.{command_in}
+use Rattle.picoboot_cmd.specs.Checks.{first_failing}
+use Rattle.picoboot_cmd.specs.Served.{Served as Command, command_of}
+use Rattle.info_reply.specs.declared.kinds.TheConstants.{INFO}
+use Rattle.info_reply.specs.declared.ask.Ask.{Ask}
+use Rattle.info_reply.specs.declared.ask.Ask.TheVariants as asks
+use Rattle.info_reply.specs.declared.ask.Device.{Device}
+use Rattle.info_reply.specs.Asks.{ask_in}
+use Rattle.info_reply.specs.Infos.{info_of}
+use Rattle.info_reply.specs.Statuses.{info_checks}
+use Rattle.block_codec.specs.Words.{bytes_of}
+use Rattle.ram_start.specs.Serving.{RamServed, is_ram_command, ram_command}
+use Rattle.image_def.specs.declared.started.Started.{Started}
+use Rattle.boot_rules.specs.declared.tables.Found.{Found}
+use Rattle.boot_rules.specs.Targets.{is_executable, target_of}
+use Rattle.boot_script.specs.Events.{Happening}
+use Rattle.boot_machine.specs.Machines.{Host, Placing, Place, InBootsel, Running, FromRam}
+use Rattle.boot_machine.specs.Boots.{Effect, booted}
+use Rattle.boot_lines.specs.Texts.{accepted_text, command_text, form_text, ram_start_text, refused_text}
+
+-- what an event does before the boot that it asks for, if it asks for one
+pub record Served : Type 0 where
+  pub steps : List Step
+  pub place : Place
+  pub text : List ℕ
+  pub boot : Option BootKind
+
+-- nothing is done but a line
+abbrev pub told : Host → List ℕ → Served
+told host text = record { steps = []; place = InBootsel host; text = text; boot = None }
+
+abbrev pub table_of : Option Found → Option Table
+table_of found = option_map (λ (f : Found). f.table) found
+
+-- the slot of the table that was found, 0 where there is none
+abbrev pub slot_of : Option Found → ℕ
+slot_of None = 0
+slot_of (Some f) = f.slot
+
+-- the host with other bytes in the SRAM
+abbrev pub with_ram : Host → List ℕ → Host
+with_ram host ram = record { found = host.found; placing = host.placing; ram = ram }
+
+abbrev pub with_placing : Host → Option Placing → Host
+with_placing host placing = record { found = host.found; placing = placing; ram = host.ram }
+
+-- what is told of the board
+abbrev pub device_of : Content → Cpu → Device
+device_of c cpu = record {
+  flash_len = length c.flash;
+  cpu = cpu;
+  flags = slice_index c.otp 0x048;
+  slot = slot_size c.otp (length c.flash);
+}
+
+-- the target that an info command asks for, by the table that is kept
+abbrev pub asked_target : Content → Option Table → Cpu → Option Ask → Option Target
+asked_target c t cpu None = None
+asked_target c t cpu (Some asks.Table) = None
+asked_target c t cpu (Some (asks.Target family)) = target_of c t cpu family
+asked_target c t cpu (Some asks.Device) = None
+asked_target c t cpu (Some (asks.Partition i)) = None
+
+-- the words of the reply, where it is known what is asked for
+abbrev pub info_words : Content → Cpu → Option Found → Option Ask → List ℕ
+info_words c cpu found None = []
+info_words c cpu found (Some ask) =
+    info_of (device_of c cpu) (slot_of found) (table_of found)
+    (asked_target c (table_of found) cpu (Some ask)) ask
+
+-- an info command: its status and its reply
+unfoldable pub info_status : Content → Cpu → Option Found → Cmd → List ℕ → ℕ
+info_status c cpu found cmd payload =
+    first_failing (info_checks (device_of c cpu) (slot_of found) (table_of found)
+    (asked_target c (table_of found) cpu (ask_in cmd)) cmd payload)
+
+unfoldable pub info_reply : ℕ → Content → Cpu → Option Found → Cmd → List ℕ
+info_reply status c cpu found cmd =
+    if status == 0 then bytes_of (info_words c cpu found (ask_in cmd)) else []
+
+abbrev pub info_text : ℕ → Content → Cpu → Option Found → Cmd → List ℕ
+info_text status c cpu found cmd =
+    command_text cmd status (info_reply status c cpu found cmd)
+
+abbrev pub serves_info : Content → Cpu → Host → Cmd → List ℕ → Served
+serves_info c cpu host cmd payload =
+    told host (info_text (info_status c cpu host.found cmd payload) c cpu host.found cmd)
+
+-- a RAM command: it stores and reads, or starts an image, which drops the download
+abbrev pub ram_place : Host → Option Started → List ℕ → Place
+ram_place host None ram = InBootsel (with_ram host ram)
+ram_place host (Some image) ram = Running (FromRam image)
+
+abbrev pub ram_text : Cmd → ℕ → List ℕ → Option Started → List ℕ
+ram_text cmd status reply None = command_text cmd status reply
+ram_text cmd status reply (Some image) = command_text cmd status reply ++ ram_start_text image
+
+abbrev pub ram_result : Host → Cmd → RamServed → Served
+ram_result host cmd r = record {
+  steps = [];
+  place = ram_place host r.start r.ram;
+  text = ram_text cmd r.status r.reply r.start;
+  boot = None;
+}
+
+abbrev pub serves_ram : Content → Cpu → Host → Cmd → List ℕ → Served
+serves_ram c cpu host cmd payload =
+    ram_result host cmd (ram_command c host.ram cpu (is_some host.placing) cmd payload)
+
+-- a command of the host for the board
+abbrev pub host_result : Host → Cmd → Command → Served
+host_result host cmd r = record {
+  steps = r.steps;
+  place = InBootsel host;
+  text = command_text cmd r.status r.reply;
+  boot = r.boot;
+}
+
+abbrev pub serves_host : Content → Host → Cmd → List ℕ → Served
+serves_host c host cmd payload =
+    host_result host cmd (command_of c (table_of host.found) (is_some host.placing) cmd payload)
+
+abbrev pub serves : Content → Cpu → Host → Cmd → List ℕ → Served
+serves c cpu host cmd payload =
+    if cmd.id == INFO then serves_info c cpu host cmd payload
+    else if is_ram_command cmd then serves_ram c cpu host cmd payload
+    else serves_host c host cmd payload
+
+-- 32 bytes that may be a command
+abbrev pub command_served : Content → Cpu → Host → Result Cmd CmdFault → List ℕ → Served
+command_served c cpu host (Ok cmd) payload = serves c cpu host cmd payload
+command_served c cpu host (Err fault) payload = told host (codes "cmd bad-magic")
+
+-- a block is of the download's family and count
+abbrev pub is_like : List Uf2 → Uf2 → Bool
+is_like [] b = false
+is_like (first ∷ blocks) b = first.family == b.family && first.count == b.count
+
+-- a block that continues a download, which is of other numbers than those taken
+abbrev pub carried_on : Option Table → Placing → Uf2 → Ruling
+carried_on t placing b =
+    if is_member nat_eq (numbers_of placing.blocks) b.number then Answered (Ok Again)
+    else aimed t b placing.target (Continues placing.target)
+
+abbrev pub ruled_on : Option Table → Option Target → Option Placing → Uf2 → Ruling
+ruled_on t given None b = begun t b given
+ruled_on t given (Some placing) b =
+    if is_like placing.blocks b then carried_on t placing b else begun t b given
+
+-- the ruling on a block in a flash of n bytes: it is answered at once, or begins or continues a
+-- download
+abbrev pub ruling_on : ℕ → Option Table → Option Target → Option Placing → Uf2 → Ruling
+ruling_on n t given placing b =
+    if is_skipped n b then Answered (Ok Skipped) else ruled_on t given placing b
+
+-- the text of a block that is refused, or accepted
+abbrev pub block_text : ℕ → Result Accepted PlaceFault → List ℕ
+block_text number (Ok accepted) = accepted_text number accepted
+block_text number (Err fault) = refused_text fault
+
+-- the boot that a done download asks for
+abbrev pub done_boot : ℕ → Target → Option BootKind
+done_boot family target =
+    if target.stay then None
+    else if is_executable family then Some (Update (flash_base + target.window.start))
+    else Some Normal
+
+-- the boot that an accepted block asks for
+abbrev pub boot_of_accepted : ℕ → Accepted → Option BootKind
+boot_of_accepted family Skipped = None
+boot_of_accepted family Again = None
+boot_of_accepted family Taken = None
+boot_of_accepted family (Done target) = done_boot family target
+
+-- what is answered of what came of a block: the boot that it asks for, where power was not lost
+abbrev pub answer_of : ℕ → Result Accepted PlaceFault → Result (Option BootKind) PowerLost
+answer_of family (Ok accepted) = Ok (boot_of_accepted family accepted)
+answer_of family (Err NoTarget) = Ok None
+answer_of family (Err Outside) = Ok None
+answer_of family (Err NotPermitted) = Ok None
+answer_of family (Err Lost) = Err (record {})
+
+-- the target of a family that a block wants
+abbrev pub wanted_in : Content → Option Table → Cpu → Option ℕ → Option Target
+wanted_in c t cpu None = None
+wanted_in c t cpu (Some family) = target_of c t cpu family
+
+-- a block that is taken into a download
+abbrev pub taken_in : Host → Target → List Uf2 → Uf2 → List Step → Served
+taken_in host target blocks b steps =
+    if is_whole blocks then record {
+      steps = steps;
+      place = InBootsel (with_placing host None);
+      text = accepted_text b.number (Done target);
+      boot = done_boot b.family target;
+    }
+    else record {
+      steps = steps;
+      place = InBootsel (with_placing host (Some (record { target = target; blocks = blocks })));
+      text = accepted_text b.number Taken;
+      boot = None;
+    }
+
+abbrev pub blocks_of : Option Placing → List Uf2
+blocks_of None = []
+blocks_of (Some placing) = placing.blocks
+
+-- a block with its ruling: a block that begins a download is its first, and one that continues it
+-- is added behind the others
+abbrev pub block_served : Host → Uf2 → Ruling → Served
+block_served host b (Answered answer) = told host (block_text b.number answer)
+block_served host b (Begins target) =
+    taken_in host target (b ∷ []) b (grown target [] (b ∷ []))
+block_served host b (Continues target) =
+    taken_in host target (blocks_of host.placing ++ b ∷ []) b
+    (grown target (blocks_of host.placing) (blocks_of host.placing ++ b ∷ []))
+
+abbrev pub places : Content → Cpu → Host → Uf2 → Served
+places c cpu host b =
+    block_served host b (ruling_on (length c.flash) (table_of host.found)
+    (target_of c (table_of host.found) cpu b.family) host.placing b)
+
+-- 512 bytes that may be a UF2 block
+abbrev pub uf2_served : Content → Cpu → Host → Result Uf2 Uf2Fault → Served
+uf2_served c cpu host (Ok b) = places c cpu host b
+uf2_served c cpu host (Err fault) = told host (form_text fault)
+
+-- the events of a host
+abbrev pub is_hosted : Happening → Bool
+is_hosted (Happening.Command command payload) = true
+is_hosted (Happening.Uf2 block) = true
+is_hosted event = false
+
+-- an event for a host
+abbrev pub served : Content → Cpu → Host → Happening → Served
+served c cpu host (Happening.Command command payload) =
+    command_served c cpu host (command_in command) payload
+served c cpu host (Happening.Uf2 block) = uf2_served c cpu host (uf2_of block)
+served c cpu host event = told host []
+
+-- the same without the boot
+abbrev pub before_boot : Served → Effect
+before_boot s = record { steps = s.steps; place = s.place; text = s.text }
+
+-- what was served, and the boot that it asks for
+abbrev pub followed_by : Content → Cpu → Served → Option BootKind → Effect
+followed_by c cpu s None = before_boot s
+followed_by c cpu s (Some kind) =
+    let boot = booted (after_all c s.steps) cpu kind (s.text ++ codes " boot ") in
+    record { steps = s.steps ++ boot.steps; place = boot.place; text = boot.text }
+
+abbrev pub followed : Content → Cpu → Served → Effect
+followed c cpu s = followed_by c cpu s s.boot

@@ -1,0 +1,51 @@
+//! Boots.
+
+ghost use Rattle.std.specs.Prelude.{◌≡◌, ◌++◌, ◌≤◌, IfOk, IfSome, IsTrue, OnOk, is_ok, length, true};
+ghost use Rattle.pico_board.specs.Board.{DoesAll};
+ghost use Rattle.sector_pool.specs.Keeping.{KeepsOut};
+ghost use Rattle.sector_pool.specs.Pool.{HasFree};
+ghost use Rattle.boot_rules.specs.Choosing.{decision_in};
+ghost use Rattle.boot_machine.specs.Boots.{choice_in, decided_steps};
+ghost use Rattle.boot_machine.specs.Standing.{IsHeld};
+ghost use Rattle.boot_lines.specs.Texts.{decision_text};
+
+use arrayvec::ArrayString;
+use boot_lines::put_decision;
+use boot_rules::{Choice, Decision, decide};
+use pico_board::{Board, BootKind, Cpu, PowerLost};
+use sector_pool::SectorPool;
+use trial_buy::settle;
+
+/// Decides a boot, puts the decision behind the line, and does what the decision writes. The
+/// answer is the choice that starts, or none where the boot falls to BOOTSEL.
+pub fn boot<B: Board>(
+    board: &mut B,
+    pool: &mut SectorPool,
+    cpu: Cpu,
+    kind: BootKind,
+    line: &mut ArrayString<320>,
+) -> Result<Option<Choice>, PowerLost>
+    requires power { IsTrue (B.state board.old).powered }
+    requires lease { HasFree pool.old }
+    requires short { length line.old.bytes ≤ 179 }
+    ensures steps { DoesAll B.state B.history board.old (decided_steps
+        (B.state board.old).content cpu (decision_in (B.state board.old).content cpu kind))
+        (is_ok result) board.new }
+    ensures choice { IfOk result (λ choice. choice
+        ≡ choice_in (decision_in (B.state board.old).content cpu kind)) }
+    ensures text { OnOk result (line.new.bytes
+        ≡ line.old.bytes ++ decision_text (decision_in (B.state board.old).content cpu kind)) }
+    ensures held { IfOk result (λ choice.
+        IfSome choice (IsHeld (B.state board.new).content cpu)) }
+    ensures kept { KeepsOut pool.old pool.new }
+{
+    let decision = decide(board, pool, cpu, kind);
+    put_decision(line, &decision);
+    match decision {
+        Decision::Start(choice) => {
+            settle(board, pool, cpu, &choice)?;
+            Ok(Some(choice))
+        }
+        Decision::Bootsel(_) => Ok(None),
+    }
+}

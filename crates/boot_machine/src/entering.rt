@@ -1,0 +1,68 @@
+//! Where a boot leads: an image runs, or BOOTSEL is entered; and the loss of power.
+
+ghost use Rattle.std.specs.Prelude.{◌≡◌, ◌+◌, ◌≤◌, ◌++◌, Bool, IsTrue, Some, None, length, true};
+ghost use Rattle.uf2_place.specs.Downloads.{IsOut, lease_of};
+ghost use Rattle.boot_rules.specs.Tables.{table_in};
+ghost use Rattle.boot_machine.specs.Boots.{booted};
+ghost use Rattle.boot_machine.specs.Moves.{lost_text};
+ghost use Rattle.boot_machine.specs.Standing.{Comes, HasRoom, IsLeft, IsSteady, hosting, running};
+
+use crate::booting::boot;
+use crate::parts::Parts;
+use crate::state::{Slot, State};
+use arrayvec::ArrayString;
+use boot_lines::set_text;
+use boot_rules::{Choice, find_table};
+use pico_board::{Board, BootKind, PowerLost};
+
+/// Runs the image of a choice.
+pub fn run<B: Board>(parts: &mut Parts<B>, choice: Choice)
+    ensures { parts.new ≡ running parts.old choice }
+{
+    parts.slot = Some(Slot {
+        member: choice.member,
+        other: choice.other,
+        updated: choice.updated,
+    });
+    parts.state = State::Running(choice.image);
+}
+
+/// Enters BOOTSEL: finds the table, and clears the SRAM.
+pub fn enter_bootsel<B: Board>(parts: &mut Parts<B>)
+    requires power { IsTrue (B.state parts.old.board).powered }
+    ensures { parts.new ≡ hosting parts.old (table_in (B.state parts.old.board).content) }
+{
+    parts.found = find_table(&parts.board);
+    parts.ram.clear();
+    parts.slot = None;
+    parts.state = State::Bootsel;
+}
+
+/// Goes to the state without power: the download is dropped.
+pub fn lose<B: Board>(parts: &mut Parts<B>, line: &mut ArrayString<320>)
+    requires room { HasRoom parts.old.pool (lease_of parts.old.download.current) }
+    ensures parts { IsLeft parts.old parts.new }
+    ensures line { line.new.bytes ≡ lost_text }
+{
+    set_text(line, "power lost");
+    parts.download.close(&mut parts.pool);
+    parts.state = State::Off;
+}
+
+/// Boots, behind the text of the line.
+pub fn boot_into<B: Board>(parts: &mut Parts<B>, kind: BootKind, line: &mut ArrayString<320>)
+    requires power { IsTrue (B.state parts.old.board).powered }
+    requires room { HasRoom parts.old.pool (lease_of parts.old.download.current) }
+    requires short { length line.old.bytes ≤ 179 }
+    ensures comes { Comes B.state B.history parts.old
+        (booted (B.state parts.old.board).content parts.old.cpu kind line.old.bytes)
+        parts.new line.new.bytes }
+    ensures steady { IsSteady B.state parts.new }
+{
+    parts.download.close(&mut parts.pool);
+    match boot(&mut parts.board, &mut parts.pool, parts.cpu, kind, line) {
+        Ok(Some(choice)) => run(parts, choice),
+        Ok(None) => enter_bootsel(parts),
+        Err(PowerLost) => lose(parts, line),
+    }
+}

@@ -1,0 +1,29 @@
+//! The machine: a board that boots, serves a host in BOOTSEL, runs an image, and loses its power.
+//!
+//! `specs/Machines` says what a machine is, `specs/Boots`, `specs/Serving` and `specs/Moves` what
+//! each event does in each state, as a function of the content, without cuts; Moves and Plays are
+//! the table of the machine with its cuts. `specs/Standing` says what the parts of the code stand
+//! for.
+#![tactic(auto)]
+
+mod booting;
+pub mod command_examples;
+pub mod crash_examples;
+pub mod crash_laws;
+pub mod download_examples;
+mod entering;
+mod machine;
+mod parts;
+pub mod play_examples;
+pub mod run_examples;
+pub mod run_laws;
+mod serving;
+mod serving_host;
+mod state;
+mod stepping;
+
+pub use machine::Machine;
+pub use state::State;
+
+#[cfg(test)]
+mod tests;

@@ -1,0 +1,137 @@
+//! The machine: a board that boots, serves a host in BOOTSEL, runs an image, and loses its power.
+
+ghost use Rattle.std.specs.Prelude.{◌≡◌, ◌≤◌, IsTrue, None, length, true};
+ghost use Rattle.sector_pool.specs.Pool.{free_count};
+ghost use Rattle.boot_script.specs.Events.{IsWritable, event_from};
+ghost use Rattle.boot_machine.specs.Boots.{entered};
+ghost use Rattle.boot_machine.specs.Machines.{Machine as Model};
+ghost use Rattle.boot_machine.specs.Serving.{is_hosted, served};
+ghost use Rattle.boot_machine.specs.Standing.{IsStep, Serves, Stands, StandsAt};
+ghost use Rattle.boot_machine.specs.declared.state.State.TheVariants.{Off as POWERLESS, Bootsel as SERVING};
+
+use crate::entering::enter_bootsel;
+use crate::parts::Parts;
+use crate::serving_host::serve;
+use crate::state::State;
+use crate::stepping::step;
+use arrayvec::ArrayString;
+use boot_script::Event;
+use pico_board::{Bench, BootKind, Cpu};
+use ram_start::Ram;
+use sector_pool::SectorPool;
+use std::marker::Model;
+use uf2_place::Download;
+
+/// A board with what it boots and serves a host with.
+#[derive(Drop)]
+pub struct Machine<B: Bench> {
+    parts: Parts<B>,
+}
+
+impl<B: Bench> Model for Machine<B> {
+    ghost use Rattle.boot_machine.specs.declared.parts.Parts.{Parts};
+    ghost use Rattle.boot_machine.specs.Standing.{IsSteady};
+
+    ghost Value = { Parts B };
+
+    ghost view = { λ machine. machine.parts };
+
+    ghost invariant = { λ machine. IsSteady B.state machine.parts };
+}
+
+impl<B: Bench> Machine<B> {
+    /// A machine without power. The pool has two free sectors, and no download is current.
+    pub fn new(board: B, pool: SectorPool, download: Download, ram: Ram, cpu: Cpu) -> Machine<B>
+        requires leases { 2 ≤ free_count pool }
+        requires none { download.current ≡ None }
+        ensures board { result.board ≡ board }
+        ensures cpu { result.cpu ≡ cpu }
+        ensures off { result.state ≡ POWERLESS }
+    {
+        Machine {
+            parts: Parts {
+                board,
+                pool,
+                download,
+                ram,
+                cpu,
+                state: State::Off,
+                slot: None,
+                found: None,
+            },
+        }
+    }
+
+    /// A machine that has just entered BOOTSEL, with no step done: its table is that of the
+    /// content, and its SRAM is 0. The board is powered, the pool has two free sectors, and no
+    /// download is current.
+    pub fn bootsel(board: B, pool: SectorPool, download: Download, ram: Ram, cpu: Cpu) -> Machine<B>
+        requires power { IsTrue (B.state board).powered }
+        requires leases { 2 ≤ free_count pool }
+        requires none { download.current ≡ None }
+        ensures board { result.board ≡ board }
+        ensures cpu { result.cpu ≡ cpu }
+        ensures entered { StandsAt result (entered (B.state board).content) }
+    {
+        let mut parts = Parts {
+            board,
+            pool,
+            download,
+            ram,
+            cpu,
+            state: State::Off,
+            slot: None,
+            found: None,
+        };
+        enter_bootsel(&mut parts);
+        Machine { parts }
+    }
+
+    /// What the machine is doing.
+    pub fn state(&self) -> &State
+        ensures { result.now ≡ self.now.state }
+    {
+        &self.parts.state
+    }
+
+    /// The board.
+    pub fn board(&self) -> &B
+        ensures { result.now ≡ self.now.board }
+    {
+        &self.parts.board
+    }
+
+    /// The board, out of the machine.
+    pub fn into_board(self) -> B
+        ensures { result ≡ self.board }
+    {
+        self.parts.board
+    }
+
+    /// Serves a command or a UF2 block in BOOTSEL, but for the boot that it may ask for, which is
+    /// answered. None comes exactly where it asks for no boot from flash, or power was lost; an
+    /// image in RAM is started here. The line becomes the text of what was done, without that of
+    /// the boot. (RP2350 Datasheet, chapter 5, Bootrom; the texts are this project's own.)
+    pub fn serve(&mut self, event: &Event<'_>, line: &mut ArrayString<320>) -> Option<BootKind>
+        requires bootsel { self.old.state ≡ SERVING }
+        requires hosted { is_hosted (event_from event.now) ≡ true }
+        requires writable { IsWritable (event_from event.now) }
+        ensures serves { Serves B.state B.history self.old
+            (λ c cpu host. served c cpu host (event_from event.now)) result self.new
+            line.new.bytes }
+    {
+        serve(&mut self.parts, event, line)
+    }
+
+    /// What an event does, by the table of the machine: for each machine m for which it stands, it
+    /// then stands for one to which the event takes m, and the line becomes the text of the event.
+    /// Lost power is the only thing that stops a step; it takes no memory. (RP2350 Datasheet,
+    /// chapter 5, Bootrom; the profile and the texts are this project's own.)
+    pub fn step(&mut self, event: &Event<'_>, line: &mut ArrayString<320>)
+        requires { IsWritable (event_from event.now) }
+        ensures { (m : Model) → Stands B.state self.old m
+            → IsStep B.state B.history self.old m (event_from event.now) self.new line.new.bytes }
+    {
+        step(&mut self.parts, event, line);
+    }
+}

@@ -1,0 +1,115 @@
+//! Worked runs, proved by computing: each is the `ensures` of a function that does nothing.
+
+ghost use Rattle.std.specs.Prelude.{◌≡◌, ◌++◌, None, Some, [], ◌∷◌, codes, false, replicate, true};
+ghost use Rattle.boot_lines.specs.Examples.{ram_image};
+ghost use Rattle.boot_machine.specs.Boots.{decided_place, decided_steps, entered};
+ghost use Rattle.boot_machine.specs.CrashExamples.{plain_sector, running_trial, table_and_bare, whole_flash_of};
+ghost use Rattle.boot_machine.specs.Crashes.{settled_choice};
+ghost use Rattle.boot_machine.specs.Machines.{FromFlash, FromRam, InBootsel, Off, Running};
+ghost use Rattle.boot_machine.specs.Moves.{Moves, Plays, effect, lost_text};
+ghost use Rattle.boot_machine.specs.RunExamples.{arm_block, armed_with, asks_target, block_of, erase_both, erased, fresh_host, idle, image_bytes, image_in_a, loaded_host, lost_with, machine_at, pair_host, slot_two};
+ghost use Rattle.boot_machine.specs.Runs.{AnswersTarget, PlaysWriting};
+ghost use Rattle.boot_machine.specs.Serving.{Served, followed_by, ruling_on, table_of};
+ghost use Rattle.boot_rules.specs.Choosing.{decision_in};
+ghost use Rattle.boot_rules.specs.Examples.{empty_table, found_in};
+ghost use Rattle.boot_rules.specs.Targets.{target_of};
+ghost use Rattle.boot_script.specs.Events.{Happening};
+ghost use Rattle.pico_board.specs.Content.{Content};
+ghost use Rattle.pico_board.specs.Cuts.{cut_with};
+ghost use Rattle.pico_board.specs.Steps.{after, after_all};
+ghost use Rattle.pico_board.specs.declared.Step.TheVariants.{Erase, Program};
+ghost use Rattle.pico_board.specs.declared.boot.BootKind.{BootKind};
+ghost use Rattle.pico_board.specs.declared.boot.Cpu.{Cpu};
+ghost use Rattle.pico_board.specs.declared.boot.Cpu.TheVariants.{Arm};
+ghost use Rattle.picoboot_cmd.specs.Commands.{written};
+ghost use Rattle.picoboot_cmd.specs.Examples.{write_command};
+ghost use Rattle.ram_start.specs.Examples.{reboot_into};
+ghost use Rattle.ram_start.specs.Sram.{zero_ram};
+ghost use Rattle.uf2_place.specs.Blocks.{written as block_bytes};
+ghost use Rattle.uf2_place.specs.declared.answer.Ruling.TheVariants.{Begins};
+
+/// On a flash with an image in A of its pair, BOOTSEL answers B as the target of rp2350-arm-s, and
+/// no target for rp2040; the next block of rp2350-arm-s begins a download into B.
+pub fn an_answered_target()
+    ensures entered { entered image_in_a ≡ InBootsel pair_host }
+    ensures b { AnswersTarget image_in_a Arm pair_host (asks_target 0xe48bff59) [] 0xe48bff59
+        (Some (slot_two false)) }
+    ensures none { AnswersTarget image_in_a Arm pair_host (asks_target 0xe48bff56) [] 0xe48bff56
+        None }
+    ensures taken { ruling_on 262144 (table_of pair_host.found)
+        (target_of image_in_a (table_of pair_host.found) Arm 0xe48bff59) None
+        (arm_block 0x10000000 0) ≡ Begins (slot_two false) }
+{}
+
+/// A host writes an image of 28 bytes into the SRAM and starts it: the run, and its writes.
+pub fn a_run_into_ram()
+    ensures plays { Plays (machine_at erased (InBootsel fresh_host))
+        (Happening.Command (written (write_command 0x20000000 28)) image_bytes
+        ∷ Happening.Command (written (reboot_into 3 0x20000000 28)) [] ∷ [])
+        (machine_at erased (Running (FromRam ram_image)))
+        (codes "cmd 0x05 token=0x00000001 status=0"
+        ∷ (codes "cmd 0x0a token=0x00000001 status=0 boot start ram=0x20000000+0x0000001c "
+        ++ codes "block=0x00000008 pc=0x20000021 sp=0x20082000 limit=0x00000000 version=0.0 "
+        ++ codes "rollback=none trial=no") ∷ []) }
+    ensures writes { PlaysWriting (machine_at erased (InBootsel fresh_host)) []
+        (Happening.Command (written (write_command 0x20000000 28)) image_bytes ∷ [])
+        (machine_at erased (InBootsel loaded_host))
+        (codes "cmd 0x05 token=0x00000001 status=0" ∷ [])
+        (record { address = 0x20000000; bytes = image_bytes } ∷ []) }
+{}
+
+/// A cut that is told: it falls before a step of the command, or has steps left behind it.
+pub fn cuts_that_are_told()
+    ensures before { Moves (armed_with (Some (cut_with 0 false []))) erase_both (lost_with erased)
+        lost_text }
+    ensures second { Moves (armed_with (Some (cut_with 1 false []))) erase_both
+        (lost_with (after erased (Erase 0))) lost_text }
+    ensures behind { Moves (armed_with (Some (cut_with 3 false []))) erase_both
+        (record {
+          content = after (after erased (Erase 0)) (Erase 1);
+          armed = Some (Some (cut_with 1 false []));
+          cpu = Arm;
+          place = InBootsel idle;
+        }) (codes "cmd 0x03 token=0x00000001 status=0") }
+    ensures text { lost_text ≡ codes "power lost" }
+{}
+
+/// Power that comes back: BOOTSEL is entered with the content's table, or an image is started.
+pub fn power_that_comes_back()
+    ensures table { effect (machine_at table_and_bare Off) Happening.PowerOn ≡ record {
+      steps = [];
+      place = InBootsel (record {
+        found = Some (found_in 0 (empty_table false 0 0));
+        placing = None;
+        ram = zero_ram;
+      });
+      text = codes "boot bootsel no-image";
+    } }
+    ensures image { effect (machine_at (whole_flash_of (plain_sector 0)) Off) Happening.PowerOn
+        ≡ record {
+          steps = [];
+          place = Running (FromFlash (settled_choice running_trial));
+          text = codes "boot start window=0x00000000+0x00002000 block=0x00000008 pc=0x20000001 "
+              ++ codes "sp=0x20082000 limit=0x00000000 version=0.0 rollback=none trial=no";
+        } }
+{}
+
+/// A download that is done boots on what it has left: here it has erased the image.
+pub fn a_boot_after_a_download()
+    ensures event { effect (machine_at (whole_flash_of (plain_sector 0)) (InBootsel idle))
+        (Happening.Uf2 (block_bytes (block_of 0x2000 0x10000000 0 1 0xe48bff58))) ≡ record {
+          steps = Erase 0 ∷ Program 0 (replicate 256 0x55) ∷ [];
+          place = InBootsel fresh_host;
+          text = codes "uf2 0 done boot bootsel no-image";
+        } }
+    ensures steps { (c : Content) (cpu : Cpu) (s : Served) (kind : BootKind)
+        → (followed_by c cpu s (Some kind)).steps
+        ≡ s.steps ++ decided_steps (after_all c s.steps) cpu
+        (decision_in (after_all c s.steps) cpu kind) }
+    ensures place { (c : Content) (cpu : Cpu) (s : Served) (kind : BootKind)
+        → (followed_by c cpu s (Some kind)).place
+        ≡ decided_place (after_all c s.steps) (decision_in (after_all c s.steps) cpu kind) }
+    ensures none { (c : Content) (cpu : Cpu) (s : Served)
+        → followed_by c cpu s None
+        ≡ record { steps = s.steps; place = s.place; text = s.text } }
+{}

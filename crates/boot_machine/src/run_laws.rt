@@ -1,0 +1,229 @@
+//! Laws on runs of the machine. Each is a function that does nothing, whose contract is the law.
+
+ghost use Rattle.std.specs.Prelude.{◌≡◌, ◌≢◌, ◌↔◌, ◌⊎◌, ◌<◌, ℕ, All, Bool, List, None, Ok, Option, Some, [], ◌∷◌, codes, false, true, length};
+ghost use Rattle.std.specs.List.{AllByRecursion};
+ghost use Rattle.block_codec.specs.Words.{AreWords, bytes_of};
+ghost use Rattle.boot_lines.specs.Texts.{command_text, refused_text};
+ghost use Rattle.boot_machine.specs.Boots.{entered};
+ghost use Rattle.boot_machine.specs.Machines.{Host, InBootsel, Machine, Off};
+ghost use Rattle.boot_machine.specs.Moves.{IsDone, IsLost, Moves, MovesBy, Plays, armed_for, effect, lost_text};
+ghost use Rattle.boot_machine.specs.Runs.{AnswersTarget, BeginsDownload, IsFresh, IsBootIntoRam, PlaysWriting, StartsRam, served_by, with_cut};
+ghost use Rattle.boot_machine.specs.Serving.{followed, ruling_on, served, table_of, taken_in};
+ghost use Rattle.boot_rules.specs.Targets.{target_of};
+ghost use Rattle.boot_script.specs.Events.{Happening};
+ghost use Rattle.info_reply.specs.Infos.{target_words};
+ghost use Rattle.part_table.specs.Rights.{allowed_by};
+ghost use Rattle.part_table.specs.declared.Right.TheVariants.{BootWrite};
+ghost use Rattle.part_table.specs.declared.Target.{Target};
+ghost use Rattle.pico_board.specs.Content.{Content, IsContent};
+ghost use Rattle.pico_board.specs.Cuts.{Cut};
+ghost use Rattle.pico_board.specs.Steps.{IsStepIn};
+ghost use Rattle.pico_board.specs.declared.boot.BootKind.{BootKind};
+ghost use Rattle.pico_board.specs.declared.boot.Cpu.{Cpu};
+ghost use Rattle.picoboot_cmd.specs.Commands.{command_in};
+ghost use Rattle.picoboot_cmd.specs.declared.cmd.Cmd.{Cmd};
+ghost use Rattle.image_def.specs.declared.started.Started.{Started};
+ghost use Rattle.ram_start.specs.Serving.{is_ram_command};
+ghost use Rattle.ram_start.specs.Sram.{RamWrite, ram_after};
+ghost use Rattle.uf2_place.specs.Placement.{grown, sector_in};
+ghost use Rattle.uf2_place.specs.Rulings.{begun, is_within};
+ghost use Rattle.uf2_place.specs.declared.answer.PlaceFault.TheVariants.{NoTarget, NotPermitted, Outside};
+ghost use Rattle.uf2_place.specs.declared.block.Uf2.{Uf2};
+
+/// Where an info command is answered by the words of a target of a family, or by the one word 0,
+/// that is the family's target, or it has none, and no other target has these bytes. A block of the
+/// family that begins a download and is not skipped is taken or refused by it.
+pub fn answered_target()
+    ensures target { (c : Content) (cpu : Cpu) (host : Host) (command payload : List ℕ)
+        (family : ℕ) (answer : Option Target)
+        → AnswersTarget c cpu host command payload family answer
+        → target_of c (table_of host.found) cpu family ≡ answer }
+    ensures one { (a b : Option Target) → AreWords (target_words a) → AreWords (target_words b)
+        → bytes_of (target_words a) ≡ bytes_of (target_words b) → a ≡ b }
+    ensures ruling { (c : Content) (cpu : Cpu) (host : Host) (command payload : List ℕ)
+        (family : ℕ) (answer : Option Target) (bytes : List ℕ) (b : Uf2)
+        → AnswersTarget c cpu host command payload family answer
+        → BeginsDownload (length c.flash) host family bytes b
+        → ruling_on (length c.flash) (table_of host.found)
+        (target_of c (table_of host.found) cpu b.family) host.placing b
+        ≡ begun (table_of host.found) b answer }
+    ensures served { (c : Content) (cpu : Cpu) (host : Host) (command payload : List ℕ)
+        (family : ℕ) (answer : Option Target) (bytes : List ℕ) (b : Uf2)
+        → AnswersTarget c cpu host command payload family answer
+        → BeginsDownload (length c.flash) host family bytes b
+        → served c cpu host (Happening.Uf2 bytes) ≡ served_by host answer b }
+{}
+
+/// The same where the two events come one after the other. The info command leaves the machine as
+/// it is, and its line has the target's words. Without a target the block is refused; with one it
+/// is refused outside its window or where the sector may not be written, and otherwise it is the
+/// first one of a download into it.
+pub fn answered_target_is_taken()
+    ensures told { (m n : Machine) (host : Host) (command payload text : List ℕ) (family : ℕ)
+        (answer : Option Target)
+        → m.place ≡ InBootsel host
+        → AnswersTarget m.content m.cpu host command payload family answer
+        → Moves m (Happening.Command command payload) n text
+        → (n ≡ m) × ((cmd : Cmd) × (command_in command ≡ Ok cmd)
+        × (text ≡ command_text cmd 0 (bytes_of (target_words answer)))) }
+    ensures moves { (m n o : Machine) (host : Host) (command payload text bytes line : List ℕ)
+        (family : ℕ) (answer : Option Target) (b : Uf2)
+        → m.place ≡ InBootsel host
+        → AnswersTarget m.content m.cpu host command payload family answer
+        → BeginsDownload (length m.content.flash) host family bytes b
+        → Moves m (Happening.Command command payload) n text
+        → Moves n (Happening.Uf2 bytes) o line
+        → MovesBy m m.armed (followed m.content m.cpu (served_by host answer b)) o line }
+    ensures refused { (m n o : Machine) (host : Host) (command payload text bytes line : List ℕ)
+        (family : ℕ) (b : Uf2)
+        → m.place ≡ InBootsel host → AnswersTarget m.content m.cpu host command payload family None
+        → BeginsDownload (length m.content.flash) host family bytes b
+        → Moves m (Happening.Command command payload) n text
+        → Moves n (Happening.Uf2 bytes) o line
+        → (o ≡ m) × (line ≡ refused_text NoTarget) }
+    ensures outside { (m n o : Machine) (host : Host) (command payload text bytes line : List ℕ)
+        (family : ℕ) (t : Target) (b : Uf2)
+        → m.place ≡ InBootsel host
+        → AnswersTarget m.content m.cpu host command payload family (Some t)
+        → BeginsDownload (length m.content.flash) host family bytes b
+        → is_within t.window.len b ≡ false
+        → Moves m (Happening.Command command payload) n text
+        → Moves n (Happening.Uf2 bytes) o line
+        → (o ≡ m) × (line ≡ refused_text Outside) }
+    ensures forbidden { (m n o : Machine) (host : Host) (command payload text bytes line : List ℕ)
+        (family : ℕ) (t : Target) (b : Uf2)
+        → m.place ≡ InBootsel host
+        → AnswersTarget m.content m.cpu host command payload family (Some t)
+        → BeginsDownload (length m.content.flash) host family bytes b
+        → is_within t.window.len b ≡ true
+        → allowed_by (table_of host.found) (sector_in t.window b) BootWrite ≡ false
+        → Moves m (Happening.Command command payload) n text
+        → Moves n (Happening.Uf2 bytes) o line
+        → (o ≡ m) × (line ≡ refused_text NotPermitted) }
+    ensures taken { (m n o : Machine) (host : Host) (command payload text bytes line : List ℕ)
+        (family : ℕ) (t : Target) (b : Uf2)
+        → m.place ≡ InBootsel host
+        → AnswersTarget m.content m.cpu host command payload family (Some t)
+        → BeginsDownload (length m.content.flash) host family bytes b
+        → is_within t.window.len b ≡ true
+        → allowed_by (table_of host.found) (sector_in t.window b) BootWrite ≡ true
+        → Moves m (Happening.Command command payload) n text
+        → Moves n (Happening.Uf2 bytes) o line
+        → MovesBy m m.armed
+        (followed m.content m.cpu (taken_in host t (b ∷ []) b (grown t [] (b ∷ [])))) o line }
+{}
+
+/// Every run has the writes to the SRAM since BOOTSEL was entered, and in a run that begins without
+/// power or in BOOTSEL as it is entered, the SRAM is what they leave.
+pub fn ram_after_writes()
+    ensures runs { (m n : Machine) (before : List RamWrite) (events : List Happening)
+        (texts : List (List ℕ)) → Plays m events n texts
+        → ((behind : List RamWrite) × PlaysWriting m before events n texts behind) }
+    ensures plays { (m n : Machine) (before behind : List RamWrite) (events : List Happening)
+        (texts : List (List ℕ)) → PlaysWriting m before events n texts behind
+        → Plays m events n texts }
+    ensures ram { (m n : Machine) (behind : List RamWrite) (events : List Happening)
+        (texts : List (List ℕ)) (host : Host) → IsFresh m.place
+        → PlaysWriting m [] events n texts behind → n.place ≡ InBootsel host
+        → host.ram ≡ ram_after behind }
+{}
+
+/// In every run that begins without power or in BOOTSEL as it is entered, a machine that starts an
+/// image in RAM does so by a reboot command whose range holds that image, valid in what the writes
+/// since BOOTSEL was entered have left there, and not below its rollback rows. A RAM command does
+/// no step: it leaves the content and the armed cut.
+pub fn ram_start()
+    ensures starts { (m n o : Machine) (events : List Happening) (texts : List (List ℕ))
+        (event : Happening) (text : List ℕ) (s : Started)
+        → IsFresh m.place → Plays m events n texts → StartsRam n event o text s
+        → ((writes : List RamWrite) × PlaysWriting m [] events n texts writes
+        × IsBootIntoRam n.content n.cpu event writes s × (o.content ≡ n.content)) }
+    ensures any { (m n o : Machine) (events : List Happening) (texts : List (List ℕ))
+        (event : Happening) (text : List ℕ) (s : Started) (writes : List RamWrite)
+        → IsFresh m.place → PlaysWriting m [] events n texts writes → StartsRam n event o text s
+        → IsBootIntoRam n.content n.cpu event writes s × (o.content ≡ n.content) }
+    ensures keeps { (m n : Machine) (host : Host) (command payload text : List ℕ) (cmd : Cmd)
+        → m.place ≡ InBootsel host → command_in command ≡ Ok cmd → is_ram_command cmd ≡ true
+        → Moves m (Happening.Command command payload) n text
+        → (n.content ≡ m.content) × (n.armed ≡ m.armed) }
+{}
+
+/// Where the board tells its armed cut, a move is determined: there is one machine and one text.
+/// Where it does not, it does not tell one afterwards either.
+pub fn a_told_cut_decides()
+    ensures one { (m n o : Machine) (cut : Option Cut) (event : Happening) (text line : List ℕ)
+        → m.armed ≡ Some cut → Moves m event n text → Moves m event o line
+        → (n ≡ o) × (text ≡ line) }
+    ensures told { (m n : Machine) (cut : Option Cut) (event : Happening) (text : List ℕ)
+        → m.armed ≡ Some cut → Moves m event n text
+        → ((next : Option Cut) × (n.armed ≡ Some next)) }
+    ensures untold { (m n : Machine) (event : Happening) (text : List ℕ)
+        → m.armed ≡ None → Moves m event n text → n.armed ≡ None }
+{}
+
+/// There is a move for every machine and event: where the board does not tell its armed cut, the
+/// one with all steps done; where it tells that none is armed, that one alone; and where it tells a
+/// cut, whose pattern has bytes, and the steps lie in the content, the one that the cut decides.
+pub fn there_is_a_move()
+    ensures untold { (m : Machine) (event : Happening) → m.armed ≡ None
+        → ((n : Machine) × (text : List ℕ)
+        × IsDone m (armed_for m.armed event) (effect m event) n text) }
+    ensures unarmed { (m : Machine) (event : Happening) → armed_for m.armed event ≡ Some None
+        → ((n : Machine) × (text : List ℕ)
+        × IsDone m (armed_for m.armed event) (effect m event) n text) }
+    ensures alone { (m n : Machine) (event : Happening) (text : List ℕ)
+        → armed_for m.armed event ≡ Some None → Moves m event n text
+        → IsDone m (armed_for m.armed event) (effect m event) n text }
+    ensures armed { (m : Machine) (event : Happening) (cut : Cut)
+        → armed_for m.armed event ≡ Some (Some cut) → All (λ b. b < 256) cut.pattern
+        → IsContent m.content
+        → AllByRecursion (IsStepIn (length m.content.flash)) (effect m event).steps
+        → ((n : Machine) × (text : List ℕ) × Moves m event n text) }
+{}
+
+/// The text of a move is `power lost` exactly where power was lost in a step, and that is where a
+/// machine that had power is off. In an event without steps no power is lost.
+pub fn only_lost_power_says_so()
+    ensures text { (m n : Machine) (event : Happening) (text : List ℕ) → Moves m event n text
+        → (text ≡ lost_text) ↔ IsLost m (armed_for m.armed event) (effect m event) n text }
+    ensures off { (m n : Machine) (event : Happening) (text : List ℕ) → Moves m event n text
+        → m.place ≢ Off → n.place ≡ Off
+        → IsLost m (armed_for m.armed event) (effect m event) n text }
+    ensures no_step { (m n : Machine) (event : Happening) (text : List ℕ) → Moves m event n text
+        → (effect m event).steps ≡ []
+        → IsDone m (armed_for m.armed event) (effect m event) n text }
+{}
+
+/// Without power a machine stays as it is, but for a cut that is armed and for power that comes
+/// back. A cut is armed in any state, and leaves all else.
+pub fn without_power_nothing_is_done()
+    ensures stays { (m n : Machine) (event : Happening) (text : List ℕ) → m.place ≡ Off
+        → event ≢ Happening.PowerOn
+        → ((left : ℕ) (within : Bool) (pattern : List ℕ)
+        → event ≢ Happening.Cut left within pattern)
+        → Moves m event n text → n ≡ m }
+    ensures line { (m n : Machine) (event : Happening) (text : List ℕ) → m.place ≡ Off
+        → event ≢ Happening.PowerOn → event ≢ Happening.End
+        → ((left : ℕ) (within : Bool) (pattern : List ℕ)
+        → event ≢ Happening.Cut left within pattern)
+        → Moves m event n text → text ≡ codes "off" }
+    ensures cut { (m n : Machine) (left : ℕ) (within : Bool) (pattern text : List ℕ)
+        → Moves m (Happening.Cut left within pattern) n text
+        → (n ≡ with_cut m left within pattern) × (text ≡ codes "cut armed") }
+    ensures end { (m n : Machine) (text : List ℕ) → Moves m Happening.End n text
+        → (n ≡ m) × (text ≡ codes "end") }
+{}
+
+/// The table is found when BOOTSEL is entered, in the content that is there then, and kept until
+/// the next boot.
+pub fn the_table_is_kept()
+    ensures kept { (m n : Machine) (host other : Host) (event : Happening) (text : List ℕ)
+        → m.place ≡ InBootsel host → Moves m event n text → n.place ≡ InBootsel other
+        → (other.found ≡ host.found) ⊎ (InBootsel other ≡ entered n.content) }
+    ensures reset { (m n : Machine) (other : Host) (kind : BootKind) (text : List ℕ)
+        → m.place ≢ Off → Moves m (Happening.Reset kind) n text → n.place ≡ InBootsel other
+        → InBootsel other ≡ entered n.content }
+    ensures power { (m n : Machine) (other : Host) (text : List ℕ)
+        → m.place ≡ Off → Moves m Happening.PowerOn n text → n.place ≡ InBootsel other
+        → InBootsel other ≡ entered n.content }
+{}
