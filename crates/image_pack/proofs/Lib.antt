@@ -1,0 +1,11 @@
+pub mod PlanLemmas
+pub mod PartLemmas
+pub mod WithinLemmas
+pub mod RangeLemmas
+pub mod StreamLemmas
+pub mod FlashLemmas
+pub mod RowLemmas
+pub mod BoardLemmas
+pub mod FaultLemmas
+pub mod PlanLaws
+pub mod TextLaws

@@ -1,0 +1,26 @@
+-- A binary and specs that stand as worked examples. This project's own.
+use Rattle.std.specs.Prelude.{ℕ, Bool, List, [], ◌∷◌, ◌++◌, Option, replicate, pos}
+use Rattle.pico_board.specs.declared.boot.Cpu.{Cpu}
+use Rattle.block_codec.specs.Blocks.{frame}
+use Rattle.block_codec.specs.Words.{bytes_of}
+use Rattle.load_map.specs.declared.load.Load.{Load}
+use Rattle.image_pack.specs.declared.spec.SealSpec.{SealSpec}
+
+-- the least image for Arm: SP and PC, and its block at 0x114
+abbrev pub least_image : List ℕ
+least_image =
+    bytes_of (0x20082000 ∷ 0x10000201 ∷ replicate 67 0xffffffff ++ frame (0x10210142 ∷ []) (pos 0))
+
+-- a spec of version 1.9
+abbrev pub spec_of : Cpu → Bool → Option ℕ → List ℕ → SealSpec
+spec_of cpu trial rollback rows = record {
+  cpu = cpu;
+  version = record { major = 1; minor = 9 };
+  rollback = rollback;
+  rows = record { items = rows };
+  trial = trial;
+}
+
+-- a load of four bytes
+abbrev pub four_bytes : Option ℕ → ℕ → Load
+four_bytes storage runtime = record { storage = storage; runtime = runtime; size = 4 }

@@ -1,0 +1,9 @@
+pub mod Filling
+pub mod Plans
+pub mod Streams
+pub mod Sealing
+pub mod Within
+pub mod Flashes
+pub mod Faults
+pub mod Starting
+pub mod Examples

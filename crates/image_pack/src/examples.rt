@@ -1,0 +1,50 @@
+//! Worked examples of sealed images. Each is the `ensures` of a function that does nothing.
+
+ghost use Rattle.std.specs.Prelude.{◌≡◌, [], ◌∷◌, ◌++◌, true, false, None, Some, pos, replicate};
+ghost use Rattle.pico_board.specs.declared.boot.Cpu.TheVariants.{Arm, Riscv};
+ghost use Rattle.block_codec.specs.Blocks.{frame};
+ghost use Rattle.block_codec.specs.Words.{bytes_of};
+ghost use Rattle.image_pack.specs.Examples.{four_bytes, least_image, spec_of};
+ghost use Rattle.image_pack.specs.Sealing.{entry_words, front_items, own_loads, sealed_text};
+
+/// The least image for Arm, sealed with version 1.9: its block links to the new one, and that back
+/// to it.
+pub fn the_least_image_sealed()
+    ensures { sealed_text least_image (spec_of Arm false None [])
+        ≡ bytes_of (0x20082000 ∷ 0x10000201 ∷ replicate 67 0xffffffff
+        ++ frame (0x10210142 ∷ []) (pos 0x14)
+        ++ (0xffffded3 ∷ 0x10210142 ∷ 0x00000248 ∷ 0x00010009 ∷ 0x01000406 ∷ 0xfffffec8
+        ∷ 0x10000000 ∷ 0x128 ∷ 0x01000247 ∷ 0x0000000a ∷ 0x0000094b ∷ 0xeda62c5f ∷ 0x61a08060
+        ∷ 0xa84474d8 ∷ 0x44daa3aa ∷ 0x129c6b06 ∷ 0xaf45aed2 ∷ 0x3a33ea57 ∷ 0x8e4c4aff
+        ∷ 0x000012ff ∷ 0xffffffec ∷ 0xab123579 ∷ [])) }
+{}
+
+/// The items before the load map: of a trial image for RISC-V without rows; with one row, and with
+/// two, whose last word is filled with 0; and the copied item behind them.
+pub fn items_before_the_load_map()
+    ensures trial { front_items (spec_of Riscv true None []) true []
+        ≡ 0x91010142 ∷ 0x00000248 ∷ 0x00010009 ∷ [] }
+    ensures one_row { front_items (spec_of Arm false (Some 3) (0x0c0 ∷ [])) false []
+        ≡ 0x10210142 ∷ 0x01000348 ∷ 0x00010009 ∷ 0x00c00003 ∷ [] }
+    ensures two_rows { front_items (spec_of Arm false (Some 5) (0x0c0 ∷ 0x0c3 ∷ [])) false []
+        ≡ 0x10210142 ∷ 0x02000448 ∷ 0x00010009 ∷ 0x00c00005 ∷ 0x000000c3 ∷ [] }
+    ensures copied { front_items (spec_of Arm false None []) false (0x00000203 ∷ 0x10000100 ∷ [])
+        ≡ 0x10210142 ∷ 0x00000248 ∷ 0x00010009 ∷ 0x00000203 ∷ 0x10000100 ∷ [] }
+{}
+
+/// The loads of a new block behind 0x128 bytes: the image in place, and then those of the binary
+/// that go into SRAM, in order. One whose storage begins at the LOAD_MAP item becomes a clear one.
+pub fn the_loads_of_a_new_block()
+    ensures kept { own_loads 0x128 0x138 (four_bytes (Some 0x100) 0x20000000
+        ∷ four_bytes (Some 0x104) 0x10000104 ∷ four_bytes None 0x20081ffc
+        ∷ four_bytes None 0x20081ffd ∷ [])
+        ≡ record { storage = Some 0; runtime = 0x10000000; size = 0x128 }
+        ∷ four_bytes (Some 0x100) 0x20000000 ∷ four_bytes None 0x20081ffc ∷ [] }
+    ensures at_the_item { own_loads 0x128 0x138 (four_bytes (Some 0x138) 0x20000000 ∷ [])
+        ≡ record { storage = Some 0; runtime = 0x10000000; size = 0x128 }
+        ∷ four_bytes None 0x20000000 ∷ [] }
+    ensures words { entry_words 0x138 (four_bytes (Some 0x100) 0x20000000)
+        ≡ 0xffffffc8 ∷ 0x20000000 ∷ 4 ∷ [] }
+    ensures clear { entry_words 0x138 (four_bytes None 0x20000000)
+        ≡ 0 ∷ 0x20000000 ∷ 4 ∷ [] }
+{}

@@ -1,0 +1,46 @@
+//! Bytes filled with 0xff.
+
+ghost use Rattle.std.specs.Prelude.{◌≡◌, ◌≤◌, ◌<◌, ◌^◌, IfOk, OnOk, length};
+ghost use Rattle.image_pack.specs.Filling.{padded, round_up, whole_sectors, whole_words};
+
+use std::alloc::{AllocError, Global};
+
+/// The byte of erased flash.
+const ERASED: u8 = 0xff;
+
+/// The least multiple of m that is at least n.
+fn round_up(m: usize, n: usize) -> usize
+    requires some { 0 < m }
+    requires few { m ≤ 4096 }
+    requires small { n ≤ 16777216 }
+    ensures value { result ≡ round_up m n }
+{
+    m * ((n + (m - 1)) / m)
+}
+
+/// A copy of the bytes, with 0xff behind them up to so many bytes.
+pub(crate) fn padded(alloc: Global, bytes: &[u8], count: usize) -> Result<Vec<u8>, AllocError>
+    requires { length bytes.now ≤ count }
+    ensures { IfOk result (λ copy. copy.items ≡ padded count bytes.now) }
+{
+    let mut copy = Vec::new(alloc);
+    copy.extend_from_slice(bytes)?;
+    copy.resize(count, ERASED)?;
+    Ok(copy)
+}
+
+/// A copy of the bytes in whole words.
+pub(crate) fn whole_words(alloc: Global, bytes: &[u8]) -> Result<Vec<u8>, AllocError>
+    requires { length bytes.now ≤ 16777216 }
+    ensures { IfOk result (λ copy. copy.items ≡ whole_words bytes.now) }
+{
+    padded(alloc, bytes, round_up(4, bytes.len()))
+}
+
+/// A copy of the bytes in whole sectors.
+pub(crate) fn whole_sectors(alloc: Global, bytes: &[u8]) -> Result<Vec<u8>, AllocError>
+    requires { length bytes.now ≤ 16777216 }
+    ensures { IfOk result (λ copy. copy.items ≡ whole_sectors bytes.now) }
+{
+    padded(alloc, bytes, round_up(4096, bytes.len()))
+}

@@ -1,0 +1,168 @@
+//! Flashes that are made of a number, to be compared.
+
+ghost use Rattle.std.specs.Prelude.{◌≡◌, ◌+◌, ◌<◌, ◌≤◌, ◌^◌, ◌++◌, IfOk, OnOk, OnErr, length, All};
+ghost use Rattle.boot_script.specs.Written.{IsKept};
+ghost use Rattle.part_table.specs.Written.{AgreesWithFlags, written, written_size};
+ghost use Rattle.image_pack.specs.Filling.{padded};
+ghost use Rattle.image_pack.specs.Flashes.{generated, made_image, made_spec, made_table, plain_part};
+ghost use Rattle.image_pack.specs.Streams.{binary_of, least_bytes, next_of, stream};
+
+use crate::spec::SealSpec;
+use crate::text::{put_frame, put_words, sealed_text};
+use arrayvec::ArrayVec;
+use block_codec::Version;
+use part_table::{Partition, Table, TableWriteFault, write_table};
+use pico_board::Cpu;
+use std::alloc::{AllocError, Global};
+
+/// The number of stream bytes of a binary.
+const STREAM: usize = 199_972;
+
+/// The offset of the first image.
+const FIRST_AT: usize = 0x2000;
+
+/// The number of bytes from the first image to the second one.
+const FIRST_ROOM: usize = 0x40000;
+
+/// The number of bytes from the second image to the end of the flash.
+const SECOND_ROOM: usize = 0xbe000;
+
+/// The number that follows x in its stream.
+fn next_of(x: u32) -> u32
+    ensures { result ≡ next_of x }
+{
+    ((1_664_525 * u64::from(x) + 1_013_904_223) % 0x1_0000_0000) as u32
+}
+
+/// Appends so many bytes of the stream of a seed.
+fn put_stream(out: &mut Vec<u8>, seed: u32, count: usize) -> Result<(), AllocError>
+    ensures items { OnOk result (out.new.items ≡ out.old.items ++ stream count seed) }
+    ensures len { OnOk result (length out.new.items ≡ length out.old.items + count) }
+{
+    let mut x = seed;
+    for _i in 0..count {
+        x = next_of(x);
+        out.push((x / 0x100_0000) as u8)?;
+    }
+    Ok(())
+}
+
+/// Appends the least image for Arm: its vector bytes and its block.
+#[tactic(auto, unfolding(crate::specs::Streams::least_bytes, block_codec::specs::Blocks::frame))]
+fn put_least(out: &mut Vec<u8>) -> Result<(), AllocError>
+    ensures items { OnOk result (out.new.items ≡ out.old.items ++ least_bytes) }
+    ensures len { OnOk result (length out.new.items ≡ length out.old.items + 28) }
+{
+    put_words(out, &[0x2008_2000, 0x1000_0201])?;
+    put_frame(out, &[0x1021_0142], 0)
+}
+
+/// The binary of a seed.
+#[tactic(auto, unfolding(crate::specs::Streams::binary_of))]
+fn binary_of(alloc: Global, seed: u32) -> Result<Vec<u8>, AllocError>
+    ensures value { IfOk result (λ binary. binary.items ≡ binary_of seed) }
+    ensures len { IfOk result (λ binary. length binary.items ≡ 200000) }
+{
+    let mut binary = Vec::new(alloc);
+    put_least(&mut binary)?;
+    put_stream(&mut binary, seed, STREAM)?;
+    Ok(binary)
+}
+
+/// A spec for Arm of version 1.minor, without rows and no trial.
+fn made_spec(minor: u16) -> SealSpec
+    ensures { result ≡ made_spec minor }
+{
+    SealSpec {
+        cpu: Cpu::Arm,
+        version: Version { major: 1, minor },
+        rollback: None,
+        rows: ArrayVec::new(),
+        trial: false,
+    }
+}
+
+/// The sealed image of version 1.minor on the binary of a seed.
+#[tactic(auto, unfolding(crate::specs::Flashes::made_image))]
+fn made_image(alloc: Global, seed: u32, minor: u16) -> Result<Vec<u8>, AllocError>
+    ensures { IfOk result (λ image. image.items ≡ made_image seed minor) }
+{
+    let binary = binary_of(alloc, seed)?;
+    sealed_text(alloc, &binary, &made_spec(minor))
+}
+
+/// A partition of these words alone.
+fn plain_part(location: u32, flags: u32) -> Partition
+    ensures { result ≡ plain_part location flags }
+{
+    Partition {
+        location,
+        flags,
+        id: None,
+        families: ArrayVec::new(),
+        name: None,
+    }
+}
+
+/// The table of a made flash.
+#[tactic(auto, unfolding(crate::specs::Flashes::made_table))]
+fn made_table() -> Table
+    ensures { result ≡ made_table }
+{
+    let mut parts = ArrayVec::new();
+    parts.push(plain_part(0xfc08_2002, 0xfc02_0000));
+    parts.push(plain_part(0xfc10_2042, 0xfc02_0002));
+    Table {
+        version: Version { major: 1, minor: 0 },
+        singleton: false,
+        unpartitioned: 0xfc00_8000,
+        parts,
+    }
+}
+
+/// The bytes of the table of a made flash.
+fn table_text(alloc: Global) -> Result<Vec<u8>, AllocError>
+    ensures { IfOk result (λ text. text.items ≡ written made_table) }
+{
+    let mut text = Vec::new(alloc);
+    match write_table(alloc, &made_table(), &mut text) {
+        Ok(()) => Ok(text),
+        Err(TableWriteFault::Memory) => Err(AllocError),
+        Err(TableWriteFault::TooLong(_)) => unreachable!(),
+    }
+}
+
+/// Appends the bytes, with 0xff behind them up to so many bytes.
+fn put_padded(out: &mut Vec<u8>, bytes: &[u8], count: usize) -> Result<(), AllocError>
+    requires { count ≤ 16777216 }
+    ensures { OnOk result (out.new.items ≡ out.old.items ++ padded count bytes.now) }
+{
+    out.extend_from_slice(bytes)?;
+    let fill = count.saturating_sub(bytes.len());
+    out.resize(out.len() + fill, 0xff)
+}
+
+/// The flash of number n.
+fn flash_of(alloc: Global, n: u32) -> Result<Vec<u8>, AllocError>
+    ensures { IfOk result (λ flash. flash.items ≡ generated n) }
+{
+    let table = table_text(alloc)?;
+    let first = made_image(alloc, n, (n % 10) as u16)?;
+    let second = made_image(alloc, n.wrapping_add(1), (n / 10 % 10) as u16)?;
+    let mut flash = Vec::new(alloc);
+    put_padded(&mut flash, &table, FIRST_AT)?;
+    put_padded(&mut flash, &first, FIRST_ROOM)?;
+    put_padded(&mut flash, &second, SECOND_ROOM)?;
+    Ok(flash)
+}
+
+/// Appends the flash of number n: the table at 0, the sealed image of seed n and version
+/// 1.(n mod 10) at 0x2000, and that of seed n + 1 and version 1.((n / 10) mod 10) at 0x42000. Where
+/// there is no memory for it, the former bytes stay, and a part of the flash may stand behind them.
+pub fn generate(alloc: Global, n: u32, out: &mut Vec<u8>) -> Result<(), AllocError>
+    ensures ok { OnOk result (out.new.items ≡ out.old.items ++ generated n) }
+    ensures err { OnErr result (IsKept out.old.items out.new.items) }
+{
+    let flash = flash_of(alloc, n)?;
+    out.extend_from_slice(&flash)
+}

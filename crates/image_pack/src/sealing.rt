@@ -1,0 +1,153 @@
+//! Binaries to sealed images.
+
+ghost use Rattle.std.specs.Prelude.{◌≡◌, ◌≤◌, ◌++◌, ◌⊎◌, Err, IfErr, IfOk, IsErrOf, OnErr, OnOk, List, ℕ, length};
+ghost use Rattle.image_pack.specs.declared.spec.SealError.{SealError};
+ghost use Rattle.image_pack.specs.Faults.{IsRightSpec, IsSealFault, IsSealable, IsSealed, IsShort, block_bytes, block_offset};
+ghost use Rattle.image_pack.specs.Filling.{whole_words};
+ghost use Rattle.image_pack.specs.Sealing.{sealed_text};
+ghost use Rattle.image_pack.specs.Starting.{IsStartFault, StartsAt};
+
+use crate::judging::booted;
+use crate::parts::binary_parts;
+use crate::rows::wrong_field;
+use crate::spec::{SealError, SealSpec};
+use crate::text::sealed_text;
+use image_check::Why;
+use image_def::Started;
+use std::alloc::Global;
+
+/// The most bytes that an image may have.
+const MOST_BYTES: usize = 16_777_216;
+
+/// The most bytes that the block of an image definition may have.
+const MOST_BLOCK: usize = 384;
+
+/// The offset of the new block of a binary of this length.
+fn block_offset(binary: &[u8]) -> usize
+    requires { length binary.now ≤ 16777216 }
+    ensures value { result ≡ block_offset binary.now }
+    ensures small { result ≤ 16777216 }
+{
+    4 * ((binary.len() + 3) / 4)
+}
+
+/// Whether the spec is right and the binary may be sealed.
+fn check_binary(alloc: Global, binary: &[u8], spec: &SealSpec) -> Result<(), SealError>
+    requires { length binary.now ≤ 16777216 }
+    ensures ok { OnOk result (IsSealable binary.now spec.now) }
+    ensures fault { IfErr result
+        (λ e. IsSealFault binary.now spec.now e ⊎ (e ≡ SealError.Memory)) }
+{
+    if let Some(field) = wrong_field(spec) {
+        return Err(SealError::BadSpec(field));
+    }
+    match binary_parts(alloc, binary, spec.cpu) {
+        Ok(Ok(_)) => Ok(()),
+        Ok(Err(why)) => Err(SealError::Unsealable(why)),
+        Err(_) => Err(SealError::Memory),
+    }
+}
+
+/// Whether the sealed image and its new block are not too long.
+fn check_size(binary: &[u8], spec: &SealSpec, text: &[u8]) -> Result<(), SealError>
+    requires small { length binary.now ≤ 16777216 }
+    requires sealable { IsSealable binary.now spec.now }
+    requires text { text.now ≡ sealed_text binary.now spec.now }
+    ensures ok { OnOk result (IsShort binary.now spec.now) }
+    ensures fault { IfErr result (λ e. IsSealFault binary.now spec.now e) }
+{
+    let size = text.len().saturating_sub(block_offset(binary));
+    if text.len() > MOST_BYTES {
+        Err(SealError::TooLarge)
+    } else if size > MOST_BLOCK {
+        Err(SealError::BlockTooLong(size as u64))
+    } else {
+        Ok(())
+    }
+}
+
+/// Whether an image starts by the block at this offset.
+fn check_block(image: Result<Started, Why>, at: u32) -> Result<(), SealError>
+    ensures ok { OnOk result (StartsAt image at) }
+    ensures fault { IfErr result (λ e. IsStartFault image at e) }
+{
+    match image {
+        Ok(started) if started.block == at => Ok(()),
+        Ok(_) => Err(SealError::Displaced),
+        Err(why) => Err(SealError::NotBootable(why)),
+    }
+}
+
+/// The sealed image of a binary by a spec, or why there is none.
+fn judged_text(alloc: Global, binary: &[u8], spec: &SealSpec) -> Result<Vec<u8>, SealError>
+    requires { length binary.now ≤ 16777216 }
+    ensures text { IfOk result (λ text. text.items ≡ sealed_text binary.now spec.now) }
+    ensures sealed { OnOk result (IsSealed binary.now spec.now) }
+    ensures fault { IfErr result
+        (λ e. IsSealFault binary.now spec.now e ⊎ (e ≡ SealError.Memory)) }
+{
+    match check_binary(alloc, binary, spec) {
+        Ok(()) => {}
+        Err(error) => return Err(error),
+    }
+    let text = match sealed_text(alloc, binary, spec) {
+        Ok(text) => text,
+        Err(_) => return Err(SealError::Memory),
+    };
+    match check_size(binary, spec, &text) {
+        Ok(()) => {}
+        Err(error) => return Err(error),
+    }
+    let image = match booted(alloc, &text, spec.cpu) {
+        Ok(image) => image,
+        Err(_) => return Err(SealError::Memory),
+    };
+    match check_block(image, block_offset(binary) as u32) {
+        Ok(()) => Ok(text),
+        Err(error) => Err(error),
+    }
+}
+
+/// The same, with each fault told exactly where its condition holds.
+fn judged_exactly(alloc: Global, binary: &[u8], spec: &SealSpec) -> Result<Vec<u8>, SealError>
+    requires { length binary.now ≤ 16777216 }
+    ensures text { IfOk result (λ text. text.items ≡ sealed_text binary.now spec.now) }
+    ensures sealed { OnOk result (IsSealed binary.now spec.now) }
+    ensures fault { IfErr result
+        (λ e. IsSealFault binary.now spec.now e ⊎ (e ≡ SealError.Memory)) }
+    ensures refused { (e : SealError) → IsSealFault binary.now spec.now e
+        → IsErrOf result e ⊎ IsErrOf result SealError.Memory }
+{
+    judged_text(alloc, binary, spec)
+}
+
+/// Appends the sealed image of a binary by a spec, and answers the offset of the new block in it:
+/// the length of the binary in whole words. Each refusal comes exactly where its condition holds,
+/// which says that none before it does, but that want of memory may come in place of any. After a
+/// refusal `out` is unchanged.
+pub fn seal(
+    alloc: Global,
+    binary: &[u8],
+    spec: &SealSpec,
+    out: &mut Vec<u8>,
+) -> Result<u32, SealError>
+    requires { length binary.now ≤ 16777216 }
+    ensures appended { OnOk result
+        (out.new.items ≡ out.old.items ++ sealed_text binary.now spec.now) }
+    ensures offset { IfOk result (λ at. at ≡ block_offset binary.now) }
+    ensures sealed { OnOk result (IsSealed binary.now spec.now) }
+    ensures fault { IfErr result
+        (λ e. IsSealFault binary.now spec.now e ⊎ (e ≡ SealError.Memory)) }
+    ensures refused { (e : SealError) → IsSealFault binary.now spec.now e
+        → IsErrOf result e ⊎ IsErrOf result SealError.Memory }
+    ensures err { OnErr result (out.new.items ≡ out.old.items) }
+{
+    let text = match judged_exactly(alloc, binary, spec) {
+        Ok(text) => text,
+        Err(error) => return Err(error),
+    };
+    match out.extend_from_slice(&text) {
+        Ok(()) => Ok(block_offset(binary) as u32),
+        Err(_) => Err(SealError::Memory),
+    }
+}

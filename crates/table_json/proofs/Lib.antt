@@ -1,0 +1,6 @@
+mod ViewLemmas
+mod PlainLemmas
+mod RuleLemmas
+mod WordFields
+mod SaysLemmas
+mod FewFaults

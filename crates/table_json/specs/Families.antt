@@ -1,0 +1,78 @@
+-- Lists of UF2 families. The names are picotool's, the places of their bits this project's own.
+use Rattle.std.specs.Prelude.{ℕ, Bool, false, ◌+◌, ◌^◌, ◌||◌, if◌then◌else◌, List, [], ◌∷◌, length, nat_le, codes, bytes_eq, is_some, filter_map}
+use Rattle.std.specs.Prelude.{Option, None, Some, option_map, option_and_then}
+use Rattle.std.specs.Option.{option_map_or}
+use Rattle.std.specs.List.{list_any, list_all}
+use Rattle.arrayvec.specs.ArrayVec.{ArrayVec}
+use Rattle.serde_json.specs.Data.{Data}
+use Rattle.serde_json.specs.Find.{as_str}
+use Rattle.table_json.specs.declared.families.Families.{Families}
+use Rattle.table_json.specs.Forms.{number_below, values_in}
+
+-- the names of the six families that have a bit
+abbrev pub family_names : List (List ℕ)
+family_names =
+    codes "rp2040" ∷ codes "absolute" ∷ codes "data" ∷ codes "rp2350-arm-s"
+    ∷ codes "rp2350-riscv" ∷ codes "rp2350-arm-ns" ∷ []
+
+-- whether a value is the name of a family
+abbrev pub is_family_name : Data → Bool
+is_family_name d = option_map_or (λ text. list_any (bytes_eq text) family_names) (as_str d) false
+
+-- the number of another family
+abbrev pub family_number : Data → Option ℕ
+family_number d = number_below (2 ^ 32) d
+
+-- whether a value is a family
+abbrev pub is_family : Data → Bool
+is_family d = is_family_name d || is_some (family_number d)
+
+-- whether a value is this text
+abbrev pub is_text : List ℕ → Data → Bool
+is_text text d = option_map_or (λ found. bytes_eq found text) (as_str d) false
+
+-- a bit is set where a list names its family
+abbrev pub bit_if : Bool → ℕ → ℕ
+bit_if set bit = if set then bit else 0
+
+-- the six bits of a list
+abbrev pub family_bits : List Data → ℕ
+family_bits ds =
+    bit_if (list_any (is_text (codes "rp2040")) ds) 1
+    + bit_if (list_any (is_text (codes "absolute")) ds) 2
+    + bit_if (list_any (is_text (codes "data")) ds) 4
+    + bit_if (list_any (is_text (codes "rp2350-arm-s")) ds) 8
+    + bit_if (list_any (is_text (codes "rp2350-riscv")) ds) 16
+    + bit_if (list_any (is_text (codes "rp2350-arm-ns")) ds) 32
+
+-- the numbers of a list, in its order, at most three
+abbrev pub family_numbers : List Data → List ℕ
+family_numbers ds = filter_map family_number ds
+
+abbrev pub few_numbers : List Data → Option (ArrayVec ℕ)
+few_numbers ds =
+    if nat_le (length (family_numbers ds)) 3 then Some (record { items = family_numbers ds })
+    else None
+
+-- a list of names
+abbrev pub names_in : List Data → Option ℕ
+names_in ds = if list_all is_family_name ds then Some (family_bits ds) else None
+
+abbrev pub names_form : Data → Option ℕ
+names_form d = option_and_then names_in (values_in d)
+
+-- a list of names and numbers
+abbrev pub families_of : ℕ → ArrayVec ℕ → Families
+families_of six others = record { bits = six; numbers = others }
+
+abbrev pub families_in : List Data → Option Families
+families_in ds =
+    if list_all is_family ds then option_map (families_of (family_bits ds)) (few_numbers ds)
+    else None
+
+abbrev pub families_form : Data → Option Families
+families_form d = option_and_then families_in (values_in d)
+
+-- no family
+abbrev pub no_families : Families
+no_families = families_of 0 (record { items = [] })

@@ -1,0 +1,11 @@
+pub mod Steps
+pub mod Members
+pub mod Forms
+pub mod Families
+pub mod Partitions
+pub mod Tables
+pub mod Seals
+pub mod Rules
+pub mod Says
+pub mod Texts
+pub mod Examples

@@ -1,0 +1,87 @@
+//! The members of the objects of a text.
+
+ghost use Rattle.std.specs.Prelude.{◌≡◌, option_map};
+ghost use Rattle.serde_json.specs.Find.{get, as_object};
+ghost use Rattle.serde_json.specs.View.{view, members_view};
+ghost use Rattle.table_json.specs.Members.{is_listed, has_unknown, members_judged, object_judged, name_of, required, optional};
+
+use crate::{Field, JsonFault, Place};
+use serde_json::{Map, Value};
+
+/// The objects whose members are listed.
+#[derive(Clone, Copy, PartialEq, Eq)]
+pub(crate) enum Shape {
+    /// A table.
+    OfTable,
+    /// What a table says of the sectors that no partition has.
+    OfUnpartitioned,
+    /// A partition.
+    OfPartition,
+    /// Who may read and write.
+    OfPermissions,
+    /// The spec of a sealed image.
+    OfSpec,
+}
+
+/// Whether a name is listed for an object.
+fn is_listed(shape: Shape, name: &str) -> bool
+    ensures { result ≡ is_listed shape name.now }
+{
+    match shape {
+        Shape::OfTable => {
+            name == "version"
+                || name == "singleton"
+                || name == "unpartitioned"
+                || name == "partitions"
+        }
+        Shape::OfUnpartitioned => name == "families" || name == "permissions",
+        Shape::OfPartition => {
+            name == "first"
+                || name == "last"
+                || name == "families"
+                || name == "permissions"
+                || name == "id"
+                || name == "name"
+                || name == "link"
+                || name == "ignore_arm"
+                || name == "ignore_riscv"
+                || name == "no_reboot"
+        }
+        Shape::OfPermissions => name == "secure" || name == "nonsecure" || name == "bootloader",
+        Shape::OfSpec => {
+            name == "processor"
+                || name == "version"
+                || name == "rollback"
+                || name == "rows"
+                || name == "trial"
+        }
+    }
+}
+
+/// Whether a member is not listed for an object.
+pub(crate) fn has_unknown(shape: Shape, members: &Map<String, Value>) -> bool
+    ensures { result ≡ has_unknown shape (members_view members.now.entries) }
+{
+    for (name, _) in members.iter() {
+        if !is_listed(shape, name.as_str()) {
+            return true;
+        }
+    }
+    false
+}
+
+/// Value where there is no object, and Unknown where a member is not listed.
+pub(crate) fn judge_object(
+    value: &Value,
+    shape: Shape,
+    place: Place,
+    field: Field,
+) -> Result<(), JsonFault>
+    ensures { result ≡ object_judged shape place field (view value.now) }
+{
+    match value.as_object() {
+        None => Err(JsonFault::Value(place, field)),
+        Some(members) if has_unknown(shape, members) => Err(JsonFault::Unknown(place)),
+        Some(_) => Ok(()),
+    }
+}
