@@ -1,5 +1,5 @@
 #!/usr/bin/env python3
-"""Times the program beside `openssl dgst -sha256` on the same file.
+"""Times the program beside `openssl dgst -sha256` and `cat` on the same files.
 
     bench.py PROGRAM
 
@@ -8,6 +8,9 @@ all of it; `boot` has to start it. The second has a table of 15 partitions of 1 
 image; `info` has to find each of them valid. Their other bytes are pseudo-random, always the same
 ones. Each command runs seven times, and the least time counts. The time of a command is that of its
 whole process.
+
+`replay` plays a script of 65,536 UF2 blocks, which fill an erased flash of 16 MiB, beside `cat`,
+which reads the same files and writes as much. The most memory that a run of it had is told too.
 """
 
 import hashlib
@@ -20,6 +23,9 @@ import tempfile
 import time
 
 RUNS = 7
+MEASURE = """import resource, subprocess, sys
+subprocess.run(sys.argv[1:], stdout=subprocess.DEVNULL, check=True)
+print(resource.getrusage(resource.RUSAGE_CHILDREN).ru_maxrss)"""
 MIB = 1 << 20
 FLASH = 16 * MIB
 SECTOR = 4096
@@ -30,6 +36,9 @@ SECURE_ARM = 0x10210142  # IMAGE_TYPE: an executable for the Arm cores
 STACK, CODE = 0x20082000, 0x10000201  # the vector table: SP and PC
 FIRST_BLOCK = 0x114
 FLASH_START = 0x10000000
+PAGE = 256
+UF2_START, UF2_SECOND, UF2_END = 0x0A324655, 0x9E5D5157, 0x0AB16F30
+ABSOLUTE = 0xE48BFF57
 SEALED_WORDS = 22  # of a sealing block
 HASHED_WORDS = 10  # of it, before the digest
 
@@ -53,6 +62,18 @@ def sealed(size, seed):
     )
     digest = hashlib.sha256(bytes(body) + head).digest()
     return bytes(body) + head + words(0x94B) + digest + words(0x12FF, FIRST_BLOCK - at, END)
+
+
+def script():
+    """Power, one UF2 block for each page of the flash, of the family for absolute addresses, and the end."""
+    pages = random.Random(16).randbytes(FLASH)
+    count = FLASH // PAGE
+    records = [b"\4"]
+    for i in range(count):
+        page = pages[PAGE * i:PAGE * (i + 1)]
+        head = words(UF2_START, UF2_SECOND, 0x2000, FLASH_START + PAGE * i, PAGE, i, count, ABSOLUTE)
+        records.append(b"\2" + head + page + bytes(220) + words(UF2_END))
+    return b"".join(records) + b"\0"
 
 
 def table():
@@ -87,6 +108,12 @@ def least(command, wanted):
     return best
 
 
+def memory(command):
+    """The most memory of a run in MiB, measured from a small process, whose own is counted too."""
+    done = subprocess.run([sys.executable, "-c", MEASURE, *command], stdout=subprocess.PIPE, check=True)
+    return int(done.stdout) / 1024
+
+
 def row(name, program, openssl):
     print(f"{name}: {1000 * program:.1f} ms, openssl {1000 * openssl:.1f} ms, ratio {program / openssl:.2f}")
 
@@ -97,7 +124,9 @@ def main(arguments):
     program = os.path.abspath(arguments[0])
     with tempfile.TemporaryDirectory() as folder:
         paths = {}
-        for name, data in (("one", sealed(FLASH, 0)), ("many", partitioned()), ("otp", b"")):
+        files = (("one", sealed(FLASH, 0)), ("many", partitioned()), ("otp", b""),
+                 ("erased", b"\xff" * FLASH), ("script", script()))
+        for name, data in files:
             paths[name] = os.path.join(folder, name)
             with open(paths[name], "wb") as file:
                 file.write(data)
@@ -111,6 +140,13 @@ def main(arguments):
         many = least([program, "info", paths["many"], paths["otp"], "arm"],
                      lambda lines: len(lines) == 1 + PARTITIONS and all(" ok " in line for line in lines[1:]))
         row("info of 15 images of 1 MiB", many, digest("many"))
+        out_flash, out_otp = (os.path.join(folder, name) for name in ("out_flash", "out_otp"))
+        command = [program, "replay", paths["erased"], paths["otp"], "arm", paths["script"], out_flash, out_otp]
+        replay = least(command, lambda lines: lines[-2:] == [
+            "65536 uf2 65535 done boot bootsel no-image", "end state=bootsel"])
+        copy = least(["sh", "-c", 'cat "$0" "$1" "$2" > /dev/null; cat "$0" > "$3"; cat "$1" > "$4"',
+                      paths["erased"], paths["otp"], paths["script"], out_flash, out_otp], lambda lines: not lines)
+        print(f"replay of 65,536 blocks: {replay:.2f} s, cat {copy:.2f} s, {memory(command):.0f} MiB at most")
 
 
 if __name__ == "__main__":

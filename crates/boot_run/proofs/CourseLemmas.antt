@@ -10,6 +10,7 @@ use Rattle.boot_run.specs.declared.status.Status.TheVariants.{Memory}
 use Rattle.boot_run.specs.declared.course.InputWord.{InputWord}
 use Rattle.boot_run.specs.declared.course.OutFile.{OutFile}
 use Rattle.boot_run.specs.Forms.{limit_of}
+use Rattle.boot_run.specs.Replays.{AreBytes}
 use Rattle.boot_run.specs.Outcome.{Input, Outcome}
 use Rattle.pico_board.specs.Puts.{SinkState, Put}
 use Rattle.boot_run.specs.Courses.{ReadsIn, WritesOut, Finishes, Runs, was_read, no_room, unread_status}
@@ -35,16 +36,17 @@ module _ {S : Type 0} (state : S → StoreState) (history : S → List Access �
   -- the next input is read, and then the others
   pub reads-more : (inputs : List InputWord) (i : ℕ) (d : InputWord) (read more : List (List ℕ)) (old mid new : S)
       (bytes : List ℕ) (end : Result (List (List ℕ)) Status)
-      → i < length inputs
+      → i < length inputs → AreBytes bytes
       → Serves state history old (Reads (get_or inputs i d).name.now (limit_of (get_or inputs i d).form) (Ok bytes)) mid
       → more ≡ read ++ bytes ∷ []
       → ReadsIn state history (map input_from (drop (i + 1) inputs)) more mid end new
       → ReadsIn state history (map input_from (drop i inputs)) read old end new
-  reads-more inputs i d read more old mid new bytes end lt serves is rest =
+  reads-more inputs i d read more old mid new bytes end lt small serves is rest =
       subst (λ xs. ReadsIn state history (map input_from xs) read old end new) (sym (drop_more inputs i d lt))
       (inr (inr (
         bytes,
         mid,
+        small,
         serves,
         subst
             (λ m. ReadsIn state history (map input_from (drop (i + 1) inputs)) m mid end new) is rest,

@@ -1,9 +1,9 @@
 -- The first input that does not have its form.
 use Rattle.std.proofs.Common.{◌≡◌, List, ℕ, [], ◌∷◌, Option, Some, None, option_map, refl, subst}
 use Rattle.std.specs.Option.{option_or}
-use Rattle.boot_run.specs.declared.forms.Form.TheVariants.{Flash, Otp}
+use Rattle.boot_run.specs.declared.forms.Form.TheVariants.{Flash, Otp, Script}
 use Rattle.boot_run.specs.Forms.{HasForm, form_fault}
-use Rattle.boot_run.specs.Outcome.{Input, first_fault, flash_and_otp, named_fault, refused}
+use Rattle.boot_run.specs.Outcome.{Input, first_fault, flash_and_otp, flash_otp_script, named_fault, refused}
 use Rattle.boot_run.proofs.FormLemmas.{formed}
 
 -- inputs without bytes have no fault
@@ -38,4 +38,21 @@ both-formed flash otp read f o h is =
       formed Flash f (named-none (record { name = flash; form = Flash }) f first.0),
       formed Otp o
           (named-none (record { name = otp; form = Otp }) o second.0),
+    )
+
+-- a flash file, an OTP file and a script without a fault have their forms
+pub all-formed : (flash otp script : List ℕ) (read : List (List ℕ)) (f o s : List ℕ)
+    → first_fault (flash_otp_script flash otp script) read ≡ None → read ≡ (f ∷ o ∷ s ∷ [])
+    → HasForm Flash f × HasForm Otp o × HasForm Script s
+all-formed flash otp script read f o s h is =
+    let none : first_fault (flash_otp_script flash otp script) (f ∷ o ∷ s ∷ []) ≡ None =
+    subst (λ r. first_fault (flash_otp_script flash otp script) r ≡ None) is h in
+    let last = named_fault (record { name = script; form = Script }) s in
+    let rest = option_or (named_fault (record { name = otp; form = Otp }) o) (option_or last None) in
+    let first = or-none (named_fault (record { name = flash; form = Flash }) f) rest none in
+    let second = or-none (named_fault (record { name = otp; form = Otp }) o) (option_or last None) first.1 in
+    let third = or-none last None second.1 in (
+      formed Flash f (named-none (record { name = flash; form = Flash }) f first.0),
+      formed Otp o (named-none (record { name = otp; form = Otp }) o second.0),
+      formed Script s (named-none (record { name = script; form = Script }) s third.0),
     )

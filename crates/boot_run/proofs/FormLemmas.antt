@@ -4,9 +4,11 @@ use Rattle.std.proofs.lemmas.Bool.{ltb-true, ltb-false, lt-ltb, le-ltb, eqb-true
 use Rattle.std.proofs.lemmas.List.Elements.{All-cons, All-head, All-tail}
 use Rattle.pico_board.specs.Rows.{IsFirstWide}
 use Rattle.boot_run.specs.declared.forms.Form.{Form}
-use Rattle.boot_run.specs.declared.forms.Form.TheVariants.{Flash, Otp}
+use Rattle.boot_run.specs.declared.forms.Form.TheVariants.{Flash, Otp, Script}
 use Rattle.boot_run.specs.Texts.{hex_row}
 use Rattle.boot_run.specs.Forms.{limit_of, rows_of, HasForm, IsOwnFault, IsFault, wide_from, otp_fault, own_fault, form_fault}
+use Rattle.boot_run.specs.declared.forms.TheConstants.{RECORD_LIMIT}
+use Rattle.boot_run.proofs.ScriptLemmas.{script-formed, script-faulty, script-apart, script-exact}
 
 abbrev pub IsNarrow : List ℕ → Type 0
 IsNarrow rows = All (λ row. row < 2 ^ 24) rows
@@ -114,11 +116,13 @@ own-formed : (form : Form) (bytes : List ℕ) → length bytes ≤ limit_of form
 own-formed Flash [] few h = cc
 own-formed Flash (b ∷ bytes) few h = (λ (e : (b ∷ bytes) ≡ []). cc, few)
 own-formed Otp bytes few h = let o = otp-formed bytes h in (few, o.0, o.1)
+own-formed Script bytes few h = (few, script-formed RECORD_LIMIT bytes 0 h)
 
 own-faulty : (form : Form) (bytes fault : List ℕ) → own_fault form bytes ≡ Some fault → IsOwnFault form bytes fault
 own-faulty Flash [] fault h = let text : fault ≡ codes "empty" = cc in (refl, text)
 own-faulty Flash (b ∷ bytes) fault h = cc
 own-faulty Otp bytes fault h = otp-faulty bytes fault h
+own-faulty Script bytes fault h = script-faulty RECORD_LIMIT bytes 0 fault h
 
 -- a file without a fault has its form
 pub formed : (form : Form) (bytes : List ℕ) → form_fault form bytes ≡ None → HasForm form bytes
@@ -146,6 +150,8 @@ form-apart Otp bytes fault form (inl large) = let few = form.0 in let many = lar
 form-apart Otp bytes fault form (inr (few, inl (part, text))) = part form.1
 form-apart Otp bytes fault form (inr (few, inr (whole, row, wide, text))) =
     let small = form.2 row (0) wide.inside in let large = wide.wide in omega arith
+form-apart Script bytes fault form (inl large) = let few = form.0 in let many = large.0 in omega arith
+form-apart Script bytes fault form (inr (few, own)) = script-apart RECORD_LIMIT bytes 0 fault form.1 own
 
 -- a fault that the rules name is the one that is found
 otp-exact : (bytes fault : List ℕ) → IsOwnFault Otp bytes fault → otp_fault bytes ≡ Some fault
@@ -164,6 +170,7 @@ own-exact : (form : Form) (bytes fault : List ℕ) → IsOwnFault form bytes fau
 own-exact Flash [] fault own = ap Some (sym own.1)
 own-exact Flash (b ∷ bytes) fault own = let e : (b ∷ bytes) ≡ [] = own.0 in cc
 own-exact Otp bytes fault own = otp-exact bytes fault own
+own-exact Script bytes fault own = script-exact RECORD_LIMIT bytes 0 fault own
 
 pub fault-exact : (form : Form) (bytes fault : List ℕ) → IsFault form bytes fault → form_fault form bytes ≡ Some fault
 fault-exact form bytes fault (inl large) =

@@ -13,3 +13,7 @@ mod OutcomeLemmas
 mod RunLemmas
 mod OnlyLemmas
 mod ContentLemmas
+mod ScriptLemmas
+mod PlayLemmas
+mod TornLemmas
+mod ReplayLemmas

@@ -17,17 +17,19 @@ use Rattle.boot_rules.specs.Chosen.{Chosen}
 use Rattle.boot_rules.proofs.DecisionLemmas.{decision-chosen, chosen-decision}
 use Rattle.boot_run.specs.declared.status.Status.{Status}
 use Rattle.boot_run.specs.declared.status.Status.TheVariants.{Done, Bootsel}
-use Rattle.boot_run.specs.declared.forms.Form.TheVariants.{Flash, Otp}
-use Rattle.boot_run.specs.Commands.{Command, Boot, Info, OwnedData, Usage, Release}
-use Rattle.boot_run.specs.Forms.{HasForm, content_of}
-use Rattle.boot_run.specs.Texts.{line, decision_line, table_text, image_text}
-use Rattle.boot_run.specs.Works.{boot_work, info_work, data_work, window_line, windows_in, decided_data, data_line}
-use Rattle.boot_run.specs.Outcome.{Input, Outcome, inputs_of, flash_and_otp, refused, worked, first_fault, judged, command_outcome, outcome_on, outcome_found, found, found_next}
-use Rattle.boot_run.specs.Rules.{IsFirstFault, IsRefusal, decided_status, IsBootOf, IsLineOf, AreLinesOf, IsInfoOf, IsDataOf, Obeys, FallsOn}
+use Rattle.boot_run.specs.declared.forms.Form.TheVariants.{Flash, Otp, Script}
+use Rattle.boot_run.specs.Commands.{Command, Boot, Info, OwnedData, Replay, Usage, Release}
+use Rattle.boot_run.specs.Forms.{HasForm, content_of, events_read, script_events}
+use Rattle.boot_run.specs.Texts.{line, decision_line, table_text, image_text, event_lines, end_line}
+use Rattle.boot_run.specs.Works.{boot_work, info_work, data_work, replay_work, played_work, window_line, windows_in, decided_data, data_line, content_files}
+use Rattle.boot_run.specs.Outcome.{Input, Outcome, inputs_of, flash_and_otp, flash_otp_script, refused, worked, first_fault, judged, command_outcome, outcome_on, outcome_found, found, found_next}
+use Rattle.boot_run.specs.Rules.{IsFirstFault, IsRefusal, decided_status, IsBootOf, IsLineOf, AreLinesOf, IsInfoOf, IsDataOf, IsReplayOf, Obeys, FallsOn}
+use Rattle.boot_run.specs.Replays.{AreOfBytes, Played, played, powerless}
+use Rattle.boot_run.proofs.PlayLemmas.{plays-only}
 use Rattle.boot_run.proofs.FormLemmas.{fault-exact}
 use Rattle.boot_run.proofs.OutcomeLemmas.{no-fault}
 use Rattle.boot_run.proofs.RuleLemmas.{obeys, Judged, all_formed, one_faulty, judged-first}
-use Rattle.boot_run.proofs.RunLemmas.{no-first, decided, fall-status, worked-decided}
+use Rattle.boot_run.proofs.RunLemmas.{no-first, no-first_script, decided, fall-status, worked-decided}
 
 -- an outcome is its status, its text and its files
 same-outcome : (o : Outcome) (s : Status) (t : List ℕ) (files : List File) → o.status ≡ s → o.text ≡ t → o.files ≡ files
@@ -58,6 +60,17 @@ pair-only flash otp f g Right w o only (inl (name, fault, first, is)) =
     is ∙ sym (ap (λ j. judged j w) (first-exact (flash_and_otp flash otp) (f ∷ g ∷ []) name fault first))
 pair-only flash otp f g Right w o only (inr (flash_form, otp_form, right)) =
     only right ∙ sym (ap (λ j. judged j w) (no-first flash otp f g flash_form otp_form))
+
+-- the same of a flash file, an OTP file and a script
+triple-only : (flash otp script f g s : List ℕ) (Right : Outcome → Type 0) (w o : Outcome) → (Right o → o ≡ w)
+    → IsRefusal (flash_otp_script flash otp script) (f ∷ g ∷ s ∷ []) o
+    ⊎ (HasForm Flash f × HasForm Otp g × HasForm Script s × Right o)
+    → o ≡ judged (first_fault (flash_otp_script flash otp script) (f ∷ g ∷ s ∷ [])) w
+triple-only flash otp script f g s Right w o only (inl (name, fault, first, is)) =
+    is ∙ sym (ap (λ j. judged j w) (first-exact (flash_otp_script flash otp script) (f ∷ g ∷ s ∷ []) name fault first))
+triple-only flash otp script f g s Right w o only (inr (flash_form, otp_form, script_form, right)) =
+    only right
+    ∙ sym (ap (λ j. judged j w) (no-first_script flash otp script f g s flash_form otp_form script_form))
 
 boot-only : (c : Content) (cpu : Cpu) (kind : BootKind) (o : Outcome) → IsBootOf c cpu kind o
     → o ≡ worked (boot_work c cpu kind)
@@ -102,6 +115,26 @@ data-only c cpu kind o right =
       files = [];
     }) (fall-status (decision_in c cpu kind))))
 
+-- what was played, as an outcome
+told-replay : Played → List ℕ → List ℕ → Outcome
+told-replay p flash otp = record {
+  status = Done;
+  text = event_lines 0 p.texts ++ end_line p.last.place;
+  files = content_files flash otp p.last.content;
+}
+
+replay-only : (c : Content) (cpu : Cpu) (s flash otp : List ℕ) (o : Outcome) → IsReplayOf c cpu s flash otp o
+    → o ≡ worked (replay_work c cpu s flash otp)
+unfolding told-replay
+replay-only c cpu s flash otp o right =
+    let p = plays-only (powerless c cpu) None right.happened right.last right.texts refl right.plays in
+    let same : right.happened ≡ script_events s = sym (ap events_read right.reads) in
+    same-outcome o Done _ _ right.status right.text right.files
+    ∙ (ap (λ x. told-replay (record { last = x; texts = right.texts }) flash otp) p.machine
+    ∙ (ap (λ ts. told-replay (record { last = (played (powerless c cpu) right.happened).last; texts = ts }) flash otp)
+    p.lines
+    ∙ ap (λ es. told-replay (played (powerless c cpu) es) flash otp) same))
+
 abbrev pub IsOnly : Command → List (List ℕ) → Outcome → Type 0
 IsOnly command read o = Obeys command read o → o ≡ command_outcome command read
 
@@ -126,6 +159,14 @@ only (OwnedData flash otp cpu kind) (f ∷ g ∷ []) o =
 only (OwnedData flash otp cpu kind) [] o = λ right. absurd right
 only (OwnedData flash otp cpu kind) (f ∷ []) o = λ right. absurd right
 only (OwnedData flash otp cpu kind) (f ∷ g ∷ h ∷ read) o = λ right. absurd right
+only (Replay flash otp cpu script out_flash out_otp) (f ∷ g ∷ s ∷ []) o =
+    triple-only flash otp script f g s (IsReplayOf (content_of f g) cpu s out_flash out_otp)
+    (worked (replay_work (content_of f g) cpu s out_flash out_otp)) o
+    (replay-only (content_of f g) cpu s out_flash out_otp o)
+only (Replay flash otp cpu script out_flash out_otp) [] o = λ right. absurd right
+only (Replay flash otp cpu script out_flash out_otp) (f ∷ []) o = λ right. absurd right
+only (Replay flash otp cpu script out_flash out_otp) (f ∷ g ∷ []) o = λ right. absurd right
+only (Replay flash otp cpu script out_flash out_otp) (f ∷ g ∷ s ∷ t ∷ read) o = λ right. absurd right
 only Usage [] o = λ right. right
 only Usage (f ∷ read) o = λ right. absurd right
 only Release [] o = λ right. right
@@ -149,10 +190,11 @@ found-long files (input ∷ inputs) read h =
 
 -- the outcome on files that have all inputs is right
 pub whole-right : (command : Command) (files : List File) (read : List (List ℕ))
-    → found files (inputs_of command) ≡ Some read → Obeys command read (outcome_on (Some command) files)
-whole-right command files read there =
+    → found files (inputs_of command) ≡ Some read → AreOfBytes read
+    → Obeys command read (outcome_on (Some command) files)
+whole-right command files read there small =
     subst (Obeys command read) (sym (ap (outcome_found (Some command)) there))
-    (obeys command read (found-long files (inputs_of command) read there))
+    (obeys command read (found-long files (inputs_of command) read there) small)
 
 fall-then : (f g : List ℕ) (cpu : Cpu) (kind : BootKind) (d : Decision) → decision_in (content_of f g) cpu kind ≡ d
     → decided_status d ≡ Bootsel

@@ -150,8 +150,8 @@ are-found files [] [] are = record { whole = []; are = refl; is = refl; long = r
 are-found files [] (bytes ∷ read) are = absurd are
 are-found files (input ∷ inputs) [] are = absurd are
 are-found files (input ∷ inputs) (bytes ∷ read) are =
-    are-found-more files input inputs bytes read (file_of files input.name) refl are.0
-    (are-found files inputs read are.1)
+    are-found-more files input inputs bytes read (file_of files input.name) refl are.1
+    (are-found files inputs read are.2)
 
 -- the outcome of what is read of told files is that of the files
 pub outcome-told : (command : Option Command) (files : List File) (read : List (List ℕ))
@@ -168,9 +168,9 @@ pub not-lacking : (files : List File) (inputs : List Input) (read : List (List �
     → LacksOne (Some files) inputs → ⊥
 not-lacking files [] read are lacks = lacks
 not-lacking files (input ∷ inputs) [] are lacks = are
-not-lacking files (input ∷ inputs) (bytes ∷ read) are (inl none) = go (file_of files input.name) none are.0
+not-lacking files (input ∷ inputs) (bytes ∷ read) are (inl none) = go (file_of files input.name) none are.1
   where
     go : (here : Option (List ℕ)) → here ≡ None → IsSomeAnd here (λ b. bytes ≡ take (limit_of input.form + 1) b) → ⊥
     go None e reads = reads
     go (Some b) e reads = cc
-not-lacking files (input ∷ inputs) (bytes ∷ read) are (inr lacks) = not-lacking files inputs read are.1 lacks
+not-lacking files (input ∷ inputs) (bytes ∷ read) are (inr lacks) = not-lacking files inputs read are.2 lacks

@@ -75,12 +75,12 @@ module _ {S : Type 0} (state : S → StoreState) (history : S → List Access �
       absurd (not-both end read ReadFault is fails)
   all-read (input ∷ inputs) acc read old new end is (inr (inl (StoreMemory, serves, fails))) =
       absurd (not-both end read Memory is fails)
-  all-read (input ∷ inputs) acc read old new end is (inr (inr (bytes, mid, serves, rest))) =
+  all-read (input ∷ inputs) acc read old new end is (inr (inr (bytes, mid, small, serves, rest))) =
       let r = all-read inputs (acc ++ bytes ∷ []) read mid new end is rest in record {
         more = bytes ∷ r.more;
         is = r.is ∙ append_assoc acc (bytes ∷ []) r.more;
         long = ap suc r.long;
-        are = (serves.shows.bytes, subst (λ files. AreRead files inputs r.more) serves.shows.files r.are);
+        are = (small, serves.shows.bytes, subst (λ files. AreRead files inputs r.more) serves.shows.files r.are);
         files = r.files ∙ serves.shows.files;
         goes = goes-more (state old) (state mid) (state new) (goes-one (state old) (state mid) serves.counts) r.goes;
         calls = (mid, serves, r.calls);
@@ -118,7 +118,7 @@ module _ {S : Type 0} (state : S → StoreState) (history : S → List Access �
   )
   not-read (input ∷ inputs) acc old new end status is (inr (inl (StoreMemory, serves, fails))) =
       (no_memory (status-of end status Memory is fails), serves.shows.files)
-  not-read (input ∷ inputs) acc old new end status is (inr (inr (bytes, mid, serves, rest))) =
+  not-read (input ∷ inputs) acc old new end status is (inr (inr (bytes, mid, small, serves, rest))) =
       let r = not-read inputs (acc ++ bytes ∷ []) mid new end status is rest in (
         not-read-more input inputs old mid new status serves.shows.files
             (goes-one (state old) (state mid) serves.counts) r.0,

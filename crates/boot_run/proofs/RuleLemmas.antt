@@ -1,7 +1,8 @@
 -- The outcome of each command is right by the rules.
-use Rattle.std.proofs.Common.{◌≡◌, ◌⊎◌, ◌↔◌, ℕ, Bool, true, false, List, [], ◌∷◌, length, Option, Some, None, Result, Ok, Err, option_map, refl, sym, ap, subst, inl, inr, arith}
+use Rattle.std.proofs.Common.{◌≡◌, ◌⊎◌, ◌↔◌, ℕ, ◌-◌, ◌<◌, replicate, ◌∙◌, Bool, true, false, List, [], ◌∷◌, length, Option, Some, None, Result, Ok, Err, option_map, refl, sym, ap, subst, inl, inr, arith}
 use Rattle.std.specs.List.{flat_map}
 use Rattle.std.specs.Option.{option_or}
+use Rattle.std.proofs.lemmas.List.Elements.{All-append, All-replicate}
 use Rattle.pico_board.specs.declared.boot.Cpu.{Cpu}
 use Rattle.pico_board.specs.declared.boot.BootKind.{BootKind}
 use Rattle.pico_board.specs.declared.window.Window.{Window}
@@ -17,14 +18,20 @@ use Rattle.boot_rules.specs.Choosing.{decision_in}
 use Rattle.boot_rules.specs.Chosen.{Chosen}
 use Rattle.boot_rules.proofs.DecisionLemmas.{decision-chosen, chosen-not_below}
 use Rattle.boot_run.specs.declared.status.Status.TheVariants.{Input as Refused}
-use Rattle.boot_run.specs.declared.forms.Form.TheVariants.{Flash, Otp}
-use Rattle.boot_run.specs.Commands.{Command, Boot, Info, OwnedData, Usage, Release}
-use Rattle.boot_run.specs.Forms.{HasForm, form_fault, content_of}
-use Rattle.boot_run.specs.Works.{is_fall, boot_work, info_work, data_work, window_line, windows_in}
-use Rattle.boot_run.specs.Outcome.{Input, Outcome, inputs_of, flash_and_otp, refused, worked, work_of, files_work, answered_status, first_fault, judged, command_outcome}
+use Rattle.boot_run.specs.declared.forms.Form.TheVariants.{Flash, Otp, Script}
+use Rattle.boot_run.specs.Commands.{Command, Boot, Info, OwnedData, Replay, Usage, Release}
+use Rattle.boot_run.specs.Forms.{HasForm, form_fault, content_of, filled, filled_length, events_read, script_events}
+use Rattle.boot_run.specs.Works.{is_fall, boot_work, info_work, data_work, replay_work, window_line, windows_in}
+use Rattle.boot_run.specs.Outcome.{Input, Outcome, inputs_of, flash_and_otp, flash_otp_script, refused, worked, work_of, files_work, script_work, answered_status, first_fault, judged, command_outcome}
 use Rattle.boot_run.specs.Texts.{line, image_text}
-use Rattle.boot_run.specs.Rules.{IsFirstFault, AreFormed, IsRefused, IsRefusal, decided_status, IsBootOf, IsLineOf, AreLinesOf, IsInfoOf, IsDataOf, Obeys}
+use Rattle.boot_run.specs.Rules.{IsFirstFault, AreFormed, IsRefused, IsRefusal, decided_status, IsBootOf, IsLineOf, AreLinesOf, IsInfoOf, IsDataOf, IsReplayOf, Obeys}
+use Rattle.boot_script.specs.declared.event.ScriptFault.{ScriptFault}
+use Rattle.boot_script.specs.Events.{Happening}
+use Rattle.boot_script.specs.Scripts.{events}
+use Rattle.boot_run.specs.Replays.{AreBytes, AreOfBytes, played, powerless}
 use Rattle.boot_run.proofs.FormLemmas.{formed, faulty, form-apart}
+use Rattle.boot_run.proofs.ScriptLemmas.{events-ended}
+use Rattle.boot_run.proofs.TornLemmas.{played-plays, script-bytes}
 
 -- the inputs have their forms, or the first one that does not is named
 pub data Judged (inputs : List Input) (read : List (List ℕ)) : Option Outcome → Type 0 where
@@ -106,12 +113,62 @@ pair-obeys : (flash otp f g : List ℕ) (Right : Outcome → Type 0) (w : Outcom
 pair-obeys flash otp f g Right w right None (all_formed all) = inr (all.0, all.1.0, right)
 pair-obeys flash otp f g Right w right (Some _) (one_faulty name fault first) = inl (name, fault, first, refl)
 
+-- a command on a flash file, an OTP file and a script
+triple-obeys : (flash otp script f g s : List ℕ) (Right : Outcome → Type 0) (w : Outcome)
+    → (HasForm Script s → Right w) → (o : Option Outcome)
+    → Judged (flash_otp_script flash otp script) (f ∷ g ∷ s ∷ []) o
+    → IsRefusal (flash_otp_script flash otp script) (f ∷ g ∷ s ∷ []) (judged o w)
+    ⊎ (HasForm Flash f × HasForm Otp g × HasForm Script s × Right (judged o w))
+triple-obeys flash otp script f g s Right w right None (all_formed all) =
+    inr (all.0, all.1.0, all.1.1.0, right all.1.1.0)
+triple-obeys flash otp script f g s Right w right (Some _) (one_faulty name fault first) =
+    inl (name, fault, first, refl)
+
+-- a flash that is filled is of bytes
+filled-bytes : (f : List ℕ) → AreBytes f → AreBytes (filled f)
+unfolding filled
+filled-bytes f small =
+    All-append (λ b. b < 256) f (replicate (filled_length (length f) - length f) 255) small
+    (All-replicate (λ b. b < 256) (filled_length (length f) - length f) 255 (omega arith))
+
+script-read : (r : Result (List Happening) ScriptFault) (es : List Happening) → r ≡ Ok es → r ≡ Ok (events_read r)
+script-read r es is = is ∙ ap (λ x. Ok (events_read x)) (sym is)
+
+replay-right : (f g s out_flash out_otp : List ℕ) (cpu : Cpu) → AreBytes f → AreBytes s → HasForm Script s
+    → IsReplayOf (content_of f g) cpu s out_flash out_otp
+    (worked (replay_work (content_of f g) cpu s out_flash out_otp))
+replay-right f g s out_flash out_otp cpu small of form =
+    let ended = form.1 in
+    let reads : events s ≡ Ok (script_events s) =
+    script-read (events s) ended.happened
+    (events-ended s 0 ended.happened ended.last ended.next ended.before ended.ends) in record {
+      happened = script_events s;
+      reads = reads;
+      last = (played (powerless (content_of f g) cpu) (script_events s)).last;
+      texts = (played (powerless (content_of f g) cpu) (script_events s)).texts;
+      plays = played-plays (powerless (content_of f g) cpu) (script_events s)
+          (record { cut = None; told = refl; pattern = tt; flash = filled-bytes f small })
+          (script-bytes s (script_events s) of reads);
+      status = refl;
+      text = refl;
+      files = refl;
+    }
+
 -- a list of two
 pub two : (read : List (List ℕ)) → length read ≡ 2 → (a : List ℕ) × (b : List ℕ) × (read ≡ (a ∷ b ∷ []))
 two [] long = absurd (omega arith)
 two (a ∷ []) long = absurd (omega arith)
 two (a ∷ b ∷ []) long = (a, b, refl)
 two (a ∷ b ∷ c ∷ read) long = absurd (omega arith)
+
+-- a list of three
+pub three : (read : List (List ℕ)) → length read ≡ 3
+    → (a : List ℕ) × (b : List ℕ) × (c : List ℕ) × (read ≡ (a ∷ b ∷ c ∷ []))
+three [] long = absurd (omega arith)
+three (a ∷ []) long = absurd (omega arith)
+three (a ∷ b ∷ []) long = absurd (omega arith)
+three (a ∷ b ∷ c ∷ []) long = (a, b, c, refl)
+three (a ∷ b ∷ c ∷ d ∷ read) long = absurd (omega arith)
 
 abbrev pub IsRight : Command → List (List ℕ) → Type 0
 IsRight command read = Obeys command read (command_outcome command read)
@@ -135,22 +192,36 @@ data-obeys flash otp f g cpu kind =
     (data-right (content_of f g) cpu kind)
     (first_fault (flash_and_otp flash otp) (f ∷ g ∷ [])) (judged-first (flash_and_otp flash otp) (f ∷ g ∷ []) refl)
 
+replay-obeys : (flash otp script out_flash out_otp f g s : List ℕ) (cpu : Cpu) → AreOfBytes (f ∷ g ∷ s ∷ [])
+    → IsRight (Replay flash otp cpu script out_flash out_otp) (f ∷ g ∷ s ∷ [])
+replay-obeys flash otp script out_flash out_otp f g s cpu small =
+    triple-obeys flash otp script f g s (IsReplayOf (content_of f g) cpu s out_flash out_otp)
+    (worked (replay_work (content_of f g) cpu s out_flash out_otp))
+    (λ form. replay-right f g s out_flash out_otp cpu small.0 small.1.1.0 form)
+    (first_fault (flash_otp_script flash otp script) (f ∷ g ∷ s ∷ []))
+    (judged-first (flash_otp_script flash otp script) (f ∷ g ∷ s ∷ []) refl)
+
 -- without inputs there is no fault
 none-obeys : (command : Command) (read : List (List ℕ)) → length read ≡ 0 → IsRight command [] → IsRight command read
 none-obeys command [] long right = right
 none-obeys command (bytes ∷ read) long right = absurd (omega arith)
 
 -- the outcome of each command on the bytes of its inputs is right by the rules
-pub obeys : (command : Command) (read : List (List ℕ)) → length read ≡ length (inputs_of command) → IsRight command read
-obeys (Boot flash otp cpu kind) read long =
+pub obeys : (command : Command) (read : List (List ℕ)) → length read ≡ length (inputs_of command) → AreOfBytes read
+    → IsRight command read
+obeys (Boot flash otp cpu kind) read long small =
     let r = two read long in subst (IsRight (Boot flash otp cpu kind)) (sym r.2) (boot-obeys flash otp r.0 r.1 cpu kind)
-obeys (Info flash otp cpu) read long =
+obeys (Info flash otp cpu) read long small =
     let r = two read long in subst (IsRight (Info flash otp cpu)) (sym r.2) (info-obeys flash otp r.0 r.1 cpu)
-obeys (OwnedData flash otp cpu kind) read long =
+obeys (OwnedData flash otp cpu kind) read long small =
     let r = two read long in subst (IsRight (OwnedData flash otp cpu kind)) (sym r.2)
     (data-obeys flash otp r.0 r.1 cpu kind)
-obeys Usage read long = none-obeys Usage read long refl
-obeys Release read long = none-obeys Release read long refl
+obeys (Replay flash otp cpu script out_flash out_otp) read long small =
+    let r = three read long in
+    subst (IsRight (Replay flash otp cpu script out_flash out_otp)) (sym r.3)
+    (replay-obeys flash otp script out_flash out_otp r.0 r.1 r.2 cpu (subst AreOfBytes r.3 small))
+obeys Usage read long small = none-obeys Usage read long refl
+obeys Release read long small = none-obeys Release read long refl
 
 -- inputs that have their forms have no fault
 first-apart : (inputs : List Input) (read : List (List ℕ)) (name fault : List ℕ) → AreFormed inputs read
@@ -175,14 +246,25 @@ files-not_refused (Boot flash otp cpu kind) (f ∷ g ∷ []) h =
 files-not_refused (Info flash otp cpu) (f ∷ g ∷ []) h = cc
 files-not_refused (OwnedData flash otp cpu kind) (f ∷ g ∷ []) h =
     answer-not_refused (is_fall (decision_in (content_of f g) cpu kind)) h
+files-not_refused (Replay flash otp cpu script out_flash out_otp) (f ∷ g ∷ []) h = cc
 files-not_refused Usage (f ∷ g ∷ []) h = cc
 files-not_refused Release (f ∷ g ∷ []) h = cc
 files-not_refused command (f ∷ g ∷ h ∷ read) e = cc
+
+script-not_refused : (cpu : Cpu) (out_flash out_otp : List ℕ) (read : List (List ℕ))
+    → (worked (script_work cpu out_flash out_otp read)).status ≡ Refused → ⊥
+script-not_refused cpu out_flash out_otp [] h = cc
+script-not_refused cpu out_flash out_otp (f ∷ []) h = cc
+script-not_refused cpu out_flash out_otp (f ∷ g ∷ []) h = cc
+script-not_refused cpu out_flash out_otp (f ∷ g ∷ s ∷ []) h = cc
+script-not_refused cpu out_flash out_otp (f ∷ g ∷ s ∷ t ∷ read) h = cc
 
 work-not_refused : (command : Command) (read : List (List ℕ)) → (worked (work_of command read)).status ≡ Refused → ⊥
 work-not_refused (Boot flash otp cpu kind) read h = files-not_refused (Boot flash otp cpu kind) read h
 work-not_refused (Info flash otp cpu) read h = files-not_refused (Info flash otp cpu) read h
 work-not_refused (OwnedData flash otp cpu kind) read h = files-not_refused (OwnedData flash otp cpu kind) read h
+work-not_refused (Replay flash otp cpu script out_flash out_otp) read h =
+    script-not_refused cpu out_flash out_otp read h
 work-not_refused Usage read h = cc
 work-not_refused Release read h = cc
 

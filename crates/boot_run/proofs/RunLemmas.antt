@@ -16,12 +16,13 @@ use Rattle.boot_rules.specs.Chosen.{Chosen}
 use Rattle.boot_rules.proofs.DecisionLemmas.{chosen-decision, chosen-not_below}
 use Rattle.boot_run.specs.declared.status.Status.{Status}
 use Rattle.boot_run.specs.declared.status.Status.TheVariants.{Words, Input as Refused, ReadFault, WriteFault, OutputFault, Memory}
-use Rattle.boot_run.specs.declared.forms.Form.TheVariants.{Flash, Otp}
+use Rattle.boot_run.specs.declared.forms.Form.TheVariants.{Flash, Otp, Script}
 use Rattle.boot_run.specs.Commands.{Command, Boot}
 use Rattle.boot_run.specs.Forms.{HasForm, content_of}
 use Rattle.boot_run.specs.Texts.{decision_line}
 use Rattle.boot_run.specs.Works.{boot_work, is_fall}
-use Rattle.boot_run.specs.Outcome.{Outcome, inputs_of, inputs_in, flash_and_otp, outcome_in, outcome_on, outcome_found, found, found_next, command_outcome, worked, judged, first_fault, refused, answered_status, is_finished}
+use Rattle.boot_run.specs.Outcome.{Outcome, Input, inputs_of, inputs_in, flash_and_otp, flash_otp_script, outcome_in, outcome_on, outcome_found, found, found_next, command_outcome, worked, judged, first_fault, refused, answered_status, is_finished}
+use Rattle.boot_run.specs.Replays.{AreOfBytes}
 use Rattle.boot_run.specs.Rules.{Obeys, IsRefused, decided_status}
 use Rattle.boot_run.specs.Ends.{AreRead, LacksOne, Does, IsAsTold, LeftAt}
 use Rattle.boot_run.proofs.RuleLemmas.{obeys, refused-exactly}
@@ -49,6 +50,25 @@ no-first flash otp f g flash_form otp_form =
     ap (λ o. option_or (option_map (refused flash) o) (first_fault (record { name = otp; form = Otp } ∷ []) (g ∷ [])))
     (no-fault Flash f flash_form)
     ∙ ap (λ o. option_or (option_map (refused otp) o) None) (no-fault Otp g otp_form)
+
+-- the same of three files
+pub no-first_script : (flash otp script f g s : List ℕ) → HasForm Flash f → HasForm Otp g → HasForm Script s
+    → first_fault (flash_otp_script flash otp script) (f ∷ g ∷ s ∷ []) ≡ None
+no-first_script flash otp script f g s flash_form otp_form script_form =
+    ap (λ o. option_or (option_map (refused flash) o)
+    (first_fault (record { name = otp; form = Otp } ∷ record { name = script; form = Script } ∷ []) (g ∷ s ∷ [])))
+    (no-fault Flash f flash_form)
+    ∙ (ap (λ o. option_or (option_map (refused otp) o)
+    (first_fault (record { name = script; form = Script } ∷ []) (s ∷ []))) (no-fault Otp g otp_form)
+    ∙ ap (λ o. option_or (option_map (refused script) o) None) (no-fault Script s script_form))
+
+-- what was read is of bytes
+pub read-bytes : (files : Option (List File)) (inputs : List Input) (read : List (List ℕ)) → AreRead files inputs read
+    → AreOfBytes read
+read-bytes files [] [] are = tt
+read-bytes files [] (bytes ∷ read) are = absurd are
+read-bytes files (input ∷ inputs) [] are = absurd are
+read-bytes files (input ∷ inputs) (bytes ∷ read) are = (are.0, read-bytes files inputs read are.2)
 
 -- the outcome of a boot on told files that have their forms is the decision that the rules name
 pub boot-told : (flash otp f g : List ℕ) (cpu : Cpu) (kind : BootKind) (files : List File) (d : Decision)
@@ -183,7 +203,7 @@ module _ {S : Type 0} (state : S → StoreState) (history : S → List Access �
       record {
         read = f.read;
         o = command_outcome c f.read;
-        right = obeys c f.read long;
+        right = obeys c f.read long (read-bytes (state old).files (inputs_in command) f.read f.are);
         answer = is;
         input = (λ e. exactly.0 (sym is ∙ e), λ r. is ∙ exactly.1 r);
         does = subst

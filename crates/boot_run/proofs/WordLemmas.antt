@@ -31,11 +31,13 @@ hex-stops digits i n lt is =
 
 -- words of another number are no command
 pub no_command : (words : List (String Global)) → length words ≢ 1 → length words ≢ 4 → length words ≢ 5
-    → command_of (map string_bytes words) ≡ None
-no_command [] one four five = refl
-no_command (a ∷ []) one four five = absurd (one refl)
-no_command (a ∷ b ∷ []) one four five = refl
-no_command (a ∷ b ∷ c ∷ []) one four five = refl
-no_command (a ∷ b ∷ c ∷ d ∷ []) one four five = absurd (four refl)
-no_command (a ∷ b ∷ c ∷ d ∷ e ∷ []) one four five = absurd (five refl)
-no_command (a ∷ b ∷ c ∷ d ∷ e ∷ f ∷ words) one four five = refl
+    → length words ≢ 7 → command_of (map string_bytes words) ≡ None
+no_command [] one four five seven = refl
+no_command (a ∷ []) one four five seven = absurd (one refl)
+no_command (a ∷ b ∷ []) one four five seven = refl
+no_command (a ∷ b ∷ c ∷ []) one four five seven = refl
+no_command (a ∷ b ∷ c ∷ d ∷ []) one four five seven = absurd (four refl)
+no_command (a ∷ b ∷ c ∷ d ∷ e ∷ []) one four five seven = absurd (five refl)
+no_command (a ∷ b ∷ c ∷ d ∷ e ∷ f ∷ []) one four five seven = refl
+no_command (a ∷ b ∷ c ∷ d ∷ e ∷ f ∷ g ∷ []) one four five seven = absurd (seven refl)
+no_command (a ∷ b ∷ c ∷ d ∷ e ∷ f ∷ g ∷ h ∷ words) one four five seven = refl

@@ -11,6 +11,7 @@ pub data Command : Type 0 where
   Boot : (flash otp : List ℕ) → (cpu : Cpu) → (kind : BootKind) → Command
   Info : (flash otp : List ℕ) → (cpu : Cpu) → Command
   OwnedData : (flash otp : List ℕ) → (cpu : Cpu) → (kind : BootKind) → Command
+  Replay : (flash otp : List ℕ) → (cpu : Cpu) → (script out_flash out_otp : List ℕ) → Command
   Usage : Command
   Release : Command
 
@@ -71,12 +72,22 @@ five_words name flash otp (Some cpu) (Some kind) =
     else if bytes_eq name (codes "data") then Some (OwnedData flash otp cpu kind)
     else None
 
+-- the name of a command and six words
+abbrev pub seven_words : List ℕ → List ℕ → List ℕ → Option Cpu → List ℕ → List ℕ → List ℕ
+    → Option Command
+seven_words name flash otp None script out_flash out_otp = None
+seven_words name flash otp (Some cpu) script out_flash out_otp =
+    if bytes_eq name (codes "replay") then Some (Replay flash otp cpu script out_flash out_otp)
+    else None
+
 -- the command that the words are; other words are none
 abbrev pub command_of : List (List ℕ) → Option Command
 command_of (name ∷ []) = one_word name
 command_of (name ∷ flash ∷ otp ∷ cpu ∷ []) = four_words name flash otp (cpu_of cpu)
 command_of (name ∷ flash ∷ otp ∷ cpu ∷ kind ∷ []) =
     five_words name flash otp (cpu_of cpu) (kind_of kind)
+command_of (name ∷ flash ∷ otp ∷ cpu ∷ script ∷ out_flash ∷ out_otp ∷ []) =
+    seven_words name flash otp (cpu_of cpu) script out_flash out_otp
 command_of _ = None
 
 -- the command of a run's words

@@ -10,6 +10,7 @@ use Rattle.pico_board.specs.Puts.{SinkState, Put, Takes}
 use Rattle.boot_run.specs.declared.status.Status.{Status}
 use Rattle.boot_run.specs.declared.status.Status.TheVariants.{ReadFault, WriteFault, OutputFault, Memory}
 use Rattle.boot_run.specs.Forms.{limit_of}
+use Rattle.boot_run.specs.Replays.{AreBytes}
 use Rattle.boot_run.specs.Outcome.{Outcome, Input}
 
 -- the status of a run whose read failed
@@ -45,7 +46,7 @@ module _ {S : Type 0} (state : S → StoreState) (history : S → List Access �
       ⊎ (((fail : StoreFail)
       × Serves state history old (Reads input.name (limit_of input.form) (Err fail)) new
       × (end ≡ Err (unread_status fail)))
-      ⊎ ((bytes : List ℕ) × (mid : S)
+      ⊎ ((bytes : List ℕ) × (mid : S) × AreBytes bytes
       × Serves state history old (Reads input.name (limit_of input.form) (Ok bytes)) mid
       × ReadsIn inputs (read ++ bytes ∷ []) mid end new))
 

@@ -6,13 +6,15 @@ use Rattle.pico_board.specs.Files.{File, StoreState, Access, Reads, Writes, IsRe
 use Rattle.pico_board.specs.Puts.{SinkState, Put, IsPut, Takes}
 use Rattle.boot_run.specs.declared.status.Status.{Status}
 use Rattle.boot_run.specs.Forms.{limit_of}
+use Rattle.boot_run.specs.Replays.{AreBytes}
 use Rattle.boot_run.specs.Outcome.{Input, Outcome}
 
--- each input was read as the files say, where they are told
+-- each input was read as the files say, where they are told, and is of bytes
 abbrev pub AreRead : Option (List File) → List Input → List (List ℕ) → Type 0
 AreRead files [] [] = ⊤
 AreRead files (input ∷ inputs) (bytes ∷ read) =
-    IsReadOf files input.name (limit_of input.form) bytes × AreRead files inputs read
+    AreBytes bytes × IsReadOf files input.name (limit_of input.form) bytes
+    × AreRead files inputs read
 AreRead files _ _ = ⊥
 
 -- told files lack the name of an input

@@ -1,6 +1,7 @@
 -- What starts, and which table is found, in the worked examples. This project's own.
 use Rattle.std.specs.Prelude.{ℕ, [], ◌∷◌, None, Option, Bool, false}
 use Rattle.pico_board.specs.declared.window.Window.{Window}
+use Rattle.pico_board.specs.Content.{Content}
 use Rattle.image_def.specs.declared.started.Started.{Started}
 use Rattle.part_table.specs.declared.partition.Partition.{Partition}
 use Rattle.slot_choice.specs.declared.choice.Choice.{Choice}
@@ -45,3 +46,7 @@ example_found = record {
     parts = record { items = example_part ∷ example_part ∷ [] };
   };
 }
+
+-- a content of two bytes and one row
+abbrev pub example_content : Content
+example_content = record { flash = 1 ∷ 255 ∷ []; otp = 0 ∷ [] }

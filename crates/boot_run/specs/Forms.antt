@@ -1,42 +1,84 @@
 -- The forms of input files, and the content that a flash file and an OTP file give. This project's
 -- own.
-use Rattle.std.specs.Prelude.{◌≡◌, ◌≢◌, ◌⊎◌, ℕ, ◌+◌, ◌-◌, ◌*◌, ◌/◌, ◌%◌, ◌^◌, ◌<◌, ◌≤◌, ◌==◌, max, if◌then◌else◌, nat_lt, List, [], ◌∷◌, ◌++◌, length, replicate, All, Option, Some, None, option_map, codes}
+use Rattle.std.specs.Prelude.{◌≡◌, ◌≢◌, ◌⊎◌, ℕ, zero, suc, ◌+◌, ◌-◌, ◌*◌, ◌/◌, ◌%◌, ◌^◌, ◌<◌, ◌≤◌, ◌==◌, max, if◌then◌else◌, nat_lt, List, [], ◌∷◌, ◌++◌, length, replicate, All, Option, Some, None, option_map, Result, Ok, Err, true, false, codes}
 use Rattle.pico_board.specs.Content.{Content}
 use Rattle.pico_board.specs.Rows.{IsFirstWide}
 use Rattle.block_codec.specs.Words.{words_of}
+use Rattle.boot_script.specs.declared.event.ScriptFault.{ScriptFault}
+use Rattle.boot_script.specs.Events.{Happening, End}
+use Rattle.boot_script.specs.Reading.{event_at}
+use Rattle.boot_script.specs.Scripts.{is_end, events}
 use Rattle.boot_run.specs.declared.forms.Form.{Form}
-use Rattle.boot_run.specs.declared.forms.Form.TheVariants.{Flash, Otp}
-use Rattle.boot_run.specs.declared.forms.TheConstants.{FLASH_LIMIT, OTP_LIMIT}
-use Rattle.boot_run.specs.Texts.{hex_row}
+use Rattle.boot_run.specs.declared.forms.Form.TheVariants.{Flash, Otp, Script}
+use Rattle.boot_run.specs.declared.forms.TheConstants.{FLASH_LIMIT, OTP_LIMIT, SCRIPT_LIMIT, RECORD_LIMIT}
+use Rattle.boot_run.specs.Texts.{hex_row, script_text}
 
 -- the greatest length of a file of the form, in bytes
 abbrev pub limit_of : Form → ℕ
 limit_of Flash = FLASH_LIMIT
 limit_of Otp = OTP_LIMIT
+limit_of Script = SCRIPT_LIMIT
 
 -- the rows of an OTP file: each word of four bytes is one, the lowest byte first
 abbrev pub rows_of : List ℕ → List ℕ
 rows_of bytes = words_of bytes
 
--- a file has its form: a flash file is not empty, an OTP file is of whole rows of 24 bits, and
--- neither is too long
+-- the records of these events stand one after another, from the first offset to the last one, and
+-- none of them is an end
+abbrev pub AreRecords : List ℕ → ℕ → List Happening → ℕ → Type 0
+AreRecords bytes at [] last = last ≡ at
+AreRecords bytes at (e ∷ es) last =
+    (next : ℕ) × (event_at bytes at ≡ Ok (e, next)) × (is_end e ≡ false)
+    × AreRecords bytes next es last
+
+-- from the offset on, an end stands among so many records, and those before it have no fault
+pub record IsEnded (most : ℕ) (bytes : List ℕ) (at : ℕ) : Type 0 where
+  pub happened : List Happening
+  pub last : ℕ
+  pub next : ℕ
+  pub few : length happened < most
+  pub before : AreRecords bytes at happened last
+  pub ends : event_at bytes last ≡ Ok (End, next)
+
+-- from the offset on, the first fault stands among so many records, and no end stands before it
+pub record IsUnread (most : ℕ) (bytes : List ℕ) (at : ℕ) (fault : ScriptFault) : Type 0 where
+  pub happened : List Happening
+  pub last : ℕ
+  pub few : length happened < most
+  pub before : AreRecords bytes at happened last
+  pub wrong : event_at bytes last ≡ Err fault
+
+-- from the offset on, so many records have no fault, and none of them is an end
+pub record IsEndless (most : ℕ) (bytes : List ℕ) (at : ℕ) : Type 0 where
+  pub happened : List Happening
+  pub last : ℕ
+  pub many : length happened ≡ most
+  pub before : AreRecords bytes at happened last
+
+-- a file has its form: a flash file is not empty, an OTP file is of whole rows of 24 bits, a script
+-- has an end among its first records, with no fault before it, and none of them is too long
 abbrev pub HasForm : Form → List ℕ → Type 0
 HasForm Flash bytes = (bytes ≢ []) × (length bytes ≤ FLASH_LIMIT)
 HasForm Otp bytes =
     (length bytes ≤ OTP_LIMIT) × (length bytes % 4 ≡ 0) × All (λ row. row < 2 ^ 24) (rows_of bytes)
+HasForm Script bytes = (length bytes ≤ SCRIPT_LIMIT) × IsEnded RECORD_LIMIT bytes 0
 
 -- a file is too long, and this is its fault
 abbrev pub IsTooLarge : Form → List ℕ → List ℕ → Type 0
 IsTooLarge form bytes fault = (limit_of form < length bytes) × (fault ≡ codes "too-large")
 
--- the fault of a file that is not too long: it is empty, has a part of a row at its end, or has a
--- row of more bits, of which the least is named
+-- the fault of a file that is not too long: a flash file is empty; an OTP file has a part of a row
+-- at its end, or has a row of more bits, of which the least is named; a script has a fault among
+-- its first records, or these have neither a fault nor an end
 abbrev pub IsOwnFault : Form → List ℕ → List ℕ → Type 0
 IsOwnFault Flash bytes fault = (bytes ≡ []) × (fault ≡ codes "empty")
 IsOwnFault Otp bytes fault =
     ((length bytes % 4 ≢ 0) × (fault ≡ codes "otp-length"))
     ⊎ ((length bytes % 4 ≡ 0) × (row : ℕ) × IsFirstWide (rows_of bytes) row
     × (fault ≡ codes "otp-row " ++ hex_row row))
+IsOwnFault Script bytes text =
+    ((fault : ScriptFault) × IsUnread RECORD_LIMIT bytes 0 fault × (text ≡ script_text fault))
+    ⊎ (IsEndless RECORD_LIMIT bytes 0 × (text ≡ codes "script too-many"))
 
 -- why a file does not have its form: that it is too long comes first
 abbrev pub IsFault : Form → List ℕ → List ℕ → Type 0
@@ -55,11 +97,33 @@ otp_fault bytes =
     then option_map (λ row. codes "otp-row " ++ hex_row row) (wide_from 0 (rows_of bytes))
     else Some (codes "otp-length")
 
--- the same of a file of either form
+-- the fault of a script that is not too long, as a function: of the record that was read, or of
+-- those behind it
+abbrev pub record_fault : Result (Happening × ℕ) ScriptFault → (ℕ → Option (List ℕ))
+    → Option (List ℕ)
+record_fault (Err fault) others = Some (script_text fault)
+record_fault (Ok record_read) others =
+    if is_end record_read.0 then None else others record_read.1
+
+-- the same from an offset on, of so many records
+unfoldable pub script_fault : ℕ → List ℕ → ℕ → Option (List ℕ)
+script_fault zero bytes at = Some (codes "script too-many")
+script_fault (suc most) bytes at = record_fault (event_at bytes at) (script_fault most bytes)
+
+-- the events of a script before its end
+abbrev pub events_read : Result (List Happening) ScriptFault → List Happening
+events_read (Ok es) = es
+events_read (Err fault) = []
+
+abbrev pub script_events : List ℕ → List Happening
+script_events bytes = events_read (events bytes)
+
+-- the fault of a file of each form that is not too long
 abbrev pub own_fault : Form → List ℕ → Option (List ℕ)
 own_fault Flash [] = Some (codes "empty")
 own_fault Flash (b ∷ bytes) = None
 own_fault Otp bytes = otp_fault bytes
+own_fault Script bytes = script_fault RECORD_LIMIT bytes 0
 
 -- the fault of a file
 abbrev pub form_fault : Form → List ℕ → Option (List ℕ)

@@ -2,6 +2,7 @@ pub mod Statuses
 pub mod Commands
 pub mod Texts
 pub mod Forms
+pub mod Replays
 pub mod Works
 pub mod Outcome
 pub mod Courses

@@ -7,11 +7,12 @@ use Rattle.pico_board.specs.Files.{File, file_of}
 use Rattle.boot_run.specs.declared.status.Status.{Status}
 use Rattle.boot_run.specs.declared.status.Status.TheVariants.{Done, Words, Input as Refused, Bootsel, ReadFault, WriteFault, OutputFault, Memory}
 use Rattle.boot_run.specs.declared.forms.Form.{Form}
-use Rattle.boot_run.specs.declared.forms.Form.TheVariants.{Flash, Otp}
-use Rattle.boot_run.specs.Commands.{Command, Boot, Info, OwnedData, Usage, Release}
+use Rattle.boot_run.specs.declared.forms.Form.TheVariants.{Flash, Otp, Script}
+use Rattle.pico_board.specs.declared.boot.Cpu.{Cpu}
+use Rattle.boot_run.specs.Commands.{Command, Boot, Info, OwnedData, Replay, Usage, Release}
 use Rattle.boot_run.specs.Forms.{form_fault, content_of}
 use Rattle.boot_run.specs.Texts.{input_line, usage_text, release_line}
-use Rattle.boot_run.specs.Works.{Work, Answers, Refuses, boot_work, info_work, data_work}
+use Rattle.boot_run.specs.Works.{Work, Answers, Refuses, boot_work, info_work, data_work, replay_work}
 
 -- the status, the text that is put, and the files that are written
 pub record Outcome : Type 0 where
@@ -41,11 +42,18 @@ abbrev pub flash_and_otp : List ℕ → List ℕ → List Input
 flash_and_otp flash otp =
     record { name = flash; form = Flash } ∷ record { name = otp; form = Otp } ∷ []
 
+-- these and a script
+abbrev pub flash_otp_script : List ℕ → List ℕ → List ℕ → List Input
+flash_otp_script flash otp script =
+    record { name = flash; form = Flash } ∷ record { name = otp; form = Otp }
+    ∷ record { name = script; form = Script } ∷ []
+
 -- the inputs of a command, in word order
 abbrev pub inputs_of : Command → List Input
 inputs_of (Boot flash otp cpu kind) = flash_and_otp flash otp
 inputs_of (Info flash otp cpu) = flash_and_otp flash otp
 inputs_of (OwnedData flash otp cpu kind) = flash_and_otp flash otp
+inputs_of (Replay flash otp cpu script out_flash out_otp) = flash_otp_script flash otp script
 inputs_of Usage = []
 inputs_of Release = []
 
@@ -58,6 +66,7 @@ abbrev pub content_work : Command → Content → Work
 content_work (Boot flash otp cpu kind) c = boot_work c cpu kind
 content_work (Info flash otp cpu) c = info_work c cpu
 content_work (OwnedData flash otp cpu kind) c = data_work c cpu kind
+content_work (Replay flash otp cpu script out_flash out_otp) c = nothing
 content_work Usage c = nothing
 content_work Release c = nothing
 
@@ -66,11 +75,19 @@ abbrev pub files_work : Command → List (List ℕ) → Work
 files_work command (f ∷ o ∷ []) = content_work command (content_of f o)
 files_work command _ = nothing
 
+-- the work of a replay on the bytes of its inputs
+abbrev pub script_work : Cpu → List ℕ → List ℕ → List (List ℕ) → Work
+script_work cpu out_flash out_otp (f ∷ o ∷ s ∷ []) =
+    replay_work (content_of f o) cpu s out_flash out_otp
+script_work cpu out_flash out_otp _ = nothing
+
 -- the work of a command on the bytes of its inputs
 abbrev pub work_of : Command → List (List ℕ) → Work
 work_of (Boot flash otp cpu kind) read = files_work (Boot flash otp cpu kind) read
 work_of (Info flash otp cpu) read = files_work (Info flash otp cpu) read
 work_of (OwnedData flash otp cpu kind) read = files_work (OwnedData flash otp cpu kind) read
+work_of (Replay flash otp cpu script out_flash out_otp) read =
+    script_work cpu out_flash out_otp read
 work_of Usage read = Answers false usage_text []
 work_of Release read = Answers false release_line []
 

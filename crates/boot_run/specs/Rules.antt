@@ -1,6 +1,6 @@
 -- What is right for each command, in the words of the rules. This project's own, over the rules of
 -- a boot.
-use Rattle.std.specs.Prelude.{◌≡◌, ◌⊎◌, ⊤, ℕ, false, List, [], ◌∷◌, ◌++◌}
+use Rattle.std.specs.Prelude.{◌≡◌, ◌⊎◌, ⊤, ℕ, false, Ok, List, [], ◌∷◌, ◌++◌}
 use Rattle.std.specs.List.{flat_map}
 use Rattle.pico_board.specs.declared.boot.Cpu.{Cpu}
 use Rattle.pico_board.specs.declared.boot.BootKind.{BootKind}
@@ -17,13 +17,18 @@ use Rattle.boot_rules.specs.declared.decision.Decision.TheVariants.{Start, Boots
 use Rattle.boot_rules.specs.declared.decision.Fall.{Fall}
 use Rattle.boot_rules.specs.Chosen.{Chosen}
 use Rattle.boot_rules.specs.Tables.{table_in}
+use Rattle.boot_script.specs.Events.{Happening}
+use Rattle.boot_script.specs.Scripts.{events}
+use Rattle.boot_machine.specs.Machines.{Machine}
+use Rattle.boot_machine.specs.Moves.{Plays}
 use Rattle.boot_run.specs.declared.status.Status.{Status}
 use Rattle.boot_run.specs.declared.status.Status.TheVariants.{Done, Bootsel}
-use Rattle.boot_run.specs.declared.forms.Form.TheVariants.{Flash, Otp}
-use Rattle.boot_run.specs.Commands.{Command, Boot, Info, OwnedData, Usage, Release}
+use Rattle.boot_run.specs.declared.forms.Form.TheVariants.{Flash, Otp, Script}
+use Rattle.boot_run.specs.Commands.{Command, Boot, Info, OwnedData, Replay, Usage, Release}
 use Rattle.boot_run.specs.Forms.{HasForm, IsFault, content_of}
-use Rattle.boot_run.specs.Texts.{line, decision_line, table_text, valid_text, invalid_text, usage_text, release_line}
-use Rattle.boot_run.specs.Works.{windows_in, decided_data, data_line}
+use Rattle.boot_run.specs.Texts.{line, decision_line, table_text, valid_text, invalid_text, usage_text, release_line, event_lines, end_line}
+use Rattle.boot_run.specs.Replays.{powerless}
+use Rattle.boot_run.specs.Works.{windows_in, decided_data, data_line, content_files}
 use Rattle.boot_run.specs.Outcome.{Outcome, Input, inputs_of, refused}
 
 -- the first input in word order that does not have its form has this name, and its bytes have this
@@ -104,6 +109,20 @@ pub record IsDataOf (c : Content) (cpu : Cpu) (kind : BootKind) (o : Outcome) : 
   pub text : o.text ≡ decision_line decision ++ flat_map data_line (decided_data c decision)
   pub files : o.files ≡ []
 
+-- `replay`: the events of the script up to its end take a machine without power, on which no cut is
+-- armed, to another one; the outcome tells the texts of their lines, and writes the content that
+-- the events leave
+pub record IsReplayOf (c : Content) (cpu : Cpu) (script flash otp : List ℕ) (o : Outcome)
+    : Type 0 where
+  pub happened : List Happening
+  pub reads : events script ≡ Ok happened
+  pub last : Machine
+  pub texts : List (List ℕ)
+  pub plays : Plays (powerless c cpu) happened last texts
+  pub status : o.status ≡ Done
+  pub text : o.text ≡ event_lines 0 texts ++ end_line last.place
+  pub files : o.files ≡ content_files flash otp last.content
+
 -- the outcome tells a text, is no fall and writes no file
 abbrev pub Tells : List ℕ → Outcome → Type 0
 Tells text o = o ≡ record { status = Done; text = text; files = [] }
@@ -119,6 +138,10 @@ Obeys (Info flash otp cpu) (f ∷ g ∷ []) o =
 Obeys (OwnedData flash otp cpu kind) (f ∷ g ∷ []) o =
     IsRefusal (inputs_of (OwnedData flash otp cpu kind)) (f ∷ g ∷ []) o
     ⊎ (HasForm Flash f × HasForm Otp g × IsDataOf (content_of f g) cpu kind o)
+Obeys (Replay flash otp cpu script out_flash out_otp) (f ∷ g ∷ s ∷ []) o =
+    IsRefusal (inputs_of (Replay flash otp cpu script out_flash out_otp)) (f ∷ g ∷ s ∷ []) o
+    ⊎ (HasForm Flash f × HasForm Otp g × HasForm Script s
+    × IsReplayOf (content_of f g) cpu s out_flash out_otp o)
 Obeys Usage [] o = Tells usage_text o
 Obeys Release [] o = Tells release_line o
 Obeys _ _ o = ⊥

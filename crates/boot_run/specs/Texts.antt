@@ -1,8 +1,6 @@
 -- The texts that the program prints. This project's own.
-use Rattle.std.specs.Prelude.{ℕ, ◌-◌, ◌^◌, Bool, true, false, List, [], ◌∷◌, ◌++◌, length, Option, Some, None, Result, Ok, Err, codes, decimal}
-use Rattle.std.specs.Fmt.{digits, padded_integral, format_spec}
+use Rattle.std.specs.Prelude.{ℕ, ◌+◌, List, [], ◌∷◌, ◌++◌, length, Option, Some, None, Result, Ok, Err, codes, decimal}
 use Rattle.pico_board.specs.declared.window.Window.{Window}
-use Rattle.block_codec.specs.declared.versions.Version.{Version}
 use Rattle.block_loop.specs.declared.fault.LoopFault.{LoopFault}
 use Rattle.block_loop.specs.declared.fault.LoopFault.TheVariants.{NoBlock as NoFirst, Broken, TooMany, Overlap}
 use Rattle.image_def.specs.declared.started.Started.{Started}
@@ -15,24 +13,17 @@ use Rattle.image_check.specs.declared.why.Why.TheVariants.{NoBlock, Loop, NoDefi
 use Rattle.image_check.specs.declared.why.EntryFault.{EntryFault}
 use Rattle.image_check.specs.declared.why.EntryFault.TheVariants.{Table as NoTable, InBlock, Pc}
 use Rattle.boot_rules.specs.declared.decision.Decision.{Decision}
-use Rattle.boot_rules.specs.declared.decision.Decision.TheVariants.{Start, Bootsel}
-use Rattle.boot_rules.specs.declared.decision.Fall.{Fall}
-use Rattle.boot_rules.specs.declared.decision.Fall.TheVariants.{Requested, FlashOff, NoImage}
 use Rattle.boot_rules.specs.declared.tables.Found.{Found}
+use Rattle.boot_script.specs.declared.event.ScriptFault.{ScriptFault}
+use Rattle.boot_script.specs.declared.event.ScriptFault.TheVariants.{Kind, Short, Pattern}
+use Rattle.boot_machine.specs.Machines.{Place, Off, InBootsel, Running}
+-- numbers, versions, windows and decisions are told as in the lines of a machine
+pub use Rattle.boot_lines.specs.Texts.{hex_digits, hex_word, rollback_text, yes_or_no, window_text, entry_text, version_text, start_text, fall_text, decision_text}
 use Rattle.boot_run.specs.declared.usage.TheConstants.{USAGE, VERSION}
 
 -- a line ends with one line feed
 abbrev pub line : List ℕ → List ℕ
 line text = text ++ (10 ∷ [])
-
--- lower-case hexadecimal digits, at least so many, as `{:08x}` prints eight
-abbrev pub hex_digits : ℕ → ℕ → List ℕ
-hex_digits width n =
-    padded_integral (format_spec 32 0 4 width (2 ^ 64 - 1)) false [] (digits 16 false n)
-
--- a number as 0x and eight digits
-abbrev pub hex_word : ℕ → List ℕ
-hex_word n = codes "0x" ++ hex_digits 8 n
 
 -- the number of an OTP row as 0x and at least three digits
 abbrev pub hex_row : ℕ → List ℕ
@@ -42,50 +33,7 @@ hex_row n = codes "0x" ++ hex_digits 3 n
 abbrev pub hex_kind : ℕ → List ℕ
 hex_kind n = codes "0x" ++ hex_digits 2 n
 
--- the rollback version, or `none`
-abbrev pub rollback_text : Option ℕ → List ℕ
-rollback_text None = codes "none"
-rollback_text (Some version) = decimal version
-
-abbrev pub yes_or_no : Bool → List ℕ
-yes_or_no true = codes "yes"
-yes_or_no false = codes "no"
-
--- a window: its start and its length
-abbrev pub window_text : Window → List ℕ
-window_text w = codes "window=" ++ (hex_word w.start ++ (codes "+" ++ hex_word w.len))
-
--- where an image starts: the place of its block, PC, SP and the stack limit
-abbrev pub entry_text : Started → List ℕ
-entry_text s =
-    codes "block="
-    ++ (hex_word s.block ++ (codes " pc=" ++ (hex_word s.pc ++ (codes " sp=" ++ (hex_word s.sp
-    ++ (codes " limit=" ++ hex_word s.limit))))))
-
-abbrev pub version_text : Version → List ℕ
-version_text v = codes "version=" ++ (decimal v.major ++ (codes "." ++ decimal v.minor))
-
--- an image that starts
-abbrev pub start_text : Started → List ℕ
-start_text s =
-    codes "start "
-    ++ (window_text s.window
-    ++ (codes " " ++ (entry_text s ++ (codes " " ++ (version_text s.version
-    ++ (codes " rollback="
-    ++ (rollback_text s.rollback ++ (codes " trial=" ++ yes_or_no s.trial))))))))
-
--- why a boot falls to BOOTSEL
-abbrev pub fall_text : Fall → List ℕ
-fall_text Requested = codes "bootsel requested"
-fall_text FlashOff = codes "bootsel flash-off"
-fall_text NoImage = codes "bootsel no-image"
-
--- the decision of a boot
-abbrev pub decision_text : Decision → List ℕ
-decision_text (Start choice) = start_text choice.image
-decision_text (Bootsel fall) = fall_text fall
-
--- its line
+-- the line of a decision
 abbrev pub decision_line : Decision → List ℕ
 decision_line d = line (decision_text d)
 
@@ -164,6 +112,31 @@ data_text w = codes "data " ++ window_text w
 -- an input file, by its word, and its fault
 abbrev pub input_line : List ℕ → List ℕ → List ℕ
 input_line name fault = codes "input " ++ (name ++ (codes ": " ++ line fault))
+
+-- why a script is not read, by the offset of its first faulty record
+abbrev pub script_text : ScriptFault → List ℕ
+script_text (Kind at) = codes "script kind at=" ++ decimal at
+script_text (Short at) = codes "script short at=" ++ decimal at
+script_text (Pattern at) = codes "script pattern at=" ++ decimal at
+
+-- the line of an event, by its number
+abbrev pub event_line : ℕ → List ℕ → List ℕ
+event_line n text = decimal n ++ (codes " " ++ line text)
+
+-- the lines of events, which are numbered from a first number on
+abbrev pub event_lines : ℕ → List (List ℕ) → List ℕ
+event_lines n [] = []
+event_lines n (text ∷ texts) = event_line n text ++ event_lines (n + 1) texts
+
+-- what a machine is doing
+abbrev pub state_text : Place → List ℕ
+state_text Off = codes "off"
+state_text (InBootsel host) = codes "bootsel"
+state_text (Running program) = codes "running"
+
+-- the line behind the events
+abbrev pub end_line : Place → List ℕ
+end_line place = codes "end state=" ++ line (state_text place)
 
 -- how the program is used
 unfoldable pub usage_text : List ℕ

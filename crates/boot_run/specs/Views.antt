@@ -9,7 +9,7 @@ use Rattle.boot_run.specs.declared.course.OutFile.{OutFile}
 use Rattle.boot_run.specs.declared.course.Answer.{Answer}
 use Rattle.boot_run.specs.declared.words.CommandWords.{CommandWords}
 use Rattle.boot_run.specs.declared.words.CommandWords.TheVariants as words
-use Rattle.boot_run.specs.Commands.{Command, Boot, Info, OwnedData, Usage, Release}
+use Rattle.boot_run.specs.Commands.{Command, Boot, Info, OwnedData, Replay, Usage, Release}
 use Rattle.boot_run.specs.Outcome.{Input, Outcome}
 
 -- an input, with its name as text
@@ -34,6 +34,8 @@ abbrev pub command_from : CommandWords → Command
 command_from (words.Boot flash otp cpu kind) = Boot flash.now otp.now cpu kind
 command_from (words.Info flash otp cpu) = Info flash.now otp.now cpu
 command_from (words.OwnedData flash otp cpu kind) = OwnedData flash.now otp.now cpu kind
+command_from (words.Replay flash otp cpu script out_flash out_otp) =
+    Replay flash.now otp.now cpu script.now out_flash.now out_otp.now
 command_from words.Usage = Usage
 command_from words.Release = Release
 

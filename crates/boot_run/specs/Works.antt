@@ -17,7 +17,10 @@ use Rattle.boot_rules.specs.declared.tables.Found.{Found}
 use Rattle.boot_rules.specs.Choosing.{decision_in}
 use Rattle.boot_rules.specs.Tables.{table_in}
 use Rattle.boot_rules.specs.Data.{data_of}
-use Rattle.boot_run.specs.Texts.{line, decision_line, table_text, image_text, data_text}
+use Rattle.block_codec.specs.Words.{bytes_of}
+use Rattle.boot_run.specs.Forms.{script_events}
+use Rattle.boot_run.specs.Replays.{Played, played, powerless}
+use Rattle.boot_run.specs.Texts.{line, decision_line, table_text, image_text, data_text, event_lines, end_line}
 
 -- What the work of a command comes to on the bytes of its inputs: it answers whether a boot falls
 -- to BOOTSEL, the text and the files to write, in word order; or it refuses an input, by its word,
@@ -71,3 +74,20 @@ abbrev pub data_work : Content → Cpu → BootKind → Work
 data_work c cpu kind =
     let d = decision_in c cpu kind in Answers (is_fall d)
     (decision_line d ++ flat_map data_line (decided_data c d)) []
+
+-- the files of a content: the bytes of the whole flash, and each row of the OTP in four bytes, the
+-- lowest first
+abbrev pub content_files : List ℕ → List ℕ → Content → List File
+content_files flash otp c =
+    record { name = flash; bytes = c.flash } ∷ record { name = otp; bytes = bytes_of c.otp } ∷ []
+
+-- the events of a script that were played: their lines, and the content that they leave
+abbrev pub played_work : Played → List ℕ → List ℕ → Work
+played_work p flash otp =
+    Answers false (event_lines 0 p.texts ++ end_line p.last.place)
+    (content_files flash otp p.last.content)
+
+-- a script on a machine without power
+abbrev pub replay_work : Content → Cpu → List ℕ → List ℕ → List ℕ → Work
+replay_work c cpu script flash otp =
+    played_work (played (powerless c cpu) (script_events script)) flash otp

@@ -1,9 +1,10 @@
 //! The course of a run: it reads the inputs, and then writes the files and puts the text of an
 //! answer.
 
-ghost use Rattle.std.specs.Prelude.{◌≡◌, [], map};
+ghost use Rattle.std.specs.Prelude.{◌≡◌, IfOk, [], map};
 ghost use Rattle.pico_board.specs.Files.{Reads, Writes, Serves};
 ghost use Rattle.boot_run.specs.Forms.{limit_of};
+ghost use Rattle.boot_run.specs.Replays.{AreBytes};
 ghost use Rattle.boot_run.specs.Courses.{unread_status, unwritten_status, ReadsIn, WritesOut, PutsOnce, Finishes};
 ghost use Rattle.boot_run.specs.Views.{input_from, file_from, outcome_from, read_of, reading_of};
 
@@ -61,17 +62,26 @@ fn unwritten_status(fail: StoreFail) -> Status
     }
 }
 
+/// A file is of bytes.
+fn has_bytes(file: &[u8])
+    ensures { AreBytes file.now }
+{
+    let _length = file.len();
+}
+
 /// Reads an input, up to one byte past its limit, in one call.
 fn read_file<S: Store>(
     alloc: Global,
     input: &InputWord<'_>,
     store: &mut S,
 ) -> Result<Vec<u8>, StoreFail>
-    ensures { Serves S.state S.history store.old
+    ensures served { Serves S.state S.history store.old
         (Reads input.now.name.now (limit_of input.now.form) (read_of result)) store.new }
+    ensures bytes { IfOk result (λ file. AreBytes file.items) }
 {
     let mut bytes = Vec::new(alloc);
     store.read(input.name, input.form.limit(), &mut bytes)?;
+    has_bytes(&bytes);
     Ok(bytes)
 }
 

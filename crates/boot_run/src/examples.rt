@@ -11,13 +11,18 @@ ghost use Rattle.image_check.specs.declared.why.Why.TheVariants.{NoBlock, Loop, 
 ghost use Rattle.image_check.specs.declared.why.EntryFault.TheVariants.{Table, InBlock, Pc};
 ghost use Rattle.boot_rules.specs.declared.decision.Decision.TheVariants.{Start, Bootsel};
 ghost use Rattle.boot_rules.specs.declared.decision.Fall.TheVariants.{Requested, FlashOff, NoImage};
-ghost use Rattle.boot_run.specs.declared.forms.Form.TheVariants.{Flash, Otp};
-ghost use Rattle.boot_run.specs.Commands.{command_of, kind_of, Boot, Info, OwnedData, Usage, Release};
-ghost use Rattle.boot_run.specs.Forms.{limit_of, form_fault, filled_length, rows_of};
+ghost use Rattle.boot_run.specs.declared.forms.Form.TheVariants.{Flash, Otp, Script};
+ghost use Rattle.boot_run.specs.declared.forms.TheConstants.{RECORD_LIMIT};
+ghost use Rattle.boot_script.specs.Events.{PowerOn, Buy, Reset, Cut};
+ghost use Rattle.boot_machine.specs.Machines.{Off, InBootsel, Running, FromRam};
+ghost use Rattle.boot_run.specs.Replays.{played, powerless};
+ghost use Rattle.boot_run.specs.Works.{content_files};
+ghost use Rattle.boot_run.specs.Commands.{command_of, kind_of, Boot, Info, OwnedData, Replay, Usage, Release};
+ghost use Rattle.boot_run.specs.Forms.{limit_of, form_fault, script_fault, script_events, filled_length, rows_of};
 ghost use Rattle.boot_run.specs.Outcome.{command_outcome, inputs_of, outcome_on, refused, unread, not_understood};
-ghost use Rattle.boot_run.specs.Texts.{hex_word, hex_row, decision_line, input_line, table_text, image_text, valid_text, why_text, data_text, release_line};
+ghost use Rattle.boot_run.specs.Texts.{hex_word, hex_row, decision_line, input_line, table_text, image_text, valid_text, why_text, data_text, event_lines, end_line, release_line};
 ghost use Rattle.boot_run.specs.Ends.{saved};
-ghost use Rattle.boot_run.specs.Examples.{small_window, example_image, example_choice, example_found};
+ghost use Rattle.boot_run.specs.Examples.{small_window, example_image, example_choice, example_found, example_content};
 
 /// A number has 0x and eight lower-case hexadecimal digits, and that of a row at least three.
 pub fn hexadecimal_words()
@@ -97,6 +102,10 @@ pub fn words_of_commands()
     ensures data { command_of
         (codes "data" ∷ codes "f" ∷ codes "o" ∷ codes "arm" ∷ codes "normal" ∷ [])
         ≡ Some (OwnedData (codes "f") (codes "o") Arm Normal) }
+    ensures replay { command_of
+        (codes "replay" ∷ codes "f" ∷ codes "o" ∷ codes "riscv" ∷ codes "s" ∷ codes "a"
+        ∷ codes "b" ∷ []) ≡ Some
+        (Replay (codes "f") (codes "o") Riscv (codes "s") (codes "a") (codes "b")) }
     ensures help { command_of (codes "--help" ∷ []) ≡ Some Usage }
     ensures release { command_of (codes "--version" ∷ []) ≡ Some Release }
 {}
@@ -134,12 +143,22 @@ pub fn other_words()
     ensures info_cpu { command_of (codes "info" ∷ codes "f" ∷ codes "o" ∷ codes "x86" ∷ []) ≡ None }
     ensures one { command_of (codes "-h" ∷ []) ≡ None }
     ensures two { command_of (codes "--version" ∷ codes "x" ∷ []) ≡ None }
+    ensures seven { command_of
+        (codes "boot" ∷ codes "f" ∷ codes "o" ∷ codes "arm" ∷ codes "s" ∷ codes "a" ∷ codes "b"
+        ∷ []) ≡ None }
+    ensures replay_cpu { command_of
+        (codes "replay" ∷ codes "f" ∷ codes "o" ∷ codes "x86" ∷ codes "s" ∷ codes "a" ∷ codes "b"
+        ∷ []) ≡ None }
+    ensures eight { command_of
+        (codes "replay" ∷ codes "f" ∷ codes "o" ∷ codes "arm" ∷ codes "s" ∷ codes "a" ∷ codes "b"
+        ∷ codes "c" ∷ []) ≡ None }
 {}
 
 /// Limits, and the faults of files on both sides of their bounds.
 pub fn forms_of_files()
     ensures flash_limit { limit_of Flash ≡ 16777216 }
     ensures otp_limit { limit_of Otp ≡ 16384 }
+    ensures script_limit { limit_of Script ≡ 67108864 }
     ensures empty { form_fault Flash [] ≡ Some (codes "empty") }
     ensures one { form_fault Flash (0 ∷ []) ≡ None }
     ensures no_rows { form_fault Otp [] ≡ None }
@@ -149,6 +168,66 @@ pub fn forms_of_files()
     ensures wide { form_fault Otp (0 ∷ 0 ∷ 0 ∷ 0 ∷ 0 ∷ 0 ∷ 0 ∷ 1 ∷ 0 ∷ 0 ∷ 0 ∷ 2 ∷ [])
         ≡ Some (codes "otp-row 0x001") }
     ensures part_of_wide { form_fault Otp (0 ∷ 0 ∷ 0 ∷ 1 ∷ 0 ∷ []) ≡ Some (codes "otp-length") }
+{}
+
+/// The form of a script: it ends at its first end, what follows is not read, and it has a bound on
+/// its records with the end. A fault of a record comes before the want of an end.
+pub fn forms_of_scripts()
+    ensures bound { RECORD_LIMIT ≡ 524288 }
+    ensures ended { form_fault Script (4 ∷ 0 ∷ []) ≡ None }
+    ensures behind { form_fault Script (0 ∷ 9 ∷ []) ≡ None }
+    ensures empty { form_fault Script [] ≡ Some (codes "script short at=0") }
+    ensures short { form_fault Script (4 ∷ []) ≡ Some (codes "script short at=1") }
+    ensures kind { form_fault Script (4 ∷ 6 ∷ 7 ∷ []) ≡ Some (codes "script kind at=2") }
+    ensures pattern { form_fault Script (3 ∷ 0 ∷ 0 ∷ 0 ∷ 0 ∷ 1 ∷ 0 ∷ 0 ∷ [])
+        ≡ Some (codes "script pattern at=0") }
+    ensures most { script_fault 2 (4 ∷ 0 ∷ []) 0 ≡ None }
+    ensures too_many { script_fault 2 (4 ∷ 4 ∷ 0 ∷ []) 0 ≡ Some (codes "script too-many") }
+    ensures last { script_fault 2 (4 ∷ 9 ∷ []) 0 ≡ Some (codes "script kind at=1") }
+    ensures past { script_fault 2 (4 ∷ 4 ∷ 9 ∷ []) 0 ≡ Some (codes "script too-many") }
+    ensures events { script_events (4 ∷ 6 ∷ 0 ∷ 4 ∷ []) ≡ PowerOn ∷ Buy ∷ [] }
+{}
+
+/// The lines of events and the line behind them.
+pub fn event_texts()
+    ensures none { event_lines 0 [] ≡ [] }
+    ensures two { event_lines 0 (codes "off" ∷ codes "cut armed" ∷ [])
+        ≡ codes "0 off\n1 cut armed\n" }
+    ensures tenth { event_lines 9 (codes "off" ∷ codes "ignored" ∷ [])
+        ≡ codes "9 off\n10 ignored\n" }
+    ensures off { end_line Off ≡ codes "end state=off\n" }
+    ensures bootsel { end_line (InBootsel (record { found = None; placing = None; ram = [] }))
+        ≡ codes "end state=bootsel\n" }
+    ensures running { end_line (Running (FromRam (example_image 0 0 None false)))
+        ≡ codes "end state=running\n" }
+{}
+
+/// The files of a content: the flash, and then each row in four bytes, the lowest first.
+pub fn files_of_contents()
+    ensures { content_files (codes "a") (codes "b")
+        (record { flash = 1 ∷ 255 ∷ []; otp = 0x030201 ∷ 0 ∷ [] })
+        ≡ record { name = codes "a"; bytes = 1 ∷ 255 ∷ [] }
+        ∷ record { name = codes "b"; bytes = 1 ∷ 2 ∷ 3 ∷ 0 ∷ 0 ∷ 0 ∷ 0 ∷ 0 ∷ [] } ∷ [] }
+{}
+
+/// Without power an event does nothing but that a cut is armed, in place of a former one.
+pub fn events_without_power()
+    ensures nothing { played (powerless example_content Arm) (Buy ∷ Reset Normal ∷ [])
+        ≡ record {
+          last = powerless example_content Arm;
+          texts = codes "off" ∷ codes "off" ∷ [];
+        } }
+    ensures cuts { played (powerless example_content Arm)
+        (Cut 2 true (255 ∷ []) ∷ Cut 1 false [] ∷ [])
+        ≡ record {
+          last = record {
+            content = example_content;
+            armed = Some (Some (record { left = 1; within = false; pattern = [] }));
+            cpu = Arm;
+            place = Off;
+          };
+          texts = codes "cut armed" ∷ codes "cut armed" ∷ [];
+        } }
 {}
 
 /// The length of the flash that a file gives: whole sectors, and at least two.
@@ -169,6 +248,15 @@ pub fn first_faults()
         ≡ refused (codes "o") (codes "otp-length") }
     ensures data { command_outcome (OwnedData (codes "f") (codes "o") Arm Normal)
         ([] ∷ (0 ∷ []) ∷ []) ≡ refused (codes "f") (codes "empty") }
+    ensures replay_flash { command_outcome
+        (Replay (codes "f") (codes "o") Arm (codes "s") (codes "a") (codes "b"))
+        ([] ∷ (0 ∷ []) ∷ (9 ∷ []) ∷ []) ≡ refused (codes "f") (codes "empty") }
+    ensures replay_otp { command_outcome
+        (Replay (codes "f") (codes "o") Arm (codes "s") (codes "a") (codes "b"))
+        ((0 ∷ []) ∷ (0 ∷ []) ∷ (9 ∷ []) ∷ []) ≡ refused (codes "o") (codes "otp-length") }
+    ensures replay_script { command_outcome
+        (Replay (codes "f") (codes "o") Arm (codes "s") (codes "a") (codes "b"))
+        ((0 ∷ []) ∷ [] ∷ (9 ∷ []) ∷ []) ≡ refused (codes "s") (codes "script kind at=0") }
     ensures lacking { outcome_on (Some (Boot (codes "f") (codes "o") Arm Normal))
         (record { name = codes "f"; bytes = [] } ∷ []) ≡ unread }
     ensures words { outcome_on None [] ≡ not_understood }

@@ -3,8 +3,13 @@
 ghost use Rattle.std.specs.Prelude.{◌≡◌, ◌+◌, ◌-◌, ◌*◌, ◌/◌, ◌≤◌, ◌++◌, replicate, length, slice_index, IfOk, OnOk, option_map, string_bytes};
 ghost use Rattle.pico_board.specs.Content.{IsFlashLength};
 ghost use Rattle.pico_board.specs.MemBoard.{state_of, new_state};
-ghost use Rattle.boot_run.specs.Forms.{limit_of, form_fault, otp_fault, own_fault, wide_from, rows_of, HasForm, filled, filled_length, otp_of};
+ghost use Rattle.boot_script.specs.Events.{event_from};
+ghost use Rattle.boot_script.specs.Scripts.{is_end};
+ghost use Rattle.boot_run.specs.declared.forms.TheConstants.{RECORD_LIMIT};
+ghost use Rattle.boot_run.specs.Forms.{limit_of, form_fault, otp_fault, own_fault, script_fault, wide_from, rows_of, HasForm, filled, filled_length, otp_of};
 
+use crate::text::script_text;
+use boot_script::{Event, next_event};
 use byteorder::{ByteOrder, LittleEndian};
 use pico_board::{BoardError, MemBoard};
 use std::alloc::{AllocError, Global};
@@ -15,6 +20,12 @@ pub const FLASH_LIMIT: u32 = 16_777_216;
 /// The greatest OTP file, in bytes.
 pub const OTP_LIMIT: u32 = 16_384;
 
+/// The greatest script, in bytes.
+pub const SCRIPT_LIMIT: u32 = 67_108_864;
+
+/// The greatest number of records of a script, with its end.
+pub const RECORD_LIMIT: u32 = 524_288;
+
 /// The form of an input file.
 #[derive(Clone, Copy, PartialEq, Eq, Debug)]
 pub enum Form {
@@ -22,6 +33,8 @@ pub enum Form {
     Flash,
     /// The rows of an OTP, of four bytes each.
     Otp,
+    /// The records of a script, up to its end.
+    Script,
 }
 
 impl Form {
@@ -32,6 +45,7 @@ impl Form {
         match self {
             Form::Flash => FLASH_LIMIT,
             Form::Otp => OTP_LIMIT,
+            Form::Script => SCRIPT_LIMIT,
         }
     }
 }
@@ -70,14 +84,51 @@ fn otp_fault(alloc: Global, file: &[u8]) -> Result<Option<String>, AllocError>
     }
 }
 
+/// Whether a script ends with the event.
+pub fn is_end(event: &Event<'_>) -> bool
+    ensures { result ≡ is_end (event_from event.now) }
+{
+    match event {
+        Event::End => true,
+        Event::Command(..)
+        | Event::Uf2(_)
+        | Event::Cut(..)
+        | Event::PowerOn
+        | Event::Reset(_)
+        | Event::Buy => false,
+    }
+}
+
+/// The fault of a script that is not too long.
+fn script_fault(alloc: Global, file: &[u8]) -> Result<Option<String>, AllocError>
+    requires { length file.now ≤ 67108864 }
+    ensures { IfOk result
+        (λ fault. option_map string_bytes fault ≡ script_fault RECORD_LIMIT file.now 0) }
+{
+    let mut at = 0;
+    for _ in 0..RECORD_LIMIT {
+        let (event, next) = match next_event(file, at) {
+            Ok(read) => read,
+            Err(fault) => return Ok(Some(script_text(alloc, fault)?)),
+        };
+        if is_end(&event) {
+            return Ok(None);
+        }
+        at = next;
+    }
+    Ok(Some(String::from_str(alloc, "script too-many")?))
+}
+
 /// The fault of a file that is not too long.
 fn own_fault(alloc: Global, form: Form, file: &[u8]) -> Result<Option<String>, AllocError>
+    requires { length file.now ≤ limit_of form }
     ensures { IfOk result (λ fault. option_map string_bytes fault ≡ own_fault form file.now) }
 {
     match form {
         Form::Flash if file.is_empty() => Ok(Some(String::from_str(alloc, "empty")?)),
         Form::Flash => Ok(None),
         Form::Otp => otp_fault(alloc, file),
+        Form::Script => script_fault(alloc, file),
     }
 }
 

@@ -1,11 +1,16 @@
 //! Laws of the program's definitions, proved: each is the `ensures` of a function that does
 //! nothing.
 
-ghost use Rattle.std.specs.Prelude.{◌≡◌, ◌↔◌, ℕ, List, [], ◌∷◌, Some, None, length};
+ghost use Rattle.std.specs.Prelude.{◌≡◌, ◌↔◌, ℕ, List, [], ◌∷◌, Option, Some, None, length};
+ghost use Rattle.std.specs.List.{AllByRecursion};
 ghost use Rattle.pico_board.specs.declared.boot.Cpu.{Cpu};
 ghost use Rattle.pico_board.specs.declared.boot.BootKind.{BootKind};
 ghost use Rattle.pico_board.specs.Content.{Content, IsContent};
 ghost use Rattle.pico_board.specs.Files.{File};
+ghost use Rattle.pico_board.specs.Cuts.{Cut};
+ghost use Rattle.boot_script.specs.Events.{Happening};
+ghost use Rattle.boot_machine.specs.Machines.{Machine};
+ghost use Rattle.boot_machine.specs.Moves.{Moves, Plays};
 ghost use Rattle.boot_run.specs.declared.forms.Form.{Form};
 ghost use Rattle.boot_run.specs.declared.forms.Form.TheVariants.{Flash, Otp};
 ghost use Rattle.boot_run.specs.declared.status.Status.TheVariants.{Done, Words, Input, Bootsel, ReadFault, WriteFault, OutputFault, Memory};
@@ -15,6 +20,7 @@ ghost use Rattle.boot_run.specs.Forms.{HasForm, IsFault, form_fault, content_of}
 ghost use Rattle.boot_run.specs.Outcome.{Outcome, inputs_of, command_outcome, outcome_on, found};
 ghost use Rattle.boot_run.specs.Rules.{Obeys, IsRefused, FallsOn};
 ghost use Rattle.boot_run.specs.Ends.{cut};
+ghost use Rattle.boot_run.specs.Replays.{AreOfBytes, IsOfBytes, IsTelling, moved, played};
 
 /// The program ends with one of eight numbers, by how the run ended.
 pub fn statuses_have_numbers()
@@ -42,15 +48,16 @@ pub fn every_content_is_given()
         → (f : List ℕ) × (g : List ℕ) × HasForm Flash f × HasForm Otp g × (content_of f g ≡ c) }
 {}
 
-/// The outcome of a command on the bytes of its inputs is the one that is right by the rules.
+/// The outcome of a command on the bytes of its inputs is the one that is right by the rules. That
+/// the inputs are of bytes is asked for since power that is lost in an erase leaves bytes.
 pub fn outcomes_are_right()
     ensures right { (command : Command) (read : List (List ℕ))
-        → length read ≡ length (inputs_of command)
+        → length read ≡ length (inputs_of command) → AreOfBytes read
         → Obeys command read (command_outcome command read) }
     ensures only { (command : Command) (read : List (List ℕ)) (o : Outcome)
         → Obeys command read o → o ≡ command_outcome command read }
     ensures whole { (command : Command) (files : List File) (read : List (List ℕ))
-        → found files (inputs_of command) ≡ Some read
+        → found files (inputs_of command) ≡ Some read → AreOfBytes read
         → Obeys command read (outcome_on (Some command) files) }
 {}
 
@@ -66,6 +73,28 @@ pub fn statuses_come_exactly()
     ensures data { (flash otp f g : List ℕ) (cpu : Cpu) (kind : BootKind)
         → ((command_outcome (OwnedData flash otp cpu kind) (f ∷ g ∷ [])).status ≡ Bootsel)
         ↔ FallsOn f g cpu kind }
+{}
+
+/// An event takes a machine whose board tells its armed cut to one machine, with one text, by the
+/// table of the machine: those of the function.
+pub fn told_moves_are_determined()
+    ensures only { (m : Machine) (cut : Option Cut) (event : Happening) (n : Machine)
+        (text : List ℕ) → m.armed ≡ Some cut → Moves m event n text
+        → (n ≡ (moved m event).next) × (text ≡ (moved m event).text) }
+    ensures moves { (m : Machine) (event : Happening) → IsTelling m → IsOfBytes event
+        → Moves m event (moved m event).next (moved m event).text
+        × IsTelling (moved m event).next }
+{}
+
+/// Events take a machine whose board tells its armed cut to one machine, with one list of texts:
+/// those of the function.
+pub fn told_plays_are_determined()
+    ensures only { (m : Machine) (cut : Option Cut) (events : List Happening) (n : Machine)
+        (texts : List (List ℕ)) → m.armed ≡ Some cut → Plays m events n texts
+        → (n ≡ (played m events).last) × (texts ≡ (played m events).texts) }
+    ensures plays { (m : Machine) (events : List Happening) → IsTelling m
+        → AllByRecursion IsOfBytes events
+        → Plays m events (played m events).last (played m events).texts }
 {}
 
 /// What is read of files that are longer decides as the whole files do.

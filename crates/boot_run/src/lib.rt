@@ -7,6 +7,9 @@ pub mod examples;
 mod forms;
 pub mod laws;
 mod program;
+mod replay;
+#[cfg(test)]
+mod replay_tests;
 mod status;
 #[cfg(test)]
 mod tests;
@@ -16,6 +19,6 @@ mod why;
 mod words;
 mod work;
 
-pub use forms::{FLASH_LIMIT, Form, OTP_LIMIT};
+pub use forms::{FLASH_LIMIT, Form, OTP_LIMIT, RECORD_LIMIT, SCRIPT_LIMIT};
 pub use program::run;
 pub use status::Status;

@@ -16,7 +16,7 @@ const BOOT: [&str; 5] = ["boot", "f", "o", "arm", "normal"];
 const INFO: [&str; 4] = ["info", "f", "o", "arm"];
 
 /// The first two words of a vector table: SP 0x20082000 and PC 0x10000201.
-const VECTORS: [u32; 2] = [0x2008_2000, 0x1000_0201];
+pub const VECTORS: [u32; 2] = [0x2008_2000, 0x1000_0201];
 
 /// The least block of an executable for the Arm cores.
 const ARM: [u32; 5] = [0xffff_ded3, 0x1021_0142, 0x0000_01ff, 0, 0xab12_3579];
@@ -44,7 +44,7 @@ const ARM_1_10: [u32; 7] = [
 ];
 
 /// A table whose A has the sectors 2 to 31 and whose B has the sectors 32 to 61.
-const PAIR: [u32; 10] = [
+pub const PAIR: [u32; 10] = [
     0xffff_ded3,
     0x0200_060a,
     0xfc00_8000,
@@ -77,7 +77,7 @@ const OWNED: [u32; 14] = [
 
 /// A flash file with these words at these offsets, in ascending order, of so many bytes, of which
 /// the others are 0xff.
-fn flash(alloc: Global, parts: &[(usize, &[u32])], length: usize) -> Result<Vec<u8>, Fail> {
+pub fn flash(alloc: Global, parts: &[(usize, &[u32])], length: usize) -> Result<Vec<u8>, Fail> {
     let mut bytes = Vec::new(alloc);
     for (at, words) in parts {
         bytes.resize(*at, 0xff)?;
@@ -95,7 +95,7 @@ fn minimal(alloc: Global, at: usize, length: usize) -> Result<Vec<u8>, Fail> {
 }
 
 /// The words as the program gets them.
-fn words(alloc: Global, texts: &[&str]) -> Result<Vec<String>, Fail> {
+pub fn words(alloc: Global, texts: &[&str]) -> Result<Vec<String>, Fail> {
     let mut words = Vec::new(alloc);
     for text in texts {
         words.push(String::from_str(alloc, text)?)?;

@@ -1,11 +1,18 @@
 //! The lines that the program prints.
 
-ghost use Rattle.std.specs.Prelude.{◌≡◌, IfOk, string_bytes, option_map};
-ghost use Rattle.boot_run.specs.Texts.{hex_word, window_text, entry_text, version_text, start_text, rollback_text, yes_or_no, fall_text, decision_line, input_line, line, table_text, valid_text, invalid_text, image_text, data_text};
+ghost use Rattle.std.specs.Prelude.{◌≡◌, ◌++◌, IfOk, OnOk, string_bytes, option_map};
+ghost use Rattle.pico_board.specs.declared.mem_board.MemBoard.{MemBoard};
+ghost use Rattle.boot_machine.specs.declared.parts.Parts.{Parts};
+ghost use Rattle.boot_machine.specs.Machines.{Place};
+ghost use Rattle.boot_machine.specs.Standing.{StandsAt};
+ghost use Rattle.boot_run.specs.Texts.{hex_word, window_text, entry_text, version_text, start_text, rollback_text, yes_or_no, fall_text, decision_line, input_line, line, table_text, valid_text, invalid_text, image_text, data_text, script_text, event_line, state_text, end_line};
 
 use crate::why::why_text;
+use arrayvec::ArrayString;
 use block_codec::Version;
+use boot_machine::State;
 use boot_rules::{Decision, Fall, Found, Started};
+use boot_script::ScriptFault;
 use image_check::Why;
 use pico_board::Window;
 use std::alloc::{AllocError, Global};
@@ -184,4 +191,51 @@ pub fn data_line(alloc: Global, window: Window) -> Result<String, AllocError>
 {
     let place = place_text(alloc, window)?;
     format!(in alloc; "data {place}\n")
+}
+
+/// Why a script is not read.
+pub fn script_text(alloc: Global, fault: ScriptFault) -> Result<String, AllocError>
+    ensures { IfOk result (λ t. string_bytes t ≡ script_text fault) }
+{
+    match fault {
+        ScriptFault::Kind(at) => format!(in alloc; "script kind at={at}"),
+        ScriptFault::Short(at) => format!(in alloc; "script short at={at}"),
+        ScriptFault::Pattern(at) => format!(in alloc; "script pattern at={at}"),
+    }
+}
+
+/// Appends the line of an event, by its number.
+pub fn push_event(
+    alloc: Global,
+    text: &mut String,
+    number: u32,
+    event: &ArrayString<320>,
+) -> Result<(), AllocError>
+    ensures { OnOk result
+        (string_bytes text.new ≡ string_bytes text.old ++ event_line number event.now.bytes) }
+{
+    let event = event.as_str();
+    let line = format!(in alloc; "{number} {event}\n")?;
+    text.push_str(&line)
+}
+
+/// What a machine is doing.
+fn state_word(state: &State) -> &'static str
+    ensures { (p : Parts MemBoard) (place : Place) → p.state ≡ state.now → StandsAt p place
+        → result.now ≡ state_text place }
+{
+    match state {
+        State::Off => "off",
+        State::Bootsel => "bootsel",
+        State::Running(_) => "running",
+    }
+}
+
+/// The line behind the events.
+pub fn end_line(alloc: Global, state: &State) -> Result<String, AllocError>
+    ensures { IfOk result (λ t. (p : Parts MemBoard) (place : Place) → p.state ≡ state.now
+        → StandsAt p place → string_bytes t ≡ end_line place) }
+{
+    let word = state_word(state);
+    format!(in alloc; "end state={word}\n")
 }

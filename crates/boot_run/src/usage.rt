@@ -13,13 +13,16 @@ pub const USAGE: &str =
     "boot FLASH OTP CPU KIND  which image a boot starts, or why it falls to BOOTSEL
 info FLASH OTP CPU       the partition table, and the image in each window or why there is none
 data FLASH OTP CPU KIND  the same as boot, and the windows of the data that the image owns
+replay FLASH OTP CPU SCRIPT OUTFLASH OUTOTP  what each event of a script does, and what it leaves
 --help                   this text
 --version                the version of the program
 
-CPU    arm or riscv
-KIND   normal, bootsel, or update=0x and eight hexadecimal digits: the flash address of the update
-FLASH  a file of 1 to 16777216 bytes, filled with 0xff to whole sectors of 4096 bytes, at least two
-OTP    a file of at most 16384 bytes, 4 for each row, the lowest byte first; missing rows are 0
+CPU     arm or riscv
+KIND    normal, bootsel, or update=0x and eight hexadecimal digits: the flash address of the update
+FLASH   a file of 1 to 16777216 bytes, filled with 0xff to whole sectors of 4096 bytes, at least two
+OTP     a file of at most 16384 bytes, 4 for each row, the lowest byte first; missing rows are 0
+SCRIPT  a file of at most 67108864 bytes, with an end among its first 524288 records
+OUTFLASH, OUTOTP  files to write: the whole flash, and all 4096 rows, 4 bytes each
 
 Status 0 means that the text is whole, 1 that the words are no command, 2 that an input is refused,
 3 that the boot falls to BOOTSEL, 4 that a file could not be read, 5 that a file could not be

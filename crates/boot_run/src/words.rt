@@ -1,7 +1,7 @@
 //! The words that are a command.
 
 ghost use Rattle.std.specs.Prelude.{◌≡◌, ◌≢◌, ◌<◌, ◌≤◌, length, IfSome, option_map, map, string_bytes};
-ghost use Rattle.boot_run.specs.Commands.{command_of, cpu_of, kind_of, hex_digit, hex_value, update_base, one_word, four_words, five_words};
+ghost use Rattle.boot_run.specs.Commands.{command_of, cpu_of, kind_of, hex_digit, hex_value, update_base, one_word, four_words, five_words, seven_words};
 ghost use Rattle.boot_run.specs.Views.{command_from};
 
 use pico_board::{BootKind, Cpu};
@@ -28,6 +28,15 @@ pub enum CommandWords<'a> {
         otp: &'a str,
         cpu: Cpu,
         kind: BootKind,
+    },
+    /// What a script does to a machine.
+    Replay {
+        flash: &'a str,
+        otp: &'a str,
+        cpu: Cpu,
+        script: &'a str,
+        out_flash: &'a str,
+        out_otp: &'a str,
     },
     /// How the program is used.
     Usage,
@@ -158,16 +167,60 @@ fn five_words<'a>(
     }
 }
 
-/// The command of words that are not one and not four.
+/// The command of seven words.
+fn seven_words<'a>(
+    name: &str,
+    flash: &'a str,
+    otp: &'a str,
+    cpu: &str,
+    script: &'a str,
+    out_flash: &'a str,
+    out_otp: &'a str,
+) -> Option<CommandWords<'a>>
+    ensures { option_map command_from result
+        ≡ seven_words name.now flash.entry.now otp.entry.now (cpu_of cpu.now) script.entry.now
+        out_flash.entry.now out_otp.entry.now }
+{
+    let cpu = cpu_word(cpu)?;
+    if name == "replay" {
+        Some(CommandWords::Replay {
+            flash,
+            otp,
+            cpu,
+            script,
+            out_flash,
+            out_otp,
+        })
+    } else {
+        None
+    }
+}
+
+/// The command of words that are not one, not four and not five.
 #[tactic(auto, using(crate::proofs::WordLemmas::no_command))]
-fn five_or_none(words: &[String]) -> Option<CommandWords<'_>>
+fn seven_or_none(words: &[String]) -> Option<CommandWords<'_>>
+    requires not_one { length words.now ≢ 1 }
+    requires not_four { length words.now ≢ 4 }
+    requires not_five { length words.now ≢ 5 }
+    ensures { option_map command_from result ≡ command_of (map string_bytes words.entry.now) }
+{
+    match words {
+        [name, flash, otp, cpu, script, out_flash, out_otp] => {
+            seven_words(name, flash, otp, cpu, script, out_flash, out_otp)
+        }
+        _ => None,
+    }
+}
+
+/// The command of words that are not one and not four.
+fn five_or_seven(words: &[String]) -> Option<CommandWords<'_>>
     requires not_one { length words.now ≢ 1 }
     requires not_four { length words.now ≢ 4 }
     ensures { option_map command_from result ≡ command_of (map string_bytes words.entry.now) }
 {
     match words {
         [name, flash, otp, cpu, kind] => five_words(name, flash, otp, cpu, kind),
-        _ => None,
+        _ => seven_or_none(words),
     }
 }
 
@@ -178,7 +231,7 @@ fn four_or_five(words: &[String]) -> Option<CommandWords<'_>>
 {
     match words {
         [name, flash, otp, cpu] => four_words(name, flash, otp, cpu),
-        _ => five_or_none(words),
+        _ => five_or_seven(words),
     }
 }
 

@@ -4,17 +4,18 @@ ghost use Rattle.std.specs.Prelude.{◌≡◌, ◌≢◌, ◌∷◌, [], List, �
 ghost use Rattle.pico_board.specs.MemBoard.{state_of};
 ghost use Rattle.boot_run.specs.Forms.{HasForm};
 ghost use Rattle.boot_run.specs.Works.{Answers};
-ghost use Rattle.boot_run.specs.Outcome.{content_work, files_work, first_fault, refused, worked, work_of, command_outcome, inputs_of, flash_and_otp};
+ghost use Rattle.boot_run.specs.Outcome.{content_work, files_work, first_fault, refused, worked, work_of, command_outcome, inputs_of, flash_and_otp, flash_otp_script, script_work};
 ghost use Rattle.boot_run.specs.Views.{input_from, outcome_from, command_from, bytes_of};
 
 use crate::boards::{boot_answer, data_answer, info_answer};
 use crate::course::{Answer, InputWord};
 use crate::forms::{Form, board_of, form_fault};
+use crate::replay::replay_answer;
 use crate::status::Status;
 use crate::text::fault_text;
 use crate::usage::{release, usage};
 use crate::words::CommandWords;
-use pico_board::MemBoard;
+use pico_board::{Cpu, MemBoard};
 use sector_pool::SectorPool;
 use std::alloc::{AllocError, Global};
 
@@ -38,6 +39,31 @@ fn flash_and_otp<'a>(
     Ok(vec![in alloc; flash, otp]?)
 }
 
+/// A flash file, an OTP file and a script as inputs.
+fn flash_otp_script<'a>(
+    alloc: Global,
+    flash: &'a str,
+    otp: &'a str,
+    script: &'a str,
+) -> Result<Vec<InputWord<'a>>, AllocError>
+    ensures { IfOk result (λ inputs. map input_from inputs.items
+        ≡ flash_otp_script flash.entry.now otp.entry.now script.entry.now) }
+{
+    let flash = InputWord {
+        name: flash,
+        form: Form::Flash,
+    };
+    let otp = InputWord {
+        name: otp,
+        form: Form::Otp,
+    };
+    let script = InputWord {
+        name: script,
+        form: Form::Script,
+    };
+    Ok(vec![in alloc; flash, otp, script]?)
+}
+
 /// The inputs of a command, in word order.
 pub fn inputs<'a>(
     alloc: Global,
@@ -50,6 +76,12 @@ pub fn inputs<'a>(
         CommandWords::Boot { flash, otp, .. } => flash_and_otp(alloc, flash, otp),
         CommandWords::Info { flash, otp, .. } => flash_and_otp(alloc, flash, otp),
         CommandWords::OwnedData { flash, otp, .. } => flash_and_otp(alloc, flash, otp),
+        CommandWords::Replay {
+            flash,
+            otp,
+            script,
+            ..
+        } => flash_otp_script(alloc, flash, otp, script),
         CommandWords::Usage => Ok(Vec::new(alloc)),
         CommandWords::Release => Ok(Vec::new(alloc)),
     }
@@ -102,6 +134,23 @@ fn two(files: Vec<Vec<u8>>) -> Option<(Vec<u8>, Vec<u8>)>
     Some((first, second))
 }
 
+/// A flash file, an OTP file and a script among the bytes of three inputs.
+fn three(files: Vec<Vec<u8>>) -> Option<(Vec<u8>, Vec<u8>, Vec<u8>)>
+    ensures some { IfSome result (λ three. bytes_of files.items
+        ≡ (three.0.items ∷ three.1.items ∷ three.2.items ∷ [])) }
+    ensures none { IfNone result
+        ((f o s : List ℕ) → bytes_of files.items ≢ (f ∷ o ∷ s ∷ [])) }
+{
+    let mut files = files.into_iter();
+    let first = files.next()?;
+    let second = files.next()?;
+    let third = files.next()?;
+    if files.next().is_some() {
+        return None;
+    }
+    Some((first, second, third))
+}
+
 /// The answer of a command that tells a text, is no fall and writes no file.
 fn told<'a>(alloc: Global, text: String) -> Answer<'a>
     ensures { outcome_from result ≡ worked (Answers false (string_bytes text) []) }
@@ -131,6 +180,7 @@ fn board_work<'a>(
         CommandWords::OwnedData { cpu, kind, .. } => {
             data_answer(alloc, board, &mut pool, *cpu, *kind)
         }
+        CommandWords::Replay { .. } => Ok(told(alloc, String::new(alloc))),
         CommandWords::Usage => Ok(told(alloc, String::new(alloc))),
         CommandWords::Release => Ok(told(alloc, String::new(alloc))),
     }
@@ -157,6 +207,28 @@ fn files_work<'a>(
     }
 }
 
+/// The work of a replay on a flash file, an OTP file and a script, which have their forms.
+fn script_work<'a>(
+    alloc: Global,
+    cpu: Cpu,
+    out_flash: &'a str,
+    out_otp: &'a str,
+    files: Vec<Vec<u8>>,
+) -> Result<Answer<'a>, AllocError>
+    requires { (f o s : List ℕ) → bytes_of files.items ≡ (f ∷ o ∷ s ∷ []) → HasForm Form.Flash f
+        × HasForm Form.Otp o × HasForm Form.Script s }
+    ensures { IfOk result (λ answer. outcome_from answer
+        ≡ worked (script_work cpu out_flash.entry.now out_otp.entry.now (bytes_of files.items))) }
+{
+    match three(files) {
+        Some((flash, otp, script)) => {
+            let board = board_of(alloc, flash, &otp)?;
+            replay_answer(alloc, board, cpu, &script, out_flash, out_otp)
+        }
+        None => Ok(told(alloc, String::new(alloc))),
+    }
+}
+
 /// The work of a command on the bytes of its inputs, which have their forms.
 fn work<'a>(
     alloc: Global,
@@ -172,6 +244,12 @@ fn work<'a>(
         CommandWords::Boot { .. } => files_work(alloc, command, files),
         CommandWords::Info { .. } => files_work(alloc, command, files),
         CommandWords::OwnedData { .. } => files_work(alloc, command, files),
+        CommandWords::Replay {
+            cpu,
+            out_flash,
+            out_otp,
+            ..
+        } => script_work(alloc, *cpu, out_flash, out_otp, files),
         CommandWords::Usage => Ok(told(alloc, usage(alloc)?)),
         CommandWords::Release => Ok(told(alloc, release(alloc)?)),
     }

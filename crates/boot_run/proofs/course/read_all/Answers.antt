@@ -7,14 +7,14 @@ returns-in-Err g c =
     rw c.unread_status.ensures (c.loop-input.invariant _ _
     (reads-fail g.S.Store.state g.S.Store.history c.args.inputs.now c.loop-input.input-index _ _ c.loop-input.store
     c.read_file.new.store c.in-Err.fail
-    c.loop-input-test.true c.in-Err.ensures))
+    c.loop-input-test.true c.in-Err.ensures.served))
 
 pub returns-in-Err-push : goal.returns-in-Err-push
 returns-in-Err-push g c =
     c.loop-input.invariant _ _
     (reads-more g.S.Store.state g.S.Store.history c.args.inputs.now c.loop-input.input-index _ _ _ c.loop-input.store
     c.read_file.new.store c.read_file.new.store
-    c.in-Ok.file.items _ c.loop-input-test.true c.in-Ok.ensures refl
+    c.in-Ok.file.items _ c.loop-input-test.true c.in-Ok.ensures.bytes c.in-Ok.ensures.served refl
     (reads-stop g.S.Store.state g.S.Store.history _ _ c.read_file.new.store))
 
 pub loop-input-preserved : goal.loop-input-preserved
@@ -22,5 +22,5 @@ loop-input-preserved g c = λ end new rest.
     c.loop-input.invariant _ _
     (reads-more g.S.Store.state g.S.Store.history c.args.inputs.now c.loop-input.input-index _ _ _ c.loop-input.store
     c.read_file.new.store new
-    c.in-Ok.file.items end c.loop-input-test.true c.in-Ok.ensures
+    c.in-Ok.file.items end c.loop-input-test.true c.in-Ok.ensures.bytes c.in-Ok.ensures.served
     (bytes-more c.loop-input.files.items c.push.new.self.items c.in-Ok.file c.in-Ok-push.ensures.items) rest)
