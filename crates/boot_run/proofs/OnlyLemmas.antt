@@ -23,8 +23,8 @@ use Rattle.boot_run.specs.Forms.{HasForm, content_of, events_read, script_events
 use Rattle.boot_run.specs.Texts.{line, decision_line, table_text, image_text, event_lines, end_line}
 use Rattle.boot_run.specs.Works.{boot_work, info_work, data_work, replay_work, played_work, window_line, windows_in, decided_data, data_line, content_files}
 use Rattle.boot_run.specs.Outcome.{Input, Outcome, inputs_of, flash_and_otp, flash_otp_script, refused, worked, first_fault, judged, command_outcome, outcome_on, outcome_found, found, found_next}
-use Rattle.boot_run.specs.Rules.{IsFirstFault, IsRefusal, decided_status, IsBootOf, IsLineOf, AreLinesOf, IsInfoOf, IsDataOf, IsReplayOf, Obeys, FallsOn}
-use Rattle.boot_run.specs.Replays.{AreOfBytes, Played, played, powerless}
+use Rattle.boot_run.specs.Rules.{NeedsBytes, IsFirstFault, IsRefusal, decided_status, IsBootOf, IsLineOf, AreLinesOf, IsInfoOf, IsDataOf, IsReplayOf, Obeys, FallsOn}
+use Rattle.boot_run.specs.Replays.{Played, played, powerless}
 use Rattle.boot_run.proofs.PlayLemmas.{plays-only}
 use Rattle.boot_run.proofs.FormLemmas.{fault-exact}
 use Rattle.boot_run.proofs.OutcomeLemmas.{no-fault}
@@ -190,7 +190,7 @@ found-long files (input ∷ inputs) read h =
 
 -- the outcome on files that have all inputs is right
 pub whole-right : (command : Command) (files : List File) (read : List (List ℕ))
-    → found files (inputs_of command) ≡ Some read → AreOfBytes read
+    → found files (inputs_of command) ≡ Some read → NeedsBytes command read
     → Obeys command read (outcome_on (Some command) files)
 whole-right command files read there small =
     subst (Obeys command read) (sym (ap (outcome_found (Some command)) there))

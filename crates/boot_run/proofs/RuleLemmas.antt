@@ -24,7 +24,7 @@ use Rattle.boot_run.specs.Forms.{HasForm, form_fault, content_of, filled, filled
 use Rattle.boot_run.specs.Works.{is_fall, boot_work, info_work, data_work, replay_work, window_line, windows_in}
 use Rattle.boot_run.specs.Outcome.{Input, Outcome, inputs_of, flash_and_otp, flash_otp_script, refused, worked, work_of, files_work, script_work, answered_status, first_fault, judged, command_outcome}
 use Rattle.boot_run.specs.Texts.{line, image_text}
-use Rattle.boot_run.specs.Rules.{IsFirstFault, AreFormed, IsRefused, IsRefusal, decided_status, IsBootOf, IsLineOf, AreLinesOf, IsInfoOf, IsDataOf, IsReplayOf, Obeys}
+use Rattle.boot_run.specs.Rules.{NeedsBytes, IsFirstFault, AreFormed, IsRefused, IsRefusal, decided_status, IsBootOf, IsLineOf, AreLinesOf, IsInfoOf, IsDataOf, IsReplayOf, Obeys}
 use Rattle.boot_script.specs.declared.event.ScriptFault.{ScriptFault}
 use Rattle.boot_script.specs.Events.{Happening}
 use Rattle.boot_script.specs.Scripts.{events}
@@ -207,7 +207,8 @@ none-obeys command [] long right = right
 none-obeys command (bytes ∷ read) long right = absurd (omega arith)
 
 -- the outcome of each command on the bytes of its inputs is right by the rules
-pub obeys : (command : Command) (read : List (List ℕ)) → length read ≡ length (inputs_of command) → AreOfBytes read
+pub obeys : (command : Command) (read : List (List ℕ)) → length read ≡ length (inputs_of command)
+    → NeedsBytes command read
     → IsRight command read
 obeys (Boot flash otp cpu kind) read long small =
     let r = two read long in subst (IsRight (Boot flash otp cpu kind)) (sym r.2) (boot-obeys flash otp r.0 r.1 cpu kind)
@@ -222,6 +223,15 @@ obeys (Replay flash otp cpu script out_flash out_otp) read long small =
     (replay-obeys flash otp script out_flash out_otp r.0 r.1 r.2 cpu (subst AreOfBytes r.3 small))
 obeys Usage read long small = none-obeys Usage read long refl
 obeys Release read long small = none-obeys Release read long refl
+
+-- inputs of bytes serve every command
+pub bytes-serve : (command : Command) (read : List (List ℕ)) → AreOfBytes read → NeedsBytes command read
+bytes-serve (Boot flash otp cpu kind) read small = tt
+bytes-serve (Info flash otp cpu) read small = tt
+bytes-serve (OwnedData flash otp cpu kind) read small = tt
+bytes-serve (Replay flash otp cpu script out_flash out_otp) read small = small
+bytes-serve Usage read small = tt
+bytes-serve Release read small = tt
 
 -- inputs that have their forms have no fault
 first-apart : (inputs : List Input) (read : List (List ℕ)) (name fault : List ℕ) → AreFormed inputs read

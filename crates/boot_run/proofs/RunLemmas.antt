@@ -25,7 +25,7 @@ use Rattle.boot_run.specs.Outcome.{Outcome, Input, inputs_of, inputs_in, flash_a
 use Rattle.boot_run.specs.Replays.{AreOfBytes}
 use Rattle.boot_run.specs.Rules.{Obeys, IsRefused, decided_status}
 use Rattle.boot_run.specs.Ends.{AreRead, LacksOne, Does, IsAsTold, LeftAt}
-use Rattle.boot_run.proofs.RuleLemmas.{obeys, refused-exactly}
+use Rattle.boot_run.proofs.RuleLemmas.{bytes-serve, obeys, refused-exactly}
 use Rattle.boot_run.proofs.OutcomeLemmas.{outcome-finished, outcome-words, outcome-told, not-lacking, no-fault}
 use Rattle.boot_run.proofs.EndLemmas.{RunEnd, room, unread, cut_short, whole, put_fault, put_memory, Finished, end-finished}
 
@@ -203,7 +203,8 @@ module _ {S : Type 0} (state : S → StoreState) (history : S → List Access �
       record {
         read = f.read;
         o = command_outcome c f.read;
-        right = obeys c f.read long (read-bytes (state old).files (inputs_in command) f.read f.are);
+        right = obeys c f.read long
+            (bytes-serve c f.read (read-bytes (state old).files (inputs_in command) f.read f.are));
         answer = is;
         input = (λ e. exactly.0 (sym is ∙ e), λ r. is ∙ exactly.1 r);
         does = subst

@@ -27,7 +27,7 @@ use Rattle.boot_run.specs.declared.forms.Form.TheVariants.{Flash, Otp, Script}
 use Rattle.boot_run.specs.Commands.{Command, Boot, Info, OwnedData, Replay, Usage, Release}
 use Rattle.boot_run.specs.Forms.{HasForm, IsFault, content_of}
 use Rattle.boot_run.specs.Texts.{line, decision_line, table_text, valid_text, invalid_text, usage_text, release_line, event_lines, end_line}
-use Rattle.boot_run.specs.Replays.{powerless}
+use Rattle.boot_run.specs.Replays.{AreOfBytes, powerless}
 use Rattle.boot_run.specs.Works.{windows_in, decided_data, data_line, content_files}
 use Rattle.boot_run.specs.Outcome.{Outcome, Input, inputs_of, refused}
 
@@ -126,6 +126,12 @@ pub record IsReplayOf (c : Content) (cpu : Cpu) (script flash otp : List ℕ) (o
 -- the outcome tells a text, is no fall and writes no file
 abbrev pub Tells : List ℕ → Outcome → Type 0
 Tells text o = o ≡ record { status = Done; text = text; files = [] }
+
+-- a replay asks that its inputs are of bytes, since power that is lost in an erase leaves bytes;
+-- the other commands ask nothing of theirs
+abbrev pub NeedsBytes : Command → List (List ℕ) → Type 0
+NeedsBytes (Replay flash otp cpu script out_flash out_otp) read = AreOfBytes read
+NeedsBytes command read = ⊤
 
 -- the outcome is right for a command on the bytes of its inputs
 abbrev pub Obeys : Command → List (List ℕ) → Outcome → Type 0

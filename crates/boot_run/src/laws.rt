@@ -18,9 +18,9 @@ ghost use Rattle.boot_run.specs.Statuses.{number_of};
 ghost use Rattle.boot_run.specs.Commands.{Command, Boot, OwnedData};
 ghost use Rattle.boot_run.specs.Forms.{HasForm, IsFault, form_fault, content_of};
 ghost use Rattle.boot_run.specs.Outcome.{Outcome, inputs_of, command_outcome, outcome_on, found};
-ghost use Rattle.boot_run.specs.Rules.{Obeys, IsRefused, FallsOn};
+ghost use Rattle.boot_run.specs.Rules.{Obeys, IsRefused, FallsOn, NeedsBytes};
 ghost use Rattle.boot_run.specs.Ends.{cut};
-ghost use Rattle.boot_run.specs.Replays.{AreOfBytes, IsOfBytes, IsTelling, moved, played};
+ghost use Rattle.boot_run.specs.Replays.{IsOfBytes, IsTelling, moved, played};
 
 /// The program ends with one of eight numbers, by how the run ended.
 pub fn statuses_have_numbers()
@@ -48,16 +48,17 @@ pub fn every_content_is_given()
         → (f : List ℕ) × (g : List ℕ) × HasForm Flash f × HasForm Otp g × (content_of f g ≡ c) }
 {}
 
-/// The outcome of a command on the bytes of its inputs is the one that is right by the rules. That
-/// the inputs are of bytes is asked for since power that is lost in an erase leaves bytes.
+/// The outcome of a command on the bytes of its inputs is the one that is right by the rules. Of a
+/// replay alone it is asked that its inputs are of bytes, since an erase that loses power leaves
+/// bytes.
 pub fn outcomes_are_right()
     ensures right { (command : Command) (read : List (List ℕ))
-        → length read ≡ length (inputs_of command) → AreOfBytes read
+        → length read ≡ length (inputs_of command) → NeedsBytes command read
         → Obeys command read (command_outcome command read) }
     ensures only { (command : Command) (read : List (List ℕ)) (o : Outcome)
         → Obeys command read o → o ≡ command_outcome command read }
     ensures whole { (command : Command) (files : List File) (read : List (List ℕ))
-        → found files (inputs_of command) ≡ Some read → AreOfBytes read
+        → found files (inputs_of command) ≡ Some read → NeedsBytes command read
         → Obeys command read (outcome_on (Some command) files) }
 {}
 
