@@ -27,7 +27,7 @@ use Rattle.image_check.specs.Rules.{map_answer, map_loads}
 use Rattle.image_check.specs.SameImage.{AgreeFrom, AgreeOnBlocks, AgreeOnStorage, Holds, HoldSameImage}
 use Rattle.image_check.proofs.AnswerLemmas.{ok-fault_as}
 use Rattle.image_check.proofs.AnsweredLemmas.{defined-ok}
-use Rattle.image_check.proofs.SeenLemmas.{at-place}
+use Rattle.block_loop.proofs.PlaceLemmas.{at-place}
 
 -- a byte of a piece
 in_piece : (xs : List ℕ) (at n i : ℕ) → at ≤ i → i < at + n

@@ -2,17 +2,15 @@
 use Rattle.std.proofs.Common.{◌≡◌, ℕ, ◌+◌, ◌≤◌, Bool, true, false, ◌||◌, if◌then◌else◌, List, [], ◌∷◌, ◌++◌, length, take, slice_get, Option, Some, None, Result, Ok, Err, refl, sym, ap, ◌∙◌, subst, arith}
 use Rattle.std.specs.Prelude.{find, IfOk}
 use Rattle.std.specs.List.{list_any}
-use Rattle.std.specs.Option.{option_map}
-use Rattle.std.proofs.lemmas.List.{reverse-append, take_more, take_all, length-map}
+use Rattle.std.proofs.lemmas.List.{reverse-append, take_more, take_all}
 use Rattle.std.proofs.lemmas.List.Folds.{list_any-append}
-use Rattle.std.proofs.lemmas.Option.{slice_get-map, slice_get_within, get_or_from_slice_get, same_Some}
+use Rattle.std.proofs.lemmas.Option.{slice_get_within, get_or_from_slice_get, same_Some}
 use Rattle.pico_board.specs.declared.boot.Cpu.{Cpu}
 use Rattle.block_codec.specs.Blocks.{BlockView, block_at}
-use Rattle.block_codec.proofs.AtLemmas.{block_at-stands}
-use Rattle.block_loop.specs.declared.fault.LoopFault.{LoopFault}
-use Rattle.block_loop.specs.Loop.{IsLoop, loop_of}
-use Rattle.block_loop.specs.Offsets.{AreLoop, offsets_of}
-use Rattle.block_loop.proofs.ChainLemmas.{Says, loop_of-loop, loop_of-says}
+use Rattle.block_loop.specs.Loop.{loop_of}
+use Rattle.block_loop.specs.Offsets.{AreLoop}
+use Rattle.block_loop.proofs.ChainLemmas.{loop_of-loop}
+use Rattle.block_loop.proofs.PlaceLemmas.{as-many, at-place}
 use Rattle.image_check.specs.declared.why.Why.{Why}
 use Rattle.image_check.specs.declared.why.Why.TheVariants.{Items, NotForProcessor}
 use Rattle.image_check.specs.Answers.{or_fault}
@@ -25,53 +23,11 @@ use Rattle.image_check.proofs.LastLemmas.{last-found}
 use Rattle.image_check.proofs.RuleLemmas.{suits-type}
 use Rattle.image_def.specs.Suits.{does_suit, has_image_type, last_suiting}
 
-is-loop : (w : List ℕ) (bs : List BlockView) → loop_of w ≡ Ok bs → IsLoop w bs
-is-loop w bs h = subst (Says w) h (loop_of-says w)
-
 -- the element at a place, after those before it
 pub one-more : {X : Type 0} (xs : List X) (i : ℕ) (x : X) → slice_get xs i ≡ Some x
     → take (i + 1) xs ≡ take i xs ++ x ∷ []
 one-more xs i x at =
     take_more xs i x (slice_get_within xs i x at) ∙ ap (λ y. take i xs ++ y ∷ []) (get_or_from_slice_get xs i x x at)
-
-abbrev found-loop : List BlockView → Result (List BlockView) LoopFault
-found-loop bs = Ok bs
-
--- the offsets are those of the one loop
-the-loop : (w offsets : List ℕ) → AreLoop w offsets → (loop : List BlockView) → loop_of w ≡ Ok loop
-    → offsets_of loop ≡ offsets
-the-loop w offsets are loop is =
-    let found = are.blocks in
-    let same : loop ≡ found.0 = same-loop loop found.0 (sym is ∙ loop_of-loop w found.0 found.1) in
-    ap offsets_of same ∙ found.2
-  where
-    same-loop : (xs ys : List BlockView) → found-loop xs ≡ found-loop ys → xs ≡ ys
-    same-loop xs ys h = cc
-
-mapped : (o : Option BlockView) (x : ℕ) → option_map (λ (b : BlockView). b.at) o ≡ Some x
-    → (b : BlockView) × (o ≡ Some b) × (b.at ≡ x)
-mapped None x h = cc
-mapped (Some b) x h = (b, refl, cc)
-
--- the block at a place of the loop stands at the offset there
-pub at-place : (w offsets : List ℕ) (i x : ℕ) → AreLoop w offsets → slice_get offsets i ≡ Some x
-    → (loop : List BlockView) → loop_of w ≡ Ok loop
-    → (b : BlockView) × (slice_get loop i ≡ Some b) × (block_at w x ≡ Some b)
-at-place w offsets i x are at loop is =
-    let same = the-loop w offsets are loop is in
-    let here : option_map (λ (b : BlockView). b.at) (slice_get loop i) ≡ Some x =
-    sym (slice_get-map (λ (b : BlockView). b.at) loop i) ∙ ap (λ (xs : List ℕ). slice_get xs i) same ∙ at in
-    let b = mapped (slice_get loop i) x here in
-    let stands = (is-loop w loop is).chain.stand i b.0 b.1 in
-    (b.0, b.1, ap (block_at w) (sym b.2) ∙ block_at-stands w b.0.at b.0 stands)
-
--- so some block stands there
-pub stands-at : (w offsets : List ℕ) (i x : ℕ) → AreLoop w offsets → slice_get offsets i ≡ Some x
-    → (b : BlockView) × (block_at w x ≡ Some b)
-stands-at w offsets i x are at =
-    let found = are.blocks in
-    let b = at-place w offsets i x are at found.0 (loop_of-loop w found.0 found.1) in
-    (b.0, b.2)
 
 -- the last block that suits, with one more block
 pub suiting-more : (cpu : Cpu) (loop : List BlockView) (b : BlockView)
@@ -116,8 +72,7 @@ module _ (w offsets : List ℕ) (are : AreLoop w offsets) (cpu : Cpu) (i x : ℕ
 pub all-blocks : (w offsets : List ℕ) → AreLoop w offsets → (i : ℕ) → length offsets ≤ i → (loop : List BlockView)
     → loop_of w ≡ Ok loop → take i loop ≡ loop
 all-blocks w offsets are i le loop is =
-    let long : length loop ≡ length offsets = sym (length-map loop (λ (b : BlockView). b.at))
-    ∙ ap length (the-loop w offsets are loop is) in
+    let long = as-many w offsets are loop is in
     take_all i loop (omega arith)
 
 -- a block that suits has an IMAGE_TYPE item

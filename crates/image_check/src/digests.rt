@@ -9,7 +9,6 @@ ghost use Rattle.image_check.specs.Examples.{arm_record, arm_type, both_digest, 
 ghost use Rattle.image_check.specs.Image.{image_in};
 
 /// A digest of the block's first four words, and a wrong one; the trial bit is read as clear.
-#[tactic(auto, unfolding(crate::specs::Image::image_in, image_def::specs::Definition::def_of, block_loop::specs::Loop::loop_of, block_loop::specs::Loop::follow, block_loop::specs::Loop::first_from, block_codec::specs::Blocks::block_at, block_codec::specs::Blocks::front_block, block_codec::specs::Blocks::item_words, block_codec::specs::Blocks::frame, block_codec::specs::Items::size_of, block_codec::specs::Words::word_of, block_codec::specs::Words::word_bytes))]
 pub fn digests_of_the_block()
     ensures right { image_in in_flash window_at_two Arm false (otp_with 0 0 0 0)
         (window_with right_pc (arm_type ∷ hash_of_four plain_digest) 0)
@@ -23,7 +22,6 @@ pub fn digests_of_the_block()
 
 /// A digest of what a load map stores and then of the block's words; of a clear entry it covers the
 /// size; of two entries, the first one first.
-#[tactic(auto, unfolding(crate::specs::Image::image_in, image_def::specs::Definition::def_of, block_loop::specs::Loop::loop_of, block_loop::specs::Loop::follow, block_loop::specs::Loop::first_from, block_codec::specs::Blocks::block_at, block_codec::specs::Blocks::front_block, block_codec::specs::Blocks::item_words, block_codec::specs::Blocks::frame, block_codec::specs::Items::size_of, block_codec::specs::Words::word_of, block_codec::specs::Words::word_bytes))]
 pub fn digests_of_loads()
     ensures stored { image_in in_flash window_at_two Arm false (otp_with 0 0 0 0)
         (window_with right_pc
@@ -42,7 +40,6 @@ pub fn digests_of_loads()
 {}
 
 /// A wrong digest before a window delta, and a right one with such a delta.
-#[tactic(auto, unfolding(crate::specs::Image::image_in, image_def::specs::Definition::def_of, block_loop::specs::Loop::loop_of, block_loop::specs::Loop::follow, block_loop::specs::Loop::first_from, block_codec::specs::Blocks::block_at, block_codec::specs::Blocks::front_block, block_codec::specs::Blocks::item_words, block_codec::specs::Blocks::frame, block_codec::specs::Items::size_of, block_codec::specs::Words::word_of, block_codec::specs::Words::word_bytes))]
 pub fn the_digest_before_the_delta()
     ensures digest { image_in in_flash window_at_two Arm false (otp_with 0 0 0 0)
         (window_with right_pc (arm_type ∷ hash_of_four stored_digest ++ delta_four) 0)

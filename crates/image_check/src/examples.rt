@@ -117,7 +117,6 @@ pub fn rollback_versions_are_compared()
 
 /// Whole windows of 64 bytes with a block of version 9.0 at offset 8: PC in SRAM, PC past the
 /// window, PC in the block, another processor, a trial that is not allowed and one that is.
-#[tactic(auto, unfolding(crate::specs::Image::image_in, image_def::specs::Definition::def_of, block_loop::specs::Loop::loop_of, block_loop::specs::Loop::follow, block_loop::specs::Loop::first_from, block_codec::specs::Blocks::block_at, block_codec::specs::Blocks::front_block, block_codec::specs::Blocks::item_words, block_codec::specs::Blocks::frame, block_codec::specs::Items::size_of, block_codec::specs::Words::word_of))]
 pub fn whole_windows()
     ensures starts { image_in in_flash window_at_two Arm false (otp_with 0 0 0 0)
         (window_of 0x01 0x00 0x20 0x10) ≡ Ok (version_nine 0x20000001 false) }
@@ -135,7 +134,6 @@ pub fn whole_windows()
 
 /// An Arm image in RAM has its vector table at the window's base, and its PC is compared with its
 /// block there; a load must be used where it is stored, and so is no clear entry.
-#[tactic(auto, unfolding(crate::specs::Image::image_in, image_def::specs::Definition::def_of, block_loop::specs::Loop::loop_of, block_loop::specs::Loop::follow, block_loop::specs::Loop::first_from, block_codec::specs::Blocks::block_at, block_codec::specs::Blocks::front_block, block_codec::specs::Blocks::item_words, block_codec::specs::Blocks::frame, block_codec::specs::Items::size_of, block_codec::specs::Words::word_of, block_codec::specs::Words::word_bytes))]
 pub fn images_in_ram()
     ensures starts { image_in (in_ram 0x20001000) window_at_two Arm false (otp_with 0 0 0 0)
         (window_with right_pc (arm_type ∷ []) 0) ≡ Ok (arm_record right_pc false) }
@@ -156,7 +154,6 @@ pub fn images_in_ram()
 {}
 
 /// Bit 0 of the boot flags alone requires rollback versions.
-#[tactic(auto, unfolding(crate::specs::Image::image_in, image_def::specs::Definition::def_of, block_loop::specs::Loop::loop_of, block_loop::specs::Loop::follow, block_loop::specs::Loop::first_from, block_codec::specs::Blocks::block_at, block_codec::specs::Blocks::front_block, block_codec::specs::Blocks::item_words, block_codec::specs::Blocks::frame, block_codec::specs::Items::size_of, block_codec::specs::Words::word_of, block_codec::specs::Words::word_bytes))]
 pub fn rollback_versions_are_required()
     ensures required { image_in in_flash window_at_two Arm false (otp_with 1 0 0 0)
         (window_with right_pc (arm_type ∷ []) 0) ≡ Err RollbackRequired }

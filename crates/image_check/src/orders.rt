@@ -15,7 +15,6 @@ ghost use Rattle.image_check.specs.Image.{image_in};
 /// A loop that does not close before a window without a definition; no definition before none for
 /// the processor; that before items that are not read; and those before a trial that is not
 /// allowed.
-#[tactic(auto, unfolding(crate::specs::Image::image_in, image_def::specs::Definition::def_of, block_loop::specs::Loop::loop_of, block_loop::specs::Loop::follow, block_loop::specs::Loop::first_from, block_codec::specs::Blocks::block_at, block_codec::specs::Blocks::front_block, block_codec::specs::Blocks::item_words, block_codec::specs::Blocks::frame, block_codec::specs::Items::size_of, block_codec::specs::Words::word_of, block_codec::specs::Words::word_bytes))]
 pub fn from_the_loop_to_the_trial()
     ensures no_block { image_in in_flash window_at_two Arm false (otp_with 1 0 0 0) []
         ≡ Err NoBlock }
@@ -32,7 +31,6 @@ pub fn from_the_loop_to_the_trial()
 /// A trial before missing rows; missing rows and a version below its rows before a wrong map; a
 /// wrong map before a wrong entry; and a vector table that is not given, or that meets the block,
 /// before a PC that lies nowhere.
-#[tactic(auto, unfolding(crate::specs::Image::image_in, image_def::specs::Definition::def_of, block_loop::specs::Loop::loop_of, block_loop::specs::Loop::follow, block_loop::specs::Loop::first_from, block_codec::specs::Blocks::block_at, block_codec::specs::Blocks::front_block, block_codec::specs::Blocks::item_words, block_codec::specs::Blocks::frame, block_codec::specs::Items::size_of, block_codec::specs::Words::word_of, block_codec::specs::Words::word_bytes))]
 pub fn from_the_trial_to_the_entry()
     ensures trial { image_in in_flash window_at_two Arm false (otp_with 1 0 0 0)
         (window_with stray_pc (trial_type ∷ wrong_map) 0) ≡ Err Trial }
@@ -54,7 +52,6 @@ pub fn from_the_trial_to_the_entry()
 
 /// An image with a rollback version and a row; a RISC-V image, which starts at the first byte of
 /// its window, in flash and in RAM.
-#[tactic(auto, unfolding(crate::specs::Image::image_in, image_def::specs::Definition::def_of, block_loop::specs::Loop::loop_of, block_loop::specs::Loop::follow, block_loop::specs::Loop::first_from, block_codec::specs::Blocks::block_at, block_codec::specs::Blocks::front_block, block_codec::specs::Blocks::item_words, block_codec::specs::Blocks::frame, block_codec::specs::Items::size_of, block_codec::specs::Words::word_of, block_codec::specs::Words::word_bytes))]
 pub fn whole_records()
     ensures rows { image_in in_flash window_at_two Arm false (otp_with 1 0x7 0x7 0x7)
         (window_with right_pc (arm_type ∷ version_three) 0) ≡ Ok three_record }

@@ -15,10 +15,14 @@ use Rattle.block_codec.proofs.ItemLemmas.{AreItemsAfter-back}
 use Rattle.block_codec.proofs.WordLemmas.{AreWords-words_of, length-words_of, length-bytes_of}
 use Rattle.part_table.specs.declared.partition.Partition.{Partition}
 use Rattle.part_table.specs.declared.table.Table.{Table}
+use Rattle.std.specs.Option.{option_or}
+use Rattle.block_codec.specs.FirstFault.{ok_unless}
+use Rattle.part_table.specs.declared.table.TableFault.{TableFault}
 use Rattle.part_table.specs.Faults.{table_fault}
+use Rattle.part_table.specs.Judged.{IsJudgedAs}
 use Rattle.part_table.specs.Written.{IsWritable, IsReadableTable, IsWritableTable, IsReadAs, id_text, name_text, padded_name, partition_text, header, table_item, table_body, version_item, hash_def_item, hashed_items, written_items, written, written_size}
 use Rattle.part_table.proofs.WrittenFacts.{padded_bytes}
-use Rattle.part_table.proofs.RoundTrip.{type_is, size_is, three_joined, small_part, sha256_is_bytes, size_written, table_back, table_stands}
+use Rattle.part_table.proofs.RoundTrip.{type_is, size_is, three_joined, small_part, sha256_is_bytes, size_written, table_judged, table_stands}
 
 -- a whole item before whole items
 whole_item : (kind size part : ℕ) (body rest : List ℕ) → kind < 128 → size < 256 → size ≡ 1 + length body
@@ -130,20 +134,38 @@ module _ (t : Table) (ok : IsWritableTable t) where
     fits = record { sfits = omega arith };
   }
 
--- a block that is written for a table is read as the table, whatever follows it
-pub read_as : (t : Table) → IsReadableTable t → IsBlock (written t) (written_items t) (pos 0) → (n m : ℕ)
-    → table_fault t n m ≡ None
-    → IsReadAs (written t) t n m
-read_as t readable block n m none at rest = (
+no_other : (o : Option TableFault) → option_or o None ≡ o
+no_other None = refl
+no_other (Some f) = refl
+
+-- a block that is written for a table is read to its own first fault, whatever follows it
+pub judged_as : (t : Table) → IsReadableTable t → IsBlock (written t) (written_items t) (pos 0) → (n m : ℕ)
+    → IsJudgedAs (written t) t n m
+judged_as t readable block n m at rest = (
   record { at = at; items = written_items t; link = pos 0 },
   front_block-found at (written t) (written_items t) rest (pos 0) block,
   table_stands t at readable,
-  table_back t at n m readable none,
+  table_judged t at n m readable ∙ ap (λ f. ok_unless f t) (no_other (table_fault t n m)),
 )
 
+-- so it is read as the table where that has none
+pub read_from_judged : (t : Table) (n m : ℕ) → IsJudgedAs (written t) t n m → table_fault t n m ≡ None
+    → IsReadAs (written t) t n m
+read_from_judged t n m judged none at rest =
+    let is = judged at rest in (is.0, is.1, is.2, is.3 ∙ ap (λ f. ok_unless f t) none)
+
+-- the same of words that are those of the block
+pub judged_when : (t : Table) (words : List ℕ) → IsReadableTable t → words ≡ written_items t
+    → IsBlock (bytes_of (frame words (pos 0))) words (pos 0) → (n m : ℕ) → IsJudgedAs (written t) t n m
+judged_when t words readable same block =
+    judged_as t readable (subst (λ ws. IsBlock (bytes_of (frame ws (pos 0))) ws (pos 0)) same block)
+
 -- the same of tables that can be written
+pub judged_again : (t : Table) (n m : ℕ) → IsWritableTable t → IsJudgedAs (written t) t n m
+judged_again t n m ok = judged_as t ok.readable (is_block t ok) n m
+
 pub read_again : (t : Table) (n m : ℕ) → IsWritableTable t → table_fault t n m ≡ None → IsReadAs (written t) t n m
-read_again t n m ok none = read_as t ok.readable (is_block t ok) n m none
+read_again t n m ok none = read_from_judged t n m (judged_again t n m ok) none
 
 pub stands : (t : Table) (rest : List ℕ) → IsWritableTable t
     → block_at (written t ++ rest) 0 ≡ Some (record { at = 0; items = written_items t; link = pos 0 })

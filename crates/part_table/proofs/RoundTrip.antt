@@ -1,5 +1,5 @@
 -- The block that is written for a table is read as the table.
-use Rattle.std.proofs.Common.{◌≡◌, ℕ, zero, suc, ◌+◌, ◌-◌, ◌*◌, ◌/◌, ◌%◌, ◌<◌, ◌≤◌, Bool, true, false, nat_le, nat_lt, ◌==◌, if◌then◌else◌, List, [], ◌∷◌, ◌++◌, length, take, drop, get_or, refl, sym, ◌∙◌, ap, arith, None, Some, Ok, append_assoc, length-append, pos, not, bytes_eq, option_map, is_some}
+use Rattle.std.proofs.Common.{◌≡◌, ℕ, zero, suc, ◌+◌, ◌-◌, ◌*◌, ◌/◌, ◌%◌, ◌<◌, ◌≤◌, Bool, true, false, nat_le, nat_lt, ◌==◌, if◌then◌else◌, List, [], ◌∷◌, ◌++◌, length, take, drop, get_or, refl, sym, ◌∙◌, ap, arith, None, Some, append_assoc, length-append, pos, not, bytes_eq, option_map, is_some}
 use Rattle.std.specs.List.{flat_map, slice_index, slice_range}
 use Rattle.std.specs.Int.{to_be_bytes, w32, cast_unsigned}
 use Rattle.std.proofs.lemmas.Bool.Decides.{nat_tests}
@@ -358,25 +358,26 @@ module _ (t : Table) (writable : IsReadableTable t) where
         ∙ ap (λ yes. not yes) ((bytes_eq-Decides digest digest).1 refl)
 
     -- words and items that are those of the block are judged as the table
-    judged_back : (words : List ℕ) (items : List Item) (n m : ℕ) → words ≡ all
-        → items ≡ four_items size_of_item part_of → table_fault t n m ≡ None
-        → table_or_fault (table_of_items words items) n m (wrong_hash_fault words items) ≡ Ok t
-    judged_back words items n m same_words same_items none =
+    judged_as : (words : List ℕ) (items : List Item) (n m : ℕ) → words ≡ all
+        → items ≡ four_items size_of_item part_of
+        → table_or_fault (table_of_items words items) n m (wrong_hash_fault words items)
+        ≡ ok_unless (option_or (table_fault t n m) None) t
+    judged_as words items n m same_words same_items =
         ap (λ ws. table_or_fault (table_of_items ws items) n m (wrong_hash_fault ws items)) same_words
         ∙ ap (λ is. table_or_fault (table_of_items all is) n m (wrong_hash_fault all is)) same_items
         ∙ ap (λ o. table_or_fault o n m (wrong_hash_fault all (four_items size_of_item part_of))) table_there
         ∙ ap (λ yes. table_or_fault (Some t) n m (if yes then Some Hash else None)) digest_there
-        ∙ ap (λ f. ok_unless (option_or f None) t) none
 
--- a table that was written is read as the same table, in each flash for which it has no fault
-pub table_back : (t : Table) (at n m : ℕ) → IsReadableTable t → table_fault t n m ≡ None
-    → table_of (record { at = at; items = written_items t; link = pos 0 }) n m ≡ Ok t
+-- a table that was written is read to its own first fault, in each flash
+pub table_judged : (t : Table) (at n m : ℕ) → IsReadableTable t
+    → table_of (record { at = at; items = written_items t; link = pos 0 }) n m
+    ≡ ok_unless (option_or (table_fault t n m) None) t
 unfolding frame
-table_back t at n m writable none =
-    judged_back t writable (last_item (length (written_items t)) ∷ cast_unsigned w32 (pos 0) ∷ end_word ∷ [])
+table_judged t at n m writable =
+    judged_as t writable (last_item (length (written_items t)) ∷ cast_unsigned w32 (pos 0) ∷ end_word ∷ [])
     (frame (written_items t) (pos 0)) (items_of (written_items t)) n m
     (words_are t writable (last_item (length (written_items t)) ∷ cast_unsigned w32 (pos 0) ∷ end_word ∷ []))
-    (items_are t writable) none
+    (items_are t writable)
 
 -- the block has a table
 pub table_stands : (t : Table) (at : ℕ) → IsReadableTable t

@@ -11,3 +11,4 @@ pub mod Sound
 pub mod Written
 pub mod Rules
 pub mod Examples
+pub mod Judged

@@ -1,6 +1,6 @@
 //! Laws of the definitions, proved: each is the `ensures` of a function that does nothing.
 
-ghost use Rattle.std.specs.Prelude.{◌++◌, pos, ◌≡◌, ◌≢◌, ◌↔◌, ◌<◌, ℕ, List, true, false, length, Option, Some, None, Result, Ok};
+ghost use Rattle.std.specs.Prelude.{◌++◌, pos, ◌≡◌, ◌≢◌, ◌↔◌, ◌<◌, ◌+◌, ◌*◌, ℕ, List, true, false, length, Option, Some, None, Result, Ok};
 ghost use Rattle.std.specs.List.{AllByRecursion, flat_map};
 ghost use Rattle.block_codec.specs.Blocks.{BlockView, IsBlock, block_at};
 ghost use Rattle.pico_board.specs.Content.{AreApart};
@@ -9,11 +9,12 @@ ghost use Rattle.part_table.specs.declared.table.Table.{Table};
 ghost use Rattle.part_table.specs.declared.table.TableFault.{TableFault};
 ghost use Rattle.part_table.specs.Faults.{table_fault, parts_fault, permissions_fault, overlap_fault, link_fault};
 ghost use Rattle.part_table.specs.Fields.{link_type, permissions_of};
+ghost use Rattle.part_table.specs.Judged.{IsJudgedAs};
 ghost use Rattle.part_table.specs.Links.{is_second, is_second_of, owner_of, pair_of};
 ghost use Rattle.part_table.specs.Partitions.{part_at, partitions_in};
 ghost use Rattle.part_table.specs.Rules.{IsFirstFault, HasNoFault, IsReadTo};
 ghost use Rattle.part_table.specs.Rights.{right_word};
-ghost use Rattle.part_table.specs.Sound.{IsSoundTable};
+ghost use Rattle.part_table.specs.Sound.{IsSoundFor, IsSoundTable};
 ghost use Rattle.part_table.specs.TableOf.{table_of};
 ghost use Rattle.part_table.specs.Written.{IsReadable, IsWritableTable, IsReadAs, partition_text, written_items, written, written_size};
 ghost use Rattle.part_table.specs.Windows.{IsPlaced, has_sector, partition_window};
@@ -88,6 +89,14 @@ pub fn pairs_are_right()
         → (b < length parts) × (is_second_of a (part_at parts b) ≡ true) }
 {}
 
+/// A table is sound for a flash where it is for the flash's whole sectors; no table is sound for
+/// each flash.
+pub fn soundness_is_by_whole_sectors()
+    ensures whole { (t : Table) (n k : ℕ) → k < 4096
+        → IsSoundFor (Some t) (4096 * n + k) ↔ IsSoundTable t n }
+    ensures none { (n : ℕ) → IsSoundFor None n }
+{}
+
 /// The owner of a partition is a partition, another one, and has no link.
 pub fn owners_are_right()
     ensures { (parts : List Partition) → link_fault parts ≡ None
@@ -104,8 +113,8 @@ pub fn partitions_are_read_back()
 
 /// The bytes that are written for a table, whose words, ids, families and names are in their
 /// ranges, are a block. It stands at their front, whatever follows them, and is read as the same
-/// table in each flash for which that has no fault. For each table, in its ranges or not, as many
-/// bytes are written as its written size says.
+/// table in each flash for which that has no fault, and to the first fault in each other one. For
+/// each table, in its ranges or not, as many bytes are written as its written size says.
 pub fn tables_are_read_back()
     ensures block { (t : Table) → IsWritableTable t
         → IsBlock (written t) (written_items t) (pos 0) }
@@ -114,5 +123,6 @@ pub fn tables_are_read_back()
         ≡ Some (record { at = 0; items = written_items t; link = pos 0 }) }
     ensures again { (t : Table) (n m : ℕ) → IsWritableTable t → table_fault t n m ≡ None
         → IsReadAs (written t) t n m }
+    ensures judged { (t : Table) (n m : ℕ) → IsWritableTable t → IsJudgedAs (written t) t n m }
     ensures size { (t : Table) → length (written t) ≡ written_size t }
 {}

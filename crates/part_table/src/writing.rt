@@ -5,6 +5,7 @@ ghost use Rattle.block_codec.specs.Blocks.{start_word};
 ghost use Rattle.block_codec.specs.Words.{bytes_of, words_of};
 ghost use Rattle.sha2.specs.Sha256.{sha256};
 ghost use Rattle.part_table.specs.Faults.{table_fault};
+ghost use Rattle.part_table.specs.Judged.{IsJudgedAs};
 ghost use Rattle.part_table.specs.Written.{AgreesWithFlags, IsReadable, id_text, name_text, padded_name, partition_text, header, table_item, hashed_items, written_items, written, written_size, IsReadAs};
 
 use crate::{Partition, Table, TableWriteFault};
@@ -210,6 +211,7 @@ pub fn write_table(alloc: Global, table: &Table, out: &mut Vec<u8>) -> Result<()
     ensures ok { OnOk result (out.new.items ≡ out.old.items ++ written table.now) }
     ensures again { (n m : ℕ) → table_fault table.now n m ≡ None
         → OnOk result (IsReadAs (written table.now) table.now n m) }
+    ensures judged { (n m : ℕ) → OnOk result (IsJudgedAs (written table.now) table.now n m) }
     ensures too_long { (n : ℕ)
         → IsErrOf result (TableWriteFault.TooLong n) ↔
         ((640 < written_size table.now) × (n ≡ written_size table.now)) }

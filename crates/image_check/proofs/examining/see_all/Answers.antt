@@ -1,7 +1,8 @@
 use Rattle.std.proofs.Common.{◌≤◌, length, arith, ap, ◌∙◌}
 use Rattle.std.specs.List.{list_any}
 use Rattle.image_def.specs.Suits.{has_image_type, last_suiting}
-use Rattle.image_check.proofs.SeenLemmas.{all-blocks, stands-at, suiting-step, typed-step}
+use Rattle.block_loop.proofs.PlaceLemmas.{stands-at}
+use Rattle.image_check.proofs.SeenLemmas.{all-blocks, suiting-step, typed-step}
 use Rattle.image_check.proofs.examining.see_all.Goals as goal
 
 pub block_of-requires : goal.block_of-requires

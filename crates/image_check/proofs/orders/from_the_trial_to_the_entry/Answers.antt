@@ -18,3 +18,27 @@ pub returns-clause-map : goal.returns-clause-map
 unfolding ones ones_in image_in def_of loop_of follow first_from block_at front_block item_words frame size_of word_of
     word_bytes
 returns-clause-map c = refl
+
+pub returns-clause-trial : goal.returns-clause-trial
+unfolding image_in def_of loop_of follow first_from block_at front_block item_words frame size_of word_of word_bytes
+returns-clause-trial c = refl
+
+pub returns-clause-required : goal.returns-clause-required
+unfolding image_in def_of loop_of follow first_from block_at front_block item_words frame size_of word_of word_bytes
+returns-clause-required c = refl
+
+pub returns-clause-table : goal.returns-clause-table
+unfolding image_in def_of loop_of follow first_from block_at front_block item_words frame size_of word_of word_bytes
+returns-clause-table c = refl
+
+pub returns-clause-in_block : goal.returns-clause-in_block
+unfolding image_in def_of loop_of follow first_from block_at front_block item_words frame size_of word_of word_bytes
+returns-clause-in_block c = refl
+
+pub returns-clause-nowhere : goal.returns-clause-nowhere
+unfolding image_in def_of loop_of follow first_from block_at front_block item_words frame size_of word_of word_bytes
+returns-clause-nowhere c = refl
+
+pub returns-clause-delta : goal.returns-clause-delta
+unfolding image_in def_of loop_of follow first_from block_at front_block item_words frame size_of word_of word_bytes
+returns-clause-delta c = refl

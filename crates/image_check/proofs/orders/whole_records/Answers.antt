@@ -13,3 +13,11 @@ pub returns-clause-rows : goal.returns-clause-rows
 unfolding ones ones_in image_in def_of loop_of follow first_from block_at front_block item_words frame size_of word_of
     word_bytes
 returns-clause-rows c = refl
+
+pub returns-clause-flash : goal.returns-clause-flash
+unfolding image_in def_of loop_of follow first_from block_at front_block item_words frame size_of word_of word_bytes
+returns-clause-flash c = refl
+
+pub returns-clause-ram : goal.returns-clause-ram
+unfolding image_in def_of loop_of follow first_from block_at front_block item_words frame size_of word_of word_bytes
+returns-clause-ram c = refl

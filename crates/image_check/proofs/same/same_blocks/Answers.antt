@@ -1,7 +1,8 @@
 use Rattle.std.proofs.Common.{◌≤◌, length, arith, refl, subst}
 use Rattle.image_check.specs.SameImage.{AgreeOnBlocks}
 use Rattle.image_check.proofs.SameLemmas.{block-agrees, block-room, blocks-more}
-use Rattle.image_check.proofs.SeenLemmas.{all-blocks, stands-at}
+use Rattle.block_loop.proofs.PlaceLemmas.{stands-at}
+use Rattle.image_check.proofs.SeenLemmas.{all-blocks}
 use Rattle.image_check.proofs.same.same_blocks.Goals as goal
 
 pub block_of-block-requires : goal.block_of-block-requires

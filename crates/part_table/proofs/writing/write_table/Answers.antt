@@ -1,11 +1,9 @@
-use Rattle.std.proofs.Common.{◌≤◌, ◌∙◌, ap, sym, subst, arith, length, Err, pos}
+use Rattle.std.proofs.Common.{◌≤◌, ◌∙◌, ap, sym, subst, arith, length, Err}
 use Rattle.std.proofs.lemmas.List.Elements.{recursion_from_All}
-use Rattle.block_codec.specs.Blocks.{IsBlock, frame}
 use Rattle.block_codec.specs.Items.{AreItems}
-use Rattle.block_codec.specs.Words.{bytes_of}
 use Rattle.block_codec.proofs.WriteLemmas.{IsBadAt-whole}
-use Rattle.part_table.specs.Written.{IsReadable, IsReadableTable, table_item, written_items, written}
-use Rattle.part_table.proofs.BlockFacts.{are_whole, read_as}
+use Rattle.part_table.specs.Written.{IsReadable, table_item}
+use Rattle.part_table.proofs.BlockFacts.{are_whole, judged_when, read_from_judged}
 use Rattle.part_table.proofs.writing.write_table.Goals as goal
 
 pub unreachable-requires : goal.unreachable-requires
@@ -25,17 +23,17 @@ unreachable-requires-in-Err-ItemSize c =
     (are_whole c.args.table.now few c.item_size-size.ensures.parts) in
     IsBadAt-whole c.as_slice.result.now c.in-Err-ItemSize.field-0-0 whole bad.1
 
-pub returns-in-Ok-clause-again : goal.returns-in-Ok-clause-again
-returns-in-Ok-clause-again c =
+pub returns-in-Ok-clause-judged : goal.returns-in-Ok-clause-judged
+returns-in-Ok-clause-judged c = λ n m.
     let t = c.args.table.now in
-    let readable : IsReadableTable t = record {
+    judged_when t c.as_slice.result.now (record {
       parts = recursion_from_All IsReadable t.parts.items c.item_size-size.ensures.readable;
       few = c.item_size-size.ensures.parts;
       major = c.written_items-words.ensures.major;
       minor = c.written_items-words.ensures.minor;
       fits = omega (arith, c.if-bytes-gt-MOST_BYTES.false, c.item_size-size.ensures.value);
-    } in
-    let block : IsBlock (written t) (written_items t) (pos 0) =
-    subst (λ ws. IsBlock (bytes_of (frame ws (pos 0))) ws (pos 0))
-    (c.as_slice.ensures.value ∙ c.written_items-words.ensures.value) c.in-Ok.ensures.block in
-    read_as t readable block
+    }) (c.as_slice.ensures.value ∙ c.written_items-words.ensures.value) c.in-Ok.ensures.block n m
+
+pub returns-in-Ok-clause-again : goal.returns-in-Ok-clause-again
+returns-in-Ok-clause-again c = λ n m none.
+    read_from_judged c.args.table.now n m (returns-in-Ok-clause-judged c n m) none
