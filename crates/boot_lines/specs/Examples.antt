@@ -1,5 +1,5 @@
 -- Images, decisions and commands of the worked examples. This project's own.
-use Rattle.std.specs.Prelude.{ℕ, ◌+◌, ◌-◌, ◌^◌, [], replicate, Option, Some, None, Bool, true, false}
+use Rattle.std.specs.Prelude.{ℕ, ◌-◌, ◌^◌, [], replicate, Option, Some, None, Bool, true, false}
 use Rattle.image_def.specs.declared.started.Started.{Started}
 use Rattle.slot_choice.specs.declared.unit.Member.TheVariants.{A}
 use Rattle.picoboot_cmd.specs.declared.cmd.Cmd.{Cmd}

@@ -1,15 +1,19 @@
 //! Worked examples of the texts, proved by computing: each is the `ensures` of a function that does
 //! nothing.
 
-ghost use Rattle.std.specs.Prelude.{◌≡◌, ◌++◌, [], ◌∷◌, length, codes, Some, None, true, false};
+ghost use Rattle.std.specs.Prelude.{◌≡◌, ◌-◌, ◌^◌, ◌++◌, ℕ, List, [], ◌∷◌, length, codes, Some, None, true, false};
 ghost use Rattle.pico_board.specs.declared.window.Window.{Window};
+ghost use Rattle.uf2_place.specs.declared.block.Uf2Fault.{Uf2Fault};
 ghost use Rattle.uf2_place.specs.declared.block.Uf2Fault.TheVariants.{Magic, Payload, Alignment, Number};
+ghost use Rattle.uf2_place.specs.declared.answer.Accepted.{Accepted};
 ghost use Rattle.uf2_place.specs.declared.answer.Accepted.TheVariants.{Skipped, Again, Taken, Done};
+ghost use Rattle.uf2_place.specs.declared.answer.PlaceFault.{PlaceFault};
 ghost use Rattle.uf2_place.specs.declared.answer.PlaceFault.TheVariants.{NoTarget, Outside, NotPermitted, PowerLost};
 ghost use Rattle.boot_rules.specs.declared.decision.Decision.TheVariants.{Bootsel};
+ghost use Rattle.boot_rules.specs.declared.decision.Fall.{Fall};
 ghost use Rattle.boot_rules.specs.declared.decision.Fall.TheVariants.{Requested, FlashOff, NoImage};
 ghost use Rattle.boot_lines.specs.Texts.{boot_text, booted_text, command_text, form_text, hex_byte, hex_word, accepted_text, ram_start_text, refused_text};
-ghost use Rattle.boot_lines.specs.Events.{event_text, Off, Ignored, CutArmed, LostPower, Ended, BuyDone, BuyNone, BadMagic, Rebooted, RamStarted, Downloaded};
+ghost use Rattle.boot_lines.specs.Events.{event_text, IsTold, Off, Ignored, CutArmed, LostPower, Ended, Boots, BuyDone, BuyNone, BadMagic, Answered, Rebooted, RamStarted, BadForm, Refused, Placed, Downloaded};
 ghost use Rattle.boot_lines.specs.Examples.{image_in, ram_image, start_of, widest, command};
 
 /// A number has 0x and eight lower-case hexadecimal digits, and a byte two.
@@ -98,6 +102,28 @@ pub fn other_events()
     ensures bought { event_text BuyDone ≡ codes "buy done" }
     ensures none { event_text BuyNone ≡ codes "buy none" }
     ensures magic { event_text BadMagic ≡ codes "cmd bad-magic" }
+    ensures boots { event_text (Boots (Bootsel NoImage)) ≡ codes "boot bootsel no-image" }
+    ensures answered { event_text (Answered (command 0x0d 4) 17 [])
+        ≡ codes "cmd 0x0d token=0x00000004 status=17" }
+    ensures form { event_text (BadForm Alignment) ≡ codes "uf2 bad alignment" }
+    ensures refused { event_text (Refused Outside) ≡ codes "uf2 refused outside" }
+    ensures placed { event_text (Placed 65535 Taken) ≡ codes "uf2 65535 taken" }
+{}
+
+/// The law on the longest text speaks of all numbers that the fields hold, the greatest ones too,
+/// and of all decisions, forms and refusals.
+pub fn the_greatest_numbers_are_told()
+    ensures boots { IsTold (Boots (start_of widest)) }
+    ensures falls { (fall : Fall) → IsTold (Boots (Bootsel fall)) }
+    ensures answered { (reply : List ℕ) → length reply ≡ 2 ^ 32 - 1
+        → IsTold (Answered (command 0xff 0xffffffff) (2 ^ 32 - 1) reply) }
+    ensures rebooted { IsTold (Rebooted (command 0x0a 0xffffffff) (start_of widest)) }
+    ensures ram { IsTold (RamStarted (command 0x0a 0xffffffff) widest) }
+    ensures without_rollback { IsTold (RamStarted (command 0x0a 0) ram_image) }
+    ensures placed { (accepted : Accepted) → IsTold (Placed (2 ^ 32 - 1) accepted) }
+    ensures downloaded { IsTold (Downloaded (2 ^ 32 - 1) (start_of widest)) }
+    ensures forms { (fault : Uf2Fault) → IsTold (BadForm fault) }
+    ensures refusals { (fault : PlaceFault) → IsTold (Refused fault) }
 {}
 
 /// A longest text: a reboot command that starts an image with the greatest numbers.

@@ -1,5 +1,5 @@
 -- What an event of a host comes to, with the boot that it asks for.
-use Rattle.std.proofs.Common.{◌≡◌, ◌≢◌, ◌⊎◌, inl, inr, ℕ, Bool, true, false, List, [], ◌++◌, Option, Some, None, refl, sym, ap, ◌∙◌, subst}
+use Rattle.std.proofs.Common.{◌≡◌, inr, ℕ, Bool, true, false, List, ◌++◌, Option, Some, None, refl, sym, ◌∙◌, subst}
 use Rattle.std.specs.Prelude.{IsTrue, codes}
 use Rattle.std.specs.Bool.{OnFalse, OnTrue}
 use Rattle.pico_board.specs.declared.Step.{Step}
@@ -16,8 +16,7 @@ use Rattle.boot_machine.specs.Machines.{Host, InBootsel, Machine, Off, Place, Ru
 use Rattle.boot_machine.specs.Boots.{Effect, booted}
 use Rattle.boot_machine.specs.Moves.{bootsel_effect, effect_in}
 use Rattle.boot_machine.specs.Serving.{Served, before_boot, followed, followed_by, is_hosted, served}
-use Rattle.boot_machine.specs.Standing.{Advances, Comes, IsBy, IsHost, IsServed, IsSteady, Serves, Stands, StandsAt}
-use Rattle.boot_machine.proofs.Steadiness.{host-of}
+use Rattle.boot_machine.specs.Standing.{Advances, Comes, IsBy, IsHost, IsServed, Serves, Stands, StandsAt}
 
 -- a machine in BOOTSEL has a host
 pub record HasHost {B : Type 0} (p : Parts B) (place : Place) : Type 0 where
@@ -25,7 +24,8 @@ pub record HasHost {B : Type 0} (p : Parts B) (place : Place) : Type 0 where
   pub is : place ≡ InBootsel host
   pub serves : IsHost p host
 
-pub has-host : {B : Type 0} (p : Parts B) (place : Place) → p.state ≡ states.Bootsel → StandsAt p place → HasHost p place
+pub has-host : {B : Type 0} (p : Parts B) (place : Place) → p.state ≡ states.Bootsel → StandsAt p place
+    → HasHost p place
 has-host p Off is off = let no : states.Bootsel ≡ states.Off = sym is ∙ off in cc no
 has-host p (InBootsel host) is at = record { host = host; is = refl; serves = at }
 has-host p (Running (FromFlash choice)) is run =
@@ -123,8 +123,8 @@ module _ {B : Type 0} (state : B → BoardState) (history : B → List Step → 
           let done = subst (λ c. Comes state history mid
           (booted c old.cpu kind (s.text ++ codes " boot ")) new line) by.board.done there in (
             done.0,
-            subst (λ boot. IsBy state history old (followed_by (state old.board).content old.cpu s boot) (done.0) new line)
-                asked (by-then old mid new (before_boot s) s.steps _ (done.0) told line refl by (done.1)),
+            subst (λ boot. IsBy state history old (followed_by (state old.board).content old.cpu s boot) (done.0) new
+                line) asked (by-then old mid new (before_boot s) s.steps _ (done.0) told line refl by (done.1)),
           )
 
   pub advances-alone : (old new : Parts B) (event : Happening) (line : List ℕ) → old.state ≡ states.Bootsel

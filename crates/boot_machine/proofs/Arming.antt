@@ -7,7 +7,7 @@ use Rattle.pico_board.specs.Content.{Content}
 use Rattle.pico_board.specs.Cuts.{Cut}
 use Rattle.pico_board.specs.Histories.{Extends}
 use Rattle.pico_board.specs.Steps.{CutOf, after_all}
-use Rattle.pico_board.specs.Board.{State as BoardState, Becomes, DoesAll, IsToldAll, with_cut}
+use Rattle.pico_board.specs.Board.{State as BoardState, Becomes, IsToldAll, with_cut}
 use Rattle.part_table.specs.Sound.{IsSoundTable}
 use Rattle.uf2_place.specs.Downloads.{IsTargetIn}
 use Rattle.boot_script.specs.declared.event.Event.{Event}
@@ -16,8 +16,8 @@ use Rattle.boot_script.specs.Events.{Happening, event_from}
 use Rattle.boot_machine.specs.declared.parts.Parts.{Parts}
 use Rattle.boot_machine.specs.Machines.{Machine, Off, InBootsel, Place, Running, FromFlash, FromRam}
 use Rattle.boot_machine.specs.Boots.{Effect}
-use Rattle.boot_machine.specs.Moves.{Decides, Moves, armed_for, effect, effect_in, lost_text}
-use Rattle.boot_machine.specs.Standing.{Comes, IsBy, IsHeld, IsIdle, IsLostIn, IsStep, IsSteady, Stands, StandsAt}
+use Rattle.boot_machine.specs.Moves.{Decides, armed_for, effect, effect_in}
+use Rattle.boot_machine.specs.Standing.{Comes, IsBy, IsHeld, IsIdle, IsStep, IsSteady, Stands, StandsAt}
 use Rattle.boot_machine.proofs.MoveTexts.{not-lost}
 use Rattle.boot_machine.proofs.Steadiness.{with_board}
 
@@ -67,8 +67,8 @@ module _ {B : Type 0} (state : B → BoardState) (history : B → List Step → 
       place = idle.place;
     };
     later = subst (λ (p : Parts B). (state old.board).cuts ≤ (state p.board).cuts) (sym idle.same) (omega arith);
-    recorded = λ other. subst (λ (p : Parts B). Extends history old.board (effect m event).steps p.board) (sym idle.same)
-        (no-steps old.board (effect m event).steps none);
+    recorded = λ other. subst (λ (p : Parts B). Extends history old.board (effect m event).steps p.board)
+        (sym idle.same) (no-steps old.board (effect m event).steps none);
     lost = λ same. absurd (not-lost m event (ap (λ (x : Effect). x.text) is ∙ sym idle.text ∙ same));
   }
     where
@@ -100,7 +100,8 @@ module _ {B : Type 0} (state : B → BoardState) (history : B → List Step → 
   by-step old new m event line false armed stands by = record {
     next = machine_at new m Off;
     moves = inr (record {
-      content = subst (λ c. CutOf c (effect m event).steps (state new.board).content) (sym stands.content) by.board.torn;
+      content = subst (λ c. CutOf c (effect m event).steps (state new.board).content) (sym stands.content)
+          by.board.torn;
       armed_cut = subst (λ a. Decides a m.content (effect m event).steps false (state new.board).content
           (state new.board).armed) (sym (armed ∙ stands.armed))
           (subst (λ c. Decides (state old.board).armed c (effect m event).steps false (state new.board).content
@@ -156,30 +157,31 @@ module _ {B : Type 0} (state : B → BoardState) (history : B → List Step → 
       (with_cut (state old.board) (record { left = left; within = within; pattern = pattern })) board
       → line ≡ codes "cut armed" → Stands state old m
       → IsStep state history old m (Happening.Cut left within pattern) (with_board old board) line
-  arm-step old board m left within pattern line becomes text stands = let cut : Cut = record { left = left; within = within; pattern = pattern } in record {
-    next = record {
-      content = m.content;
-      armed = option_map (λ former. Some cut) m.armed;
-      cpu = m.cpu;
-      place = m.place;
-    };
-    moves = inl (record {
-      content = refl;
-      armed_cut = armed-decides m.armed m.content cut;
-      cpu = refl;
-      place = refl;
-      line = text;
-    });
-    stands = record {
-      content = stands.content ∙ ap (λ (s : BoardState). s.content) (sym becomes.same);
-      armed = ap (option_map (λ former. Some cut)) stands.armed ∙ ap (λ (s : BoardState). s.armed) (sym becomes.same);
-      cpu = stands.cpu;
-      place = stands-board old board m.place stands.place;
-    };
-    later = subst (λ (s : BoardState). (state old.board).cuts ≤ s.cuts) (sym becomes.same) (omega arith);
-    recorded = λ other h done. subst (history board) (sym (append-nil h)) (becomes.recorded h done);
-    lost = λ same. absurd (not-lost m (Happening.Cut left within pattern) (sym text ∙ same));
-  }
+  arm-step old board m left within pattern line becomes text stands =
+      let cut : Cut = record { left = left; within = within; pattern = pattern } in record {
+        next = record {
+          content = m.content;
+          armed = option_map (λ former. Some cut) m.armed;
+          cpu = m.cpu;
+          place = m.place;
+        };
+        moves = inl (record {
+          content = refl;
+          armed_cut = armed-decides m.armed m.content cut;
+          cpu = refl;
+          place = refl;
+          line = text;
+        });
+        stands = record {
+          content = stands.content ∙ ap (λ (s : BoardState). s.content) (sym becomes.same);
+          armed = ap (option_map (λ former. Some cut)) stands.armed ∙ ap (λ (s : BoardState). s.armed) (sym becomes.same);
+          cpu = stands.cpu;
+          place = stands-board old board m.place stands.place;
+        };
+        later = subst (λ (s : BoardState). (state old.board).cuts ≤ s.cuts) (sym becomes.same) (omega arith);
+        recorded = λ other h done. subst (history board) (sym (append-nil h)) (becomes.recorded h done);
+        lost = λ same. absurd (not-lost m (Happening.Cut left within pattern) (sym text ∙ same));
+      }
 
   -- the parts stay steady
   pub arm-steady : (old : Parts B) (board : B) (left : ℕ) (within : Bool) (pattern : List ℕ)

@@ -1,6 +1,6 @@
 -- What a block does to the download that the machine carries, by the blocks that came before it.
 use Rattle.std.proofs.Common.{◌≡◌, ◌≢◌, ℕ, Bool, true, false, Result, Ok, Err, Option, None, Some, List, [], ◌∷◌, ◌++◌, length, refl, sym, ap, ◌∙◌, subst, nat_eq}
-use Rattle.std.specs.Prelude.{⊤, IfOk, OnOk, OnErr, is_ok, ◌==◌, ◌&&◌, ◌||◌, not, if◌then◌else◌}
+use Rattle.std.specs.Prelude.{⊤, IfOk, OnOk, ◌||◌, if◌then◌else◌}
 use Rattle.std.specs.List.{AllByRecursion}
 use Rattle.std.specs.Option.{ForSome}
 use Rattle.std.specs.Prelude.{◌≤◌, ◌<◌, ◌^◌}
@@ -32,10 +32,10 @@ use Rattle.uf2_place.specs.Placement.{IsBlockOf, grown, is_whole, numbers_of, se
 use Rattle.uf2_place.specs.Rulings.{aimed, begun, continued, continues, is_of, is_skipped, is_within, ruled, ruling, wanted}
 use Rattle.uf2_place.specs.Downloads.{IsTargetIn}
 use Rattle.uf2_place.proofs.Ruled.{rules-begins}
-use Rattle.boot_rules.specs.Targets.{is_executable, target_of}
+use Rattle.boot_rules.specs.Targets.{target_of}
 use Rattle.boot_machine.specs.Machines.{Host, Placing}
-use Rattle.boot_machine.specs.Serving.{Served, block_text, answer_of, block_served, blocks_of, boot_of_accepted, carried_on, done_boot, is_like, ruled_on, ruling_on, taken_in, told, wanted_in, with_placing}
-use Rattle.boot_machine.specs.Standing.{Carries, IsDoneIn, IsServedBlock, placing_at}
+use Rattle.boot_machine.specs.Serving.{Served, block_text, answer_of, block_served, blocks_of, carried_on, is_like, ruled_on, ruling_on, taken_in, told, wanted_in}
+use Rattle.boot_machine.specs.Standing.{Carries, IsDoneIn, IsServedBlock}
 
 -- the blocks that a download stands for are of its family and its count
 like-of : (c : Current) (blocks : List Uf2) (b : Uf2) → blocks ≢ []
@@ -180,28 +180,34 @@ module _ {B : Type 0} (state : B → State) (history : B → List Step → Type 
       → IsThus (taken_in host t (former ++ b ∷ []) b (grown t former (former ++ b ∷ []))) answer
   came-placed t former places = by (has_power answer) refl (is_whole (former ++ b ∷ [])) refl
     where
+      -- the steps, where it is known whether power was lost
+      done : {x : Bool} → has_power answer ≡ x
+          → DoesAll state history old (grown t former (former ++ b ∷ [])) (has_power answer) new
+          → DoesAll state history old (grown t former (former ++ b ∷ [])) x new
+      done is steps = subst (λ x. DoesAll state history old (grown t former (former ++ b ∷ [])) x new) is steps
+
       by : (x : Bool) → has_power answer ≡ x → (w : Bool) → is_whole (former ++ b ∷ []) ≡ w
           → IsThus (taken_in host t (former ++ b ∷ []) b (grown t former (former ++ b ∷ []))) answer
       by true power true whole =
           let is : answer ≡ Ok (Done t) = places.answered ∙ rw (power, whole) refl in
-          let steps = subst (λ x. DoesAll state history old (grown t former (former ++ b ∷ [])) x new) power places.steps in
+          let steps = done power places.steps in
           let ended = places.ended (λ taken. let no : Ok (Done t) ≡ Ok Taken = sym is ∙ taken in cc no) in
           subst (λ a. IsThus (taken_in host t (former ++ b ∷ []) b (grown t former (former ++ b ∷ []))) a) (sym is)
           (rw whole (record { steps = steps; boot = refl; text = refl; carries = ended; lost = tt }))
       by true power false whole =
           let is : answer ≡ Ok Taken = places.answered ∙ rw (power, whole) refl in
-          let steps = subst (λ x. DoesAll state history old (grown t former (former ++ b ∷ [])) x new) power places.steps in
+          let steps = done power places.steps in
           subst (λ a. IsThus (taken_in host t (former ++ b ∷ []) b (grown t former (former ++ b ∷ []))) a) (sym is)
           (rw whole (record { steps = steps; boot = refl; text = refl; carries = places.taken is; lost = tt }))
       by false power true whole =
           let is : answer ≡ Err Lost = places.answered ∙ rw power refl in
-          let steps = subst (λ x. DoesAll state history old (grown t former (former ++ b ∷ [])) x new) power places.steps in
+          let steps = done power places.steps in
           let ended = places.ended (λ taken. let no : Err Lost ≡ Ok Taken = sym is ∙ taken in cc no) in
           subst (λ a. IsThus (taken_in host t (former ++ b ∷ []) b (grown t former (former ++ b ∷ []))) a) (sym is)
           (rw whole (placed-lost _ steps ended))
       by false power false whole =
           let is : answer ≡ Err Lost = places.answered ∙ rw power refl in
-          let steps = subst (λ x. DoesAll state history old (grown t former (former ++ b ∷ [])) x new) power places.steps in
+          let steps = done power places.steps in
           let ended = places.ended (λ taken. let no : Err Lost ≡ Ok Taken = sym is ∙ taken in cc no) in
           subst (λ a. IsThus (taken_in host t (former ++ b ∷ []) b (grown t former (former ++ b ∷ []))) a) (sym is)
           (rw whole (placed-lost _ steps ended))
@@ -253,7 +259,8 @@ module _ {B : Type 0} (state : B → State) (history : B → List Step → Type 
           let stands = subst (λ (x : Target). StandsFor d pool x p.blocks) (m.2)
           (subst (Carries d pool) is carries) in
           let done = came-placed t p.blocks (promised.2 t p.blocks refl stands) in
-          subst (λ (blocks : List Uf2). IsThus (taken_in host t (blocks ++ b ∷ []) b (grown t blocks (blocks ++ b ∷ []))) answer)
+          subst (λ (blocks : List Uf2).
+          IsThus (taken_in host t (blocks ++ b ∷ []) b (grown t blocks (blocks ++ b ∷ []))) answer)
           (sym (ap blocks_of is)) done
 
   -- with the line that was told, where power was not lost

@@ -1,6 +1,6 @@
 -- A download stands for the same blocks after calls that leave what is out of the pool.
-use Rattle.std.proofs.Common.{◌≡◌, ℕ, ◌+◌, ◌<◌, ◌≤◌, ◌^◌, ◌/◌, Bool, true, false, Result, Ok, Err, List, [], length, arith, Option, None, Some, refl, sym, ap, ◌∙◌, subst, Bor}
-use Rattle.std.specs.Prelude.{IfOk, slice_get, slice_index_or, if◌then◌else◌}
+use Rattle.std.proofs.Common.{◌≡◌, ℕ, List, [], Option, None, Some, refl, sym, ap, ◌∙◌, subst, Bor}
+use Rattle.std.specs.Prelude.{slice_get}
 use Rattle.std.specs.Option.{ForSome, option_map}
 use Rattle.std.proofs.lemmas.Option.{unwrap_or-slice_get, same_Some}
 use Rattle.std.specs.Prelude.{unwrap_or}
@@ -9,12 +9,10 @@ use Rattle.sector_pool.specs.Pool.{Pool}
 use Rattle.part_table.specs.declared.Table.{Table}
 use Rattle.part_table.specs.declared.Target.{Target}
 use Rattle.part_table.specs.Sound.{IsSoundTable}
-use Rattle.uf2_place.specs.declared.answer.Accepted.{Accepted}
-use Rattle.uf2_place.specs.declared.answer.PlaceFault.{PlaceFault}
 use Rattle.uf2_place.specs.declared.block.Uf2.{Uf2}
 use Rattle.uf2_place.specs.declared.current.Held.{Held}
-use Rattle.uf2_place.specs.Accepting.{Kept, StandsFor}
-use Rattle.uf2_place.specs.Downloads.{Follows, Holds, HoldsPages, IsTargetIn, bytes_of, held_page}
+use Rattle.uf2_place.specs.Accepting.{Kept}
+use Rattle.uf2_place.specs.Downloads.{Holds, bytes_of, held_page}
 use Rattle.boot_rules.specs.declared.tables.Found.{Found}
 use Rattle.boot_machine.specs.Machines.{Placing}
 use Rattle.boot_machine.specs.Serving.{table_of}

@@ -1,20 +1,19 @@
 -- The parts of a machine are steady once BOOTSEL is entered.
-use Rattle.std.proofs.Common.{◌≡◌, ◌/◌, Bool, true, false, Option, None, Some, length, refl, sym, ap, ◌∙◌, subst}
-use Rattle.std.specs.Prelude.{IsTrue, option_map}
+use Rattle.std.proofs.Common.{◌≡◌, ◌/◌, None, Some, length, sym, ◌∙◌, subst}
+use Rattle.std.specs.Prelude.{IsTrue}
 use Rattle.pico_board.specs.Content.{Content}
 use Rattle.pico_board.specs.Board.{State}
 use Rattle.part_table.specs.Sound.{IsSoundTable}
-use Rattle.slot_choice.specs.declared.choice.Choice.{Choice}
-use Rattle.slot_choice.specs.Units.{IsSoundFor}
 use Rattle.uf2_place.specs.Downloads.{lease_of}
 use Rattle.boot_rules.specs.declared.tables.Found.{Found}
 use Rattle.boot_rules.specs.Tables.{table_in}
 use Rattle.boot_rules.proofs.TableLemmas.{found-sound}
 use Rattle.boot_machine.specs.declared.parts.Parts.{Parts}
-use Rattle.boot_machine.specs.Standing.{HasRoom, IsRunning, IsSteady, hosting, slot_of}
+use Rattle.boot_machine.specs.Standing.{HasRoom, IsSteady, hosting}
 
 -- the table of a content is sound
-pub table-of-content : (c : Content) (found : Found) → table_in c ≡ Some found → IsSoundTable found.table (length c.flash / 4096)
+pub table-of-content : (c : Content) (found : Found) → table_in c ≡ Some found
+    → IsSoundTable found.table (length c.flash / 4096)
 table-of-content c found is = found-sound c found is
 
 pub steady-hosting : {B : Type 0} (state : B → State) (p : Parts B) → IsTrue (state p.board).powered

@@ -1,10 +1,10 @@
 -- What a host's commands are served with.
-use Rattle.std.proofs.Common.{◌≡◌, ℕ, Bool, true, false, List, [], Option, None, Some, refl, sym, ap, ◌∙◌, subst}
+use Rattle.std.proofs.Common.{◌≡◌, ℕ, Bool, true, List, None, refl, sym, ap, ◌∙◌, subst}
 use Rattle.std.specs.Prelude.{IsTrue, is_some}
 use Rattle.pico_board.specs.declared.Step.{Step}
 use Rattle.pico_board.specs.Content.{Content}
 use Rattle.pico_board.specs.declared.boot.Cpu.{Cpu}
-use Rattle.pico_board.specs.Board.{State as BoardState, DoesAll}
+use Rattle.pico_board.specs.Board.{State as BoardState}
 use Rattle.pico_board.proofs.Steps.{DoesAll-none}
 use Rattle.sector_pool.specs.Keeping.{KeepsOut}
 use Rattle.sector_pool.specs.Pool.{Pool}

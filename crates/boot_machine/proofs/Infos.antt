@@ -1,6 +1,6 @@
 -- What an info command is answered.
-use Rattle.std.proofs.Common.{◌≡◌, ◌≢◌, ℕ, Bool, true, false, List, [], ◌++◌, length, Result, Ok, Err, Option, None, Some, refl, sym, ap, ◌∙◌, subst, ◌%◌, ◌==◌, ◌&&◌}
-use Rattle.std.specs.Prelude.{if◌then◌else◌, ◌*◌, ◌≤◌, ◌<◌, ◌^◌}
+use Rattle.std.proofs.Common.{◌≡◌, ◌≢◌, ℕ, Bool, true, false, List, [], length, Ok, Err, Option, Some, refl, sym, ap, ◌∙◌, subst, ◌%◌, ◌==◌, ◌&&◌}
+use Rattle.std.specs.Prelude.{if◌then◌else◌, ◌*◌, ◌<◌, ◌^◌}
 use Rattle.std.proofs.Common.{arith}
 use Rattle.block_codec.proofs.WordLemmas.{length-bytes_of}
 use Rattle.block_codec.specs.Words.{bytes_of}

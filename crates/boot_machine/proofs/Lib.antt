@@ -5,14 +5,14 @@ mod Carried
 mod Entries
 pub mod LuckLaws
 mod LeftRows
-mod LeftImages
+pub mod LeftImages
 pub mod RaisesCut
 mod PairLemmas
 mod OwnSteps
 mod OwnWindows
 mod OwnLeft
 mod OwnPicks
-mod OwnDecisions
+pub mod OwnDecisions
 pub mod OwnLaws
 mod ExampleLemmas
 mod Infos

@@ -1,6 +1,5 @@
 -- What a host's blocks are served with, and which case of the table serves an event.
-use Rattle.std.proofs.Common.{◌≡◌, ℕ, ◌/◌, Bool, true, false, List, [], ◌∷◌, ◌++◌, Result, Ok, Err, Option, None, Some, length, refl, sym, ap, ◌∙◌, subst}
-use Rattle.std.specs.Prelude.{IsTrue, if◌then◌else◌}
+use Rattle.std.proofs.Common.{◌≡◌, ℕ, ◌/◌, Bool, true, false, List, [], ◌∷◌, ◌++◌, Ok, Err, Option, None, length, refl, sym, ap, subst}
 use Rattle.std.specs.Option.{ForSome}
 use Rattle.pico_board.specs.declared.Step.{Step}
 use Rattle.pico_board.specs.declared.board.PowerLost.{PowerLost}
@@ -19,7 +18,7 @@ use Rattle.uf2_place.specs.Downloads.{IsTargetIn, lease_of}
 use Rattle.uf2_place.specs.Placement.{grown, is_whole}
 use Rattle.boot_machine.specs.declared.parts.Parts.{Parts}
 use Rattle.boot_machine.specs.declared.state.State.TheVariants.{Bootsel}
-use Rattle.boot_machine.specs.Machines.{Host, InBootsel, Placing}
+use Rattle.boot_machine.specs.Machines.{Host, InBootsel}
 use Rattle.boot_machine.specs.Moves.{lost_text}
 use Rattle.boot_machine.specs.Serving.{Served, block_served, blocks_of, taken_in, with_placing}
 use Rattle.boot_machine.specs.Standing.{Carries, HasRoom, IsHost, IsLeft, IsServed, IsServedBlock, IsSteady, Serves, StandsAt, is_bootsel, placing_at}

@@ -1,6 +1,6 @@
 -- Replies are short, and what is told of a command.
-use Rattle.std.proofs.Common.{◌≡◌, ℕ, zero, suc, ◌+◌, ◌-◌, ◌*◌, ◌<◌, ◌≤◌, ◌^◌, ◌==◌, Bool, true, false, List, [], ◌∷◌, ◌++◌, arith, length, Option, None, Some, refl, sym, ap, ◌∙◌, subst}
-use Rattle.std.specs.Prelude.{if◌then◌else◌, is_some, slice_range, take, drop}
+use Rattle.std.proofs.Common.{◌≡◌, ℕ, zero, suc, ◌+◌, ◌-◌, ◌<◌, ◌≤◌, ◌^◌, ◌==◌, Bool, true, false, List, [], ◌∷◌, ◌++◌, arith, length, Option, None, Some, refl, sym, ap, ◌∙◌}
+use Rattle.std.specs.Prelude.{if◌then◌else◌, slice_range, take, drop}
 use Rattle.block_codec.specs.Words.{bytes_of}
 use Rattle.block_codec.proofs.WordLemmas.{length-bytes_of}
 use Rattle.pico_board.specs.declared.boot.Cpu.{Cpu}
@@ -84,8 +84,8 @@ host-few c t busy cmd payload right = by (status_of (length c.flash) c.otp t bus
     here : length (reply_of c cmd) < 2 ^ 32
     here =
         if-few (2 ^ 32) (cmd.id == READ) (slice_range c.flash (offset cmd) (offset cmd + size cmd))
-        (if cmd.id == OTP_READ then bytes_of (slice_range c.otp (first_row cmd) (first_row cmd + row_count cmd)) else [])
-        flash
+        (if cmd.id == OTP_READ
+        then bytes_of (slice_range c.otp (first_row cmd) (first_row cmd + row_count cmd)) else []) flash
         (if-few (2 ^ 32) (cmd.id == OTP_READ)
         (bytes_of (slice_range c.otp (first_row cmd) (first_row cmd + row_count cmd))) [] otp (omega arith))
 

@@ -1,5 +1,5 @@
 -- The room that a machine has in its pool: two sectors that are free or the download's.
-use Rattle.std.proofs.Common.{◌≡◌, ◌≢◌, ◌⊎◌, inl, inr, ℕ, zero, suc, ◌+◌, ◌<◌, ◌≤◌, Bool, true, false, cond, List, [], ◌∷◌, arith, length, Option, None, Some, refl, sym, ap, ◌∙◌, subst}
+use Rattle.std.proofs.Common.{◌≡◌, ◌≢◌, inl, inr, ℕ, zero, suc, ◌≤◌, Bool, true, false, cond, List, [], ◌∷◌, arith, Option, None, Some, refl, sym, ap, ◌∙◌}
 use Rattle.std.specs.Prelude.{not, count_by, slice_get}
 use Rattle.std.proofs.lemmas.List.Sums.{sum_by-cons}
 use Rattle.sector_pool.specs.Keeping.{KeepsOut, HandsOver}
@@ -35,14 +35,15 @@ not-both pool k free out = let no : Some false ≡ Some true = sym free ∙ out 
 -- a sector stays free or the download's where the lease is handed over
 handed-one : (old new : Pool) (had has : Option ℕ) (k : ℕ) → IsOut old had → HandsOver had has old new
     → IsMine old had k → IsMine new has k
-handed-one old new had has k out over mine = elim (is_lease has k) [ inl now ↦ inr now | inr other ↦ inl (free other mine) ]
+handed-one old new had has k out over mine =
+    elim (is_lease has k) [ inl now ↦ inr now | inr other ↦ inl (free other mine) ]
   where
     free : has ≢ Some k → IsMine old had k → slice_get new.out k ≡ Some false
     free other (inl was) = over.others k (λ held. not-both old k was (out k held)) other ∙ was
     free other (inr held) = over.back k held other
 
-pub room-handed : (old new : Pool) (had has : Option ℕ) → HasRoom old had → HandsOver had has old new → HasRoom new has
-room-handed old new had has room over = record {
+pub room_handed : (old new : Pool) (had has : Option ℕ) → HasRoom old had → HandsOver had has old new → HasRoom new has
+room_handed old new had has room over = record {
   out = over.mine;
   first = room.first;
   second = room.second;

@@ -1,5 +1,5 @@
 -- What holds of the parts of a machine between events.
-use Rattle.std.proofs.Common.{◌≡◌, ◌≢◌, ℕ, ◌/◌, Bool, true, false, List, [], Option, None, Some, length, refl, sym, ap, ◌∙◌, subst}
+use Rattle.std.proofs.Common.{◌≡◌, ℕ, ◌/◌, true, false, List, [], Option, None, Some, length, refl, sym, ap, ◌∙◌, subst}
 use Rattle.std.specs.Prelude.{IsTrue, is_some}
 use Rattle.std.specs.Option.{ForSome}
 use Rattle.pico_board.specs.declared.Step.{Step}
@@ -9,14 +9,13 @@ use Rattle.sector_pool.specs.Keeping.{KeepsOut}
 use Rattle.sector_pool.specs.Pool.{Pool}
 use Rattle.part_table.specs.Sound.{IsSoundTable}
 use Rattle.image_def.specs.declared.started.Started.{Started}
-use Rattle.slot_choice.specs.declared.choice.Choice.{Choice}
 use Rattle.uf2_place.specs.Accepting.{Kept}
 use Rattle.uf2_place.specs.Downloads.{IsTargetIn, lease_of}
 use Rattle.boot_machine.specs.declared.parts.Parts.{Parts}
 use Rattle.boot_machine.specs.declared.state.State.TheVariants.{Off, Bootsel, Running}
 use Rattle.boot_machine.specs.Machines.{Host, Placing}
-use Rattle.boot_machine.specs.Serving.{Served, told, with_ram}
-use Rattle.boot_machine.specs.Standing.{Carries, HasRoom, IsHost, IsLeft, IsRamStart, IsRunning, IsServed, IsSteady, is_bootsel, is_on, slot_of}
+use Rattle.boot_machine.specs.Serving.{told, with_ram}
+use Rattle.boot_machine.specs.Standing.{Carries, HasRoom, IsHost, IsLeft, IsRamStart, IsServed, IsSteady, is_bootsel, is_on, slot_of}
 use Rattle.boot_machine.proofs.Carried.{carried}
 use Rattle.boot_machine.proofs.Rooms.{room-kept}
 
@@ -54,7 +53,8 @@ module _ {B : Type 0} where
   }
 
   -- a machine in BOOTSEL serves a host
-  pub host-of : (state : B → BoardState) (p : Parts B) → IsSteady state p → p.state ≡ Bootsel → (host : Host) × IsHost p host
+  pub host-of : (state : B → BoardState) (p : Parts B) → IsSteady state p → p.state ≡ Bootsel
+      → (host : Host) × IsHost p host
   host-of state p steady is = (
     record { found = p.found; placing = steady.carries.0; ram = p.ram },
     record { state = is; found = refl; placing = steady.carries.1; ram = refl },

@@ -11,7 +11,7 @@ use Rattle.boot_rules.specs.declared.decision.Decision.{Decision}
 use Rattle.boot_rules.specs.declared.decision.Decision.TheVariants.{Start, Bootsel}
 use Rattle.boot_rules.specs.Choosing.{decision_in}
 use Rattle.boot_rules.specs.Tables.{table_in}
-use Rattle.boot_machine.specs.Machines.{Host, Place, InBootsel, Running, FromFlash}
+use Rattle.boot_machine.specs.Machines.{Place, InBootsel, Running, FromFlash}
 use Rattle.boot_lines.specs.Texts.{decision_text}
 
 -- what an event does where no power is lost: its steps, what the machine does afterwards, and the

@@ -8,7 +8,7 @@ use Rattle.pico_board.specs.declared.boot.BootKind.TheVariants.{Normal}
 use Rattle.pico_board.specs.Content.{Content}
 use Rattle.pico_board.specs.Steps.{CutOf, after_all}
 use Rattle.pico_board.specs.Cuts.{Cut, Told, told_all}
-use Rattle.image_def.specs.declared.started.Started.{Started}
+use Rattle.image_check.specs.Changes.{bought as bought_image}
 use Rattle.slot_choice.specs.declared.choice.Choice.{Choice}
 use Rattle.trial_buy.specs.Buying.{buy_steps}
 use Rattle.boot_script.specs.Events.{Happening}
@@ -42,21 +42,7 @@ bootsel_effect c cpu host (Happening.Uf2 block) =
 bootsel_effect c cpu host (Happening.Reset kind) = reset c cpu kind
 bootsel_effect c cpu host event = stays (InBootsel host) (codes "ignored")
 
--- the image as it is once it is bought, and the choice of it
-abbrev pub bought_image : Started → Started
-bought_image s = record {
-  window = s.window;
-  block = s.block;
-  image_at = s.image_at;
-  pc = s.pc;
-  sp = s.sp;
-  limit = s.limit;
-  version = s.version;
-  rollback = s.rollback;
-  rows = s.rows;
-  trial = false;
-}
-
+-- the choice of an image that is bought
 abbrev pub bought : Choice → Choice
 bought choice = record {
   image = bought_image choice.image;

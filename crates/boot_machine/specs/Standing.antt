@@ -11,6 +11,7 @@ use Rattle.uf2_place.specs.declared.answer.Accepted.{Accepted}
 use Rattle.uf2_place.specs.declared.answer.Accepted.TheVariants.{Skipped, Again, Taken, Done}
 use Rattle.pico_board.specs.Board.{State as BoardState, DoesAll, Rose}
 use Rattle.pico_board.specs.Histories.{Extends}
+use Rattle.sector_pool.specs.Keeping.{HandsOver}
 use Rattle.sector_pool.specs.Pool.{Pool}
 use Rattle.part_table.specs.Sound.{IsSoundTable}
 use Rattle.uf2_place.specs.Accepting.{Kept, StandsFor}
@@ -25,7 +26,7 @@ use Rattle.boot_machine.specs.declared.state.State.{State}
 use Rattle.boot_machine.specs.declared.state.State.TheVariants as states
 use Rattle.boot_machine.specs.declared.state.Slot.{Slot}
 use Rattle.boot_machine.specs.declared.parts.Parts.{Parts}
-use Rattle.boot_machine.specs.Machines.{Machine, Host, Placing, Place, Program, Off, InBootsel, Running, FromFlash, FromRam}
+use Rattle.boot_machine.specs.Machines.{Machine, Host, Placing, Place, Off, InBootsel, Running, FromFlash, FromRam}
 use Rattle.ram_start.specs.Sram.{zero_ram}
 use Rattle.boot_machine.specs.Boots.{Effect}
 use Rattle.boot_machine.specs.Moves.{Moves, effect, effect_in, lost_text}
@@ -132,6 +133,26 @@ module _ {B : Type 0} where
     slot = p.slot;
     found = p.found;
   }
+
+  -- the parts with another download and another pool
+  abbrev pub with_download : Parts B → Kept → Pool → Parts B
+  with_download p download pool = record {
+    board = p.board;
+    pool = pool;
+    download = download;
+    ram = p.ram;
+    cpu = p.cpu;
+    state = p.state;
+    slot = p.slot;
+    found = p.found;
+  }
+
+  -- no download is current, its sector is free again, and all else is as before
+  pub record IsDropped (old new : Parts B) : Type 0 where
+    pub same : new ≡ with_download old new.download new.pool
+    pub none : new.download.current ≡ None
+    pub back : HandsOver (lease_of old.download.current) None old.pool new.pool
+    pub room : HasRoom new.pool None
 
   -- what is left without power: no download is current, and all its sectors are free again
   pub record IsLeft (old new : Parts B) : Type 0 where

@@ -1,12 +1,12 @@
 //! Worked examples of the commands of a host in BOOTSEL, proved by computing: each is the `ensures`
 //! of a function that does nothing.
 
-ghost use Rattle.std.specs.Prelude.{◌≡◌, ◌++◌, List, None, Some, [], ◌∷◌, codes, false, ℕ};
+ghost use Rattle.std.specs.Prelude.{◌≡◌, ◌++◌, List, None, Some, [], ◌∷◌, codes, false, replicate, ℕ};
 ghost use Rattle.boot_lines.specs.Examples.{ram_image};
-ghost use Rattle.boot_machine.specs.Machines.{FromRam, Host, InBootsel, Running};
+ghost use Rattle.boot_machine.specs.Machines.{FromRam, Host, InBootsel, Off, Program, Running};
 ghost use Rattle.boot_machine.specs.Moves.{effect};
-ghost use Rattle.boot_machine.specs.RunExamples.{begun_download, busy, erased, guarded, guarded_busy, idle, machine_at, no_command, with_image};
-ghost use Rattle.boot_machine.specs.Runs.{host_writes};
+ghost use Rattle.boot_machine.specs.RunExamples.{begun_download, block_of, busy, erased, guarded, guarded_busy, idle, machine_at, no_command, with_image};
+ghost use Rattle.boot_machine.specs.Runs.{host_writes, place_writes};
 ghost use Rattle.boot_machine.specs.Serving.{info_status, info_words, served, serves, told, with_ram};
 ghost use Rattle.boot_rules.specs.Examples.{bare, found_in, pair_content, tables_content};
 ghost use Rattle.boot_machine.specs.CrashExamples.{table_and_bare};
@@ -25,6 +25,7 @@ ghost use Rattle.picoboot_cmd.specs.Examples.{command, erase_command, range_args
 ghost use Rattle.ram_start.specs.Examples.{reboot_into};
 ghost use Rattle.ram_start.specs.Serving.{ram_status};
 ghost use Rattle.ram_start.specs.Sram.{RamWrite, zero_ram};
+ghost use Rattle.uf2_place.specs.Blocks.{written as block_bytes};
 
 /// 32 bytes without the magic word are no command, whatever else they say.
 pub fn commands_of_a_form()
@@ -171,4 +172,12 @@ pub fn writes_to_the_sram()
         ≡ [] }
     ensures other { (w : RamWrite) → host_writes erased Arm idle (w ∷ []) Happening.PowerOn
         ≡ w ∷ [] }
+    ensures block { (w : RamWrite) → host_writes erased Arm idle (w ∷ [])
+        (Happening.Uf2 (replicate 512 0)) ≡ w ∷ [] }
+    ensures download { (w : RamWrite) → host_writes erased Arm idle (w ∷ [])
+        (Happening.Uf2 (block_bytes (block_of 0x2000 0x10000000 0 1 0xe48bff58))) ≡ [] }
+    ensures off { (w : RamWrite) (event : Happening) → place_writes erased Arm Off (w ∷ []) event
+        ≡ [] }
+    ensures running { (w : RamWrite) (program : Program) (event : Happening)
+        → place_writes erased Arm (Running program) (w ∷ []) event ≡ [] }
 {}

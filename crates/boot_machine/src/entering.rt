@@ -5,7 +5,7 @@ ghost use Rattle.uf2_place.specs.Downloads.{IsOut, lease_of};
 ghost use Rattle.boot_rules.specs.Tables.{table_in};
 ghost use Rattle.boot_machine.specs.Boots.{booted};
 ghost use Rattle.boot_machine.specs.Moves.{lost_text};
-ghost use Rattle.boot_machine.specs.Standing.{Comes, HasRoom, IsLeft, IsSteady, hosting, running};
+ghost use Rattle.boot_machine.specs.Standing.{Comes, HasRoom, IsDropped, IsLeft, IsSteady, hosting, running};
 
 use crate::booting::boot;
 use crate::parts::Parts;
@@ -38,6 +38,15 @@ pub fn enter_bootsel<B: Board>(parts: &mut Parts<B>)
     parts.state = State::Bootsel;
 }
 
+/// Drops the current download: its sector is free again, and nothing else changes.
+#[tactic(auto, using(crate::proofs::Rooms::room_handed))]
+pub fn drop_download<B: Board>(parts: &mut Parts<B>)
+    requires room { HasRoom parts.old.pool (lease_of parts.old.download.current) }
+    ensures { IsDropped parts.old parts.new }
+{
+    parts.download.close(&mut parts.pool);
+}
+
 /// Goes to the state without power: the download is dropped.
 pub fn lose<B: Board>(parts: &mut Parts<B>, line: &mut ArrayString<320>)
     requires room { HasRoom parts.old.pool (lease_of parts.old.download.current) }
@@ -45,7 +54,7 @@ pub fn lose<B: Board>(parts: &mut Parts<B>, line: &mut ArrayString<320>)
     ensures line { line.new.bytes ≡ lost_text }
 {
     set_text(line, "power lost");
-    parts.download.close(&mut parts.pool);
+    drop_download(parts);
     parts.state = State::Off;
 }
 
@@ -59,7 +68,7 @@ pub fn boot_into<B: Board>(parts: &mut Parts<B>, kind: BootKind, line: &mut Arra
         parts.new line.new.bytes }
     ensures steady { IsSteady B.state parts.new }
 {
-    parts.download.close(&mut parts.pool);
+    drop_download(parts);
     match boot(&mut parts.board, &mut parts.pool, parts.cpu, kind, line) {
         Ok(Some(choice)) => run(parts, choice),
         Ok(None) => enter_bootsel(parts),

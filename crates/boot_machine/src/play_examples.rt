@@ -1,15 +1,15 @@
 //! Worked runs, proved by computing: each is the `ensures` of a function that does nothing.
 
-ghost use Rattle.std.specs.Prelude.{◌≡◌, ◌++◌, None, Some, [], ◌∷◌, codes, false, replicate, true};
+ghost use Rattle.std.specs.Prelude.{◌≡◌, ◌++◌, List, None, Some, [], ◌∷◌, codes, false, replicate, true, ℕ};
 ghost use Rattle.boot_lines.specs.Examples.{ram_image};
 ghost use Rattle.boot_machine.specs.Boots.{decided_place, decided_steps, entered};
 ghost use Rattle.boot_machine.specs.CrashExamples.{plain_sector, running_trial, table_and_bare, whole_flash_of};
 ghost use Rattle.boot_machine.specs.Crashes.{settled_choice};
-ghost use Rattle.boot_machine.specs.Machines.{FromFlash, FromRam, InBootsel, Off, Running};
+ghost use Rattle.boot_machine.specs.Machines.{FromFlash, FromRam, InBootsel, Off, Program as AnyProgram, Running};
 ghost use Rattle.boot_machine.specs.Moves.{Moves, Plays, effect, lost_text};
-ghost use Rattle.boot_machine.specs.RunExamples.{arm_block, armed_with, asks_target, block_of, erase_both, erased, fresh_host, idle, image_bytes, image_in_a, loaded_host, lost_with, machine_at, pair_host, slot_two};
-ghost use Rattle.boot_machine.specs.Runs.{AnswersTarget, PlaysWriting};
-ghost use Rattle.boot_machine.specs.Serving.{Served, followed_by, ruling_on, table_of};
+ghost use Rattle.boot_machine.specs.RunExamples.{arm_block, armed_with, asks_target, block_of, busy, erase_both, erased, fresh_host, idle, image_bytes, image_in_a, loaded_host, lost_with, machine_at, pair_host, slot_two};
+ghost use Rattle.boot_machine.specs.Runs.{AnswersTarget, BeginsDownload, IsFresh, PlaysWriting, StartsRam};
+ghost use Rattle.boot_machine.specs.Serving.{Served, followed_by, ruling_on, table_of, with_ram};
 ghost use Rattle.boot_rules.specs.Choosing.{decision_in};
 ghost use Rattle.boot_rules.specs.Examples.{empty_table, found_in};
 ghost use Rattle.boot_rules.specs.Targets.{target_of};
@@ -56,6 +56,39 @@ pub fn a_run_into_ram()
         (machine_at erased (InBootsel loaded_host))
         (codes "cmd 0x05 token=0x00000001 status=0" ∷ [])
         (record { address = 0x20000000; bytes = image_bytes } ∷ []) }
+    ensures starts { StartsRam (machine_at erased (InBootsel loaded_host))
+        (Happening.Command (written (reboot_into 3 0x20000000 28)) [])
+        (machine_at erased (Running (FromRam ram_image)))
+        (codes "cmd 0x0a token=0x00000001 status=0 boot start ram=0x20000000+0x0000001c "
+        ++ codes "block=0x00000008 pc=0x20000021 sp=0x20082000 limit=0x00000000 version=0.0 "
+        ++ codes "rollback=none trial=no") ram_image }
+{}
+
+/// Where a run begins: without power, or in BOOTSEL as it is entered, with neither a download nor
+/// bytes in the SRAM.
+pub fn where_runs_begin()
+    ensures off { IsFresh Off }
+    ensures entered { (c : Content) → IsFresh (entered c) }
+    ensures download { (ram : List ℕ) → IsFresh (InBootsel (with_ram busy ram)) → ⊥ }
+    ensures written { IsFresh (InBootsel idle) → ⊥ }
+    ensures running { (program : AnyProgram) → IsFresh (Running program) → ⊥ }
+{}
+
+/// Which blocks begin a download of a family: those of another family or count than the current
+/// one, where there is one. One that is skipped begins none, nor does one of another family.
+pub fn blocks_that_begin_a_download()
+    ensures first { BeginsDownload 262144 idle 0xe48bff59 (block_bytes (arm_block 0x10000000 0))
+        (arm_block 0x10000000 0) }
+    ensures another_count { BeginsDownload 262144 busy 0xe48bff59
+        (block_bytes (block_of 0x2000 0x10000000 0 3 0xe48bff59))
+        (block_of 0x2000 0x10000000 0 3 0xe48bff59) }
+    ensures next { (bytes : List ℕ)
+        → BeginsDownload 262144 busy 0xe48bff59 bytes (arm_block 0x10000100 1) → ⊥ }
+    ensures skipped { (bytes : List ℕ)
+        → BeginsDownload 262144 idle 0xe48bff59 bytes (block_of 0x2001 0x10000000 0 2 0xe48bff59)
+        → ⊥ }
+    ensures another_family { (bytes : List ℕ)
+        → BeginsDownload 262144 idle 0xe48bff5a bytes (arm_block 0x10000000 0) → ⊥ }
 {}
 
 /// A cut that is told: it falls before a step of the command, or has steps left behind it.

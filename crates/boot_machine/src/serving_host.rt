@@ -1,17 +1,18 @@
 //! The events of a host, on the parts of a machine in BOOTSEL.
 
-ghost use Rattle.std.specs.Prelude.{◌≡◌, ◌≤◌, IfSome, length, true, IsTrue};
+ghost use Rattle.std.specs.Prelude.{◌≡◌, ◌≤◌, IfSome, None, length, true, IsTrue};
 ghost use Rattle.uf2_place.specs.Downloads.{lease_of};
 ghost use Rattle.uf2_place.specs.Blocks.{IsUf2, uf2_of};
 ghost use Rattle.picoboot_cmd.specs.Commands.{command_in};
 ghost use Rattle.info_reply.specs.declared.kinds.TheConstants.{INFO as INFO_ID};
 ghost use Rattle.ram_start.specs.Serving.{is_ram_command};
 ghost use Rattle.boot_script.specs.Events.{event_from};
+ghost use Rattle.boot_machine.specs.Moves.{lost_text};
 ghost use Rattle.boot_machine.specs.Serving.{command_served, is_hosted, places, served, serves, serves_host, serves_info, serves_ram, uf2_served};
-ghost use Rattle.boot_machine.specs.Standing.{HasRoom, IsRamStart, IsSteady, Serves};
+ghost use Rattle.boot_machine.specs.Standing.{HasRoom, IsLeft, IsRamStart, IsSteady, Serves};
 ghost use Rattle.boot_machine.specs.declared.state.State.TheVariants.{Bootsel as SERVING};
 
-use crate::entering::lose;
+use crate::entering::{drop_download, lose};
 use crate::parts::Parts;
 use crate::serving::{place_block, serve_host, serve_info, serve_ram};
 use crate::state::State;
@@ -57,7 +58,7 @@ fn run_ram<B: Board>(parts: &mut Parts<B>, image: Started)
     requires room { HasRoom parts.old.pool (lease_of parts.old.download.current) }
     ensures { IsRamStart parts.old image parts.new }
 {
-    parts.download.close(&mut parts.pool);
+    drop_download(parts);
     parts.slot = None;
     parts.state = State::Running(image);
 }
@@ -94,6 +95,17 @@ fn ram<B: Board>(
     None
 }
 
+/// Power was lost while the host was served: no boot is asked for.
+fn lost<B: Board>(parts: &mut Parts<B>, line: &mut ArrayString<320>) -> Option<BootKind>
+    requires room { HasRoom parts.old.pool (lease_of parts.old.download.current) }
+    ensures none { result ≡ None }
+    ensures parts { IsLeft parts.old parts.new }
+    ensures line { line.new.bytes ≡ lost_text }
+{
+    lose(parts, line);
+    None
+}
+
 /// Serves another command of the host.
 fn host<B: Board>(
     parts: &mut Parts<B>,
@@ -111,10 +123,7 @@ fn host<B: Board>(
     let busy = parts.download.busy();
     match serve_host(&mut parts.board, &parts.found, busy, cmd, payload, line) {
         Ok(boot) => boot,
-        Err(PowerLost) => {
-            lose(parts, line);
-            None
-        }
+        Err(PowerLost) => lost(parts, line),
     }
 }
 
@@ -189,10 +198,7 @@ fn block<B: Board>(
         line,
     ) {
         Ok(boot) => boot,
-        Err(PowerLost) => {
-            lose(parts, line);
-            None
-        }
+        Err(PowerLost) => lost(parts, line),
     }
 }
 

@@ -97,8 +97,9 @@ fn buy_choice<B: Board>(parts: &mut Parts<B>, choice: Choice, line: &mut ArraySt
     requires room { HasRoom parts.old.pool None }
     requires none { parts.old.download.current ≡ None }
     requires held { IsHeld (B.state parts.old.board).content parts.old.cpu choice }
-    ensures comes { Comes B.state B.history parts.old (buy_effect
-        (B.state parts.old.board).content parts.old.cpu (FromFlash choice)) parts.new line.new.bytes }
+    ensures comes { Comes B.state B.history parts.old
+        (buy_effect (B.state parts.old.board).content parts.old.cpu (FromFlash choice))
+        parts.new line.new.bytes }
     ensures steady { IsSteady B.state parts.new }
 {
     if !choice.image.trial {

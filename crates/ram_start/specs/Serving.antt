@@ -1,6 +1,6 @@
 -- What the RAM commands do: their checks, and what they leave and answer. The order of the checks
 -- is this project's own.
-use Rattle.std.specs.Prelude.{ℕ, ◌+◌, ◌-◌, ◌%◌, ◌==◌, ◌&&◌, ◌||◌, Bool, true, false, not, nat_le, if◌then◌else◌, Option, Some, None, List, [], ◌∷◌, Result, Ok, Err, is_some, slice_range}
+use Rattle.std.specs.Prelude.{ℕ, ◌+◌, ◌-◌, ◌%◌, ◌==◌, ◌&&◌, ◌||◌, Bool, not, nat_le, if◌then◌else◌, Option, None, List, [], ◌∷◌, is_some, slice_range}
 use Rattle.std.specs.Result.{result_ok}
 use Rattle.load_map.specs.declared.addresses.TheConstants.{SRAM_START}
 use Rattle.pico_board.specs.declared.boot.Cpu.{Cpu}

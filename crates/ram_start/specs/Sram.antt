@@ -1,10 +1,6 @@
 -- The SRAM that a host writes (RP2350 Datasheet, section 2.2, Address map).
-use Rattle.std.specs.Prelude.{◌≡◌, ℕ, ◌+◌, ◌-◌, ◌≤◌, ◌<◌, ◌&&◌, Bool, nat_le, List, [], ◌∷◌, ◌++◌, All, length, replicate, take, drop}
+use Rattle.std.specs.Prelude.{◌≡◌, ℕ, ◌+◌, ◌-◌, ◌<◌, ◌&&◌, Bool, nat_le, List, [], ◌∷◌, ◌++◌, All, length, replicate, take, drop}
 use Rattle.load_map.specs.declared.addresses.TheConstants.{SRAM_END, SRAM_START}
-
--- the number of its bytes
-abbrev pub sram_size : ℕ
-sram_size = SRAM_END - SRAM_START
 
 -- all bytes 0
 unfoldable pub zero_ram : List ℕ

@@ -1,10 +1,14 @@
 //! Worked examples, proved by computing: each is the `ensures` of a function that does nothing.
 
-ghost use Rattle.std.specs.Prelude.{◌≡◌, [], ◌∷◌, false, true};
-ghost use Rattle.ram_start.specs.Sram.{is_in_sram, stored};
-ghost use Rattle.ram_start.specs.Serving.{is_ram_command, is_range};
-ghost use Rattle.picoboot_cmd.specs.Examples.{read_command, write_command};
-ghost use Rattle.ram_start.specs.Examples.{reboot_into};
+ghost use Rattle.std.specs.Prelude.{◌≡◌, List, [], ◌∷◌, Some, None, false, true, ℕ};
+ghost use Rattle.image_check.specs.Examples.{otp_with};
+ghost use Rattle.pico_board.specs.Content.{Content};
+ghost use Rattle.pico_board.specs.declared.boot.Cpu.TheVariants.{Arm, Riscv};
+ghost use Rattle.picoboot_cmd.specs.Examples.{command, erase_command, range_args, read_command, write_command};
+ghost use Rattle.picoboot_cmd.specs.declared.kinds.TheConstants.{OTP_READ, READ, REBOOT, WRITE};
+ghost use Rattle.ram_start.specs.Examples.{image_bytes, image_in_ram, reboot_into, with_rows};
+ghost use Rattle.ram_start.specs.Serving.{is_ram_command, is_range, ram_command, ram_served, ram_status};
+ghost use Rattle.ram_start.specs.Sram.{RamWrite, is_in_sram, ram_after, stored, written, written_all, zero_ram};
 
 /// A range lies in SRAM up to its last byte, and a range of no byte at either end too.
 pub fn ranges_of_sram()
@@ -40,10 +44,85 @@ pub fn commands_of_ram()
     ensures bootsel { is_ram_command (reboot_into 2 0x20000000 4) ≡ false }
     ensures update { is_ram_command (reboot_into 4 0x20000000 4) ≡ false }
     ensures another { is_ram_command (reboot_into 0x203 0x20000000 4) ≡ false }
+    ensures shorter_read { is_ram_command (command READ 7 4 (range_args 0x20000000 4)) ≡ false }
+    ensures longer_write { is_ram_command (command WRITE 9 4 (range_args 0x20000000 4)) ≡ false }
+    ensures shorter_reboot { is_ram_command
+        (command REBOOT 15 0 (reboot_into 3 0x20000000 4).args) ≡ false }
+    ensures erase { is_ram_command (erase_command 0x20000000 0x1000) ≡ false }
+    ensures otp_read { is_ram_command (command OTP_READ 8 4 (range_args 0x20000000 4)) ≡ false }
+{}
+
+/// The first check that fails gives the status: most of these commands fail a later one too. A busy
+/// download matters to a write alone.
+pub fn the_first_check_that_fails()
+    ensures busy { (c : Content) (ram : List ℕ)
+        → ram_status c ram Arm true (write_command 0x20081fff 2) [] ≡ 9 }
+    ensures busy_read { (c : Content) (ram : List ℕ)
+        → ram_status c ram Arm true (read_command 0x20000000 4) [] ≡ 0 }
+    ensures transfer { (c : Content) (ram : List ℕ)
+        → ram_status c ram Arm false (write_command 0x20081fff 2) (9 ∷ []) ≡ 3 }
+    ensures payload { (c : Content) (ram : List ℕ)
+        → ram_status c ram Arm false (read_command 0x20081fff 2) (9 ∷ []) ≡ 3 }
+    ensures outside { (c : Content) (ram : List ℕ)
+        → ram_status c ram Arm false (write_command 0x20081fff 2) (9 ∷ 10 ∷ []) ≡ 4 }
+    ensures inside { (c : Content) (ram : List ℕ)
+        → ram_status c ram Arm false (write_command 0x20081ffe 2) (9 ∷ 10 ∷ []) ≡ 0 }
+    ensures reboot { (c : Content) (ram : List ℕ)
+        → ram_status c ram Arm true (reboot_into 3 0x20000002 4) (9 ∷ []) ≡ 3 }
+    ensures range { (c : Content) (ram : List ℕ)
+        → ram_status c ram Arm true (reboot_into 3 0x20000002 4) [] ≡ 11 }
+    ensures no_image { (c : Content)
+        → ram_status c (0 ∷ 0 ∷ 0 ∷ 0 ∷ []) Arm true (reboot_into 3 0x20000000 4) [] ≡ 13 }
+{}
+
+/// What a command does whose status is 0: a write stores its bytes, a read is answered with those
+/// of its range, and neither starts an image. With another status nothing is done.
+pub fn what_ram_commands_do()
+    ensures write { (c : Content)
+        → ram_served 0 c (1 ∷ 2 ∷ 3 ∷ 4 ∷ []) Arm (write_command 0x20000001 2) (9 ∷ 10 ∷ [])
+        ≡ record { status = 0; ram = 1 ∷ 9 ∷ 10 ∷ 4 ∷ []; reply = []; start = None } }
+    ensures read { (c : Content)
+        → ram_served 0 c (1 ∷ 2 ∷ 3 ∷ 4 ∷ []) Arm (read_command 0x20000001 2) []
+        ≡ record { status = 0; ram = 1 ∷ 2 ∷ 3 ∷ 4 ∷ []; reply = 2 ∷ 3 ∷ []; start = None } }
+    ensures refused { (c : Content)
+        → ram_served 4 c (1 ∷ 2 ∷ 3 ∷ 4 ∷ []) Arm (write_command 0x20000001 2) (9 ∷ 10 ∷ [])
+        ≡ record { status = 4; ram = 1 ∷ 2 ∷ 3 ∷ 4 ∷ []; reply = []; start = None } }
+{}
+
+/// A reboot starts the image of its range, whose addresses are seen from the range's first byte on;
+/// the SRAM stays. It starts none for the other processor, of a part of the image, or where the
+/// rows ask for a rollback version that the image does not have.
+pub fn images_in_ram()
+    ensures first { ram_command (with_rows 0) image_bytes Arm true (reboot_into 3 0x20000000 28) []
+        ≡ record {
+          status = 0;
+          ram = image_bytes;
+          reply = [];
+          start = Some (image_in_ram 0x20000000);
+        } }
+    ensures later { (ram_command (with_rows 0) (0 ∷ 0 ∷ 0 ∷ 0 ∷ image_bytes) Arm false
+        (reboot_into 0x103 0x20000004 28) []).start ≡ Some (image_in_ram 0x20000004) }
+    ensures processor { ram_status (with_rows 0) image_bytes Riscv false
+        (reboot_into 3 0x20000000 28) [] ≡ 13 }
+    ensures part { ram_status (with_rows 0) image_bytes Arm false
+        (reboot_into 3 0x20000000 27) [] ≡ 13 }
+    ensures required { ram_status (with_rows 1) image_bytes Arm false
+        (reboot_into 3 0x20000000 28) [] ≡ 13 }
 {}
 
 /// Bytes are stored over those at their offset.
 pub fn bytes_are_stored()
     ensures middle { stored (1 ∷ 2 ∷ 3 ∷ 4 ∷ []) 1 (8 ∷ 9 ∷ []) ≡ 1 ∷ 8 ∷ 9 ∷ 4 ∷ [] }
     ensures none { stored (1 ∷ 2 ∷ []) 2 [] ≡ 1 ∷ 2 ∷ [] }
+{}
+
+/// Writes are stored from their addresses on, in order, over an SRAM of zeros.
+pub fn writes_are_stored()
+    ensures one { written (1 ∷ 2 ∷ 3 ∷ 4 ∷ [])
+        (record { address = 0x20000001; bytes = 8 ∷ 9 ∷ [] }) ≡ 1 ∷ 8 ∷ 9 ∷ 4 ∷ [] }
+    ensures in_order { written_all (1 ∷ 2 ∷ 3 ∷ 4 ∷ [])
+        (record { address = 0x20000000; bytes = 5 ∷ 6 ∷ [] }
+        ∷ record { address = 0x20000001; bytes = 7 ∷ 8 ∷ [] } ∷ []) ≡ 5 ∷ 7 ∷ 8 ∷ 4 ∷ [] }
+    ensures zeros { ram_after [] ≡ zero_ram }
+    ensures first { (w : RamWrite) → ram_after (w ∷ []) ≡ written zero_ram w }
 {}

@@ -1,4 +1,3 @@
-use Rattle.std.proofs.Common.{refl, sym}
 use Rattle.boot_machine.proofs.Boots.{placed-by, valid-by, held-by}
 use Rattle.boot_machine.proofs.booting.boot.Goals as goal
 

@@ -67,3 +67,6 @@ pub returns-clause-writes : goal.returns-clause-writes
 unfolding word_bytes
 returns-clause-writes c =
     (machine_at erased (InBootsel loaded_host), loaded, [], loads, (refl, refl, refl), refl)
+
+pub returns-clause-starts : goal.returns-clause-starts
+returns-clause-starts c = record { moves = starts; former = λ same. cc same; running = refl }

@@ -1,4 +1,4 @@
-use Rattle.std.proofs.Common.{refl, sym, ◌∙◌}
+use Rattle.std.proofs.Common.{sym, ◌∙◌}
 use Rattle.boot_machine.proofs.Infos.{few-asked, few-refused, reply-asked, reply-refused, status-asked, status-refused}
 use Rattle.boot_machine.proofs.serving.info_reply.Goals as goal
 

@@ -1,8 +1,8 @@
 use Rattle.boot_rules.specs.Targets.{target_of}
-use Rattle.std.proofs.Common.{Bor, length, refl, sym, ap, ◌∙◌, subst}
+use Rattle.std.proofs.Common.{Bor, length, refl, sym, ap, ◌∙◌}
 use Rattle.boot_machine.proofs.Blocks.{came-told, done-in, each-meant, promised-of, same-ruling}
 use Rattle.boot_machine.proofs.Carried.{carried, sound-of}
-use Rattle.boot_machine.proofs.Rooms.{room-free, room-handed, room-kept}
+use Rattle.boot_machine.proofs.Rooms.{room-free, room_handed, room-kept}
 use Rattle.std.specs.Option.{option_map}
 use Rattle.part_table.specs.declared.Table.{Table}
 use Rattle.uf2_place.specs.Accepting.{rules}
@@ -62,5 +62,5 @@ returns-clause-served g c = λ host found carries.
 
 pub returns-clause-room : goal.returns-clause-room
 returns-clause-room g c =
-    room-handed _ _ _ _ (room-kept _ _ _ c.wanted_target-target.ensures.kept c.requires.room)
+    room_handed _ _ _ _ (room-kept _ _ _ c.wanted_target-target.ensures.kept c.requires.room)
     c.accept-answer.ensures.pool

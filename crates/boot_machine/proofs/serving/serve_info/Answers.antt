@@ -4,7 +4,9 @@ use Rattle.boot_machine.proofs.serving.serve_info.Goals as goal
 
 pub returns-clause-text : goal.returns-clause-text
 returns-clause-text g c =
-    c.set_answer.ensures.text
-    (info_reply c.info_reply-status.result (g.B.Board.state c.args.board.now).content c.args.cpu c.args.found.now
-    c.args.cmd.now) (c.info_reply-status.ensures.reply c.new-reply.ensures) c.info_reply-status.ensures.few
-    ∙ ap (λ status. info_text status (g.B.Board.state c.args.board.now).content c.args.cpu c.args.found.now c.args.cmd.now) c.info_reply-status.ensures.status
+    let content = (g.B.Board.state c.args.board.now).content in
+    let found = c.args.found.now in
+    let cmd = c.args.cmd.now in
+    c.set_answer.ensures.text (info_reply c.info_reply-status.result content c.args.cpu found cmd)
+    (c.info_reply-status.ensures.reply c.new-reply.ensures) c.info_reply-status.ensures.few
+    ∙ ap (λ status. info_text status content c.args.cpu found cmd) c.info_reply-status.ensures.status

@@ -1,4 +1,4 @@
-use Rattle.std.proofs.Common.{ap, refl, sym}
+use Rattle.std.proofs.Common.{ap}
 use Rattle.boot_machine.specs.Serving.{places}
 use Rattle.boot_machine.specs.Standing.{is_bootsel}
 use Rattle.boot_machine.proofs.Placing.{block-lost, block-ok, block-place, steady-block}
@@ -22,6 +22,8 @@ returns-in-Ok-clause-steady g c =
 
 pub returns-in-Err-clause-serves : goal.returns-in-Err-clause-serves
 returns-in-Err-clause-serves g c = λ host is.
-    block-lost g.B.Board.state g.B.Board.history c.args.parts.now c.lose.new.parts _ c.place_block.new.board
+    let gone =
+    block-lost g.B.Board.state g.B.Board.history c.args.parts.now c.lost.new.parts _ c.place_block.new.board
     c.place_block.new.pool c.place_block.new.download c.in-Err.field-0 _ _
-    (c.in-Err.ensures.served host is.found is.placing) c.lose.ensures.parts c.lose.ensures.line
+    (c.in-Err.ensures.served host is.found is.placing) c.lost.ensures.parts c.lost.ensures.line in
+    rw c.lost.ensures.none gone

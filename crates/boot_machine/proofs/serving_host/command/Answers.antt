@@ -1,7 +1,4 @@
-use Rattle.std.proofs.Common.{ap, refl, sym, ◌≡◌, true, false, ◌==◌, arith, nat_eq}
-use Rattle.std.specs.Prelude.{if◌then◌else◌}
-use Rattle.info_reply.specs.declared.kinds.TheConstants.{INFO}
-use Rattle.ram_start.specs.Serving.{is_ram_command}
+use Rattle.std.proofs.Common.{sym}
 use Rattle.boot_machine.specs.Serving.{serves, serves_host, serves_info, serves_ram}
 use Rattle.boot_machine.proofs.Cases.{case-host, case-info, case-ram}
 use Rattle.boot_machine.proofs.Placing.{serves-as}

@@ -1,5 +1,5 @@
-use Rattle.std.proofs.Common.{None, ap, refl, ◌∙◌, sym}
-use Rattle.boot_machine.specs.Standing.{is_bootsel, is_on}
+use Rattle.std.proofs.Common.{ap}
+use Rattle.boot_machine.specs.Standing.{is_bootsel}
 use Rattle.boot_machine.proofs.Steadiness.{steady-board, steady-left}
 use Rattle.boot_machine.proofs.serving_host.host.Goals as goal
 
@@ -12,4 +12,4 @@ returns-in-Ok-clause-steady g c =
     c.in-Ok.ensures.steps.power c.in-Ok.ensures.steps.size
 
 pub returns-in-Err-clause-steady : goal.returns-in-Err-clause-steady
-returns-in-Err-clause-steady g c = steady-left g.B.Board.state _ c.lose.new.parts c.lose.ensures.parts
+returns-in-Err-clause-steady g c = steady-left g.B.Board.state _ c.lost.new.parts c.lost.ensures.parts

@@ -16,8 +16,9 @@ pub returns-clause-serves : goal.returns-clause-serves
 returns-clause-serves g c = λ host is.
     let old = c.args.parts.now in
     let content = (g.B.Board.state old.board).content in
-    let told : Option Found → List ℕ = λ found. info_text (info_status content old.cpu found c.args.cmd.now c.args.payload.now) content old.cpu
-    found c.args.cmd.now in
+    let cmd = c.args.cmd.now in
+    let told : Option Found → List ℕ = λ found.
+    info_text (info_status content old.cpu found cmd c.args.payload.now) content old.cpu found cmd in
     told-served g.B.Board.state g.B.Board.history old _ host _ _
     (c.requires.steady.power (ap is_on c.requires.bootsel)) refl refl
     (host-kept old c.serve_info.new.pool host c.serve_info.ensures.kept is)

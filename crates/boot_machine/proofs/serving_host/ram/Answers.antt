@@ -1,4 +1,4 @@
-use Rattle.std.proofs.Common.{None, ap, refl, ◌∙◌, sym}
+use Rattle.std.proofs.Common.{ap, ◌∙◌, sym}
 use Rattle.boot_machine.specs.Standing.{is_on}
 use Rattle.boot_machine.proofs.Hosting.{ram-served}
 use Rattle.boot_machine.proofs.Rooms.{room-free, room-kept}

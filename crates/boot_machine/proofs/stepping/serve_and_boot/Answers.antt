@@ -1,9 +1,7 @@
-use Rattle.std.proofs.Common.{Option, None, sym, subst}
-use Rattle.pico_board.specs.declared.boot.BootKind.{BootKind}
+use Rattle.std.proofs.Common.{subst}
 use Rattle.boot_script.specs.Events.{event_from}
 use Rattle.boot_machine.specs.Boots.{booted}
-use Rattle.boot_machine.specs.Serving.{served}
-use Rattle.boot_machine.specs.Standing.{Comes, Serves}
+use Rattle.boot_machine.specs.Standing.{Comes}
 use Rattle.boot_machine.proofs.Advancing.{advances-alone, advances-boot, asked-power}
 use Rattle.boot_machine.proofs.Steadiness.{host-of}
 use Rattle.boot_machine.proofs.stepping.serve_and_boot.Goals as goal

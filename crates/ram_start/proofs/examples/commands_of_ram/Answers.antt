@@ -25,3 +25,7 @@ returns-clause-update c = refl
 pub returns-clause-another : goal.returns-clause-another
 unfolding word_bytes
 returns-clause-another c = refl
+
+pub returns-clause-shorter_reboot : goal.returns-clause-shorter_reboot
+unfolding word_bytes
+returns-clause-shorter_reboot c = refl

@@ -1,4 +1,4 @@
-use Rattle.std.proofs.Common.{None, sym, subst}
+use Rattle.std.proofs.Common.{None}
 use Rattle.boot_machine.specs.declared.parts.Parts.{Parts}
 use Rattle.boot_machine.specs.declared.state.State.TheVariants.{Off}
 use Rattle.boot_machine.proofs.Entries.{steady-entered}

@@ -1,4 +1,4 @@
-use Rattle.std.proofs.Common.{subst, sym}
+use Rattle.std.proofs.Common.{subst}
 use Rattle.boot_script.specs.Events.{event_from}
 use Rattle.boot_machine.specs.Serving.{served}
 use Rattle.boot_machine.specs.Standing.{Serves}
