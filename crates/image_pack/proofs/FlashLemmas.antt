@@ -1,7 +1,8 @@
 -- The table of a made flash can be written.
-use Rattle.std.proofs.Common.{◌≡◌, zero, suc, ◌<◌, All, refl, sym, subst, arith}
+use Rattle.std.proofs.Common.{◌≡◌, ◌∙◌, zero, suc, ◌<◌, All, length, refl, sym, subst, arith}
 use Rattle.part_table.specs.declared.table.Table.{Table}
-use Rattle.part_table.specs.Written.{AgreesWithFlags, written_size}
+use Rattle.part_table.specs.Written.{AgreesWithFlags, written, written_size}
+use Rattle.part_table.proofs.BlockFacts.{size_told}
 use Rattle.image_pack.specs.Flashes.{made_table}
 
 made-agrees : All AgreesWithFlags made_table.parts.items
@@ -23,3 +24,7 @@ pub table-fits : (t : Table) → t ≡ made_table → 640 < written_size t → �
 table-fits t is long =
     let small : written_size t ≡ 92 = subst (λ (u : Table). written_size u ≡ 92) (sym is) made-size in
     omega (arith, small, long)
+
+-- its block has 92 bytes
+pub table-size : length (written made_table) ≡ 92
+table-size = size_told made_table ∙ made-size

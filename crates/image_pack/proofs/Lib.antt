@@ -9,3 +9,10 @@ pub mod BoardLemmas
 pub mod FaultLemmas
 pub mod PlanLaws
 pub mod TextLaws
+pub mod OneItem
+pub mod SealedItems
+pub mod UnsealableLemmas
+pub mod SealedParts
+pub mod SealedDef
+pub mod SealedBack
+pub mod ReadBackLemmas

@@ -28,7 +28,8 @@ use Rattle.image_pack.specs.Sealing.{link_offset_of, offset_of, parts_in, parts_
 use Rattle.image_pack.specs.Within.{IsWithin}
 
 -- the loop that is answered
-loop_answered : (r : Result (List BlockView) LoopFault) (loop : List BlockView) → loop_answer r ≡ Ok loop → r ≡ Ok loop
+pub loop_answered : (r : Result (List BlockView) LoopFault) (loop : List BlockView) → loop_answer r ≡ Ok loop
+    → r ≡ Ok loop
 loop_answered (Ok bs) loop is = let same : bs ≡ loop = cc in ap Ok same
 loop_answered (Err NoFirst) loop is = cc
 loop_answered (Err (Broken x)) loop is = cc

@@ -7,3 +7,5 @@ pub mod Flashes
 pub mod Faults
 pub mod Starting
 pub mod Examples
+pub mod Unsealable
+pub mod ReadBack

@@ -1,6 +1,6 @@
 //! Bytes filled with 0xff.
 
-ghost use Rattle.std.specs.Prelude.{◌≡◌, ◌≤◌, ◌<◌, ◌^◌, IfOk, OnOk, length};
+ghost use Rattle.std.specs.Prelude.{◌≡◌, ◌+◌, ◌≤◌, ◌<◌, ◌^◌, IfOk, OnOk, length};
 ghost use Rattle.image_pack.specs.Filling.{padded, round_up, whole_sectors, whole_words};
 
 use std::alloc::{AllocError, Global};
@@ -21,7 +21,8 @@ fn round_up(m: usize, n: usize) -> usize
 /// A copy of the bytes, with 0xff behind them up to so many bytes.
 pub(crate) fn padded(alloc: Global, bytes: &[u8], count: usize) -> Result<Vec<u8>, AllocError>
     requires { length bytes.now ≤ count }
-    ensures { IfOk result (λ copy. copy.items ≡ padded count bytes.now) }
+    ensures value { IfOk result (λ copy. copy.items ≡ padded count bytes.now) }
+    ensures len { IfOk result (λ copy. length copy.items ≡ count) }
 {
     let mut copy = Vec::new(alloc);
     copy.extend_from_slice(bytes)?;
@@ -32,7 +33,8 @@ pub(crate) fn padded(alloc: Global, bytes: &[u8], count: usize) -> Result<Vec<u8
 /// A copy of the bytes in whole words.
 pub(crate) fn whole_words(alloc: Global, bytes: &[u8]) -> Result<Vec<u8>, AllocError>
     requires { length bytes.now ≤ 16777216 }
-    ensures { IfOk result (λ copy. copy.items ≡ whole_words bytes.now) }
+    ensures value { IfOk result (λ copy. copy.items ≡ whole_words bytes.now) }
+    ensures few { IfOk result (λ copy. length copy.items ≤ length bytes.now + 3) }
 {
     padded(alloc, bytes, round_up(4, bytes.len()))
 }
@@ -43,4 +45,14 @@ pub(crate) fn whole_sectors(alloc: Global, bytes: &[u8]) -> Result<Vec<u8>, Allo
     ensures { IfOk result (λ copy. copy.items ≡ whole_sectors bytes.now) }
 {
     padded(alloc, bytes, round_up(4096, bytes.len()))
+}
+
+/// Fills the bytes to whole sectors.
+pub(crate) fn fill_sectors(bytes: &mut Vec<u8>) -> Result<(), AllocError>
+    requires { length bytes.old.items ≤ 16777216 }
+    ensures value { OnOk result (bytes.new.items ≡ whole_sectors bytes.old.items) }
+    ensures len { OnOk result (length bytes.new.items ≤ 16777216) }
+{
+    let count = round_up(4096, bytes.len());
+    bytes.resize(count, ERASED)
 }

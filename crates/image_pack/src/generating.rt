@@ -85,7 +85,8 @@ fn made_spec(minor: u16) -> SealSpec
 /// The sealed image of version 1.minor on the binary of a seed.
 #[tactic(auto, unfolding(crate::specs::Flashes::made_image))]
 fn made_image(alloc: Global, seed: u32, minor: u16) -> Result<Vec<u8>, AllocError>
-    ensures { IfOk result (λ image. image.items ≡ made_image seed minor) }
+    ensures value { IfOk result (λ image. image.items ≡ made_image seed minor) }
+    ensures few { IfOk result (λ image. length image.items ≤ 0x40000) }
 {
     let binary = binary_of(alloc, seed)?;
     sealed_text(alloc, &binary, &made_spec(minor))
@@ -122,7 +123,8 @@ fn made_table() -> Table
 
 /// The bytes of the table of a made flash.
 fn table_text(alloc: Global) -> Result<Vec<u8>, AllocError>
-    ensures { IfOk result (λ text. text.items ≡ written made_table) }
+    ensures value { IfOk result (λ text. text.items ≡ written made_table) }
+    ensures few { IfOk result (λ text. length text.items ≤ 0x2000) }
 {
     let mut text = Vec::new(alloc);
     match write_table(alloc, &made_table(), &mut text) {
@@ -134,17 +136,20 @@ fn table_text(alloc: Global) -> Result<Vec<u8>, AllocError>
 
 /// Appends the bytes, with 0xff behind them up to so many bytes.
 fn put_padded(out: &mut Vec<u8>, bytes: &[u8], count: usize) -> Result<(), AllocError>
-    requires { count ≤ 16777216 }
-    ensures { OnOk result (out.new.items ≡ out.old.items ++ padded count bytes.now) }
+    requires small { count ≤ 16777216 }
+    requires few { length bytes.now ≤ count }
+    ensures items { OnOk result (out.new.items ≡ out.old.items ++ padded count bytes.now) }
+    ensures len { OnOk result (length out.new.items ≡ length out.old.items + count) }
 {
     out.extend_from_slice(bytes)?;
-    let fill = count.saturating_sub(bytes.len());
+    let fill = count - bytes.len();
     out.resize(out.len() + fill, 0xff)
 }
 
 /// The flash of number n.
 fn flash_of(alloc: Global, n: u32) -> Result<Vec<u8>, AllocError>
-    ensures { IfOk result (λ flash. flash.items ≡ generated n) }
+    ensures value { IfOk result (λ flash. flash.items ≡ generated n) }
+    ensures len { IfOk result (λ flash. length flash.items ≡ 0x100000) }
 {
     let table = table_text(alloc)?;
     let first = made_image(alloc, n, (n % 10) as u16)?;
@@ -156,11 +161,13 @@ fn flash_of(alloc: Global, n: u32) -> Result<Vec<u8>, AllocError>
     Ok(flash)
 }
 
-/// Appends the flash of number n: the table at 0, the sealed image of seed n and version
-/// 1.(n mod 10) at 0x2000, and that of seed n + 1 and version 1.((n / 10) mod 10) at 0x42000. Where
-/// there is no memory for it, the former bytes stay, and a part of the flash may stand behind them.
+/// Appends the flash of number n, of 1,048,576 bytes: the table at 0, the sealed image of seed n
+/// and version 1.(n mod 10) at 0x2000, and that of seed n + 1 and version 1.((n / 10) mod 10) at
+/// 0x42000. Where there is no memory for it, the former bytes stay, and a part of the flash may
+/// stand behind them.
 pub fn generate(alloc: Global, n: u32, out: &mut Vec<u8>) -> Result<(), AllocError>
     ensures ok { OnOk result (out.new.items ≡ out.old.items ++ generated n) }
+    ensures len { OnOk result (length out.new.items ≡ length out.old.items + 0x100000) }
     ensures err { OnErr result (IsKept out.old.items out.new.items) }
 {
     let flash = flash_of(alloc, n)?;

@@ -1,6 +1,6 @@
 //! Whether a sealed image starts.
 
-ghost use Rattle.std.specs.Prelude.{◌≡◌, ◌≤◌, IfOk, IsTrue, length, true};
+ghost use Rattle.std.specs.Prelude.{◌≡◌, ◌≤◌, IfOk, IsTrue, OnOk, length, true};
 ghost use Rattle.pico_board.specs.Content.{IsFlashLength};
 ghost use Rattle.pico_board.specs.MemBoard.{state_of};
 ghost use Rattle.image_check.specs.Addressing.{in_flash};
@@ -8,7 +8,7 @@ ghost use Rattle.image_check.specs.Image.{image_in};
 ghost use Rattle.image_pack.specs.Faults.{whole_window, zero_otp};
 ghost use Rattle.image_pack.specs.Filling.{whole_sectors};
 
-use crate::filling::whole_sectors;
+use crate::filling::fill_sectors;
 use image_check::{Addressing, Why, check_view};
 use image_def::Started;
 use pico_board::{BoardError, Cpu, MemBoard, SliceView, Window};
@@ -94,16 +94,21 @@ fn image_of(alloc: Global, sectors: &[u8], cpu: Cpu) -> Result<Result<Started, W
 }
 
 /// The image, filled with 0xff to whole sectors and alone in a window, with an OTP of zeros and
-/// trial images allowed, or the first rule that it fails.
+/// trial images allowed, or the first rule that it fails. The bytes are filled in place, and are as
+/// they were afterwards; where there is no memory they may stay filled.
 pub(crate) fn booted(
     alloc: Global,
-    image: &[u8],
+    image: &mut Vec<u8>,
     cpu: Cpu,
 ) -> Result<Result<Started, Why>, AllocError>
-    requires { length image.now ≤ 16777216 }
-    ensures { IfOk result (λ r. r ≡ image_in in_flash (whole_window image.now) cpu true zero_otp
-        (whole_sectors image.now)) }
+    requires { length image.old.items ≤ 16777216 }
+    ensures value { IfOk result (λ r. r ≡ image_in in_flash (whole_window image.old.items) cpu true
+        zero_otp (whole_sectors image.old.items)) }
+    ensures kept { OnOk result (image.new.items ≡ image.old.items) }
 {
-    let sectors = whole_sectors(alloc, image)?;
-    image_of(alloc, &sectors, cpu)
+    let size = image.len();
+    fill_sectors(image)?;
+    let answer = image_of(alloc, image.as_slice(), cpu)?;
+    image.truncate(size);
+    Ok(answer)
 }

@@ -1,6 +1,6 @@
 //! Laws of plans and of sealed images, each the contract of a function that does nothing.
 
-ghost use Rattle.std.specs.Prelude.{◌≡◌, ◌⊎◌, ℕ, ◌+◌, ◌-◌, ◌*◌, ◌<◌, ◌≤◌, ◌^◌, List, [], ◌∷◌, ◌++◌, true, length, take, drop, slice_index, Ok, Option, Some, None};
+ghost use Rattle.std.specs.Prelude.{◌≡◌, ◌⊎◌, ◌↔◌, ℕ, ◌+◌, ◌-◌, ◌*◌, ◌<◌, ◌≤◌, ◌^◌, List, [], ◌∷◌, ◌++◌, true, length, take, drop, slice_index, Ok, Option, Some, None};
 ghost use Rattle.pico_board.specs.declared.window.Window.{Window};
 ghost use Rattle.pico_board.specs.declared.boot.BootKind.TheVariants.{Bootsel, Update};
 ghost use Rattle.pico_board.specs.Content.{Content, flash_base, window_bytes};
@@ -27,6 +27,12 @@ ghost use Rattle.image_pack.specs.Sealing.{digest_text, own_loads, relinked, sea
 ghost use Rattle.image_pack.specs.Within.{IsWithin};
 ghost use Rattle.load_map.specs.declared.load.Load.{Load};
 ghost use Rattle.block_codec.specs.Words.{word_bytes};
+ghost use Rattle.image_check.specs.declared.why.Why.{Why};
+ghost use Rattle.image_pack.specs.declared.spec.SealError.TheVariants.{Unsealable};
+ghost use Rattle.image_pack.specs.Faults.{IsRightSpec, IsSealable};
+ghost use Rattle.image_pack.specs.ReadBack.{IsHalves, IsReadBack, MeetsRollback, SaysSpec};
+ghost use Rattle.image_pack.specs.Unsealable.{IsUnsealable, KeepsRules};
+ghost use Rattle.pico_board.specs.declared.boot.Cpu.{Cpu};
 
 /// The events of a plan: the power comes on, the board is reset to BOOTSEL, and the window's first
 /// sector is erased. An image of at most a sector is then written; of a longer one the other
@@ -88,6 +94,42 @@ pub fn a_sealed_image_is_valid_in_a_flash()
         → NotBelow c.otp sealed.started → Valid c w spec.cpu true (moved_to w sealed.started) }
     ensures block { (binary : List ℕ) (spec : SealSpec) (sealed : IsSealed binary spec)
         (w : Window) → (moved_to w sealed.started).block ≡ block_offset binary }
+{}
+
+/// In each window of a flash that has a sealed image with 0xff behind it, that is read back as the
+/// spec asks: its definition is the new block and has the spec's version, rollback version, rows
+/// and trial bit; the covered bytes begin with all bytes before the new block; and their SHA-256 is
+/// the value of the HASH_VALUE item. The record of the image there says what the spec asks for, and
+/// is not below its rows for exactly those OTPs that meet the spec's rollback rule.
+pub fn a_sealed_image_is_read_back()
+    ensures image { (binary : List ℕ) (spec : SealSpec) → IsSealed binary spec
+        → IsHalves spec.version → (f : List ℕ) → AreErased f
+        → flash_base + length (whole_sectors (sealed_text binary spec) ++ f) ≤ SRAM_START
+        → IsReadBack binary spec (whole_sectors (sealed_text binary spec) ++ f) }
+    ensures record { (binary : List ℕ) (spec : SealSpec) (sealed : IsSealed binary spec)
+        → IsHalves spec.version → (w : Window) → SaysSpec spec (moved_to w sealed.started) }
+    ensures not_below { (binary : List ℕ) (spec : SealSpec) (sealed : IsSealed binary spec)
+        → IsHalves spec.version → (otp : List ℕ)
+        → NotBelow otp sealed.started ↔ MeetsRollback otp spec }
+{}
+
+/// A binary cannot be sealed for a reason exactly where that is the answer of the first of the
+/// rules of a valid image, those from the first block to the items and the one on the load map,
+/// that the binary fails, filled with 0xff to whole sectors; it can be sealed exactly where it
+/// keeps them all; and one of these is so, once.
+pub fn why_a_binary_cannot_be_sealed()
+    ensures fault { (binary : List ℕ) (spec : SealSpec) (why : Why)
+        → IsSealFault binary spec (Unsealable why)
+        ↔ (IsRightSpec spec × IsUnsealable spec.cpu (whole_sectors binary) why) }
+    ensures sealable { (binary : List ℕ) (spec : SealSpec)
+        → IsSealable binary spec
+        ↔ (IsRightSpec spec × KeepsRules spec.cpu (whole_sectors binary)) }
+    ensures some { (cpu : Cpu) (bytes : List ℕ)
+        → KeepsRules cpu bytes ⊎ ((why : Why) × IsUnsealable cpu bytes why) }
+    ensures not_both { (cpu : Cpu) (bytes : List ℕ) (why : Why)
+        → KeepsRules cpu bytes → IsUnsealable cpu bytes why → ⊥ }
+    ensures one { (cpu : Cpu) (bytes : List ℕ) (why other : Why)
+        → IsUnsealable cpu bytes why → IsUnsealable cpu bytes other → why ≡ other }
 {}
 
 /// The bytes before the new block are the binary's, but for the link word of the last block of its

@@ -1,17 +1,18 @@
 //! Binaries to sealed images.
 
-ghost use Rattle.std.specs.Prelude.{◌≡◌, ◌≤◌, ◌++◌, ◌⊎◌, Err, IfErr, IfOk, IsErrOf, OnErr, OnOk, List, ℕ, length};
+ghost use Rattle.std.specs.Prelude.{◌≡◌, ◌≤◌, ◌++◌, ◌⊎◌, Err, Ok, IfErr, IfOk, IsErrOf, OnErr, OnOk, List, ℕ, length};
 ghost use Rattle.image_pack.specs.declared.spec.SealError.{SealError};
 ghost use Rattle.image_pack.specs.Faults.{IsRightSpec, IsSealFault, IsSealable, IsSealed, IsShort, block_bytes, block_offset};
-ghost use Rattle.image_pack.specs.Filling.{whole_words};
-ghost use Rattle.image_pack.specs.Sealing.{sealed_text};
+ghost use Rattle.image_pack.specs.Filling.{whole_sectors, whole_words};
+ghost use Rattle.image_pack.specs.Sealing.{parts_in, sealed_text};
 ghost use Rattle.image_pack.specs.Starting.{IsStartFault, StartsAt};
+ghost use Rattle.image_pack.specs.Within.{IsWithin};
 
 use crate::judging::booted;
-use crate::parts::binary_parts;
+use crate::parts::{Parts, binary_parts};
 use crate::rows::wrong_field;
 use crate::spec::{SealError, SealSpec};
-use crate::text::sealed_text;
+use crate::text::text_with;
 use image_check::Why;
 use image_def::Started;
 use std::alloc::Global;
@@ -31,10 +32,13 @@ fn block_offset(binary: &[u8]) -> usize
     4 * ((binary.len() + 3) / 4)
 }
 
-/// Whether the spec is right and the binary may be sealed.
-fn check_binary(alloc: Global, binary: &[u8], spec: &SealSpec) -> Result<(), SealError>
+/// What a sealed image takes over from the binary, where the spec is right and the binary may be
+/// sealed.
+fn check_binary(alloc: Global, binary: &[u8], spec: &SealSpec) -> Result<Parts, SealError>
     requires { length binary.now ≤ 16777216 }
     ensures ok { OnOk result (IsSealable binary.now spec.now) }
+    ensures read { IfOk result (λ p. parts_in spec.now.cpu (whole_sectors binary.now) ≡ Ok p) }
+    ensures within { IfOk result (λ p. IsWithin p (length (whole_words binary.now))) }
     ensures fault { IfErr result
         (λ e. IsSealFault binary.now spec.now e ⊎ (e ≡ SealError.Memory)) }
 {
@@ -42,7 +46,7 @@ fn check_binary(alloc: Global, binary: &[u8], spec: &SealSpec) -> Result<(), Sea
         return Err(SealError::BadSpec(field));
     }
     match binary_parts(alloc, binary, spec.cpu) {
-        Ok(Ok(_)) => Ok(()),
+        Ok(Ok(parts)) => Ok(parts),
         Ok(Err(why)) => Err(SealError::Unsealable(why)),
         Err(_) => Err(SealError::Memory),
     }
@@ -86,11 +90,11 @@ fn judged_text(alloc: Global, binary: &[u8], spec: &SealSpec) -> Result<Vec<u8>,
     ensures fault { IfErr result
         (λ e. IsSealFault binary.now spec.now e ⊎ (e ≡ SealError.Memory)) }
 {
-    match check_binary(alloc, binary, spec) {
-        Ok(()) => {}
+    let parts = match check_binary(alloc, binary, spec) {
+        Ok(parts) => Some(parts),
         Err(error) => return Err(error),
-    }
-    let text = match sealed_text(alloc, binary, spec) {
+    };
+    let mut text = match text_with(alloc, binary, spec, &parts) {
         Ok(text) => text,
         Err(_) => return Err(SealError::Memory),
     };
@@ -98,7 +102,7 @@ fn judged_text(alloc: Global, binary: &[u8], spec: &SealSpec) -> Result<Vec<u8>,
         Ok(()) => {}
         Err(error) => return Err(error),
     }
-    let image = match booted(alloc, &text, spec.cpu) {
+    let image = match booted(alloc, &mut text, spec.cpu) {
         Ok(image) => image,
         Err(_) => return Err(SealError::Memory),
     };

@@ -8,7 +8,8 @@ ghost use Rattle.block_codec.specs.Blocks.{frame, start_word};
 ghost use Rattle.block_codec.specs.Words.{bytes_of, words_of};
 ghost use Rattle.load_map.specs.Stored.{AreStoredIn, IsStoredIn};
 ghost use Rattle.image_pack.specs.Filling.{whole_sectors, whole_words};
-ghost use Rattle.image_pack.specs.Sealing.{block_items, block_link, covered_part, erased_behind, hashed_items, items_with, new_block, relinked, sealed_items, sealed_text};
+ghost use Rattle.std.specs.Result.{result_ok};
+ghost use Rattle.image_pack.specs.Sealing.{block_items, block_link, covered_part, erased_behind, hashed_items, items_with, new_block, parts_in, relinked, sealed_items, sealed_text};
 ghost use Rattle.image_pack.specs.Within.{IsWithin};
 
 use crate::filling::whole_words;
@@ -216,50 +217,61 @@ fn append_block(
 ) -> Result<(), AllocError>
     requires size { length text.old.items ≤ 16777216 }
     requires within { IfSome parts.now (λ p. IsWithin p (length text.old.items)) }
-    ensures { OnOk result (text.new.items
+    ensures items { OnOk result (text.new.items
         ≡ text.old.items ++ new_block spec.now text.old.items parts.now) }
+    ensures few { OnOk result (length text.new.items ≤ length text.old.items + 1392) }
 {
     let items = block_items(spec, text.as_slice(), parts);
     let link = block_link(text.len() as u32, parts);
     put_frame(text, items.as_slice(), link)
 }
 
-/// The binary in whole words, with the link of the last block of its loop to its end.
+/// Links the last block of the loop of a binary in whole words to their end. A binary without parts
+/// stays as it is.
 #[tactic(auto, unfolding(crate::specs::Sealing::relinked, block_codec::specs::Words::word_bytes))]
-fn relinked(alloc: Global, bytes: &[u8], parts: &Option<Parts>) -> Result<Vec<u8>, AllocError>
-    requires size { length bytes.now ≤ 16777216 }
-    requires within { IfSome parts.now (λ p. IsWithin p (length bytes.now)) }
-    ensures value { IfOk result (λ text. text.items ≡ relinked bytes.now parts.now) }
-    ensures len { IfOk result (λ text. length text.items ≡ length bytes.now) }
+fn relink(bytes: &mut [u8], parts: &Option<Parts>)
+    requires size { length bytes.old ≤ 16777216 }
+    requires within { IfSome parts.now (λ p. IsWithin p (length bytes.old)) }
+    ensures { bytes.new ≡ relinked bytes.old parts.now }
 {
-    let mut text = Vec::new(alloc);
-    match parts {
-        None => text.extend_from_slice(bytes)?,
-        Some(parts) => {
-            let at = parts.link_at as usize;
-            let link = bytes.len() as u32 - parts.last;
-            text.extend_from_slice(&bytes[..at])?;
-            text.extend_from_slice(&link.to_le_bytes())?;
-            text.extend_from_slice(&bytes[at + 4..])?;
-        }
+    if let Some(parts) = parts {
+        let at = parts.link_at as usize;
+        let link = bytes.len() as u32 - parts.last;
+        bytes[at..at + 4].copy_from_slice(&link.to_le_bytes());
     }
+}
+
+/// The sealed image of a binary with these parts by a spec. It judges nothing: a binary without
+/// parts is not relinked, and its new block links to itself.
+#[tactic(auto, unfolding(crate::specs::Sealing::sealed_text))]
+pub(crate) fn text_with(
+    alloc: Global,
+    binary: &[u8],
+    spec: &SealSpec,
+    parts: &Option<Parts>,
+) -> Result<Vec<u8>, AllocError>
+    requires small { length binary.now ≤ 16777216 }
+    requires read { parts.now ≡ result_ok (parts_in spec.now.cpu (whole_sectors binary.now)) }
+    requires within { IfSome parts.now (λ p. IsWithin p (length (whole_words binary.now))) }
+    ensures value { IfOk result (λ text. text.items ≡ sealed_text binary.now spec.now) }
+    ensures few { IfOk result (λ text. length text.items ≤ length binary.now + 1395) }
+{
+    let mut text = whole_words(alloc, binary)?;
+    relink(text.as_mut_slice(), parts);
+    append_block(&mut text, spec, parts)?;
     Ok(text)
 }
 
-/// The sealed image of a binary by a spec. It judges nothing: a binary without a loop is not
-/// relinked, and its new block links to itself.
-#[tactic(auto, unfolding(crate::specs::Sealing::sealed_text))]
+/// The same of a binary whose parts are not read yet.
 pub(crate) fn sealed_text(
     alloc: Global,
     binary: &[u8],
     spec: &SealSpec,
 ) -> Result<Vec<u8>, AllocError>
     requires { length binary.now ≤ 16777216 }
-    ensures { IfOk result (λ text. text.items ≡ sealed_text binary.now spec.now) }
+    ensures value { IfOk result (λ text. text.items ≡ sealed_text binary.now spec.now) }
+    ensures few { IfOk result (λ text. length text.items ≤ length binary.now + 1395) }
 {
     let parts = binary_parts(alloc, binary, spec.cpu)?.ok();
-    let words = whole_words(alloc, binary)?;
-    let mut text = relinked(alloc, &words, &parts)?;
-    append_block(&mut text, spec, &parts)?;
-    Ok(text)
+    text_with(alloc, binary, spec, &parts)
 }

@@ -1,6 +1,8 @@
 mod ViewLemmas
 mod PlainLemmas
-mod RuleLemmas
+pub mod RuleLemmas
 mod WordFields
 mod SaysLemmas
 mod FewFaults
+mod WholeLemmas
+mod SpecLemmas

@@ -21,7 +21,7 @@ use Rattle.table_json.specs.declared.fault.Field.TheVariants.{Families, Permissi
 use Rattle.table_json.specs.Members.{object_judged}
 use Rattle.table_json.specs.Partitions.{location_word, marks_word, flag_word, partition_from, id_form, some_name, marks_of, partition_of}
 use Rattle.table_json.specs.Says.{SaysText}
-use Rattle.table_json.proofs.WordFields.{first_back, last_back, permissions_back, kind_back, value_back, six_back, again_back, arm_back, riscv_back, stays_back}
+use Rattle.table_json.proofs.WordFields.{first_back, flags_back, last_back, permissions_back}
 
 -- a step that is done, and the one after it
 pub then_ok : {A B : Type 0} (r : Result A JsonFault) (next : A → Result B JsonFault) (b : B) → (r >>= next) ≡ Ok b
@@ -43,7 +43,7 @@ module _ {A : Type 0} (form : Data → Option A) (P : A → Type 0) (keeps : (x 
       found None is = cc
       found (Some x) is = keeps x a (some_if_ok (form x) (Value place field) a is)
 
-  optional_has : (default : A) → P default → (a : A) → optional form default place field d ≡ Ok a → P a
+  pub optional_has : (default : A) → P default → (a : A) → optional form default place field d ≡ Ok a → P a
   optional_has default holds a is = found (get (name_of field) d) is
     where
       found : (o : Option Data) → optional_in form default place field o ≡ Ok a → P a
@@ -54,7 +54,7 @@ module _ {A : Type 0} (form : Data → Option A) (P : A → Type 0) (keeps : (x 
 if_below_less : (bound m n : ℕ) → if_below bound m ≡ Some n → n < bound
 if_below_less bound m n is = grind (arith, is)
 
-number_less : (bound : ℕ) (d : Data) (n : ℕ) → number_below bound d ≡ Some n → n < bound
+pub number_less : (bound : ℕ) (d : Data) (n : ℕ) → number_below bound d ≡ Some n → n < bound
 number_less bound d n is = less (number_in d) is
   where
     less : (o : Option ℕ) → option_and_then (if_below bound) o ≡ Some n → n < bound
@@ -223,19 +223,7 @@ parts_say i d first last permissions families id name link marks arm riscv stays
     let l : IsLink link = optional_has link_form IsLink link_is (Numbered i) Link d 0 no_link link is_link in
     let word = flag_word (is_some id) (2 * l.kind + 8 * l.value) (length families.numbers.items)
     (marks_word arm riscv stays) (is_some name) families.bits permissions in
-    let k = kind_back (is_some id) (is_some name) arm riscv stays l.kind l.value (length families.numbers.items)
-    families.bits permissions l.small_kind l.small_value f.numbers f.bits c in
-    let v = value_back (is_some id) (is_some name) arm riscv stays l.kind l.value (length families.numbers.items)
-    families.bits permissions l.small_kind l.small_value f.numbers f.bits c in
-    let six = six_back (is_some id) (is_some name) arm riscv stays l.kind l.value (length families.numbers.items)
-    families.bits permissions l.small_kind l.small_value f.numbers f.bits c in
-    let again = again_back (is_some id) (is_some name) arm riscv stays l.kind l.value (length families.numbers.items)
-    families.bits permissions l.small_kind l.small_value f.numbers f.bits c in
-    let ignored = arm_back (is_some id) (is_some name) arm riscv stays l.kind l.value (length families.numbers.items)
-    families.bits permissions l.small_kind l.small_value f.numbers f.bits c in
-    let passed = riscv_back (is_some id) (is_some name) arm riscv stays l.kind l.value (length families.numbers.items)
-    families.bits permissions l.small_kind l.small_value f.numbers f.bits c in
-    let kept = stays_back (is_some id) (is_some name) arm riscv stays l.kind l.value (length families.numbers.items)
+    let back = flags_back (is_some id) (is_some name) arm riscv stays l.kind l.value (length families.numbers.items)
     families.bits permissions l.small_kind l.small_value f.numbers f.bits c in
     subst
     (λ (m : ℕ).
@@ -249,17 +237,17 @@ parts_say i d first last permissions families id name link marks arm riscv stays
     (record {
       first = is_first ∙ ap Ok (sym (first_back first last permissions a b c));
       last = is_last ∙ ap Ok (sym (last_back first last permissions a b c));
-      families = is_families ∙ ap (λ (n : ℕ). Ok (families_of n families.numbers)) (sym six);
+      families = is_families ∙ ap (λ (n : ℕ). Ok (families_of n families.numbers)) (sym back.six_is);
       permissions = is_permissions ∙ ap Ok (sym (permissions_back first last permissions a b c));
-      again = again ∙ sym (permissions_back first last permissions a b c);
+      again = back.again_is ∙ sym (permissions_back first last permissions a b c);
       id = is_id;
       name = is_name;
       link = is_link ∙ ap Ok l.bits
-          ∙ ap (λ (n : ℕ). Ok (2 * n + 8 * l.value)) (sym k)
-          ∙ ap (λ (n : ℕ). Ok (2 * (word / 2 ^ 1 % 2 ^ 2) + 8 * n)) (sym v);
-      arm = is_arm ∙ ap Ok (sym ignored);
-      riscv = is_riscv ∙ ap Ok (sym passed);
-      stays = is_stays ∙ ap Ok (sym kept);
+          ∙ ap (λ (n : ℕ). Ok (2 * n + 8 * l.value)) (sym back.kind_is)
+          ∙ ap (λ (n : ℕ). Ok (2 * (word / 2 ^ 1 % 2 ^ 2) + 8 * n)) (sym back.value_is);
+      arm = is_arm ∙ ap Ok (sym back.arm_is);
+      riscv = is_riscv ∙ ap Ok (sym back.riscv_is);
+      stays = is_stays ∙ ap Ok (sym back.stays_is);
     }))
 
 pub says_text : (i : ℕ) (d : Data) (p : Partition) → partition_of i d ≡ Ok p → SaysText i d p

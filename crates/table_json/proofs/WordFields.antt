@@ -50,68 +50,28 @@ module _ (identified named arm riscv stays : Bool) (kind value extra six permiss
       let n = bit_is named 4096 in
       omega (arith, i, a, r, s, n)
 
-  pub kind_back : flags / 2 ^ 1 % 2 ^ 2 ≡ kind
-  kind_back =
-      let i = one_less identified in
-      let a = one_less arm in
-      let r = one_less riscv in
-      let s = one_less stays in
-      let n = one_less named in
-      omega (arith, numbers, i, a, r, s, n)
+  -- each field of the flag word is the number that it was made of
+  pub record AreBack : Type 0 where
+    pub kind_is : flags / 2 ^ 1 % 2 ^ 2 ≡ kind
+    pub value_is : flags / 2 ^ 3 % 2 ^ 4 ≡ value
+    pub six_is : flags / 2 ^ 14 % 2 ^ 6 ≡ six
+    pub again_is : flags / 2 ^ 26 % 2 ^ 6 ≡ permissions
+    pub arm_is : (flags / 2 ^ 9 % 2 == 1) ≡ arm
+    pub riscv_is : (flags / 2 ^ 10 % 2 == 1) ≡ riscv
+    pub stays_is : (flags / 2 ^ 13 % 2 == 1) ≡ stays
 
-  pub value_back : flags / 2 ^ 3 % 2 ^ 4 ≡ value
-  value_back =
+  pub flags_back : AreBack
+  flags_back =
       let i = one_less identified in
       let a = one_less arm in
       let r = one_less riscv in
       let s = one_less stays in
-      let n = one_less named in
-      omega (arith, numbers, i, a, r, s, n)
-
-  pub six_back : flags / 2 ^ 14 % 2 ^ 6 ≡ six
-  six_back =
-      let i = one_less identified in
-      let a = one_less arm in
-      let r = one_less riscv in
-      let s = one_less stays in
-      let n = one_less named in
-      omega (arith, numbers, i, a, r, s, n)
-
-  pub again_back : flags / 2 ^ 26 % 2 ^ 6 ≡ permissions
-  again_back =
-      let i = one_less identified in
-      let a = one_less arm in
-      let r = one_less riscv in
-      let s = one_less stays in
-      let n = one_less named in
-      omega (arith, numbers, i, a, r, s, n)
-
-  pub arm_back : (flags / 2 ^ 9 % 2 == 1) ≡ arm
-  arm_back =
-      let i = one_less identified in
-      let a = one_less arm in
-      let r = one_less riscv in
-      let s = one_less stays in
-      let n = one_less named in
-      let bit : flags / 2 ^ 9 % 2 ≡ one arm = omega (arith, numbers, i, a, r, s, n) in
-      one_back arm (flags / 2 ^ 9 % 2) bit
-
-  pub riscv_back : (flags / 2 ^ 10 % 2 == 1) ≡ riscv
-  riscv_back =
-      let i = one_less identified in
-      let a = one_less arm in
-      let r = one_less riscv in
-      let s = one_less stays in
-      let n = one_less named in
-      let bit : flags / 2 ^ 10 % 2 ≡ one riscv = omega (arith, numbers, i, a, r, s, n) in
-      one_back riscv (flags / 2 ^ 10 % 2) bit
-
-  pub stays_back : (flags / 2 ^ 13 % 2 == 1) ≡ stays
-  stays_back =
-      let i = one_less identified in
-      let a = one_less arm in
-      let r = one_less riscv in
-      let s = one_less stays in
-      let n = one_less named in
-      let bit : flags / 2 ^ 13 % 2 ≡ one stays = omega (arith, numbers, i, a, r, s, n) in
-      one_back stays (flags / 2 ^ 13 % 2) bit
+      let n = one_less named in record {
+        kind_is = omega (arith, numbers, i, a, r, s, n);
+        value_is = omega (arith, numbers, i, a, r, s, n);
+        six_is = omega (arith, numbers, i, a, r, s, n);
+        again_is = omega (arith, numbers, i, a, r, s, n);
+        arm_is = one_back arm (flags / 2 ^ 9 % 2) (omega (arith, numbers, i, a, r, s, n));
+        riscv_is = one_back riscv (flags / 2 ^ 10 % 2) (omega (arith, numbers, i, a, r, s, n));
+        stays_is = one_back stays (flags / 2 ^ 13 % 2) (omega (arith, numbers, i, a, r, s, n));
+      }

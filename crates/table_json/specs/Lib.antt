@@ -7,5 +7,6 @@ pub mod Tables
 pub mod Seals
 pub mod Rules
 pub mod Says
+pub mod Whole
 pub mod Texts
 pub mod Examples

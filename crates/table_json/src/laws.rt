@@ -1,6 +1,6 @@
 //! Laws of the definitions, proved: each is the `ensures` of a function that does nothing.
 
-ghost use Rattle.std.specs.Prelude.{◌≡◌, ◌≢◌, ℕ, List, Ok, Err};
+ghost use Rattle.std.specs.Prelude.{◌≡◌, ◌≢◌, ◌↔◌, ◌<◌, ◌≤◌, ℕ, List, Result, Ok, Err};
 ghost use Rattle.std.specs.Result.{result_err};
 ghost use Rattle.serde_json.specs.Data.{Data};
 ghost use Rattle.part_table.specs.declared.partition.Partition.{Partition};
@@ -12,6 +12,11 @@ ghost use Rattle.table_json.specs.Rules.{first_broken, table_rules, spec_rules};
 ghost use Rattle.table_json.specs.Seals.{spec_from};
 ghost use Rattle.table_json.specs.Texts.{IsText};
 ghost use Rattle.table_json.specs.Tables.{fields_of, table_from};
+ghost use Rattle.image_pack.specs.declared.spec.SealSpec.{SealSpec};
+ghost use Rattle.image_pack.specs.ReadBack.{IsHalves};
+ghost use Rattle.table_json.specs.Whole.{IsReadWith, answer_of};
+ghost use Rattle.part_table.specs.declared.table.Table.{Table};
+ghost use Rattle.part_table.specs.Written.{IsWritableTable, written, written_size};
 
 /// A text has one value at most.
 pub fn texts_have_one_value()
@@ -47,4 +52,24 @@ pub fn table_faults_are_few()
     ensures permissions { (d : Data) (i : ℕ)
         → table_from d ≢ Err (JsonFault.Table (TableFault.Permissions i)) }
     ensures hash { (d : Data) → table_from d ≢ Err (JsonFault.Table TableFault.Hash) }
+{}
+
+/// Where a value's fields say a table, its answer is TooLong exactly where the table's block has
+/// more than 640 bytes. Else, where the table's words, ids, families and names are in their ranges,
+/// its answer is exactly what reading the block that is written for it answers, in a flash of 4096
+/// sectors of which the first two are not free.
+pub fn whole_tables_are_judged_as_they_are_read()
+    ensures too_long { (d : Data) (t : Table) (size : ℕ) → fields_of d ≡ Ok t
+        → (table_from d ≡ Err (JsonFault.TooLong size))
+        ↔ ((640 < written_size t) × (size ≡ written_size t)) }
+    ensures read { (d : Data) (t : Table) (answer : Result Table TableFault) → fields_of d ≡ Ok t
+        → IsWritableTable t → (table_from d ≡ answer_of answer) ↔ IsReadWith (written t) answer }
+    ensures fields { (d : Data) (fault : TableFault) → table_from d ≡ Err (JsonFault.Table fault)
+        → (t : Table) × (fields_of d ≡ Ok t) × (written_size t ≤ 640) }
+{}
+
+/// The two numbers of a spec's version are half words, as the law on what is read back of a sealed
+/// image asks.
+pub fn specs_have_half_words()
+    ensures { (d : Data) (spec : SealSpec) → spec_from d ≡ Ok spec → IsHalves spec.version }
 {}

@@ -1,14 +1,18 @@
 //! The table of a text.
 
-ghost use Rattle.std.specs.Prelude.{◌≡◌, ◌≢◌, ◌≤◌, ◌<◌, ℕ, length, map, All, None, Ok, Err, IfSome, IfOk, OnOk, IfErr, option_map};
+ghost use Rattle.std.specs.Prelude.{◌≡◌, ◌≢◌, ◌↔◌, ◌≤◌, ◌<◌, ℕ, Result, length, map, All, None, Ok, Err, IfSome, IfOk, OnOk, IfErr, option_map};
 ghost use Rattle.serde_json.specs.Data.{Data};
 ghost use Rattle.serde_json.specs.View.{view};
 ghost use Rattle.part_table.specs.Faults.{table_fault};
+ghost use Rattle.part_table.specs.Judged.{IsJudgedAs};
 ghost use Rattle.part_table.specs.Written.{AgreesWithFlags, IsReadAs, written, written_size};
 ghost use Rattle.table_json.specs.Members.{optional};
 ghost use Rattle.table_json.specs.Forms.{version_form};
 ghost use Rattle.table_json.specs.Tables.{no_version, few_form, fields_of, judged, table_from};
 ghost use Rattle.table_json.specs.Texts.{IsText};
+ghost use Rattle.table_json.specs.Whole.{IsReadWith, answer_of};
+ghost use Rattle.part_table.specs.declared.table.Table.{Table};
+ghost use Rattle.part_table.specs.declared.table.TableFault.{TableFault};
 
 use crate::forms::{values, version_form};
 use crate::members::{Shape, judge_object};
@@ -80,6 +84,7 @@ fn judge_size(alloc: Global, table: &Table) -> Result<(), JsonFault>
     ensures ok { OnOk result (written_size table.now ≤ 640) }
     ensures again { table_fault table.now 4096 2 ≡ None
         → OnOk result (IsReadAs (written table.now) table.now 4096 2) }
+    ensures judged { OnOk result (IsJudgedAs (written table.now) table.now 4096 2) }
     ensures err { IfErr result (λ fault. fault ≢ JsonFault.Memory
         → (640 < written_size table.now) × (fault ≡ JsonFault.TooLong (written_size table.now))) }
 {
@@ -98,6 +103,8 @@ fn table_in(alloc: Global, value: &Value) -> Result<Table, JsonFault>
     ensures fits { IfOk result (λ t. written_size t ≤ 640) }
     ensures faultless { IfOk result (λ t. table_fault t 4096 2 ≡ None) }
     ensures again { IfOk result (λ t. IsReadAs (written t) t 4096 2) }
+    ensures judged { (t : Table) → fields_of (view value.now) ≡ Ok t → written_size t ≤ 640
+        → result ≢ Err JsonFault.Memory → IsJudgedAs (written t) t 4096 2 }
 {
     let table = fields(value)?;
     judge_size(alloc, &table)?;
@@ -129,6 +136,12 @@ pub fn table_of(alloc: Global, text: &[u8]) -> Result<Table, JsonFault>
     ensures fits { IfOk result (λ t. written_size t ≤ 640) }
     ensures faultless { IfOk result (λ t. table_fault t 4096 2 ≡ None) }
     ensures again { IfOk result (λ t. IsReadAs (written t) t 4096 2) }
+
+    // Where the fields say a table whose block has at most 640 bytes, the answer is exactly what
+    // reading that block in such a flash answers.
+    ensures whole { (d : Data) (t : Table) (answer : Result Table TableFault) → IsText text.now d
+        → fields_of d ≡ Ok t → written_size t ≤ 640 → result ≢ Err JsonFault.Memory
+        → (result ≡ answer_of answer) ↔ IsReadWith (written t) answer }
 {
     let value = read(alloc, text)?;
     table_in(alloc, &value)

@@ -1,6 +1,8 @@
-use Rattle.std.proofs.Common.{◌∙◌, sym}
+use Rattle.std.proofs.Common.{◌≡◌, ◌∙◌, ap, sym}
 use Rattle.serde_json.specs.View.{view}
+use Rattle.table_json.specs.Tables.{fields_of, table_from}
 use Rattle.table_json.proofs.PlainLemmas.{table_json}
+use Rattle.table_json.proofs.WholeLemmas.{judged-short, one_value, read-exactly}
 use Rattle.table_json.proofs.tables.table_of.Goals as goal
 
 pub returns-clause-not_json : goal.returns-clause-not_json
@@ -8,3 +10,11 @@ returns-clause-not_json c =
     λ not_json d reads.
     table_json (view c.in_ok-value.value)
     (sym (c.table_in.ensures.value (λ memory. let two = sym not_json ∙ memory in cc)) ∙ not_json)
+
+pub returns-clause-whole : goal.returns-clause-whole
+returns-clause-whole c = λ d t answer text fields short memory.
+    let same : view c.in_ok-value.value ≡ d =
+    one_value c.args.text.now (view c.in_ok-value.value) d c.in_ok-value.ensures.value text in
+    let judged = c.table_in.ensures.judged t (ap fields_of same ∙ fields) short memory in
+    read-exactly t judged c.table_in.result answer
+    (c.table_in.ensures.value memory ∙ ap table_from same ∙ judged-short d t fields short)

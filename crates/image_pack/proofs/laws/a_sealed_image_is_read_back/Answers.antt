@@ -1,0 +1,12 @@
+use Rattle.image_pack.proofs.ReadBackLemmas.{is-read-back, meets-exactly, says-record}
+use Rattle.image_pack.proofs.laws.a_sealed_image_is_read_back.Goals as goal
+
+pub returns-clause-image : goal.returns-clause-image
+returns-clause-image c = λ binary spec sealed halves f erased below.
+    is-read-back binary spec sealed halves f erased below
+
+pub returns-clause-record : goal.returns-clause-record
+returns-clause-record c = λ binary spec sealed halves w. says-record binary spec sealed halves w
+
+pub returns-clause-not_below : goal.returns-clause-not_below
+returns-clause-not_below c = λ binary spec sealed halves otp. meets-exactly binary spec sealed halves otp
