@@ -1,0 +1,48 @@
+-- The session of a script: what its host writes, from BOOTSEL on, up to the boot that it asks for.
+-- This project's own.
+use Rattle.std.specs.Prelude.{◌≡◌, ◌⊎◌, ℕ, ◌<◌, if◌then◌else◌, List, [], ◌∷◌, ◌++◌, length, Option, Some, None}
+use Rattle.pico_board.specs.declared.Step.{Step}
+use Rattle.pico_board.specs.declared.boot.Cpu.{Cpu}
+use Rattle.pico_board.specs.declared.boot.BootKind.{BootKind}
+use Rattle.pico_board.specs.declared.window.Window.{Window}
+use Rattle.pico_board.specs.Content.{Content}
+use Rattle.pico_board.specs.Steps.{after_all}
+use Rattle.part_table.specs.Windows.{partition_window}
+use Rattle.ram_start.specs.Sram.{zero_ram}
+use Rattle.boot_rules.specs.declared.tables.Found.{Found}
+use Rattle.boot_rules.specs.Chosen.{Home}
+use Rattle.boot_rules.specs.Tables.{table_in}
+use Rattle.boot_script.specs.Events.{Happening}
+use Rattle.boot_machine.specs.Machines.{Host, Place, Off, InBootsel, Running}
+use Rattle.boot_machine.specs.Serving.{is_hosted, served}
+
+-- BOOTSEL as it is entered on a content
+abbrev pub entered_host : Content → Host
+entered_host c = record { found = table_in c; placing = None; ram = zero_ram }
+
+-- what follows an event: nothing where it asks for a boot or leaves BOOTSEL
+abbrev pub going_on : (Host → List Step) → Option BootKind → Place → List Step
+going_on rest (Some kind) place = []
+going_on rest None Off = []
+going_on rest None (Running program) = []
+going_on rest None (InBootsel host) = rest host
+
+-- the steps of the events of a host, each on the content that those before it leave; other events
+-- are passed over
+abbrev pub session_from : Content → Cpu → Host → List Happening → List Step
+session_from c cpu host [] = []
+session_from c cpu host (event ∷ events) =
+    if is_hosted event then (let s = served c cpu host event in s.steps
+    ++ going_on (λ next. session_from (after_all c s.steps) cpu next events) s.boot s.place)
+    else session_from c cpu host events
+
+-- Session: the steps of a script's events on a machine that has entered BOOTSEL
+abbrev pub session : Content → Cpu → List Happening → List Step
+session c cpu events = session_from c cpu (entered_host c) events
+
+-- the window of a partition of the content's table, or, where it has none, of a member of its pair
+abbrev pub IsSlotOf : Content → Cpu → Window → Type 0
+IsSlotOf c cpu w =
+    ((found : Found) × (i : ℕ) × (table_in c ≡ Some found) × (i < length found.table.parts.items)
+    × (w ≡ partition_window found.table i))
+    ⊎ ((table_in c ≡ None) × Home c w cpu)

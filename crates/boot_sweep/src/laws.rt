@@ -1,0 +1,87 @@
+//! Laws on what a session on one slot of a pair leaves, each the contract of a function that does
+//! nothing.
+
+ghost use Rattle.std.specs.Prelude.{◌≡◌, ◌⊎◌, ℕ, ◌+◌, ◌<◌, ◌≤◌, List, Ok, Some, length, slice_index};
+ghost use Rattle.boot_script.specs.Events.{Happening};
+ghost use Rattle.boot_script.specs.Scripts.{events};
+ghost use Rattle.image_pack.specs.Plans.{plan_text};
+ghost use Rattle.boot_sweep.specs.Sessions.{IsSlotOf, session};
+ghost use Rattle.pico_board.specs.Content.{Content, IsContent};
+ghost use Rattle.pico_board.specs.Sessions.{Confined, Gated, Unfinished};
+ghost use Rattle.pico_board.specs.Steps.{MayLeave, after_all};
+ghost use Rattle.pico_board.specs.declared.Step.{Step};
+ghost use Rattle.pico_board.specs.declared.boot.BootKind.TheVariants.{Normal};
+ghost use Rattle.pico_board.specs.declared.boot.Cpu.{Cpu};
+ghost use Rattle.pico_board.specs.declared.window.Window.{Window};
+ghost use Rattle.slot_choice.specs.declared.choice.Choice.{Choice};
+ghost use Rattle.boot_rules.specs.Chosen.{Chosen, Home};
+ghost use Rattle.boot_rules.specs.Tables.{table_in};
+ghost use Rattle.boot_rules.specs.declared.decision.Decision.{Decision};
+ghost use Rattle.boot_rules.specs.declared.decision.Decision.TheVariants.{Start};
+ghost use Rattle.boot_rules.specs.declared.tables.Found.{Found};
+ghost use Rattle.boot_sweep.specs.Results.{CutSession, StartsElsewhere, StartsFinished, StartsThere};
+
+use image_pack::laws::{the_commands_of_a_plan, the_events_of_a_plan};
+use picoboot_cmd::laws::{
+    a_permitted_erase_is_done, a_permitted_write_is_done, a_range_is_allowed_byte_by_byte,
+    a_reboot_asks_for_its_boot, a_refused_command_does_nothing, the_checks_of_each_command,
+};
+
+/// Where a session keeps to one member of a pair, and a normal boot before it starts no image
+/// there, the next normal boot after it, or after power was lost in it, decides as before, or
+/// starts a valid image of that member; and where it was a start, it is one. Where the flash has a table,
+/// the session leaves it; without one, that it leaves none is a premise.
+pub fn confined_session()
+    ensures decision { (c : Content) (w : Window) (cpu : Cpu) (steps : List Step) (d : Content)
+        (e : Decision)
+        → IsContent c → Home c w cpu → Confined steps w → MayLeave c steps d
+        → table_in d ≡ table_in c → Chosen c cpu Normal e → StartsElsewhere w e
+        → Chosen d cpu Normal e ⊎ StartsThere d w cpu }
+    ensures start { (c : Content) (w : Window) (cpu : Cpu) (steps : List Step) (d : Content)
+        (choice : Choice)
+        → IsContent c → Home c w cpu → Confined steps w → MayLeave c steps d
+        → table_in d ≡ table_in c → Chosen c cpu Normal (Start choice)
+        → StartsElsewhere w (Start choice)
+        → (next : Choice) × Chosen d cpu Normal (Start next) }
+    ensures table { (c : Content) (w : Window) (cpu : Cpu) (steps : List Step) (d : Content)
+        (found : Found)
+        → IsContent c → Home c w cpu → Confined steps w → MayLeave c steps d
+        → table_in c ≡ Some found → table_in d ≡ Some found }
+{}
+
+/// Where power is lost in a gated session on one slot of a pair, of which a normal boot before it
+/// starts no image, the next normal boot decides as before, or it makes the start that it makes
+/// after the whole session, of an image with the same bytes. Where the flash has a table, that the
+/// whole session leaves it is no premise. That an unfinished content is lucky says nothing of one
+/// that is that before or that after the session, or whose first sector of the slot is erased.
+pub fn gated_cut()
+    ensures decision { (c : Content) (w : Window) (cpu : Cpu) (steps : List Step) (d : Content)
+        (e : Decision)
+        → CutSession c w cpu steps d e
+        → Chosen d cpu Normal e ⊎ StartsFinished (after_all c steps) d cpu }
+    ensures table { (c : Content) (w : Window) (cpu : Cpu) (steps : List Step) (found : Found)
+        → IsContent c → Home c w cpu → Gated steps w → table_in c ≡ Some found
+        → table_in (after_all c steps) ≡ table_in c }
+    ensures unfinished { (c : Content) (w : Window) (steps : List Step) (d : Content)
+        → ((d ≡ c) ⊎ (d ≡ after_all c steps))
+        ⊎ ((i : ℕ) → i < 4096 → slice_index d.flash (w.start + i) ≡ 255)
+        → Unfinished c steps w d → ⊥ }
+{}
+
+/// The session of a plan is gated on its window: where the plan is for a partition of the flash's
+/// table, or, where there is none, for a member of its pair. Where the window may not be written,
+/// it does nothing.
+pub fn gated_plan()
+    ensures gated { (c : Content) (cpu : Cpu) (w : Window) (image : List ℕ) (es : List Happening)
+        → IsContent c → IsSlotOf c cpu w → 0 < length image → length image ≤ w.len
+        → events (plan_text w.start image) ≡ Ok es → Gated (session c cpu es) w }
+{
+    the_events_of_a_plan();
+    the_commands_of_a_plan();
+    a_permitted_erase_is_done();
+    a_permitted_write_is_done();
+    a_reboot_asks_for_its_boot();
+    a_refused_command_does_nothing();
+    the_checks_of_each_command();
+    a_range_is_allowed_byte_by_byte();
+}
