@@ -1,10 +1,11 @@
 -- Every content is that of two files.
-use Rattle.std.proofs.Common.{◌≡◌, ℕ, ◌-◌, ◌*◌, ◌%◌, ◌^◌, ◌<◌, ◌≤◌, List, [], ◌++◌, length, replicate, All, sym, ◌∙◌, ap, subst, arith}
+use Rattle.std.proofs.Common.{◌≡◌, ℕ, ◌-◌, ◌*◌, ◌%◌, ◌^◌, ◌<◌, ◌≤◌, List, [], ◌++◌, length, replicate, All, refl, sym, ◌∙◌, ap, subst, arith}
 use Rattle.std.proofs.lemmas.List.{append-nil}
 use Rattle.std.proofs.lemmas.List.Elements.{recursion_from_All}
 use Rattle.pico_board.specs.Content.{Content, IsContent}
 use Rattle.block_codec.specs.Words.{bytes_of, words_of, AreWords}
 use Rattle.block_codec.proofs.WordLemmas.{words_of-append, length-bytes_of}
+use Rattle.image_pack.specs.Faults.{zero_otp}
 use Rattle.boot_run.specs.declared.forms.Form.TheVariants.{Flash, Otp}
 use Rattle.boot_run.specs.Forms.{HasForm, rows_of, filled_length, filled, otp_of, content_of}
 
@@ -15,7 +16,7 @@ rows-back rows narrow =
     recursion_from_All (λ w. w < 2 ^ 32) rows (λ k d lt. let small = narrow k d lt in omega arith) in
     ap words_of (sym (append-nil (bytes_of rows))) ∙ (words_of-append rows [] words ∙ append-nil rows)
 
-flash-back : (flash : List ℕ) → length flash % 4096 ≡ 0 → 8192 ≤ length flash → filled flash ≡ flash
+pub flash-back : (flash : List ℕ) → length flash % 4096 ≡ 0 → 8192 ≤ length flash → filled flash ≡ flash
 unfolding filled
 flash-back flash whole least =
     let none : filled_length (length flash) - length flash ≡ 0 = omega arith in
@@ -27,6 +28,11 @@ otp-back rows narrow long =
     let back = rows-back rows narrow in
     let none : 4096 - length rows ≡ 0 = omega arith in
     ap (λ xs. xs ++ replicate (4096 - length xs) 0) back ∙ (ap (λ n. rows ++ replicate n 0) none ∙ append-nil rows)
+
+-- an OTP file of no byte gives an OTP of zeros
+pub zero-rows : otp_of [] ≡ zero_otp
+unfolding otp_of zero_otp
+zero-rows = refl
 
 abbrev pub IsGiven : Content → Type 0
 IsGiven c = (f : List ℕ) × (g : List ℕ) × HasForm Flash f × HasForm Otp g × (content_of f g ≡ c)

@@ -4,10 +4,11 @@ use Rattle.std.proofs.lemmas.Bool.{ltb-true, ltb-false, lt-ltb, le-ltb, eqb-true
 use Rattle.std.proofs.lemmas.List.Elements.{All-cons, All-head, All-tail}
 use Rattle.pico_board.specs.Rows.{IsFirstWide}
 use Rattle.boot_run.specs.declared.forms.Form.{Form}
-use Rattle.boot_run.specs.declared.forms.Form.TheVariants.{Flash, Otp, Script}
+use Rattle.boot_run.specs.declared.forms.Form.TheVariants.{Flash, Otp, Script, Binary, Spec, Json, Image}
 use Rattle.boot_run.specs.Texts.{hex_row}
 use Rattle.boot_run.specs.Forms.{limit_of, rows_of, HasForm, IsOwnFault, IsFault, wide_from, otp_fault, own_fault, form_fault}
 use Rattle.boot_run.specs.declared.forms.TheConstants.{RECORD_LIMIT}
+use Rattle.boot_run.proofs.JsonLemmas.{spec-formed, spec-faulty, spec-exact, spec-apart, table-formed, table-faulty, table-exact, table-apart}
 use Rattle.boot_run.proofs.ScriptLemmas.{script-formed, script-faulty, script-apart, script-exact}
 
 abbrev pub IsNarrow : List ℕ → Type 0
@@ -117,12 +118,20 @@ own-formed Flash [] few h = cc
 own-formed Flash (b ∷ bytes) few h = (λ (e : (b ∷ bytes) ≡ []). cc, few)
 own-formed Otp bytes few h = let o = otp-formed bytes h in (few, o.0, o.1)
 own-formed Script bytes few h = (few, script-formed RECORD_LIMIT bytes 0 h)
+own-formed Binary bytes few h = few
+own-formed Spec bytes few h = (few, spec-formed bytes h)
+own-formed Json bytes few h = (few, table-formed bytes h)
+own-formed Image bytes few h = few
 
 own-faulty : (form : Form) (bytes fault : List ℕ) → own_fault form bytes ≡ Some fault → IsOwnFault form bytes fault
 own-faulty Flash [] fault h = let text : fault ≡ codes "empty" = cc in (refl, text)
 own-faulty Flash (b ∷ bytes) fault h = cc
 own-faulty Otp bytes fault h = otp-faulty bytes fault h
 own-faulty Script bytes fault h = script-faulty RECORD_LIMIT bytes 0 fault h
+own-faulty Binary bytes fault h = cc
+own-faulty Spec bytes fault h = spec-faulty bytes fault h
+own-faulty Json bytes fault h = table-faulty bytes fault h
+own-faulty Image bytes fault h = cc
 
 -- a file without a fault has its form
 pub formed : (form : Form) (bytes : List ℕ) → form_fault form bytes ≡ None → HasForm form bytes
@@ -152,6 +161,14 @@ form-apart Otp bytes fault form (inr (few, inr (whole, row, wide, text))) =
     let small = form.2 row (0) wide.inside in let large = wide.wide in omega arith
 form-apart Script bytes fault form (inl large) = let few = form.0 in let many = large.0 in omega arith
 form-apart Script bytes fault form (inr (few, own)) = script-apart RECORD_LIMIT bytes 0 fault form.1 own
+form-apart Binary bytes fault form (inl large) = let many = large.0 in omega (arith, form)
+form-apart Binary bytes fault form (inr (few, own)) = own
+form-apart Spec bytes fault form (inl large) = let few = form.0 in let many = large.0 in omega arith
+form-apart Spec bytes fault form (inr (few, own)) = spec-apart bytes fault form.1.0 form.1.1 own
+form-apart Json bytes fault form (inl large) = let few = form.0 in let many = large.0 in omega arith
+form-apart Json bytes fault form (inr (few, own)) = table-apart bytes fault form.1.0 form.1.1 own
+form-apart Image bytes fault form (inl large) = let few = form in let many = large.0 in omega arith
+form-apart Image bytes fault form (inr (few, own)) = own
 
 -- a fault that the rules name is the one that is found
 otp-exact : (bytes fault : List ℕ) → IsOwnFault Otp bytes fault → otp_fault bytes ≡ Some fault
@@ -171,6 +188,10 @@ own-exact Flash [] fault own = ap Some (sym own.1)
 own-exact Flash (b ∷ bytes) fault own = let e : (b ∷ bytes) ≡ [] = own.0 in cc
 own-exact Otp bytes fault own = otp-exact bytes fault own
 own-exact Script bytes fault own = script-exact RECORD_LIMIT bytes 0 fault own
+own-exact Binary bytes fault own = absurd own
+own-exact Spec bytes fault own = spec-exact bytes fault own
+own-exact Json bytes fault own = table-exact bytes fault own
+own-exact Image bytes fault own = absurd own
 
 pub fault-exact : (form : Form) (bytes fault : List ℕ) → IsFault form bytes fault → form_fault form bytes ≡ Some fault
 fault-exact form bytes fault (inl large) =

@@ -1,10 +1,15 @@
 mod RowLemmas
 mod WordLemmas
+mod NumberLemmas
 mod CourseLemmas
 mod BoardLemmas
 mod WindowLemmas
+mod JsonLemmas
 mod FormLemmas
 mod FaultLemmas
+mod ToolLemmas
+mod SealLemmas
+mod SealCases
 mod RuleLemmas
 mod FileMaps
 mod PhaseLemmas

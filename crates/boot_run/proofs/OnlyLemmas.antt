@@ -17,18 +17,28 @@ use Rattle.boot_rules.specs.Chosen.{Chosen}
 use Rattle.boot_rules.proofs.DecisionLemmas.{decision-chosen, chosen-decision}
 use Rattle.boot_run.specs.declared.status.Status.{Status}
 use Rattle.boot_run.specs.declared.status.Status.TheVariants.{Done, Bootsel}
-use Rattle.boot_run.specs.declared.forms.Form.TheVariants.{Flash, Otp, Script}
-use Rattle.boot_run.specs.Commands.{Command, Boot, Info, OwnedData, Replay, Usage, Release}
+use Rattle.boot_run.specs.declared.forms.Form.TheVariants.{Flash, Otp, Script, Binary, Spec, Json}
+use Rattle.boot_run.specs.Commands.{Command, Boot, Info, OwnedData, Replay, Seal, Table, Usage, Release, Uf2, Plan, Gen}
 use Rattle.boot_run.specs.Forms.{HasForm, content_of, events_read, script_events}
 use Rattle.boot_run.specs.Texts.{line, decision_line, table_text, image_text, event_lines, end_line}
-use Rattle.boot_run.specs.Works.{boot_work, info_work, data_work, replay_work, played_work, window_line, windows_in, decided_data, data_line, content_files}
-use Rattle.boot_run.specs.Outcome.{Input, Outcome, inputs_of, flash_and_otp, flash_otp_script, refused, worked, first_fault, judged, command_outcome, outcome_on, outcome_found, found, found_next}
-use Rattle.boot_run.specs.Rules.{NeedsBytes, IsFirstFault, IsRefusal, decided_status, IsBootOf, IsLineOf, AreLinesOf, IsInfoOf, IsDataOf, IsReplayOf, Obeys, FallsOn}
+use Rattle.boot_run.specs.Works.{boot_work, info_work, data_work, replay_work, window_line, windows_in, decided_data, data_line, content_files}
+use Rattle.boot_run.specs.Outcome.{Input, Outcome, inputs_of, flash_and_otp, flash_otp_script, refused, worked, first_fault, judged, command_outcome, outcome_on, outcome_found, found, found_next, work_of}
+use Rattle.boot_run.specs.Rules.{NeedsBytes, IsFirstFault, IsRefusal, decided_status, IsBootOf, IsLineOf, AreLinesOf, IsInfoOf, IsDataOf, IsReplayOf, Obeys, FallsOn, AreFormed, IsWorked}
 use Rattle.boot_run.specs.Replays.{Played, played, powerless}
+use Rattle.boot_run.specs.ToolWorks.{gen_line, made_content, gen_work, uf2_work, plan_work}
+use Rattle.boot_run.specs.ToolRules.{IsUf2Of, IsPlanOf, IsGenOf}
+use Rattle.image_pack.specs.Flashes.{generated}
+use Rattle.pico_board.specs.declared.boot.Cpu.TheVariants.{Arm}
+use Rattle.pico_board.specs.declared.boot.BootKind.TheVariants.{Normal}
+use Rattle.boot_run.proofs.ToolLemmas.{uf2-whole, plan-whole}
 use Rattle.boot_run.proofs.PlayLemmas.{plays-only}
+use Rattle.boot_run.specs.Jsons.{spec_read, table_read}
+use Rattle.boot_run.specs.Tools.{seal_work, table_work}
+use Rattle.boot_run.specs.SealRules.{IsSealOf, IsTableOf}
+use Rattle.boot_run.proofs.SealCases.{seal-only, table-only}
 use Rattle.boot_run.proofs.FormLemmas.{fault-exact}
 use Rattle.boot_run.proofs.OutcomeLemmas.{no-fault}
-use Rattle.boot_run.proofs.RuleLemmas.{obeys, Judged, all_formed, one_faulty, judged-first}
+use Rattle.boot_run.proofs.RuleLemmas.{obeys, work-exact, Judged, all_formed, one_faulty, judged-first}
 use Rattle.boot_run.proofs.RunLemmas.{no-first, no-first_script, decided, fall-status, worked-decided}
 
 -- an outcome is its status, its text and its files
@@ -71,6 +81,69 @@ triple-only flash otp script f g s Right w o only (inl (name, fault, first, is))
 triple-only flash otp script f g s Right w o only (inr (flash_form, otp_form, script_form, right)) =
     only right
     ∙ sym (ap (λ j. judged j w) (no-first_script flash otp script f g s flash_form otp_form script_form))
+
+-- one input, and two, that have their forms have no fault
+no-one : (i : Input) (f : List ℕ) → HasForm i.form f → first_fault (i ∷ []) (f ∷ []) ≡ None
+no-one i f form = ap (λ o. option_or (option_map (refused i.name) o) None) (no-fault i.form f form)
+
+no-two : (i j : Input) (f g : List ℕ) → HasForm i.form f → HasForm j.form g
+    → first_fault (i ∷ j ∷ []) (f ∷ g ∷ []) ≡ None
+no-two i j f g first second =
+    ap (λ o. option_or (option_map (refused i.name) o) (first_fault (j ∷ []) (g ∷ []))) (no-fault i.form f first)
+    ∙ no-one j g second
+
+-- a command on one input, and on two inputs, with one right outcome
+one-only : (i : Input) (f : List ℕ) (Right : Outcome → Type 0) (w o : Outcome) → (Right o → o ≡ w)
+    → IsRefusal (i ∷ []) (f ∷ []) o ⊎ (HasForm i.form f × Right o)
+    → o ≡ judged (first_fault (i ∷ []) (f ∷ [])) w
+one-only i f Right w o only (inl (name, fault, first, is)) =
+    is ∙ sym (ap (λ j. judged j w) (first-exact (i ∷ []) (f ∷ []) name fault first))
+one-only i f Right w o only (inr (form, right)) = only right ∙ sym (ap (λ j. judged j w) (no-one i f form))
+
+two-only : (i j : Input) (f g : List ℕ) (Right : Outcome → Type 0) (w o : Outcome) → (Right o → o ≡ w)
+    → IsRefusal (i ∷ j ∷ []) (f ∷ g ∷ []) o ⊎ (HasForm i.form f × HasForm j.form g × Right o)
+    → o ≡ judged (first_fault (i ∷ j ∷ []) (f ∷ g ∷ [])) w
+two-only i j f g Right w o only (inl (name, fault, first, is)) =
+    is ∙ sym (ap (λ q. judged q w) (first-exact (i ∷ j ∷ []) (f ∷ g ∷ []) name fault first))
+two-only i j f g Right w o only (inr (first, second, right)) =
+    only right ∙ sym (ap (λ q. judged q w) (no-two i j f g first second))
+
+-- inputs that have their forms have no fault
+formed-none : (inputs : List Input) (read : List (List ℕ)) → AreFormed inputs read → first_fault inputs read ≡ None
+formed-none [] read all = refl
+formed-none (input ∷ inputs) [] all = refl
+formed-none (input ∷ inputs) (bytes ∷ read) all =
+    ap (λ o. option_or (option_map (refused input.name) o) (first_fault inputs read)) (no-fault input.form bytes all.0)
+    ∙ formed-none inputs read all.1
+
+-- a command whose work may refuse an input has no other outcome than one right one
+worked-only : (command : Command) (read : List (List ℕ)) (Right : Outcome → Type 0) (o : Outcome)
+    → (Right o → o ≡ worked (work_of command read)) → IsWorked command read Right o
+    → o ≡ command_outcome command read
+worked-only command read Right o only (inl (name, fault, inl first, is)) =
+    is ∙ sym (ap (λ j. judged j (worked (work_of command read))) (first-exact (inputs_of command) read name fault first))
+worked-only command read Right o only (inl (name, fault, inr refuses, is)) =
+    is ∙ (sym (work-exact command read name fault refuses.1)
+    ∙ sym (ap (λ j. judged j (worked (work_of command read))) (formed-none (inputs_of command) read refuses.0)))
+worked-only command read Right o only (inr (all, right)) =
+    only right ∙ sym (ap (λ j. judged j (worked (work_of command read))) (formed-none (inputs_of command) read all))
+
+uf2-only : (image out i : List ℕ) (family : ℕ) (o : Outcome) → IsUf2Of i family out o
+    → o ≡ worked (uf2_work image family out i)
+uf2-only image out i family o right =
+    same-outcome o Done _ _ right.status right.text right.files ∙ uf2-whole image out i family right.some
+
+plan-only : (flash otp image out f g i : List ℕ) (cpu : Cpu) (o : Outcome) → IsPlanOf (content_of f g) cpu i out o
+    → o ≡ worked (plan_work (content_of f g) cpu image out i)
+plan-only flash otp image out f g i cpu o right =
+    same-outcome o Done _ _ right.status right.text right.files
+    ∙ plan-whole flash otp image out f g i cpu right.target right.goes right.some right.fits
+
+gen-only : (n : ℕ) (o : Outcome) → IsGenOf n o → o ≡ worked (gen_work n)
+gen-only n o right =
+    same-outcome o Done _ [] right.status right.text right.files
+    ∙ ap (λ d. record { status = Done; text = gen_line n (generated n) ++ decision_line d; files = [] })
+    (chosen-decision (made_content n) Arm Normal right.decision right.chosen)
 
 boot-only : (c : Content) (cpu : Cpu) (kind : BootKind) (o : Outcome) → IsBootOf c cpu kind o
     → o ≡ worked (boot_work c cpu kind)
@@ -167,6 +240,31 @@ only (Replay flash otp cpu script out_flash out_otp) [] o = λ right. absurd rig
 only (Replay flash otp cpu script out_flash out_otp) (f ∷ []) o = λ right. absurd right
 only (Replay flash otp cpu script out_flash out_otp) (f ∷ g ∷ []) o = λ right. absurd right
 only (Replay flash otp cpu script out_flash out_otp) (f ∷ g ∷ s ∷ t ∷ read) o = λ right. absurd right
+only (Seal binary spec out) (b ∷ s ∷ []) o =
+    two-only (record { name = binary; form = Binary }) (record { name = spec; form = Spec }) b s
+    (IsSealOf binary spec out b s) (worked (seal_work binary spec out b (spec_read s))) o
+    (seal-only binary spec out b s o)
+only (Seal binary spec out) [] o = λ right. absurd right
+only (Seal binary spec out) (b ∷ []) o = λ right. absurd right
+only (Seal binary spec out) (b ∷ s ∷ t ∷ read) o = λ right. absurd right
+only (Table json out) (j ∷ []) o =
+    one-only (record { name = json; form = Json }) j (IsTableOf out j) (worked (table_work out (table_read j))) o
+    (table-only out j o)
+only (Table json out) [] o = λ right. absurd right
+only (Table json out) (j ∷ k ∷ read) o = λ right. absurd right
+only (Uf2 image family out) (i ∷ []) o =
+    worked-only (Uf2 image family out) (i ∷ []) (IsUf2Of i family out) o (uf2-only image out i family o)
+only (Uf2 image family out) [] o = λ right. absurd right
+only (Uf2 image family out) (i ∷ j ∷ read) o = λ right. absurd right
+only (Plan flash otp cpu image out) (f ∷ g ∷ i ∷ []) o =
+    worked-only (Plan flash otp cpu image out) (f ∷ g ∷ i ∷ []) (IsPlanOf (content_of f g) cpu i out) o
+    (plan-only flash otp image out f g i cpu o)
+only (Plan flash otp cpu image out) [] o = λ right. absurd right
+only (Plan flash otp cpu image out) (f ∷ []) o = λ right. absurd right
+only (Plan flash otp cpu image out) (f ∷ g ∷ []) o = λ right. absurd right
+only (Plan flash otp cpu image out) (f ∷ g ∷ i ∷ j ∷ read) o = λ right. absurd right
+only (Gen n) [] o = λ right. gen-only n o right
+only (Gen n) (f ∷ read) o = λ right. absurd right
 only Usage [] o = λ right. right
 only Usage (f ∷ read) o = λ right. absurd right
 only Release [] o = λ right. right

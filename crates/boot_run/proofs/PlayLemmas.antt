@@ -1,18 +1,12 @@
 -- What events do to a machine whose board tells its armed cut: Moves and Plays name the one machine and the texts.
-use Rattle.std.proofs.Common.{◌≡◌, ◌⊎◌, ℕ, ◌+◌, ◌*◌, ◌-◌, ◌<◌, ◌≤◌, ◌==◌, Bool, true, false, cond, Option, Some, None, option_map, List, All, [], ◌∷◌, length, get_or, slice_index, slice_set, bit_and, bit_or, bit_xor, refl, sym, ◌∙◌, ap, subst, inl, inr, arith}
-use Rattle.std.specs.List.{AllByRecursion}
-use Rattle.std.proofs.lemmas.Bool.{cases_lt}
-use Rattle.std.proofs.lemmas.List.{get_or-set_same, get_or_past}
-use Rattle.std.proofs.lemmas.Nat.{and_le_l}
-use Rattle.pico_board.specs.declared.Step.{Step}
+use Rattle.std.proofs.Common.{◌≡◌, ℕ, true, false, cond, Option, Some, List, [], ◌∷◌, refl, sym, ◌∙◌, ap, subst, inl, inr}
 use Rattle.pico_board.specs.Content.{Content}
-use Rattle.pico_board.specs.Steps.{after, after_all, CutOf, IsBetween, Torn, changed}
-use Rattle.pico_board.specs.Cuts.{Cut, Told, cut_by, cut_with, nearer, pattern_at, pattern_row, told, told_all, told_next, torn_by}
+use Rattle.pico_board.specs.Cuts.{Cut, told, told_all}
 use Rattle.boot_script.specs.Events.{Happening, End, Command, Uf2, Cut as ArmsCut, PowerOn, Reset, Buy}
 use Rattle.boot_machine.specs.Machines.{Machine, Off}
 use Rattle.boot_machine.specs.Boots.{Effect}
-use Rattle.boot_machine.specs.Moves.{Moves, MovesBy, IsDone, IsLost, Decides, Plays, armed_for, effect, lost_text}
-use Rattle.boot_run.specs.Replays.{AreBytes, HasBytes, IsOfBytes, IsTelling, Moved, Played, moved, moved_as, played, text_first, told_cut}
+use Rattle.boot_machine.specs.Moves.{Moves, MovesBy, Plays, armed_for, effect, lost_text}
+use Rattle.boot_run.specs.Replays.{Moved, Played, moved, moved_as, played, told_cut}
 
 -- a machine that is one of another's parts
 same-machine : (n : Machine) (content : Content) (armed : Option (Option Cut)) (m : Machine)

@@ -18,17 +18,24 @@ use Rattle.boot_rules.specs.Choosing.{decision_in}
 use Rattle.boot_rules.specs.Chosen.{Chosen}
 use Rattle.boot_rules.proofs.DecisionLemmas.{decision-chosen, chosen-not_below}
 use Rattle.boot_run.specs.declared.status.Status.TheVariants.{Input as Refused}
-use Rattle.boot_run.specs.declared.forms.Form.TheVariants.{Flash, Otp, Script}
-use Rattle.boot_run.specs.Commands.{Command, Boot, Info, OwnedData, Replay, Usage, Release}
+use Rattle.boot_run.specs.declared.forms.Form.TheVariants.{Flash, Otp, Script, Binary, Spec, Json}
+use Rattle.boot_run.specs.Commands.{Command, Boot, Info, OwnedData, Replay, Seal, Table, Usage, Release, Uf2, Plan, Gen}
 use Rattle.boot_run.specs.Forms.{HasForm, form_fault, content_of, filled, filled_length, events_read, script_events}
 use Rattle.boot_run.specs.Works.{is_fall, boot_work, info_work, data_work, replay_work, window_line, windows_in}
-use Rattle.boot_run.specs.Outcome.{Input, Outcome, inputs_of, flash_and_otp, flash_otp_script, refused, worked, work_of, files_work, script_work, answered_status, first_fault, judged, command_outcome}
+use Rattle.boot_run.specs.Outcome.{Input, Outcome, inputs_of, flash_and_otp, flash_otp_script, binary_and_spec, one_json, refused, worked, work_of, files_work, script_work, sealing_work, tabling_work, answered_status, first_fault, judged, command_outcome, image_alone, flash_otp_image}
 use Rattle.boot_run.specs.Texts.{line, image_text}
-use Rattle.boot_run.specs.Rules.{NeedsBytes, IsFirstFault, AreFormed, IsRefused, IsRefusal, decided_status, IsBootOf, IsLineOf, AreLinesOf, IsInfoOf, IsDataOf, IsReplayOf, Obeys}
+use Rattle.boot_run.specs.Rules.{NeedsBytes, IsFirstFault, AreFormed, IsRefused, IsRefusal, decided_status, IsBootOf, IsLineOf, AreLinesOf, IsInfoOf, IsDataOf, IsReplayOf, Obeys, IsRefusedWork, IsWorked}
 use Rattle.boot_script.specs.declared.event.ScriptFault.{ScriptFault}
 use Rattle.boot_script.specs.Events.{Happening}
 use Rattle.boot_script.specs.Scripts.{events}
 use Rattle.boot_run.specs.Replays.{AreBytes, AreOfBytes, played, powerless}
+use Rattle.boot_run.specs.Jsons.{spec_read, table_read}
+use Rattle.boot_run.specs.Tools.{seal_work, table_work}
+use Rattle.boot_run.specs.SealRules.{IsSealOf, IsTableOf}
+use Rattle.boot_run.proofs.SealCases.{seal-right, table-right, unsealed-then, unsealed-outcome, table-not_refused}
+use Rattle.boot_run.specs.ToolWorks.{uf2_work, plan_work}
+use Rattle.boot_run.specs.ToolRules.{IsUf2Of, IsPlanOf}
+use Rattle.boot_run.proofs.ToolLemmas.{IsDone, uf2-done, plan-done, gen-right, uf2-refused, plan-refused, work-exact_uf2, work-exact_plan}
 use Rattle.boot_run.proofs.FormLemmas.{formed, faulty, form-apart}
 use Rattle.boot_run.proofs.ScriptLemmas.{events-ended}
 use Rattle.boot_run.proofs.TornLemmas.{played-plays, script-bytes}
@@ -124,6 +131,30 @@ triple-obeys flash otp script f g s Right w right None (all_formed all) =
 triple-obeys flash otp script f g s Right w right (Some _) (one_faulty name fault first) =
     inl (name, fault, first, refl)
 
+-- a command on one input, and on two inputs
+one-obeys : (i : Input) (f : List ℕ) (Right : Outcome → Type 0) (w : Outcome) → (HasForm i.form f → Right w)
+    → (o : Option Outcome) → Judged (i ∷ []) (f ∷ []) o
+    → IsRefusal (i ∷ []) (f ∷ []) (judged o w) ⊎ (HasForm i.form f × Right (judged o w))
+one-obeys i f Right w right None (all_formed all) = inr (all.0, right all.0)
+one-obeys i f Right w right (Some _) (one_faulty name fault first) = inl (name, fault, first, refl)
+
+two-obeys : (i j : Input) (f g : List ℕ) (Right : Outcome → Type 0) (w : Outcome)
+    → (HasForm i.form f → HasForm j.form g → Right w) → (o : Option Outcome)
+    → Judged (i ∷ j ∷ []) (f ∷ g ∷ []) o
+    → IsRefusal (i ∷ j ∷ []) (f ∷ g ∷ []) (judged o w)
+    ⊎ (HasForm i.form f × HasForm j.form g × Right (judged o w))
+two-obeys i j f g Right w right None (all_formed all) = inr (all.0, all.1.0, right all.0 all.1.0)
+two-obeys i j f g Right w right (Some _) (one_faulty name fault first) = inl (name, fault, first, refl)
+
+-- a command whose work may refuse an input
+pub worked-obeys : (command : Command) (read : List (List ℕ)) (Right : Outcome → Type 0) (w : Outcome)
+    → IsDone command read Right w → (o : Option Outcome) → Judged (inputs_of command) read o
+    → IsWorked command read Right (judged o w)
+worked-obeys command read Right w (inl (name, fault, refuses, is)) None (all_formed all) =
+    inl (name, fault, inr (all, refuses), is)
+worked-obeys command read Right w (inr right) None (all_formed all) = inr (all, right)
+worked-obeys command read Right w done (Some _) (one_faulty name fault first) = inl (name, fault, inl first, refl)
+
 -- a flash that is filled is of bytes
 filled-bytes : (f : List ℕ) → AreBytes f → AreBytes (filled f)
 unfolding filled
@@ -153,6 +184,12 @@ replay-right f g s out_flash out_otp cpu small of form =
       text = refl;
       files = refl;
     }
+
+-- a list of one
+pub one : (read : List (List ℕ)) → length read ≡ 1 → (a : List ℕ) × (read ≡ (a ∷ []))
+one [] long = absurd (omega arith)
+one (a ∷ []) long = (a, refl)
+one (a ∷ b ∷ read) long = absurd (omega arith)
 
 -- a list of two
 pub two : (read : List (List ℕ)) → length read ≡ 2 → (a : List ℕ) × (b : List ℕ) × (read ≡ (a ∷ b ∷ []))
@@ -201,6 +238,34 @@ replay-obeys flash otp script out_flash out_otp f g s cpu small =
     (first_fault (flash_otp_script flash otp script) (f ∷ g ∷ s ∷ []))
     (judged-first (flash_otp_script flash otp script) (f ∷ g ∷ s ∷ []) refl)
 
+seal-obeys : (binary spec out b s : List ℕ) → IsRight (Seal binary spec out) (b ∷ s ∷ [])
+seal-obeys binary spec out b s =
+    two-obeys (record { name = binary; form = Binary }) (record { name = spec; form = Spec }) b s
+    (IsSealOf binary spec out b s) (worked (seal_work binary spec out b (spec_read s)))
+    (λ binary_form spec_form. seal-right binary spec out b s spec_form)
+    (first_fault (binary_and_spec binary spec) (b ∷ s ∷ []))
+    (judged-first (binary_and_spec binary spec) (b ∷ s ∷ []) refl)
+
+table-obeys : (json out j : List ℕ) → IsRight (Table json out) (j ∷ [])
+table-obeys json out j =
+    one-obeys (record { name = json; form = Json }) j (IsTableOf out j) (worked (table_work out (table_read j)))
+    (λ form. table-right out j form)
+    (first_fault (one_json json) (j ∷ [])) (judged-first (one_json json) (j ∷ []) refl)
+
+uf2-obeys : (image out i : List ℕ) (family : ℕ) → IsRight (Uf2 image family out) (i ∷ [])
+uf2-obeys image out i family =
+    worked-obeys (Uf2 image family out) (i ∷ []) (IsUf2Of i family out) (worked (uf2_work image family out i))
+    (uf2-done image out i family)
+    (first_fault (image_alone image) (i ∷ [])) (judged-first (image_alone image) (i ∷ []) refl)
+
+plan-obeys : (flash otp image out f g i : List ℕ) (cpu : Cpu)
+    → IsRight (Plan flash otp cpu image out) (f ∷ g ∷ i ∷ [])
+plan-obeys flash otp image out f g i cpu =
+    worked-obeys (Plan flash otp cpu image out) (f ∷ g ∷ i ∷ []) (IsPlanOf (content_of f g) cpu i out)
+    (worked (plan_work (content_of f g) cpu image out i)) (plan-done flash otp image out f g i cpu)
+    (first_fault (flash_otp_image flash otp image) (f ∷ g ∷ i ∷ []))
+    (judged-first (flash_otp_image flash otp image) (f ∷ g ∷ i ∷ []) refl)
+
 -- without inputs there is no fault
 none-obeys : (command : Command) (read : List (List ℕ)) → length read ≡ 0 → IsRight command [] → IsRight command read
 none-obeys command [] long right = right
@@ -221,6 +286,17 @@ obeys (Replay flash otp cpu script out_flash out_otp) read long small =
     let r = three read long in
     subst (IsRight (Replay flash otp cpu script out_flash out_otp)) (sym r.3)
     (replay-obeys flash otp script out_flash out_otp r.0 r.1 r.2 cpu (subst AreOfBytes r.3 small))
+obeys (Seal binary spec out) read long small =
+    let r = two read long in
+    subst (IsRight (Seal binary spec out)) (sym r.2) (seal-obeys binary spec out r.0 r.1)
+obeys (Table json out) read long small =
+    let r = one read long in subst (IsRight (Table json out)) (sym r.1) (table-obeys json out r.0)
+obeys (Uf2 image family out) read long small =
+    let r = one read long in subst (IsRight (Uf2 image family out)) (sym r.1) (uf2-obeys image out r.0 family)
+obeys (Plan flash otp cpu image out) read long small =
+    let r = three read long in subst (IsRight (Plan flash otp cpu image out)) (sym r.3)
+    (plan-obeys flash otp image out r.0 r.1 r.2 cpu)
+obeys (Gen n) read long small = none-obeys (Gen n) read long (gen-right n)
 obeys Usage read long small = none-obeys Usage read long refl
 obeys Release read long small = none-obeys Release read long refl
 
@@ -230,6 +306,11 @@ bytes-serve (Boot flash otp cpu kind) read small = tt
 bytes-serve (Info flash otp cpu) read small = tt
 bytes-serve (OwnedData flash otp cpu kind) read small = tt
 bytes-serve (Replay flash otp cpu script out_flash out_otp) read small = small
+bytes-serve (Seal binary spec out) read small = tt
+bytes-serve (Table json out) read small = tt
+bytes-serve (Uf2 image family out) read small = tt
+bytes-serve (Plan flash otp cpu image out) read small = tt
+bytes-serve (Gen n) read small = tt
 bytes-serve Usage read small = tt
 bytes-serve Release read small = tt
 
@@ -247,7 +328,7 @@ answer-not_refused : (falls : Bool) → answered_status falls ≡ Refused → �
 answer-not_refused true h = cc
 answer-not_refused false h = cc
 
--- no command refuses by its work
+-- a command on a flash file and an OTP file does not refuse by its work
 files-not_refused : (command : Command) (read : List (List ℕ)) → (worked (files_work command read)).status ≡ Refused → ⊥
 files-not_refused command [] h = cc
 files-not_refused command (f ∷ []) h = cc
@@ -257,6 +338,11 @@ files-not_refused (Info flash otp cpu) (f ∷ g ∷ []) h = cc
 files-not_refused (OwnedData flash otp cpu kind) (f ∷ g ∷ []) h =
     answer-not_refused (is_fall (decision_in (content_of f g) cpu kind)) h
 files-not_refused (Replay flash otp cpu script out_flash out_otp) (f ∷ g ∷ []) h = cc
+files-not_refused (Seal binary spec out) (f ∷ g ∷ []) h = cc
+files-not_refused (Table json out) (f ∷ g ∷ []) h = cc
+files-not_refused (Uf2 image family out) (f ∷ g ∷ []) h = cc
+files-not_refused (Plan flash otp cpu image out) (f ∷ g ∷ []) h = cc
+files-not_refused (Gen n) (f ∷ g ∷ []) h = cc
 files-not_refused Usage (f ∷ g ∷ []) h = cc
 files-not_refused Release (f ∷ g ∷ []) h = cc
 files-not_refused command (f ∷ g ∷ h ∷ read) e = cc
@@ -269,27 +355,73 @@ script-not_refused cpu out_flash out_otp (f ∷ g ∷ []) h = cc
 script-not_refused cpu out_flash out_otp (f ∷ g ∷ s ∷ []) h = cc
 script-not_refused cpu out_flash out_otp (f ∷ g ∷ s ∷ t ∷ read) h = cc
 
-work-not_refused : (command : Command) (read : List (List ℕ)) → (worked (work_of command read)).status ≡ Refused → ⊥
-work-not_refused (Boot flash otp cpu kind) read h = files-not_refused (Boot flash otp cpu kind) read h
-work-not_refused (Info flash otp cpu) read h = files-not_refused (Info flash otp cpu) read h
-work-not_refused (OwnedData flash otp cpu kind) read h = files-not_refused (OwnedData flash otp cpu kind) read h
-work-not_refused (Replay flash otp cpu script out_flash out_otp) read h =
-    script-not_refused cpu out_flash out_otp read h
-work-not_refused Usage read h = cc
-work-not_refused Release read h = cc
+-- what a command's work refuses is refused by the rules
+abbrev IsRefusedByWork : Command → List (List ℕ) → Type 0
+IsRefusedByWork command read = (name : List ℕ) × (fault : List ℕ) × IsRefusedWork command read name fault
+
+sealing-refused : (binary spec out : List ℕ) (read : List (List ℕ)) → AreFormed (binary_and_spec binary spec) read
+    → (worked (sealing_work binary spec out read)).status ≡ Refused → IsRefusedByWork (Seal binary spec out) read
+sealing-refused binary spec out [] all h = cc
+sealing-refused binary spec out (b ∷ []) all h = cc
+sealing-refused binary spec out (b ∷ s ∷ []) all h = unsealed-then binary spec out b s all.1.0 h
+sealing-refused binary spec out (b ∷ s ∷ t ∷ read) all h = cc
+
+tabling-refused : (json out : List ℕ) (read : List (List ℕ)) → AreFormed (one_json json) read
+    → (worked (tabling_work out read)).status ≡ Refused → IsRefusedByWork (Table json out) read
+tabling-refused json out [] all h = cc
+tabling-refused json out (j ∷ []) all h = absurd (table-not_refused out j all.0 h)
+tabling-refused json out (j ∷ k ∷ read) all h = cc
+
+work-refused : (command : Command) (read : List (List ℕ)) → AreFormed (inputs_of command) read
+    → (worked (work_of command read)).status ≡ Refused → IsRefusedByWork command read
+work-refused (Boot flash otp cpu kind) read all h = absurd (files-not_refused (Boot flash otp cpu kind) read h)
+work-refused (Info flash otp cpu) read all h = absurd (files-not_refused (Info flash otp cpu) read h)
+work-refused (OwnedData flash otp cpu kind) read all h =
+    absurd (files-not_refused (OwnedData flash otp cpu kind) read h)
+work-refused (Replay flash otp cpu script out_flash out_otp) read all h =
+    absurd (script-not_refused cpu out_flash out_otp read h)
+work-refused (Seal binary spec out) read all h = sealing-refused binary spec out read all h
+work-refused (Table json out) read all h = tabling-refused json out read all h
+work-refused (Uf2 image family out) read all h = uf2-refused image out family read h
+work-refused (Plan flash otp cpu image out) read all h = plan-refused flash otp image out cpu read h
+work-refused (Gen n) read all h = cc
+work-refused Usage read all h = cc
+work-refused Release read all h = cc
+
+-- the refusal that the rules name is the work's
+pub work-exact : (command : Command) (read : List (List ℕ)) (name fault : List ℕ)
+    → IsRefusedWork command read name fault → worked (work_of command read) ≡ refused name fault
+work-exact (Boot flash otp cpu kind) read name fault h = absurd h
+work-exact (Info flash otp cpu) read name fault h = absurd h
+work-exact (OwnedData flash otp cpu kind) read name fault h = absurd h
+work-exact (Replay flash otp cpu script out_flash out_otp) read name fault h = absurd h
+work-exact (Seal binary spec out) [] name fault h = absurd h
+work-exact (Seal binary spec out) (b ∷ []) name fault h = absurd h
+work-exact (Seal binary spec out) (b ∷ s ∷ []) name fault h = unsealed-outcome binary spec out b s name fault h
+work-exact (Seal binary spec out) (b ∷ s ∷ t ∷ read) name fault h = absurd h
+work-exact (Table json out) read name fault h = absurd h
+work-exact (Uf2 image family out) read name fault h = work-exact_uf2 image out name fault family read h
+work-exact (Plan flash otp cpu image out) read name fault h =
+    work-exact_plan flash otp image out name fault cpu read h
+work-exact (Gen n) read name fault h = absurd h
+work-exact Usage read name fault h = absurd h
+work-exact Release read name fault h = absurd h
 
 refused-then : (command : Command) (read : List (List ℕ)) (o : Option Outcome) → Judged (inputs_of command) read o
     → (judged o (worked (work_of command read))).status ≡ Refused → IsRefused command read
-refused-then command read None (all_formed all) h = absurd (work-not_refused command read h)
-refused-then command read (Some _) (one_faulty name fault first) h = (name, fault, first)
+refused-then command read None (all_formed all) h =
+    let r = work-refused command read all h in (r.0, r.1, inr (all, r.2))
+refused-then command read (Some _) (one_faulty name fault first) h = (name, fault, inl first)
 
 then-refused : (command : Command) (read : List (List ℕ)) (o : Option Outcome) → Judged (inputs_of command) read o
     → IsRefused command read → (judged o (worked (work_of command read))).status ≡ Refused
-then-refused command read None (all_formed all) (name, fault, first) =
+then-refused command read None (all_formed all) (name, fault, inl first) =
     absurd (first-apart (inputs_of command) read name fault all first)
+then-refused command read None (all_formed all) (name, fault, inr refuses) =
+    ap (λ (o : Outcome). o.status) (work-exact command read name fault refuses.1)
 then-refused command read (Some _) (one_faulty name fault first) h = refl
 
--- the status is Input exactly where an input breaks its form
+-- the status is Input exactly where an input breaks its form, or the work refuses one
 pub refused-exactly : (command : Command) (read : List (List ℕ)) → length read ≡ length (inputs_of command)
     → ((command_outcome command read).status ≡ Refused) ↔ IsRefused command read
 refused-exactly command read long =

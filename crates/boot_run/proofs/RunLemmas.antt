@@ -3,6 +3,12 @@ use Rattle.std.proofs.Common.{◌≡◌, ◌⊎◌, ◌↔◌, ℕ, true, IsTrue
 use Rattle.std.specs.Option.{option_or}
 use Rattle.pico_board.specs.declared.boot.Cpu.{Cpu}
 use Rattle.pico_board.specs.declared.boot.BootKind.{BootKind}
+use Rattle.pico_board.specs.declared.boot.BootKind.TheVariants.{Normal}
+use Rattle.pico_board.specs.declared.window.Window.{Window}
+use Rattle.pico_board.specs.declared.Step.{Step}
+use Rattle.pico_board.specs.Steps.{after_all}
+use Rattle.boot_sweep.specs.Results.{CutSession, StartsFinished}
+use Rattle.boot_sweep.proofs.GatedLaws.{gated-decision}
 use Rattle.pico_board.specs.Board.{Rose}
 use Rattle.pico_board.specs.Content.{Content}
 use Rattle.pico_board.specs.Files.{File, StoreState, Access, file_of}
@@ -23,7 +29,7 @@ use Rattle.boot_run.specs.Texts.{decision_line}
 use Rattle.boot_run.specs.Works.{boot_work, is_fall}
 use Rattle.boot_run.specs.Outcome.{Outcome, Input, inputs_of, inputs_in, flash_and_otp, flash_otp_script, outcome_in, outcome_on, outcome_found, found, found_next, command_outcome, worked, judged, first_fault, refused, answered_status, is_finished}
 use Rattle.boot_run.specs.Replays.{AreOfBytes}
-use Rattle.boot_run.specs.Rules.{Obeys, IsRefused, decided_status}
+use Rattle.boot_run.specs.Rules.{Names, Obeys, IsRefused, decided_status}
 use Rattle.boot_run.specs.Ends.{AreRead, LacksOne, Does, IsAsTold, LeftAt}
 use Rattle.boot_run.proofs.RuleLemmas.{bytes-serve, obeys, refused-exactly}
 use Rattle.boot_run.proofs.OutcomeLemmas.{outcome-finished, outcome-words, outcome-told, not-lacking, no-fault}
@@ -123,6 +129,25 @@ module _ {S : Type 0} (state : S → StoreState) (history : S → List Access �
         λ choice starts. chosen-not_below (content_of f g) cpu kind choice
             (subst (λ (e : Decision). Chosen (content_of f g) cpu kind e) starts chosen),
       )
+
+  pub run-session : Ends → (flash otp f g : List ℕ) (cpu : Cpu) (files : List File) (c : Content) (w : Window)
+      (steps : List Step) (former : Decision)
+      → command ≡ Some (Boot flash otp cpu Normal) → (state old).files ≡ Some files → file_of files flash ≡ Some f
+      → file_of files otp ≡ Some g → HasForm Flash f → HasForm Otp g → is_finished status ≡ true
+      → CutSession c w cpu steps (content_of f g) former
+      → Names former status (shown before) (shown after)
+      ⊎ ((whole : StartsFinished (after_all c steps) (content_of f g) cpu)
+      × Names (Start whole.choice) status (shown before) (shown after))
+  run-session ends flash otp f g cpu files c w steps former asks told is_f is_g flash_form otp_form h lost =
+      elim (gated-decision c w cpu steps (content_of f g) former lost) [
+        | inl same ↦ inl (named former same)
+        | inr finished ↦ inr (finished, named (Start finished.choice) finished.here)
+      ]
+    where
+      named : (d : Decision) → Chosen (content_of f g) cpu Normal d → Names d status (shown before) (shown after)
+      named d chosen =
+          let is = run-boot ends flash otp f g cpu Normal files d asks told is_f is_g flash_form otp_form h chosen in
+          (is.0, is.1)
 
   pub run-lacking : Ends → (files : List File) → (state old).files ≡ Some files
       → LacksOne (Some files) (inputs_in command)

@@ -1,9 +1,9 @@
 -- Why a script is not read, or which events it has.
-use Rattle.std.proofs.Common.{◌≡◌, ◌⊎◌, ℕ, zero, suc, ◌+◌, ◌<◌, Bool, true, false, cond, Result, Ok, Err, Option, Some, None, List, [], ◌∷◌, length, codes, refl, sym, ◌∙◌, ap, subst, inl, inr, arith}
+use Rattle.std.proofs.Common.{◌≡◌, ◌⊎◌, ℕ, zero, suc, ◌+◌, ◌<◌, Bool, true, false, cond, Result, Ok, Err, Option, Some, None, List, [], ◌∷◌, length, codes, refl, sym, ◌∙◌, ap, inl, inr, arith}
 use Rattle.boot_script.specs.declared.event.ScriptFault.{ScriptFault}
 use Rattle.boot_script.specs.Events.{Happening, End, Command, Uf2, Cut, PowerOn, Reset, Buy}
 use Rattle.boot_script.specs.Reading.{event_at}
-use Rattle.boot_script.specs.Scripts.{behind, events, events_from, is_end}
+use Rattle.boot_script.specs.Scripts.{behind, events_from, is_end}
 use Rattle.boot_script.proofs.Spelled.{read-at}
 use Rattle.boot_script.proofs.Following.{next-events, end-events}
 use Rattle.boot_run.specs.Texts.{script_text}

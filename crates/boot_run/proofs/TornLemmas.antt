@@ -1,6 +1,6 @@
 -- What events do to a machine whose board tells its armed cut is by the table of the machine: a told cut leaves what
 -- the loss of power may leave, where the flash and the patterns are of bytes.
-use Rattle.std.proofs.Common.{◌≡◌, ◌⊎◌, ℕ, ◌+◌, ◌*◌, ◌-◌, ◌<◌, ◌≤◌, ◌==◌, Bool, true, false, cond, Ok, suc, Option, Some, None, List, All, [], ◌∷◌, ◌++◌, length, get_or, slice_index, slice_set, bit_and, bit_or, bit_xor, refl, sym, ◌∙◌, ap, subst, inl, inr, arith, length-set}
+use Rattle.std.proofs.Common.{◌≡◌, ◌⊎◌, ℕ, ◌+◌, ◌*◌, ◌-◌, ◌<◌, ◌==◌, Bool, true, false, cond, Ok, suc, Option, Some, None, List, [], ◌∷◌, ◌++◌, length, get_or, slice_index, slice_set, bit_and, bit_or, bit_xor, refl, sym, ◌∙◌, ap, subst, inl, inr, arith, length-set}
 use Rattle.std.specs.Int.{bit_at}
 use Rattle.std.specs.List.{AllByRecursion, flat_map}
 use Rattle.std.proofs.lemmas.Bool.{cases_lt, cases_eq}
@@ -13,7 +13,7 @@ use Rattle.pico_board.specs.Content.{Content}
 use Rattle.pico_board.specs.declared.Step.{Step}
 use Rattle.pico_board.specs.declared.Step.TheVariants.{Erase, Program, Raise}
 use Rattle.pico_board.specs.Steps.{after, after_all, CutOf, IsBetween, Torn, changed}
-use Rattle.pico_board.specs.Cuts.{Cut, Told, cut_by, nearer, pattern_at, pattern_row, told, told_all, told_next, torn_by}
+use Rattle.pico_board.specs.Cuts.{Cut, Told, cut_by, nearer, pattern_at, pattern_row, told_all, told_next, torn_by}
 use Rattle.pico_board.proofs.Changed.{length-changed, changed-at, changed-same}
 use Rattle.pico_board.proofs.Contents.{byte_at, All-changed, pattern_at-lt}
 use Rattle.pico_board.proofs.TornSteps.{IsBetween-first, SameOutside-refl, SameOutside-set}
@@ -24,7 +24,7 @@ use Rattle.boot_script.proofs.Spelled.{are-bytes}
 use Rattle.boot_script.proofs.Following.{script-spelled}
 use Rattle.boot_machine.specs.Machines.{Machine, Off}
 use Rattle.boot_machine.specs.Boots.{Effect}
-use Rattle.boot_machine.specs.Moves.{Moves, MovesBy, Plays, armed_for, effect, lost_text}
+use Rattle.boot_machine.specs.Moves.{Moves, MovesBy, Plays, effect, lost_text}
 use Rattle.boot_run.specs.Replays.{AreBytes, HasBytes, IsOfBytes, IsTelling, Moved, moved, moved_as, played}
 use Rattle.boot_run.proofs.PlayLemmas.{armed_as, armed-told, moved-as}
 

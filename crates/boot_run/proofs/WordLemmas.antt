@@ -30,14 +30,15 @@ hex-stops digits i n lt is =
     ∙ ap (λ found. option_and_then (λ digit. hex_value (16 * n + digit) (drop (i + 1) digits)) found) is
 
 -- words of another number are no command
-pub no_command : (words : List (String Global)) → length words ≢ 1 → length words ≢ 4 → length words ≢ 5
-    → length words ≢ 7 → command_of (map string_bytes words) ≡ None
-no_command [] one four five seven = refl
-no_command (a ∷ []) one four five seven = absurd (one refl)
-no_command (a ∷ b ∷ []) one four five seven = refl
-no_command (a ∷ b ∷ c ∷ []) one four five seven = refl
-no_command (a ∷ b ∷ c ∷ d ∷ []) one four five seven = absurd (four refl)
-no_command (a ∷ b ∷ c ∷ d ∷ e ∷ []) one four five seven = absurd (five refl)
-no_command (a ∷ b ∷ c ∷ d ∷ e ∷ f ∷ []) one four five seven = refl
-no_command (a ∷ b ∷ c ∷ d ∷ e ∷ f ∷ g ∷ []) one four five seven = absurd (seven refl)
-no_command (a ∷ b ∷ c ∷ d ∷ e ∷ f ∷ g ∷ h ∷ words) one four five seven = refl
+pub no_command : (words : List (String Global)) → length words ≢ 1 → length words ≢ 2 → length words ≢ 3
+    → length words ≢ 4 → length words ≢ 5 → length words ≢ 6 → length words ≢ 7
+    → command_of (map string_bytes words) ≡ None
+no_command [] one two three four five six seven = refl
+no_command (a ∷ []) one two three four five six seven = absurd (one refl)
+no_command (a ∷ b ∷ []) one two three four five six seven = absurd (two refl)
+no_command (a ∷ b ∷ c ∷ []) one two three four five six seven = absurd (three refl)
+no_command (a ∷ b ∷ c ∷ d ∷ []) one two three four five six seven = absurd (four refl)
+no_command (a ∷ b ∷ c ∷ d ∷ e ∷ []) one two three four five six seven = absurd (five refl)
+no_command (a ∷ b ∷ c ∷ d ∷ e ∷ f ∷ []) one two three four five six seven = absurd (six refl)
+no_command (a ∷ b ∷ c ∷ d ∷ e ∷ f ∷ g ∷ []) one two three four five six seven = absurd (seven refl)
+no_command (a ∷ b ∷ c ∷ d ∷ e ∷ f ∷ g ∷ h ∷ words) one two three four five six seven = refl

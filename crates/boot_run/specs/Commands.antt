@@ -1,10 +1,12 @@
 -- The words that are a command. This project's own.
 use Rattle.std.specs.Prelude.{ℕ, ◌+◌, ◌-◌, ◌*◌, ◌==◌, ◌&&◌, nat_le, if◌then◌else◌, List, [], ◌∷◌, length, take, drop, Option, Some, None, option_map, option_and_then, codes, bytes_eq, map, Vec, String, string_bytes}
+use Rattle.std.specs.Option.{option_or}
 use Rattle.std.specs.declared.alloc.Global.{Global}
 use Rattle.pico_board.specs.declared.boot.Cpu.{Cpu}
 use Rattle.pico_board.specs.declared.boot.Cpu.TheVariants.{Arm, Riscv}
 use Rattle.pico_board.specs.declared.boot.BootKind.{BootKind}
 use Rattle.pico_board.specs.declared.boot.BootKind.TheVariants.{Normal, Bootsel, Update}
+use Rattle.boot_run.specs.ToolWords.{family_of, number_of}
 
 -- a command, with the names of its files as bytes of text
 pub data Command : Type 0 where
@@ -12,6 +14,11 @@ pub data Command : Type 0 where
   Info : (flash otp : List ℕ) → (cpu : Cpu) → Command
   OwnedData : (flash otp : List ℕ) → (cpu : Cpu) → (kind : BootKind) → Command
   Replay : (flash otp : List ℕ) → (cpu : Cpu) → (script out_flash out_otp : List ℕ) → Command
+  Seal : (binary spec out : List ℕ) → Command
+  Table : (json out : List ℕ) → Command
+  Uf2 : (image : List ℕ) → (family : ℕ) → (out : List ℕ) → Command
+  Plan : (flash otp : List ℕ) → (cpu : Cpu) → (image out : List ℕ) → Command
+  Gen : (n : ℕ) → Command
   Usage : Command
   Release : Command
 
@@ -57,11 +64,34 @@ one_word name =
     else if bytes_eq name (codes "--version") then Some Release
     else None
 
--- the name of a command and three words
-abbrev pub four_words : List ℕ → List ℕ → List ℕ → Option Cpu → Option Command
-four_words name flash otp None = None
-four_words name flash otp (Some cpu) =
+-- the name of a command and one word
+abbrev pub two_words : List ℕ → Option ℕ → Option Command
+two_words name None = None
+two_words name (Some n) = if bytes_eq name (codes "gen") then Some (Gen n) else None
+
+-- the name of a command and two words
+abbrev pub three_words : List ℕ → List ℕ → List ℕ → Option Command
+three_words name first second =
+    if bytes_eq name (codes "table") then Some (Table first second) else None
+
+-- the name of a command on a flash, an OTP and a processor
+abbrev pub board_words : List ℕ → List ℕ → List ℕ → Option Cpu → Option Command
+board_words name flash otp None = None
+board_words name flash otp (Some cpu) =
     if bytes_eq name (codes "info") then Some (Info flash otp cpu) else None
+
+-- the name of a command on an image and a family
+abbrev pub uf2_words : List ℕ → List ℕ → Option ℕ → List ℕ → Option Command
+uf2_words name image None out = None
+uf2_words name image (Some family) out =
+    if bytes_eq name (codes "uf2") then Some (Uf2 image family out) else None
+
+-- the name of a command and three words
+abbrev pub four_words : List ℕ → List ℕ → List ℕ → List ℕ → Option Command
+four_words name first second third =
+    if bytes_eq name (codes "seal") then Some (Seal first second third)
+    else option_or (board_words name first second (cpu_of third))
+    (uf2_words name first (family_of second) third)
 
 -- the name of a command and four words
 abbrev pub five_words : List ℕ → List ℕ → List ℕ → Option Cpu → Option BootKind → Option Command
@@ -71,6 +101,12 @@ five_words name flash otp (Some cpu) (Some kind) =
     if bytes_eq name (codes "boot") then Some (Boot flash otp cpu kind)
     else if bytes_eq name (codes "data") then Some (OwnedData flash otp cpu kind)
     else None
+
+-- the name of a command and five words
+abbrev pub six_words : List ℕ → List ℕ → List ℕ → Option Cpu → List ℕ → List ℕ → Option Command
+six_words name flash otp None image out = None
+six_words name flash otp (Some cpu) image out =
+    if bytes_eq name (codes "plan") then Some (Plan flash otp cpu image out) else None
 
 -- the name of a command and six words
 abbrev pub seven_words : List ℕ → List ℕ → List ℕ → Option Cpu → List ℕ → List ℕ → List ℕ
@@ -83,9 +119,13 @@ seven_words name flash otp (Some cpu) script out_flash out_otp =
 -- the command that the words are; other words are none
 abbrev pub command_of : List (List ℕ) → Option Command
 command_of (name ∷ []) = one_word name
-command_of (name ∷ flash ∷ otp ∷ cpu ∷ []) = four_words name flash otp (cpu_of cpu)
+command_of (name ∷ number ∷ []) = two_words name (number_of number)
+command_of (name ∷ first ∷ second ∷ []) = three_words name first second
+command_of (name ∷ first ∷ second ∷ third ∷ []) = four_words name first second third
 command_of (name ∷ flash ∷ otp ∷ cpu ∷ kind ∷ []) =
     five_words name flash otp (cpu_of cpu) (kind_of kind)
+command_of (name ∷ flash ∷ otp ∷ cpu ∷ image ∷ out ∷ []) =
+    six_words name flash otp (cpu_of cpu) image out
 command_of (name ∷ flash ∷ otp ∷ cpu ∷ script ∷ out_flash ∷ out_otp ∷ []) =
     seven_words name flash otp (cpu_of cpu) script out_flash out_otp
 command_of _ = None

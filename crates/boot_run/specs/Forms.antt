@@ -1,6 +1,6 @@
 -- The forms of input files, and the content that a flash file and an OTP file give. This project's
 -- own.
-use Rattle.std.specs.Prelude.{◌≡◌, ◌≢◌, ◌⊎◌, ℕ, zero, suc, ◌+◌, ◌-◌, ◌*◌, ◌/◌, ◌%◌, ◌^◌, ◌<◌, ◌≤◌, ◌==◌, max, if◌then◌else◌, nat_lt, List, [], ◌∷◌, ◌++◌, length, replicate, All, Option, Some, None, option_map, Result, Ok, Err, true, false, codes}
+use Rattle.std.specs.Prelude.{◌≡◌, ◌≢◌, ◌⊎◌, ℕ, zero, suc, ◌+◌, ◌-◌, ◌*◌, ◌/◌, ◌%◌, ◌^◌, ◌<◌, ◌≤◌, ◌==◌, max, if◌then◌else◌, nat_lt, List, [], ◌∷◌, ◌++◌, length, replicate, All, Option, Some, None, option_map, Result, Ok, Err, false, codes}
 use Rattle.pico_board.specs.Content.{Content}
 use Rattle.pico_board.specs.Rows.{IsFirstWide}
 use Rattle.block_codec.specs.Words.{words_of}
@@ -9,15 +9,22 @@ use Rattle.boot_script.specs.Events.{Happening, End}
 use Rattle.boot_script.specs.Reading.{event_at}
 use Rattle.boot_script.specs.Scripts.{is_end, events}
 use Rattle.boot_run.specs.declared.forms.Form.{Form}
-use Rattle.boot_run.specs.declared.forms.Form.TheVariants.{Flash, Otp, Script}
-use Rattle.boot_run.specs.declared.forms.TheConstants.{FLASH_LIMIT, OTP_LIMIT, SCRIPT_LIMIT, RECORD_LIMIT}
+use Rattle.boot_run.specs.declared.forms.Form.TheVariants.{Flash, Otp, Script, Binary, Spec, Json, Image}
+use Rattle.boot_run.specs.declared.forms.TheConstants.{FLASH_LIMIT, OTP_LIMIT, SCRIPT_LIMIT, RECORD_LIMIT, BINARY_LIMIT, JSON_LIMIT, IMAGE_LIMIT}
+use Rattle.image_pack.specs.declared.spec.SealSpec.{SealSpec}
+use Rattle.part_table.specs.declared.table.Table.{Table}
 use Rattle.boot_run.specs.Texts.{hex_row, script_text}
+use Rattle.boot_run.specs.Jsons.{IsSpecText, IsTableText, IsSpecFault, IsTableFault, IsTextFault, spec_read, table_read, read_fault}
 
 -- the greatest length of a file of the form, in bytes
 abbrev pub limit_of : Form → ℕ
 limit_of Flash = FLASH_LIMIT
 limit_of Otp = OTP_LIMIT
 limit_of Script = SCRIPT_LIMIT
+limit_of Binary = BINARY_LIMIT
+limit_of Spec = JSON_LIMIT
+limit_of Json = JSON_LIMIT
+limit_of Image = IMAGE_LIMIT
 
 -- the rows of an OTP file: each word of four bytes is one, the lowest byte first
 abbrev pub rows_of : List ℕ → List ℕ
@@ -56,12 +63,17 @@ pub record IsEndless (most : ℕ) (bytes : List ℕ) (at : ℕ) : Type 0 where
   pub before : AreRecords bytes at happened last
 
 -- a file has its form: a flash file is not empty, an OTP file is of whole rows of 24 bits, a script
--- has an end among its first records, with no fault before it, and none of them is too long
+-- has an end among its first records, with no fault before it, a JSON text gives a spec or a table,
+-- and none of them is too long; of a binary and an image nothing else is asked
 abbrev pub HasForm : Form → List ℕ → Type 0
 HasForm Flash bytes = (bytes ≢ []) × (length bytes ≤ FLASH_LIMIT)
 HasForm Otp bytes =
     (length bytes ≤ OTP_LIMIT) × (length bytes % 4 ≡ 0) × All (λ row. row < 2 ^ 24) (rows_of bytes)
 HasForm Script bytes = (length bytes ≤ SCRIPT_LIMIT) × IsEnded RECORD_LIMIT bytes 0
+HasForm Binary bytes = length bytes ≤ BINARY_LIMIT
+HasForm Spec bytes = (length bytes ≤ JSON_LIMIT) × ((spec : SealSpec) × IsSpecText bytes spec)
+HasForm Json bytes = (length bytes ≤ JSON_LIMIT) × ((table : Table) × IsTableText bytes table)
+HasForm Image bytes = length bytes ≤ IMAGE_LIMIT
 
 -- a file is too long, and this is its fault
 abbrev pub IsTooLarge : Form → List ℕ → List ℕ → Type 0
@@ -69,7 +81,8 @@ IsTooLarge form bytes fault = (limit_of form < length bytes) × (fault ≡ codes
 
 -- the fault of a file that is not too long: a flash file is empty; an OTP file has a part of a row
 -- at its end, or has a row of more bits, of which the least is named; a script has a fault among
--- its first records, or these have neither a fault nor an end
+-- its first records, or these have neither a fault nor an end; a JSON text has the first fault by
+-- the rules of a spec or a table; a binary and an image have none
 abbrev pub IsOwnFault : Form → List ℕ → List ℕ → Type 0
 IsOwnFault Flash bytes fault = (bytes ≡ []) × (fault ≡ codes "empty")
 IsOwnFault Otp bytes fault =
@@ -79,6 +92,10 @@ IsOwnFault Otp bytes fault =
 IsOwnFault Script bytes text =
     ((fault : ScriptFault) × IsUnread RECORD_LIMIT bytes 0 fault × (text ≡ script_text fault))
     ⊎ (IsEndless RECORD_LIMIT bytes 0 × (text ≡ codes "script too-many"))
+IsOwnFault Binary bytes fault = ⊥
+IsOwnFault Spec bytes fault = IsTextFault IsSpecFault bytes fault
+IsOwnFault Json bytes fault = IsTextFault IsTableFault bytes fault
+IsOwnFault Image bytes fault = ⊥
 
 -- why a file does not have its form: that it is too long comes first
 abbrev pub IsFault : Form → List ℕ → List ℕ → Type 0
@@ -124,6 +141,10 @@ own_fault Flash [] = Some (codes "empty")
 own_fault Flash (b ∷ bytes) = None
 own_fault Otp bytes = otp_fault bytes
 own_fault Script bytes = script_fault RECORD_LIMIT bytes 0
+own_fault Binary bytes = None
+own_fault Spec bytes = read_fault (spec_read bytes)
+own_fault Json bytes = read_fault (table_read bytes)
+own_fault Image bytes = None
 
 -- the fault of a file
 abbrev pub form_fault : Form → List ℕ → Option (List ℕ)

@@ -7,12 +7,15 @@ use Rattle.pico_board.specs.Files.{File, file_of}
 use Rattle.boot_run.specs.declared.status.Status.{Status}
 use Rattle.boot_run.specs.declared.status.Status.TheVariants.{Done, Words, Input as Refused, Bootsel, ReadFault, WriteFault, OutputFault, Memory}
 use Rattle.boot_run.specs.declared.forms.Form.{Form}
-use Rattle.boot_run.specs.declared.forms.Form.TheVariants.{Flash, Otp, Script}
+use Rattle.boot_run.specs.declared.forms.Form.TheVariants.{Flash, Otp, Script, Binary, Spec, Json, Image}
 use Rattle.pico_board.specs.declared.boot.Cpu.{Cpu}
-use Rattle.boot_run.specs.Commands.{Command, Boot, Info, OwnedData, Replay, Usage, Release}
+use Rattle.boot_run.specs.Commands.{Command, Boot, Info, OwnedData, Replay, Seal, Table, Usage, Release, Uf2, Plan, Gen}
 use Rattle.boot_run.specs.Forms.{form_fault, content_of}
+use Rattle.boot_run.specs.Jsons.{spec_read, table_read}
+use Rattle.boot_run.specs.Tools.{seal_work, table_work}
 use Rattle.boot_run.specs.Texts.{input_line, usage_text, release_line}
 use Rattle.boot_run.specs.Works.{Work, Answers, Refuses, boot_work, info_work, data_work, replay_work}
+use Rattle.boot_run.specs.ToolWorks.{uf2_files, plan_files, gen_work}
 
 -- the status, the text that is put, and the files that are written
 pub record Outcome : Type 0 where
@@ -48,12 +51,36 @@ flash_otp_script flash otp script =
     record { name = flash; form = Flash } ∷ record { name = otp; form = Otp }
     ∷ record { name = script; form = Script } ∷ []
 
+-- a binary and a spec
+abbrev pub binary_and_spec : List ℕ → List ℕ → List Input
+binary_and_spec binary spec =
+    record { name = binary; form = Binary } ∷ record { name = spec; form = Spec } ∷ []
+
+-- a table's text
+abbrev pub one_json : List ℕ → List Input
+one_json json = record { name = json; form = Json } ∷ []
+
+-- an image
+abbrev pub image_alone : List ℕ → List Input
+image_alone image = record { name = image; form = Image } ∷ []
+
+-- a flash file, an OTP file and an image
+abbrev pub flash_otp_image : List ℕ → List ℕ → List ℕ → List Input
+flash_otp_image flash otp image =
+    record { name = flash; form = Flash } ∷ record { name = otp; form = Otp }
+    ∷ record { name = image; form = Image } ∷ []
+
 -- the inputs of a command, in word order
 abbrev pub inputs_of : Command → List Input
 inputs_of (Boot flash otp cpu kind) = flash_and_otp flash otp
 inputs_of (Info flash otp cpu) = flash_and_otp flash otp
 inputs_of (OwnedData flash otp cpu kind) = flash_and_otp flash otp
 inputs_of (Replay flash otp cpu script out_flash out_otp) = flash_otp_script flash otp script
+inputs_of (Seal binary spec out) = binary_and_spec binary spec
+inputs_of (Table json out) = one_json json
+inputs_of (Uf2 image family out) = image_alone image
+inputs_of (Plan flash otp cpu image out) = flash_otp_image flash otp image
+inputs_of (Gen n) = []
 inputs_of Usage = []
 inputs_of Release = []
 
@@ -67,6 +94,11 @@ content_work (Boot flash otp cpu kind) c = boot_work c cpu kind
 content_work (Info flash otp cpu) c = info_work c cpu
 content_work (OwnedData flash otp cpu kind) c = data_work c cpu kind
 content_work (Replay flash otp cpu script out_flash out_otp) c = nothing
+content_work (Seal binary spec out) c = nothing
+content_work (Table json out) c = nothing
+content_work (Uf2 image family out) c = nothing
+content_work (Plan flash otp cpu image out) c = nothing
+content_work (Gen n) c = nothing
 content_work Usage c = nothing
 content_work Release c = nothing
 
@@ -81,6 +113,16 @@ script_work cpu out_flash out_otp (f ∷ o ∷ s ∷ []) =
     replay_work (content_of f o) cpu s out_flash out_otp
 script_work cpu out_flash out_otp _ = nothing
 
+-- the work of a sealing on the bytes of its inputs
+abbrev pub sealing_work : List ℕ → List ℕ → List ℕ → List (List ℕ) → Work
+sealing_work binary spec out (b ∷ s ∷ []) = seal_work binary spec out b (spec_read s)
+sealing_work binary spec out _ = nothing
+
+-- the work of a table on the bytes of its input
+abbrev pub tabling_work : List ℕ → List (List ℕ) → Work
+tabling_work out (j ∷ []) = table_work out (table_read j)
+tabling_work out _ = nothing
+
 -- the work of a command on the bytes of its inputs
 abbrev pub work_of : Command → List (List ℕ) → Work
 work_of (Boot flash otp cpu kind) read = files_work (Boot flash otp cpu kind) read
@@ -88,6 +130,11 @@ work_of (Info flash otp cpu) read = files_work (Info flash otp cpu) read
 work_of (OwnedData flash otp cpu kind) read = files_work (OwnedData flash otp cpu kind) read
 work_of (Replay flash otp cpu script out_flash out_otp) read =
     script_work cpu out_flash out_otp read
+work_of (Seal binary spec out) read = sealing_work binary spec out read
+work_of (Table json out) read = tabling_work out read
+work_of (Uf2 image family out) read = uf2_files image family out read
+work_of (Plan flash otp cpu image out) read = plan_files cpu image out read
+work_of (Gen n) read = gen_work n
 work_of Usage read = Answers false usage_text []
 work_of Release read = Answers false release_line []
 

@@ -6,6 +6,7 @@ use Rattle.pico_board.specs.declared.boot.Cpu.{Cpu}
 use Rattle.pico_board.specs.declared.boot.BootKind.{BootKind}
 use Rattle.pico_board.specs.declared.window.Window.{Window}
 use Rattle.pico_board.specs.Content.{Content}
+use Rattle.pico_board.specs.Puts.{IsPut, SinkState}
 use Rattle.image_def.specs.declared.started.Started.{Started}
 use Rattle.image_check.specs.declared.why.Why.{Why}
 use Rattle.image_check.specs.Valid.{Valid}
@@ -23,13 +24,16 @@ use Rattle.boot_machine.specs.Machines.{Machine}
 use Rattle.boot_machine.specs.Moves.{Plays}
 use Rattle.boot_run.specs.declared.status.Status.{Status}
 use Rattle.boot_run.specs.declared.status.Status.TheVariants.{Done, Bootsel}
-use Rattle.boot_run.specs.declared.forms.Form.TheVariants.{Flash, Otp, Script}
-use Rattle.boot_run.specs.Commands.{Command, Boot, Info, OwnedData, Replay, Usage, Release}
+use Rattle.boot_run.specs.declared.forms.Form.TheVariants.{Flash, Otp, Script, Binary, Spec, Json}
+use Rattle.boot_run.specs.Commands.{Command, Boot, Info, OwnedData, Replay, Seal, Table, Usage, Release, Uf2, Plan, Gen}
 use Rattle.boot_run.specs.Forms.{HasForm, IsFault, content_of}
 use Rattle.boot_run.specs.Texts.{line, decision_line, table_text, valid_text, invalid_text, usage_text, release_line, event_lines, end_line}
 use Rattle.boot_run.specs.Replays.{AreOfBytes, powerless}
 use Rattle.boot_run.specs.Works.{windows_in, decided_data, data_line, content_files}
 use Rattle.boot_run.specs.Outcome.{Outcome, Input, inputs_of, refused}
+use Rattle.boot_run.specs.Seals.{IsUnsealed}
+use Rattle.boot_run.specs.SealRules.{IsSealOf, IsTableOf}
+use Rattle.boot_run.specs.ToolRules.{IsUf2Fault, IsUf2Of, IsPlanFault, IsPlanOf, IsGenOf}
 
 -- the first input in word order that does not have its form has this name, and its bytes have this
 -- fault
@@ -45,10 +49,26 @@ AreFormed [] [] = ⊤
 AreFormed (input ∷ inputs) (bytes ∷ read) = HasForm input.form bytes × AreFormed inputs read
 AreFormed _ _ = ⊥
 
--- an input of the command breaks its form
+-- the work of a command refuses the input of this name with this fault
+abbrev pub IsRefusedWork : Command → List (List ℕ) → List ℕ → List ℕ → Type 0
+IsRefusedWork (Seal binary spec out) (b ∷ s ∷ []) name fault =
+    IsUnsealed binary spec b s name fault
+IsRefusedWork (Uf2 image family out) (i ∷ []) name fault = (name ≡ image) × IsUf2Fault i fault
+IsRefusedWork (Plan flash otp cpu image out) (f ∷ g ∷ i ∷ []) name fault =
+    (name ≡ image) × IsPlanFault (content_of f g) cpu i fault
+IsRefusedWork _ _ name fault = ⊥
+
+-- the input of this name is refused with this fault: it is the first that breaks its form, or all
+-- have their forms and the work refuses it
+abbrev pub IsRefusedFor : Command → List (List ℕ) → List ℕ → List ℕ → Type 0
+IsRefusedFor command read name fault =
+    IsFirstFault (inputs_of command) read name fault
+    ⊎ (AreFormed (inputs_of command) read × IsRefusedWork command read name fault)
+
+-- an input of the command is refused
 abbrev pub IsRefused : Command → List (List ℕ) → Type 0
 IsRefused command read =
-    (name : List ℕ) × (fault : List ℕ) × IsFirstFault (inputs_of command) read name fault
+    (name : List ℕ) × (fault : List ℕ) × IsRefusedFor command read name fault
 
 -- the outcome names the first input that breaks its form, with its fault
 abbrev pub IsRefusal : List Input → List (List ℕ) → Outcome → Type 0
@@ -56,10 +76,23 @@ IsRefusal inputs read o =
     (name : List ℕ) × (fault : List ℕ) × IsFirstFault inputs read name fault
     × (o ≡ refused name fault)
 
+-- the outcome names the input that is refused, with its fault; otherwise each input has its form,
+-- and the outcome is right
+abbrev pub IsWorked : Command → List (List ℕ) → (Outcome → Type 0) → Outcome → Type 0
+IsWorked command read Right o =
+    ((name : List ℕ) × (fault : List ℕ) × IsRefusedFor command read name fault
+    × (o ≡ refused name fault))
+    ⊎ (AreFormed (inputs_of command) read × Right o)
+
 -- the status of a decision
 abbrev pub decided_status : Decision → Status
 decided_status (Start choice) = Done
 decided_status (FallsToBootsel fall) = Bootsel
+
+-- a run named a decision: it ended with its status, and put its line
+abbrev pub Names : Decision → Status → SinkState → SinkState → Type 0
+Names d status before after =
+    (status ≡ decided_status d) × IsPut before.bytes (decision_line d) after.bytes
 
 -- the files have their forms, and the rules name a fall to BOOTSEL
 pub record FallsOn (f g : List ℕ) (cpu : Cpu) (kind : BootKind) : Type 0 where
@@ -148,6 +181,17 @@ Obeys (Replay flash otp cpu script out_flash out_otp) (f ∷ g ∷ s ∷ []) o =
     IsRefusal (inputs_of (Replay flash otp cpu script out_flash out_otp)) (f ∷ g ∷ s ∷ []) o
     ⊎ (HasForm Flash f × HasForm Otp g × HasForm Script s
     × IsReplayOf (content_of f g) cpu s out_flash out_otp o)
+Obeys (Seal binary spec out) (b ∷ s ∷ []) o =
+    IsRefusal (inputs_of (Seal binary spec out)) (b ∷ s ∷ []) o
+    ⊎ (HasForm Binary b × HasForm Spec s × IsSealOf binary spec out b s o)
+Obeys (Table json out) (j ∷ []) o =
+    IsRefusal (inputs_of (Table json out)) (j ∷ []) o ⊎ (HasForm Json j × IsTableOf out j o)
+Obeys (Uf2 image family out) (i ∷ []) o =
+    IsWorked (Uf2 image family out) (i ∷ []) (IsUf2Of i family out) o
+Obeys (Plan flash otp cpu image out) (f ∷ g ∷ i ∷ []) o =
+    IsWorked (Plan flash otp cpu image out) (f ∷ g ∷ i ∷ [])
+    (IsPlanOf (content_of f g) cpu i out) o
+Obeys (Gen n) [] o = IsGenOf n o
 Obeys Usage [] o = Tells usage_text o
 Obeys Release [] o = Tells release_line o
 Obeys _ _ o = ⊥

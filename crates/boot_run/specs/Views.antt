@@ -9,7 +9,7 @@ use Rattle.boot_run.specs.declared.course.OutFile.{OutFile}
 use Rattle.boot_run.specs.declared.course.Answer.{Answer}
 use Rattle.boot_run.specs.declared.words.CommandWords.{CommandWords}
 use Rattle.boot_run.specs.declared.words.CommandWords.TheVariants as words
-use Rattle.boot_run.specs.Commands.{Command, Boot, Info, OwnedData, Replay, Usage, Release}
+use Rattle.boot_run.specs.Commands.{Command, Boot, Info, OwnedData, Replay, Seal, Table, Usage, Release, Uf2, Plan, Gen}
 use Rattle.boot_run.specs.Outcome.{Input, Outcome}
 
 -- an input, with its name as text
@@ -36,6 +36,12 @@ command_from (words.Info flash otp cpu) = Info flash.now otp.now cpu
 command_from (words.OwnedData flash otp cpu kind) = OwnedData flash.now otp.now cpu kind
 command_from (words.Replay flash otp cpu script out_flash out_otp) =
     Replay flash.now otp.now cpu script.now out_flash.now out_otp.now
+command_from (words.Seal binary spec out) = Seal binary.now spec.now out.now
+command_from (words.Table json out) = Table json.now out.now
+command_from (words.Uf2 image family out) = Uf2 image.now family out.now
+command_from (words.Plan flash otp cpu image out) =
+    Plan flash.now otp.now cpu image.now out.now
+command_from (words.Gen n) = Gen n
 command_from words.Usage = Usage
 command_from words.Release = Release
 

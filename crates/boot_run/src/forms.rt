@@ -8,6 +8,7 @@ ghost use Rattle.boot_script.specs.Scripts.{is_end};
 ghost use Rattle.boot_run.specs.declared.forms.TheConstants.{RECORD_LIMIT};
 ghost use Rattle.boot_run.specs.Forms.{limit_of, form_fault, otp_fault, own_fault, script_fault, wide_from, rows_of, HasForm, filled, filled_length, otp_of};
 
+use crate::json::{spec_fault, table_fault};
 use crate::text::script_text;
 use boot_script::{Event, next_event};
 use byteorder::{ByteOrder, LittleEndian};
@@ -23,8 +24,17 @@ pub const OTP_LIMIT: u32 = 16_384;
 /// The greatest script, in bytes.
 pub const SCRIPT_LIMIT: u32 = 67_108_864;
 
+/// The greatest image, in bytes.
+pub const IMAGE_LIMIT: u32 = 16_777_216;
+
 /// The greatest number of records of a script, with its end.
 pub const RECORD_LIMIT: u32 = 524_288;
+
+/// The greatest binary, in bytes.
+pub const BINARY_LIMIT: u32 = 16_777_216;
+
+/// The greatest JSON text, in bytes.
+pub const JSON_LIMIT: u32 = 65_536;
 
 /// The form of an input file.
 #[derive(Clone, Copy, PartialEq, Eq, Debug)]
@@ -35,6 +45,14 @@ pub enum Form {
     Otp,
     /// The records of a script, up to its end.
     Script,
+    /// Any bytes, of which an image is made.
+    Binary,
+    /// The JSON text of the spec of a sealed image.
+    Spec,
+    /// The JSON text of a partition table.
+    Json,
+    /// The bytes of an image.
+    Image,
 }
 
 impl Form {
@@ -46,6 +64,9 @@ impl Form {
             Form::Flash => FLASH_LIMIT,
             Form::Otp => OTP_LIMIT,
             Form::Script => SCRIPT_LIMIT,
+            Form::Binary => BINARY_LIMIT,
+            Form::Spec | Form::Json => JSON_LIMIT,
+            Form::Image => IMAGE_LIMIT,
         }
     }
 }
@@ -129,6 +150,10 @@ fn own_fault(alloc: Global, form: Form, file: &[u8]) -> Result<Option<String>, A
         Form::Flash => Ok(None),
         Form::Otp => otp_fault(alloc, file),
         Form::Script => script_fault(alloc, file),
+        Form::Binary => Ok(None),
+        Form::Spec => spec_fault(alloc, file),
+        Form::Json => table_fault(alloc, file),
+        Form::Image => Ok(None),
     }
 }
 

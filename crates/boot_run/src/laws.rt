@@ -62,8 +62,8 @@ pub fn outcomes_are_right()
         → Obeys command read (outcome_on (Some command) files) }
 {}
 
-/// The status is Input exactly where an input breaks its form, and Bootsel exactly where a boot
-/// that was asked for falls.
+/// The status is Input exactly where an input breaks its form, or each has its form and the work
+/// refuses one, and Bootsel exactly where a boot that was asked for falls.
 pub fn statuses_come_exactly()
     ensures input { (command : Command) (read : List (List ℕ))
         → length read ≡ length (inputs_of command)

@@ -4,6 +4,12 @@ ghost use Rattle.std.specs.Prelude.{◌≡◌, ◌⊎◌, ◌↔◌, ℕ, List, 
 ghost use Rattle.pico_board.specs.declared.boot.Cpu.{Cpu};
 ghost use Rattle.pico_board.specs.declared.boot.BootKind.{BootKind};
 ghost use Rattle.pico_board.specs.Board.{Rose};
+ghost use Rattle.pico_board.specs.Content.{Content};
+ghost use Rattle.pico_board.specs.Steps.{after_all};
+ghost use Rattle.pico_board.specs.declared.Step.{Step};
+ghost use Rattle.pico_board.specs.declared.boot.BootKind.TheVariants.{Normal};
+ghost use Rattle.pico_board.specs.declared.window.Window.{Window};
+ghost use Rattle.boot_sweep.specs.Results.{CutSession, StartsFinished};
 ghost use Rattle.pico_board.specs.Files.{File, file_of};
 ghost use Rattle.pico_board.specs.Puts.{IsPut};
 ghost use Rattle.image_check.specs.NotBelow.{NotBelow};
@@ -16,7 +22,7 @@ ghost use Rattle.boot_run.specs.Forms.{HasForm, content_of};
 ghost use Rattle.boot_run.specs.Texts.{decision_line};
 ghost use Rattle.boot_run.specs.Outcome.{Outcome, inputs_of, inputs_in, outcome_in, outcome_on, command_outcome, is_finished};
 ghost use Rattle.boot_run.specs.Courses.{Runs};
-ghost use Rattle.boot_run.specs.Rules.{Obeys, IsRefused, decided_status};
+ghost use Rattle.boot_run.specs.Rules.{Names, Obeys, IsRefused, decided_status};
 ghost use Rattle.boot_run.specs.Ends.{Does, IsAsTold, LacksOne, IsCutShort, IsPutShort};
 ghost use Rattle.boot_run.specs.Views.{command_from};
 
@@ -74,7 +80,8 @@ fn run_words<S: Store, K: Sink>(
 /// The answer is the status with which the program ends.
 ///
 /// `Words`: the words are no command. `Input`: the line names the first input, in word order, that
-/// breaks its form. `Bootsel`: a boot that was asked for falls to BOOTSEL. `ReadFault`,
+/// breaks its form, or where each has its form the one that the work refuses. `Bootsel`: a boot
+/// that was asked for falls to BOOTSEL. `ReadFault`,
 /// `WriteFault` and `OutputFault`: the count of read faults, of write faults or of the sink's
 /// faults rose. `Memory`: there was no memory; it may come anywhere.
 pub fn run<S: Store, K: Sink>(
@@ -96,9 +103,23 @@ pub fn run<S: Store, K: Sink>(
         × IsPut (K.state out.old).bytes (decision_line d) (K.state out.new).bytes
         × ((choice : Choice) → d ≡ Start choice → NotBelow (content_of f g).otp choice.image) }
 
+    // The second half of the headline, on told files of what lost power left: after a gated session
+    // on one slot of a pair, cut before or within any erase or page program, a normal boot names
+    // the former answer, or the finished image, which is there whole.
+    ensures session { (flash otp f g : List ℕ) (cpu : Cpu) (files : List File) (c : Content)
+        (w : Window) (steps : List Step) (former : Decision)
+        → asked words.now ≡ Some (Boot flash otp cpu Normal)
+        → (S.state store.old).files ≡ Some files
+        → file_of files flash ≡ Some f → file_of files otp ≡ Some g → HasForm Form.Flash f
+        → HasForm Form.Otp g
+        → is_finished result ≡ true → CutSession c w cpu steps (content_of f g) former
+        → Names former result (K.state out.old) (K.state out.new)
+        ⊎ ((whole : StartsFinished (after_all c steps) (content_of f g) cpu)
+        × Names (Start whole.choice) result (K.state out.old) (K.state out.new)) }
+
     // What the rules say, on every store: the run read some bytes, and the text that it put, its
     // files and its status are right for the command on those bytes. `Input` comes exactly where
-    // one of them breaks its form.
+    // one of them breaks its form, or each has its form and the work refuses one.
     ensures obeys { (command : Command) → asked words.now ≡ Some command → is_finished result ≡ true
         → (read : List (List ℕ)) × (o : Outcome) × Obeys command read o × (result ≡ o.status)
         × ((result ≡ Status.Input) ↔ IsRefused command read)

@@ -513,7 +513,12 @@ struct Cramped {}
 impl Store for Cramped {
     ghost use Rattle.std.specs.Prelude.{None, false};
 
-    ghost state = { λ cramped. record { files = None; read_faults = 0; write_faults = 0; steady = false } };
+    ghost state = { λ cramped. record {
+      files = None;
+      read_faults = 0;
+      write_faults = 0;
+      steady = false;
+    } };
 
     ghost history = { λ cramped calls. Unit {0} };
 

@@ -42,7 +42,7 @@ fn hex_text(alloc: Global, n: u32) -> Result<String, AllocError>
 }
 
 /// A window: its start and its length.
-fn place_text(alloc: Global, window: Window) -> Result<String, AllocError>
+pub fn place_text(alloc: Global, window: Window) -> Result<String, AllocError>
     ensures { IfOk result (λ t. string_bytes t ≡ window_text window) }
 {
     let start = hex_text(alloc, window.start)?;

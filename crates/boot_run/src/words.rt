@@ -1,9 +1,11 @@
 //! The words that are a command.
 
 ghost use Rattle.std.specs.Prelude.{◌≡◌, ◌≢◌, ◌<◌, ◌≤◌, length, IfSome, option_map, map, string_bytes};
-ghost use Rattle.boot_run.specs.Commands.{command_of, cpu_of, kind_of, hex_digit, hex_value, update_base, one_word, four_words, five_words, seven_words};
+ghost use Rattle.boot_run.specs.Commands.{command_of, cpu_of, kind_of, hex_digit, hex_value, update_base, one_word, three_words, board_words, four_words, five_words, seven_words, two_words, uf2_words, six_words};
+ghost use Rattle.boot_run.specs.ToolWords.{family_of, number_of};
 ghost use Rattle.boot_run.specs.Views.{command_from};
 
+use crate::values::{family_word, number_word};
 use pico_board::{BootKind, Cpu};
 
 /// A command, with the words that name its files.
@@ -37,6 +39,35 @@ pub enum CommandWords<'a> {
         script: &'a str,
         out_flash: &'a str,
         out_otp: &'a str,
+    },
+    /// The sealed image of a binary.
+    Seal {
+        binary: &'a str,
+        spec: &'a str,
+        out: &'a str,
+    },
+    /// The partition table of a text.
+    Table {
+        json: &'a str,
+        out: &'a str,
+    },
+    /// The UF2 file of an image.
+    Uf2 {
+        image: &'a str,
+        family: u32,
+        out: &'a str,
+    },
+    /// The script that writes an image.
+    Plan {
+        flash: &'a str,
+        otp: &'a str,
+        cpu: Cpu,
+        image: &'a str,
+        out: &'a str,
+    },
+    /// The flash of a number.
+    Gen {
+        n: u32,
     },
     /// How the program is used.
     Usage,
@@ -122,16 +153,80 @@ fn one_word(name: &str) -> Option<CommandWords<'static>>
     }
 }
 
-/// The command of four words.
-fn four_words<'a>(name: &str, flash: &'a str, otp: &'a str, cpu: &str) -> Option<CommandWords<'a>>
+/// The command of two words.
+fn two_words(name: &str, number: &str) -> Option<CommandWords<'static>>
+    ensures { option_map command_from result ≡ two_words name.now (number_of number.now) }
+{
+    let n = number_word(number)?;
+    if name == "gen" {
+        Some(CommandWords::Gen { n })
+    } else {
+        None
+    }
+}
+
+/// The command of three words.
+fn three_words<'a>(name: &str, first: &'a str, second: &'a str) -> Option<CommandWords<'a>>
     ensures { option_map command_from result
-        ≡ four_words name.now flash.entry.now otp.entry.now (cpu_of cpu.now) }
+        ≡ three_words name.now first.entry.now second.entry.now }
+{
+    if name == "table" {
+        Some(CommandWords::Table {
+            json: first,
+            out: second,
+        })
+    } else {
+        None
+    }
+}
+
+/// The command of an image and a family.
+fn uf2_words<'a>(name: &str, image: &'a str, family: &str, out: &'a str) -> Option<CommandWords<'a>>
+    ensures { option_map command_from result
+        ≡ uf2_words name.now image.entry.now (family_of family.now) out.entry.now }
+{
+    let family = family_word(family)?;
+    if name == "uf2" {
+        Some(CommandWords::Uf2 { image, family, out })
+    } else {
+        None
+    }
+}
+
+/// The command of a flash, an OTP and a processor.
+fn board_words<'a>(name: &str, flash: &'a str, otp: &'a str, cpu: &str) -> Option<CommandWords<'a>>
+    ensures { option_map command_from result
+        ≡ board_words name.now flash.entry.now otp.entry.now (cpu_of cpu.now) }
 {
     let cpu = cpu_word(cpu)?;
     if name == "info" {
         Some(CommandWords::Info { flash, otp, cpu })
     } else {
         None
+    }
+}
+
+/// The command of four words.
+fn four_words<'a>(
+    name: &str,
+    first: &'a str,
+    second: &'a str,
+    third: &'a str,
+) -> Option<CommandWords<'a>>
+    ensures { option_map command_from result
+        ≡ four_words name.now first.entry.now second.entry.now third.entry.now }
+{
+    if name == "seal" {
+        Some(CommandWords::Seal {
+            binary: first,
+            spec: second,
+            out: third,
+        })
+    } else {
+        match board_words(name, first, second, third) {
+            Some(command) => Some(command),
+            None => uf2_words(name, first, second, third),
+        }
     }
 }
 
@@ -167,6 +262,33 @@ fn five_words<'a>(
     }
 }
 
+/// The command of six words.
+fn six_words<'a>(
+    name: &str,
+    flash: &'a str,
+    otp: &'a str,
+    cpu: &str,
+    image: &'a str,
+    out: &'a str,
+) -> Option<CommandWords<'a>>
+    ensures { option_map command_from result
+        ≡ six_words name.now flash.entry.now otp.entry.now (cpu_of cpu.now) image.entry.now
+        out.entry.now }
+{
+    let cpu = cpu_word(cpu)?;
+    if name == "plan" {
+        Some(CommandWords::Plan {
+            flash,
+            otp,
+            cpu,
+            image,
+            out,
+        })
+    } else {
+        None
+    }
+}
+
 /// The command of seven words.
 fn seven_words<'a>(
     name: &str,
@@ -196,15 +318,18 @@ fn seven_words<'a>(
     }
 }
 
-/// The command of words that are not one, not four and not five.
+/// The command of words that are more than five, or none.
 #[tactic(auto, using(crate::proofs::WordLemmas::no_command))]
-fn seven_or_none(words: &[String]) -> Option<CommandWords<'_>>
+fn six_or_more(words: &[String]) -> Option<CommandWords<'_>>
     requires not_one { length words.now ≢ 1 }
+    requires not_two { length words.now ≢ 2 }
+    requires not_three { length words.now ≢ 3 }
     requires not_four { length words.now ≢ 4 }
     requires not_five { length words.now ≢ 5 }
     ensures { option_map command_from result ≡ command_of (map string_bytes words.entry.now) }
 {
     match words {
+        [name, flash, otp, cpu, image, out] => six_words(name, flash, otp, cpu, image, out),
         [name, flash, otp, cpu, script, out_flash, out_otp] => {
             seven_words(name, flash, otp, cpu, script, out_flash, out_otp)
         }
@@ -212,26 +337,17 @@ fn seven_or_none(words: &[String]) -> Option<CommandWords<'_>>
     }
 }
 
-/// The command of words that are not one and not four.
-fn five_or_seven(words: &[String]) -> Option<CommandWords<'_>>
+/// The command of words that are not one and not two.
+fn three_or_more(words: &[String]) -> Option<CommandWords<'_>>
     requires not_one { length words.now ≢ 1 }
-    requires not_four { length words.now ≢ 4 }
+    requires not_two { length words.now ≢ 2 }
     ensures { option_map command_from result ≡ command_of (map string_bytes words.entry.now) }
 {
     match words {
+        [name, first, second] => three_words(name, first, second),
+        [name, first, second, third] => four_words(name, first, second, third),
         [name, flash, otp, cpu, kind] => five_words(name, flash, otp, cpu, kind),
-        _ => seven_or_none(words),
-    }
-}
-
-/// The command of words that are not one.
-fn four_or_five(words: &[String]) -> Option<CommandWords<'_>>
-    requires { length words.now ≢ 1 }
-    ensures { option_map command_from result ≡ command_of (map string_bytes words.entry.now) }
-{
-    match words {
-        [name, flash, otp, cpu] => four_words(name, flash, otp, cpu),
-        _ => five_or_seven(words),
+        _ => six_or_more(words),
     }
 }
 
@@ -241,6 +357,7 @@ pub fn command(words: &[String]) -> Option<CommandWords<'_>>
 {
     match words {
         [name] => one_word(name),
-        _ => four_or_five(words),
+        [name, number] => two_words(name, number),
+        _ => three_or_more(words),
     }
 }

@@ -4,15 +4,20 @@ ghost use Rattle.std.specs.Prelude.{◌≡◌, ◌≢◌, ◌∷◌, [], List, �
 ghost use Rattle.pico_board.specs.MemBoard.{state_of};
 ghost use Rattle.boot_run.specs.Forms.{HasForm};
 ghost use Rattle.boot_run.specs.Works.{Answers};
-ghost use Rattle.boot_run.specs.Outcome.{content_work, files_work, first_fault, refused, worked, work_of, command_outcome, inputs_of, flash_and_otp, flash_otp_script, script_work};
+ghost use Rattle.boot_run.specs.Outcome.{content_work, files_work, first_fault, refused, worked, work_of, command_outcome, inputs_of, flash_and_otp, flash_otp_script, script_work, binary_and_spec, one_json, sealing_work, tabling_work, image_alone, flash_otp_image};
 ghost use Rattle.boot_run.specs.Views.{input_from, outcome_from, command_from, bytes_of};
 
+use crate::answers::{refusal, three, told};
 use crate::boards::{boot_answer, data_answer, info_answer};
 use crate::course::{Answer, InputWord};
 use crate::forms::{Form, board_of, form_fault};
+use crate::generating::gen_answer;
+use crate::planning::plan_work;
 use crate::replay::replay_answer;
 use crate::status::Status;
 use crate::text::fault_text;
+use crate::tools::{seal_answer, table_answer};
+use crate::uf2_files::uf2_work;
 use crate::usage::{release, usage};
 use crate::words::CommandWords;
 use pico_board::{Cpu, MemBoard};
@@ -64,6 +69,74 @@ fn flash_otp_script<'a>(
     Ok(vec![in alloc; flash, otp, script]?)
 }
 
+/// A binary and a spec as inputs.
+fn binary_and_spec<'a>(
+    alloc: Global,
+    binary: &'a str,
+    spec: &'a str,
+) -> Result<Vec<InputWord<'a>>, AllocError>
+    ensures { IfOk result
+        (λ inputs. map input_from inputs.items ≡ binary_and_spec binary.entry.now spec.entry.now) }
+{
+    let binary = InputWord {
+        name: binary,
+        form: Form::Binary,
+    };
+    let spec = InputWord {
+        name: spec,
+        form: Form::Spec,
+    };
+    Ok(vec![in alloc; binary, spec]?)
+}
+
+/// A table's text as an input.
+fn one_json<'a>(alloc: Global, json: &'a str) -> Result<Vec<InputWord<'a>>, AllocError>
+    ensures { IfOk result (λ inputs. map input_from inputs.items ≡ one_json json.entry.now) }
+{
+    let json = InputWord {
+        name: json,
+        form: Form::Json,
+    };
+    Ok(vec![in alloc; json]?)
+}
+
+/// An image as an input.
+fn image_alone<'a>(alloc: Global, image: &'a str) -> Result<Vec<InputWord<'a>>, AllocError>
+    ensures { IfOk result
+        (λ inputs. map input_from inputs.items ≡ image_alone image.entry.now) }
+{
+    let image = InputWord {
+        name: image,
+        form: Form::Image,
+    };
+    Ok(vec![in alloc; image]?)
+}
+
+/// A flash file, an OTP file and an image as inputs.
+fn flash_otp_image<'a>(
+    alloc: Global,
+    flash: &'a str,
+    otp: &'a str,
+    image: &'a str,
+) -> Result<Vec<InputWord<'a>>, AllocError>
+    ensures { IfOk result (λ inputs. map input_from inputs.items
+        ≡ flash_otp_image flash.entry.now otp.entry.now image.entry.now) }
+{
+    let flash = InputWord {
+        name: flash,
+        form: Form::Flash,
+    };
+    let otp = InputWord {
+        name: otp,
+        form: Form::Otp,
+    };
+    let image = InputWord {
+        name: image,
+        form: Form::Image,
+    };
+    Ok(vec![in alloc; flash, otp, image]?)
+}
+
 /// The inputs of a command, in word order.
 pub fn inputs<'a>(
     alloc: Global,
@@ -82,21 +155,19 @@ pub fn inputs<'a>(
             script,
             ..
         } => flash_otp_script(alloc, flash, otp, script),
+        CommandWords::Seal { binary, spec, .. } => binary_and_spec(alloc, binary, spec),
+        CommandWords::Table { json, .. } => one_json(alloc, json),
+        CommandWords::Uf2 { image, .. } => image_alone(alloc, image),
+        CommandWords::Plan {
+            flash,
+            otp,
+            image,
+            ..
+        } => flash_otp_image(alloc, flash, otp, image),
+        CommandWords::Gen { .. } => Ok(Vec::new(alloc)),
         CommandWords::Usage => Ok(Vec::new(alloc)),
         CommandWords::Release => Ok(Vec::new(alloc)),
     }
-}
-
-/// The answer that refuses an input file.
-fn refusal(alloc: Global, name: &str, fault: &str) -> Result<Answer<'static>, AllocError>
-    ensures { IfOk result (λ answer. outcome_from answer ≡ refused name.now fault.now) }
-{
-    let text = fault_text(alloc, name, fault)?;
-    Ok(Answer {
-        status: Status::Input,
-        text,
-        files: Vec::new(alloc),
-    })
 }
 
 /// The answer that refuses the first input, in word order, that does not have its form.
@@ -134,34 +205,6 @@ fn two(files: Vec<Vec<u8>>) -> Option<(Vec<u8>, Vec<u8>)>
     Some((first, second))
 }
 
-/// A flash file, an OTP file and a script among the bytes of three inputs.
-fn three(files: Vec<Vec<u8>>) -> Option<(Vec<u8>, Vec<u8>, Vec<u8>)>
-    ensures some { IfSome result (λ three. bytes_of files.items
-        ≡ (three.0.items ∷ three.1.items ∷ three.2.items ∷ [])) }
-    ensures none { IfNone result
-        ((f o s : List ℕ) → bytes_of files.items ≢ (f ∷ o ∷ s ∷ [])) }
-{
-    let mut files = files.into_iter();
-    let first = files.next()?;
-    let second = files.next()?;
-    let third = files.next()?;
-    if files.next().is_some() {
-        return None;
-    }
-    Some((first, second, third))
-}
-
-/// The answer of a command that tells a text, is no fall and writes no file.
-fn told<'a>(alloc: Global, text: String) -> Answer<'a>
-    ensures { outcome_from result ≡ worked (Answers false (string_bytes text) []) }
-{
-    Answer {
-        status: Status::Done,
-        text,
-        files: Vec::new(alloc),
-    }
-}
-
 /// The work of a command on a board that is made of its flash file and its OTP file.
 fn board_work<'a>(
     alloc: Global,
@@ -181,6 +224,11 @@ fn board_work<'a>(
             data_answer(alloc, board, &mut pool, *cpu, *kind)
         }
         CommandWords::Replay { .. } => Ok(told(alloc, String::new(alloc))),
+        CommandWords::Seal { .. } => Ok(told(alloc, String::new(alloc))),
+        CommandWords::Table { .. } => Ok(told(alloc, String::new(alloc))),
+        CommandWords::Uf2 { .. } => Ok(told(alloc, String::new(alloc))),
+        CommandWords::Plan { .. } => Ok(told(alloc, String::new(alloc))),
+        CommandWords::Gen { .. } => Ok(told(alloc, String::new(alloc))),
         CommandWords::Usage => Ok(told(alloc, String::new(alloc))),
         CommandWords::Release => Ok(told(alloc, String::new(alloc))),
     }
@@ -229,6 +277,41 @@ fn script_work<'a>(
     }
 }
 
+/// The work of a sealing on a binary and a spec, which have their forms.
+fn sealing_work<'a>(
+    alloc: Global,
+    binary: &str,
+    spec: &str,
+    out: &'a str,
+    files: Vec<Vec<u8>>,
+) -> Result<Answer<'a>, AllocError>
+    requires { (b s : List ℕ) → bytes_of files.items ≡ (b ∷ s ∷ []) → HasForm Form.Binary b
+        × HasForm Form.Spec s }
+    ensures { IfOk result (λ answer. outcome_from answer
+        ≡ worked (sealing_work binary.now spec.now out.entry.now (bytes_of files.items))) }
+{
+    match two(files) {
+        Some((bytes, text)) => seal_answer(alloc, binary, spec, out, &bytes, &text),
+        None => Ok(told(alloc, String::new(alloc))),
+    }
+}
+
+/// The work of a table on its text, which has its form.
+fn tabling_work<'a>(
+    alloc: Global,
+    out: &'a str,
+    files: Vec<Vec<u8>>,
+) -> Result<Answer<'a>, AllocError>
+    requires { (j : List ℕ) → bytes_of files.items ≡ (j ∷ []) → HasForm Form.Json j }
+    ensures { IfOk result (λ answer. outcome_from answer
+        ≡ worked (tabling_work out.entry.now (bytes_of files.items))) }
+{
+    match files.as_slice() {
+        [text] => table_answer(alloc, text, out),
+        _ => Ok(told(alloc, String::new(alloc))),
+    }
+}
+
 /// The work of a command on the bytes of its inputs, which have their forms.
 fn work<'a>(
     alloc: Global,
@@ -250,6 +333,16 @@ fn work<'a>(
             out_otp,
             ..
         } => script_work(alloc, *cpu, out_flash, out_otp, files),
+        CommandWords::Seal { binary, spec, out } => sealing_work(alloc, binary, spec, out, files),
+        CommandWords::Table { out, .. } => tabling_work(alloc, out, files),
+        CommandWords::Uf2 { image, family, out } => uf2_work(alloc, image, *family, out, &files),
+        CommandWords::Plan {
+            cpu,
+            image,
+            out,
+            ..
+        } => plan_work(alloc, *cpu, image, out, files),
+        CommandWords::Gen { n } => gen_answer(alloc, *n),
         CommandWords::Usage => Ok(told(alloc, usage(alloc)?)),
         CommandWords::Release => Ok(told(alloc, release(alloc)?)),
     }

@@ -1,4 +1,3 @@
-use Rattle.boot_run.specs.Replays.{moved}
 use Rattle.boot_run.proofs.PlayLemmas.{moves-only}
 use Rattle.boot_run.proofs.TornLemmas.{moved-moves}
 use Rattle.boot_run.proofs.laws.told_moves_are_determined.Goals as goal

@@ -2,12 +2,22 @@ use Rattle.boot_run.specs.Commands.{asked}
 use Rattle.boot_run.specs.Outcome.{inputs_in, outcome_in}
 use Rattle.boot_run.proofs.OutcomeLemmas.{outcome-finished}
 use Rattle.boot_run.proofs.EndLemmas.{run-end, end-read_fault, end-write_fault, end-output_fault, end-memory}
-use Rattle.boot_run.proofs.RunLemmas.{run-told, run-boot, run-lacking, run-words, run-no_command, run-complete, run-steady, run-obeys}
+use Rattle.boot_run.proofs.RunLemmas.{run-told, run-boot, run-session, run-lacking, run-words, run-no_command, run-complete, run-steady, run-obeys}
 use Rattle.boot_run.proofs.program.run.Goals as goal
 
 pub returns-clause-boot : goal.returns-clause-boot
 returns-clause-boot g c =
     run-boot g.S.Store.state g.S.Store.history g.K.Sink.state g.K.Sink.history
+    (asked c.args.words.now) c.args.store.now c.run_words.new.store c.args.out.now c.run_words.new.out
+    c.run_words.result
+    (run-end g.S.Store.state g.S.Store.history g.K.Sink.state g.K.Sink.history (inputs_in (asked c.args.words.now))
+    (outcome_in
+    (asked c.args.words.now)) c.args.store.now c.run_words.new.store c.args.out.now c.run_words.new.out
+    c.run_words.result c.run_words.ensures)
+
+pub returns-clause-session : goal.returns-clause-session
+returns-clause-session g c =
+    run-session g.S.Store.state g.S.Store.history g.K.Sink.state g.K.Sink.history
     (asked c.args.words.now) c.args.store.now c.run_words.new.store c.args.out.now c.run_words.new.out
     c.run_words.result
     (run-end g.S.Store.state g.S.Store.history g.K.Sink.state g.K.Sink.history (inputs_in (asked c.args.words.now))
