@@ -4,7 +4,8 @@ use Rattle.std.proofs.lemmas.List.{take-take, append-nil, take_at, take_all, tak
 use Rattle.std.proofs.lemmas.Bool.{cases_eq, cases_lt, eq-eqb, ne_eqb}
 use Rattle.std.proofs.lemmas.Option.{none-some, same_Some}
 use Rattle.block_codec.specs.Words.{bytes_of, word_of, words_of}
-use Rattle.block_codec.specs.Blocks.{block_words, BlockView, start_word, end_word, frame, block_size, IsBlock, Begins, BlockAt, front_block, aligned_block, block_at}
+use Rattle.block_codec.specs.Blocks.{block_words, BlockView, start_word, end_word, frame, block_size, IsBlock, Begins, BlockAt}
+use Rattle.block_codec.specs.Reading.{front_block, aligned_block, block_at}
 use Rattle.block_codec.specs.Erased.{AreErased, IsErasedFrom}
 use Rattle.block_codec.proofs.WordLemmas.{bytes_of-words_of, AreBytes-take, AreBytes, AreBytes-bytes_of, AreBytes-drop, get_or-words_of}
 use Rattle.block_codec.proofs.FrameLemmas.{frame-start, frame-end}

@@ -10,7 +10,8 @@ use Rattle.std.specs.Int.{cast_signed, w32}
 use Rattle.std.specs.Option.{option_and_then}
 use Rattle.byteorder.specs.Numbers.{little_from-take}
 use Rattle.block_codec.specs.Words.{bytes_of, word_of, words_of, are_bytes, AreWords}
-use Rattle.block_codec.specs.Blocks.{BlockView, start_word, frame, block_size, IsBlock, Begins, item_words, block_of, begun_block, front_block}
+use Rattle.block_codec.specs.Blocks.{BlockView, start_word, frame, block_size, IsBlock, Begins}
+use Rattle.block_codec.specs.Reading.{item_words, block_of, begun_block, front_block}
 use Rattle.block_codec.specs.Reading.{IsFramed}
 use Rattle.block_codec.proofs.WordLemmas.{AreBytes, AreBytes-from_test, AreBytes-bytes_of, are_bytes-true, length-bytes_of, length-words_of, get_or-words_of, words_of-append, words_of-take, bytes_of-words_of, AreWords-words_of}
 use Rattle.block_codec.proofs.FrameLemmas.{IsFramed-from_found, length-frame, frame-items, frame-start, frame-link, item_words-frame, frame-from_framed, AreWords-frame}

@@ -11,7 +11,8 @@ use Rattle.block_codec.specs.Words.{word_of, words_of, AreWords}
 use Rattle.block_codec.specs.Items.{AreItems, items_of}
 use Rattle.block_codec.specs.declared.items.Item.{Item}
 use Rattle.std.specs.List.{Contains}
-use Rattle.block_codec.specs.Blocks.{BlockView, start_word, frame, block_size, IsBlock, Begins, IsWhole, item_words, block_of, begun_block, front_block}
+use Rattle.block_codec.specs.Blocks.{BlockView, start_word, frame, block_size, IsBlock, Begins, IsWhole}
+use Rattle.block_codec.specs.Reading.{item_words, block_of, begun_block, front_block}
 use Rattle.block_codec.specs.Reading.{framed_words, IsFramed, view_of}
 use Rattle.block_codec.proofs.WordLemmas.{AreBytes, AreBytes-take, are_bytes-true, length-words_of, get_or-words_of}
 use Rattle.block_codec.proofs.ItemLemmas.{IsItemOf-from_contains}

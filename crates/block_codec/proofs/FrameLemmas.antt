@@ -10,7 +10,8 @@ use Rattle.std.specs.Int.{cast_unsigned, cast_signed, w32}
 use Rattle.std.specs.Option.{option_and_then}
 use Rattle.block_codec.specs.Words.{AreWords}
 use Rattle.block_codec.specs.Items.{type_byte, AreItems}
-use Rattle.block_codec.specs.Blocks.{start_word, end_word, last_item, frame, words_before, if_ended, item_words}
+use Rattle.block_codec.specs.Blocks.{start_word, end_word, last_item, frame}
+use Rattle.block_codec.specs.Reading.{words_before, if_ended, item_words}
 use Rattle.block_codec.specs.Reading.{IsFramed}
 use Rattle.block_codec.proofs.ItemLemmas.{Ends, Ends-from_found, words_before-items}
 

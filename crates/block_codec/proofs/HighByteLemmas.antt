@@ -12,7 +12,8 @@ use Rattle.std.specs.Int.{cast_unsigned, cast_signed, w32}
 use Rattle.std.specs.Option.{option_map}
 use Rattle.block_codec.specs.Words.{bytes_of, word_of, words_of, AreWords}
 use Rattle.block_codec.specs.Items.{type_byte, low_byte, high_byte, size_of, AreItemsAfter, AreItems, item_at, items_from, items_of}
-use Rattle.block_codec.specs.Blocks.{BlockView, start_word, end_word, last_item, frame, block_size, IsBlock, BlockAt, block_at}
+use Rattle.block_codec.specs.Blocks.{BlockView, start_word, end_word, last_item, frame, block_size, IsBlock, BlockAt}
+use Rattle.block_codec.specs.Reading.{block_at}
 use Rattle.block_codec.specs.HighByte.{ChangesHighByte, changed_block, with_high}
 use Rattle.block_codec.specs.declared.items.Item.{Item}
 use Rattle.block_codec.proofs.WordLemmas.{AreBytes, word_of-lt, AreBytes-drop, length-words_of, get_or-words_of, bytes_of-words_of}

@@ -6,7 +6,7 @@ use Rattle.std.proofs.lemmas.Option.{none-some, same_Some, slice_get-get_or}
 use Rattle.std.specs.List.{slice_get, Contains}
 use Rattle.std.specs.Option.{option_map}
 use Rattle.block_codec.specs.Items.{type_byte, size_of, AreItemsAfter, AreItems, item_at, items_from, items_of, IsItemOf}
-use Rattle.block_codec.specs.Blocks.{words_before}
+use Rattle.block_codec.specs.Reading.{words_before}
 use Rattle.block_codec.specs.declared.items.Item.{Item}
 
 -- the place, where there is one, is counted from n words further in front

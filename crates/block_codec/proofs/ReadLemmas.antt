@@ -5,7 +5,7 @@ use Rattle.std.specs.List.{slice_range}
 use Rattle.byteorder.specs.Endian.{little_number}
 use Rattle.block_codec.specs.Words.{word_of, words_of}
 use Rattle.block_codec.specs.Items.{size_of}
-use Rattle.block_codec.specs.Blocks.{words_before}
+use Rattle.block_codec.specs.Reading.{words_before}
 use Rattle.block_codec.proofs.WordLemmas.{length-words_of, get_or-words_of, words_of-take}
 use Rattle.block_codec.proofs.ItemLemmas.{later, later-later, words_before-step}
 

@@ -5,17 +5,17 @@ use Rattle.block_codec.specs.Items.{headers_of}
 use Rattle.block_codec.specs.Blocks.{BlockView}
 
 -- page q is erased
-abbrev pub IsErasedPage : List ℕ → ℕ → Type 0
-IsErasedPage v q = (i : ℕ) → i < 256 → slice_index v (256 * q + i) ≡ 255
+abbrev pub IsBlankPage : ℕ → List ℕ → Type 0
+IsBlankPage q v = (i : ℕ) → i < 256 → slice_index v (256 * q + i) ≡ 255
 
 -- page q is the same in both
-abbrev pub IsSamePage : List ℕ → List ℕ → ℕ → Type 0
-IsSamePage w v q = (i : ℕ) → i < 256 → slice_index v (256 * q + i) ≡ slice_index w (256 * q + i)
+abbrev pub IsSamePage : ℕ → List ℕ → List ℕ → Type 0
+IsSamePage q w v = (i : ℕ) → i < 256 → slice_index v (256 * q + i) ≡ slice_index w (256 * q + i)
 
 -- v is w but for pages that are erased
 pub record IsPartlyWritten (w v : List ℕ) : Type 0 where
   pub long : length v ≡ length w
-  pub pages : (q : ℕ) → IsErasedPage v q ⊎ IsSamePage w v q
+  pub pages : (q : ℕ) → IsBlankPage q v ⊎ IsSamePage q w v
 
 -- block c has the place, the size, the headers and the link of block b
 pub record HasHeadersOf (b c : BlockView) : Type 0 where

@@ -4,7 +4,8 @@ ghost use Rattle.std.specs.Prelude.{◌≡◌, ◌≢◌, ◌↔◌, ℕ, ℤ, L
 ghost use Rattle.std.specs.Option.{option_map};
 ghost use Rattle.block_codec.specs.Words.{bytes_of, word_of};
 ghost use Rattle.block_codec.specs.Items.{type_byte, size_of, AreItems, items_of};
-ghost use Rattle.block_codec.specs.Blocks.{BlockView, block_size, IsBlock, BlockAt, front_block, block_at};
+ghost use Rattle.block_codec.specs.Blocks.{BlockView, block_size, IsBlock, BlockAt};
+ghost use Rattle.block_codec.specs.Reading.{front_block, block_at};
 ghost use Rattle.block_codec.specs.Erased.{AreErased, IsErasedFrom};
 ghost use Rattle.block_codec.specs.HighByte.{ChangesHighByte, changed_block, with_high};
 ghost use Rattle.block_codec.specs.Pages.{IsPartlyWritten, HasHeadersOf};

@@ -2,7 +2,8 @@
 
 ghost use Rattle.std.specs.Prelude.{◌≡◌, ℕ, ℤ, List, ◌+◌, ◌*◌, ◌%◌, ◌<◌, ◌≤◌, ◌^◌, take, drop, length, slice_index, IfSome, IfNone, OnSome};
 ghost use Rattle.block_codec.specs.Words.{words_of, AreWords};
-ghost use Rattle.block_codec.specs.Blocks.{words_before, item_words, front_block, start_word, IsBlock, IsWhole, Begins};
+ghost use Rattle.block_codec.specs.Blocks.{start_word, IsBlock, IsWhole, Begins};
+ghost use Rattle.block_codec.specs.Reading.{words_before, item_words, front_block};
 ghost use Rattle.block_codec.specs.Reading.{framed_words, IsFramed, view_of};
 
 use crate::blocks::Block;

@@ -3,23 +3,24 @@ use Rattle.std.proofs.Common.{◌≡◌, ℕ, zero, suc, ◌+◌, ◌<◌, Bool,
 use Rattle.std.proofs.lemmas.Bool.{eq-eqb, cases_Bool}
 use Rattle.std.proofs.lemmas.Option.{none-some, same_Some}
 use Rattle.std.specs.List.{slice_get, position_from}
-use Rattle.block_codec.specs.Blocks.{BlockView, BlockAt, front_block}
+use Rattle.block_codec.specs.Blocks.{BlockView, BlockAt}
+use Rattle.block_codec.specs.Reading.{front_block}
 use Rattle.block_codec.proofs.AtLemmas.{block_at-stands, BlockAt-from_found}
-use Rattle.block_loop.specs.Loop.{target, first_from, first_block, block_at_offset, is_offset, first_shared, follow, loop_of}
+use Rattle.block_loop.specs.Loop.{target, first_block_from, first_block, block_at_offset, is_offset, first_shared, follow, loop_of}
 use Rattle.block_loop.specs.declared.fault.LoopFault.TheVariants.{NoBlock, Broken, TooMany, Overlap}
 
 pub first_from-here : (n x : ℕ) (bytes : List ℕ) (b : BlockView) → front_block x bytes ≡ Some b
-    → first_from (suc n) x bytes ≡ Some b
-unfolding first_from
-first_from-here n x bytes b e = rw (e, first_from) refl
+    → first_block_from (suc n) x bytes ≡ Some b
+unfolding first_block_from
+first_from-here n x bytes b e = rw (e, first_block_from) refl
 
 pub first_from-later : (n x : ℕ) (bytes : List ℕ) → front_block x bytes ≡ None
-    → first_from (suc n) x bytes ≡ first_from n (x + 4) (drop 4 bytes)
-unfolding first_from
-first_from-later n x bytes e = rw (e, first_from) refl
+    → first_block_from (suc n) x bytes ≡ first_block_from n (x + 4) (drop 4 bytes)
+unfolding first_block_from
+first_from-later n x bytes e = rw (e, first_block_from) refl
 
-pub first_from-end : (x : ℕ) (bytes : List ℕ) → first_from 0 x bytes ≡ None
-unfolding first_from
+pub first_from-end : (x : ℕ) (bytes : List ℕ) → first_block_from 0 x bytes ≡ None
+unfolding first_block_from
 first_from-end x bytes = refl
 
 pub follow-closed : (n : ℕ) (w : List ℕ) (x : ℕ) (bs : List BlockView) (z : BlockView) → is_offset (target z) x ≡ true

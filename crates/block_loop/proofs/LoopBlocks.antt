@@ -3,7 +3,8 @@ use Rattle.std.proofs.Common.{◌≡◌, ℕ, zero, suc, ◌≤◌, List, [], �
 use Rattle.std.proofs.lemmas.List.{length-map}
 use Rattle.std.proofs.lemmas.Option.{none-some, same_Some}
 use Rattle.std.specs.List.{slice_get}
-use Rattle.block_codec.specs.Blocks.{BlockView, block_at}
+use Rattle.block_codec.specs.Blocks.{BlockView}
+use Rattle.block_codec.specs.Reading.{block_at}
 use Rattle.block_codec.proofs.AtLemmas.{block_at-stands}
 use Rattle.block_loop.specs.Loop.{loop_of}
 use Rattle.block_loop.specs.Offsets.{offsets_of, loop_offsets}

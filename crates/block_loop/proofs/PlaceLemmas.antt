@@ -3,7 +3,8 @@ use Rattle.std.proofs.Common.{◌≡◌, ℕ, List, length, slice_get, Option, S
 use Rattle.std.specs.Option.{option_map}
 use Rattle.std.proofs.lemmas.List.{length-map}
 use Rattle.std.proofs.lemmas.Option.{slice_get-map}
-use Rattle.block_codec.specs.Blocks.{BlockView, block_at}
+use Rattle.block_codec.specs.Blocks.{BlockView}
+use Rattle.block_codec.specs.Reading.{block_at}
 use Rattle.block_codec.proofs.AtLemmas.{block_at-stands}
 use Rattle.block_loop.specs.declared.fault.LoopFault.{LoopFault}
 use Rattle.block_loop.specs.Loop.{IsLoop, loop_of}

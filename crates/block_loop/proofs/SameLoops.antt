@@ -6,7 +6,8 @@ use Rattle.std.proofs.lemmas.Option.{none-some, same_Some}
 use Rattle.std.specs.List.{slice_get}
 use Rattle.std.specs.Prelude.{nat_lt}
 use Rattle.block_codec.specs.Words.{word_of}
-use Rattle.block_codec.specs.Blocks.{BlockView, BlockAt, block_size, block_at}
+use Rattle.block_codec.specs.Blocks.{BlockView, BlockAt, block_size}
+use Rattle.block_codec.specs.Reading.{block_at}
 use Rattle.block_codec.specs.Erased.{AreErased, IsErasedFrom}
 use Rattle.block_codec.specs.HighByte.{ChangesHighByte, changed_block}
 use Rattle.block_codec.proofs.AtLemmas.{block_at-stands, BlockAt-from_found, block_at-erased, no_block_at_erased}

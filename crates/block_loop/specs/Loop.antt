@@ -4,7 +4,8 @@
 -- project's own.
 use Rattle.std.specs.Prelude.{◌≡◌, ◌≢◌, ℕ, zero, suc, ◌+◌, ◌-◌, ◌<◌, ◌≤◌, ◌==◌, ◌&&◌, nat_lt, Bool, true, false, ℤ, pos, negsuc, ◌+ℤ◌, List, [], ◌∷◌, ◌++◌, length, drop, slice_get, Option, Some, None, Result, Ok, Err}
 use Rattle.std.specs.List.{position_from}
-use Rattle.block_codec.specs.Blocks.{BlockView, BlockAt, block_size, block_at, front_block}
+use Rattle.block_codec.specs.Blocks.{BlockView, BlockAt, block_size}
+use Rattle.block_codec.specs.Reading.{block_at, front_block}
 use Rattle.block_loop.specs.declared.fault.LoopFault.{LoopFault}
 use Rattle.block_loop.specs.declared.fault.LoopFault.TheVariants.{NoBlock, Broken, TooMany, Overlap}
 
@@ -71,14 +72,14 @@ IsFault w (Overlap i j) =
 
 -- the first block at one of the next n multiples of 4 from offset x on, where the bytes from x on
 -- are given
-unfoldable pub first_from : ℕ → ℕ → List ℕ → Option BlockView
-first_from zero x bytes = None
-first_from (suc n) x bytes =
-    elim (front_block x bytes) [ Some b ↦ Some b | None ↦ first_from n (x + 4) (drop 4 bytes) ]
+unfoldable pub first_block_from : ℕ → ℕ → List ℕ → Option BlockView
+first_block_from zero x bytes = None
+first_block_from (suc n) x bytes =
+    elim (front_block x bytes) [ Some b ↦ Some b | None ↦ first_block_from n (x + 4) (drop 4 bytes) ]
 
 -- the first block of a window: the one at the least multiple of 4 below 4096
 abbrev pub first_block : List ℕ → Option BlockView
-first_block w = first_from 1024 0 w
+first_block w = first_block_from 1024 0 w
 
 -- the block at a signed offset
 abbrev pub block_at_offset : List ℕ → ℤ → Option BlockView

@@ -1,7 +1,8 @@
 //! Blocks at offsets of a view.
 
 ghost use Rattle.std.specs.Prelude.{◌≡◌, ◌-◌, ◌%◌, ◌<◌, min, length, IfSome, IfNone};
-ghost use Rattle.block_codec.specs.Blocks.{BlockView, BlockAt, IsWhole, block_at};
+ghost use Rattle.block_codec.specs.Blocks.{BlockView, BlockAt, IsWhole};
+ghost use Rattle.block_codec.specs.Reading.{block_at};
 ghost use Rattle.block_loop.specs.Loop.{first_block, block_at_offset};
 
 use block_codec::{Block, read_block};

@@ -2,7 +2,8 @@
 
 ghost use Rattle.std.specs.Prelude.{◌≡◌, ◌≢◌, ◌↔◌, ◌⊎◌, ℕ, List, ◌+◌, ◌*◌, ◌<◌, ◌≤◌, ◌++◌, ◌∷◌, [], pos, negsuc, replicate, drop, map, length, slice_get};
 ghost use Rattle.block_codec.specs.Words.{bytes_of, word_of};
-ghost use Rattle.block_codec.specs.Blocks.{BlockView, block_at};
+ghost use Rattle.block_codec.specs.Blocks.{BlockView};
+ghost use Rattle.block_codec.specs.Reading.{block_at};
 ghost use Rattle.block_codec.specs.Erased.{AreErased, IsErasedFrom};
 ghost use Rattle.block_codec.specs.HighByte.{ChangesHighByte, changed_block};
 ghost use Rattle.block_loop.specs.Loop.{loop_of, IsLoop, IsFault};

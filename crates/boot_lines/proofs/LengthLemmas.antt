@@ -23,7 +23,7 @@ use Rattle.boot_rules.specs.declared.decision.Decision.TheVariants.{Start, Boots
 use Rattle.boot_rules.specs.declared.decision.Fall.{Fall}
 use Rattle.boot_rules.specs.declared.decision.Fall.TheVariants.{Requested, FlashOff, NoImage}
 use Rattle.boot_lines.specs.Texts.{hex_digits, hex_word, range_text, entry_text, version_text, rollback_text, yes_or_no, standing_text, rest_text, start_text, fall_text, decision_text, digest_text, reply_text, status_text, ram_start_text, has_reply, command_text, booted_text, numbered_text, accepted_text, done_word, form_text, refused_text}
-use Rattle.boot_lines.specs.Events.{Told, Off, Ignored, CutArmed, LostPower, Ended, Boots, BuyDone, BuyNone, BadMagic, Answered, Rebooted, RamStarted, BadForm, Refused, Placed, Downloaded, event_text, IsShown, IsDecided, IsReboot, IsTold}
+use Rattle.boot_lines.specs.Events.{Line, Off, Ignored, CutArmed, LostPower, Ended, Boots, BuyDone, BuyNone, BadMagic, Answered, Rebooted, RamStarted, BadForm, Refused, Placed, Downloaded, event_text, IsShown, IsDecided, IsReboot, IsLine}
 use Rattle.boot_lines.proofs.HexLemmas.{hex_low, length-low_digits}
 use Rattle.boot_lines.proofs.DecimalLemmas.{length_number, length_short}
 
@@ -210,7 +210,7 @@ length_refused Outside = omega arith
 length_refused NotPermitted = omega arith
 length_refused PowerLost = omega arith
 
-pub length_event : (told : Told) → IsTold told → length (event_text told) ≤ 181
+pub length_event : (told : Line) → IsLine told → length (event_text told) ≤ 181
 length_event Off is = omega arith
 length_event Ignored is = omega arith
 length_event CutArmed is = omega arith

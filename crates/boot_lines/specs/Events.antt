@@ -12,33 +12,33 @@ use Rattle.boot_rules.specs.declared.decision.Decision.TheVariants.{Start, Boots
 use Rattle.boot_lines.specs.Texts.{boot_text, booted_text, command_text, ram_start_text, form_text, refused_text, numbered_text, accepted_text}
 
 -- what an event's text tells
-pub data Told : Type 0 where
+pub data Line : Type 0 where
   -- nothing is done in the state Off, or the event is not for the state
-  Off : Told
-  Ignored : Told
-  CutArmed : Told
-  LostPower : Told
-  Ended : Told
+  Off : Line
+  Ignored : Line
+  CutArmed : Line
+  LostPower : Line
+  Ended : Line
   -- power comes back, or a reset: a boot
-  Boots : (decision : Decision) → Told
-  BuyDone : Told
-  BuyNone : Told
+  Boots : (decision : Decision) → Line
+  BuyDone : Line
+  BuyNone : Line
   -- the bytes of a command do not begin with the magic word
-  BadMagic : Told
+  BadMagic : Line
   -- a command, its status and its reply
-  Answered : (cmd : Cmd) (status : ℕ) (reply : List ℕ) → Told
+  Answered : (cmd : Cmd) (status : ℕ) (reply : List ℕ) → Line
   -- a reboot command with status 0 boots, or starts an image in RAM
-  Rebooted : (cmd : Cmd) (decision : Decision) → Told
-  RamStarted : (cmd : Cmd) (image : Started) → Told
+  Rebooted : (cmd : Cmd) (decision : Decision) → Line
+  RamStarted : (cmd : Cmd) (image : Started) → Line
   -- a UF2 block that breaks its form, is refused, or is accepted
-  BadForm : (fault : Uf2Fault) → Told
-  Refused : (fault : PlaceFault) → Told
-  Placed : (number : ℕ) (accepted : Accepted) → Told
+  BadForm : (fault : Uf2Fault) → Line
+  Refused : (fault : PlaceFault) → Line
+  Placed : (number : ℕ) (accepted : Accepted) → Line
   -- a download is done, and the machine boots
-  Downloaded : (number : ℕ) (decision : Decision) → Told
+  Downloaded : (number : ℕ) (decision : Decision) → Line
 
 -- the text of an event
-abbrev pub event_text : Told → List ℕ
+abbrev pub event_text : Line → List ℕ
 event_text Off = codes "off"
 event_text Ignored = codes "ignored"
 event_text CutArmed = codes "cut armed"
@@ -80,11 +80,11 @@ pub record IsReboot (cmd : Cmd) : Type 0 where
   pub id : cmd.id ≡ REBOOT
 
 -- the same for all that an event's text tells
-abbrev pub IsTold : Told → Type 0
-IsTold (Boots decision) = IsDecided decision
-IsTold (Answered cmd status reply) = IsCommand cmd × (status < 2 ^ 32) × (length reply < 2 ^ 32)
-IsTold (Rebooted cmd decision) = IsReboot cmd × IsDecided decision
-IsTold (RamStarted cmd image) = IsReboot cmd × IsShown image
-IsTold (Placed number accepted) = number < 2 ^ 32
-IsTold (Downloaded number decision) = (number < 2 ^ 32) × IsDecided decision
-IsTold _ = Unit {0}
+abbrev pub IsLine : Line → Type 0
+IsLine (Boots decision) = IsDecided decision
+IsLine (Answered cmd status reply) = IsCommand cmd × (status < 2 ^ 32) × (length reply < 2 ^ 32)
+IsLine (Rebooted cmd decision) = IsReboot cmd × IsDecided decision
+IsLine (RamStarted cmd image) = IsReboot cmd × IsShown image
+IsLine (Placed number accepted) = number < 2 ^ 32
+IsLine (Downloaded number decision) = (number < 2 ^ 32) × IsDecided decision
+IsLine _ = Unit {0}

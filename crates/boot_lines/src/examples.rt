@@ -13,7 +13,7 @@ ghost use Rattle.boot_rules.specs.declared.decision.Decision.TheVariants.{Bootse
 ghost use Rattle.boot_rules.specs.declared.decision.Fall.{Fall};
 ghost use Rattle.boot_rules.specs.declared.decision.Fall.TheVariants.{Requested, FlashOff, NoImage};
 ghost use Rattle.boot_lines.specs.Texts.{boot_text, booted_text, command_text, form_text, hex_byte, hex_word, accepted_text, ram_start_text, refused_text};
-ghost use Rattle.boot_lines.specs.Events.{event_text, IsTold, Off, Ignored, CutArmed, LostPower, Ended, Boots, BuyDone, BuyNone, BadMagic, Answered, Rebooted, RamStarted, BadForm, Refused, Placed, Downloaded};
+ghost use Rattle.boot_lines.specs.Events.{event_text, IsLine, Off, Ignored, CutArmed, LostPower, Ended, Boots, BuyDone, BuyNone, BadMagic, Answered, Rebooted, RamStarted, BadForm, Refused, Placed, Downloaded};
 ghost use Rattle.boot_lines.specs.Examples.{image_in, ram_image, start_of, widest, command};
 
 /// A number has 0x and eight lower-case hexadecimal digits, and a byte two.
@@ -113,17 +113,17 @@ pub fn other_events()
 /// The law on the longest text speaks of all numbers that the fields hold, the greatest ones too,
 /// and of all decisions, forms and refusals.
 pub fn the_greatest_numbers_are_told()
-    ensures boots { IsTold (Boots (start_of widest)) }
-    ensures falls { (fall : Fall) → IsTold (Boots (Bootsel fall)) }
+    ensures boots { IsLine (Boots (start_of widest)) }
+    ensures falls { (fall : Fall) → IsLine (Boots (Bootsel fall)) }
     ensures answered { (reply : List ℕ) → length reply ≡ 2 ^ 32 - 1
-        → IsTold (Answered (command 0xff 0xffffffff) (2 ^ 32 - 1) reply) }
-    ensures rebooted { IsTold (Rebooted (command 0x0a 0xffffffff) (start_of widest)) }
-    ensures ram { IsTold (RamStarted (command 0x0a 0xffffffff) widest) }
-    ensures without_rollback { IsTold (RamStarted (command 0x0a 0) ram_image) }
-    ensures placed { (accepted : Accepted) → IsTold (Placed (2 ^ 32 - 1) accepted) }
-    ensures downloaded { IsTold (Downloaded (2 ^ 32 - 1) (start_of widest)) }
-    ensures forms { (fault : Uf2Fault) → IsTold (BadForm fault) }
-    ensures refusals { (fault : PlaceFault) → IsTold (Refused fault) }
+        → IsLine (Answered (command 0xff 0xffffffff) (2 ^ 32 - 1) reply) }
+    ensures rebooted { IsLine (Rebooted (command 0x0a 0xffffffff) (start_of widest)) }
+    ensures ram { IsLine (RamStarted (command 0x0a 0xffffffff) widest) }
+    ensures without_rollback { IsLine (RamStarted (command 0x0a 0) ram_image) }
+    ensures placed { (accepted : Accepted) → IsLine (Placed (2 ^ 32 - 1) accepted) }
+    ensures downloaded { IsLine (Downloaded (2 ^ 32 - 1) (start_of widest)) }
+    ensures forms { (fault : Uf2Fault) → IsLine (BadForm fault) }
+    ensures refusals { (fault : PlaceFault) → IsLine (Refused fault) }
 {}
 
 /// A longest text: a reboot command that starts an image with the greatest numbers.

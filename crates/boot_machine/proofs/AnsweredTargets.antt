@@ -29,7 +29,7 @@ use Rattle.boot_lines.specs.Texts.{command_text, refused_text}
 use Rattle.boot_machine.specs.Machines.{Host, InBootsel, Machine, Placing, Place}
 use Rattle.boot_machine.specs.Moves.{Moves, MovesBy, Decides, effect_in}
 use Rattle.boot_machine.specs.Runs.{AnswersTarget, BeginsDownload, IsNew, served_by}
-use Rattle.boot_machine.specs.Serving.{info_reply, Served, carried_on, uf2_served, command_served, serves_ram, serves_host, taken_in, block_served, followed, info_words, is_like, ruled_on, ruling_on, served, serves_info, info_text, table_of, told}
+use Rattle.boot_machine.specs.Serving.{info_reply, Served, carried_on, uf2_served, command_served, serves_ram, serves_host, taken_in, block_served, followed, info_words, is_like, ruled_on, ruling_on, served, serves_info, info_text, table_of, line_only}
 
 -- two flags are told apart by their number
 flags-apart : (a b c d : Bool) → bit a + 2 * bit b ≡ bit c + 2 * bit d → (a ≡ c) × (b ≡ d)
@@ -158,18 +158,18 @@ module _ (m n : Machine) (host : Host) (command payload text : List ℕ) (family
     (at : m.place ≡ InBootsel host) (is : AnswersTarget m.content m.cpu host command payload family answer)
     (moves : Moves m (Happening.Command command payload) n text) where
   info-served : served m.content m.cpu host (Happening.Command command payload)
-      ≡ told host (command_text is.cmd 0 (bytes_of (target_words answer)))
+      ≡ line_only host (command_text is.cmd 0 (bytes_of (target_words answer)))
   unfolding info_reply
   info-served =
       ap (λ r. command_served m.content m.cpu host r payload) is.is
       ∙ if-true (is.cmd.id == INFO) (serves_info m.content m.cpu host is.cmd payload)
       (if is_ram_command is.cmd then serves_ram m.content m.cpu host is.cmd payload
       else serves_host m.content host is.cmd payload) (eq-eqb is.cmd.id INFO is.id)
-      ∙ ap (λ status. told host (info_text status m.content m.cpu host.found is.cmd)) is.status
-      ∙ ap (λ words. told host (command_text is.cmd 0 (bytes_of words))) is.words
+      ∙ ap (λ status. line_only host (info_text status m.content m.cpu host.found is.cmd)) is.status
+      ∙ ap (λ words. line_only host (command_text is.cmd 0 (bytes_of words))) is.words
 
   info-moves : MovesBy m m.armed (followed m.content m.cpu
-      (told host (command_text is.cmd 0 (bytes_of (target_words answer))))) n text
+      (line_only host (command_text is.cmd 0 (bytes_of (target_words answer))))) n text
   info-moves =
       subst (λ (x : Served). MovesBy m m.armed (followed m.content m.cpu x) n text) info-served
       (subst (λ (p : Place). MovesBy m m.armed

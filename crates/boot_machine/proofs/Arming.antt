@@ -7,7 +7,7 @@ use Rattle.pico_board.specs.Content.{Content}
 use Rattle.pico_board.specs.Cuts.{Cut}
 use Rattle.pico_board.specs.Histories.{Extends}
 use Rattle.pico_board.specs.Steps.{CutOf, after_all}
-use Rattle.pico_board.specs.Board.{State as BoardState, Becomes, IsToldAll, with_cut}
+use Rattle.pico_board.specs.Board.{State as BoardState, Becomes, AreCutAsArmed, with_cut}
 use Rattle.part_table.specs.Sound.{IsSoundTable}
 use Rattle.uf2_place.specs.Downloads.{IsTargetIn}
 use Rattle.boot_script.specs.declared.event.Event.{Event}
@@ -28,7 +28,7 @@ none-decided (Some cut) c = record { answer = refl; left = refl; next = refl }
 
 -- what a board told
 told-decides : (armed : Option (Option Cut)) (c : Content) (steps : List Step) (ok : Bool) (t : BoardState)
-    → IsToldAll armed c steps ok t → Decides armed c steps ok t.content t.armed
+    → AreCutAsArmed armed c steps ok t → Decides armed c steps ok t.content t.armed
 told-decides None c steps ok t told = told
 told-decides (Some cut) c steps ok t told = record { answer = told.answer; left = told.content; next = told.armed }
 

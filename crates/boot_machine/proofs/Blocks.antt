@@ -34,7 +34,7 @@ use Rattle.uf2_place.specs.Downloads.{IsTargetIn}
 use Rattle.uf2_place.proofs.Ruled.{rules-begins}
 use Rattle.boot_rules.specs.Targets.{target_of}
 use Rattle.boot_machine.specs.Machines.{Host, Placing}
-use Rattle.boot_machine.specs.Serving.{Served, block_text, answer_of, block_served, blocks_of, carried_on, is_like, ruled_on, ruling_on, taken_in, told, wanted_in}
+use Rattle.boot_machine.specs.Serving.{Served, block_text, answer_of, block_served, blocks_of, carried_on, is_like, ruled_on, ruling_on, taken_in, line_only, wanted_in}
 use Rattle.boot_machine.specs.Standing.{Carries, IsDoneIn, IsServedBlock}
 
 -- the blocks that a download stands for are of its family and its count
@@ -215,7 +215,7 @@ module _ {B : Type 0} (state : B → State) (history : B → List Step → Type 
   -- a block that is answered at once
   came-answered : (a : Result Accepted PlaceFault) → IsQuiet a → (state old).powered ≡ true
       → Carries d pool host.placing → e ≡ d → after ≡ pool → new ≡ old
-      → IsThus (told host (block_text b.number a)) a
+      → IsThus (line_only host (block_text b.number a)) a
   came-answered a quiet power carries same_download same_pool same = by a quiet
     where
       steps : DoesAll state history old [] true new
@@ -225,7 +225,7 @@ module _ {B : Type 0} (state : B → State) (history : B → List Step → Type 
       kept = subst (λ x. Carries x after host.placing) (sym same_download)
           (subst (λ x. Carries d x host.placing) (sym same_pool) carries)
 
-      by : (a : Result Accepted PlaceFault) → IsQuiet a → IsThus (told host (block_text b.number a)) a
+      by : (a : Result Accepted PlaceFault) → IsQuiet a → IsThus (line_only host (block_text b.number a)) a
       by (Ok Skipped) quiet = record { steps = steps; boot = refl; text = refl; carries = kept; lost = tt }
       by (Ok Again) quiet = record { steps = steps; boot = refl; text = refl; carries = kept; lost = tt }
       by (Ok Taken) quiet = absurd quiet
@@ -247,7 +247,7 @@ module _ {B : Type 0} (state : B → State) (history : B → List Step → Type 
       → Carries d pool host.placing → IsThus (block_served host b r) answer
   came (Answered a) quiet promised power carries =
       let at = promised.0 a refl in
-      subst (λ x. IsThus (told host (block_text b.number a)) x) (sym (at.0))
+      subst (λ x. IsThus (line_only host (block_text b.number a)) x) (sym (at.0))
       (came-answered a quiet power carries (at.1.0) (at.1.1) (at.1.2))
   came (Begins t) meant promised power carries = came-placed t [] (promised.1 t refl)
   came (Continues t) meant promised power carries = by meant

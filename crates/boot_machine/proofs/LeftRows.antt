@@ -12,7 +12,8 @@ use Rattle.image_def.specs.declared.started.Started.{Started}
 use Rattle.image_check.specs.NotBelow.{NotBelow}
 use Rattle.otp_roll.specs.Flags.{flash_off, rollback_required, slot_size, slot_size_of}
 use Rattle.otp_roll.specs.Raises.{raises}
-use Rattle.otp_roll.specs.Rows.{AreRollbackRows, IsRollbackVersion, Rises, count, first_row}
+use Rattle.otp_roll.specs.Rows.{AreRollbackRows, IsRollbackVersion, Rises, count}
+use Rattle.otp_roll.specs.declared.rows.TheConstants.{FIRST_ROW}
 use Rattle.otp_roll.proofs.Counted.{count-raises}
 use Rattle.otp_roll.proofs.Rising.{count-between, cut-raises, former-Rises, low-row, raises-raise}
 use Rattle.trial_buy.specs.Starting.{image_raises, raises_of}
@@ -45,7 +46,7 @@ count-left c rows v d right listed is_version reached (inr cut) =
 
 module _ (c : Content) (rows : List ℕ) (d : Content) (listed : AreRollbackRows rows) where
   -- the boot flags and the slot size stay
-  low-left : (rollback : Option ℕ) (i : ℕ) → i < first_row → MayLeave c (raises_of c.otp rows rollback) d
+  low-left : (rollback : Option ℕ) (i : ℕ) → i < FIRST_ROW → MayLeave c (raises_of c.otp rows rollback) d
       → slice_index d.otp i ≡ slice_index c.otp i
   low-left None i low (inl done) = ap (λ (e : Content). slice_index e.otp i) done
   low-left None i low (inr cut) = absurd cut

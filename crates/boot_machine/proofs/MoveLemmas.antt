@@ -6,7 +6,7 @@ use Rattle.pico_board.specs.declared.boot.Cpu.{Cpu}
 use Rattle.std.specs.Prelude.{◌<◌, All, IfSome}
 use Rattle.std.specs.List.{AllByRecursion}
 use Rattle.pico_board.specs.Content.{Content, IsContent}
-use Rattle.pico_board.specs.Cuts.{Cut, Told, cut_by, nearer, told_all, told_next}
+use Rattle.pico_board.specs.Cuts.{Cut, CutOutcome, cut_by, nearer, cut_steps, unless_cut}
 use Rattle.pico_board.specs.Steps.{CutOf, IsStepIn, after, after_all}
 use Rattle.pico_board.proofs.Contents.{IsContent-after}
 use Rattle.pico_board.proofs.TornSteps.{Torn-cut_by}
@@ -28,8 +28,8 @@ same-machine m n e f g h =
 
 -- what a board told of the steps
 module _ (m : Machine) (cut : Option Cut) (e : Effect) where
-  abbrev told : Told
-  told = told_all e.steps cut m.content
+  abbrev told : CutOutcome
+  told = cut_steps e.steps cut m.content
 
   one-move : (n o : Machine) (text line : List ℕ) → MovesBy m (Some cut) e n text → MovesBy m (Some cut) e o line
       → (n ≡ o) × (text ≡ line)
@@ -100,29 +100,29 @@ untold-next m n event text armed one =
     by (inr lost) = lost.armed_cut
 
 -- what a board tells of a step and those behind it, by whether the cut falls in the step
-abbrev after_it : List Step → Cut → Content → Step → Bool → Told
+abbrev after_it : List Step → Cut → Content → Step → Bool → CutOutcome
 after_it steps cut c step t =
-    told_next (if t then record { answer = false; content = cut_by cut c step; armed = None }
-    else record { answer = true; content = after c step; armed = Some (nearer cut) }) (told_all steps)
+    unless_cut (if t then record { answer = false; content = cut_by cut c step; armed = None }
+    else record { answer = true; content = after c step; armed = Some (nearer cut) }) (cut_steps steps)
 
 -- what a board tells that lost no power in the steps, and one that did
-done-content : (steps : List Step) (cut : Option Cut) (c : Content) → (told_all steps cut c).answer ≡ true
-    → (told_all steps cut c).content ≡ after_all c steps
+done-content : (steps : List Step) (cut : Option Cut) (c : Content) → (cut_steps steps cut c).answer ≡ true
+    → (cut_steps steps cut c).content ≡ after_all c steps
 done-content [] cut c is = refl
 done-content (step ∷ steps) None c is = done-content steps None (after c step) is
 done-content (step ∷ steps) (Some cut) c is =
     by (cut.left == 0) (done-content steps (Some (nearer cut)) (after c step)) is
   where
-    by : (t : Bool) → ((told_all steps (Some (nearer cut)) (after c step)).answer ≡ true
-        → (told_all steps (Some (nearer cut)) (after c step)).content ≡ after_all (after c step) steps)
+    by : (t : Bool) → ((cut_steps steps (Some (nearer cut)) (after c step)).answer ≡ true
+        → (cut_steps steps (Some (nearer cut)) (after c step)).content ≡ after_all (after c step) steps)
         → (after_it steps cut c step t).answer ≡ true
         → (after_it steps cut c step t).content ≡ after_all c (step ∷ steps)
     by true rest is = absurd (true≢false (sym is))
     by false rest is = rest is
 
 cut-content : (steps : List Step) (cut : Option Cut) (c : Content) → IfSome cut (λ x. All (λ b. b < 256) x.pattern)
-    → IsContent c → AllByRecursion (IsStepIn (length c.flash)) steps → (told_all steps cut c).answer ≡ false
-    → CutOf c steps (told_all steps cut c).content
+    → IsContent c → AllByRecursion (IsStepIn (length c.flash)) steps → (cut_steps steps cut c).answer ≡ false
+    → CutOf c steps (cut_steps steps cut c).content
 cut-content [] cut c small right all is = absurd (true≢false is)
 cut-content (step ∷ steps) None c small right all is =
     inr (cut-content steps None (after c step) tt (IsContent-after c step right (all.0))
@@ -132,8 +132,8 @@ cut-content (step ∷ steps) (Some cut) c small right all is =
     (cut-content steps (Some (nearer cut)) (after c step) small (IsContent-after c step right (all.0))
     (in_range-after c step steps (all.1))) is
   where
-    by : (t : Bool) → ((told_all steps (Some (nearer cut)) (after c step)).answer ≡ false
-        → CutOf (after c step) steps (told_all steps (Some (nearer cut)) (after c step)).content)
+    by : (t : Bool) → ((cut_steps steps (Some (nearer cut)) (after c step)).answer ≡ false
+        → CutOf (after c step) steps (cut_steps steps (Some (nearer cut)) (after c step)).content)
         → (after_it steps cut c step t).answer ≡ false → CutOf c (step ∷ steps) (after_it steps cut c step t).content
     by true rest is = inl (Torn-cut_by cut c step small right (all.0))
     by false rest is = inr (rest is)
@@ -160,9 +160,9 @@ none-told : (m : Machine) (e : Effect)
 none-told m e =
     let whole = told_all-none e.steps m.content in
     record {
-      answer = ap (λ (o : Told). o.answer) whole;
-      left = sym (ap (λ (o : Told). o.content) whole);
-      next = sym (ap (λ (o : Told). Some o.armed) whole);
+      answer = ap (λ (o : CutOutcome). o.answer) whole;
+      left = sym (ap (λ (o : CutOutcome). o.content) whole);
+      next = sym (ap (λ (o : CutOutcome). Some o.armed) whole);
     }
 
 pub move-unarmed : (m : Machine) (event : Happening) → armed_for m.armed event ≡ Some None
@@ -188,23 +188,23 @@ move-alone m n event text armed (inl done) = done
 move-alone m n event text armed (inr lost) =
     let told = subst (λ a. Decides a m.content (effect m event).steps false n.content n.armed) armed lost.armed_cut in
     absurd (true≢false
-    (sym (ap (λ (o : Told). o.answer) (told_all-none (effect m event).steps m.content)) ∙ told.answer))
+    (sym (ap (λ (o : CutOutcome). o.answer) (told_all-none (effect m event).steps m.content)) ∙ told.answer))
 
 pub move-armed : (m : Machine) (event : Happening) (cut : Cut) → armed_for m.armed event ≡ Some (Some cut)
     → All (λ b. b < 256) cut.pattern → IsContent m.content
     → AllByRecursion (IsStepIn (length m.content.flash)) (effect m event).steps
     → ((n : Machine) × (text : List ℕ) × Moves m event n text)
 move-armed m event cut armed small right all =
-    let some = by (told_all e.steps (Some cut) m.content).answer refl in
+    let some = by (cut_steps e.steps (Some cut) m.content).answer refl in
     (some.0, some.1, subst (λ a. MovesBy m a e some.0 some.1) (sym armed) (some.2))
   where
     e : Effect
     e = effect m event
 
-    by : (ok : Bool) → (told_all e.steps (Some cut) m.content).answer ≡ ok
+    by : (ok : Bool) → (cut_steps e.steps (Some cut) m.content).answer ≡ ok
         → ((n : Machine) × (text : List ℕ) × MovesBy m (Some (Some cut)) e n text)
     by true is =
-        let o = told_all e.steps (Some cut) m.content in (
+        let o = cut_steps e.steps (Some cut) m.content in (
           machine o.content (Some o.armed) m.cpu e.place,
           e.text,
           inl (record {
@@ -216,7 +216,7 @@ move-armed m event cut armed small right all =
           }),
         )
     by false is =
-        let o = told_all e.steps (Some cut) m.content in (
+        let o = cut_steps e.steps (Some cut) m.content in (
           machine o.content (Some o.armed) m.cpu Off,
           lost_text,
           inr (record {

@@ -23,7 +23,8 @@ use Rattle.picoboot_cmd.specs.Commands.{command_in}
 use Rattle.info_reply.specs.declared.kinds.TheConstants.{INFO}
 use Rattle.ram_start.specs.Images.{ValidRam, ram_image, ram_window}
 use Rattle.ram_start.specs.Serving.{RamServed, asks_reboot, asks_transfer, is_ram_command, is_range, ram_checks, ram_command, ram_status, reboot_image, reboot_range}
-use Rattle.ram_start.specs.Sram.{RamWrite, is_in_sram}
+use Rattle.load_map.specs.Addresses.{in_sram}
+use Rattle.ram_start.specs.Sram.{RamWrite}
 use Rattle.slot_choice.specs.declared.choice.Choice.{Choice}
 use Rattle.boot_rules.specs.declared.decision.Decision.{Decision}
 use Rattle.boot_rules.specs.declared.decision.Decision.TheVariants.{Start, Bootsel}
@@ -260,7 +261,7 @@ module _ (c : Content) (ram : List ℕ) (cpu : Cpu) (busy : Bool) (cmd : Cmd) (p
       let all = ram_checks c ram cpu busy cmd payload in
       let state = passes-next INVALID_STATE (not (cmd.id == WRITE && busy)) (drop 1 all) (omega arith) none in
       let transfer = passes-next TRANSFER_LENGTH (has_transfer cmd payload) (drop 2 all) (omega arith) (state.1) in
-      let inside = passes-next ADDRESS (cmd.id == REBOOT || is_in_sram (address cmd) (size cmd)) (drop 3 all)
+      let inside = passes-next ADDRESS (cmd.id == REBOOT || in_sram (address cmd) (size cmd)) (drop 3 all)
       (omega arith) (transfer.1) in
       let range = passes-next INVALID_ARGUMENT (not (cmd.id == REBOOT) || is_range cmd) (drop 4 all)
       (omega arith) (inside.1) in

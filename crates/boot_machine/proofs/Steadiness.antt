@@ -14,7 +14,7 @@ use Rattle.uf2_place.specs.Downloads.{IsTargetIn, lease_of}
 use Rattle.boot_machine.specs.declared.parts.Parts.{Parts}
 use Rattle.boot_machine.specs.declared.state.State.TheVariants.{Off, Bootsel, Running}
 use Rattle.boot_machine.specs.Machines.{Host, Placing}
-use Rattle.boot_machine.specs.Serving.{told, with_ram}
+use Rattle.boot_machine.specs.Serving.{line_only, with_ram}
 use Rattle.boot_machine.specs.Standing.{Carries, HasRoom, IsHost, IsLeft, IsRamStart, IsServed, IsSteady, is_bootsel, is_on, slot_of}
 use Rattle.boot_machine.proofs.Carried.{carried}
 use Rattle.boot_machine.proofs.Rooms.{room-kept}
@@ -147,7 +147,7 @@ module _ {B : Type 0} where
       -- nothing is done but a line
       pub told-served : (old new : Parts B) (host : Host) (text line : List ℕ) → IsTrue (state old.board).powered
           → new.board ≡ old.board → new.cpu ≡ old.cpu → IsHost new host → line ≡ text
-          → IsServed state history old (told host text) None new line
+          → IsServed state history old (line_only host text) None new line
       told-served old new host text line power same cpu is one = record {
         ok = true;
         by = record {

@@ -7,7 +7,7 @@ use Rattle.pico_board.specs.declared.boot.BootKind.TheVariants.{Normal}
 use Rattle.pico_board.specs.declared.window.Window.{Window}
 use Rattle.pico_board.specs.Content.{Content}
 use Rattle.pico_board.specs.Sessions.{IsConfined}
-use Rattle.otp_roll.specs.Rows.{AreApart, IsOutside}
+use Rattle.otp_roll.specs.Rows.{AreRowsApart, IsOutside}
 use Rattle.image_def.specs.declared.started.Started.{Started}
 use Rattle.image_check.specs.Changes.{bought}
 use Rattle.image_check.specs.SameImage.{SameImage}
@@ -78,4 +78,4 @@ pub record KeepsOtherTriples (c : Content) (cpu : Cpu) (choice : Choice) (u : Sl
   pub apart : (i : ℕ) (v : SlotUnit) (m : Member) (w : Window) (s : Started) (r q row bits : ℕ)
       → slice_get (boot_units_in c cpu) i ≡ Some v → v ≢ u → member_window m v ≡ Some w
       → Valid c w cpu false s → Contains s.rows.items r → Contains choice.image.rows.items q
-      → Contains steps (Raise row bits) → ¬ (IsOutside row q) → AreApart r q
+      → Contains steps (Raise row bits) → ¬ (IsOutside row q) → AreRowsApart r q

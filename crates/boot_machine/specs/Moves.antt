@@ -7,7 +7,7 @@ use Rattle.pico_board.specs.declared.boot.BootKind.{BootKind}
 use Rattle.pico_board.specs.declared.boot.BootKind.TheVariants.{Normal}
 use Rattle.pico_board.specs.Content.{Content}
 use Rattle.pico_board.specs.Steps.{CutOf, after_all}
-use Rattle.pico_board.specs.Cuts.{Cut, Told, told_all}
+use Rattle.pico_board.specs.Cuts.{Cut, CutOutcome, cut_steps}
 use Rattle.image_check.specs.Changes.{bought as bought_image}
 use Rattle.slot_choice.specs.declared.choice.Choice.{Choice}
 use Rattle.trial_buy.specs.Buying.{buy_steps}
@@ -88,7 +88,7 @@ armed_for armed (Happening.Cut left within pattern) =
 armed_for armed event = armed
 
 -- the steps were done or cut, and left this content and this armed cut, as a board told
-pub record IsAsTold (o : Told) (done : Bool) (content : Content) (armed : Option (Option Cut))
+pub record LeavesCutOutcome (o : CutOutcome) (done : Bool) (content : Content) (armed : Option (Option Cut))
     : Type 0 where
   pub answer : o.answer ≡ done
   pub left : content ≡ o.content
@@ -99,7 +99,7 @@ pub record IsAsTold (o : Told) (done : Bool) (content : Content) (armed : Option
 abbrev pub Decides : Option (Option Cut) → Content → List Step → Bool → Content
     → Option (Option Cut) → Type 0
 Decides None c steps done d armed = armed ≡ None
-Decides (Some cut) c steps done d armed = IsAsTold (told_all steps cut c) done d armed
+Decides (Some cut) c steps done d armed = LeavesCutOutcome (cut_steps steps cut c) done d armed
 
 -- the steps are done whole
 pub record IsDone (m : Machine) (armed : Option (Option Cut)) (e : Effect) (n : Machine)

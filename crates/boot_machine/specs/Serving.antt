@@ -54,8 +54,8 @@ pub record Served : Type 0 where
   pub boot : Option BootKind
 
 -- nothing is done but a line
-abbrev pub told : Host → List ℕ → Served
-told host text = record { steps = []; place = InBootsel host; text = text; boot = None }
+abbrev pub line_only : Host → List ℕ → Served
+line_only host text = record { steps = []; place = InBootsel host; text = text; boot = None }
 
 abbrev pub table_of : Option Found → Option Table
 table_of found = option_map (λ (f : Found). f.table) found
@@ -112,7 +112,7 @@ info_text status c cpu found cmd =
 
 abbrev pub serves_info : Content → Cpu → Host → Cmd → List ℕ → Served
 serves_info c cpu host cmd payload =
-    told host (info_text (info_status c cpu host.found cmd payload) c cpu host.found cmd)
+    line_only host (info_text (info_status c cpu host.found cmd payload) c cpu host.found cmd)
 
 -- a RAM command: it stores and reads, or starts an image, which drops the download
 abbrev pub ram_place : Host → Option Started → List ℕ → Place
@@ -157,7 +157,7 @@ serves c cpu host cmd payload =
 -- 32 bytes that may be a command
 abbrev pub command_served : Content → Cpu → Host → Result Cmd CmdFault → List ℕ → Served
 command_served c cpu host (Ok cmd) payload = serves c cpu host cmd payload
-command_served c cpu host (Err fault) payload = told host (codes "cmd bad-magic")
+command_served c cpu host (Err fault) payload = line_only host (codes "cmd bad-magic")
 
 -- a block is of the download's family and count
 abbrev pub is_like : List Uf2 → Uf2 → Bool
@@ -236,7 +236,7 @@ blocks_of (Some placing) = placing.blocks
 -- a block with its ruling: a block that begins a download is its first, and one that continues it
 -- is added behind the others
 abbrev pub block_served : Host → Uf2 → Ruling → Served
-block_served host b (Answered answer) = told host (block_text b.number answer)
+block_served host b (Answered answer) = line_only host (block_text b.number answer)
 block_served host b (Begins target) =
     taken_in host target (b ∷ []) b (grown target [] (b ∷ []))
 block_served host b (Continues target) =
@@ -251,7 +251,7 @@ places c cpu host b =
 -- 512 bytes that may be a UF2 block
 abbrev pub uf2_served : Content → Cpu → Host → Result Uf2 Uf2Fault → Served
 uf2_served c cpu host (Ok b) = places c cpu host b
-uf2_served c cpu host (Err fault) = told host (form_text fault)
+uf2_served c cpu host (Err fault) = line_only host (form_text fault)
 
 -- the events of a host
 abbrev pub is_hosted : Happening → Bool
@@ -264,7 +264,7 @@ abbrev pub served : Content → Cpu → Host → Happening → Served
 served c cpu host (Happening.Command command payload) =
     command_served c cpu host (command_in command) payload
 served c cpu host (Happening.Uf2 block) = uf2_served c cpu host (uf2_of block)
-served c cpu host event = told host []
+served c cpu host event = line_only host []
 
 -- the same without the boot
 abbrev pub before_boot : Served → Effect

@@ -7,7 +7,7 @@ ghost use Rattle.boot_machine.specs.Machines.{FromRam, Host, InBootsel, Off, Pro
 ghost use Rattle.boot_machine.specs.Moves.{effect};
 ghost use Rattle.boot_machine.specs.RunExamples.{begun_download, block_of, busy, erased, guarded, guarded_busy, idle, machine_at, no_command, with_image};
 ghost use Rattle.boot_machine.specs.Runs.{host_writes, place_writes};
-ghost use Rattle.boot_machine.specs.Serving.{info_status, info_words, served, serves, told, with_ram};
+ghost use Rattle.boot_machine.specs.Serving.{info_status, info_words, served, serves, line_only, with_ram};
 ghost use Rattle.boot_rules.specs.Examples.{bare, found_in, pair_content, tables_content};
 ghost use Rattle.boot_machine.specs.CrashExamples.{table_and_bare};
 ghost use Rattle.info_reply.specs.declared.ask.Ask.TheVariants as asks;
@@ -31,32 +31,32 @@ ghost use Rattle.uf2_place.specs.Blocks.{written as block_bytes};
 pub fn commands_of_a_form()
     ensures magic { (c : Content) (cpu : Cpu) (host : Host) (payload : List ℕ)
         → served c cpu host (Happening.Command no_command payload)
-        ≡ told host (codes "cmd bad-magic") }
+        ≡ line_only host (codes "cmd bad-magic") }
     ensures unknown { serves erased Arm idle (command 0x00 0 0 (range_args 0 0)) []
-        ≡ told idle (codes "cmd 0x00 token=0x00000001 status=1") }
+        ≡ line_only idle (codes "cmd 0x00 token=0x00000001 status=1") }
 {}
 
 /// An info command is none for RAM, whatever its arguments are, and a busy download does not
 /// matter to it.
 pub fn info_commands()
     ensures ram { serves erased Arm busy (command 0x8b 8 4 (range_args 0x20000000 4)) []
-        ≡ told busy (codes "cmd 0x8b token=0x00000001 status=2") }
+        ≡ line_only busy (codes "cmd 0x8b token=0x00000001 status=2") }
     ensures busy { info_status erased Arm None (info 16 3 0) [] ≡ 0 }
     ensures short { serves erased Arm busy (info 12 3 0) []
-        ≡ told busy (codes "cmd 0x8b token=0x00000001 status=12") }
+        ≡ line_only busy (codes "cmd 0x8b token=0x00000001 status=12") }
     ensures kind { serves erased Arm idle (info 16 5 0) []
-        ≡ told idle (codes "cmd 0x8b token=0x00000001 status=11") }
+        ≡ line_only idle (codes "cmd 0x8b token=0x00000001 status=11") }
     ensures partition { serves erased Arm idle (info 16 4 0) []
-        ≡ told idle (codes "cmd 0x8b token=0x00000001 status=16") }
+        ≡ line_only idle (codes "cmd 0x8b token=0x00000001 status=16") }
     ensures kept { serves erased Arm guarded (info 4 4 2) []
-        ≡ told guarded (codes "cmd 0x8b token=0x00000001 status=16") }
+        ≡ line_only guarded (codes "cmd 0x8b token=0x00000001 status=16") }
 {}
 
 /// The table that was found at entry serves, also where the content has none.
 pub fn the_kept_table_serves()
     ensures content { table_in erased ≡ None }
     ensures guarded { serves erased Arm guarded (erase_command 0x10000000 0x1000) []
-        ≡ told guarded (codes "cmd 0x03 token=0x00000001 status=10") }
+        ≡ line_only guarded (codes "cmd 0x03 token=0x00000001 status=10") }
     ensures bare { serves erased Arm idle (erase_command 0x10000000 0x1000) [] ≡ record {
       steps = Erase 0 ∷ [];
       place = InBootsel idle;
@@ -64,7 +64,7 @@ pub fn the_kept_table_serves()
       boot = None;
     } }
     ensures busy { serves erased Arm busy (erase_command 0x10000000 0x1000) []
-        ≡ told busy (codes "cmd 0x03 token=0x00000001 status=9") }
+        ≡ line_only busy (codes "cmd 0x03 token=0x00000001 status=9") }
 {}
 
 /// A RAM command stores its bytes and keeps the download; a write while one is busy is refused
@@ -77,17 +77,17 @@ pub fn commands_of_ram()
       boot = None;
     } }
     ensures busy { serves erased Arm busy (write_command 0x20000002 2) (9 ∷ [])
-        ≡ told busy (codes "cmd 0x05 token=0x00000001 status=9") }
+        ≡ line_only busy (codes "cmd 0x05 token=0x00000001 status=9") }
     ensures transfer { serves erased Arm idle (write_command 0x20082000 2) (9 ∷ [])
-        ≡ told idle (codes "cmd 0x05 token=0x00000001 status=3") }
+        ≡ line_only idle (codes "cmd 0x05 token=0x00000001 status=3") }
     ensures outside { serves erased Arm idle (write_command 0x20081fff 2) (9 ∷ 10 ∷ [])
-        ≡ told idle (codes "cmd 0x05 token=0x00000001 status=4") }
+        ≡ line_only idle (codes "cmd 0x05 token=0x00000001 status=4") }
     ensures read_outside { serves erased Arm busy (read_command 0x20081fff 2) []
-        ≡ told busy (codes "cmd 0x84 token=0x00000001 status=4") }
+        ≡ line_only busy (codes "cmd 0x84 token=0x00000001 status=4") }
     ensures range { serves erased Arm busy (reboot_into 3 0x20000002 28) []
-        ≡ told busy (codes "cmd 0x0a token=0x00000001 status=11") }
+        ≡ line_only busy (codes "cmd 0x0a token=0x00000001 status=11") }
     ensures no_image { serves erased Arm busy (reboot_into 3 0x20000000 8) []
-        ≡ told busy (codes "cmd 0x0a token=0x00000001 status=13") }
+        ≡ line_only busy (codes "cmd 0x0a token=0x00000001 status=13") }
 {}
 
 /// A RAM command leaves the table and the download as they are.
@@ -133,7 +133,7 @@ pub fn starts_in_ram()
     ensures busy { (serves erased Arm (with_image busy) (reboot_into 0x103 0x20000000 28) []).place
         ≡ Running (FromRam ram_image) }
     ensures short { serves erased Arm (with_image idle) (reboot_into 3 0x20000000 27) []
-        ≡ told (with_image idle) (codes "cmd 0x0a token=0x00000001 status=13") }
+        ≡ line_only (with_image idle) (codes "cmd 0x0a token=0x00000001 status=13") }
 {}
 
 /// A reboot of another kind asks for that boot, which the event's line ends with; BOOTSEL is

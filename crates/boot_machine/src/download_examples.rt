@@ -4,7 +4,7 @@
 ghost use Rattle.std.specs.Prelude.{◌≡◌, Err, None, Ok, Some, [], ◌∷◌, codes, false, replicate, true};
 ghost use Rattle.boot_machine.specs.Machines.{InBootsel};
 ghost use Rattle.boot_machine.specs.RunExamples.{arm_block, begun_download, block_of, busy, guarded_busy, host_with, idle, slot_one, slot_two};
-ghost use Rattle.boot_machine.specs.Serving.{block_served, done_boot, ruling_on, served, told};
+ghost use Rattle.boot_machine.specs.Serving.{block_served, done_boot, ruling_on, served, line_only};
 ghost use Rattle.boot_rules.specs.Examples.{found_in};
 ghost use Rattle.boot_script.specs.Events.{Happening};
 ghost use Rattle.part_table.specs.Examples.{guarded_table};
@@ -97,11 +97,11 @@ pub fn what_a_block_leaves()
     ensures data { (block_served idle (block_of 0x2000 0x10000000 0 1 0xe48bff58)
         (Begins slot_one)).boot ≡ Some Normal }
     ensures refused { block_served busy (arm_block 0x10000000 0) (Answered (Err Outside))
-        ≡ told busy (codes "uf2 refused outside") }
+        ≡ line_only busy (codes "uf2 refused outside") }
     ensures again { block_served busy (arm_block 0x10001000 0) (Answered (Ok Again))
-        ≡ told busy (codes "uf2 0 again") }
+        ≡ line_only busy (codes "uf2 0 again") }
     ensures form { (c : Content) (cpu : Cpu)
-        → served c cpu busy (Happening.Uf2 (replicate 512 0)) ≡ told busy (codes "uf2 bad magic") }
+        → served c cpu busy (Happening.Uf2 (replicate 512 0)) ≡ line_only busy (codes "uf2 bad magic") }
 {}
 
 /// The boot after a download: an update of its window for the three families of executables, and a

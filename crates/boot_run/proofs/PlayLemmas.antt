@@ -1,7 +1,7 @@
 -- What events do to a machine whose board tells its armed cut: Moves and Plays name the one machine and the texts.
 use Rattle.std.proofs.Common.{◌≡◌, ℕ, true, false, cond, Option, Some, List, [], ◌∷◌, refl, sym, ◌∙◌, ap, subst, inl, inr}
 use Rattle.pico_board.specs.Content.{Content}
-use Rattle.pico_board.specs.Cuts.{Cut, told, told_all}
+use Rattle.pico_board.specs.Cuts.{Cut, cut_steps}
 use Rattle.boot_script.specs.Events.{Happening, End, Command, Uf2, Cut as ArmsCut, PowerOn, Reset, Buy}
 use Rattle.boot_machine.specs.Machines.{Machine, Off}
 use Rattle.boot_machine.specs.Boots.{Effect}
@@ -24,16 +24,16 @@ pub record AreOf (w : Moved) (n : Machine) (text : List ℕ) : Type 0 where
   pub line : text ≡ w.text
 
 moves-by : (m : Machine) (cut : Option Cut) (e : Effect) (n : Machine) (text : List ℕ) → MovesBy m (Some cut) e n text
-    → AreOf (moved_as m e (told_all e.steps cut m.content)) n text
+    → AreOf (moved_as m e (cut_steps e.steps cut m.content)) n text
 moves-by m cut e n text (inl done) =
-    let o = told_all e.steps cut m.content in
+    let o = cut_steps e.steps cut m.content in
     let yes : o.answer ≡ true = done.armed_cut.answer in record {
       machine = same-machine n o.content (Some o.armed) m done.armed_cut.left done.armed_cut.next done.cpu
           (cond o.answer e.place Off) (done.place ∙ sym (ap (λ b. cond b e.place Off) yes));
       line = done.line ∙ sym (ap (λ b. cond b e.text lost_text) yes);
     }
 moves-by m cut e n text (inr lost) =
-    let o = told_all e.steps cut m.content in
+    let o = cut_steps e.steps cut m.content in
     let no : o.answer ≡ false = lost.armed_cut.answer in record {
       machine = same-machine n o.content (Some o.armed) m lost.armed_cut.left lost.armed_cut.next lost.cpu
           (cond o.answer e.place Off) (lost.place ∙ sym (ap (λ b. cond b e.place Off) no));
@@ -66,10 +66,10 @@ armed-told m cut event told = ap (λ a. armed_for a event) told ∙ armed-as cut
 
 -- what an event comes to, by the cut that is armed while its steps are done
 pub moved-as : (m : Machine) (event : Happening) (cut : Option Cut) → armed_for m.armed event ≡ Some cut
-    → moved m event ≡ moved_as m (effect m event) (told_all (effect m event).steps cut m.content)
+    → moved m event ≡ moved_as m (effect m event) (cut_steps (effect m event).steps cut m.content)
 unfolding moved
 moved-as m event cut is =
-    ap (λ a. moved_as m (effect m event) (told_all (effect m event).steps (told_cut a) m.content)) is
+    ap (λ a. moved_as m (effect m event) (cut_steps (effect m event).steps (told_cut a) m.content)) is
 
 -- an event takes a machine to no other one, with no other text
 pub moves-only : (m : Machine) (cut : Option Cut) (event : Happening) (n : Machine) (text : List ℕ) → m.armed ≡ Some cut
@@ -85,7 +85,7 @@ moves-only m cut event n text told moves =
 pub moved-told : (m : Machine) (event : Happening) → (cut : Option Cut) × ((moved m event).next.armed ≡ Some cut)
 unfolding moved
 moved-told m event =
-    ((told_all (effect m event).steps (told_cut (armed_for m.armed event)) m.content).armed, refl)
+    ((cut_steps (effect m event).steps (told_cut (armed_for m.armed event)) m.content).armed, refl)
 
 -- the machine and the texts are those
 pub record ArePlayed (w : Played) (n : Machine) (texts : List (List ℕ)) : Type 0 where

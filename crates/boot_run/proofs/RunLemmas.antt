@@ -30,7 +30,7 @@ use Rattle.boot_run.specs.Works.{boot_work, is_fall}
 use Rattle.boot_run.specs.Outcome.{Outcome, Input, inputs_of, inputs_in, flash_and_otp, flash_otp_script, outcome_in, outcome_on, outcome_found, found, found_next, command_outcome, worked, judged, first_fault, refused, answered_status, is_finished}
 use Rattle.boot_run.specs.Replays.{AreOfBytes}
 use Rattle.boot_run.specs.Rules.{Names, Obeys, IsRefused, decided_status}
-use Rattle.boot_run.specs.Ends.{AreRead, LacksOne, Does, IsAsTold, LeftAt}
+use Rattle.boot_run.specs.Ends.{AreRead, LacksOne, Does, ShowsOutcome, LeftAt}
 use Rattle.boot_run.proofs.RuleLemmas.{bytes-serve, obeys, refused-exactly}
 use Rattle.boot_run.proofs.OutcomeLemmas.{outcome-finished, outcome-words, outcome-told, not-lacking, no-fault}
 use Rattle.boot_run.proofs.EndLemmas.{RunEnd, room, unread, cut_short, whole, put_fault, put_memory, Finished, end-finished}
@@ -106,12 +106,12 @@ module _ {S : Type 0} (state : S → StoreState) (history : S → List Access �
       (outcome-finished command) old new before after status ends h
 
   pub run-told : Ends → (files : List File) → (state old).files ≡ Some files → is_finished status ≡ true
-      → IsAsTold (outcome_on command files) (state old) (shown before) status (state new) (shown after)
+      → ShowsOutcome (outcome_on command files) (state old) (shown before) status (state new) (shown after)
   run-told ends files told h =
       let f = done ends h in
       let same : outcome_in command f.read ≡ outcome_on command files =
       outcome-told command files f.read (subst (λ t. AreRead t (inputs_in command) f.read) told f.are) in
-      subst (λ o. IsAsTold o (state old) (shown before) status (state new) (shown after)) same
+      subst (λ o. ShowsOutcome o (state old) (shown before) status (state new) (shown after)) same
       (record { answer = f.is; text = f.does.puts.bytes; files = f.saved })
 
   pub run-boot : Ends → (flash otp f g : List ℕ) (cpu : Cpu) (kind : BootKind) (files : List File) (d : Decision)
@@ -122,7 +122,7 @@ module _ {S : Type 0} (state : S → StoreState) (history : S → List Access �
       × ((choice : Choice) → d ≡ Start choice → NotBelow (content_of f g).otp choice.image)
   run-boot ends flash otp f g cpu kind files d asks told is_f is_g flash_form otp_form h chosen =
       let same = boot-told flash otp f g cpu kind files d command asks is_f is_g flash_form otp_form chosen in
-      let t = subst (λ o. IsAsTold o (state old) (shown before) status (state new) (shown after)) same
+      let t = subst (λ o. ShowsOutcome o (state old) (shown before) status (state new) (shown after)) same
       (run-told ends files told h) in (
         t.answer,
         t.text,

@@ -7,20 +7,23 @@ use Rattle.std.proofs.lemmas.Bool.{ltb-true, ltb-false, eqb-true, eqb-false, leb
 use Rattle.std.proofs.lemmas.List.Elements.{All-cons, All-head, All-tail}
 use Rattle.std.proofs.lemmas.List.Kept.{AllPairs-cons}
 use Rattle.image_def.specs.declared.started.Started.{Started}
-use Rattle.otp_roll.specs.Rows.{AreApart, AreRollbackRows, first_row, last_row}
+use Rattle.otp_roll.specs.Rows.{AreRowsApart, AreRollbackRows}
+use Rattle.otp_roll.specs.declared.rows.TheConstants.{FIRST_ROW, LAST_ROW}
 use Rattle.image_check.specs.declared.why.Why.{Why}
 use Rattle.image_pack.specs.declared.spec.SealError.{SealError}
 use Rattle.image_pack.specs.declared.spec.SealError.TheVariants.{BadSpec, Unsealable, TooLarge, BlockTooLong, NotBootable, Displaced}
 use Rattle.image_pack.specs.declared.spec.SealSpec.{SealSpec}
 use Rattle.image_pack.specs.declared.spec.SpecField.TheVariants.{Rollback, Rows}
-use Rattle.image_pack.specs.Faults.{IsRightRollback, IsRightSpec, IsSealFault, IsSealable, IsSealed, IsShort, block_bytes, block_offset, most_bytes}
+use Rattle.image_def.specs.declared.images.TheConstants.{MOST_BLOCK_BYTES}
+use Rattle.image_pack.specs.declared.sealing.TheConstants.{MOST_BYTES}
+use Rattle.image_pack.specs.Faults.{IsRightRollback, IsRightSpec, IsSealFault, IsSealable, IsSealed, IsShort, block_bytes, block_offset}
 use Rattle.image_pack.specs.Filling.{whole_sectors}
 use Rattle.image_pack.specs.Sealing.{parts_in, sealed_text}
 use Rattle.image_pack.proofs.FaultLemmas.{one-fault, no-fault, sealed-by, fault-by}
 use Rattle.boot_run.specs.Seals.{may_list, is_apart, all_apart, are_listed, goes_with, start_error, alone, sealed_error, binary_error, seal_error}
 
 abbrev IsIn : ℕ → Type 0
-IsIn row = (first_row ≤ row) × (row ≤ last_row)
+IsIn row = (FIRST_ROW ≤ row) × (row ≤ LAST_ROW)
 
 -- a test that each element passes, by what it tells
 tested : (p : ℕ → Bool) (P : ℕ → Type 0) → ((x : ℕ) → p x ≡ true → P x) → (xs : List ℕ) → list_all p xs ≡ true
@@ -38,21 +41,21 @@ passes p P tells (x ∷ xs) all =
 
 in-range : (row : ℕ) → may_list row ≡ true → IsIn row
 in-range row h =
-    let both = and_parts (nat_le first_row row) (nat_le row last_row) h in
-    (leb-true first_row row both.0, leb-true row last_row both.1)
+    let both = and_parts (nat_le FIRST_ROW row) (nat_le row LAST_ROW) h in
+    (leb-true FIRST_ROW row both.0, leb-true row LAST_ROW both.1)
 
 range-in : (row : ℕ) → IsIn row → may_list row ≡ true
 range-in row is =
-    and_from (nat_le first_row row) (nat_le row last_row) (le-leb first_row row is.0) (le-leb row last_row is.1)
+    and_from (nat_le FIRST_ROW row) (nat_le row LAST_ROW) (le-leb FIRST_ROW row is.0) (le-leb row LAST_ROW is.1)
 
-apart-told : (row other : ℕ) → is_apart row other ≡ true → AreApart row other
+apart-told : (row other : ℕ) → is_apart row other ≡ true → AreRowsApart row other
 apart-told row other h = go (nat_le (row + 3) other) refl h
   where
-    go : (t : Bool) → nat_le (row + 3) other ≡ t → (t || nat_le (other + 3) row) ≡ true → AreApart row other
+    go : (t : Bool) → nat_le (row + 3) other ≡ t → (t || nat_le (other + 3) row) ≡ true → AreRowsApart row other
     go true is e = inl (leb-true (row + 3) other is)
     go false is e = inr (leb-true (other + 3) row e)
 
-told-apart : (row other : ℕ) → AreApart row other → is_apart row other ≡ true
+told-apart : (row other : ℕ) → AreRowsApart row other → is_apart row other ≡ true
 told-apart row other (inl far) = ap (λ t. t || nat_le (other + 3) row) (le-leb (row + 3) other far)
 told-apart row other (inr far) = go (nat_le (row + 3) other)
   where
@@ -60,18 +63,18 @@ told-apart row other (inr far) = go (nat_le (row + 3) other)
     go true = refl
     go false = le-leb (other + 3) row far
 
-pairs-told : (rows : List ℕ) → all_apart rows ≡ true → AllPairs AreApart rows
+pairs-told : (rows : List ℕ) → all_apart rows ≡ true → AllPairs AreRowsApart rows
 pairs-told [] h = λ i j d below lt. absurd (omega (arith, lt))
 pairs-told (row ∷ rows) h =
     let both = and_parts (list_all (is_apart row) rows) (all_apart rows) h in
-    AllPairs-cons AreApart row rows (tested (is_apart row) (AreApart row) (apart-told row) rows both.0)
+    AllPairs-cons AreRowsApart row rows (tested (is_apart row) (AreRowsApart row) (apart-told row) rows both.0)
     (pairs-told rows both.1)
 
-told-pairs : (rows : List ℕ) → AllPairs AreApart rows → all_apart rows ≡ true
+told-pairs : (rows : List ℕ) → AllPairs AreRowsApart rows → all_apart rows ≡ true
 told-pairs [] pairs = refl
 told-pairs (row ∷ rows) pairs =
     and_from (list_all (is_apart row) rows) (all_apart rows)
-    (passes (is_apart row) (AreApart row) (told-apart row) rows
+    (passes (is_apart row) (AreRowsApart row) (told-apart row) rows
     (λ k d lt. pairs 0 (suc k) d (omega arith) (omega (arith, lt))))
     (told-pairs rows (λ i j d below lt. pairs (suc i) (suc j) d (omega (arith, below)) (omega (arith, lt))))
 
@@ -125,27 +128,27 @@ module _ (binary : List ℕ) (spec : SealSpec) where
           (started, is, eqb-false started.block (block_offset binary) other))
 
   size-judged : IsSealable binary spec → IsJudged binary spec (sealed_error binary spec)
-  size-judged sealable = go (nat_lt most_bytes (length (sealed_text binary spec))) refl
+  size-judged sealable = go (nat_lt MOST_BYTES (length (sealed_text binary spec))) refl
     where
-      block : length (sealed_text binary spec) ≤ most_bytes → (t : Bool) → nat_lt 384 (block_bytes binary spec) ≡ t
+      block : length (sealed_text binary spec) ≤ MOST_BYTES → (t : Bool) → nat_lt MOST_BLOCK_BYTES (block_bytes binary spec) ≡ t
           → IsJudged binary spec (cond t (Some (BlockTooLong (block_bytes binary spec)))
           (start_error (block_offset binary) (alone spec (sealed_text binary spec))))
       block small true long =
           has_fault (BlockTooLong (block_bytes binary spec))
-          (sealable, small, ltb-true 384 (block_bytes binary spec) long, refl)
+          (sealable, small, ltb-true MOST_BLOCK_BYTES (block_bytes binary spec) long, refl)
       block small false short =
           start-judged
-          (record { sealable = sealable; image = small; block = ltb-false 384 (block_bytes binary spec) short })
+          (record { sealable = sealable; image = small; block = ltb-false MOST_BLOCK_BYTES (block_bytes binary spec) short })
           (alone spec (sealed_text binary spec)) refl
 
-      go : (t : Bool) → nat_lt most_bytes (length (sealed_text binary spec)) ≡ t
+      go : (t : Bool) → nat_lt MOST_BYTES (length (sealed_text binary spec)) ≡ t
           → IsJudged binary spec (cond t (Some TooLarge)
-          (if nat_lt 384 (block_bytes binary spec) then Some (BlockTooLong (block_bytes binary spec))
+          (if nat_lt MOST_BLOCK_BYTES (block_bytes binary spec) then Some (BlockTooLong (block_bytes binary spec))
           else start_error (block_offset binary) (alone spec (sealed_text binary spec))))
       go true large =
-          has_fault TooLarge (sealable, ltb-true most_bytes (length (sealed_text binary spec)) large)
+          has_fault TooLarge (sealable, ltb-true MOST_BYTES (length (sealed_text binary spec)) large)
       go false small =
-          block (ltb-false most_bytes (length (sealed_text binary spec)) small) (nat_lt 384 (block_bytes binary spec))
+          block (ltb-false MOST_BYTES (length (sealed_text binary spec)) small) (nat_lt MOST_BLOCK_BYTES (block_bytes binary spec))
           refl
 
   binary-judged : {Parts : Type 0} (r : Result Parts Why)

@@ -13,7 +13,7 @@ use Rattle.pico_board.specs.Content.{Content}
 use Rattle.pico_board.specs.declared.Step.{Step}
 use Rattle.pico_board.specs.declared.Step.TheVariants.{Erase, Program, Raise}
 use Rattle.pico_board.specs.Steps.{after, after_all, CutOf, IsBetween, Torn, changed}
-use Rattle.pico_board.specs.Cuts.{Cut, Told, cut_by, nearer, pattern_at, pattern_row, told_all, told_next, torn_by}
+use Rattle.pico_board.specs.Cuts.{Cut, CutOutcome, cut_by, nearer, pattern_at, pattern_row, cut_steps, unless_cut, torn_by}
 use Rattle.pico_board.proofs.Changed.{length-changed, changed-at, changed-same}
 use Rattle.pico_board.proofs.Contents.{byte_at, All-changed, pattern_at-lt}
 use Rattle.pico_board.proofs.TornSteps.{IsBetween-first, SameOutside-refl, SameOutside-set}
@@ -159,13 +159,13 @@ torn-cut cut c step of small = choose cut.within
     choose false = torn-before c step small
 
 -- what a board tells of steps: all are done, or power was lost in one of them
-pub record IsToldOf (c : Content) (steps : List Step) (o : Told) : Type 0 where
+pub record IsToldOf (c : Content) (steps : List Step) (o : CutOutcome) : Type 0 where
   pub ends : ((o.answer ≡ true) × (o.content ≡ after_all c steps))
       ⊎ ((o.answer ≡ false) × CutOf c steps o.content)
   pub pattern : HasBytes o.armed
   pub flash : AreBytes o.content.flash
 
-told-more : (c : Content) (step : Step) (steps : List Step) (o : Told) → IsToldOf (after c step) steps o
+told-more : (c : Content) (step : Step) (steps : List Step) (o : CutOutcome) → IsToldOf (after c step) steps o
     → IsToldOf c (step ∷ steps) o
 told-more c step steps o is = record {
   ends = elim is.ends [ inl done ↦ inl done | inr lost ↦ inr (lost.0, inr lost.1) ];
@@ -175,29 +175,29 @@ told-more c step steps o is = record {
 
 -- a step by an armed cut that falls due in it, or has steps left
 told-due : (cut : Cut) (c : Content) (step : Step) (steps : List Step) → (cut.left == 0) ≡ true
-    → told_all (step ∷ steps) (Some cut) c ≡ record { answer = false; content = cut_by cut c step; armed = None }
-told-due cut c step steps is = ap (λ (b : Bool). told_next (cond b (told_lost) (told_done)) (told_all steps)) is
+    → cut_steps (step ∷ steps) (Some cut) c ≡ record { answer = false; content = cut_by cut c step; armed = None }
+told-due cut c step steps is = ap (λ (b : Bool). unless_cut (cond b (told_lost) (told_done)) (cut_steps steps)) is
   where
-    told_lost : Told
+    told_lost : CutOutcome
     told_lost = record { answer = false; content = cut_by cut c step; armed = None }
 
-    told_done : Told
+    told_done : CutOutcome
     told_done = record { answer = true; content = after c step; armed = Some (nearer cut) }
 
 told-left : (cut : Cut) (c : Content) (step : Step) (steps : List Step) → (cut.left == 0) ≡ false
-    → told_all (step ∷ steps) (Some cut) c ≡ told_all steps (Some (nearer cut)) (after c step)
-told-left cut c step steps is = ap (λ (b : Bool). told_next (cond b (told_lost) (told_done)) (told_all steps)) is
+    → cut_steps (step ∷ steps) (Some cut) c ≡ cut_steps steps (Some (nearer cut)) (after c step)
+told-left cut c step steps is = ap (λ (b : Bool). unless_cut (cond b (told_lost) (told_done)) (cut_steps steps)) is
   where
-    told_lost : Told
+    told_lost : CutOutcome
     told_lost = record { answer = false; content = cut_by cut c step; armed = None }
 
-    told_done : Told
+    told_done : CutOutcome
     told_done = record { answer = true; content = after c step; armed = Some (nearer cut) }
 
 told-one : (cut : Cut) (c : Content) (step : Step) (steps : List Step) (b : Bool) → (cut.left == 0) ≡ b
     → AreBytes cut.pattern → AreBytes c.flash
-    → IsToldOf (after c step) steps (told_all steps (Some (nearer cut)) (after c step))
-    → IsToldOf c (step ∷ steps) (told_all (step ∷ steps) (Some cut) c)
+    → IsToldOf (after c step) steps (cut_steps steps (Some (nearer cut)) (after c step))
+    → IsToldOf c (step ∷ steps) (cut_steps (step ∷ steps) (Some cut) c)
 told-one cut c step steps true is of small rest =
     subst (IsToldOf c (step ∷ steps)) (sym (told-due cut c step steps is)) (record {
       ends = inr (refl, inl (torn-cut cut c step of small));
@@ -206,13 +206,13 @@ told-one cut c step steps true is of small rest =
     })
 told-one cut c step steps false is of small rest =
     subst (IsToldOf c (step ∷ steps)) (sym (told-left cut c step steps is))
-    (told-more c step steps (told_all steps (Some (nearer cut)) (after c step)) rest)
+    (told-more c step steps (cut_steps steps (Some (nearer cut)) (after c step)) rest)
 
 pub told-of : (steps : List Step) (cut : Option Cut) (c : Content) → HasBytes cut → AreBytes c.flash
-    → IsToldOf c steps (told_all steps cut c)
+    → IsToldOf c steps (cut_steps steps cut c)
 told-of [] cut c of small = record { ends = inl (refl, refl); pattern = of; flash = small }
 told-of (step ∷ steps) None c of small =
-    told-more c step steps (told_all steps None (after c step))
+    told-more c step steps (cut_steps steps None (after c step))
     (told-of steps None (after c step) tt (bytes-after c step small))
 told-of (step ∷ steps) (Some cut) c of small =
     told-one cut c step steps (cut.left == 0) refl of small
@@ -235,9 +235,9 @@ pub record IsMoved (m : Machine) (event : Happening) (w : Moved) : Type 0 where
   pub telling : IsTelling w.next
 
 moves-told : (m : Machine) (cut : Option Cut) (e : Effect)
-    → IsToldOf m.content e.steps (told_all e.steps cut m.content)
-    → MovesBy m (Some cut) e (moved_as m e (told_all e.steps cut m.content)).next
-    (moved_as m e (told_all e.steps cut m.content)).text
+    → IsToldOf m.content e.steps (cut_steps e.steps cut m.content)
+    → MovesBy m (Some cut) e (moved_as m e (cut_steps e.steps cut m.content)).next
+    (moved_as m e (cut_steps e.steps cut m.content)).text
 moves-told m cut e is = elim is.ends [
   | inl done ↦ inl (record {
     content = done.1;
@@ -262,10 +262,10 @@ moved-moves m event is of =
     let e = effect m event in
     let o = told-of e.steps cut m.content (armed-bytes is.cut event is.pattern of) is.flash in
     subst (IsMoved m event) (sym (moved-as m event cut a)) (record {
-      moves = subst (λ armed. MovesBy m armed e (moved_as m e (told_all e.steps cut m.content)).next
-          (moved_as m e (told_all e.steps cut m.content)).text) (sym a) (moves-told m cut e o);
+      moves = subst (λ armed. MovesBy m armed e (moved_as m e (cut_steps e.steps cut m.content)).next
+          (moved_as m e (cut_steps e.steps cut m.content)).text) (sym a) (moves-told m cut e o);
       telling = record {
-        cut = (told_all e.steps cut m.content).armed;
+        cut = (cut_steps e.steps cut m.content).armed;
         told = refl;
         pattern = o.pattern;
         flash = o.flash;

@@ -89,7 +89,7 @@ pub record IsPutShort {K : Type 0} (shown : K → SinkState) (taken : K → List
       (record { bytes = (outcome read).text; answer = Err fail }) after
 
 -- told files and told bytes are as the outcome says: its status, its text, and its files
-pub record IsAsTold (o : Outcome) (s : StoreState) (k : SinkState) (status : Status)
+pub record ShowsOutcome (o : Outcome) (s : StoreState) (k : SinkState) (status : Status)
     (t : StoreState) (l : SinkState) : Type 0 where
   pub answer : status ≡ o.status
   pub text : IsPut k.bytes o.text l.bytes

@@ -2,7 +2,7 @@
 use Rattle.std.specs.Prelude.{◌≡◌, ⊤, ℕ, ◌<◌, if◌then◌else◌, List, [], ◌∷◌, All, Option, Some, None}
 use Rattle.pico_board.specs.declared.boot.Cpu.{Cpu}
 use Rattle.pico_board.specs.Content.{Content}
-use Rattle.pico_board.specs.Cuts.{Cut, Told, told_all}
+use Rattle.pico_board.specs.Cuts.{Cut, CutOutcome, cut_steps}
 use Rattle.boot_script.specs.Events.{Happening, Cut as ArmsCut}
 use Rattle.boot_machine.specs.Machines.{Machine, Off}
 use Rattle.boot_machine.specs.Boots.{Effect}
@@ -14,7 +14,7 @@ pub record Moved : Type 0 where
   pub text : List ℕ
 
 -- the steps of the event were done or cut, as the board told
-abbrev pub moved_as : Machine → Effect → Told → Moved
+abbrev pub moved_as : Machine → Effect → CutOutcome → Moved
 moved_as m e o = record {
   next = record {
     content = o.content;
@@ -34,7 +34,7 @@ told_cut (Some cut) = cut
 unfoldable pub moved : Machine → Happening → Moved
 moved m event =
     moved_as m (effect m event)
-    (told_all (effect m event).steps (told_cut (armed_for m.armed event)) m.content)
+    (cut_steps (effect m event).steps (told_cut (armed_for m.armed event)) m.content)
 
 -- what comes of a list of events: the machine afterwards, and the texts of their lines
 pub record Played : Type 0 where

@@ -3,7 +3,7 @@ use Rattle.std.specs.Prelude.{◌≡◌, ℕ, ◌+◌, ◌*◌, ◌==◌, ◌&&�
 use Rattle.std.specs.Option.{option_or}
 use Rattle.std.specs.List.{list_all}
 use Rattle.image_def.specs.declared.started.Started.{Started}
-use Rattle.otp_roll.specs.Rows.{first_row, last_row}
+use Rattle.otp_roll.specs.declared.rows.TheConstants.{FIRST_ROW, LAST_ROW}
 use Rattle.image_check.specs.declared.why.Why.{Why}
 use Rattle.image_check.specs.Addressing.{in_flash}
 use Rattle.image_check.specs.Image.{image_in}
@@ -11,7 +11,9 @@ use Rattle.image_pack.specs.declared.spec.SealError.{SealError}
 use Rattle.image_pack.specs.declared.spec.SealError.TheVariants.{BadSpec, Unsealable, TooLarge, BlockTooLong, NotBootable, Displaced, Memory}
 use Rattle.image_pack.specs.declared.spec.SealSpec.{SealSpec}
 use Rattle.image_pack.specs.declared.spec.SpecField.TheVariants.{Rollback, Rows}
-use Rattle.image_pack.specs.Faults.{IsSealFault, block_bytes, block_offset, most_bytes, whole_window, zero_otp}
+use Rattle.image_def.specs.declared.images.TheConstants.{MOST_BLOCK_BYTES}
+use Rattle.image_pack.specs.declared.sealing.TheConstants.{MOST_BYTES}
+use Rattle.image_pack.specs.Faults.{IsSealFault, block_bytes, block_offset, whole_window, zero_otp}
 use Rattle.image_pack.specs.Filling.{whole_sectors}
 use Rattle.image_pack.specs.Sealing.{parts_in, sealed_text}
 use Rattle.boot_run.specs.Jsons.{IsSpecText}
@@ -19,7 +21,7 @@ use Rattle.boot_run.specs.Texts.{hex_word, line, why_text}
 
 -- a row may be listed
 abbrev pub may_list : ℕ → Bool
-may_list row = nat_le first_row row && nat_le row last_row
+may_list row = nat_le FIRST_ROW row && nat_le row LAST_ROW
 
 -- the triples of two rows share no row
 abbrev pub is_apart : ℕ → ℕ → Bool
@@ -61,8 +63,8 @@ alone spec image =
 -- it does not start by its new block
 abbrev pub sealed_error : List ℕ → SealSpec → Option SealError
 sealed_error binary spec =
-    if nat_lt most_bytes (length (sealed_text binary spec)) then Some TooLarge
-    else if nat_lt 384 (block_bytes binary spec) then Some (BlockTooLong (block_bytes binary spec))
+    if nat_lt MOST_BYTES (length (sealed_text binary spec)) then Some TooLarge
+    else if nat_lt MOST_BLOCK_BYTES (block_bytes binary spec) then Some (BlockTooLong (block_bytes binary spec))
     else start_error (block_offset binary) (alone spec (sealed_text binary spec))
 
 -- the same where the binary has these parts, or fails this rule

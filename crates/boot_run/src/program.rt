@@ -23,7 +23,7 @@ ghost use Rattle.boot_run.specs.Texts.{decision_line};
 ghost use Rattle.boot_run.specs.Outcome.{Outcome, inputs_of, inputs_in, outcome_in, outcome_on, command_outcome, is_finished};
 ghost use Rattle.boot_run.specs.Courses.{Runs};
 ghost use Rattle.boot_run.specs.Rules.{Names, Obeys, IsRefused, decided_status};
-ghost use Rattle.boot_run.specs.Ends.{Does, IsAsTold, LacksOne, IsCutShort, IsPutShort};
+ghost use Rattle.boot_run.specs.Ends.{Does, ShowsOutcome, LacksOne, IsCutShort, IsPutShort};
 ghost use Rattle.boot_run.specs.Views.{command_from};
 
 use crate::course::{finish, put_text, read_all};
@@ -134,7 +134,7 @@ pub fn run<S: Store, K: Sink>(
     // On told files: the status, the text and the files are those of the words on whole files.
     ensures told { (files : List File) → (S.state store.old).files ≡ Some files
         → is_finished result ≡ true
-        → IsAsTold (outcome_on (asked words.now) files) (S.state store.old) (K.state out.old) result
+        → ShowsOutcome (outcome_on (asked words.now) files) (S.state store.old) (K.state out.old) result
         (S.state store.new) (K.state out.new) }
     ensures lacking { (files : List File) → (S.state store.old).files ≡ Some files
         → LacksOne (Some files) (inputs_in (asked words.now))

@@ -8,7 +8,8 @@ use Rattle.std.proofs.lemmas.List.Edits.{get_or-between, length-between}
 use Rattle.std.proofs.lemmas.Slice.Eq.{bytes_eq-Decides}
 use Rattle.std.proofs.lemmas.Option.{same_Some}
 use Rattle.pico_board.specs.declared.boot.Cpu.{Cpu}
-use Rattle.block_codec.specs.Blocks.{BlockView, block_at, block_size}
+use Rattle.block_codec.specs.Blocks.{BlockView, block_size}
+use Rattle.block_codec.specs.Reading.{block_at}
 use Rattle.block_codec.proofs.AtLemmas.{BlockAt-from_found, BlockAt-room}
 use Rattle.block_loop.specs.Loop.{loop_of}
 use Rattle.block_loop.specs.Offsets.{AreLoop, loop_offsets, offsets_of}

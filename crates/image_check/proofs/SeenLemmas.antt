@@ -6,7 +6,8 @@ use Rattle.std.proofs.lemmas.List.{reverse-append, take_more, take_all}
 use Rattle.std.proofs.lemmas.List.Folds.{list_any-append}
 use Rattle.std.proofs.lemmas.Option.{slice_get_within, get_or_from_slice_get, same_Some}
 use Rattle.pico_board.specs.declared.boot.Cpu.{Cpu}
-use Rattle.block_codec.specs.Blocks.{BlockView, block_at}
+use Rattle.block_codec.specs.Blocks.{BlockView}
+use Rattle.block_codec.specs.Reading.{block_at}
 use Rattle.block_loop.specs.Loop.{loop_of}
 use Rattle.block_loop.specs.Offsets.{AreLoop}
 use Rattle.block_loop.proofs.ChainLemmas.{loop_of-loop}

@@ -2,7 +2,8 @@
 
 ghost use Rattle.std.specs.Prelude.{◌≡◌, ℕ, List, ◌+◌, ◌≤◌, ◌^◌, ◌||◌, if◌then◌else◌, false, true, Ok, Some, None, IsTrue, IfOk, IfSome, length, slice_get};
 ghost use Rattle.std.specs.List.{list_any};
-ghost use Rattle.block_codec.specs.Blocks.{BlockView, IsWhole, block_at};
+ghost use Rattle.block_codec.specs.Blocks.{BlockView, IsWhole};
+ghost use Rattle.block_codec.specs.Reading.{block_at};
 ghost use Rattle.block_loop.specs.Loop.{loop_of};
 ghost use Rattle.block_loop.specs.Offsets.{AreLoop};
 ghost use Rattle.image_def.specs.Guarantees.{IsDefinition};

@@ -11,7 +11,7 @@ use Rattle.block_codec.specs.declared.items.Item.{Item}
 use Rattle.block_codec.specs.Kinds.{version_words}
 use Rattle.block_codec.specs.FirstFault.{first_fault}
 use Rattle.block_codec.proofs.FirstFault.{sound_from_none}
-use Rattle.otp_roll.specs.Rows.{AreApart, AreRollbackRows, IsRollbackVersion}
+use Rattle.otp_roll.specs.Rows.{AreRowsApart, AreRollbackRows, IsRollbackVersion}
 use Rattle.image_def.specs.declared.fault.DefFault.{DefFault}
 use Rattle.image_def.specs.declared.fault.DefFault.TheVariants.{BadItem}
 use Rattle.image_def.specs.Rows.{version_tail, rollback_in, rows_in, is_near, row_fault}
@@ -46,7 +46,7 @@ none_near p [] k d e lt = absurd (omega arith)
 none_near p (x ∷ xs) zero d e lt = grind arith
 none_near p (x ∷ xs) (suc k) d e lt = none_near p xs k d (grind arith) (omega arith)
 
-apart : (r s : ℕ) → is_near s r ≡ false → AreApart r s
+apart : (r s : ℕ) → is_near s r ≡ false → AreRowsApart r s
 apart r s e =
     elim (and_cases (ltb s (r + 3)) (ltb r (s + 3)) e) [
       | inl far ↦ inl (ltb-false s (r + 3) far)

@@ -4,6 +4,7 @@ use Rattle.std.specs.Prelude.{ℕ, ◌+◌, Bool, ◌||◌, ◌&&◌, if◌then�
 use Rattle.std.specs.List.{list_any}
 use Rattle.block_codec.specs.declared.items.Item.{Item}
 use Rattle.block_codec.specs.Words.{low_half, high_half}
+use Rattle.otp_roll.specs.declared.rows.TheConstants.{FIRST_ROW, LAST_ROW}
 use Rattle.image_def.specs.declared.fault.DefFault.{DefFault}
 use Rattle.image_def.specs.declared.fault.DefFault.TheVariants.{BadRow, RepeatedRow}
 
@@ -31,6 +32,6 @@ is_near row other = nat_lt row (other + 3) && nat_lt other (row + 3)
 -- the fault of a row behind the rows before it
 abbrev pub row_fault : List ℕ → ℕ → Option DefFault
 row_fault before row =
-    if nat_lt row 0x0c0 || nat_lt 0xefd row then Some (BadRow row)
+    if nat_lt row FIRST_ROW || nat_lt LAST_ROW row then Some (BadRow row)
     else if list_any (is_near row) before then Some (RepeatedRow row)
     else None

@@ -9,6 +9,7 @@ use Rattle.block_codec.specs.declared.kinds.TheConstants.{IMAGE_TYPE}
 use Rattle.block_codec.specs.Items.{items_of}
 use Rattle.block_codec.specs.Kinds.{item_of_kind}
 use Rattle.block_codec.specs.Blocks.{BlockView, block_size}
+use Rattle.image_def.specs.declared.images.TheConstants.{MOST_BLOCK_BYTES}
 use Rattle.image_def.specs.Flags.{flags_of, image_kind, security_of, processor_of, chip_of}
 
 -- the first IMAGE_TYPE item of a block, whatever its size is
@@ -31,7 +32,7 @@ suits_flags Riscv flags = image_kind flags == 1 && chip_of flags == 1 && process
 -- a block suits a processor where it has at most 384 bytes and its first IMAGE_TYPE item says so
 abbrev pub does_suit : Cpu → BlockView → Bool
 does_suit cpu b =
-    nat_le (block_size b) 384 && option_map_or (suits_flags cpu) (image_flags_of b) false
+    nat_le (block_size b) MOST_BLOCK_BYTES && option_map_or (suits_flags cpu) (image_flags_of b) false
 
 -- the definition among the blocks of a loop, which is the last one that suits
 abbrev pub last_suiting : Cpu → List BlockView → Option BlockView

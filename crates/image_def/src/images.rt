@@ -19,7 +19,7 @@ const RISCV: u16 = 1;
 /// The chip number of the RP2350.
 const RP2350: u16 = 1;
 /// The greatest size in bytes of a block that is a definition.
-const MOST_BYTES: u32 = 384;
+pub const MOST_BLOCK_BYTES: u32 = 384;
 
 /// The flags of an IMAGE_TYPE item, low byte first.
 pub(crate) fn flags(item: &Item) -> u16
@@ -61,7 +61,7 @@ fn are_for(cpu: Cpu, flags: u16) -> bool
 pub fn suits(block: &Block, cpu: Cpu) -> bool
     ensures { result ≡ does_suit cpu block.now }
 {
-    if block.size() > MOST_BYTES {
+    if block.size() > MOST_BLOCK_BYTES {
         return false;
     }
     match image_flags(block) {

@@ -19,7 +19,7 @@ mod started;
 
 pub use block_codec::{Def, EntryPoint};
 pub use fault::DefFault;
-pub use images::{image_flags, suits};
+pub use images::{MOST_BLOCK_BYTES, image_flags, suits};
 pub use reading::read_def;
 pub use started::Started;
 

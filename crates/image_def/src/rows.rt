@@ -11,11 +11,7 @@ ghost use Rattle.image_def.specs.Rows.{version_tail, rollback_in, rows_in, is_ne
 use crate::fault::DefFault;
 use arrayvec::ArrayVec;
 use block_codec::{Block, Item};
-
-/// The first row that an image may list.
-const FIRST_ROW: u16 = 0x0c0;
-/// The last row that an image may list, the first of a triple.
-const LAST_ROW: u16 = 0xefd;
+use otp_roll::{FIRST_ROW, LAST_ROW};
 
 /// A half word of a VERSION item behind its version: the rollback version, and then the rows.
 fn tail_half(block: &Block, item: &Item, k: u8) -> u16

@@ -20,7 +20,7 @@ use Rattle.image_def.specs.Flags.{is_trial}
 use Rattle.load_map.specs.declared.load.Load.{Load}
 use Rattle.load_map.specs.Addresses.{in_sram}
 use Rattle.load_map.specs.Stored.{AreStoredIn, IsStoredIn}
-use Rattle.otp_roll.specs.Rows.{first_row, last_row}
+use Rattle.otp_roll.specs.declared.rows.TheConstants.{FIRST_ROW, LAST_ROW}
 use Rattle.part_table.specs.Written.{header}
 use Rattle.part_table.proofs.RoundTrip.{four_joined, sha256_is_bytes, size_is, type_is}
 use Rattle.image_pack.specs.declared.spec.SealSpec.{SealSpec}
@@ -66,7 +66,7 @@ packed_words (low ∷ []) are = (omega (arith, are.0), tt)
 packed_words (low ∷ high ∷ hs) are = (omega (arith, are.0, are.1.0), packed_words hs are.1.1)
 
 -- rows that may be listed are half words
-pub row_numbers : (rows : List ℕ) → All (λ r. (first_row ≤ r) × (r ≤ last_row)) rows → AreHalves rows
+pub row_numbers : (rows : List ℕ) → All (λ r. (FIRST_ROW ≤ r) × (r ≤ LAST_ROW)) rows → AreHalves rows
 row_numbers [] are = tt
 row_numbers (x ∷ rows) are = (
   let here = are 0 0 (omega arith) in omega (arith, here.1),

@@ -9,7 +9,9 @@ use Rattle.image_check.specs.declared.why.Why.{Why}
 use Rattle.image_check.specs.Addressing.{in_flash}
 use Rattle.image_check.specs.Valid.{IsValidImage}
 use Rattle.image_check.specs.WhyNot.{IsWhyNot}
+use Rattle.image_def.specs.declared.images.TheConstants.{MOST_BLOCK_BYTES}
 use Rattle.image_pack.specs.declared.parts.Parts.{Parts}
+use Rattle.image_pack.specs.declared.sealing.TheConstants.{MOST_BYTES}
 use Rattle.image_pack.specs.declared.spec.SealError.{SealError}
 use Rattle.image_pack.specs.declared.spec.SealError.TheVariants.{BadSpec, Unsealable, TooLarge, BlockTooLong, NotBootable, Displaced, Memory}
 use Rattle.image_pack.specs.declared.spec.SealSpec.{SealSpec}
@@ -34,10 +36,6 @@ IsWrong spec Rows = AreRollbackRows spec.rows.items → ⊥
 IsWrong spec Rollback =
     AreRollbackRows spec.rows.items × (IsRightRollback spec.rollback spec.rows.items → ⊥)
 
--- the most bytes that an image may have
-abbrev pub most_bytes : ℕ
-most_bytes = 16777216
-
 -- the offset of the new block: the length of the binary in whole words
 abbrev pub block_offset : List ℕ → ℕ
 block_offset binary = length (whole_words binary)
@@ -56,8 +54,8 @@ pub record IsSealable (binary : List ℕ) (spec : SealSpec) : Type 0 where
 -- besides the sealed image and its new block are not too long
 pub record IsShort (binary : List ℕ) (spec : SealSpec) : Type 0 where
   pub sealable : IsSealable binary spec
-  pub image : length (sealed_text binary spec) ≤ most_bytes
-  pub block : block_bytes binary spec ≤ 384
+  pub image : length (sealed_text binary spec) ≤ MOST_BYTES
+  pub block : block_bytes binary spec ≤ MOST_BLOCK_BYTES
 
 -- an OTP of zeros
 unfoldable pub zero_otp : List ℕ
@@ -90,9 +88,9 @@ IsSealFault binary spec (BadSpec field) = IsWrong spec field
 IsSealFault binary spec (Unsealable why) =
     IsRightSpec spec × (parts_in spec.cpu (whole_sectors binary) ≡ Err why)
 IsSealFault binary spec TooLarge =
-    IsSealable binary spec × (most_bytes < length (sealed_text binary spec))
+    IsSealable binary spec × (MOST_BYTES < length (sealed_text binary spec))
 IsSealFault binary spec (BlockTooLong size) =
-    IsSealable binary spec × (length (sealed_text binary spec) ≤ most_bytes) × (384 < size)
+    IsSealable binary spec × (length (sealed_text binary spec) ≤ MOST_BYTES) × (MOST_BLOCK_BYTES < size)
     × (size ≡ block_bytes binary spec)
 IsSealFault binary spec (NotBootable why) =
     IsShort binary spec × FailsToBoot spec.cpu (sealed_text binary spec) why

@@ -1,20 +1,16 @@
 //! Whether a spec's rollback version and rows are right.
 
 ghost use Rattle.std.specs.Prelude.{◌≡◌, ◌≤◌, ◌↔◌, All, AllPairs, IsTrue, MatchOption, length};
-ghost use Rattle.otp_roll.specs.Rows.{AreApart, AreRollbackRows, first_row, last_row};
+ghost use Rattle.otp_roll.specs.Rows.{AreRowsApart, AreRollbackRows};
+ghost use Rattle.otp_roll.specs.declared.rows.TheConstants.{FIRST_ROW, LAST_ROW};
 ghost use Rattle.image_pack.specs.Faults.{IsRightRollback, IsRightSpec, IsWrong};
 
 use crate::spec::{SealSpec, SpecField};
-
-/// The least row that an image may list.
-const FIRST_ROW: u16 = 0x0c0;
-
-/// The greatest row that an image may list.
-const LAST_ROW: u16 = 0xefd;
+use otp_roll::{FIRST_ROW, LAST_ROW};
 
 /// Whether the triples of two rows share no row.
 fn is_apart(row: u16, other: u16) -> bool
-    ensures { IsTrue result ↔ AreApart row other }
+    ensures { IsTrue result ↔ AreRowsApart row other }
 {
     let (row, other) = (u32::from(row), u32::from(other));
     row + 3 <= other || other + 3 <= row
@@ -22,7 +18,7 @@ fn is_apart(row: u16, other: u16) -> bool
 
 /// Whether the triple of a row shares no row with those of others.
 fn is_apart_from_all(row: u16, others: &[u16]) -> bool
-    ensures { IsTrue result ↔ All (AreApart row) others.now }
+    ensures { IsTrue result ↔ All (AreRowsApart row) others.now }
 {
     for other in others {
         if !is_apart(row, *other) {
@@ -34,7 +30,7 @@ fn is_apart_from_all(row: u16, others: &[u16]) -> bool
 
 /// Whether no two rows' triples share a row.
 fn are_apart(rows: &[u16]) -> bool
-    ensures { IsTrue result ↔ AllPairs AreApart rows.now }
+    ensures { IsTrue result ↔ AllPairs AreRowsApart rows.now }
 {
     match rows {
         [] => true,
@@ -44,14 +40,14 @@ fn are_apart(rows: &[u16]) -> bool
 
 /// Whether a row may be listed.
 fn is_in_range(row: u16) -> bool
-    ensures { IsTrue result ↔ ((first_row ≤ row) × (row ≤ last_row)) }
+    ensures { IsTrue result ↔ ((FIRST_ROW ≤ row) × (row ≤ LAST_ROW)) }
 {
     row >= FIRST_ROW && row <= LAST_ROW
 }
 
 /// Whether each row may be listed.
 fn are_in_range(rows: &[u16]) -> bool
-    ensures { IsTrue result ↔ All (λ r. (first_row ≤ r) × (r ≤ last_row)) rows.now }
+    ensures { IsTrue result ↔ All (λ r. (FIRST_ROW ≤ r) × (r ≤ LAST_ROW)) rows.now }
 {
     for row in rows {
         if !is_in_range(*row) {

@@ -14,14 +14,11 @@ use crate::rows::wrong_field;
 use crate::spec::{SealError, SealSpec};
 use crate::text::text_with;
 use image_check::Why;
-use image_def::Started;
+use image_def::{MOST_BLOCK_BYTES, Started};
 use std::alloc::Global;
 
 /// The most bytes that an image may have.
-const MOST_BYTES: usize = 16_777_216;
-
-/// The most bytes that the block of an image definition may have.
-const MOST_BLOCK: usize = 384;
+pub const MOST_BYTES: usize = 16_777_216;
 
 /// The offset of the new block of a binary of this length.
 fn block_offset(binary: &[u8]) -> usize
@@ -63,7 +60,7 @@ fn check_size(binary: &[u8], spec: &SealSpec, text: &[u8]) -> Result<(), SealErr
     let size = text.len().saturating_sub(block_offset(binary));
     if text.len() > MOST_BYTES {
         Err(SealError::TooLarge)
-    } else if size > MOST_BLOCK {
+    } else if size > MOST_BLOCK_BYTES as usize {
         Err(SealError::BlockTooLong(size as u64))
     } else {
         Ok(())

@@ -10,24 +10,25 @@ use Rattle.std.proofs.lemmas.Bool.{cases_lt}
 use Rattle.pico_board.specs.Content.{Content, IsContent}
 use Rattle.pico_board.specs.Steps.{after_all}
 use Rattle.pico_board.proofs.Steps.{after_all-append}
-use Rattle.otp_roll.specs.Rows.{majority, count, first_row, last_row, AreApart, IsOutside, AreRollbackRows, IsRollbackVersion}
+use Rattle.otp_roll.specs.Rows.{majority, count, AreRowsApart, IsOutside, AreRollbackRows, IsRollbackVersion}
+use Rattle.otp_roll.specs.declared.rows.TheConstants.{FIRST_ROW, LAST_ROW}
 use Rattle.otp_roll.specs.Raises.{raises, raise_triple, raise_row, raise_each, taken, lowest_clear, clear_count}
 use Rattle.otp_roll.proofs.Bits.{majority-or, majority-lt, lowest_clear-lt, ones-lowest_clear}
 use Rattle.otp_roll.proofs.Raised.{SameTriple, majority-same, LiftsTriple, after-raise_triple}
 
 -- the rows whose triples the raises change are apart from row r
 abbrev pub ApartFrom : ℕ → List ℕ → Type 0
-ApartFrom r rows = AllByRecursion (AreApart r) rows
+ApartFrom r rows = AllByRecursion (AreRowsApart r) rows
 
 -- each row is apart from all later ones
 abbrev pub ApartInTurn : List ℕ → Type 0
 ApartInTurn [] = Unit {0}
 ApartInTurn (r ∷ rows) = ApartFrom r rows × ApartInTurn rows
 
-pub apart-in_turn : (rows : List ℕ) → AllPairs AreApart rows → ApartInTurn rows
+pub apart-in_turn : (rows : List ℕ) → AllPairs AreRowsApart rows → ApartInTurn rows
 apart-in_turn [] apart = tt
 apart-in_turn (r ∷ rows) apart = (
-  recursion_from_All (AreApart r) rows (λ k d within. apart 0 (suc k) d (omega arith) (omega arith)),
+  recursion_from_All (AreRowsApart r) rows (λ k d within. apart 0 (suc k) d (omega arith) (omega arith)),
   apart-in_turn rows (λ i j d before within. apart (suc i) (suc j) d (omega arith) (omega arith)),
 )
 
@@ -45,7 +46,7 @@ outside-apart : (r k : ℕ) → k < 3 → (rows : List ℕ) → ApartFrom r rows
 outside-apart r k small [] apart = tt
 outside-apart r k small (s ∷ rows) apart = (by_side apart.0, outside-apart r k small rows apart.1)
   where
-    by_side : AreApart r s → IsOutside (r + k) s
+    by_side : AreRowsApart r s → IsOutside (r + k) s
     by_side (inl below) = inl (omega arith)
     by_side (inr above) = inr (omega arith)
 
@@ -75,7 +76,7 @@ same-after b r otp old new lifts (s ∷ rows) apart same = (
   same-after b r otp old new lifts rows apart.1 same.1,
 )
   where
-    by_side : (k : ℕ) → k < 3 → AreApart r s → IsOutside (s + k) r
+    by_side : (k : ℕ) → k < 3 → AreRowsApart r s → IsOutside (s + k) r
     by_side k small (inl below) = inr (omega arith)
     by_side k small (inr above) = inl (omega arith)
 
@@ -154,7 +155,7 @@ rows-small otp narrow i = by_place (cases_lt i (length otp))
     by_place (inl within) = narrow i 0 within
     by_place (inr past) = rw (get_or_past otp i 0 past) (lit< tt)
 
-inside-range : (rows : List ℕ) → (n : ℕ) → n ≡ 4096 → AllByRecursion (λ r. (first_row ≤ r) × (r ≤ last_row)) rows
+inside-range : (rows : List ℕ) → (n : ℕ) → n ≡ 4096 → AllByRecursion (λ r. (FIRST_ROW ≤ r) × (r ≤ LAST_ROW)) rows
     → AllByRecursion (λ r. r + 2 < n) rows
 inside-range [] n is range = tt
 inside-range (r ∷ rows) n is range = (omega (arith, range.0.1), inside-range rows n is range.1)

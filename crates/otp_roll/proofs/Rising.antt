@@ -15,7 +15,8 @@ use Rattle.pico_board.specs.Steps.{Torn, CutOf, MayLeave, IsRaise, IsRaisedIn, I
 use Rattle.pico_board.specs.declared.Step.{Step}
 use Rattle.pico_board.specs.declared.Step.TheVariants.{Erase, Program, Raise}
 use Rattle.pico_board.proofs.Raises.{IsRaisedIn-CutOf}
-use Rattle.otp_roll.specs.Rows.{majority, count, Rises, IsOutside, first_row, last_row}
+use Rattle.otp_roll.specs.Rows.{majority, count, Rises, IsOutside}
+use Rattle.otp_roll.specs.declared.rows.TheConstants.{FIRST_ROW, LAST_ROW}
 use Rattle.otp_roll.specs.Raises.{lacking, raise_lacking, raise_triple, raise_row, raise_each, raises, taken, lowest_clear}
 use Rattle.otp_roll.proofs.Bits.{ones-mono, majority-mono, lowest_clear-lt}
 
@@ -114,11 +115,11 @@ raises-raise otp rows version =
 
 -- of rows of the OTP, by bits of a row
 pub raises-inside : (n : ℕ) (otp rows : List ℕ) (version : ℕ)
-    → AllByRecursion (λ r. (first_row ≤ r) × (r ≤ last_row)) rows
+    → AllByRecursion (λ r. (FIRST_ROW ≤ r) × (r ≤ LAST_ROW)) rows
     → AllByRecursion (IsStepIn n) (raises otp rows version)
 raises-inside n otp rows version range =
     all-each (IsStepIn n) otp (version - count otp rows) rows
-    (all-rows (λ r. (first_row ≤ r) × (r ≤ last_row)) _
+    (all-rows (λ r. (FIRST_ROW ≤ r) × (r ≤ LAST_ROW)) _
     (λ r in_range k b few small. (omega (arith, in_range.1), small)) rows range)
 
 -- the step is a raise of a row of the triple of a listed row
@@ -218,13 +219,13 @@ pub majority-between : (c d z : Content) (r : ℕ) → IsRaisedIn c d z
 majority-between c d z r raised = (majority-Rises (former-Rises raised) r, majority-Rises (later-Rises raised) r)
 
 -- the boot flags and the slot size stand outside all that may be listed
-pub low-row : (c : Content) (rows : List ℕ) (version : ℕ) (d : Content) (i : ℕ) → i < first_row
-    → AllByRecursion (λ r. (first_row ≤ r) × (r ≤ last_row)) rows → MayLeave c (raises c.otp rows version) d
+pub low-row : (c : Content) (rows : List ℕ) (version : ℕ) (d : Content) (i : ℕ) → i < FIRST_ROW
+    → AllByRecursion (λ r. (FIRST_ROW ≤ r) × (r ≤ LAST_ROW)) rows → MayLeave c (raises c.otp rows version) d
     → slice_index d.otp i ≡ slice_index c.otp i
 low-row c rows version d i low range left =
     row-left c (raises c.otp rows version) d i
     (raises-elsewhere i c.otp rows version
-    (all-rows (λ r. (first_row ≤ r) × (r ≤ last_row)) _
+    (all-rows (λ r. (FIRST_ROW ≤ r) × (r ≤ LAST_ROW)) _
     (λ r in_range. inl (omega (arith, in_range.0))) rows range)) left
 
 -- nothing is raised where none is wanted

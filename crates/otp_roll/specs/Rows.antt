@@ -3,6 +3,7 @@
 -- vote of three copies); the count over listed rows is this project's own.
 use Rattle.std.specs.Prelude.{◌≡◌, ◌⊎◌, ℕ, ◌+◌, ◌*◌, ◌<◌, ◌≤◌, List, length, All, AllPairs, slice_index, bit_and, bit_or, count_ones, sum_by}
 use Rattle.pico_board.specs.Steps.{HasBitsOf}
+use Rattle.otp_roll.specs.declared.rows.TheConstants.{FIRST_ROW, LAST_ROW}
 
 -- the number whose set bits are those that at least two of three numbers have
 abbrev pub majority_of : ℕ → ℕ → ℕ → ℕ
@@ -24,22 +25,15 @@ abbrev pub count : List ℕ → List ℕ → ℕ
 count otp rows = sum_by (λ r. count_ones (majority otp r)) rows
 
 -- two listed rows whose triples share no row
-abbrev pub AreApart : ℕ → ℕ → Type 0
-AreApart r s = (r + 3 ≤ s) ⊎ (s + 3 ≤ r)
-
--- the least and the greatest row that an image may list
-abbrev pub first_row : ℕ
-first_row = 0x0c0
-
-abbrev pub last_row : ℕ
-last_row = 0xefd
+abbrev pub AreRowsApart : ℕ → ℕ → Type 0
+AreRowsApart r s = (r + 3 ≤ s) ⊎ (s + 3 ≤ r)
 
 -- what an image may list: at most 32 rows from the first one to the last one, of which any two
 -- differ by at least 3
 pub record AreRollbackRows (rows : List ℕ) : Type 0 where
   pub few : length rows ≤ 32
-  pub in_range : All (λ r. (first_row ≤ r) × (r ≤ last_row)) rows
-  pub apart : AllPairs AreApart rows
+  pub in_range : All (λ r. (FIRST_ROW ≤ r) × (r ≤ LAST_ROW)) rows
+  pub apart : AllPairs AreRowsApart rows
 
 -- a rollback version is at most 24 times the number of its rows
 abbrev pub IsRollbackVersion : ℕ → List ℕ → Type 0

@@ -3,7 +3,7 @@
 ghost use Rattle.std.specs.Prelude.{◌≡◌, ◌≢◌, ◌↔◌, ◌⊎◌, ℕ, ◌+◌, ◌-◌, ◌*◌, ◌^◌, ◌<◌, ◌≤◌, min, max, List, [], ◌∷◌, ◌++◌, All, Contains, length, slice_index, bit_or, count_ones};
 ghost use Rattle.std.specs.Int.{bit_at};
 ghost use Rattle.std.specs.List.{AllByRecursion};
-ghost use Rattle.otp_roll.specs.Rows.{AreApart, AreRollbackRows, IsOutside, IsRollbackVersion, Rises, majority, count};
+ghost use Rattle.otp_roll.specs.Rows.{AreRowsApart, AreRollbackRows, IsOutside, IsRollbackVersion, Rises, majority, count};
 ghost use Rattle.otp_roll.specs.Raises.{lowest_clear, raises};
 ghost use Rattle.otp_roll.specs.Flags.{flash_off, rollback_required, slot_size};
 ghost use Rattle.pico_board.specs.Content.{Content, IsContent};
@@ -21,7 +21,7 @@ pub fn a_majority_is_what_two_rows_have()
 /// A triple has its row and the two after it, and the triples of two listed rows share no row.
 pub fn a_triple_has_three_rows()
     ensures outside { (i r : ℕ) → IsOutside i r ↔ ((i ≢ r) × (i ≢ r + 1) × (i ≢ r + 2)) }
-    ensures apart { (r s : ℕ) → AreApart r s ↔ ((i : ℕ) → IsOutside i r ⊎ IsOutside i s) }
+    ensures apart { (r s : ℕ) → AreRowsApart r s ↔ ((i : ℕ) → IsOutside i r ⊎ IsOutside i s) }
 {}
 
 /// The `n` lowest clear bits of a row are clear in it, every bit below one of them is set or one

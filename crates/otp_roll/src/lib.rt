@@ -13,4 +13,4 @@ mod tests;
 
 pub use flags::{BOOT_FLAGS, SLOT_SIZE_ROW, flash_off, required, slot_size};
 pub use raising::raise_to;
-pub use rows::count;
+pub use rows::{FIRST_ROW, LAST_ROW, count};

@@ -6,6 +6,12 @@ ghost use Rattle.otp_roll.specs.Rows.{AreRollbackRows, count, majority};
 use arrayvec::ArrayVec;
 use pico_board::Board;
 
+/// The least row that an image may list, the first of a triple.
+pub const FIRST_ROW: u16 = 0x0c0;
+
+/// The greatest row that an image may list, the first of a triple.
+pub const LAST_ROW: u16 = 0xefd;
+
 /// The number of raised bits in the majorities of listed rows.
 pub fn count<B: Board>(board: &B, rows: &ArrayVec<u16, 32>) -> u32
     requires power { IsTrue (B.state board.now).powered }

@@ -5,7 +5,8 @@ use Rattle.std.proofs.lemmas.List.{append-nil, drop_at}
 use Rattle.arrayvec.specs.ArrayVec.{ArrayVec}
 use Rattle.sha2.specs.Sha256.{sha256}
 use Rattle.sha2.proofs.Facts256.{length-sha256}
-use Rattle.block_codec.specs.Blocks.{IsBlock, start_word, frame, block_at}
+use Rattle.block_codec.specs.Blocks.{IsBlock, start_word, frame}
+use Rattle.block_codec.specs.Reading.{block_at}
 use Rattle.block_codec.specs.Items.{size_of, AreItems, AreItemsAfter}
 use Rattle.block_codec.specs.Words.{bytes_of, words_of, AreWords}
 use Rattle.block_codec.proofs.BlockLemmas.{front_block-found}

@@ -1,6 +1,7 @@
 -- How the block that is written for a table is judged.
 use Rattle.std.specs.Prelude.{◌≡◌, ℕ, ◌++◌, true, List, Some}
-use Rattle.block_codec.specs.Blocks.{BlockView, front_block}
+use Rattle.block_codec.specs.Blocks.{BlockView}
+use Rattle.block_codec.specs.Reading.{front_block}
 use Rattle.block_codec.specs.FirstFault.{ok_unless}
 use Rattle.part_table.specs.declared.table.Table.{Table}
 use Rattle.part_table.specs.Faults.{table_fault}

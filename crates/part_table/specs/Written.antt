@@ -6,7 +6,8 @@ use Rattle.std.specs.List.{AllByRecursion}
 use Rattle.arrayvec.specs.ArrayVec.{ArrayVec}
 use Rattle.sha2.specs.Sha256.{sha256}
 use Rattle.block_codec.specs.declared.versions.Version.{Version}
-use Rattle.block_codec.specs.Blocks.{BlockView, start_word, frame, front_block}
+use Rattle.block_codec.specs.Blocks.{BlockView, start_word, frame}
+use Rattle.block_codec.specs.Reading.{front_block}
 use Rattle.block_codec.specs.Words.{bytes_of, words_of, AreWords}
 use Rattle.part_table.specs.declared.partition.Partition.{Partition}
 use Rattle.part_table.specs.declared.table.Table.{Table}

@@ -2,7 +2,7 @@
 //! that does nothing.
 
 ghost use Rattle.std.specs.Prelude.{◌≡◌, ◌++◌, ◌+◌, ◌^◌, ℕ, [], ◌∷◌, true, false, Some, None, Ok, Err};
-ghost use Rattle.block_codec.specs.Blocks.{block_at};
+ghost use Rattle.block_codec.specs.Reading.{block_at};
 ghost use Rattle.block_codec.specs.Words.{bytes_of};
 ghost use Rattle.pico_board.specs.declared.boot.Cpu.TheVariants.{Arm, Riscv};
 ghost use Rattle.part_table.specs.declared.table.Right.TheVariants.{BootRead, BootWrite};

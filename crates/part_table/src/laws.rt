@@ -2,7 +2,8 @@
 
 ghost use Rattle.std.specs.Prelude.{◌++◌, pos, ◌≡◌, ◌≢◌, ◌↔◌, ◌<◌, ◌+◌, ◌*◌, ℕ, List, true, false, length, Option, Some, None, Result, Ok};
 ghost use Rattle.std.specs.List.{AllByRecursion, flat_map};
-ghost use Rattle.block_codec.specs.Blocks.{BlockView, IsBlock, block_at};
+ghost use Rattle.block_codec.specs.Blocks.{BlockView, IsBlock};
+ghost use Rattle.block_codec.specs.Reading.{block_at};
 ghost use Rattle.pico_board.specs.Content.{AreApart};
 ghost use Rattle.part_table.specs.declared.partition.Partition.{Partition};
 ghost use Rattle.part_table.specs.declared.table.Table.{Table};

@@ -7,8 +7,8 @@ use Rattle.std.specs.Bool.{OnTrue, OnFalse}
 use Rattle.std.proofs.lemmas.List.{append_assoc, append-nil}
 use Rattle.pico_board.specs.Content.{Content}
 use Rattle.pico_board.specs.Steps.{Step, after, after_all, CutOf, MayLeave}
-use Rattle.pico_board.specs.Cuts.{Cut, Told, told, told_next, told_all}
-use Rattle.pico_board.specs.Board.{State, Rose, Becomes, IsAs, IsTold, IsToldAll, Does, DoesAll, with_power}
+use Rattle.pico_board.specs.Cuts.{Cut, CutOutcome, cut_step, unless_cut, cut_steps}
+use Rattle.pico_board.specs.Board.{State, Rose, Becomes, HasCutOutcome, IsCutAsArmed, AreCutAsArmed, Does, DoesAll, with_power}
 
 -- what follows from a fact of one answer
 pub OnFalse-map : {P Q : Type 0} (ok : Bool) → (P → Q) → OnFalse ok P → OnFalse ok Q
@@ -45,74 +45,74 @@ CutOf-append_cases c (x ∷ xs) ys d (inr later) =
     elim (CutOf-append_cases (after c x) xs ys d later) [ inl first ↦ inl (inr first) | inr second ↦ inr second ]
 
 -- a told cut goes on with the rest, or stops
-pub told_next-true : (o : Told) (rest : Option Cut → Content → Told) → o.answer ≡ true
-    → told_next o rest ≡ rest o.armed o.content
+pub told_next-true : (o : CutOutcome) (rest : Option Cut → Content → CutOutcome) → o.answer ≡ true
+    → unless_cut o rest ≡ rest o.armed o.content
 told_next-true o rest e = ap (λ b. cond b (rest o.armed o.content) o) e
 
-pub told_next-false : (o : Told) (rest : Option Cut → Content → Told) → o.answer ≡ false → told_next o rest ≡ o
+pub told_next-false : (o : CutOutcome) (rest : Option Cut → Content → CutOutcome) → o.answer ≡ false → unless_cut o rest ≡ o
 told_next-false o rest e = ap (λ b. cond b (rest o.armed o.content) o) e
 
-told_next_assoc : (b : Bool) (o : Told) (f g h : Option Cut → Content → Told) → o.answer ≡ b
-    → ((cut : Option Cut) (c : Content) → h cut c ≡ told_next (f cut c) g) → told_next o h ≡ told_next (told_next o f) g
+told_next_assoc : (b : Bool) (o : CutOutcome) (f g h : Option Cut → Content → CutOutcome) → o.answer ≡ b
+    → ((cut : Option Cut) (c : Content) → h cut c ≡ unless_cut (f cut c) g) → unless_cut o h ≡ unless_cut (unless_cut o f) g
 told_next_assoc true o f g h e same =
-    told_next-true o h e ∙ same o.armed o.content ∙ ap (λ (p : Told). told_next p g) (sym (told_next-true o f e))
+    told_next-true o h e ∙ same o.armed o.content ∙ ap (λ (p : CutOutcome). unless_cut p g) (sym (told_next-true o f e))
 told_next_assoc false o f g h e same =
-    told_next-false o h e ∙ sym (ap (λ (p : Told). told_next p g) (told_next-false o f e) ∙ told_next-false o g e)
+    told_next-false o h e ∙ sym (ap (λ (p : CutOutcome). unless_cut p g) (told_next-false o f e) ∙ told_next-false o g e)
 
 -- what a told cut says of a list of steps and then others
 pub told_all-append : (xs ys : List Step) (cut : Option Cut) (c : Content)
-    → told_all (xs ++ ys) cut c ≡ told_next (told_all xs cut c) (told_all ys)
+    → cut_steps (xs ++ ys) cut c ≡ unless_cut (cut_steps xs cut c) (cut_steps ys)
 told_all-append [] ys cut c = refl
 told_all-append (x ∷ xs) ys cut c =
-    told_next_assoc (told cut c x).answer (told cut c x) (told_all xs) (told_all ys) (told_all (xs ++ ys)) refl
+    told_next_assoc (cut_step cut c x).answer (cut_step cut c x) (cut_steps xs) (cut_steps ys) (cut_steps (xs ++ ys)) refl
     (told_all-append xs ys)
 
-told_none : (a : Option (Option Cut)) (t : State) → t.armed ≡ a → IsToldAll a t.content [] true t
+told_none : (a : Option (Option Cut)) (t : State) → t.armed ≡ a → AreCutAsArmed a t.content [] true t
 told_none None t e = e
 told_none (Some cut) t e = record { answer = refl; content = refl; armed = e }
 
-IsAs-same : (o p : Told) (ok : Bool) (t : State) → p ≡ o → IsAs o ok t → IsAs p ok t
-IsAs-same o p ok t e is = subst (λ q. IsAs q ok t) (sym e) is
+IsAs-same : (o p : CutOutcome) (ok : Bool) (t : State) → p ≡ o → HasCutOutcome o ok t → HasCutOutcome p ok t
+IsAs-same o p ok t e is = subst (λ q. HasCutOutcome q ok t) (sym e) is
 
 told_then : (a : Option (Option Cut)) (c : Content) (step : Step) (steps : List Step) (m : State) (ok : Bool)
     (t : State)
-    → IsTold a c step true m → IsToldAll m.armed m.content steps ok t → IsToldAll a c (step ∷ steps) ok t
-told_then None c step steps m ok t one rest = subst (λ a. IsToldAll a m.content steps ok t) one rest
+    → IsCutAsArmed a c step true m → AreCutAsArmed m.armed m.content steps ok t → AreCutAsArmed a c (step ∷ steps) ok t
+told_then None c step steps m ok t one rest = subst (λ a. AreCutAsArmed a m.content steps ok t) one rest
 told_then (Some cut) c step steps m ok t one rest =
-    let o = told cut c step in
-    let armed : IsToldAll (Some o.armed) m.content steps ok t =
-    subst (λ a. IsToldAll a m.content steps ok t) one.armed rest in
-    let moved : IsAs (told_all steps o.armed o.content) ok t =
-    subst (λ d. IsAs (told_all steps o.armed d) ok t) one.content armed in
-    IsAs-same (told_all steps o.armed o.content) (told_next o (told_all steps)) ok t
-    (told_next-true o (told_all steps) one.answer) moved
+    let o = cut_step cut c step in
+    let armed : AreCutAsArmed (Some o.armed) m.content steps ok t =
+    subst (λ a. AreCutAsArmed a m.content steps ok t) one.armed rest in
+    let moved : HasCutOutcome (cut_steps steps o.armed o.content) ok t =
+    subst (λ d. HasCutOutcome (cut_steps steps o.armed d) ok t) one.content armed in
+    IsAs-same (cut_steps steps o.armed o.content) (unless_cut o (cut_steps steps)) ok t
+    (told_next-true o (cut_steps steps) one.answer) moved
 
 told_lost : (a : Option (Option Cut)) (c : Content) (step : Step) (steps : List Step) (t : State)
-    → IsTold a c step false t → IsToldAll a c (step ∷ steps) false t
+    → IsCutAsArmed a c step false t → AreCutAsArmed a c (step ∷ steps) false t
 told_lost None c step steps t one = one
 told_lost (Some cut) c step steps t one =
-    let o = told cut c step in
-    IsAs-same o (told_next o (told_all steps)) false t (told_next-false o (told_all steps) one.answer) one
+    let o = cut_step cut c step in
+    IsAs-same o (unless_cut o (cut_steps steps)) false t (told_next-false o (cut_steps steps) one.answer) one
 
 told_both : (a : Option (Option Cut)) (c : Content) (xs ys : List Step) (m : State) (ok : Bool) (t : State)
-    → IsToldAll a c xs true m → IsToldAll m.armed m.content ys ok t → IsToldAll a c (xs ++ ys) ok t
-told_both None c xs ys m ok t first second = subst (λ a. IsToldAll a m.content ys ok t) first second
+    → AreCutAsArmed a c xs true m → AreCutAsArmed m.armed m.content ys ok t → AreCutAsArmed a c (xs ++ ys) ok t
+told_both None c xs ys m ok t first second = subst (λ a. AreCutAsArmed a m.content ys ok t) first second
 told_both (Some cut) c xs ys m ok t first second =
-    let o = told_all xs cut c in
-    let armed : IsToldAll (Some o.armed) m.content ys ok t =
-    subst (λ a. IsToldAll a m.content ys ok t) first.armed second in
-    let moved : IsAs (told_all ys o.armed o.content) ok t =
-    subst (λ d. IsAs (told_all ys o.armed d) ok t) first.content armed in
-    IsAs-same (told_all ys o.armed o.content) (told_all (xs ++ ys) cut c) ok t
-    (told_all-append xs ys cut c ∙ told_next-true o (told_all ys) first.answer) moved
+    let o = cut_steps xs cut c in
+    let armed : AreCutAsArmed (Some o.armed) m.content ys ok t =
+    subst (λ a. AreCutAsArmed a m.content ys ok t) first.armed second in
+    let moved : HasCutOutcome (cut_steps ys o.armed o.content) ok t =
+    subst (λ d. HasCutOutcome (cut_steps ys o.armed d) ok t) first.content armed in
+    IsAs-same (cut_steps ys o.armed o.content) (cut_steps (xs ++ ys) cut c) ok t
+    (told_all-append xs ys cut c ∙ told_next-true o (cut_steps ys) first.answer) moved
 
 told_both_lost : (a : Option (Option Cut)) (c : Content) (xs ys : List Step) (t : State)
-    → IsToldAll a c xs false t → IsToldAll a c (xs ++ ys) false t
+    → AreCutAsArmed a c xs false t → AreCutAsArmed a c (xs ++ ys) false t
 told_both_lost None c xs ys t first = first
 told_both_lost (Some cut) c xs ys t first =
-    let o = told_all xs cut c in
-    IsAs-same o (told_all (xs ++ ys) cut c) false t
-    (told_all-append xs ys cut c ∙ told_next-false o (told_all ys) first.answer) first
+    let o = cut_steps xs cut c in
+    IsAs-same o (cut_steps (xs ++ ys) cut c) false t
+    (told_all-append xs ys cut c ∙ told_next-false o (cut_steps ys) first.answer) first
 
 -- a count that rose before another rise, or after it, rose in both
 pub Rose-later : (a b c : ℕ) → a ≤ b → Rose b c → Rose a c
@@ -232,7 +232,7 @@ module _ {B : Type 0} {state : B → State} {history : B → List Step → Type 
         power = does.power;
         later = omega (arith, cuts, does.later);
         rose = subst (λ (n : ℕ). OnFalse ok (Rose n (state new).cuts)) cuts does.rose;
-        told = subst (λ a. IsToldAll a (state old).content steps ok (state new)) armed
-            (subst (λ c. IsToldAll (state mid).armed c steps ok (state new)) content does.told);
+        told = subst (λ a. AreCutAsArmed a (state old).content steps ok (state new)) armed
+            (subst (λ c. AreCutAsArmed (state mid).armed c steps ok (state new)) content does.told);
         recorded = OnTrue-map ok (λ goes_on h held. goes_on h (on.recorded h held)) does.recorded;
       }

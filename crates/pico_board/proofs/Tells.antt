@@ -7,12 +7,12 @@ use Rattle.std.proofs.lemmas.List.{with_items_is}
 use Rattle.pico_board.specs.declared.supply.Supply.{Supply}
 use Rattle.pico_board.specs.Content.{Content}
 use Rattle.pico_board.specs.Steps.{Step, Torn, after}
-use Rattle.pico_board.specs.Cuts.{Cut, Told, cut_by, nearer, told, torn_by}
-use Rattle.pico_board.specs.Board.{State, IsAs, IsTold, Does}
+use Rattle.pico_board.specs.Cuts.{Cut, CutOutcome, cut_by, nearer, cut_step, torn_by}
+use Rattle.pico_board.specs.Board.{State, HasCutOutcome, IsCutAsArmed, Does}
 use Rattle.pico_board.specs.Supply.{armed_of, due_of}
 use Rattle.pico_board.proofs.Contents.{length-after}
 
-done_by : (b : Bool) (cut : Cut) (lost : Told) (c : Content) (step : Step) → cond b (Some cut.within) None ≡ None
+done_by : (b : Bool) (cut : Cut) (lost : CutOutcome) (c : Content) (step : Step) → cond b (Some cut.within) None ≡ None
     → cond b lost (record { answer = true; content = after c step; armed = Some (nearer cut) })
     ≡ record { answer = true; content = after c step; armed = Some (nearer cut) }
 done_by true cut lost c step e = cc
@@ -20,14 +20,14 @@ done_by false cut lost c step e = refl
 
 -- where no cut falls due the step completes, and an armed cut is nearer
 told-done : (a : Option Cut) (c : Content) (step : Step) → due_of a ≡ None
-    → told a c step ≡ record { answer = true; content = after c step; armed = option_map nearer a }
+    → cut_step a c step ≡ record { answer = true; content = after c step; armed = option_map nearer a }
 told-done None c step e = refl
 told-done (Some cut) c step e =
     done_by (cut.left == 0) cut (record { answer = false; content = cut_by cut c step; armed = None }) c step e
 
 -- where a cut falls due it decides what is left, and is gone
 told-lost : (cut : Cut) (c : Content) (step : Step) → (cut.left == 0) ≡ true
-    → told (Some cut) c step ≡ record { answer = false; content = cut_by cut c step; armed = None }
+    → cut_step (Some cut) c step ≡ record { answer = false; content = cut_by cut c step; armed = None }
 told-lost cut c step e =
     ap (λ b. cond b (record { answer = false; content = cut_by cut c step; armed = None })
     (record { answer = true; content = after c step; armed = Some (nearer cut) })) e
@@ -139,16 +139,16 @@ module _ {B : Type 0} {state : B → State} {history : B → List Step → Type 
     power = powered;
     later = omega arith;
     rose = tt;
-    told = subst (λ b. IsTold b (state old).content step true (state new)) (sym armed) tells;
+    told = subst (λ b. IsCutAsArmed b (state old).content step true (state new)) (sym armed) tells;
     recorded = recorded;
   }
     where
-      is : IsAs (record { answer = true; content = after (state old).content step; armed = option_map nearer a }) true
+      is : HasCutOutcome (record { answer = true; content = after (state old).content step; armed = option_map nearer a }) true
           (state new)
       is = record { answer = refl; content = content; armed = nearer_cut }
 
-      tells : IsAs (told a (state old).content step) true (state new)
-      tells = subst (λ o. IsAs o true (state new)) (sym (told-done a (state old).content step due)) is
+      tells : HasCutOutcome (cut_step a (state old).content step) true (state new)
+      tells = subst (λ o. HasCutOutcome o true (state new)) (sym (told-done a (state old).content step due)) is
 
   -- a step that power is lost in
   pub Does-lost : (cut : Cut) → (state old).armed ≡ Some (Some cut) → (cut.left == 0) ≡ true
@@ -165,13 +165,13 @@ module _ {B : Type 0} {state : B → State} {history : B → List Step → Type 
     power = powered;
     later = later;
     rose = omega arith;
-    told = subst (λ b. IsTold b (state old).content step false (state new)) (sym armed) tells;
+    told = subst (λ b. IsCutAsArmed b (state old).content step false (state new)) (sym armed) tells;
     recorded = tt;
   }
     where
-      is : IsAs (record { answer = false; content = cut_by cut (state old).content step; armed = None }) false
+      is : HasCutOutcome (record { answer = false; content = cut_by cut (state old).content step; armed = None }) false
           (state new)
       is = record { answer = refl; content = content; armed = gone }
 
-      tells : IsAs (told (Some cut) (state old).content step) false (state new)
-      tells = subst (λ o. IsAs o false (state new)) (sym (told-lost cut (state old).content step now)) is
+      tells : HasCutOutcome (cut_step (Some cut) (state old).content step) false (state new)
+      tells = subst (λ o. HasCutOutcome o false (state new)) (sym (told-lost cut (state old).content step now)) is

@@ -4,7 +4,7 @@ use Rattle.std.specs.Bool.{OnTrue, OnFalse}
 use Rattle.std.specs.Option.{option_map}
 use Rattle.pico_board.specs.Content.{Content}
 use Rattle.pico_board.specs.Steps.{Step, after, after_all, Torn, CutOf}
-use Rattle.pico_board.specs.Cuts.{Cut, Told, told, told_all}
+use Rattle.pico_board.specs.Cuts.{Cut, CutOutcome, cut_step, cut_steps}
 use Rattle.pico_board.specs.Histories.{Extends}
 
 -- what is known of a board: its content, whether it is powered, how often power was lost, and its
@@ -21,21 +21,21 @@ abbrev pub Rose : ℕ → ℕ → Type 0
 Rose before now = min (before + 1) (2 ^ 64 - 1) ≤ now
 
 -- the answer and the state are what the board told
-pub record IsAs (o : Told) (ok : Bool) (t : State) : Type 0 where
+pub record HasCutOutcome (o : CutOutcome) (ok : Bool) (t : State) : Type 0 where
   pub answer : o.answer ≡ ok
   pub content : t.content ≡ o.content
   pub armed : t.armed ≡ Some o.armed
 
 -- a board that tells its armed cut does with the step what the cut says, and tells the cut that is
 -- armed afterwards; a board that does not tell its cut does not tell it afterwards either
-abbrev pub IsTold : Option (Option Cut) → Content → Step → Bool → State → Type 0
-IsTold None c step ok t = t.armed ≡ None
-IsTold (Some cut) c step ok t = IsAs (told cut c step) ok t
+abbrev pub IsCutAsArmed : Option (Option Cut) → Content → Step → Bool → State → Type 0
+IsCutAsArmed None c step ok t = t.armed ≡ None
+IsCutAsArmed (Some cut) c step ok t = HasCutOutcome (cut_step cut c step) ok t
 
 -- the same of a list of steps
-abbrev pub IsToldAll : Option (Option Cut) → Content → List Step → Bool → State → Type 0
-IsToldAll None c steps ok t = t.armed ≡ None
-IsToldAll (Some cut) c steps ok t = IsAs (told_all steps cut c) ok t
+abbrev pub AreCutAsArmed : Option (Option Cut) → Content → List Step → Bool → State → Type 0
+AreCutAsArmed None c steps ok t = t.armed ≡ None
+AreCutAsArmed (Some cut) c steps ok t = HasCutOutcome (cut_steps steps cut c) ok t
 
 -- The old board does the step and is then the new one. Where the answer is Ok, the step completed,
 -- the board is powered, and the step is appended to the history. Otherwise power was lost in the
@@ -49,7 +49,7 @@ pub record Does {B : Type 0} (state : B → State) (history : B → List Step �
   pub power : (state new).powered ≡ ok
   pub later : (state old).cuts ≤ (state new).cuts
   pub rose : OnFalse ok (Rose (state old).cuts (state new).cuts)
-  pub told : IsTold (state old).armed (state old).content step ok (state new)
+  pub told : IsCutAsArmed (state old).armed (state old).content step ok (state new)
   pub recorded : OnTrue ok (Extends history old (step ∷ []) new)
 
 -- The old board does the steps, in their order, and is then the new one: where the answer is Ok,
@@ -63,7 +63,7 @@ pub record DoesAll {B : Type 0} (state : B → State) (history : B → List Step
   pub power : (state new).powered ≡ ok
   pub later : (state old).cuts ≤ (state new).cuts
   pub rose : OnFalse ok (Rose (state old).cuts (state new).cuts)
-  pub told : IsToldAll (state old).armed (state old).content steps ok (state new)
+  pub told : AreCutAsArmed (state old).armed (state old).content steps ok (state new)
   pub recorded : OnTrue ok (Extends history old steps new)
 
 -- the state with another cut armed, where the board tells it

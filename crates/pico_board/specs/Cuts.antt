@@ -51,7 +51,7 @@ abbrev pub cut_by : Cut → Content → Step → Content
 cut_by cut c step = if cut.within then torn_by cut.pattern c step else c
 
 -- what a board that tells its armed cut answers and leaves
-pub record Told : Type 0 where
+pub record CutOutcome : Type 0 where
   pub answer : Bool
   pub content : Content
   pub armed : Option Cut
@@ -62,17 +62,17 @@ nearer cut = record { left = cut.left - 1; within = cut.within; pattern = cut.pa
 
 -- a step: power is lost exactly where the cut has no step left, which leaves what the cut does and
 -- no cut armed; a completed step takes one from the steps left
-abbrev pub told : Option Cut → Content → Step → Told
-told None c step = record { answer = true; content = after c step; armed = None }
-told (Some cut) c step =
+abbrev pub cut_step : Option Cut → Content → Step → CutOutcome
+cut_step None c step = record { answer = true; content = after c step; armed = None }
+cut_step (Some cut) c step =
     if cut.left == 0 then record { answer = false; content = cut_by cut c step; armed = None }
     else record { answer = true; content = after c step; armed = Some (nearer cut) }
 
 -- the rest of the steps where power was not lost
-abbrev pub told_next : Told → (Option Cut → Content → Told) → Told
-told_next o rest = if o.answer then rest o.armed o.content else o
+abbrev pub unless_cut : CutOutcome → (Option Cut → Content → CutOutcome) → CutOutcome
+unless_cut o rest = if o.answer then rest o.armed o.content else o
 
 -- a list of steps, in their order, up to the one in which power is lost
-abbrev pub told_all : List Step → Option Cut → Content → Told
-told_all [] cut c = record { answer = true; content = c; armed = cut }
-told_all (step ∷ steps) cut c = told_next (told cut c step) (told_all steps)
+abbrev pub cut_steps : List Step → Option Cut → Content → CutOutcome
+cut_steps [] cut c = record { answer = true; content = c; armed = cut }
+cut_steps (step ∷ steps) cut c = unless_cut (cut_step cut c step) (cut_steps steps)

@@ -6,7 +6,7 @@ ghost use Rattle.std.specs.List.{AllByRecursion};
 ghost use Rattle.pico_board.specs.declared.window.Window.{Window};
 ghost use Rattle.pico_board.specs.Content.{AreApart, Content, IsContent, window_bytes};
 ghost use Rattle.pico_board.specs.Steps.{Step, Raise, CutOf, IsCutAt, IsRaise, IsRaisedIn, IsStepIn, MayLeave, Torn, TornErase, after, after_all};
-ghost use Rattle.pico_board.specs.Cuts.{cut_by, cut_with, told_all};
+ghost use Rattle.pico_board.specs.Cuts.{cut_by, cut_with, cut_steps};
 ghost use Rattle.pico_board.specs.Sessions.{Confined, Gated, IsBlank, IsClosing, IsGated, IsPartial, SameButWindow, Unfinished};
 
 /// A cut of a list falls in one of its steps, after the steps before it.
@@ -64,19 +64,19 @@ pub fn raises_only_set_bits()
 /// number of the steps.
 pub fn told_cut_falls_at_its_step()
     ensures none { (steps : List Step) (c : Content)
-        → told_all steps None c ≡ record
+        → cut_steps steps None c ≡ record
         { answer = true; content = after_all c steps; armed = None } }
     ensures cut { (steps : List Step) (left : ℕ) (within : Bool) (pattern : List ℕ) (c : Content)
         (step : Step)
         → slice_get steps left ≡ Some step
-        → told_all steps (Some (cut_with left within pattern)) c ≡ record {
+        → cut_steps steps (Some (cut_with left within pattern)) c ≡ record {
           answer = false;
           content = cut_by (cut_with left within pattern) (after_all c (take left steps)) step;
           armed = None;
         } }
     ensures whole { (steps : List Step) (left : ℕ) (within : Bool) (pattern : List ℕ) (c : Content)
         → length steps ≤ left
-        → told_all steps (Some (cut_with left within pattern)) c ≡ record {
+        → cut_steps steps (Some (cut_with left within pattern)) c ≡ record {
           answer = true;
           content = after_all c steps;
           armed = Some (cut_with (left - length steps) within pattern);

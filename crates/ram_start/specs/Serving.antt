@@ -13,7 +13,8 @@ use Rattle.picoboot_cmd.specs.Checks.{Check, check, first_failing, has_transfer}
 use Rattle.ram_start.specs.declared.kinds.TheConstants.{PRECONDITION}
 use Rattle.ram_start.specs.declared.serving.RamDone.{RamDone}
 use Rattle.ram_start.specs.Images.{ram_image}
-use Rattle.ram_start.specs.Sram.{is_in_sram, stored}
+use Rattle.load_map.specs.Addresses.{in_sram}
+use Rattle.ram_start.specs.Sram.{stored}
 
 -- a read or a write at an address of SRAM or above, and a reboot into RAM, each of its argument
 -- size
@@ -40,14 +41,14 @@ reboot_image c ram cpu cmd = result_ok (ram_image c (reboot_range ram cmd) (rebo
 -- a range of words, at least one, that lies in SRAM
 abbrev pub is_range : Cmd → Bool
 is_range cmd = reboot_p0 cmd % 4 == 0
-    && (nat_le 4 (reboot_p1 cmd) && is_in_sram (reboot_p0 cmd) (reboot_p1 cmd))
+    && (nat_le 4 (reboot_p1 cmd) && in_sram (reboot_p0 cmd) (reboot_p1 cmd))
 
 -- the checks in their order
 abbrev pub ram_checks : Content → List ℕ → Cpu → Bool → Cmd → List ℕ → List Check
 ram_checks c ram cpu busy cmd payload =
     check INVALID_STATE (not (cmd.id == WRITE && busy))
     ∷ check TRANSFER_LENGTH (has_transfer cmd payload)
-    ∷ check ADDRESS (cmd.id == REBOOT || is_in_sram (address cmd) (size cmd))
+    ∷ check ADDRESS (cmd.id == REBOOT || in_sram (address cmd) (size cmd))
     ∷ check INVALID_ARGUMENT (not (cmd.id == REBOOT) || is_range cmd)
     ∷ check PRECONDITION (not (cmd.id == REBOOT) || is_some (reboot_image c ram cpu cmd)) ∷ []
 
@@ -92,7 +93,7 @@ abbrev pub transfer_checks : Bool → Cmd → List ℕ → List Check
 transfer_checks busy cmd payload =
     check INVALID_STATE (not (cmd.id == WRITE && busy))
     ∷ check TRANSFER_LENGTH (has_transfer cmd payload)
-    ∷ check ADDRESS (is_in_sram (address cmd) (size cmd)) ∷ []
+    ∷ check ADDRESS (in_sram (address cmd) (size cmd)) ∷ []
 
 -- and for a reboot, with its answer
 abbrev pub reboot_checks : Content → List ℕ → Cpu → Cmd → List ℕ → List Check

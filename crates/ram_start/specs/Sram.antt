@@ -1,6 +1,6 @@
 -- The SRAM that a host writes (RP2350 Datasheet, section 2.2, Address map).
-use Rattle.std.specs.Prelude.{◌≡◌, ℕ, ◌+◌, ◌-◌, ◌<◌, ◌&&◌, Bool, nat_le, List, [], ◌∷◌, ◌++◌, All, length, replicate, take, drop}
-use Rattle.load_map.specs.declared.addresses.TheConstants.{SRAM_END, SRAM_START}
+use Rattle.std.specs.Prelude.{◌≡◌, ℕ, ◌+◌, ◌-◌, ◌<◌, List, [], ◌∷◌, ◌++◌, All, length, replicate, take, drop}
+use Rattle.load_map.specs.declared.addresses.TheConstants.{SRAM_START}
 
 -- all bytes 0
 unfoldable pub zero_ram : List ℕ
@@ -10,10 +10,6 @@ zero_ram = replicate 532480 0
 pub record IsSram (ram : List ℕ) : Type 0 where
   pub long : length ram ≡ 532480
   pub bytes : All (λ b. b < 256) ram
-
--- the range of addresses lies in SRAM; a size of 0 at either end is inside
-abbrev pub is_in_sram : ℕ → ℕ → Bool
-is_in_sram address size = nat_le SRAM_START address && nat_le (address + size) SRAM_END
 
 -- the bytes are stored at an offset
 abbrev pub stored : List ℕ → ℕ → List ℕ → List ℕ

@@ -8,17 +8,18 @@ ghost use Rattle.picoboot_cmd.specs.Examples.{command, erase_command, range_args
 ghost use Rattle.picoboot_cmd.specs.declared.kinds.TheConstants.{OTP_READ, READ, REBOOT, WRITE};
 ghost use Rattle.ram_start.specs.Examples.{image_bytes, image_in_ram, reboot_into, with_rows};
 ghost use Rattle.ram_start.specs.Serving.{is_ram_command, is_range, ram_command, ram_served, ram_status};
-ghost use Rattle.ram_start.specs.Sram.{RamWrite, is_in_sram, ram_after, stored, written, written_all, zero_ram};
+ghost use Rattle.load_map.specs.Addresses.{in_sram};
+ghost use Rattle.ram_start.specs.Sram.{RamWrite, ram_after, stored, written, written_all, zero_ram};
 
 /// A range lies in SRAM up to its last byte, and a range of no byte at either end too.
 pub fn ranges_of_sram()
-    ensures first { is_in_sram 0x20000000 1 ≡ true }
-    ensures below { is_in_sram 0x1fffffff 1 ≡ false }
-    ensures whole { is_in_sram 0x20000000 0x82000 ≡ true }
-    ensures longer { is_in_sram 0x20000000 0x82001 ≡ false }
-    ensures last { is_in_sram 0x20081fff 1 ≡ true }
-    ensures end { is_in_sram 0x20082000 0 ≡ true }
-    ensures past { is_in_sram 0x20082001 0 ≡ false }
+    ensures first { in_sram 0x20000000 1 ≡ true }
+    ensures below { in_sram 0x1fffffff 1 ≡ false }
+    ensures whole { in_sram 0x20000000 0x82000 ≡ true }
+    ensures longer { in_sram 0x20000000 0x82001 ≡ false }
+    ensures last { in_sram 0x20081fff 1 ≡ true }
+    ensures end { in_sram 0x20082000 0 ≡ true }
+    ensures past { in_sram 0x20082001 0 ≡ false }
 {}
 
 /// A reboot names whole words of SRAM, one at least.

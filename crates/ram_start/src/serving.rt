@@ -10,7 +10,7 @@ ghost use Rattle.picoboot_cmd.specs.Checks.{has_transfer, first_failing};
 ghost use Rattle.sector_pool.specs.Keeping.{KeepsOut};
 ghost use Rattle.sector_pool.specs.Pool.{HasFree};
 ghost use Rattle.ram_start.specs.Serving.{asks_reboot, asks_transfer, is_ram_command, is_range, ram_command, ram_reply, ram_stored, reboot_done, reboot_image, transfer_checks};
-ghost use Rattle.ram_start.specs.Sram.{is_in_sram};
+ghost use Rattle.load_map.specs.Addresses.{in_sram};
 
 use crate::checking::ram_check;
 use crate::kinds::PRECONDITION;
@@ -58,7 +58,7 @@ pub fn ram_asks(cmd: &Cmd) -> bool
 
 /// Whether the range of addresses lies in SRAM.
 fn is_in_sram(address: u32, size: u32) -> bool
-    ensures { result ≡ is_in_sram address size }
+    ensures { result ≡ in_sram address size }
 {
     SRAM_START <= address && u64::from(address) + u64::from(size) <= u64::from(SRAM_END)
 }
@@ -184,7 +184,7 @@ fn refused(status: u32) -> RamDone
 
 /// Does the work of a read or a write.
 fn transfer<R: Reply>(ram: &mut Ram, cmd: &Cmd, payload: &[u8], reply: &mut R)
-    requires inside { is_in_sram (address cmd.now) (size cmd.now) ≡ true }
+    requires inside { in_sram (address cmd.now) (size cmd.now) ≡ true }
     requires sizes { has_transfer cmd.now payload.now ≡ true }
     requires asks { asks_transfer cmd.now ≡ true }
     ensures ram { ram.new ≡ ram_stored ram.old cmd.now payload.now }

@@ -15,8 +15,8 @@ use Rattle.table_json.specs.Tables.{table_from}
 use Rattle.table_json.specs.Seals.{spec_from, spec_with}
 
 -- what is said of the value of a text, as a table, as partition 0, and as a spec
-abbrev pub table_in : List ℕ → Option (Result Table JsonFault)
-table_in text = option_map table_from (read text)
+abbrev pub table_said : List ℕ → Option (Result Table JsonFault)
+table_said text = option_map table_from (read text)
 
 abbrev pub part_in : List ℕ → Option (Result Partition JsonFault)
 part_in text = option_map (partition_of 0) (read text)

@@ -1,6 +1,7 @@
 -- What is read of the block that is written for a whole table. This project's own.
 use Rattle.std.specs.Prelude.{◌≡◌, ℕ, ◌++◌, true, List, Some, Result, Ok, Err}
-use Rattle.block_codec.specs.Blocks.{BlockView, front_block}
+use Rattle.block_codec.specs.Blocks.{BlockView}
+use Rattle.block_codec.specs.Reading.{front_block}
 use Rattle.part_table.specs.declared.table.Table.{Table}
 use Rattle.part_table.specs.declared.table.TableFault.{TableFault}
 use Rattle.part_table.specs.TableOf.{has_table, table_of}

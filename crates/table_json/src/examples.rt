@@ -5,7 +5,7 @@ ghost use Rattle.part_table.specs.declared.table.TableFault.{TableFault};
 ghost use Rattle.part_table.specs.Examples.{pair_version, owned_table, named_table, table_with, plain_partition, partition_with};
 ghost use Rattle.pico_board.specs.declared.boot.Cpu.{Cpu};
 ghost use Rattle.table_json.specs.Seals.{spec_with};
-ghost use Rattle.table_json.specs.Examples.{table_in, part_in, spec_in, all_rights, rights, part, part_and, part_of, table_of_parts, flagged, part_value, part_missing, top_value, top_missing, outside_value, named, list_of, nested, versioned, plain_spec};
+ghost use Rattle.table_json.specs.Examples.{table_said, part_in, spec_in, all_rights, rights, part, part_and, part_of, table_of_parts, flagged, part_value, part_missing, top_value, top_missing, outside_value, named, list_of, nested, versioned, plain_spec};
 
 use crate::{Field, JsonFault, Place};
 use part_table::TableFault;
@@ -13,14 +13,14 @@ use pico_board::Cpu;
 
 /// Whole tables.
 pub fn tables_are_read()
-    ensures pair { table_in
+    ensures pair { table_said
         (codes "{\"version\":[1,0],\"unpartitioned\":{\"families\":[\"absolute\"],"
         ++ all_rights ++ codes "},\"partitions\":["
         ++ codes "{\"first\":2,\"last\":31,\"families\":[\"rp2350-arm-s\"]," ++ all_rights
         ++ codes "},{\"first\":32,\"last\":61,\"families\":[\"rp2350-arm-s\"]," ++ all_rights
         ++ codes ",\"link\":[\"a\",0]}]}")
         ≡ Some (Ok (pair_version 1 0)) }
-    ensures owners { table_in (table_of_parts
+    ensures owners { table_said (table_of_parts
         (part (codes "2") (codes "9") (codes ",\"families\":[\"rp2350-arm-s\"]") ++ codes ","
         ++ part (codes "10") (codes "17")
         (codes ",\"families\":[\"rp2350-arm-s\"],\"link\":[\"a\",0]") ++ codes ","
@@ -29,7 +29,7 @@ pub fn tables_are_read()
         ++ part (codes "26") (codes "33")
         (codes ",\"families\":[\"data\"],\"link\":[\"a\",2]")))
         ≡ Some (Ok owned_table) }
-    ensures named { table_in
+    ensures named { table_said
         (codes "{\"singleton\":true,\"unpartitioned\":{" ++ rights [] [] []
         ++ codes "},\"partitions\":["
         ++ part (codes "2") (codes "3")
@@ -37,7 +37,7 @@ pub fn tables_are_read()
         ++ codes "\"name\":\"abcd\"")
         ++ codes "]}")
         ≡ Some (Ok named_table) }
-    ensures empty { table_in (table_of_parts []) ≡ Some (Ok (table_with [])) }
+    ensures empty { table_said (table_of_parts []) ≡ Some (Ok (table_with [])) }
 {}
 
 /// Both sides of the bound of sectors.
@@ -126,7 +126,7 @@ pub fn families_have_bounds()
     ensures past { part_and (codes ",\"families\":[4294967296]") ≡ part_value Field.Families }
     ensures other { part_and (codes ",\"families\":[\"rp2350\"]") ≡ part_value Field.Families }
     ensures text { part_and (codes ",\"families\":\"data\"") ≡ part_value Field.Families }
-    ensures outside { table_in
+    ensures outside { table_said
         (codes "{\"unpartitioned\":{\"families\":[1]," ++ all_rights
         ++ codes "},\"partitions\":[]}")
         ≡ outside_value Field.Families }
@@ -170,31 +170,31 @@ pub fn permissions_are_exact()
 
 /// Both sides of the bound of versions, and other forms.
 pub fn versions_are_read()
-    ensures greatest { table_in
+    ensures greatest { table_said
         (codes "{\"version\":[65535,65535],\"unpartitioned\":{" ++ all_rights
         ++ codes "},\"partitions\":[]}")
         ≡ Some (Ok (versioned 65535 65535)) }
-    ensures major_first { table_in
+    ensures major_first { table_said
         (codes "{\"version\":[1,2],\"unpartitioned\":{" ++ all_rights
         ++ codes "},\"partitions\":[]}")
         ≡ Some (Ok (versioned 1 2)) }
-    ensures major_past { table_in
+    ensures major_past { table_said
         (codes "{\"version\":[65536,0],\"unpartitioned\":{" ++ all_rights
         ++ codes "},\"partitions\":[]}")
         ≡ top_value Field.Version }
-    ensures minor_past { table_in
+    ensures minor_past { table_said
         (codes "{\"version\":[0,65536],\"unpartitioned\":{" ++ all_rights
         ++ codes "},\"partitions\":[]}")
         ≡ top_value Field.Version }
-    ensures short { table_in
+    ensures short { table_said
         (codes "{\"version\":[1],\"unpartitioned\":{" ++ all_rights
         ++ codes "},\"partitions\":[]}")
         ≡ top_value Field.Version }
-    ensures long { table_in
+    ensures long { table_said
         (codes "{\"version\":[1,0,0],\"unpartitioned\":{" ++ all_rights
         ++ codes "},\"partitions\":[]}")
         ≡ top_value Field.Version }
-    ensures text { table_in
+    ensures text { table_said
         (codes "{\"version\":\"1.0\",\"unpartitioned\":{" ++ all_rights
         ++ codes "},\"partitions\":[]}")
         ≡ top_value Field.Version }
@@ -202,59 +202,59 @@ pub fn versions_are_read()
 
 /// Fifteen partitions are judged, one after the other; sixteen are too many.
 pub fn partitions_are_counted()
-    ensures fifteen { table_in
+    ensures fifteen { table_said
         (codes "{\"unpartitioned\":{" ++ all_rights ++ codes "},\"partitions\":"
         ++ list_of 14 (codes "0")
         ++ codes "}")
         ≡ Some (Err (JsonFault.Value (Place.Partition 0) Field.Families)) }
-    ensures sixteen { table_in
+    ensures sixteen { table_said
         (codes "{\"unpartitioned\":{" ++ all_rights ++ codes "},\"partitions\":"
         ++ list_of 15 (codes "0")
         ++ codes "}")
         ≡ top_value Field.Partitions }
-    ensures second { table_in (table_of_parts (part (codes "2") (codes "3") [] ++ codes ",{}"))
+    ensures second { table_said (table_of_parts (part (codes "2") (codes "3") [] ++ codes ",{}"))
         ≡ Some (Err (JsonFault.Missing (Place.Partition 1) Field.First)) }
 {}
 
 /// Two faults of the top object each: the first of them is the answer.
 pub fn tops_are_judged_in_order()
-    ensures list { table_in (codes "[]") ≡ top_value Field.Partitions }
-    ensures unknown_version { table_in (codes "{\"x\":0,\"version\":0}")
+    ensures list { table_said (codes "[]") ≡ top_value Field.Partitions }
+    ensures unknown_version { table_said (codes "{\"x\":0,\"version\":0}")
         ≡ Some (Err (JsonFault.Unknown Place.Top)) }
-    ensures unknown_missing { table_in (codes "{\"x\":0}")
+    ensures unknown_missing { table_said (codes "{\"x\":0}")
         ≡ Some (Err (JsonFault.Unknown Place.Top)) }
-    ensures version_singleton { table_in (codes "{\"singleton\":0,\"version\":0}")
+    ensures version_singleton { table_said (codes "{\"singleton\":0,\"version\":0}")
         ≡ top_value Field.Version }
-    ensures singleton_missing { table_in (codes "{\"singleton\":0}") ≡ top_value Field.Singleton }
-    ensures unpartitioned_partitions { table_in (codes "{}") ≡ top_missing Field.Unpartitioned }
-    ensures partitions_value { table_in (codes "{\"unpartitioned\":0}")
+    ensures singleton_missing { table_said (codes "{\"singleton\":0}") ≡ top_value Field.Singleton }
+    ensures unpartitioned_partitions { table_said (codes "{}") ≡ top_missing Field.Unpartitioned }
+    ensures partitions_value { table_said (codes "{\"unpartitioned\":0}")
         ≡ top_missing Field.Partitions }
-    ensures top_inner { table_in (codes "{\"unpartitioned\":0,\"partitions\":0}")
+    ensures top_inner { table_said (codes "{\"unpartitioned\":0,\"partitions\":0}")
         ≡ top_value Field.Partitions }
 {}
 
 /// Unpartitioned comes before the partitions, and each before the faults of the whole table.
 pub fn parts_are_judged_in_order()
-    ensures no_object { table_in
+    ensures no_object { table_said
         (codes "{\"unpartitioned\":0,\"partitions\":[0]}")
         ≡ outside_value Field.Families }
-    ensures unknown { table_in
+    ensures unknown { table_said
         (codes "{\"unpartitioned\":{\"x\":0,\"families\":0},\"partitions\":[0]}")
         ≡ Some (Err (JsonFault.Unknown Place.Unpartitioned)) }
-    ensures families { table_in
+    ensures families { table_said
         (codes "{\"unpartitioned\":{\"families\":0},\"partitions\":[0]}")
         ≡ outside_value Field.Families }
-    ensures missing { table_in
+    ensures missing { table_said
         (codes "{\"unpartitioned\":{},\"partitions\":[0]}")
         ≡ Some (Err (JsonFault.Missing Place.Unpartitioned Field.Permissions)) }
-    ensures value { table_in
+    ensures value { table_said
         (codes "{\"unpartitioned\":{\"permissions\":0},\"partitions\":[0]}")
         ≡ outside_value Field.Permissions }
-    ensures part_part { table_in
+    ensures part_part { table_said
         (table_of_parts (part (codes "2") (codes "3") (codes ",\"no_reboot\":0")
         ++ codes ",{\"x\":0}"))
         ≡ Some (Err (JsonFault.Value (Place.Partition 0) Field.NoReboot)) }
-    ensures part_range { table_in (table_of_parts (part (codes "0") (codes "0") [] ++ codes ",0"))
+    ensures part_range { table_said (table_of_parts (part (codes "0") (codes "0") [] ++ codes ",0"))
         ≡ Some (Err (JsonFault.Value (Place.Partition 1) Field.Families)) }
 {}
 
@@ -284,13 +284,13 @@ pub fn partitions_are_judged_in_order()
 /// A block of 640 bytes is a table, and one of 644 bytes is too long.
 pub fn sizes_are_judged()
     ensures fits { option_map is_ok
-        (table_in (table_of_parts (part (codes "2") (codes "2") (named 127) ++ codes ","
+        (table_said (table_of_parts (part (codes "2") (codes "2") (named 127) ++ codes ","
         ++ part (codes "3") (codes "3") (named 127) ++ codes ","
         ++ part (codes "4") (codes "4") (named 127) ++ codes ","
         ++ part (codes "5") (codes "5") (named 127) ++ codes ","
         ++ part (codes "6") (codes "6") (codes ",\"id\":1,\"families\":[1]"))))
         ≡ Some true }
-    ensures too_long { table_in
+    ensures too_long { table_said
         (table_of_parts (part (codes "0") (codes "0") (named 127) ++ codes ","
         ++ part (codes "0") (codes "0") (named 127) ++ codes ","
         ++ part (codes "0") (codes "0") (named 127) ++ codes ","
@@ -301,20 +301,20 @@ pub fn sizes_are_judged()
 
 /// The faults of the whole table, in a flash of 4096 sectors of which two are not free.
 pub fn faults_are_those_of_tables()
-    ensures overlap { table_in (table_of_parts (part (codes "2") (codes "31") [] ++ codes ","
+    ensures overlap { table_said (table_of_parts (part (codes "2") (codes "31") [] ++ codes ","
         ++ part (codes "31") (codes "61") []))
         ≡ Some (Err (JsonFault.Table (TableFault.Overlap 0 1))) }
-    ensures low { table_in (table_of_parts (part (codes "1") (codes "1") []))
+    ensures low { table_said (table_of_parts (part (codes "1") (codes "1") []))
         ≡ Some (Err (JsonFault.Table (TableFault.Range 0))) }
     ensures lowest { option_map is_ok
-        (table_in (table_of_parts (part (codes "2") (codes "2") [])))
+        (table_said (table_of_parts (part (codes "2") (codes "2") [])))
         ≡ Some true }
-    ensures high { table_in (table_of_parts (part (codes "4096") (codes "4096") []))
+    ensures high { table_said (table_of_parts (part (codes "4096") (codes "4096") []))
         ≡ Some (Err (JsonFault.Table (TableFault.Range 0))) }
     ensures highest { option_map is_ok
-        (table_in (table_of_parts (part (codes "4095") (codes "4095") [])))
+        (table_said (table_of_parts (part (codes "4095") (codes "4095") [])))
         ≡ Some true }
-    ensures link { table_in
+    ensures link { table_said
         (table_of_parts (part (codes "2") (codes "2") (codes ",\"link\":[\"a\",0]")))
         ≡ Some (Err (JsonFault.Table (TableFault.Link 0))) }
 {}

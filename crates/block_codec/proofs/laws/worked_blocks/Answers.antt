@@ -1,7 +1,7 @@
 use Rattle.std.proofs.Common.{refl}
 use Rattle.block_codec.specs.Words.{word_bytes, word_of}
 use Rattle.block_codec.specs.Items.{size_of}
-use Rattle.block_codec.specs.Blocks.{item_words, front_block, block_at}
+use Rattle.block_codec.specs.Reading.{item_words, front_block, block_at}
 use Rattle.block_codec.proofs.laws.worked_blocks.Goals as goal
 
 pub returns-clause-minimal : goal.returns-clause-minimal

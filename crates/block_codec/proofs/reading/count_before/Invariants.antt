@@ -1,5 +1,5 @@
 use Rattle.std.proofs.Common.{◌≡◌, ◌-◌, length, drop}
-use Rattle.block_codec.specs.Blocks.{words_before}
+use Rattle.block_codec.specs.Reading.{words_before}
 use Rattle.block_codec.proofs.ItemLemmas.{later}
 use Rattle.block_codec.proofs.reading.count_before.Given as goal
 

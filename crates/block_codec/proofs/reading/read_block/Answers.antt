@@ -1,5 +1,5 @@
 use Rattle.std.proofs.Common.{◌≡◌, ◌∙◌, Some, arith, ap, sym}
-use Rattle.block_codec.specs.Blocks.{front_block}
+use Rattle.block_codec.specs.Reading.{front_block}
 use Rattle.block_codec.proofs.WordLemmas.{AreBytes}
 use Rattle.block_codec.proofs.BlockLemmas.{front_block-stands}
 use Rattle.block_codec.proofs.ExactLemmas.{front_block-framed, front_block-none, no_block_in_front}

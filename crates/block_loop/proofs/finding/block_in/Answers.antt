@@ -1,5 +1,5 @@
 use Rattle.std.proofs.Common.{◌∙◌, ap}
-use Rattle.block_codec.specs.Blocks.{front_block}
+use Rattle.block_codec.specs.Reading.{front_block}
 use Rattle.block_loop.proofs.FindLemmas.{part_read}
 use Rattle.block_loop.proofs.finding.block_in.Goals as goal
 

@@ -1,7 +1,7 @@
 use Rattle.std.proofs.Common.{ap, sym, refl, ◌∙◌}
 use Rattle.uf2_place.specs.Blocks.{uf2_of}
 use Rattle.boot_lines.specs.Texts.{form_text}
-use Rattle.boot_machine.specs.Serving.{places, told, uf2_served}
+use Rattle.boot_machine.specs.Serving.{places, line_only, uf2_served}
 use Rattle.boot_machine.specs.Standing.{is_on}
 use Rattle.boot_machine.proofs.Placing.{serves-as}
 use Rattle.boot_machine.proofs.Steadiness.{told-served}
@@ -17,7 +17,7 @@ returns-in-Ok-clause-serves g c =
 pub returns-in-Err-clause-serves : goal.returns-in-Err-clause-serves
 returns-in-Err-clause-serves g c =
     serves-as g.B.Board.state g.B.Board.history c.args.parts.now c.args.parts.now
-    (λ content cpu host. told host (form_text c.in-Err.fault))
+    (λ content cpu host. line_only host (form_text c.in-Err.fault))
     (λ content cpu host. uf2_served content cpu host (uf2_of c.args.bytes.now)) _ _
     (λ content cpu host. ap (uf2_served content cpu host) (sym c.in-Err.is ∙ c.read_uf2.ensures.exact))
     (λ host is. told-served g.B.Board.state g.B.Board.history c.args.parts.now c.args.parts.now host _ _

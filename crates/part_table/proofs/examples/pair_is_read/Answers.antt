@@ -1,6 +1,7 @@
 -- By computing.
 use Rattle.std.proofs.Common.{refl}
-use Rattle.block_codec.specs.Blocks.{block_at, frame, front_block, item_words}
+use Rattle.block_codec.specs.Blocks.{frame}
+use Rattle.block_codec.specs.Reading.{block_at, front_block, item_words}
 use Rattle.block_codec.specs.Items.{size_of}
 use Rattle.block_codec.specs.Words.{word_bytes, word_of}
 use Rattle.part_table.proofs.examples.pair_is_read.Goals as goal
