@@ -121,7 +121,7 @@ module _ {B : Type 0} where
     found = found;
   }
 
-  -- the parts with the state taken out
+  -- the same parts, without power
   abbrev pub powerless : Parts B → Parts B
   powerless p = record {
     board = p.board;

@@ -34,8 +34,8 @@ deciding_unit None u = u
 deciding_unit (Some t) u = deciding_in t.parts.items u u.a_part
 
 -- the target's member of a pair: B where A would be taken in the deciding unit, and A otherwise. So
--- an owned pair takes what its owner's choice leaves unread, and another pair what its own leaves
--- unread.
+-- an owned pair is written where its owner's choice would not read, and another pair where its own
+-- would not.
 abbrev pub member_for : Option Member → Member
 member_for (Some A) = B
 member_for (Some B) = A

@@ -38,8 +38,7 @@ abbrev pub write_calls : List File → List Access
 write_calls [] = []
 write_calls (file ∷ files) = Writes file.name file.bytes (Ok tt) ∷ write_calls files
 
--- the run made these calls and no others: it read the inputs, wrote the files of the outcome and
--- put its text once
+-- the run made these calls: it read the inputs, wrote the files of the outcome and put its text
 pub record Does {S : Type 0} (state : S → StoreState) (history : S → List Access → Type 0)
     {K : Type 0} (shown : K → SinkState) (taken : K → List Put → Type 0)
     (inputs : List Input) (read : List (List ℕ)) (o : Outcome) (old : S) (before : K) (new : S)

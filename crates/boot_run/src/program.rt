@@ -81,9 +81,9 @@ fn run_words<S: Store, K: Sink>(
 ///
 /// `Words`: the words are no command. `Input`: the line names the first input, in word order, that
 /// breaks its form, or where each has its form the one that the work refuses. `Bootsel`: a boot
-/// that was asked for falls to BOOTSEL. `ReadFault`,
-/// `WriteFault` and `OutputFault`: the count of read faults, of write faults or of the sink's
-/// faults rose. `Memory`: there was no memory; it may come anywhere.
+/// that was asked for falls to BOOTSEL. `ReadFault`, `WriteFault` and `OutputFault`: the count of
+/// read faults, of write faults or of the sink's faults rose. `Memory`: there was no memory; it may
+/// come anywhere.
 pub fn run<S: Store, K: Sink>(
     alloc: Global,
     words: &Vec<String>,

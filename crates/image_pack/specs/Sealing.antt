@@ -30,8 +30,7 @@ use Rattle.image_pack.specs.declared.parts.Parts.{Parts}
 use Rattle.image_pack.specs.declared.spec.SealSpec.{SealSpec}
 use Rattle.image_pack.specs.Filling.{whole_sectors, whole_words}
 
--- the words of the item that a block's items begin with among those of a kind; none where there is
--- no such item
+-- the words of an item of block b; none where there is no item
 abbrev pub item_words_of : BlockView → Option Item → List ℕ
 item_words_of b None = []
 item_words_of b (Some item) = slice_range (block_words b) item.first (item.first + item.words)

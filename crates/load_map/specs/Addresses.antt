@@ -8,7 +8,6 @@ abbrev pub is_sram : ℕ → Bool
 is_sram address = nat_le SRAM_START address && nat_lt address SRAM_END
 
 -- the range of `size` bytes from an address on lies wholly in SRAM; one of no byte may begin at
--- its
--- end
+-- its end
 abbrev pub in_sram : ℕ → ℕ → Bool
 in_sram address size = nat_le SRAM_START address && nat_le (address + size) SRAM_END

@@ -19,8 +19,7 @@ pub record AgreeOn (loads : List Load) (w v : List ℕ) : Type 0 where
       → slice_index v i ≡ slice_index w i
 
 -- blocks b and c stand at the same offset, are equally long and have the same words for the
--- entries
--- of this LOAD_MAP item
+-- entries of this LOAD_MAP item
 pub record HaveSameEntries (item : Item) (b c : BlockView) : Type 0 where
   pub at : c.at ≡ b.at
   pub size : length c.items ≡ length b.items

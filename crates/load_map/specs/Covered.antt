@@ -27,9 +27,8 @@ abbrev pub masked_words : List ℕ → ℕ → List ℕ
 masked_words words k = slice_set words k (without_trial (slice_index words k))
 
 -- the covered bytes: of each load in order its storage bytes or its size, and then the first words
--- of
--- the definition's block, as many as are hashed, with the trial bit read as 0. An image without a
--- load map has no loads.
+-- of the definition's block, as many as are hashed, with the trial bit read as 0. An image without
+-- a load map has no loads.
 abbrev pub covered : List ℕ → List Load → BlockView → ℕ → ℕ → List ℕ
 covered window loads b hash_words image_word =
     flat_map (covered_load window) loads

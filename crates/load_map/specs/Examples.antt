@@ -9,8 +9,7 @@ use Rattle.load_map.specs.declared.load.Load.{Load}
 use Rattle.load_map.specs.declared.load.MapFault.{MapFault}
 
 -- a block at offset 0x100 that closes its loop by itself and has an IMAGE_TYPE item for Arm, and
--- then
--- these item words; with one entry it ends at 0x124, with two at 0x130
+-- then these item words; with one entry it ends at 0x124, with two at 0x130
 abbrev pub example_block : List ℕ → BlockView
 example_block words = record { at = 0x100; items = 0x10210142 ∷ words; link = pos 0 }
 

@@ -16,8 +16,7 @@ use Rattle.load_map.specs.declared.load.MapFault.TheVariants.{Storage, Runtime, 
 use Rattle.load_map.specs.declared.setting.Setting.{Setting}
 
 -- the offset in a window of n bytes of a range of `size` bytes that begins at a signed offset;
--- None
--- where the range leaves the window
+-- None where the range leaves the window
 abbrev pub offset_within : ℕ → ℤ → ℕ → Option ℕ
 offset_within n (pos x) size = if nat_le (x + size) n then Some x else None
 offset_within n (negsuc x) size = None

@@ -1,6 +1,5 @@
 -- What raises leave, done or torn: no count falls, no row outside the listed triples changes, and no torn raise adds
--- a bit to a
--- majority that the finished one does not add.
+-- a bit to a majority that the finished one does not add.
 use Rattle.std.proofs.Common.{◌≡◌, ℕ, ◌+◌, ◌-◌, ◌^◌, ◌<◌, ◌≤◌, ◌≢◌, List, [], ◌∷◌, ◌++◌, arith, refl, ap, subst, ◌∙◌, bit_xor, inl, inr}
 use Rattle.std.specs.Prelude.{◌⊎◌, ⊤, Contains, slice_index}
 use Rattle.std.specs.List.{AllByRecursion}

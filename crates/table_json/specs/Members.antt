@@ -59,7 +59,7 @@ has_unknown shape (member name d ms) = not (is_listed shape name) || has_unknown
 abbrev pub members_judged : Shape → Place → Members → Result ⊤ JsonFault
 members_judged shape place ms = if has_unknown shape ms then Err (Unknown place) else Ok tt
 
--- what is no object has Value of the field that stands for that
+-- a value that is no object is answered Value of this field
 abbrev pub object_judged_as : Shape → Place → Field → Option Members → Result ⊤ JsonFault
 object_judged_as shape place field None = Err (Value place field)
 object_judged_as shape place field (Some ms) = members_judged shape place ms
