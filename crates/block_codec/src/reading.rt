@@ -44,7 +44,7 @@ fn count_before(words: &[u32]) -> Option<usize>
 }
 
 /// The number of item words of the block that begins the words.
-#[tactic(auto, unfolding(crate::specs::Blocks::item_words))]
+#[tactic(auto, unfolding(crate::specs::Reading::item_words))]
 fn item_count(words: &[u32]) -> Option<usize>
     requires { length words.now ≤ 160 }
     ensures { result ≡ framed_words words.now }

@@ -5,7 +5,7 @@ ghost use Rattle.std.specs.Prelude.{◌≡◌};
 #[cfg(test)]
 mod tests;
 
-use crate::pieces::{read_up_to, write_whole};
+use crate::pieces::{read_to_limit, write_whole};
 use pico_board::{Store, StoreFail};
 use std::fs;
 use std::rt::Files;
@@ -47,7 +47,7 @@ impl<R: Files> Store for Disk<'_, R> {
 
     fn read(&mut self, name: &str, limit: u32, into: &mut Vec<u8>) -> Result<(), StoreFail> {
         let answer = match fs::open(self.files, name) {
-            Ok(mut file) => read_up_to(&mut file, limit as usize + 1, into),
+            Ok(mut file) => read_to_limit(&mut file, limit, into),
             Err(_) => Err(StoreFail::Fault),
         };
         if answer == Err(StoreFail::Fault) {

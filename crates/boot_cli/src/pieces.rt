@@ -3,7 +3,7 @@
 #[cfg(test)]
 mod tests;
 
-ghost use Rattle.std.specs.Prelude.{◌≡◌, ◌⊎◌, ◌<◌, ◌≤◌, [], length, take, true, false, Ok, IsTrue, IsFalse, IfSome, OnOk};
+ghost use Rattle.std.specs.Prelude.{◌≡◌, ◌⊎◌, ◌<◌, ◌≤◌, ◌+◌, [], length, take, true, false, Ok, IsTrue, IsFalse, IfSome, OnOk};
 ghost use Rattle.std.specs.Io.KnownBytes.{Appends, IsAtEnd};
 ghost use Rattle.boot_cli.specs.Pieces.{TakesFrom, AppendsInPart};
 
@@ -64,7 +64,7 @@ fn read_pieces<R: Read>(
 
 /// Reads into an empty vector until the reader ends, but at most so many bytes. A read of no byte
 /// is the end. Nothing is said of `into` after an error.
-pub fn read_up_to<R: Read>(reader: &mut R, most: usize, into: &mut Vec<u8>) -> Result<(), StoreFail>
+fn read_up_to<R: Read>(reader: &mut R, most: usize, into: &mut Vec<u8>) -> Result<(), StoreFail>
     requires { into.old.items ≡ [] }
     ensures room { OnOk result (length into.new.items ≤ most) }
     // Where the reader's bytes are known, these are the first of them, or all where it has fewer.
@@ -73,6 +73,22 @@ pub fn read_up_to<R: Read>(reader: &mut R, most: usize, into: &mut Vec<u8>) -> R
 {
     let mut buffer = [0u8; PIECE];
     read_pieces(reader, &mut buffer, most, into)
+}
+
+/// Reads a file's bytes into an empty vector until the reader ends, but at most one byte more than
+/// the limit, by which a caller sees that the file is longer. Nothing is said of `into` after an
+/// error.
+pub fn read_to_limit<R: Read>(
+    reader: &mut R,
+    limit: u32,
+    into: &mut Vec<u8>,
+) -> Result<(), StoreFail>
+    requires { into.old.items ≡ [] }
+    ensures room { OnOk result (length into.new.items ≤ limit + 1) }
+    ensures front { OnOk result
+        (IfSome (R.remaining reader.old) (λ bytes. into.new.items ≡ take (limit + 1) bytes)) }
+{
+    read_up_to(reader, limit as usize + 1, into)
 }
 
 /// Writes some of the bytes, and answers how many the writer took: none where it answers an error.

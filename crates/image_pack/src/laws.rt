@@ -20,10 +20,10 @@ ghost use Rattle.boot_script.specs.Scripts.{events};
 ghost use Rattle.image_pack.specs.declared.spec.SealError.{SealError};
 ghost use Rattle.image_pack.specs.declared.spec.SealSpec.{SealSpec};
 ghost use Rattle.image_pack.specs.Faults.{IsSealFault, IsSealed, block_offset};
-ghost use Rattle.image_pack.specs.Filling.{round_up, whole_sectors};
+ghost use Rattle.image_pack.specs.Filling.{round_up, whole_sectors, whole_words};
 ghost use Rattle.image_pack.specs.Plans.{IsPlanned, erase_cmd, plan_text, sent, update_cmd, write_cmd};
 ghost use Rattle.image_pack.specs.declared.parts.Parts.{Parts};
-ghost use Rattle.image_pack.specs.Sealing.{digest_text, own_loads, relinked, sealed_text};
+ghost use Rattle.image_pack.specs.Sealing.{digest_text, own_loads, parts_in, relinked, sealed_text};
 ghost use Rattle.image_pack.specs.Within.{IsWithin};
 ghost use Rattle.load_map.specs.declared.load.Load.{Load};
 ghost use Rattle.block_codec.specs.Words.{word_bytes};
@@ -115,8 +115,8 @@ pub fn a_sealed_image_is_read_back()
 
 /// A binary cannot be sealed for a reason exactly where that is the answer of the first of the
 /// rules of a valid image, those from the first block to the items and the one on the load map,
-/// that the binary fails, filled with 0xff to whole sectors; it can be sealed exactly where it
-/// keeps them all; and one of these is so, once.
+/// that the binary fails, filled with 0xff to whole sectors; otherwise it keeps them all; and one of
+/// these is so, once.
 pub fn why_a_binary_cannot_be_sealed()
     ensures fault { (binary : List ℕ) (spec : SealSpec) (why : Why)
         → IsSealFault binary spec (Unsealable why)
@@ -133,8 +133,11 @@ pub fn why_a_binary_cannot_be_sealed()
 {}
 
 /// The bytes before the new block are the binary's, but for the link word of the last block of its
-/// loop, which leads from that block to their end.
+/// loop, which leads from that block to their end. That word lies within the binary.
 pub fn the_binary_stays_but_for_one_link()
+    ensures within { (binary : List ℕ) (cpu : Cpu) (p : Parts) → length binary ≤ 16777216
+        → parts_in cpu (whole_sectors binary) ≡ Ok p
+        → IsWithin p (length (whole_words binary)) }
     ensures long { (bytes : List ℕ) (p : Parts) → IsWithin p (length bytes)
         → length (relinked bytes (Some p)) ≡ length bytes }
     ensures others { (bytes : List ℕ) (p : Parts) (i : ℕ) → IsWithin p (length bytes)

@@ -26,6 +26,13 @@ free_count-leased pool k was_free =
     let was = get_or_from_slice_get pool.out k false true was_free in
     omega (arith, rw was at moved)
 
+-- one that is not out is enough
+pub has_free : (pool : Pool) (k : ℕ) → slice_get pool.out k ≡ Some false → HasFree pool
+has_free pool k was_free = omega (arith, free_count-leased pool k was_free)
+
+pub none_free : (pool : Pool) → All (λ is_out. is_out ≡ true) pool.out → HasFree pool → ⊥
+none_free pool all free = let none = count_by-All pool.out all in omega (arith, none, free)
+
 -- what is given back is free
 pub free_count-returned : (pool : Pool) (k : ℕ) → slice_get pool.out k ≡ Some true
     → free_count (returned pool k) ≡ free_count pool + 1

@@ -1,8 +1,8 @@
 //! Laws of the words by which calls that borrow from a pool say what they leave as it was.
 
-ghost use Rattle.std.specs.Prelude.{◌≡◌, ◌≢◌, ℕ, List, None, Option, Some, true, false, slice_get};
+ghost use Rattle.std.specs.Prelude.{◌≡◌, ◌≢◌, ℕ, All, List, None, Option, Some, true, false, slice_get};
 ghost use Rattle.sector_pool.specs.Keeping.{HandsOver, KeepsOut, KeepsOutBut};
-ghost use Rattle.sector_pool.specs.Pool.{Pool, leased, returned, written};
+ghost use Rattle.sector_pool.specs.Pool.{HasFree, Pool, leased, returned, written};
 
 /// A pool that is left alone keeps what is out, and two calls that do keep it one after the other.
 pub fn keeping_composes()
@@ -41,4 +41,10 @@ pub fn handing_over_composes()
     ensures none { (old new : Pool) → KeepsOut old new → HandsOver None None old new }
     ensures two { (a b c : Option ℕ) (p q r : Pool) → HandsOver a b p q → HandsOver b c q r
         → HandsOver a c p r }
+{}
+
+/// A pool has a free sector exactly where some number is not out; one is enough.
+pub fn a_free_sector_is_not_out()
+    ensures some { (pool : Pool) (k : ℕ) → slice_get pool.out k ≡ Some false → HasFree pool }
+    ensures none { (pool : Pool) → All (λ is_out. is_out ≡ true) pool.out → HasFree pool → ⊥ }
 {}
