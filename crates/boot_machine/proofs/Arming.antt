@@ -174,7 +174,8 @@ module _ {B : Type 0} (state : B → BoardState) (history : B → List Step → 
         });
         stands = record {
           content = stands.content ∙ ap (λ (s : BoardState). s.content) (sym becomes.same);
-          armed = ap (option_map (λ former. Some cut)) stands.armed ∙ ap (λ (s : BoardState). s.armed) (sym becomes.same);
+          armed = ap (option_map (λ former. Some cut)) stands.armed
+              ∙ ap (λ (s : BoardState). s.armed) (sym becomes.same);
           cpu = stands.cpu;
           place = stands-board old board m.place stands.place;
         };

@@ -135,7 +135,7 @@ cut-content (step ∷ steps) (Some cut) c small right all is =
     by : (t : Bool) → ((cut_steps steps (Some (nearer cut)) (after c step)).answer ≡ false
         → CutOf (after c step) steps (cut_steps steps (Some (nearer cut)) (after c step)).content)
         → (after_it steps cut c step t).answer ≡ false → CutOf c (step ∷ steps) (after_it steps cut c step t).content
-    by true rest is = inl (Torn-cut_by cut c step small right (all.0))
+    by true rest is = inl (Torn-cut_by cut c step small right.flash_bytes)
     by false rest is = inr (rest is)
 
 pub move-untold : (m : Machine) (event : Happening) → m.armed ≡ None

@@ -2,6 +2,7 @@
 -- This project's own.
 use Rattle.std.specs.Prelude.{ℕ, ◌+◌, ◌*◌, Bool, true, false, List, [], ◌∷◌, ◌++◌, replicate, take, Some, None}
 use Rattle.block_codec.specs.Words.{bytes_of}
+use Rattle.image_check.specs.Examples.{plain_image}
 use Rattle.image_def.specs.declared.started.Started.{Started}
 use Rattle.pico_board.specs.Content.{Content}
 use Rattle.pico_board.specs.declared.Step.{Step}
@@ -150,18 +151,7 @@ trial_sector = region 0x1000 (0x20082000 ∷ 0x20000001 ∷ framed (0x90210142 �
 
 -- the record of the plain and of the mapped one
 abbrev pub sector_image : Started
-sector_image = record {
-  window = window_at 0x1000 0x1000;
-  block = 8;
-  image_at = 12;
-  pc = 0x20000001;
-  sp = 0x20082000;
-  limit = 0;
-  version = record { major = 0; minor = 0 };
-  rollback = None;
-  rows = record { items = [] };
-  trial = false;
-}
+sector_image = plain_image (window_at 0x1000 0x1000) 0x20000001 false
 
 -- of three states of the second sector, before some steps, after them and where power was lost in
 -- them, the last one is lucky

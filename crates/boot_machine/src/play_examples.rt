@@ -9,11 +9,12 @@ ghost use Rattle.boot_machine.specs.Machines.{FromFlash, FromRam, InBootsel, Off
 ghost use Rattle.boot_machine.specs.Moves.{Moves, Plays, effect, lost_text};
 ghost use Rattle.boot_machine.specs.RunExamples.{arm_block, armed_with, asks_target, block_of, busy, erase_both, erased, fresh_host, idle, image_bytes, image_in_a, loaded_host, lost_with, machine_at, pair_host, slot_two};
 ghost use Rattle.boot_machine.specs.Runs.{AnswersTarget, BeginsDownload, IsFresh, PlaysWriting, StartsRam};
-ghost use Rattle.boot_machine.specs.Serving.{Served, followed_by, ruling_on, table_of, with_ram};
+ghost use Rattle.boot_machine.specs.Serving.{Served, followed_by, ruling_on, serves, table_of, with_ram};
 ghost use Rattle.boot_rules.specs.Choosing.{decision_in};
-ghost use Rattle.boot_rules.specs.Examples.{empty_table, found_in};
+ghost use Rattle.boot_rules.specs.Examples.{empty_table, found_in, tables_content};
 ghost use Rattle.boot_rules.specs.Targets.{target_of};
 ghost use Rattle.boot_script.specs.Events.{Happening};
+ghost use Rattle.info_reply.specs.Examples.{info};
 ghost use Rattle.pico_board.specs.Content.{Content};
 ghost use Rattle.pico_board.specs.Cuts.{cut_with};
 ghost use Rattle.pico_board.specs.Steps.{after, after_all};
@@ -22,7 +23,7 @@ ghost use Rattle.pico_board.specs.declared.boot.BootKind.{BootKind};
 ghost use Rattle.pico_board.specs.declared.boot.Cpu.{Cpu};
 ghost use Rattle.pico_board.specs.declared.boot.Cpu.TheVariants.{Arm};
 ghost use Rattle.picoboot_cmd.specs.Commands.{written};
-ghost use Rattle.picoboot_cmd.specs.Examples.{write_command};
+ghost use Rattle.picoboot_cmd.specs.Examples.{otp_write_command, write_command};
 ghost use Rattle.ram_start.specs.Examples.{reboot_into};
 ghost use Rattle.ram_start.specs.Sram.{zero_ram};
 ghost use Rattle.uf2_place.specs.Blocks.{written as block_bytes};
@@ -62,6 +63,22 @@ pub fn a_run_into_ram()
         (codes "cmd 0x0a token=0x00000001 status=0 boot start ram=0x20000000+0x0000001c "
         ++ codes "block=0x00000008 pc=0x20000021 sp=0x20082000 limit=0x00000000 version=0.0 "
         ++ codes "rollback=none trial=no") ram_image }
+{}
+
+/// A host raises the row of the slot size, and the next info command answers the new size: the
+/// table is kept from the entry of BOOTSEL, the slot size is not.
+pub fn a_slot_size_that_is_raised()
+    ensures before { (serves (tables_content 0 [] []) Arm idle (info 16 3 0) []).text
+        ≡ codes "cmd 0x8b token=0x00000001 status=0 reply=16 "
+        ++ codes "sha256=98f3f06fc64b698416670335e5b40644b3bc326e719269631514679d8cf7a85a" }
+    ensures plays { Plays (machine_at (tables_content 0 [] []) (InBootsel idle))
+        (Happening.Command (written (otp_write_command 0x055 1 0)) (1 ∷ 0 ∷ 0 ∷ 0 ∷ [])
+        ∷ Happening.Command (written (info 16 3 0)) [] ∷ [])
+        (machine_at (tables_content 1 [] []) (InBootsel idle))
+        (codes "cmd 0x0d token=0x00000001 status=0"
+        ∷ (codes "cmd 0x8b token=0x00000001 status=0 reply=16 "
+        ++ codes "sha256=20f598efbda7a04772b0207fbbf1b7a83a80d94b312c7517a8b53e7f23c85654")
+        ∷ []) }
 {}
 
 /// Where a run begins: without power, or in BOOTSEL as it is entered, with neither a download nor

@@ -9,7 +9,7 @@ use Rattle.pico_board.specs.Content.{Content}
 use Rattle.image_def.specs.declared.started.Started.{Started}
 use Rattle.part_table.specs.declared.target.Target.{Target}
 use Rattle.part_table.specs.declared.table.Table.{Table}
-use Rattle.part_table.specs.Examples.{block_with, pair_items, plain_partition, sectors}
+use Rattle.part_table.specs.Examples.{block_with, owned_items, pair_items, plain_partition, sectors, table_with}
 use Rattle.slot_choice.specs.declared.unit.Member.{Member}
 use Rattle.slot_choice.specs.declared.unit.Member.TheVariants.{A, B}
 use Rattle.slot_choice.specs.declared.unit.SlotUnit.{SlotUnit}
@@ -212,3 +212,35 @@ pair_content flags a b = record {
 -- a member without an image
 abbrev pub bare : List ℕ
 bare = replicate 0x1e000 255
+
+-- the table of that pair where its A accepts all six families, and its B none
+abbrev pub open_table : Table
+open_table =
+    table_with
+    (plain_partition (sectors 2 31) 0xfc0fc000 ∷ plain_partition (sectors 32 61) 0xfc000002 ∷ [])
+
+-- a flash of 136 KiB with the table of a pair of images, 8 sectors each, and of a pair of data that
+-- it owns, behind it; and what stands in the members of the images
+abbrev pub owned_content : List ℕ → List ℕ → Content
+owned_content a b = record {
+  flash = region 0x2000 (framed owned_items 0) ++ (a ++ (b ++ replicate 0x10000 255));
+  otp = rows_with 0 0;
+}
+
+-- members without an image: of that pair, and a slot of 8 KiB
+abbrev pub bare_owner : List ℕ
+bare_owner = replicate 0x8000 255
+
+abbrev pub bare_slot : List ℕ
+bare_slot = replicate 0x2000 255
+
+-- an Arm image of this version word in a member of the pair of 30 sectors, of the pair of 8
+-- sectors, and in a slot of 8 KiB
+abbrev pub arm_member : ℕ → List ℕ
+arm_member version = image_region 0x1e000 0x10210142 version
+
+abbrev pub arm_owner : ℕ → List ℕ
+arm_owner version = image_region 0x8000 0x10210142 version
+
+abbrev pub arm_slot : ℕ → List ℕ
+arm_slot version = image_region 0x2000 0x10210142 version

@@ -4,10 +4,12 @@
 ghost use Rattle.std.specs.Prelude.{◌≡◌, [], ◌∷◌, ◌++◌, true, false, Some, None};
 ghost use Rattle.pico_board.specs.declared.boot.BootKind.TheVariants.{Normal, Update, Bootsel as AskBootsel};
 ghost use Rattle.pico_board.specs.declared.boot.Cpu.TheVariants.{Arm, Riscv};
-ghost use Rattle.part_table.specs.Examples.{one_part, pair_table, plain_partition, sectors, table_with};
-ghost use Rattle.slot_choice.specs.Examples.{window_at};
+ghost use Rattle.part_table.specs.Examples.{one_part, owned_table, pair_table, plain_partition, sectors, table_with};
+ghost use Rattle.slot_choice.specs.Examples.{the_pair, window_at};
+ghost use Rattle.slot_choice.specs.Units.{slot_pair};
 ghost use Rattle.boot_rules.specs.Choosing.{decision_in};
-ghost use Rattle.boot_rules.specs.Examples.{bare, found_in, framed, image_region, in_a, in_b, pair_content, region, several, single, small_items, small_table, starts_a, starts_b, tables_content, to};
+ghost use Rattle.boot_rules.specs.Examples.{arm_member, arm_owner, arm_slot, bare, bare_owner, bare_slot, found_in, framed, image_region, in_a, in_b, open_table, owned_content, pair_content, region, several, single, small_items, small_table, starts_a, starts_b, tables_content, to, version_in};
+ghost use Rattle.boot_rules.specs.Picking.{pick};
 ghost use Rattle.boot_rules.specs.Tables.{table_in};
 ghost use Rattle.boot_rules.specs.Targets.{target_of};
 ghost use Rattle.boot_rules.specs.declared.decision.Decision.TheVariants.{Bootsel, Start};
@@ -110,6 +112,8 @@ pub fn a_pair_is_written()
         (pair_content 0 (image_region 0x1e000 0x10210142 0x10009)
         (image_region 0x1e000 0x10210142 0x1000a))
         (Some pair_table) Arm 0xe48bff59 ≡ Some (to (window_at 0x2000 0x1e000) true false) }
+    ensures tie { target_of (pair_content 0 (arm_member 0x10009) (arm_member 0x10009))
+        (Some pair_table) Arm 0xe48bff59 ≡ Some (to (window_at 0x20000 0x1e000) true false) }
     ensures none { target_of (pair_content 0 bare bare) (Some pair_table) Arm 0xe48bff59
         ≡ Some (to (window_at 0x2000 0x1e000) true false) }
     ensures absolute { target_of (pair_content 0 bare bare) (Some pair_table) Arm 0xe48bff57
@@ -117,4 +121,87 @@ pub fn a_pair_is_written()
     ensures data { target_of (pair_content 0 bare bare) (Some pair_table) Arm 0xe48bff58 ≡ None }
     ensures slots { target_of (pair_content 0 bare bare) None Arm 0xe48bff59
         ≡ Some (to (window_at 0 0x40000) false false) }
+{}
+
+/// Where the pair's A accepts all six families, each goes to the member that a normal boot of the
+/// asked processor would not take, and the three of executables are gated; an unknown family has no
+/// target. Where A accepts rp2350-arm-s alone, the others have none.
+pub fn families_of_a_pair()
+    ensures riscv { target_of (pair_content 0 (arm_member 0x10009) bare) (Some open_table) Arm
+        0xe48bff5a ≡ Some (to (window_at 0x20000 0x1e000) true false) }
+    ensures riscv_boot { target_of (pair_content 0 (arm_member 0x10009) bare) (Some open_table)
+        Riscv 0xe48bff5a ≡ Some (to (window_at 0x2000 0x1e000) true false) }
+    ensures arm_ns { target_of (pair_content 0 (arm_member 0x10009) bare) (Some open_table) Arm
+        0xe48bff5b ≡ Some (to (window_at 0x20000 0x1e000) true false) }
+    ensures rp2040 { target_of (pair_content 0 (arm_member 0x10009) bare) (Some open_table) Arm
+        0xe48bff56 ≡ Some (to (window_at 0x20000 0x1e000) false false) }
+    ensures data { target_of (pair_content 0 (arm_member 0x10009) bare) (Some open_table) Arm
+        0xe48bff58 ≡ Some (to (window_at 0x20000 0x1e000) false false) }
+    ensures unknown { target_of (pair_content 0 (arm_member 0x10009) bare) (Some open_table) Arm
+        0xe48bff5c ≡ None }
+    ensures no_riscv { target_of (pair_content 0 (arm_member 0x10009) bare) (Some pair_table) Arm
+        0xe48bff5a ≡ None }
+    ensures no_arm_ns { target_of (pair_content 0 (arm_member 0x10009) bare) (Some pair_table) Arm
+        0xe48bff5b ≡ None }
+    ensures no_rp2040 { target_of (pair_content 0 (arm_member 0x10009) bare) (Some pair_table) Arm
+        0xe48bff56 ≡ None }
+{}
+
+/// Without a table the slots of 8 KiB are written likewise, by the three families of executables
+/// and by data; the absolute family has the whole flash, and rp2040 and an unknown one have no
+/// target.
+pub fn slots_are_written()
+    ensures second { target_of (tables_content 1 (arm_slot 0x10009) bare_slot) None Arm 0xe48bff59
+        ≡ Some (to (window_at 0x2000 0x2000) true false) }
+    ensures first { target_of (tables_content 1 (arm_slot 0x10009) (arm_slot 0x1000a)) None Arm
+        0xe48bff59 ≡ Some (to (window_at 0 0x2000) true false) }
+    ensures tie { target_of (tables_content 1 (arm_slot 0x10009) (arm_slot 0x10009)) None Arm
+        0xe48bff5b ≡ Some (to (window_at 0x2000 0x2000) true false) }
+    ensures riscv { target_of (tables_content 1 (arm_slot 0x10009) bare_slot) None Riscv 0xe48bff5a
+        ≡ Some (to (window_at 0 0x2000) true false) }
+    ensures data { target_of (tables_content 1 (arm_slot 0x10009) bare_slot) None Arm 0xe48bff58
+        ≡ Some (to (window_at 0x2000 0x2000) false false) }
+    ensures absolute { target_of (tables_content 1 (arm_slot 0x10009) bare_slot) None Arm 0xe48bff57
+        ≡ Some (to (window_at 0 0x6000) false false) }
+    ensures rp2040 { target_of (tables_content 1 (arm_slot 0x10009) bare_slot) None Arm 0xe48bff56
+        ≡ None }
+    ensures unknown { target_of (tables_content 1 (arm_slot 0x10009) bare_slot) None Arm 0xe48bff5c
+        ≡ None }
+{}
+
+/// A pair of data that a pair of images owns is written in B where a normal boot would take the A
+/// of the images, and in A where it would take their B, or none; the images go to the member that
+/// it would not take.
+pub fn owned_data_is_written()
+    ensures table { table_in (owned_content (arm_owner 0x10009) (arm_owner 0x10009))
+        ≡ Some (found_in 0 owned_table) }
+    ensures second { target_of (owned_content (arm_owner 0x10009) (arm_owner 0x10009))
+        (Some owned_table) Arm 0xe48bff58 ≡ Some (to (window_at 0x1a000 0x8000) false false) }
+    ensures first { target_of (owned_content (arm_owner 0x10009) (arm_owner 0x1000a))
+        (Some owned_table) Arm 0xe48bff58 ≡ Some (to (window_at 0x12000 0x8000) false false) }
+    ensures none { target_of (owned_content bare_owner bare_owner) (Some owned_table) Arm 0xe48bff58
+        ≡ Some (to (window_at 0x12000 0x8000) false false) }
+    ensures owner { target_of (owned_content (arm_owner 0x10009) (arm_owner 0x10009))
+        (Some owned_table) Arm 0xe48bff59 ≡ Some (to (window_at 0xa000 0x8000) true false) }
+{}
+
+/// Of a pair the image of the greater version is picked, A's on a tie; the only one, a trial not
+/// counted; and none where both members are bare or the processor is another.
+pub fn images_are_picked()
+    ensures second { pick (pair_content 0 (arm_member 0x10009) (arm_member 0x1000a)) the_pair Arm
+        ≡ Some (in_b 1 10 false) }
+    ensures first { pick (pair_content 0 (arm_member 0x1000a) (arm_member 0x10009)) the_pair Arm
+        ≡ Some (in_a 1 10 false) }
+    ensures tie { pick (pair_content 0 (arm_member 0x10009) (arm_member 0x10009)) the_pair Arm
+        ≡ Some (in_a 1 9 false) }
+    ensures only_first { pick
+        (pair_content 0 (arm_member 0x10000) (image_region 0x1e000 0x90210142 0x10001)) the_pair Arm
+        ≡ Some (in_a 1 0 false) }
+    ensures only_second { pick (pair_content 0 bare (arm_member 0x10009)) the_pair Arm
+        ≡ Some (in_b 1 9 false) }
+    ensures none { pick (pair_content 0 bare bare) the_pair Arm ≡ None }
+    ensures other_processor { pick (pair_content 0 (arm_member 0x10009) (arm_member 0x1000a))
+        the_pair Riscv ≡ None }
+    ensures slots { pick (tables_content 1 (arm_slot 0x10009) (arm_slot 0x1000a)) (slot_pair 0x2000)
+        Arm ≡ Some (version_in (window_at 0x2000 0x2000) 1 10 false) }
 {}

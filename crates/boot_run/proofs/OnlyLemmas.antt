@@ -121,7 +121,8 @@ worked-only : (command : Command) (read : List (List ℕ)) (Right : Outcome → 
     → (Right o → o ≡ worked (work_of command read)) → IsWorked command read Right o
     → o ≡ command_outcome command read
 worked-only command read Right o only (inl (name, fault, inl first, is)) =
-    is ∙ sym (ap (λ j. judged j (worked (work_of command read))) (first-exact (inputs_of command) read name fault first))
+    is ∙ sym (ap (λ j. judged j (worked (work_of command read)))
+    (first-exact (inputs_of command) read name fault first))
 worked-only command read Right o only (inl (name, fault, inr refuses, is)) =
     is ∙ (sym (work-exact command read name fault refuses.1)
     ∙ sym (ap (λ j. judged j (worked (work_of command read))) (formed-none (inputs_of command) read refuses.0)))

@@ -30,10 +30,11 @@ use Rattle.boot_run.specs.Works.{boot_work, is_fall}
 use Rattle.boot_run.specs.Outcome.{Outcome, Input, inputs_of, inputs_in, flash_and_otp, flash_otp_script, outcome_in, outcome_on, outcome_found, found, found_next, command_outcome, worked, judged, first_fault, refused, answered_status, is_finished}
 use Rattle.boot_run.specs.Replays.{AreOfBytes}
 use Rattle.boot_run.specs.Rules.{Names, Obeys, IsRefused, decided_status}
+use Rattle.boot_run.specs.Courses.{Runs}
 use Rattle.boot_run.specs.Ends.{AreRead, LacksOne, Does, ShowsOutcome, LeftAt}
 use Rattle.boot_run.proofs.RuleLemmas.{bytes-serve, obeys, refused-exactly}
 use Rattle.boot_run.proofs.OutcomeLemmas.{outcome-finished, outcome-words, outcome-told, not-lacking, no-fault}
-use Rattle.boot_run.proofs.EndLemmas.{RunEnd, room, unread, cut_short, whole, put_fault, put_memory, Finished, end-finished}
+use Rattle.boot_run.proofs.EndLemmas.{RunEnd, run-end, room, unread, cut_short, whole, put_fault, put_memory, Finished, end-finished}
 
 -- a decision's outcome
 abbrev pub decided : Decision → Outcome
@@ -91,6 +92,14 @@ boot-told flash otp f g cpu kind files d command asks is_f is_g flash_form otp_f
     ∙ (ap (λ o. judged o (worked (boot_work (content_of f g) cpu kind))) (no-first flash otp f g flash_form otp_form)
     ∙ (worked-decided (content_of f g) cpu kind ∙ ap decided
     (sym (chosen-decision (content_of f g) cpu kind d chosen)))))
+
+-- how a run of this command, or of other words, ends
+pub run-ends : {S : Type 0} {state : S → StoreState} {history : S → List Access → Type 0} {K : Type 0}
+    {shown : K → SinkState} {taken : K → List Put → Type 0} {old new : S} {before after : K} {status : Status}
+    (command : Option Command)
+    → Runs state history shown taken (inputs_in command) (outcome_in command) old before status new after
+    → RunEnd state history shown taken (inputs_in command) (outcome_in command) old before status new after
+run-ends command runs = run-end _ _ _ _ (inputs_in command) (outcome_in command) _ _ _ _ _ runs
 
 module _ {S : Type 0} (state : S → StoreState) (history : S → List Access → Type 0) {K : Type 0} (shown : K → SinkState)
     (taken : K → List Put → Type 0)

@@ -50,7 +50,8 @@ uf2-done name out i family = go (length i == 0) refl
         inr (record { some = some-of i (eqb-false (length i) 0 is); status = refl; text = refl; files = refl })
 
 -- the refusal that the rules name is the work's
-pub uf2-exact : (image out i name fault : List ℕ) (family : ℕ) → IsRefusedWork (Uf2 image family out) (i ∷ []) name fault
+pub uf2-exact : (image out i name fault : List ℕ) (family : ℕ)
+    → IsRefusedWork (Uf2 image family out) (i ∷ []) name fault
     → worked (uf2_work image family out i) ≡ refused name fault
 uf2-exact image out i name fault family (is, (empty, text)) =
     ap (λ xs. worked (uf2_work image family out xs)) empty
@@ -184,7 +185,8 @@ plan-refused flash otp image out cpu (f ∷ g ∷ i ∷ j ∷ read) h = cc
 
 -- the work's outcome is the refusal that the rules name
 pub work-exact_uf2 : (image out name fault : List ℕ) (family : ℕ) (read : List (List ℕ))
-    → IsRefusedWork (Uf2 image family out) read name fault → worked (uf2_files image family out read) ≡ refused name fault
+    → IsRefusedWork (Uf2 image family out) read name fault
+    → worked (uf2_files image family out read) ≡ refused name fault
 work-exact_uf2 image out name fault family [] h = absurd h
 work-exact_uf2 image out name fault family (i ∷ []) h = uf2-exact image out i name fault family h
 work-exact_uf2 image out name fault family (i ∷ j ∷ read) h = absurd h

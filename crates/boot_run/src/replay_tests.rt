@@ -1,7 +1,7 @@
 //! What no clause says of replays: that they end with ample memory, each status by its cause, and
 //! texts that were worked out by hand.
 
-use crate::tests::{PAIR, VECTORS, flash, words};
+use crate::tests::{ARM_1_0, PAIR, VECTORS, flash, words};
 use crate::{Status, run};
 use pico_board::{MemSink, MemStore};
 use std::alloc::Global;
@@ -10,17 +10,6 @@ use std::test::Fail;
 
 /// The words of a replay.
 const REPLAY: [&str; 7] = ["replay", "f", "o", "arm", "s", "a", "b"];
-
-/// The block of an executable for the Arm cores, of version 1.0.
-const ARM_1_0: [u32; 7] = [
-    0xffff_ded3,
-    0x1021_0142,
-    0x0000_0248,
-    0x0001_0000,
-    0x0000_03ff,
-    0,
-    0xab12_3579,
-];
 
 /// The block of a trial of version 1.1.
 const TRIAL_1_1: [u32; 7] = [

@@ -3,7 +3,7 @@
 
 ghost use Rattle.std.specs.Prelude.{◌≤◌};
 
-use crate::tests::{VECTORS, flash, words};
+use crate::tests::{ARM, VECTORS, flash, words};
 use crate::{Status, run};
 use pico_board::{MemSink, MemStore};
 use std::alloc::Global;
@@ -15,9 +15,6 @@ const SEAL: [&str; 4] = ["seal", "b", "s", "a"];
 
 /// The words of a table.
 const TABLE: [&str; 3] = ["table", "t", "a"];
-
-/// The least block of an executable for the Arm cores.
-const ARM: [u32; 5] = [0xffff_ded3, 0x1021_0142, 0x0000_01ff, 0, 0xab12_3579];
 
 /// A spec of version 1.9.
 const SPEC: &str = "{\"processor\":\"arm\",\"version\":[1,9]}";
@@ -51,14 +48,14 @@ fn pair_text(alloc: Global) -> Result<String, Fail> {
     table_text(alloc, &parts)
 }
 
-/// The least image for the Arm cores: SP and PC, and its block at 0x114.
-fn minimal(alloc: Global) -> Result<Vec<u8>, Fail> {
-    flash(alloc, &[(0, &VECTORS), (0x114, &ARM)], 0x128)
+/// SP and PC, and the least block for the Arm cores at 0x114, and 0xff up to so many bytes.
+fn filled(alloc: Global, length: usize) -> Result<Vec<u8>, Fail> {
+    flash(alloc, &[(0, &VECTORS), (0x114, &ARM)], length)
 }
 
-/// The bytes of a spec of version 1.9.
-fn plain_spec(alloc: Global) -> Result<Vec<u8>, Fail> {
-    bytes_of(alloc, SPEC)
+/// The least image for the Arm cores.
+fn minimal(alloc: Global) -> Result<Vec<u8>, Fail> {
+    filled(alloc, 0x128)
 }
 
 /// A file of a name.
@@ -138,6 +135,11 @@ fn unsealed(
     let image = written(rt, alloc, &SEAL, files, bad_writes, Status::Input, text)?;
     assert!(rt; image.is_none(), "for {text}");
     Ok(())
+}
+
+/// The same of a binary and the spec of version 1.9.
+fn unsealable(rt: &impl Abort, alloc: Global, binary: Vec<u8>, text: &str) -> Result<(), Fail> {
+    unsealed(rt, alloc, binary, bytes_of(alloc, SPEC)?, text)
 }
 
 /// Asserts that a table is refused with this line, and that no file is written.
@@ -398,66 +400,33 @@ fn a_binary_is_refused_by_its_first_fault(rt: HostRuntime) -> Result<(), Fail> {
     let alloc = rt.alloc();
     let mut blank = Vec::new(alloc);
     blank.resize(4096, 0xff)?;
-    unsealed(
-        &rt,
-        alloc,
-        blank,
-        plain_spec(alloc)?,
-        "input b: unsealable no-block\n",
-    )?;
+    unsealable(&rt, alloc, blank, "input b: unsealable no-block\n")?;
     let riscv = bytes_of(alloc, "{\"processor\":\"riscv\"}")?;
     let text = "input b: unsealable not-for-processor\n";
     unsealed(&rt, alloc, minimal(alloc)?, riscv, text)?;
     let binary = loaded(alloc, 25)?;
-    unsealed(
-        &rt,
-        alloc,
-        binary,
-        plain_spec(alloc)?,
-        "input b: block-too-long 388\n",
-    )?;
+    unsealable(&rt, alloc, binary, "input b: block-too-long 388\n")?;
     let text = "sealed bytes=964 block=0x0000024c\n";
     sealed(&rt, alloc, loaded(alloc, 24)?, SPEC, text)?;
     let wrong = [0x2008_2000, 1];
     let binary = flash(alloc, &[(0, &wrong), (0x114, &ARM)], 0x128)?;
-    let text = "input b: not-bootable entry pc\n";
-    unsealed(&rt, alloc, binary, plain_spec(alloc)?, text)?;
+    unsealable(&rt, alloc, binary, "input b: not-bootable entry pc\n")?;
     let binary = flash(alloc, &[(0, &VECTORS), (0x100, &HIDING)], 0x318)?;
-    unsealed(
-        &rt,
-        alloc,
-        binary,
-        plain_spec(alloc)?,
-        "input b: displaced\n",
-    )
+    unsealable(&rt, alloc, binary, "input b: displaced\n")
 }
 
 #[test]
 fn a_binary_that_is_too_large_is_refused(rt: HostRuntime) -> Result<(), Fail> {
     let alloc = rt.alloc();
-    let parts: [(usize, &[u32]); 2] = [(0, &VECTORS), (0x114, &ARM)];
-    let large = flash(alloc, &parts, 16_777_217)?;
-    unsealed(
-        &rt,
-        alloc,
-        large,
-        plain_spec(alloc)?,
-        "input b: too-large\n",
-    )
+    let large = filled(alloc, 16_777_217)?;
+    unsealable(&rt, alloc, large, "input b: too-large\n")
 }
 
 #[test]
 fn a_sealed_image_that_is_too_large_is_refused(rt: HostRuntime) -> Result<(), Fail> {
     let alloc = rt.alloc();
-    let parts: [(usize, &[u32]); 2] = [(0, &VECTORS), (0x114, &ARM)];
-    let most = flash(alloc, &parts, 16_777_216)?;
-    unsealed(
-        &rt,
-        alloc,
-        most,
-        plain_spec(alloc)?,
-        "input b: sealed-too-large\n",
-    )
+    let most = filled(alloc, 16_777_216)?;
+    unsealable(&rt, alloc, most, "input b: sealed-too-large\n")
 }
 
 #[test]

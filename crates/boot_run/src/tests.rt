@@ -19,7 +19,18 @@ const INFO: [&str; 4] = ["info", "f", "o", "arm"];
 pub const VECTORS: [u32; 2] = [0x2008_2000, 0x1000_0201];
 
 /// The least block of an executable for the Arm cores.
-const ARM: [u32; 5] = [0xffff_ded3, 0x1021_0142, 0x0000_01ff, 0, 0xab12_3579];
+pub const ARM: [u32; 5] = [0xffff_ded3, 0x1021_0142, 0x0000_01ff, 0, 0xab12_3579];
+
+/// The block of one of version 1.0.
+pub const ARM_1_0: [u32; 7] = [
+    0xffff_ded3,
+    0x1021_0142,
+    0x0000_0248,
+    0x0001_0000,
+    0x0000_03ff,
+    0,
+    0xab12_3579,
+];
 
 /// The block of one of version 1.9.
 const ARM_1_9: [u32; 7] = [
@@ -139,6 +150,25 @@ fn ends(
     Ok(())
 }
 
+/// Asserts that a command on this flash file and an empty OTP file falls to BOOTSEL.
+fn falls(
+    rt: &impl Abort,
+    alloc: Global,
+    texts: &[&str],
+    flash: Vec<u8>,
+    text: &str,
+) -> Result<(), Fail> {
+    ends(
+        rt,
+        alloc,
+        texts,
+        flash,
+        Vec::new(alloc),
+        Status::Bootsel,
+        text,
+    )
+}
+
 #[test]
 fn an_arm_image_starts(rt: HostRuntime) -> Result<(), Fail> {
     let alloc = rt.alloc();
@@ -219,15 +249,7 @@ data window=0x00012000+0x00008000
     )?;
     let none = vec![in alloc; 0xff_u8; 8192]?;
     let text = "bootsel no-image\n";
-    ends(
-        &rt,
-        alloc,
-        &texts,
-        none,
-        Vec::new(alloc),
-        Status::Bootsel,
-        text,
-    )
+    falls(&rt, alloc, &texts, none, text)
 }
 
 #[test]
@@ -235,47 +257,15 @@ fn a_boot_falls_to_bootsel(rt: HostRuntime) -> Result<(), Fail> {
     let alloc = rt.alloc();
     let text = "bootsel no-image\n";
     let erased = vec![in alloc; 0xff_u8; 8192]?;
-    ends(
-        &rt,
-        alloc,
-        &BOOT,
-        erased,
-        Vec::new(alloc),
-        Status::Bootsel,
-        text,
-    )?;
+    falls(&rt, alloc, &BOOT, erased, text)?;
     let one = vec![in alloc; 0_u8; 1]?;
-    ends(
-        &rt,
-        alloc,
-        &BOOT,
-        one,
-        Vec::new(alloc),
-        Status::Bootsel,
-        text,
-    )?;
+    falls(&rt, alloc, &BOOT, one, text)?;
     let late = minimal(alloc, 4096, 8192)?;
-    ends(
-        &rt,
-        alloc,
-        &BOOT,
-        late,
-        Vec::new(alloc),
-        Status::Bootsel,
-        text,
-    )?;
+    falls(&rt, alloc, &BOOT, late, text)?;
     let texts = ["boot", "f", "o", "arm", "bootsel"];
     let file = minimal(alloc, 0x114, 296)?;
     let text = "bootsel requested\n";
-    ends(
-        &rt,
-        alloc,
-        &texts,
-        file,
-        Vec::new(alloc),
-        Status::Bootsel,
-        text,
-    )
+    falls(&rt, alloc, &texts, file, text)
 }
 
 #[test]

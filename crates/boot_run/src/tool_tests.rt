@@ -2,7 +2,7 @@
 //! flash of a number: that they end with ample memory, each status by its cause, and texts and
 //! digests that another program worked out.
 
-use crate::tests::{PAIR, VECTORS, flash, words};
+use crate::tests::{ARM_1_0, PAIR, VECTORS, flash, words};
 use crate::{Status, run};
 use pico_board::{MemSink, MemStore};
 use sha2::{Digest, Sha256};
@@ -18,17 +18,6 @@ const PLAN: [&str; 6] = ["plan", "f", "o", "arm", "i", "a"];
 
 /// The same for the RISC-V cores.
 const OTHER_PLAN: [&str; 6] = ["plan", "f", "o", "riscv", "i", "a"];
-
-/// The block of an executable for the Arm cores, of version 1.0.
-const ARM_1_0: [u32; 7] = [
-    0xffff_ded3,
-    0x1021_0142,
-    0x0000_0248,
-    0x0001_0000,
-    0x0000_03ff,
-    0,
-    0xab12_3579,
-];
 
 /// The least block of an executable for the Arm cores, linked to the block behind it, and that
 /// block, which makes a sealed image of version 1.9.

@@ -24,6 +24,13 @@ use pico_board::{Cpu, MemBoard};
 use sector_pool::SectorPool;
 use std::alloc::{AllocError, Global};
 
+/// An input of this name and form.
+fn input<'a>(name: &'a str, form: Form) -> InputWord<'a>
+    ensures { input_from result ≡ record { name = name.entry.now; form = form } }
+{
+    InputWord { name, form }
+}
+
 /// A flash file and an OTP file as inputs.
 fn flash_and_otp<'a>(
     alloc: Global,
@@ -33,15 +40,7 @@ fn flash_and_otp<'a>(
     ensures { IfOk result
         (λ inputs. map input_from inputs.items ≡ flash_and_otp flash.entry.now otp.entry.now) }
 {
-    let flash = InputWord {
-        name: flash,
-        form: Form::Flash,
-    };
-    let otp = InputWord {
-        name: otp,
-        form: Form::Otp,
-    };
-    Ok(vec![in alloc; flash, otp]?)
+    Ok(vec![in alloc; input(flash, Form::Flash), input(otp, Form::Otp)]?)
 }
 
 /// A flash file, an OTP file and a script as inputs.
@@ -54,19 +53,11 @@ fn flash_otp_script<'a>(
     ensures { IfOk result (λ inputs. map input_from inputs.items
         ≡ flash_otp_script flash.entry.now otp.entry.now script.entry.now) }
 {
-    let flash = InputWord {
-        name: flash,
-        form: Form::Flash,
-    };
-    let otp = InputWord {
-        name: otp,
-        form: Form::Otp,
-    };
-    let script = InputWord {
-        name: script,
-        form: Form::Script,
-    };
-    Ok(vec![in alloc; flash, otp, script]?)
+    Ok(vec![in alloc;
+        input(flash, Form::Flash),
+        input(otp, Form::Otp),
+        input(script, Form::Script),
+    ]?)
 }
 
 /// A binary and a spec as inputs.
@@ -78,26 +69,14 @@ fn binary_and_spec<'a>(
     ensures { IfOk result
         (λ inputs. map input_from inputs.items ≡ binary_and_spec binary.entry.now spec.entry.now) }
 {
-    let binary = InputWord {
-        name: binary,
-        form: Form::Binary,
-    };
-    let spec = InputWord {
-        name: spec,
-        form: Form::Spec,
-    };
-    Ok(vec![in alloc; binary, spec]?)
+    Ok(vec![in alloc; input(binary, Form::Binary), input(spec, Form::Spec)]?)
 }
 
 /// A table's text as an input.
 fn one_json<'a>(alloc: Global, json: &'a str) -> Result<Vec<InputWord<'a>>, AllocError>
     ensures { IfOk result (λ inputs. map input_from inputs.items ≡ one_json json.entry.now) }
 {
-    let json = InputWord {
-        name: json,
-        form: Form::Json,
-    };
-    Ok(vec![in alloc; json]?)
+    Ok(vec![in alloc; input(json, Form::Json)]?)
 }
 
 /// An image as an input.
@@ -105,11 +84,7 @@ fn image_alone<'a>(alloc: Global, image: &'a str) -> Result<Vec<InputWord<'a>>, 
     ensures { IfOk result
         (λ inputs. map input_from inputs.items ≡ image_alone image.entry.now) }
 {
-    let image = InputWord {
-        name: image,
-        form: Form::Image,
-    };
-    Ok(vec![in alloc; image]?)
+    Ok(vec![in alloc; input(image, Form::Image)]?)
 }
 
 /// A flash file, an OTP file and an image as inputs.
@@ -122,19 +97,11 @@ fn flash_otp_image<'a>(
     ensures { IfOk result (λ inputs. map input_from inputs.items
         ≡ flash_otp_image flash.entry.now otp.entry.now image.entry.now) }
 {
-    let flash = InputWord {
-        name: flash,
-        form: Form::Flash,
-    };
-    let otp = InputWord {
-        name: otp,
-        form: Form::Otp,
-    };
-    let image = InputWord {
-        name: image,
-        form: Form::Image,
-    };
-    Ok(vec![in alloc; flash, otp, image]?)
+    Ok(vec![in alloc;
+        input(flash, Form::Flash),
+        input(otp, Form::Otp),
+        input(image, Form::Image),
+    ]?)
 }
 
 /// The inputs of a command, in word order.

@@ -63,7 +63,23 @@ window_of first second fourth high =
 abbrev pub window_at_two : Window
 window_at_two = record { start = 0x2000; len = 64 }
 
--- its record, by PC and the trial bit
+-- the record of an image in a window, behind a vector table at its start, without a version, a
+-- rollback version and rows, by PC and the trial bit
+abbrev pub plain_image : Window → ℕ → Bool → Started
+plain_image window pc trial = record {
+  window = window;
+  block = 8;
+  image_at = 12;
+  pc = pc;
+  sp = 0x20082000;
+  limit = 0;
+  version = no_version;
+  rollback = None;
+  rows = record { items = [] };
+  trial = trial;
+}
+
+-- the record of that image of version 9.0, by PC and the trial bit
 abbrev pub version_nine : ℕ → Bool → Started
 version_nine pc trial = record {
   window = window_at_two;
@@ -135,18 +151,7 @@ three_record = record {
 
 -- the record of a RISC-V image without further items that starts at this address
 abbrev pub riscv_record : ℕ → Started
-riscv_record pc = record {
-  window = window_at_two;
-  block = 8;
-  image_at = 12;
-  pc = pc;
-  sp = 0x20082000;
-  limit = 0;
-  version = no_version;
-  rollback = None;
-  rows = record { items = [] };
-  trial = false;
-}
+riscv_record pc = plain_image window_at_two pc false
 
 -- a HASH_DEF item of four words and a HASH_VALUE item of these words
 abbrev pub hash_of_four : List ℕ → List ℕ
@@ -189,15 +194,4 @@ map_of_both =
 
 -- the record of an Arm image without version and rows that starts here, with its trial bit or not
 abbrev pub arm_record : ℕ → Bool → Started
-arm_record pc trial = record {
-  window = window_at_two;
-  block = 8;
-  image_at = 12;
-  pc = pc;
-  sp = 0x20082000;
-  limit = 0;
-  version = no_version;
-  rollback = None;
-  rows = record { items = [] };
-  trial = trial;
-}
+arm_record pc trial = plain_image window_at_two pc trial

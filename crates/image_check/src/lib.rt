@@ -7,14 +7,14 @@
 
 mod addressing;
 mod checking;
-pub mod digests;
+pub mod digest_examples;
 mod entry;
 mod examining;
 pub mod examples;
 pub mod laws;
-pub mod orders;
+pub mod order_examples;
 mod same;
-pub mod same_images;
+pub mod same_image_examples;
 mod why;
 
 pub use addressing::Addressing;

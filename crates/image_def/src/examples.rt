@@ -1,5 +1,9 @@
 //! Worked examples of the definitions, as laws that compute.
-#![tactic(auto, unfolding(crate::specs::Definition::def_of, block_codec::specs::Blocks::frame, block_codec::specs::Items::size_of, block_codec::specs::Words::word_bytes))]
+#![tactic(auto, unfolding(
+// a definition is read from the words of a block and from its items,
+crate::specs::Definition::def_of, block_codec::specs::Blocks::frame,
+// an item by its size, and a digest as the bytes of its words
+block_codec::specs::Items::size_of, block_codec::specs::Words::word_bytes))]
 
 ghost use Rattle.std.specs.Prelude.{ℕ, ◌≡◌, pos, negsuc, Some, None, Ok, Err, [], ◌∷◌, ◌++◌, true, false};
 ghost use Rattle.std.specs.Result.{result_err};

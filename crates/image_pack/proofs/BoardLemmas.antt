@@ -30,8 +30,8 @@ pub only-memory : (e : BoardError) (n : ℕ) (rows : List ℕ) → IsFlashLength
     → ((row : ℕ) → e ≡ OtpRowWide row → IsFirstWide rows row) → e ≡ Memory
 only-memory BadFlashLength n rows flash is a b wide = absurd (a refl flash)
 only-memory BadOtpLength n rows flash is a b wide = absurd (b refl (otp-length rows is))
-only-memory (OtpRowWide row) n rows flash is a b wide =
-    let w = wide row refl in
-    let small = otp-narrow rows is row 0 w.inside in
+only-memory (OtpRowWide at) n rows flash is a b wide =
+    let w = wide at refl in
+    let small = otp-narrow rows is at 0 w.inside in
     absurd (omega (arith, w.wide, small))
 only-memory Memory n rows flash is a b wide = refl

@@ -12,19 +12,19 @@ pairs-rest : (x : ℕ) (xs : List ℕ) → AllPairs AreRowsApart (x ∷ xs) → 
 pairs-rest x xs ps i j d below lt = ps (suc i) (suc j) d (omega (arith, below)) (omega (arith, lt))
 
 -- where the first one is apart from the others, that they are in pairs decides
-pub apart-then : (rows rest : List ℕ) (more : Bool) → 1 ≤ length rows → rest ≡ drop 1 rows
-    → All (AreRowsApart (slice_index rows 0)) rest → (IsTrue more ↔ AllPairs AreRowsApart rest)
-    → (IsTrue more ↔ AllPairs AreRowsApart rows)
-apart-then [] rest more some is all decides = absurd (omega (arith, some))
-apart-then (x ∷ xs) rest more some is all decides = (
-  λ t. AllPairs-cons AreRowsApart x xs (subst (λ (ys : List ℕ). All (AreRowsApart x) ys) is all)
+pub apart-then : (all rest : List ℕ) (more : Bool) → 1 ≤ length all → rest ≡ drop 1 all
+    → All (AreRowsApart (slice_index all 0)) rest → (IsTrue more ↔ AllPairs AreRowsApart rest)
+    → (IsTrue more ↔ AllPairs AreRowsApart all)
+apart-then [] rest more some is apart decides = absurd (omega (arith, some))
+apart-then (x ∷ xs) rest more some is apart decides = (
+  λ t. AllPairs-cons AreRowsApart x xs (subst (λ (ys : List ℕ). All (AreRowsApart x) ys) is apart)
       (subst (λ (ys : List ℕ). AllPairs AreRowsApart ys) is (decides.0 t)),
   λ ps. decides.1 (subst (λ (ys : List ℕ). AllPairs AreRowsApart ys) (sym is) (pairs-rest x xs ps)),
 )
 
 -- where it is not, they are not all apart
-pub apart-else : (rows rest : List ℕ) (r : Bool) → 1 ≤ length rows → rest ≡ drop 1 rows → r ≡ false
-    → (IsTrue r ↔ All (AreRowsApart (slice_index rows 0)) rest) → (IsTrue r ↔ AllPairs AreRowsApart rows)
+pub apart-else : (all rest : List ℕ) (r : Bool) → 1 ≤ length all → rest ≡ drop 1 all → r ≡ false
+    → (IsTrue r ↔ All (AreRowsApart (slice_index all 0)) rest) → (IsTrue r ↔ AllPairs AreRowsApart all)
 apart-else [] rest r some is no_ decides = absurd (omega (arith, some))
 apart-else (x ∷ xs) rest r some is no_ decides = (
   λ t. absurd (false≢true (sym no_ ∙ t)),

@@ -91,6 +91,32 @@ length-after c (Raise r b) = refl
 pub pattern_at-lt : (pattern : List ℕ) → All (λ b. b < 256) pattern → (i : ℕ) → pattern_at pattern i < 256
 pattern_at-lt pattern small i = byte_at pattern small (i % length pattern)
 
+-- the flash after a step, done or cut, is of bytes where it was
+pub flash_bytes-after : (c : Content) (step : Step) → All (λ b. b < 256) c.flash
+    → All (λ b. b < 256) (after c step).flash
+flash_bytes-after c (Erase s) small = All-changed (λ i b. 255) (4096 * s) 4096 c.flash (λ i b lt. omega arith) small
+flash_bytes-after c (Program p d) small =
+    All-changed (λ i b. bit_and b (slice_index d i)) (256 * p) 256 c.flash
+    (λ i b lt. omega (arith, lt, and_le_l b (slice_index d i))) small
+flash_bytes-after c (Raise r b) small = small
+
+pub flash_bytes-torn_by : (pattern : List ℕ) (c : Content) (step : Step) → All (λ b. b < 256) pattern
+    → All (λ b. b < 256) c.flash → All (λ b. b < 256) (torn_by pattern c step).flash
+flash_bytes-torn_by pattern c (Erase s) of small =
+    All-changed (λ i b. pattern_at pattern i) (4096 * s) 4096 c.flash (λ i b lt. pattern_at-lt pattern of i) small
+flash_bytes-torn_by pattern c (Program p d) of small =
+    All-changed (λ i b. bit_and b (bit_or (slice_index d i) (pattern_at pattern i))) (256 * p) 256 c.flash
+    (λ i b lt. omega (arith, lt, and_le_l b (bit_or (slice_index d i) (pattern_at pattern i)))) small
+flash_bytes-torn_by pattern c (Raise r b) of small = small
+
+pub flash_bytes-cut_by : (cut : Cut) (c : Content) (step : Step) → All (λ b. b < 256) cut.pattern
+    → All (λ b. b < 256) c.flash → All (λ b. b < 256) (cut_by cut c step).flash
+flash_bytes-cut_by cut c step of small = choose cut.within
+  where
+    choose : (within : Bool) → All (λ b. b < 256) (cond within (torn_by cut.pattern c step) c).flash
+    choose true = flash_bytes-torn_by cut.pattern c step of small
+    choose false = small
+
 -- what a cut within a step leaves is a content
 pub IsContent-torn_by : (pattern : List ℕ) (c : Content) (step : Step) → All (λ b. b < 256) pattern → IsContent c
     → IsStepIn (length c.flash) step

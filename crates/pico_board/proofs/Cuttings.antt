@@ -76,7 +76,7 @@ pub CutOf-prefix : (c : Content) (xs : List Step) (step : Step) (ys : List Step)
     → CutOf c (xs ++ step ∷ ys) (after_all c xs)
 CutOf-prefix c xs step ys is all =
     CutOf-append_right c xs (step ∷ ys) (after_all c xs)
-    (inl (Torn-before (after_all c xs) step (IsContent-after_all c xs is all)))
+    (inl (Torn-before (after_all c xs) step (IsContent-after_all c xs is all).flash_bytes))
 
 -- bits between are bits of one of the two ends
 pub between_lt : (a b x n : ℕ) → IsBetween a b x → a < 2 ^ n → b < 2 ^ n → x < 2 ^ n

@@ -1,14 +1,15 @@
 -- The worked examples of the steps of a session.
-use Rattle.std.proofs.Common.{◌≡◌, ◌≢◌, ℕ, ◌<◌, ◌≤◌, List, [], ◌∷◌, length, slice_index, bit_and, bit_or, refl, sym, ◌∙◌, ap, subst, inl, inr, arith}
+use Rattle.std.proofs.Common.{◌≡◌, ◌≢◌, ℕ, ◌<◌, ◌≤◌, All, List, [], ◌∷◌, length, slice_index, bit_and, bit_or, refl, sym, ◌∙◌, ap, subst, inl, inr, arith}
 use Rattle.std.specs.Prelude.{nat_eq}
 use Rattle.std.specs.List.{AllByRecursion, IsDistinct}
 use Rattle.std.proofs.lemmas.List.Elements.{All-from_recursion}
 use Rattle.pico_board.specs.Content.{Content, IsContent}
-use Rattle.pico_board.specs.Steps.{Erase, Program, CutOf, after_all, changed}
+use Rattle.pico_board.specs.Steps.{Erase, Program, CutOf, after, after_all, changed}
 use Rattle.pico_board.specs.Cuts.{pattern_at}
 use Rattle.pico_board.specs.Sessions.{Gated, IsElsewhere, IsGated, IsProgramIn, Unfinished, pages_of}
 use Rattle.pico_board.specs.Examples.{first_sector, half_done, second_sector, two_pages, two_sectors}
 use Rattle.pico_board.proofs.Changed.{changed-at, changed-outside, length-changed}
+use Rattle.pico_board.proofs.Contents.{flash_bytes-after}
 use Rattle.pico_board.proofs.Cuttings.{CutOf-from}
 use Rattle.pico_board.proofs.Gates.{IsDistinct-first, IsDistinct-more, IsDistinct-none}
 use Rattle.pico_board.proofs.TornSteps.{Torn-torn_by}
@@ -79,6 +80,12 @@ module _ (c : Content) (page other : List ℕ) (room : 16384 ≤ length c.flash)
       ∙ length-changed (λ i b. 255) 12288 4096 (changed (λ i b. 255) 8192 4096 c.flash)
       ∙ length-changed (λ i b. 255) 8192 4096 c.flash
 
+  before_bytes : IsContent c → All (λ b. b < 256) before.flash
+  before_bytes is =
+      let erased = after (after c (Erase 2)) (Erase 3) in
+      flash_bytes-after erased (Program 48 other)
+      (flash_bytes-after (after c (Erase 2)) (Erase 3) (flash_bytes-after c (Erase 2) is.flash_bytes))
+
   -- the first byte is erased before the last step
   erased_byte : slice_index before.flash 8192 ≡ 255
   erased_byte =
@@ -95,8 +102,7 @@ module _ (c : Content) (page other : List ℕ) (room : 16384 ≤ length c.flash)
         record {
           stands = refl;
           torn = Torn-torn_by (0x0f ∷ []) before (Program 32 page)
-              (All-from_recursion (λ b. b < 256) (0x0f ∷ []) (omega arith, tt)) is.otp_length
-              (omega (arith, room, long));
+              (All-from_recursion (λ b. b < 256) (0x0f ∷ []) (omega arith, tt)) (before_bytes is);
         },
       )
 

@@ -1,7 +1,7 @@
 -- Worked examples of RAM commands. This project's own.
-use Rattle.std.specs.Prelude.{ℕ, false, None, List, [], ◌∷◌}
+use Rattle.std.specs.Prelude.{ℕ, false, List, [], ◌∷◌}
 use Rattle.block_codec.specs.Words.{bytes_of}
-use Rattle.image_check.specs.Examples.{arm_type, otp_with, window_with}
+use Rattle.image_check.specs.Examples.{arm_type, hash_of_four, otp_with, plain_image, window_with}
 use Rattle.image_def.specs.declared.started.Started.{Started}
 use Rattle.pico_board.specs.Content.{Content}
 use Rattle.picoboot_cmd.specs.declared.cmd.Cmd.{Cmd}
@@ -17,20 +17,17 @@ reboot_into flags p0 p1 =
 abbrev pub image_bytes : List ℕ
 image_bytes = window_with 0x20000021 (arm_type ∷ []) 0
 
--- its record where it is seen from this address on
+-- the 72 bytes of an Arm image whose PC is 0x20000049 and whose HASH_VALUE, of the block's first
+-- four words, is this
+abbrev pub hashed_bytes : List ℕ → List ℕ
+hashed_bytes digest = window_with 0x20000049 (arm_type ∷ hash_of_four digest) 0
+
+-- the records of the two images where they are seen from this address on
 abbrev pub image_in_ram : ℕ → Started
-image_in_ram base = record {
-  window = record { start = base; len = 28 };
-  block = 8;
-  image_at = 12;
-  pc = 0x20000021;
-  sp = 0x20082000;
-  limit = 0;
-  version = record { major = 0; minor = 0 };
-  rollback = None;
-  rows = record { items = [] };
-  trial = false;
-}
+image_in_ram base = plain_image (record { start = base; len = 28 }) 0x20000021 false
+
+abbrev pub hashed_in_ram : ℕ → Started
+hashed_in_ram base = plain_image (record { start = base; len = 72 }) 0x20000049 false
 
 -- a content without a flash, whose row 0x048 has this value, and whose other rows are 0
 abbrev pub with_rows : ℕ → Content

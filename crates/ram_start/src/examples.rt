@@ -1,12 +1,14 @@
 //! Worked examples, proved by computing: each is the `ensures` of a function that does nothing.
 
-ghost use Rattle.std.specs.Prelude.{◌≡◌, List, [], ◌∷◌, Some, None, false, true, ℕ};
-ghost use Rattle.image_check.specs.Examples.{otp_with};
+ghost use Rattle.std.specs.Prelude.{◌≡◌, List, [], ◌∷◌, Err, Ok, Some, None, false, true, ℕ};
+ghost use Rattle.image_check.specs.Examples.{otp_with, plain_digest, stored_digest};
+ghost use Rattle.image_check.specs.declared.why.Why.TheVariants.{Digest};
 ghost use Rattle.pico_board.specs.Content.{Content};
 ghost use Rattle.pico_board.specs.declared.boot.Cpu.TheVariants.{Arm, Riscv};
 ghost use Rattle.picoboot_cmd.specs.Examples.{command, erase_command, range_args, read_command, write_command};
 ghost use Rattle.picoboot_cmd.specs.declared.kinds.TheConstants.{OTP_READ, READ, REBOOT, WRITE};
-ghost use Rattle.ram_start.specs.Examples.{image_bytes, image_in_ram, reboot_into, with_rows};
+ghost use Rattle.ram_start.specs.Examples.{hashed_bytes, hashed_in_ram, image_bytes, image_in_ram, reboot_into, with_rows};
+ghost use Rattle.ram_start.specs.Images.{ram_image};
 ghost use Rattle.ram_start.specs.Serving.{is_ram_command, is_range, ram_command, ram_served, ram_status};
 ghost use Rattle.load_map.specs.Addresses.{in_sram};
 ghost use Rattle.ram_start.specs.Sram.{RamWrite, ram_after, stored, written, written_all, zero_ram};
@@ -109,6 +111,25 @@ pub fn images_in_ram()
         (reboot_into 3 0x20000000 27) [] ≡ 13 }
     ensures required { ram_status (with_rows 1) image_bytes Arm false
         (reboot_into 3 0x20000000 28) [] ≡ 13 }
+{}
+
+/// An image in RAM with a digest of its block's words starts, and with a wrong one it does not.
+pub fn digests_in_ram()
+    ensures right { ram_image (with_rows 0) (hashed_bytes plain_digest) 0x20000000 Arm
+        ≡ Ok (hashed_in_ram 0x20000000) }
+    ensures wrong { ram_image (with_rows 0) (hashed_bytes stored_digest) 0x20000000 Arm
+        ≡ Err Digest }
+    ensures started { ram_command (with_rows 0) (hashed_bytes plain_digest) Arm false
+        (reboot_into 3 0x20000000 72) []
+        ≡ record {
+          status = 0;
+          ram = hashed_bytes plain_digest;
+          reply = [];
+          start = Some (hashed_in_ram 0x20000000);
+        } }
+    ensures refused { ram_command (with_rows 0) (hashed_bytes stored_digest) Arm false
+        (reboot_into 3 0x20000000 72) []
+        ≡ record { status = 13; ram = hashed_bytes stored_digest; reply = []; start = None } }
 {}
 
 /// Bytes are stored over those at their offset.

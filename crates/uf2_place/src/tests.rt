@@ -15,10 +15,13 @@ use crate::{
 use pico_board::{Bench, Board, MemBoard, Window};
 use sector_pool::SectorPool;
 use std::alloc::Global;
+use std::process::Abort;
 use std::test::Fail;
 
 /// The family rp2350-arm-s.
-const ARM_S: u32 = 0xe48b_ff59;
+pub const ARM_S: u32 = 0xe48b_ff59;
+/// The bytes of the flash.
+pub const FLASH: u32 = 262_144;
 
 /// A powered board of 262,144 bytes 0, whose OTP is 0.
 pub fn board(alloc: Global) -> Result<MemBoard, Fail>
@@ -30,9 +33,10 @@ pub fn board(alloc: Global) -> Result<MemBoard, Fail>
     Ok(MemBoard::new(alloc, flash, otp)?)
 }
 
-/// A block of an arm-s file of three.
-fn arm_block(number: u32, address: u32, byte: u8) -> Uf2
-    requires number { number < 3 }
+/// A block of an arm-s file of `count`.
+pub fn block(count: u32, number: u32, address: u32, byte: u8) -> Uf2
+    requires few { count ≤ 65536 }
+    requires number { number < count }
     requires aligned { address % 256 ≡ 0 }
     ensures { IsUf2 result }
 {
@@ -40,7 +44,7 @@ fn arm_block(number: u32, address: u32, byte: u8) -> Uf2
         flags: 0x2000,
         address,
         number,
-        count: 3,
+        count,
         family: ARM_S,
         page: [byte; 256],
     }
@@ -61,13 +65,72 @@ pub fn slot(gated: bool) -> Target
 }
 
 /// A byte of the flash.
-pub fn byte_at(board: &MemBoard, at: u32) -> u8
+fn byte_at(board: &MemBoard, at: u32) -> u8
     requires power { IsTrue (state_of board.now).powered }
     requires range { at + 1 ≤ length (state_of board.now).content.flash }
 {
     let mut byte = [0_u8; 1];
     board.read(at, &mut byte);
     byte[0]
+}
+
+/// A byte of a flash of 262,144 bytes.
+pub fn flash_byte(rt: &impl Abort, board: &MemBoard, at: u32) -> u8
+    requires { at + 1 ≤ 262144 }
+{
+    assert!(rt; board.powered());
+    assert_eq!(rt; board.flash_len(), FLASH);
+    byte_at(board, at)
+}
+
+/// A board, a pool of one sector and a download.
+#[derive(Drop)]
+pub struct Bed {
+    pub board: MemBoard,
+    pub pool: SectorPool,
+    pub download: Download,
+}
+
+impl Bed {
+    /// A download on this board that has not begun.
+    pub fn make(rt: &impl Abort, alloc: Global, board: MemBoard) -> Result<Bed, Fail>
+        ensures fresh { IfOk result (λ bed. bed.download.current ≡ None) }
+        ensures free { IfOk result (λ bed. HasFree bed.pool) }
+    {
+        let pool = SectorPool::make(alloc, 1)?;
+        let download = Download::make(alloc)?;
+        assert!(rt; pool.free() == 1);
+        Ok(Bed {
+            board,
+            pool,
+            download,
+        })
+    }
+
+    /// Places a block where the board is powered and has this many bytes.
+    pub fn place(
+        &mut self,
+        rt: &impl Abort,
+        flash_len: u32,
+        target: Target,
+        block: &Uf2,
+    ) -> Result<Accepted, PlaceFault>
+        requires target { IsTargetIn flash_len target }
+        requires block { IsUf2 block.now }
+        requires current { ForSome self.old.download.current (λ c. IsTargetIn
+            (length (state_of self.old.board).content.flash) c.target) }
+        requires out { IsOut self.old.pool (lease_of self.old.download.current) }
+        requires free { lease_of self.old.download.current ≡ None → HasFree self.old.pool }
+        ensures current { ForSome self.new.download.current (λ c. IsTargetIn
+            (length (state_of self.new.board).content.flash) c.target) }
+        ensures out { IsOut self.new.pool (lease_of self.new.download.current) }
+        ensures free { lease_of self.new.download.current ≡ None → HasFree self.new.pool }
+    {
+        assert!(rt; self.board.powered());
+        assert_eq!(rt; self.board.flash_len(), flash_len);
+        self.download
+            .accept(&mut self.board, &mut self.pool, None, Some(target), block)
+    }
 }
 
 /// The bytes of a block of a file.
@@ -133,7 +196,7 @@ fn a_gated_download_holds_its_first_sector(rt: HostRuntime) -> Result<(), Fail> 
     let mut pool = SectorPool::make(alloc, 2)?;
     let mut download = Download::make(alloc)?;
     assert!(rt; !download.busy());
-    let b = arm_block(2, 0x1000_1000, 0x22);
+    let b = block(3, 2, 0x1000_1000, 0x22);
     assert_eq!(rt; download.wants(262_144, &b), Some(ARM_S));
     assert_eq!(rt; board.flash_len(), 262_144);
     assert_eq!(rt; pool.free(), 2);
@@ -149,117 +212,72 @@ fn a_gated_download_holds_its_first_sector(rt: HostRuntime) -> Result<(), Fail> 
     Ok(())
 }
 
-/// Places a block.
-fn place(
-    download: &mut Download,
-    board: &mut MemBoard,
-    pool: &mut SectorPool,
-    block: &Uf2,
-    gated: bool,
-) -> Result<Accepted, PlaceFault>
-    requires power { IsTrue (state_of board.old).powered }
-    requires size { length (state_of board.old).content.flash ≡ 262144 }
-    requires block { IsUf2 block.now }
-    requires current { ForSome download.old.current (λ c. IsTargetIn
-        (length (state_of board.old).content.flash) c.target) }
-    requires out { IsOut pool.old (lease_of download.old.current) }
-    requires free { lease_of download.old.current ≡ None → HasFree pool.old }
-    ensures current { ForSome download.new.current (λ c. IsTargetIn
-        (length (state_of board.new).content.flash) c.target) }
-    ensures out { IsOut pool.new (lease_of download.new.current) }
-    ensures free { lease_of download.new.current ≡ None → HasFree pool.new }
-{
-    download.accept(board, pool, None, Some(slot(gated)), block)
-}
-
 #[test]
 fn a_gated_download_is_done(rt: HostRuntime) -> Result<(), Fail> {
     let alloc = rt.alloc();
-    let mut board = board(alloc)?;
-    let mut pool = SectorPool::make(alloc, 1)?;
-    let mut download = Download::make(alloc)?;
+    let mut bed = Bed::make(&rt, alloc, board(alloc)?)?;
     let done = Ok(Accepted::Done(slot(true)));
-    assert_eq!(rt; pool.free(), 1);
-    let block = arm_block(2, 0x1000_0200, 0x22);
+    let first = block(3, 2, 0x1000_0200, 0x22);
     assert_eq!(rt;
-        place(&mut download, &mut board, &mut pool, &block, true),
+        bed.place(&rt, FLASH, slot(true), &first),
         Ok(Accepted::Taken)
     );
-    assert_eq!(rt; board.flash_len(), 262_144);
-    assert!(rt; board.powered());
-    assert_eq!(rt; byte_at(&board, 0x20000), 0xff);
-    assert_eq!(rt; byte_at(&board, 0x20200), 0xff);
-    let block = arm_block(1, 0x1000_0100, 0x11);
+    assert_eq!(rt; flash_byte(&rt, &bed.board, 0x20000), 0xff);
+    assert_eq!(rt; flash_byte(&rt, &bed.board, 0x20200), 0xff);
+    let second = block(3, 1, 0x1000_0100, 0x11);
     assert_eq!(rt;
-        place(&mut download, &mut board, &mut pool, &block, true),
+        bed.place(&rt, FLASH, slot(true), &second),
         Ok(Accepted::Taken)
     );
-    assert_eq!(rt; board.flash_len(), 262_144);
-    assert!(rt; board.powered());
     assert_eq!(rt;
-        place(&mut download, &mut board, &mut pool, &block, true),
+        bed.place(&rt, FLASH, slot(true), &second),
         Ok(Accepted::Again)
     );
-    assert_eq!(rt; board.steps(), 1);
-    assert_eq!(rt; board.flash_len(), 262_144);
-    assert!(rt; board.powered());
-    let block = arm_block(0, 0x1000_1000, 0x33);
-    assert_eq!(rt;
-        place(&mut download, &mut board, &mut pool, &block, true),
-        done
-    );
-    assert_eq!(rt; board.steps(), 5);
-    assert_eq!(rt; pool.free(), 1);
-    assert!(rt; !download.busy());
-    assert_eq!(rt; board.flash_len(), 262_144);
-    assert!(rt; board.powered());
-    assert_eq!(rt; byte_at(&board, 0x20100), 0x11);
-    assert_eq!(rt; byte_at(&board, 0x20200), 0x22);
-    assert_eq!(rt; byte_at(&board, 0x21000), 0x33);
-    assert_eq!(rt; byte_at(&board, 0x20000), 0xff);
+    assert_eq!(rt; bed.board.steps(), 1);
+    let third = block(3, 0, 0x1000_1000, 0x33);
+    assert_eq!(rt; bed.place(&rt, FLASH, slot(true), &third), done);
+    assert_eq!(rt; bed.board.steps(), 5);
+    assert_eq!(rt; bed.pool.free(), 1);
+    assert!(rt; !bed.download.busy());
+    assert_eq!(rt; flash_byte(&rt, &bed.board, 0x20100), 0x11);
+    assert_eq!(rt; flash_byte(&rt, &bed.board, 0x20200), 0x22);
+    assert_eq!(rt; flash_byte(&rt, &bed.board, 0x21000), 0x33);
+    assert_eq!(rt; flash_byte(&rt, &bed.board, 0x20000), 0xff);
     Ok(())
 }
 
 #[test]
 fn lost_power_ends_a_download(rt: HostRuntime) -> Result<(), Fail> {
     let alloc = rt.alloc();
-    let mut board = board(alloc)?;
-    let mut pool = SectorPool::make(alloc, 1)?;
-    let mut download = Download::make(alloc)?;
-    assert_eq!(rt; pool.free(), 1);
-    let block = arm_block(2, 0x1000_1000, 0x22);
-    board.arm_cut(1, false, &[]);
-    assert_eq!(rt; board.flash_len(), 262_144);
-    assert!(rt; board.powered());
+    let mut bed = Bed::make(&rt, alloc, board(alloc)?)?;
+    let first = block(3, 2, 0x1000_1000, 0x22);
+    bed.board.arm_cut(1, false, &[]);
     assert_eq!(rt;
-        place(&mut download, &mut board, &mut pool, &block, true),
+        bed.place(&rt, FLASH, slot(true), &first),
         Err(PlaceFault::PowerLost)
     );
-    assert!(rt; !download.busy());
-    assert_eq!(rt; pool.free(), 1);
-    assert_eq!(rt; board.steps(), 1);
+    assert!(rt; !bed.download.busy());
+    assert_eq!(rt; bed.pool.free(), 1);
+    assert_eq!(rt; bed.board.steps(), 1);
     Ok(())
 }
 
 #[test]
 fn blocks_are_refused(rt: HostRuntime) -> Result<(), Fail> {
     let alloc = rt.alloc();
-    let mut board = board(alloc)?;
-    let mut pool = SectorPool::make(alloc, 1)?;
-    let mut download = Download::make(alloc)?;
-    assert_eq!(rt; pool.free(), 1);
-    assert_eq!(rt; board.flash_len(), 262_144);
-    let block = arm_block(2, 0x1002_0000, 0x22);
+    let mut bed = Bed::make(&rt, alloc, board(alloc)?)?;
+    let first = block(3, 2, 0x1002_0000, 0x22);
     assert_eq!(rt;
-        place(&mut download, &mut board, &mut pool, &block, false),
+        bed.place(&rt, FLASH, slot(false), &first),
         Err(PlaceFault::Outside)
     );
-    assert_eq!(rt; board.flash_len(), 262_144);
-    assert!(rt; board.powered());
+    assert_eq!(rt; bed.board.flash_len(), FLASH);
+    assert!(rt; bed.board.powered());
     assert_eq!(rt;
-        download.accept(&mut board, &mut pool, None, None, &block),
+        bed.download
+            .accept(&mut bed.board, &mut bed.pool, None, None, &first),
         Err(PlaceFault::NoTarget)
     );
-    assert_eq!(rt; board.steps(), 0);
+    assert_eq!(rt; bed.board.steps(), 0);
     Ok(())
 }

@@ -1,10 +1,10 @@
 -- By computing.
-use Rattle.std.proofs.Common.{refl, inl, inr, arith}
+use Rattle.std.proofs.Common.{refl, inl, inr}
 use Rattle.std.specs.Fmt.{padded_integral, digits, char_count}
 use Rattle.pico_board.specs.declared.Step.TheVariants.{Erase}
 use Rattle.pico_board.specs.Content.{IsContent}
 use Rattle.pico_board.specs.Steps.{after}
-use Rattle.pico_board.proofs.Contents.{IsContent-after}
+use Rattle.pico_board.proofs.Contents.{flash_bytes-after}
 use Rattle.pico_board.proofs.TornSteps.{Torn-before}
 use Rattle.boot_machine.specs.RunExamples.{erased}
 use Rattle.boot_machine.proofs.ExampleLemmas.{all_below, content-by}
@@ -17,7 +17,7 @@ right = content-by erased 0x2000 refl refl refl refl refl refl refl
 pub returns-clause-before : goal.returns-clause-before
 unfolding padded_integral digits char_count
 returns-clause-before c = inr (record {
-  content = inl (Torn-before erased (Erase 0) right);
+  content = inl (Torn-before erased (Erase 0) right.flash_bytes);
   armed_cut = record { answer = refl; left = refl; next = refl };
   cpu = refl;
   place = refl;
@@ -28,7 +28,7 @@ pub returns-clause-second : goal.returns-clause-second
 unfolding padded_integral digits char_count
 returns-clause-second c = inr (record {
   content =
-      inr (inl (Torn-before (after erased (Erase 0)) (Erase 1) (IsContent-after erased (Erase 0) right (omega arith))));
+      inr (inl (Torn-before (after erased (Erase 0)) (Erase 1) (flash_bytes-after erased (Erase 0) right.flash_bytes)));
   armed_cut = record { answer = refl; left = refl; next = refl };
   cpu = refl;
   place = refl;

@@ -21,6 +21,11 @@ unfolding table_in decision_in image_in def_of loop_of follow first_block_from b
     word_of word_bytes
 returns-clause-first c = refl
 
+pub returns-clause-tie : goal.returns-clause-tie
+unfolding table_in decision_in image_in def_of loop_of follow first_from block_at front_block item_words frame size_of
+    word_of word_bytes
+returns-clause-tie c = refl
+
 pub returns-clause-none : goal.returns-clause-none
 unfolding table_in decision_in image_in def_of loop_of follow first_block_from block_at front_block item_words frame size_of
     word_of word_bytes

@@ -46,7 +46,7 @@ returns-in-Some-clause-does c =
     IsDue-from c.args.self.now.supply c.in-Some.within (sym c.in-Some.ensures) in
     Does-lost (due_cut c.args.self.now.supply) (ap (λ (a : Option Cut). Some a) due.armed) due.now left
     (Torn-cut_by (due_cut c.args.self.now.supply) (state_of c.args.self.now).content
-    (Erase c.args.sector) c.args.self.now.supply.small c.args.self.now.sizes c.requires.range)
+    (Erase c.args.sector) c.args.self.now.supply.small c.args.self.now.sizes.flash_bytes)
     (length-cut_by (due_cut c.args.self.now.supply) (state_of c.args.self.now).content (Erase c.args.sector))
     c.lose.ensures.powered c.lose.ensures.later c.lose.ensures.cuts
     (ap (λ (a : Option Cut). Some a) c.lose.ensures.armed)

@@ -49,7 +49,7 @@ returns-in-Some-clause-does c =
     IsDue-from c.args.self.now.supply c.in-Some.within (sym c.in-Some.ensures) in
     Does-lost (due_cut c.args.self.now.supply) (ap (λ (a : Option Cut). Some a) due.armed) due.now left
     (Torn-cut_by (due_cut c.args.self.now.supply) (state_of c.args.self.now).content
-    (Program c.args.page c.args.bytes.now) c.args.self.now.supply.small c.args.self.now.sizes c.requires.range)
+    (Program c.args.page c.args.bytes.now) c.args.self.now.supply.small c.args.self.now.sizes.flash_bytes)
     (length-cut_by (due_cut c.args.self.now.supply) (state_of c.args.self.now).content
     (Program c.args.page c.args.bytes.now))
     c.lose.ensures.powered c.lose.ensures.later c.lose.ensures.cuts

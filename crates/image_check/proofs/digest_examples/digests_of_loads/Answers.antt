@@ -9,19 +9,24 @@ use Rattle.block_loop.specs.Loop.{first_block_from, follow, loop_of}
 use Rattle.image_def.specs.Definition.{def_of}
 use Rattle.load_map.specs.Covered.{covered_digest}
 use Rattle.image_check.specs.Image.{image_in}
-use Rattle.image_check.proofs.digests.the_digest_before_the_delta.Goals as goal
+use Rattle.image_check.proofs.digest_examples.digests_of_loads.Goals as goal
 
-pub returns-clause-digest : goal.returns-clause-digest
+pub returns-clause-stored : goal.returns-clause-stored
 unfolding first_words schedule rounds compress hash_after digest_bytes sha256 covered_digest image_in def_of loop_of
     follow first_block_from block_at front_block item_words frame size_of word_of word_bytes
-returns-clause-digest c = refl
+returns-clause-stored c = refl
 
-pub returns-clause-delta : goal.returns-clause-delta
+pub returns-clause-other : goal.returns-clause-other
 unfolding first_words schedule rounds compress hash_after digest_bytes sha256 covered_digest image_in def_of loop_of
     follow first_block_from block_at front_block item_words frame size_of word_of word_bytes
-returns-clause-delta c = refl
+returns-clause-other c = refl
 
-pub returns-clause-zero : goal.returns-clause-zero
+pub returns-clause-clear : goal.returns-clause-clear
 unfolding first_words schedule rounds compress hash_after digest_bytes sha256 covered_digest image_in def_of loop_of
     follow first_block_from block_at front_block item_words frame size_of word_of word_bytes
-returns-clause-zero c = refl
+returns-clause-clear c = refl
+
+pub returns-clause-both : goal.returns-clause-both
+unfolding first_words schedule rounds compress hash_after digest_bytes sha256 covered_digest image_in def_of loop_of
+    follow first_block_from block_at front_block item_words frame size_of word_of word_bytes
+returns-clause-both c = refl

@@ -12,7 +12,7 @@ use Rattle.image_check.specs.Image.{image_in}
 use Rattle.image_check.specs.Examples.{arm_record, arm_type, otp_with, right_pc, window_with}
 use Rattle.image_check.proofs.HoldLemmas.{answered-held, hold-same, same-range}
 use Rattle.image_check.proofs.SameLemmas.{same-storage}
-use Rattle.image_check.proofs.same_images.without_a_map.Goals as goal
+use Rattle.image_check.proofs.same_image_examples.without_a_map.Goals as goal
 
 pub returns-clause-same : goal.returns-clause-same
 unfolding image_in def_of loop_of follow first_block_from block_at front_block item_words frame size_of word_of word_bytes

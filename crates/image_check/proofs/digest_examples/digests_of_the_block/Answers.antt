@@ -9,7 +9,7 @@ use Rattle.block_loop.specs.Loop.{first_block_from, follow, loop_of}
 use Rattle.image_def.specs.Definition.{def_of}
 use Rattle.load_map.specs.Covered.{covered_digest}
 use Rattle.image_check.specs.Image.{image_in}
-use Rattle.image_check.proofs.digests.digests_of_the_block.Goals as goal
+use Rattle.image_check.proofs.digest_examples.digests_of_the_block.Goals as goal
 
 pub returns-clause-right : goal.returns-clause-right
 unfolding first_words schedule rounds compress hash_after digest_bytes sha256 covered_digest image_in def_of loop_of

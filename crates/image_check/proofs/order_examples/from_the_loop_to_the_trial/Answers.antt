@@ -7,7 +7,7 @@ use Rattle.block_codec.specs.Words.{word_bytes, word_of}
 use Rattle.block_loop.specs.Loop.{first_block_from, follow, loop_of}
 use Rattle.image_def.specs.Definition.{def_of}
 use Rattle.image_check.specs.Image.{image_in}
-use Rattle.image_check.proofs.orders.from_the_loop_to_the_trial.Goals as goal
+use Rattle.image_check.proofs.order_examples.from_the_loop_to_the_trial.Goals as goal
 
 pub returns-clause-no_block : goal.returns-clause-no_block
 unfolding image_in def_of loop_of follow first_block_from block_at front_block item_words frame size_of word_of word_bytes

@@ -9,24 +9,24 @@ use Rattle.block_loop.specs.Loop.{first_block_from, follow, loop_of}
 use Rattle.image_def.specs.Definition.{def_of}
 use Rattle.load_map.specs.Covered.{covered_digest}
 use Rattle.image_check.specs.Image.{image_in}
-use Rattle.image_check.proofs.digests.digests_of_loads.Goals as goal
+use Rattle.ram_start.proofs.examples.digests_in_ram.Goals as goal
 
-pub returns-clause-stored : goal.returns-clause-stored
+pub returns-clause-right : goal.returns-clause-right
 unfolding first_words schedule rounds compress hash_after digest_bytes sha256 covered_digest image_in def_of loop_of
     follow first_block_from block_at front_block item_words frame size_of word_of word_bytes
-returns-clause-stored c = refl
+returns-clause-right c = refl
 
-pub returns-clause-other : goal.returns-clause-other
+pub returns-clause-wrong : goal.returns-clause-wrong
 unfolding first_words schedule rounds compress hash_after digest_bytes sha256 covered_digest image_in def_of loop_of
     follow first_block_from block_at front_block item_words frame size_of word_of word_bytes
-returns-clause-other c = refl
+returns-clause-wrong c = refl
 
-pub returns-clause-clear : goal.returns-clause-clear
+pub returns-clause-started : goal.returns-clause-started
 unfolding first_words schedule rounds compress hash_after digest_bytes sha256 covered_digest image_in def_of loop_of
     follow first_block_from block_at front_block item_words frame size_of word_of word_bytes
-returns-clause-clear c = refl
+returns-clause-started c = refl
 
-pub returns-clause-both : goal.returns-clause-both
+pub returns-clause-refused : goal.returns-clause-refused
 unfolding first_words schedule rounds compress hash_after digest_bytes sha256 covered_digest image_in def_of loop_of
     follow first_block_from block_at front_block item_words frame size_of word_of word_bytes
-returns-clause-both c = refl
+returns-clause-refused c = refl
