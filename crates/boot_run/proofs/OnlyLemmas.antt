@@ -17,7 +17,7 @@ use Rattle.boot_rules.specs.Chosen.{Chosen}
 use Rattle.boot_rules.proofs.DecisionLemmas.{decision-chosen, chosen-decision}
 use Rattle.boot_run.specs.declared.status.Status.{Status}
 use Rattle.boot_run.specs.declared.status.Status.TheVariants.{Done, Bootsel}
-use Rattle.boot_run.specs.declared.forms.Form.TheVariants.{Flash, Otp, Script, Binary, Spec, Json}
+use Rattle.boot_run.specs.declared.forms.Form.TheVariants.{Flash, Otp, Script, Json}
 use Rattle.boot_run.specs.Commands.{Command, Boot, Info, OwnedData, Replay, Seal, Table, Usage, Release, Uf2, Plan, Gen}
 use Rattle.boot_run.specs.Forms.{HasForm, content_of, events_read, script_events}
 use Rattle.boot_run.specs.Texts.{line, decision_line, table_text, image_text, event_lines, end_line}
@@ -34,7 +34,7 @@ use Rattle.boot_run.proofs.ToolLemmas.{uf2-whole, plan-whole}
 use Rattle.boot_run.proofs.PlayLemmas.{plays-only}
 use Rattle.boot_run.specs.Jsons.{spec_read, table_read}
 use Rattle.boot_run.specs.Tools.{seal_work, table_work}
-use Rattle.boot_run.specs.SealRules.{IsSealOf, IsTableOf}
+use Rattle.boot_run.specs.SealRules.{IsSealedOf, IsTableOf}
 use Rattle.boot_run.proofs.SealCases.{seal-only, table-only}
 use Rattle.boot_run.proofs.FormLemmas.{fault-exact}
 use Rattle.boot_run.proofs.OutcomeLemmas.{no-fault}
@@ -86,27 +86,13 @@ triple-only flash otp script f g s Right w o only (inr (flash_form, otp_form, sc
 no-one : (i : Input) (f : List ℕ) → HasForm i.form f → first_fault (i ∷ []) (f ∷ []) ≡ None
 no-one i f form = ap (λ o. option_or (option_map (refused i.name) o) None) (no-fault i.form f form)
 
-no-two : (i j : Input) (f g : List ℕ) → HasForm i.form f → HasForm j.form g
-    → first_fault (i ∷ j ∷ []) (f ∷ g ∷ []) ≡ None
-no-two i j f g first second =
-    ap (λ o. option_or (option_map (refused i.name) o) (first_fault (j ∷ []) (g ∷ []))) (no-fault i.form f first)
-    ∙ no-one j g second
-
--- a command on one input, and on two inputs, with one right outcome
+-- a command on one input, with one right outcome
 one-only : (i : Input) (f : List ℕ) (Right : Outcome → Type 0) (w o : Outcome) → (Right o → o ≡ w)
     → IsRefusal (i ∷ []) (f ∷ []) o ⊎ (HasForm i.form f × Right o)
     → o ≡ judged (first_fault (i ∷ []) (f ∷ [])) w
 one-only i f Right w o only (inl (name, fault, first, is)) =
     is ∙ sym (ap (λ j. judged j w) (first-exact (i ∷ []) (f ∷ []) name fault first))
 one-only i f Right w o only (inr (form, right)) = only right ∙ sym (ap (λ j. judged j w) (no-one i f form))
-
-two-only : (i j : Input) (f g : List ℕ) (Right : Outcome → Type 0) (w o : Outcome) → (Right o → o ≡ w)
-    → IsRefusal (i ∷ j ∷ []) (f ∷ g ∷ []) o ⊎ (HasForm i.form f × HasForm j.form g × Right o)
-    → o ≡ judged (first_fault (i ∷ j ∷ []) (f ∷ g ∷ [])) w
-two-only i j f g Right w o only (inl (name, fault, first, is)) =
-    is ∙ sym (ap (λ q. judged q w) (first-exact (i ∷ j ∷ []) (f ∷ g ∷ []) name fault first))
-two-only i j f g Right w o only (inr (first, second, right)) =
-    only right ∙ sym (ap (λ q. judged q w) (no-two i j f g first second))
 
 -- inputs that have their forms have no fault
 formed-none : (inputs : List Input) (read : List (List ℕ)) → AreFormed inputs read → first_fault inputs read ≡ None
@@ -242,9 +228,7 @@ only (Replay flash otp cpu script out_flash out_otp) (f ∷ []) o = λ right. ab
 only (Replay flash otp cpu script out_flash out_otp) (f ∷ g ∷ []) o = λ right. absurd right
 only (Replay flash otp cpu script out_flash out_otp) (f ∷ g ∷ s ∷ t ∷ read) o = λ right. absurd right
 only (Seal binary spec out) (b ∷ s ∷ []) o =
-    two-only (record { name = binary; form = Binary }) (record { name = spec; form = Spec }) b s
-    (IsSealOf binary spec out b s) (worked (seal_work binary spec out b (spec_read s))) o
-    (seal-only binary spec out b s o)
+    worked-only (Seal binary spec out) (b ∷ s ∷ []) (IsSealedOf out b s) o (seal-only binary spec out b s o)
 only (Seal binary spec out) [] o = λ right. absurd right
 only (Seal binary spec out) (b ∷ []) o = λ right. absurd right
 only (Seal binary spec out) (b ∷ s ∷ t ∷ read) o = λ right. absurd right

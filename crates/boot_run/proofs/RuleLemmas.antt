@@ -18,7 +18,7 @@ use Rattle.boot_rules.specs.Choosing.{decision_in}
 use Rattle.boot_rules.specs.Chosen.{Chosen}
 use Rattle.boot_rules.proofs.DecisionLemmas.{decision-chosen, chosen-not_below}
 use Rattle.boot_run.specs.declared.status.Status.TheVariants.{Input as Refused}
-use Rattle.boot_run.specs.declared.forms.Form.TheVariants.{Flash, Otp, Script, Binary, Spec, Json}
+use Rattle.boot_run.specs.declared.forms.Form.TheVariants.{Flash, Otp, Script, Json}
 use Rattle.boot_run.specs.Commands.{Command, Boot, Info, OwnedData, Replay, Seal, Table, Usage, Release, Uf2, Plan, Gen}
 use Rattle.boot_run.specs.Forms.{HasForm, form_fault, content_of, filled, filled_length, events_read, script_events}
 use Rattle.boot_run.specs.Works.{is_fall, boot_work, info_work, data_work, replay_work, window_line, windows_in}
@@ -31,7 +31,7 @@ use Rattle.boot_script.specs.Scripts.{events}
 use Rattle.boot_run.specs.Replays.{AreBytes, AreOfBytes, played, powerless}
 use Rattle.boot_run.specs.Jsons.{spec_read, table_read}
 use Rattle.boot_run.specs.Tools.{seal_work, table_work}
-use Rattle.boot_run.specs.SealRules.{IsSealOf, IsTableOf}
+use Rattle.boot_run.specs.SealRules.{IsSealedOf, IsTableOf}
 use Rattle.boot_run.proofs.SealCases.{seal-right, table-right, unsealed-then, unsealed-outcome, table-not_refused}
 use Rattle.boot_run.specs.ToolWorks.{uf2_work, plan_work}
 use Rattle.boot_run.specs.ToolRules.{IsUf2Of, IsPlanOf}
@@ -138,21 +138,16 @@ one-obeys : (i : Input) (f : List ℕ) (Right : Outcome → Type 0) (w : Outcome
 one-obeys i f Right w right None (all_formed all) = inr (all.0, right all.0)
 one-obeys i f Right w right (Some _) (one_faulty name fault first) = inl (name, fault, first, refl)
 
-two-obeys : (i j : Input) (f g : List ℕ) (Right : Outcome → Type 0) (w : Outcome)
-    → (HasForm i.form f → HasForm j.form g → Right w) → (o : Option Outcome)
-    → Judged (i ∷ j ∷ []) (f ∷ g ∷ []) o
-    → IsRefusal (i ∷ j ∷ []) (f ∷ g ∷ []) (judged o w)
-    ⊎ (HasForm i.form f × HasForm j.form g × Right (judged o w))
-two-obeys i j f g Right w right None (all_formed all) = inr (all.0, all.1.0, right all.0 all.1.0)
-two-obeys i j f g Right w right (Some _) (one_faulty name fault first) = inl (name, fault, first, refl)
-
 -- a command whose work may refuse an input
 pub worked-obeys : (command : Command) (read : List (List ℕ)) (Right : Outcome → Type 0) (w : Outcome)
-    → IsDone command read Right w → (o : Option Outcome) → Judged (inputs_of command) read o
+    → (AreFormed (inputs_of command) read → IsDone command read Right w)
+    → (o : Option Outcome) → Judged (inputs_of command) read o
     → IsWorked command read Right (judged o w)
-worked-obeys command read Right w (inl (name, fault, refuses, is)) None (all_formed all) =
-    inl (name, fault, inr (all, refuses), is)
-worked-obeys command read Right w (inr right) None (all_formed all) = inr (all, right)
+worked-obeys command read Right w done None (all_formed all) = go (done all)
+  where
+    go : IsDone command read Right w → IsWorked command read Right w
+    go (inl (name, fault, refuses, is)) = inl (name, fault, inr (all, refuses), is)
+    go (inr right) = inr (all, right)
 worked-obeys command read Right w done (Some _) (one_faulty name fault first) = inl (name, fault, inl first, refl)
 
 -- a flash that is filled is of bytes
@@ -240,9 +235,8 @@ replay-obeys flash otp script out_flash out_otp f g s cpu small =
 
 seal-obeys : (binary spec out b s : List ℕ) → IsRight (Seal binary spec out) (b ∷ s ∷ [])
 seal-obeys binary spec out b s =
-    two-obeys (record { name = binary; form = Binary }) (record { name = spec; form = Spec }) b s
-    (IsSealOf binary spec out b s) (worked (seal_work binary spec out b (spec_read s)))
-    (λ binary_form spec_form. seal-right binary spec out b s spec_form)
+    worked-obeys (Seal binary spec out) (b ∷ s ∷ []) (IsSealedOf out b s)
+    (worked (seal_work binary spec out b (spec_read s))) (λ all. seal-right binary spec out b s all.1.0)
     (first_fault (binary_and_spec binary spec) (b ∷ s ∷ []))
     (judged-first (binary_and_spec binary spec) (b ∷ s ∷ []) refl)
 
@@ -255,14 +249,14 @@ table-obeys json out j =
 uf2-obeys : (image out i : List ℕ) (family : ℕ) → IsRight (Uf2 image family out) (i ∷ [])
 uf2-obeys image out i family =
     worked-obeys (Uf2 image family out) (i ∷ []) (IsUf2Of i family out) (worked (uf2_work image family out i))
-    (uf2-done image out i family)
+    (λ all. uf2-done image out i family)
     (first_fault (image_alone image) (i ∷ [])) (judged-first (image_alone image) (i ∷ []) refl)
 
 plan-obeys : (flash otp image out f g i : List ℕ) (cpu : Cpu)
     → IsRight (Plan flash otp cpu image out) (f ∷ g ∷ i ∷ [])
 plan-obeys flash otp image out f g i cpu =
     worked-obeys (Plan flash otp cpu image out) (f ∷ g ∷ i ∷ []) (IsPlanOf (content_of f g) cpu i out)
-    (worked (plan_work (content_of f g) cpu image out i)) (plan-done flash otp image out f g i cpu)
+    (worked (plan_work (content_of f g) cpu image out i)) (λ all. plan-done flash otp image out f g i cpu)
     (first_fault (flash_otp_image flash otp image) (f ∷ g ∷ i ∷ []))
     (judged-first (flash_otp_image flash otp image) (f ∷ g ∷ i ∷ []) refl)
 

@@ -9,14 +9,16 @@ use Rattle.image_pack.specs.Sealing.{sealed_text}
 use Rattle.table_json.specs.declared.fault.JsonFault.{JsonFault}
 use Rattle.boot_run.specs.declared.status.Status.TheVariants.{Done, Input as Refused}
 use Rattle.boot_run.specs.declared.forms.Form.TheVariants.{Spec, Json}
+use Rattle.boot_run.specs.Commands.{Seal}
 use Rattle.boot_run.specs.Forms.{HasForm}
 use Rattle.boot_run.specs.Jsons.{IsSpecText, IsTableText, spec_read, table_read}
 use Rattle.boot_run.specs.Seals.{IsUnsealed, blamed, seal_error, seal_text, sealed_line}
 use Rattle.boot_run.specs.Tools.{judged_work, seal_work, table_file, table_line, table_work}
 use Rattle.boot_run.specs.Works.{Work}
 use Rattle.boot_run.specs.Outcome.{Outcome, refused, worked}
-use Rattle.boot_run.specs.SealRules.{IsSealOf, IsTableOf}
+use Rattle.boot_run.specs.SealRules.{IsSealedOf, IsTableOf}
 use Rattle.boot_run.proofs.JsonLemmas.{spec-gives, table-gives}
+use Rattle.boot_run.proofs.ToolLemmas.{IsDone}
 use Rattle.boot_run.proofs.SealLemmas.{IsJudged, is_sealed, has_fault, seal-judged, fault-first, sealed-none}
 
 -- the outcome of a table that is written
@@ -82,12 +84,16 @@ module _ (binary spec out b s : List ℕ) where
   unfolding by-spec told-seal
   none-given asked is = ap (λ e. worked (judged_work binary spec out b asked e)) is
 
-  pub seal-right : HasForm Spec s → IsSealOf binary spec out b s (worked (seal_work binary spec out b (spec_read s)))
+  -- the outcome refuses an input by the rules, or is right
+  SealDone : Outcome → Type 0
+  SealDone o = IsDone (Seal binary spec out) (b ∷ s ∷ []) (IsSealedOf out b s) o
+
+  pub seal-right : HasForm Spec s → SealDone (worked (seal_work binary spec out b (spec_read s)))
   unfolding told-seal
   seal-right form = go (seal_error b form.1.0) refl (seal-judged b form.1.0)
     where
       go : (e : Option SealError) → seal_error b form.1.0 ≡ e → IsJudged b form.1.0 e
-          → IsSealOf binary spec out b s (worked (seal_work binary spec out b (spec_read s)))
+          → SealDone (worked (seal_work binary spec out b (spec_read s)))
       go None is (is_sealed sealed) =
           let same = spec-given form.1.0 form.1.1 ∙ none-given form.1.0 is in
           inr (record {
@@ -114,11 +120,10 @@ module _ (binary spec out b s : List ℕ) where
       ∙ (error-given is.asked is.error (fault-first b is.asked is.error is.wrong)
       ∙ (ap (λ n. refused n (seal_text is.error)) (sym is.blames) ∙ ap (λ f. refused name f) (sym is.tells)))
 
-  pub seal-only : (o : Outcome) → IsSealOf binary spec out b s o
+  pub seal-only : (o : Outcome) → IsSealedOf out b s o
       → o ≡ worked (seal_work binary spec out b (spec_read s))
   unfolding told-seal
-  seal-only o (inl (name, fault, is, same)) = same ∙ sym (unsealed-outcome name fault is)
-  seal-only o (inr right) =
+  seal-only o right =
       same-outcome o (told-seal right.asked) right.status right.text right.files
       ∙ sym (spec-given right.asked right.says ∙ none-given right.asked (sealed-none b right.asked right.sealed))
 
@@ -127,7 +132,7 @@ module _ (binary spec out b s : List ℕ) where
       → (name : List ℕ) × (fault : List ℕ) × IsUnsealed binary spec b s name fault
   unsealed-then form h = go (seal-right form)
     where
-      go : IsSealOf binary spec out b s (worked (seal_work binary spec out b (spec_read s)))
+      go : SealDone (worked (seal_work binary spec out b (spec_read s)))
           → (name : List ℕ) × (fault : List ℕ) × IsUnsealed binary spec b s name fault
       go (inl (name, fault, is, same)) = (name, fault, is)
       go (inr right) = let e : Done ≡ Refused = sym right.status ∙ h in cc

@@ -24,7 +24,7 @@ use Rattle.boot_machine.specs.Machines.{Machine}
 use Rattle.boot_machine.specs.Moves.{Plays}
 use Rattle.boot_run.specs.declared.status.Status.{Status}
 use Rattle.boot_run.specs.declared.status.Status.TheVariants.{Done, Bootsel}
-use Rattle.boot_run.specs.declared.forms.Form.TheVariants.{Flash, Otp, Script, Binary, Spec, Json}
+use Rattle.boot_run.specs.declared.forms.Form.TheVariants.{Flash, Otp, Script, Json}
 use Rattle.boot_run.specs.Commands.{Command, Boot, Info, OwnedData, Replay, Seal, Table, Usage, Release, Uf2, Plan, Gen}
 use Rattle.boot_run.specs.Forms.{HasForm, IsFault, content_of}
 use Rattle.boot_run.specs.Texts.{line, decision_line, table_text, valid_text, invalid_text, usage_text, release_line, event_lines, end_line}
@@ -32,7 +32,7 @@ use Rattle.boot_run.specs.Replays.{AreOfBytes, powerless}
 use Rattle.boot_run.specs.Works.{windows_in, decided_data, data_line, content_files}
 use Rattle.boot_run.specs.Outcome.{Outcome, Input, inputs_of, refused}
 use Rattle.boot_run.specs.Seals.{IsUnsealed}
-use Rattle.boot_run.specs.SealRules.{IsSealOf, IsTableOf}
+use Rattle.boot_run.specs.SealRules.{IsSealedOf, IsTableOf}
 use Rattle.boot_run.specs.ToolRules.{IsUf2Fault, IsUf2Of, IsPlanFault, IsPlanOf, IsGenOf}
 
 -- the first input in word order that does not have its form has this name, and its bytes have this
@@ -182,8 +182,7 @@ Obeys (Replay flash otp cpu script out_flash out_otp) (f ∷ g ∷ s ∷ []) o =
     ⊎ (HasForm Flash f × HasForm Otp g × HasForm Script s
     × IsReplayOf (content_of f g) cpu s out_flash out_otp o)
 Obeys (Seal binary spec out) (b ∷ s ∷ []) o =
-    IsRefusal (inputs_of (Seal binary spec out)) (b ∷ s ∷ []) o
-    ⊎ (HasForm Binary b × HasForm Spec s × IsSealOf binary spec out b s o)
+    IsWorked (Seal binary spec out) (b ∷ s ∷ []) (IsSealedOf out b s) o
 Obeys (Table json out) (j ∷ []) o =
     IsRefusal (inputs_of (Table json out)) (j ∷ []) o ⊎ (HasForm Json j × IsTableOf out j o)
 Obeys (Uf2 image family out) (i ∷ []) o =

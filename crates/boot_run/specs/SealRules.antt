@@ -1,15 +1,15 @@
 -- What is right for the commands that make images and tables, in the words of the rules. This
 -- project's own.
-use Rattle.std.specs.Prelude.{◌≡◌, ◌⊎◌, ℕ, List, [], ◌∷◌, length}
+use Rattle.std.specs.Prelude.{◌≡◌, ℕ, List, [], ◌∷◌, length}
 use Rattle.part_table.specs.declared.table.Table.{Table}
 use Rattle.image_pack.specs.declared.spec.SealSpec.{SealSpec}
 use Rattle.image_pack.specs.Faults.{IsSealed, block_offset}
 use Rattle.image_pack.specs.Sealing.{sealed_text}
 use Rattle.boot_run.specs.declared.status.Status.TheVariants.{Done}
 use Rattle.boot_run.specs.Jsons.{IsSpecText, IsTableText}
-use Rattle.boot_run.specs.Seals.{IsUnsealed, sealed_line}
+use Rattle.boot_run.specs.Seals.{sealed_line}
 use Rattle.boot_run.specs.Tools.{table_file, table_line}
-use Rattle.boot_run.specs.Outcome.{Outcome, refused}
+use Rattle.boot_run.specs.Outcome.{Outcome}
 
 -- `table`: the outcome tells the table that the text gives, and writes its file
 pub record IsTableOf (out j : List ℕ) (o : Outcome) : Type 0 where
@@ -19,8 +19,8 @@ pub record IsTableOf (out j : List ℕ) (o : Outcome) : Type 0 where
   pub text : o.text ≡ table_line (length table.parts.items)
   pub files : o.files ≡ record { name = out; bytes = table_file table } ∷ []
 
--- the binary is sealed by the spec that the text gives; the outcome tells the sealed image, and
--- writes it
+-- `seal`: the binary is sealed by the spec that the text gives; the outcome tells the sealed image,
+-- and writes it
 pub record IsSealedOf (out b s : List ℕ) (o : Outcome) : Type 0 where
   pub asked : SealSpec
   pub says : IsSpecText s asked
@@ -28,11 +28,3 @@ pub record IsSealedOf (out b s : List ℕ) (o : Outcome) : Type 0 where
   pub status : o.status ≡ Done
   pub text : o.text ≡ sealed_line (length (sealed_text b asked)) (block_offset b)
   pub files : o.files ≡ record { name = out; bytes = sealed_text b asked } ∷ []
-
--- `seal`: the outcome names the input that refuses it, with the first fault of the binary and the
--- spec, or the binary is sealed
-abbrev pub IsSealOf : List ℕ → List ℕ → List ℕ → List ℕ → List ℕ → Outcome → Type 0
-IsSealOf binary spec out b s o =
-    ((name : List ℕ) × (fault : List ℕ) × IsUnsealed binary spec b s name fault
-    × (o ≡ refused name fault))
-    ⊎ IsSealedOf out b s o
