@@ -1,6 +1,6 @@
 -- A sealed image in a window, with erased bytes behind it, is read back as its spec asks.
 use Rattle.std.proofs.Common.{◌≡◌, ◌≢◌, ◌↔◌, Option, [], ℕ, ◌+◌, ◌-◌, ◌≤◌, List, ◌∷◌, ◌++◌, length, take, drop, replicate, ℤ, refl, sym, ap, subst, ◌∙◌, arith, Some, Result, Ok, length-append, length-drop, append_assoc}
-use Rattle.std.specs.Prelude.{IsTrue, IfSome}
+use Rattle.std.specs.Prelude.{IsTrue, IfSome, slice_get}
 use Rattle.std.specs.List.{flat_map}
 use Rattle.std.specs.Result.{result_ok}
 use Rattle.std.proofs.lemmas.List.{drop_at, length-replicate, length-take, take_all}
@@ -35,7 +35,8 @@ use Rattle.image_pack.specs.declared.spec.SealSpec.{SealSpec}
 use Rattle.image_pack.specs.Faults.{IsSealed, block_offset}
 use Rattle.image_pack.specs.Filling.{round_up, whole_sectors, whole_words}
 use Rattle.image_pack.specs.ReadBack.{IsHalves, IsReadBack, MeetsRollback, SaysSpec, covered_of}
-use Rattle.image_pack.specs.Sealing.{block_link, parts_in, parts_of, relinked, sealed_from, sealed_items, sealed_text}
+use Rattle.image_pack.specs.Sealing.{block_link, link_offset_of, parts_in, parts_of, relinked, sealed_from, sealed_items, sealed_text}
+use Rattle.image_pack.specs.Unsealable.{KeepsRules}
 use Rattle.image_pack.proofs.OneItem.{IsCopied}
 use Rattle.image_pack.proofs.SealedBack.{SaysSealed, copied_is, definition_stands, loads_begin, says_sealed}
 use Rattle.image_pack.proofs.SealedItems.{are_whole}
@@ -59,25 +60,25 @@ relinked-least bytes p =
     omega (arith, a, b, d, t, four)
 
 module _ (binary : List ℕ) (spec : SealSpec) (sealed : IsSealed binary spec) where
-  abbrev parts : Parts
+  abbrev pub parts : Parts
   parts = sealed.short.sealable.parts
 
-  abbrev kept : List ℕ
+  abbrev pub kept : List ℕ
   kept = relinked (whole_words binary) (Some parts)
 
-  abbrev entry : List ℕ
+  abbrev pub entry : List ℕ
   entry = parts.entry.items
 
-  abbrev loads : List Load
+  abbrev pub loads : List Load
   loads = parts.loads.items
 
-  abbrev items : List ℕ
+  abbrev pub items : List ℕ
   items = sealed_items spec kept entry loads
 
-  abbrev link : ℤ
+  abbrev pub link : ℤ
   link = block_link (length kept) (Some parts)
 
-  text_is : sealed_text binary spec ≡ kept ++ bytes_of (frame items link)
+  pub text_is : sealed_text binary spec ≡ kept ++ bytes_of (frame items link)
   unfolding sealed_text
   text_is =
       ap (λ (r : Result Parts Why). sealed_from spec (whole_words binary) (result_ok r)) sealed.short.sealable.read
@@ -88,19 +89,35 @@ module _ (binary : List ℕ) (spec : SealSpec) (sealed : IsSealed binary spec) w
       let fill = length-replicate {A = ℕ} (round_up 4 (length binary) - length binary) 255 in
       omega (arith, whole, fill)
 
-  small : length binary ≤ 16777216
+  pub small : length binary ≤ 16777216
   small =
       let all = ap length text_is in
       let sum = length-append kept (bytes_of (frame items link)) in
       let least = relinked-least (whole_words binary) parts in
       omega (arith, all, sum, least, long_words, sealed.short.image)
 
-  long_kept : length kept ≡ length (whole_words binary)
+  pub long_kept : length kept ≡ length (whole_words binary)
   long_kept =
       relinked-long (whole_words binary) parts (IsWithin-parts binary spec.cpu parts small sealed.short.sealable.read)
 
+  -- the loop and the map of the binary, from which the parts are taken
+  pub binary_keeps : KeepsRules spec.cpu (whole_sectors binary)
+  binary_keeps = parts-kept spec.cpu (whole_sectors binary) parts sealed.short.sealable.read
+
+  parts-are : parts_of binary_keeps.loop binary_keeps.image.block binary_keeps.loads ≡ parts
+  parts-are =
+      same_ok (parts_in spec.cpu (whole_sectors binary)) parts
+      (parts_of binary_keeps.loop binary_keeps.image.block binary_keeps.loads) sealed.short.sealable.read
+      (keeps-parts spec.cpu (whole_sectors binary) binary_keeps)
+
+  pub loads-are : loads ≡ binary_keeps.loads
+  loads-are = sym (ap (λ (q : Parts). q.loads.items) parts-are)
+
+  pub link_at-is : parts.link_at ≡ link_offset_of (slice_get binary_keeps.loop (length binary_keeps.loop - 1))
+  link_at-is = sym (ap (λ (q : Parts). q.link_at) parts-are)
+
   -- the copied item is one of the binary's definition
-  copied : IsCopied entry
+  pub copied : IsCopied entry
   copied =
       let bytes = whole_sectors binary in
       let keeps = parts-kept spec.cpu bytes parts sealed.short.sealable.read in
@@ -120,10 +137,10 @@ module _ (binary : List ℕ) (spec : SealSpec) (sealed : IsSealed binary spec) w
       let long = length-frame items link in
       omega (arith, all, sum, size, long, long_kept, sealed.short.block)
 
-  few_words : length items ≤ 156
+  pub few_words : length items ≤ 156
   few_words = omega (arith, few)
 
-  abbrev new_one : BlockView
+  abbrev pub new_one : BlockView
   new_one = record { at = length (whole_words binary); items = items; link = link }
 
   -- the new block stands behind the bytes before it
@@ -160,14 +177,14 @@ module _ (binary : List ℕ) (spec : SealSpec) (sealed : IsSealed binary spec) w
           stands = subst (λ p. IsBlock p items link) (sym whole) is_block;
         }
 
-    abbrev image : Defined
+    abbrev pub image : Defined
     image = sealed.boots.image
 
     -- so it is the definition of the image
     place_is : image.block.at ≡ length (whole_words binary)
     place_is = sym (ap (λ (s : Started). s.block) sealed.boots.started) ∙ sealed.block
 
-    definition_is : image.block ≡ new_one
+    pub definition_is : image.block ≡ new_one
     definition_is =
         let sectors = whole_sectors (sealed_text binary spec) in
         BlockAt-unique sectors (length (whole_words binary)) image.block new_one
@@ -175,7 +192,7 @@ module _ (binary : List ℕ) (spec : SealSpec) (sealed : IsSealed binary spec) w
         (definition_stands spec.cpu sectors sealed.boots.sound.loop image sealed.boots.sound.defined))
         (BlockAt-append (sealed_text binary spec) _ (length (whole_words binary)) new_one stands)
 
-    read : def_of new_one ≡ Ok image.def
+    pub read : def_of new_one ≡ Ok image.def
     read = subst (λ b. def_of b ≡ Ok image.def) definition_is sealed.boots.sound.defined.items
 
     says : SaysSealed spec image.def
@@ -219,7 +236,7 @@ module _ (binary : List ℕ) (spec : SealSpec) (sealed : IsSealed binary spec) w
       abbrev bytes : List ℕ
       bytes = whole_sectors (sealed_text binary spec) ++ f
 
-      sound : IsSound in_flash spec.cpu bytes image sealed.boots.entry
+      pub sound : IsSound in_flash spec.cpu bytes image sealed.boots.entry
       sound = longer-sound in_flash spec.cpu (whole_sectors (sealed_text binary spec)) f erased below image
           sealed.boots.entry sealed.boots.sound
 
