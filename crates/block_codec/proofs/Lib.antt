@@ -4,7 +4,7 @@ pub mod FrameLemmas
 pub mod BlockLemmas
 pub mod ReadLemmas
 pub mod ExactLemmas
-pub mod FirstFault
+pub mod FirstFaultLemmas
 pub mod WriteLemmas
 pub mod AtLemmas
 pub mod HighByteLemmas

@@ -1,8 +1,8 @@
 pub mod FollowLemmas
 pub mod ChainLemmas
-pub mod SameLoops
+pub mod SameLoopLemmas
 pub mod FindLemmas
 pub mod WalkLemmas
 pub mod CycleLemmas
-pub mod LoopBlocks
+pub mod LoopBlockLemmas
 pub mod PlaceLemmas

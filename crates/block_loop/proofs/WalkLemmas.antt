@@ -14,7 +14,7 @@ use Rattle.block_loop.specs.declared.fault.LoopFault.{LoopFault}
 use Rattle.block_loop.specs.declared.fault.LoopFault.TheVariants.{Broken, TooMany, Overlap}
 use Rattle.block_loop.specs.declared.spans.Span.{Span}
 use Rattle.block_loop.proofs.FollowLemmas.{is_offset-true, is_offset-same, follow-closed, follow-many, follow-broken, follow-overlap, follow-more, loop_of-first}
-use Rattle.block_loop.proofs.SameLoops.{IsLoop-from_answer, IsFault-from_answer}
+use Rattle.block_loop.proofs.SameLoopLemmas.{IsLoop-from_answer, IsFault-from_answer}
 use Rattle.block_loop.proofs.ChainLemmas.{loop_of-loop, loop_of-fault}
 
 -- the offsets of the ranges of blocks

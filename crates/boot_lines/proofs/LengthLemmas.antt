@@ -7,7 +7,7 @@ use Rattle.sha2.proofs.Facts256.{length-sha256}
 use Rattle.pico_board.specs.declared.window.Window.{Window}
 use Rattle.block_codec.specs.declared.versions.Version.{Version}
 use Rattle.block_codec.proofs.WordLemmas.{AreBytes}
-use Rattle.part_table.proofs.RoundTrip.{sha256_is_bytes}
+use Rattle.part_table.proofs.RoundTripLemmas.{sha256_is_bytes}
 use Rattle.image_def.specs.declared.started.Started.{Started}
 use Rattle.picoboot_cmd.specs.declared.cmd.Cmd.{Cmd}
 use Rattle.picoboot_cmd.specs.Commands.{IsCommand}

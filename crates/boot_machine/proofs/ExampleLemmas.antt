@@ -7,7 +7,7 @@ use Rattle.std.proofs.lemmas.List.Elements.{All-from_recursion}
 use Rattle.pico_board.specs.declared.Step.TheVariants.{Program, Raise}
 use Rattle.pico_board.specs.Content.{Content, IsContent, IsFlashLength}
 use Rattle.pico_board.specs.Steps.{Torn}
-use Rattle.pico_board.proofs.TornSteps.{SameOutside-refl}
+use Rattle.pico_board.proofs.TornStepLemmas.{SameOutside-refl}
 use Rattle.boot_machine.specs.CrashExamples.{three_raises}
 
 -- each number is below n, by computing

@@ -1,33 +1,33 @@
-mod Rooms
-mod Boots
-mod Blocks
-mod Carried
-mod Entries
+mod RoomLemmas
+mod BootLemmas
+mod BlockLemmas
+mod CarriedLemmas
+mod EntryLemmas
 pub mod LuckLaws
-mod LeftRows
-pub mod LeftImages
-pub mod RaisesCut
+mod LeftRowLemmas
+pub mod LeftImageLemmas
+pub mod RaisesCutLemmas
 mod PairLemmas
-mod OwnSteps
-mod OwnWindows
-mod OwnLeft
-mod OwnPicks
-pub mod OwnDecisions
+mod OwnStepLemmas
+mod OwnWindowLemmas
+mod OwnLeftLemmas
+mod OwnPickLemmas
+pub mod OwnDecisionLemmas
 pub mod OwnLaws
 mod ExampleLemmas
-mod Infos
-mod Replies
-mod Steadiness
-mod Hosting
-mod Placing
-mod Cases
-mod Advancing
-mod AnsweredTargets
-mod RamRuns
-mod RamStarts
+mod InfoLemmas
+mod ReplyLemmas
+mod SteadinessLemmas
+mod HostingLemmas
+mod PlacingLemmas
+mod CaseLemmas
+mod AdvancingLemmas
+mod AnsweredTargetLemmas
+mod RamRunLemmas
+mod RamStartLemmas
 mod MoveLemmas
-mod MoveTexts
-mod MovePlaces
-mod Arming
-mod MoveTables
-mod Beginning
+mod MoveTextLemmas
+mod MovePlaceLemmas
+mod ArmingLemmas
+mod MoveTableLemmas
+mod BeginningLemmas

@@ -8,10 +8,10 @@ use Rattle.std.specs.List.{AllByRecursion}
 use Rattle.pico_board.specs.Content.{Content, IsContent}
 use Rattle.pico_board.specs.Cuts.{Cut, CutOutcome, cut_by, nearer, cut_steps, unless_cut}
 use Rattle.pico_board.specs.Steps.{CutOf, IsStepIn, after, after_all}
-use Rattle.pico_board.proofs.Contents.{IsContent-after}
-use Rattle.pico_board.proofs.TornSteps.{Torn-cut_by}
-use Rattle.pico_board.proofs.Cuttings.{in_range-after}
-use Rattle.pico_board.proofs.ToldLists.{told_all-none}
+use Rattle.pico_board.proofs.ContentLemmas.{IsContent-after}
+use Rattle.pico_board.proofs.TornStepLemmas.{Torn-cut_by}
+use Rattle.pico_board.proofs.CuttingLemmas.{in_range-after}
+use Rattle.pico_board.proofs.CutListLemmas.{told_all-none}
 use Rattle.boot_script.specs.Events.{Happening}
 use Rattle.boot_machine.specs.Boots.{Effect}
 use Rattle.boot_machine.specs.Machines.{Machine, Place, Off}

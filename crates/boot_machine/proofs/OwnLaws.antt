@@ -13,13 +13,13 @@ use Rattle.pico_board.specs.declared.window.Window.{Window}
 use Rattle.pico_board.specs.Content.{AreApart, Content, IsContent, window_bytes}
 use Rattle.pico_board.specs.Sessions.{Confined, IsConfined}
 use Rattle.pico_board.specs.Steps.{IsCutAt, IsRaise, MayLeave, after_all}
-use Rattle.pico_board.proofs.Cuttings.{CutOf-from}
+use Rattle.pico_board.proofs.CuttingLemmas.{CutOf-from}
 use Rattle.image_def.specs.declared.started.Started.{Started}
 use Rattle.otp_roll.specs.Flags.{slot_size}
 use Rattle.otp_roll.specs.Rows
 use Rattle.otp_roll.specs.Rows.{AreRollbackRows, IsOutside, IsRollbackVersion}
-use Rattle.otp_roll.proofs.Rising.{raises-listed}
-use Rattle.part_table.proofs.TableFacts.{apart_sym}
+use Rattle.otp_roll.proofs.RisingLemmas.{raises-listed}
+use Rattle.part_table.proofs.TableLemmas.{apart_sym}
 use Rattle.part_table.specs.Windows.{IsPlaced}
 use Rattle.image_check.specs.Addressing.{in_flash}
 use Rattle.image_check.specs.Changes.{ClearsTrialBit, bought}
@@ -31,7 +31,7 @@ use Rattle.image_check.proofs.LawLemmas.{one-image, trial-less, trial-more, tria
 use Rattle.slot_choice.specs.declared.unit.SlotUnit.{SlotUnit}
 use Rattle.slot_choice.specs.declared.choice.Choice.{Choice}
 use Rattle.slot_choice.specs.Units.{IsMember, units}
-use Rattle.slot_choice.proofs.PlaceFacts.{apart_from_slots, boot_members_placed}
+use Rattle.slot_choice.proofs.PlaceLemmas.{apart_from_slots, boot_members_placed}
 use Rattle.trial_buy.specs.Buying.{buy_steps, clearing, trial_place}
 use Rattle.trial_buy.specs.Starting.{image_raises, is_other_better, other_erase, raises_of, settling, start_steps}
 use Rattle.trial_buy.proofs.ImageLemmas.{trial-inside, trial-within, valid-rows, valid-version}
@@ -49,15 +49,15 @@ use Rattle.boot_rules.proofs.PlaceLemmas.{slot-size}
 use Rattle.boot_rules.proofs.StartLemmas.{is-member, of-unit, start, start-other, start-placed, start-trial, start-valid}
 use Rattle.boot_rules.proofs.TableLemmas.{found-in}
 use Rattle.boot_machine.specs.Crashes.{AreOwnSteps, IsLuckyCut, IsWindowOf, KeepsOtherRows, KeepsOtherTriples, PicksBought, StartsBought, settled_choice}
-use Rattle.boot_machine.proofs.LeftImages.{table-same}
-use Rattle.boot_machine.proofs.LeftRows.{image-raises}
-use Rattle.boot_machine.proofs.OwnDecisions.{decision-kept, decision-settled}
-use Rattle.boot_machine.proofs.OwnLeft.{IsLeft, own-left, slot_size-stays}
-use Rattle.boot_machine.proofs.OwnPicks.{TakesSettled, cut-first, cut-taken, done-taken, none-found}
-use Rattle.boot_machine.proofs.OwnSteps.{all-there, clearing-confined, erase-cases, first-confined}
-use Rattle.boot_machine.proofs.OwnWindows.{clears-window}
+use Rattle.boot_machine.proofs.LeftImageLemmas.{table-same}
+use Rattle.boot_machine.proofs.LeftRowLemmas.{image-raises}
+use Rattle.boot_machine.proofs.OwnDecisionLemmas.{decision-kept, decision-settled}
+use Rattle.boot_machine.proofs.OwnLeftLemmas.{IsLeft, own-left, slot_size-stays}
+use Rattle.boot_machine.proofs.OwnPickLemmas.{TakesSettled, cut-first, cut-taken, done-taken, none-found}
+use Rattle.boot_machine.proofs.OwnStepLemmas.{all-there, clearing-confined, erase-cases, first-confined}
+use Rattle.boot_machine.proofs.OwnWindowLemmas.{clears-window}
 use Rattle.boot_machine.proofs.PairLemmas.{IsBeaten, absent, beaten}
-use Rattle.boot_machine.proofs.RaisesCut.{plain-steps}
+use Rattle.boot_machine.proofs.RaisesCutLemmas.{plain-steps}
 
 -- the steps before the erase, what they leave in the image's window, and what that held before
 record IsOwnList (c : Content) (cpu : Cpu) (choice : Choice) (steps : List Step) : Type 0 where

@@ -39,7 +39,7 @@ pub fn enter_bootsel<B: Board>(parts: &mut Parts<B>)
 }
 
 /// Drops the current download: its sector is free again, and nothing else changes.
-#[tactic(auto, using(crate::proofs::Rooms::room_handed))]
+#[tactic(auto, using(crate::proofs::RoomLemmas::room_handed))]
 pub fn drop_download<B: Board>(parts: &mut Parts<B>)
     requires room { HasRoom parts.old.pool (lease_of parts.old.download.current) }
     ensures { IsDropped parts.old parts.new }

@@ -24,7 +24,7 @@ fn erased_board(alloc: Global) -> Result<MemBoard, Fail>
 }
 
 /// A pool of the two sectors that a machine needs.
-#[tactic(auto, using(crate::proofs::Beginning::new_free))]
+#[tactic(auto, using(crate::proofs::BeginningLemmas::new_free))]
 fn two_sectors(alloc: Global) -> Result<SectorPool, AllocError>
     ensures free { IfOk result (λ pool. 2 ≤ free_count pool) }
 {

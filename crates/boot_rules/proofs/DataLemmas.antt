@@ -13,7 +13,7 @@ use Rattle.pico_board.specs.declared.window.Window.{Window}
 use Rattle.pico_board.specs.Content.{AreApart, Content, IsContent, window_bytes}
 use Rattle.pico_board.specs.Sessions.{Confined, SameButWindow}
 use Rattle.pico_board.specs.Steps.{MayLeave}
-use Rattle.pico_board.proofs.Confinement.{confined-MayLeave, window_bytes-apart}
+use Rattle.pico_board.proofs.ConfinementLemmas.{confined-MayLeave, window_bytes-apart}
 use Rattle.image_check.proofs.LawLemmas.{image-local}
 use Rattle.otp_roll.specs.Flags.{flash_off, slot_size}
 use Rattle.part_table.specs.declared.partition.Partition.{Partition}
@@ -24,18 +24,18 @@ use Rattle.part_table.specs.Links.{is_owned, is_second, owner_of, pair_of}
 use Rattle.part_table.specs.Partitions.{no_partition, part_at}
 use Rattle.part_table.specs.Sound.{IsSoundTable}
 use Rattle.part_table.specs.Windows.{IsPlaced, part_window, partition_window}
-use Rattle.part_table.proofs.TableFacts.{apart_sym, partition_placed, partitions_apart, sound_placed}
-use Rattle.part_table.proofs.TestFacts.{first_position, mapped_some}
+use Rattle.part_table.proofs.TableLemmas.{apart_sym, partition_placed, partitions_apart, sound_placed}
+use Rattle.part_table.proofs.TestLemmas.{first_position, mapped_some}
 use Rattle.slot_choice.specs.declared.unit.Member.{Member}
 use Rattle.slot_choice.specs.declared.unit.Member.TheVariants.{A, B}
 use Rattle.slot_choice.specs.declared.unit.SlotUnit.{SlotUnit}
 use Rattle.slot_choice.specs.declared.choice.Choice.{Choice}
 use Rattle.slot_choice.specs.LoadUnits.{load_unit}
 use Rattle.slot_choice.specs.Units.{IsMember, member_window, unit_of, units}
-use Rattle.slot_choice.proofs.PlaceFacts.{IsBootUnit, IsLoadUnit, apart_from_slots, boot_unit, load_unit_part, owned_unit_apart}
-use Rattle.slot_choice.proofs.UnitFacts.{member_placed, pair_apart, units_apart}
+use Rattle.slot_choice.proofs.PlaceLemmas.{IsBootUnit, IsLoadUnit, apart_from_slots, boot_unit, load_unit_part, owned_unit_apart}
+use Rattle.slot_choice.proofs.UnitLemmas.{member_placed, pair_apart, units_apart}
 use Rattle.owner_data.specs.Owners.{IsDataOf, data_parts}
-use Rattle.owner_data.proofs.DataFacts.{data_listed}
+use Rattle.owner_data.proofs.DataLemmas.{data_listed}
 use Rattle.boot_rules.specs.declared.decision.Decision.{Decision}
 use Rattle.boot_rules.specs.declared.decision.Decision.TheVariants.{Bootsel, Start}
 use Rattle.boot_rules.specs.declared.decision.Fall.TheVariants.{FlashOff}

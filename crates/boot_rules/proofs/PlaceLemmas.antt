@@ -18,16 +18,16 @@ use Rattle.part_table.specs.Links.{owner_of}
 use Rattle.part_table.specs.Partitions.{part_at}
 use Rattle.part_table.specs.Sound.{IsSoundTable}
 use Rattle.part_table.specs.Windows.{IsPlaced}
-use Rattle.part_table.proofs.LinkFacts.{right_owner_of}
-use Rattle.part_table.proofs.TableFacts.{sound_placed}
+use Rattle.part_table.proofs.LinkLemmas.{right_owner_of}
+use Rattle.part_table.proofs.TableLemmas.{sound_placed}
 use Rattle.slot_choice.specs.declared.unit.Member.{Member}
 use Rattle.slot_choice.specs.declared.unit.Member.TheVariants.{A, B}
 use Rattle.slot_choice.specs.declared.unit.SlotUnit.{SlotUnit}
 use Rattle.slot_choice.specs.LoadUnits.{absolute_unit, family_unit, load_unit}
 use Rattle.slot_choice.specs.Units.{IsMember, IsSoundFor, slot_pair, tableless_unit, unit_of, units, whole_flash}
-use Rattle.slot_choice.proofs.PlaceFacts.{IsLoadUnit, accepting, sound_members_placed, tableless_placed}
-use Rattle.slot_choice.proofs.UnitFacts.{member_placed}
-use Rattle.slot_choice.proofs.UpdateFacts.{order_permutes}
+use Rattle.slot_choice.proofs.PlaceLemmas.{IsLoadUnit, accepting, sound_members_placed, tableless_placed}
+use Rattle.slot_choice.proofs.UnitLemmas.{member_placed}
+use Rattle.slot_choice.proofs.UpdateLemmas.{order_permutes}
 use Rattle.boot_rules.specs.declared.tables.Found.{Found}
 use Rattle.boot_rules.specs.Choosing.{boot_units_in, order_of}
 use Rattle.boot_rules.specs.Picking.{AreInside, IsInside, taken_member}

@@ -10,13 +10,13 @@ use Rattle.pico_board.specs.Content.{AreApart, Content, IsContent, window_bytes}
 use Rattle.image_def.specs.declared.started.Started.{Started}
 use Rattle.otp_roll.specs.Flags.{flash_off, slot_size}
 use Rattle.part_table.specs.declared.table.Table.{Table}
-use Rattle.part_table.proofs.TableFacts.{apart_sym}
+use Rattle.part_table.proofs.TableLemmas.{apart_sym}
 use Rattle.slot_choice.specs.declared.unit.Member.{Member}
 use Rattle.slot_choice.specs.declared.unit.Member.TheVariants.{A, B}
 use Rattle.slot_choice.specs.declared.unit.SlotUnit.{SlotUnit}
 use Rattle.slot_choice.specs.declared.choice.Choice.{Choice}
 use Rattle.slot_choice.specs.Units.{IsMember, IsSoundFor, member_window, tableless_unit, units}
-use Rattle.slot_choice.proofs.PlaceFacts.{boot_pair_apart, tableless_apart}
+use Rattle.slot_choice.proofs.PlaceLemmas.{boot_pair_apart, tableless_apart}
 use Rattle.image_check.specs.Addressing.{in_flash}
 use Rattle.image_check.specs.Valid.{Valid}
 use Rattle.image_check.proofs.LawLemmas.{trial-more, valid-window}

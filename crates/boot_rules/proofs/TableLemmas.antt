@@ -17,7 +17,7 @@ use Rattle.part_table.specs.declared.table.TableFault.{TableFault}
 use Rattle.part_table.specs.Faults.{table_fault}
 use Rattle.part_table.specs.Sound.{IsSoundTable}
 use Rattle.part_table.specs.TableOf.{has_table, table_of}
-use Rattle.part_table.proofs.TableFacts.{faultless_from_table_of, sound_from_faultless}
+use Rattle.part_table.proofs.TableLemmas.{faultless_from_table_of, sound_from_faultless}
 use Rattle.pico_board.specs.Content.{Content, window_bytes}
 use Rattle.slot_choice.specs.Versions.{is_below}
 use Rattle.boot_rules.specs.declared.tables.Found.{Found}

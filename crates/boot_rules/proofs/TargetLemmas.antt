@@ -16,15 +16,15 @@ use Rattle.part_table.specs.declared.target.Target.{Target}
 use Rattle.part_table.specs.Links.{is_owned, owner_of}
 use Rattle.part_table.specs.Partitions.{part_at}
 use Rattle.part_table.specs.Sound.{IsSoundTable}
-use Rattle.part_table.proofs.TableFacts.{apart_sym}
+use Rattle.part_table.proofs.TableLemmas.{apart_sym}
 use Rattle.slot_choice.specs.declared.unit.Member.{Member}
 use Rattle.slot_choice.specs.declared.unit.Member.TheVariants.{A, B}
 use Rattle.slot_choice.specs.declared.unit.SlotUnit.{SlotUnit}
 use Rattle.slot_choice.specs.declared.choice.Choice.{Choice}
 use Rattle.slot_choice.specs.Units.{IsMember, IsSoundFor, member_window, tableless_unit, unit_of, units, whole_flash}
 use Rattle.slot_choice.specs.LoadUnits.{load_unit}
-use Rattle.slot_choice.proofs.PlaceFacts.{IsBootUnit, IsLoadUnit, boot_unit, tableless_apart}
-use Rattle.slot_choice.proofs.UnitFacts.{pair_apart, units_apart}
+use Rattle.slot_choice.proofs.PlaceLemmas.{IsBootUnit, IsLoadUnit, boot_unit, tableless_apart}
+use Rattle.slot_choice.proofs.UnitLemmas.{pair_apart, units_apart}
 use Rattle.boot_rules.specs.declared.decision.Decision.TheVariants.{Start}
 use Rattle.boot_rules.specs.Choosing.{boot_units_in, images_in, ordered_choice}
 use Rattle.boot_rules.specs.Chosen.{Chosen}

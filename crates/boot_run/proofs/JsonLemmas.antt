@@ -10,7 +10,7 @@ use Rattle.part_table.specs.declared.table.Table.{Table}
 use Rattle.part_table.specs.declared.table.TableFault.{TableFault}
 use Rattle.part_table.specs.Faults.{table_fault}
 use Rattle.part_table.specs.Written.{written_size}
-use Rattle.part_table.proofs.RuleFacts.{first_to_rules, rules_to_first, none_to_rules, rules_to_none}
+use Rattle.part_table.proofs.RuleLemmas.{first_to_rules, rules_to_first, none_to_rules, rules_to_none}
 use Rattle.image_pack.specs.declared.spec.SealSpec.{SealSpec}
 use Rattle.table_json.specs.declared.fault.JsonFault.{JsonFault}
 use Rattle.table_json.specs.declared.fault.JsonFault.TheVariants.{NotJson, Unknown, Missing, Value, TooLong, Table as Faulty, Memory}

@@ -9,9 +9,9 @@ mod FormLemmas
 mod FaultLemmas
 mod ToolLemmas
 mod SealLemmas
-mod SealCases
+mod SealCaseLemmas
 mod RuleLemmas
-mod FileMaps
+mod FileMapLemmas
 mod PhaseLemmas
 mod EndLemmas
 mod OutcomeLemmas

@@ -35,7 +35,7 @@ use Rattle.boot_run.proofs.PlayLemmas.{plays-only}
 use Rattle.boot_run.specs.Jsons.{spec_read, table_read}
 use Rattle.boot_run.specs.Tools.{seal_work, table_work}
 use Rattle.boot_run.specs.SealRules.{IsSealedOf, IsTableOf}
-use Rattle.boot_run.proofs.SealCases.{seal-only, table-only}
+use Rattle.boot_run.proofs.SealCaseLemmas.{seal-only, table-only}
 use Rattle.boot_run.proofs.FormLemmas.{fault-exact}
 use Rattle.boot_run.proofs.OutcomeLemmas.{no-fault}
 use Rattle.boot_run.proofs.RuleLemmas.{obeys, work-exact, Judged, all_formed, one_faulty, judged-first}

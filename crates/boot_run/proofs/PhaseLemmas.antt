@@ -10,7 +10,7 @@ use Rattle.boot_run.specs.declared.status.Status.TheVariants.{ReadFault, WriteFa
 use Rattle.boot_run.specs.Outcome.{Input}
 use Rattle.boot_run.specs.Courses.{ReadsIn, WritesOut}
 use Rattle.boot_run.specs.Ends.{AreRead, LacksOne, read_calls, write_calls, IsSaved, LeftAt}
-use Rattle.boot_run.proofs.FileMaps.{saved-more, left-more, saved-none}
+use Rattle.boot_run.proofs.FileMapLemmas.{saved-more, left-more, saved-none}
 
 -- the counts did not fall, and a steady store is steady
 pub record Goes (s t : StoreState) : Type 0 where

@@ -32,7 +32,7 @@ use Rattle.boot_run.specs.Replays.{AreBytes, AreOfBytes, played, powerless}
 use Rattle.boot_run.specs.Jsons.{spec_read, table_read}
 use Rattle.boot_run.specs.Tools.{seal_work, table_work}
 use Rattle.boot_run.specs.SealRules.{IsSealedOf, IsTableOf}
-use Rattle.boot_run.proofs.SealCases.{seal-right, table-right, unsealed-then, unsealed-outcome, table-not_refused}
+use Rattle.boot_run.proofs.SealCaseLemmas.{seal-right, table-right, unsealed-then, unsealed-outcome, table-not_refused}
 use Rattle.boot_run.specs.ToolWorks.{uf2_work, plan_work}
 use Rattle.boot_run.specs.ToolRules.{IsUf2Of, IsPlanOf}
 use Rattle.boot_run.proofs.ToolLemmas.{IsDone, uf2-done, plan-done, gen-right, uf2-refused, plan-refused, work-exact_uf2, work-exact_plan}

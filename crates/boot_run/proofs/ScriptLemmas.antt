@@ -4,8 +4,8 @@ use Rattle.boot_script.specs.declared.event.ScriptFault.{ScriptFault}
 use Rattle.boot_script.specs.Events.{Happening, End, Command, Uf2, Cut, PowerOn, Reset, Buy}
 use Rattle.boot_script.specs.Reading.{event_at}
 use Rattle.boot_script.specs.Scripts.{behind, events_from, is_end}
-use Rattle.boot_script.proofs.Spelled.{read-at}
-use Rattle.boot_script.proofs.Following.{next-events, end-events}
+use Rattle.boot_script.proofs.SpelledLemmas.{read-at}
+use Rattle.boot_script.proofs.FollowingLemmas.{next-events, end-events}
 use Rattle.boot_run.specs.Texts.{script_text}
 use Rattle.boot_run.specs.Forms.{AreRecords, IsEnded, IsUnread, IsEndless, record_fault, script_fault, events_read}
 

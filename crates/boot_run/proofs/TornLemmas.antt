@@ -8,13 +8,13 @@ use Rattle.pico_board.specs.Content.{Content}
 use Rattle.pico_board.specs.declared.Step.{Step}
 use Rattle.pico_board.specs.Steps.{after, after_all, CutOf}
 use Rattle.pico_board.specs.Cuts.{Cut, CutOutcome, cut_by, nearer, cut_steps, unless_cut}
-use Rattle.pico_board.proofs.Contents.{flash_bytes-after, flash_bytes-cut_by}
-use Rattle.pico_board.proofs.TornSteps.{Torn-cut_by}
+use Rattle.pico_board.proofs.ContentLemmas.{flash_bytes-after, flash_bytes-cut_by}
+use Rattle.pico_board.proofs.TornStepLemmas.{Torn-cut_by}
 use Rattle.boot_script.specs.Events.{Happening, End, Command, Uf2, Cut as ArmsCut, PowerOn, Reset, Buy}
 use Rattle.boot_script.specs.Scripts.{events}
 use Rattle.boot_script.specs.Written.{written, part_of}
-use Rattle.boot_script.proofs.Spelled.{are-bytes}
-use Rattle.boot_script.proofs.Following.{script-spelled}
+use Rattle.boot_script.proofs.SpelledLemmas.{are-bytes}
+use Rattle.boot_script.proofs.FollowingLemmas.{script-spelled}
 use Rattle.boot_machine.specs.Machines.{Machine, Off}
 use Rattle.boot_machine.specs.Boots.{Effect}
 use Rattle.boot_machine.specs.Moves.{Moves, MovesBy, Plays, effect, lost_text}

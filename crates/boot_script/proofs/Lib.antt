@@ -1,5 +1,5 @@
-pub mod Following
-pub mod Numbers
-pub mod ReadBack
-pub mod Spelled
-pub mod WhyNot
+pub mod FollowingLemmas
+pub mod NumberLemmas
+pub mod ReadBackLemmas
+pub mod SpelledLemmas
+pub mod WhyNotLemmas

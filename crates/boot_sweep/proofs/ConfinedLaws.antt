@@ -10,7 +10,7 @@ use Rattle.pico_board.specs.Content.{AreApart, Content, IsContent, window_bytes}
 use Rattle.pico_board.specs.Sessions.{Confined, SameButWindow}
 use Rattle.pico_board.specs.Steps.{MayLeave}
 use Rattle.pico_board.specs.declared.Step.{Step}
-use Rattle.pico_board.proofs.Confinement.{confined-MayLeave}
+use Rattle.pico_board.proofs.ConfinementLemmas.{confined-MayLeave}
 use Rattle.image_def.specs.declared.started.Started.{Started}
 use Rattle.otp_roll.specs.Flags.{flash_off, slot_size}
 use Rattle.image_check.specs.Valid.{Valid}
@@ -31,9 +31,9 @@ use Rattle.boot_rules.proofs.ChangeLemmas.{changed, changed-then-none, choose-sa
 use Rattle.boot_rules.proofs.DataLemmas.{same-bytes, same-length, same-table}
 use Rattle.boot_rules.proofs.DecisionLemmas.{chosen-exactly}
 use Rattle.boot_rules.proofs.StartLemmas.{chosen-start}
-use Rattle.boot_machine.proofs.LeftImages.{units-same}
+use Rattle.boot_machine.proofs.LeftImageLemmas.{units-same}
 use Rattle.boot_sweep.specs.Results.{StartsElsewhere, StartsThere}
-use Rattle.boot_sweep.proofs.Neighbours.{here-or-apart, slots-apart}
+use Rattle.boot_sweep.proofs.NeighbourLemmas.{here-or-apart, slots-apart}
 
 -- the images of a normal boot, which allows no trial image
 abbrev pub normal_images : Content → Cpu → Images

@@ -13,11 +13,11 @@ use Rattle.pico_board.specs.declared.window.Window.{Window}
 use Rattle.pico_board.specs.Content.{AreApart, Content, IsContent, window_bytes}
 use Rattle.pico_board.specs.Sessions.{Confined, Gated, SameButWindow, Unfinished}
 use Rattle.pico_board.specs.Steps.{CutOf, after_all}
-use Rattle.pico_board.proofs.Confinement.{SameButWindow-refl, confined-CutOf, confined-after_all}
-use Rattle.pico_board.proofs.Ranges.{get_or-window_bytes}
+use Rattle.pico_board.proofs.ConfinementLemmas.{SameButWindow-refl, confined-CutOf, confined-after_all}
+use Rattle.pico_board.proofs.RangeLemmas.{get_or-window_bytes}
 use Rattle.block_codec.specs.Erased.{IsErasedFrom}
 use Rattle.block_loop.specs.Loop.{loop_of}
-use Rattle.block_loop.proofs.SameLoops.{loop_of-blank}
+use Rattle.block_loop.proofs.SameLoopLemmas.{loop_of-blank}
 use Rattle.image_def.specs.declared.started.Started.{Started}
 use Rattle.otp_roll.specs.Flags.{slot_size}
 use Rattle.image_check.specs.Addressing.{in_flash}
@@ -25,7 +25,7 @@ use Rattle.image_check.specs.SameImage.{SameImage}
 use Rattle.image_check.specs.Valid.{Valid}
 use Rattle.image_check.proofs.LawLemmas.{erased-none, one-image}
 use Rattle.part_table.specs.declared.table.Table.{Table}
-use Rattle.part_table.proofs.TableFacts.{apart_sym}
+use Rattle.part_table.proofs.TableLemmas.{apart_sym}
 use Rattle.slot_choice.specs.declared.unit.Member.{Member}
 use Rattle.slot_choice.specs.declared.unit.Member.TheVariants.{A, B}
 use Rattle.slot_choice.specs.declared.unit.SlotUnit.{SlotUnit}
@@ -44,7 +44,7 @@ use Rattle.boot_machine.specs.Luck.{HasNoImage, IsKnownImage, IsSameImageIn, Luc
 use Rattle.boot_machine.proofs.LuckLaws.{same-there}
 use Rattle.boot_sweep.specs.Results.{CutSession, StartsElsewhere, StartsFinished, StartsThere}
 use Rattle.boot_sweep.proofs.ConfinedLaws.{empty-decision, next-decision, same-image-decision, table-stays}
-use Rattle.boot_sweep.proofs.Neighbours.{placed}
+use Rattle.boot_sweep.proofs.NeighbourLemmas.{placed}
 
 same-content : (f o g p : List ℕ) → f ≡ g → o ≡ p
     → (let c : Content = record { flash = f; otp = o } in

@@ -1,7 +1,7 @@
-pub mod Neighbours
+pub mod NeighbourLemmas
 pub mod ConfinedLaws
 pub mod GatedLaws
-pub mod PlanSteps
-pub mod PlanSlots
-pub mod PlanServed
+pub mod PlanStepLemmas
+pub mod PlanSlotLemmas
+pub mod PlanServedLemmas
 pub mod PlanLaws

@@ -11,7 +11,7 @@ use Rattle.pico_board.specs.declared.window.Window.{Window}
 use Rattle.pico_board.specs.Content.{Content, IsContent}
 use Rattle.pico_board.specs.Sessions.{Confined, Gated, IsElsewhere, IsProgramIn, pages_of}
 use Rattle.pico_board.specs.Steps.{after_all}
-use Rattle.pico_board.proofs.Confinement.{Confined-append, confined-after_all}
+use Rattle.pico_board.proofs.ConfinementLemmas.{Confined-append, confined-after_all}
 use Rattle.part_table.specs.declared.table.Right.TheVariants.{BootWrite}
 use Rattle.part_table.specs.Rights.{allowed_by}
 use Rattle.picoboot_cmd.specs.Pages.{programs, programs_of}
@@ -26,9 +26,9 @@ use Rattle.boot_machine.specs.Serving.{table_of}
 use Rattle.image_pack.specs.Filling.{round_up}
 use Rattle.image_pack.specs.Plans.{erase_cmd, plan_text, sent, update_cmd, write_cmd}
 use Rattle.boot_sweep.specs.Sessions.{IsSlotOf, entered_host, session, session_from}
-use Rattle.boot_sweep.proofs.PlanServed.{Known, erase-done, erase-refused, event, reboot-event, write-done, write-refused}
-use Rattle.boot_sweep.proofs.PlanSlots.{IsSlot, slot-is}
-use Rattle.boot_sweep.proofs.PlanSteps.{all-append, erases-confined, erases-elsewhere, programs-confined, programs-distinct, programs-elsewhere, programs-in}
+use Rattle.boot_sweep.proofs.PlanServedLemmas.{Known, erase-done, erase-refused, event, reboot-event, write-done, write-refused}
+use Rattle.boot_sweep.proofs.PlanSlotLemmas.{IsSlot, slot-is}
+use Rattle.boot_sweep.proofs.PlanStepLemmas.{all-append, erases-confined, erases-elsewhere, programs-confined, programs-distinct, programs-elsewhere, programs-in}
 
 module _ (known : Known) (c : Content) (cpu : Cpu) (w : Window) (right : IsContent c) (slot : IsSlot c w)
     (image : List ℕ) (some : 0 < length image) (room : length image ≤ w.len) where

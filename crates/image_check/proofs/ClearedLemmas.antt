@@ -23,7 +23,7 @@ use Rattle.block_codec.specs.Words.{word_of}
 use Rattle.block_codec.proofs.AtLemmas.{AreBytes-block, BlockAt-room, BlockAt-word, block_byte}
 use Rattle.block_codec.proofs.FrameLemmas.{word-item}
 use Rattle.block_loop.specs.Loop.{IsLoop}
-use Rattle.block_loop.proofs.SameLoops.{IsLoop-from_answer, changed_others, loop_of-changed}
+use Rattle.block_loop.proofs.SameLoopLemmas.{IsLoop-from_answer, changed_others, loop_of-changed}
 use Rattle.image_def.specs.declared.started.Started.{Started}
 use Rattle.image_def.specs.Flags.{is_trial}
 use Rattle.image_def.specs.Guarantees.{IsDefinition, IsImageItem, IsLoadMapItem}
@@ -37,8 +37,8 @@ use Rattle.load_map.specs.Agree.{AgreeOn, SameButTrial}
 use Rattle.load_map.specs.Covered.{covered_digest}
 use Rattle.load_map.specs.Given.{in_window}
 use Rattle.load_map.specs.Stored.{IsClearOf}
-use Rattle.load_map.proofs.Agreement.{same-digest, same-word}
-use Rattle.load_map.proofs.BlockWords.{SameButTrial-changed, trial-loads_of}
+use Rattle.load_map.proofs.AgreementLemmas.{same-digest, same-word}
+use Rattle.load_map.proofs.BlockWordLemmas.{SameButTrial-changed, trial-loads_of}
 use Rattle.image_check.specs.declared.addressing.Addressing.{Addressing}
 use Rattle.image_check.specs.declared.entry.Source.{Source}
 use Rattle.image_check.specs.declared.examining.Defined.{Defined}

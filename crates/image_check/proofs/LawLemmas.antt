@@ -7,7 +7,7 @@ use Rattle.image_def.specs.declared.started.Started.{Started}
 use Rattle.image_def.specs.Flags.{is_trial}
 use Rattle.block_codec.specs.Erased.{IsErasedFrom}
 use Rattle.block_loop.specs.declared.fault.LoopFault.TheVariants.{NoBlock as NoFirst}
-use Rattle.block_loop.proofs.SameLoops.{IsFault-from_answer, loop_of-blank}
+use Rattle.block_loop.proofs.SameLoopLemmas.{IsFault-from_answer, loop_of-blank}
 use Rattle.image_check.specs.declared.why.Why.TheVariants.{NoBlock}
 use Rattle.image_check.specs.declared.addressing.Addressing.{Addressing}
 use Rattle.image_check.specs.declared.why.Why.{Why}

@@ -13,13 +13,13 @@ use Rattle.block_codec.specs.Blocks.{BlockView}
 use Rattle.block_codec.specs.Erased.{AreErased}
 use Rattle.block_codec.specs.Items.{items_of}
 use Rattle.block_loop.proofs.ChainLemmas.{loop_of-loop}
-use Rattle.block_loop.proofs.SameLoops.{IsLoop-from_answer, loop_of-erased}
+use Rattle.block_loop.proofs.SameLoopLemmas.{IsLoop-from_answer, loop_of-erased}
 use Rattle.image_def.specs.declared.started.Started.{Started}
 use Rattle.load_map.specs.declared.addresses.TheConstants.{SRAM_START}
 use Rattle.load_map.specs.declared.load.Load.{Load}
 use Rattle.load_map.specs.Stored.{AreStoredIn}
-use Rattle.load_map.proofs.Lengthening.{digest-longer, word-longer}
-use Rattle.load_map.proofs.LongerWindow.{loads_of-longer}
+use Rattle.load_map.proofs.LengtheningLemmas.{digest-longer, word-longer}
+use Rattle.load_map.proofs.LongerWindowLemmas.{loads_of-longer}
 use Rattle.image_check.specs.declared.addressing.Addressing.{Addressing}
 use Rattle.image_check.specs.declared.entry.Source.{Source}
 use Rattle.image_check.specs.declared.examining.Defined.{Defined}

@@ -9,7 +9,7 @@ use Rattle.block_codec.specs.Items.{items_of}
 use Rattle.load_map.specs.declared.load.Load.{Load}
 use Rattle.load_map.specs.declared.load.MapFault.{MapFault}
 use Rattle.load_map.specs.Stored.{AreClearOf, AreStoredIn}
-use Rattle.load_map.proofs.SoundLoads.{sound-loads_of}
+use Rattle.load_map.proofs.SoundLoadLemmas.{sound-loads_of}
 use Rattle.image_check.specs.declared.addressing.Addressing.{Addressing}
 use Rattle.image_check.specs.Rules.{item_loads, map_loads}
 

@@ -11,7 +11,7 @@ use Rattle.image_def.specs.declared.started.Started.{Started}
 use Rattle.otp_roll.specs.Rows.{count, Rises}
 use Rattle.otp_roll.specs.Flags.{rollback_required}
 use Rattle.otp_roll.specs.declared.flags.TheConstants.{BOOT_FLAGS}
-use Rattle.otp_roll.proofs.Rising.{count-Rises}
+use Rattle.otp_roll.proofs.RisingLemmas.{count-Rises}
 use Rattle.image_check.specs.declared.addressing.Addressing.{Addressing}
 use Rattle.image_check.specs.declared.examining.Defined.{Defined}
 use Rattle.image_check.specs.declared.why.Why.{Why}

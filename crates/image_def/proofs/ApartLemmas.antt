@@ -7,7 +7,7 @@ use Rattle.std.proofs.lemmas.Grind.{get_or_after_one}
 use Rattle.std.proofs.lemmas.List.{ext_get_or, get_or-take}
 use Rattle.std.proofs.lemmas.Option.{none-some, same_Some}
 use Rattle.std.specs.List.{slice_get}
-use Rattle.pico_board.proofs.Confinement.{slice_range_ext}
+use Rattle.pico_board.proofs.ConfinementLemmas.{slice_range_ext}
 use Rattle.std.specs.Option.{is_some, unwrap_or}
 use Rattle.block_codec.specs.declared.items.Item.{Item}
 use Rattle.block_codec.specs.declared.versions.Version.{Version}

@@ -13,7 +13,7 @@ use Rattle.block_codec.specs.Blocks.{BlockView, block_words}
 use Rattle.block_codec.specs.Items.{items_of}
 use Rattle.block_codec.specs.Kinds.{first_spelling, is_of_kind, item_of_kind, version_words, version_of}
 use Rattle.block_codec.specs.FirstFault.{first_fault, AreSound}
-use Rattle.block_codec.proofs.FirstFault.{sound_from_none}
+use Rattle.block_codec.proofs.FirstFaultLemmas.{sound_from_none}
 use Rattle.image_def.specs.declared.fault.DefFault.{DefFault}
 use Rattle.image_def.specs.declared.fault.DefFault.TheVariants.{Repeated, BadItem}
 use Rattle.image_def.specs.Found.{is_read_kind, IsHeld, IsVersion}

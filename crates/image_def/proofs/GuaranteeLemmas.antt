@@ -10,7 +10,7 @@ use Rattle.std.specs.Option.{is_some, IfSome, unwrap_or, option_map, option_map_
 use Rattle.block_codec.specs.declared.items.Item.{Item}
 use Rattle.block_codec.specs.Kinds.{version_words}
 use Rattle.block_codec.specs.FirstFault.{first_fault}
-use Rattle.block_codec.proofs.FirstFault.{sound_from_none}
+use Rattle.block_codec.proofs.FirstFaultLemmas.{sound_from_none}
 use Rattle.otp_roll.specs.Rows.{AreRowsApart, AreRollbackRows, IsRollbackVersion}
 use Rattle.image_def.specs.declared.fault.DefFault.{DefFault}
 use Rattle.image_def.specs.declared.fault.DefFault.TheVariants.{BadItem}

@@ -14,7 +14,7 @@ use Rattle.block_codec.specs.Blocks.{BlockView, block_words}
 use Rattle.block_codec.specs.Items.{items_of}
 use Rattle.block_codec.specs.Kinds.{first_spelling, is_of_kind, item_of_kind}
 use Rattle.block_codec.specs.FirstFault.{first_fault, ok_unless, IsFirst, AreSound}
-use Rattle.block_codec.proofs.FirstFault.{sound_from_none, none_from_sound_at, fault_from_first, first_from_fault}
+use Rattle.block_codec.proofs.FirstFaultLemmas.{sound_from_none, none_from_sound_at, fault_from_first, first_from_fault}
 use Rattle.image_def.specs.declared.fault.DefFault.{DefFault}
 use Rattle.image_def.specs.declared.fault.DefFault.TheVariants.{Repeated, BadItem, BadRow, RepeatedRow}
 use Rattle.image_def.specs.Found.{is_read_kind}

@@ -21,7 +21,7 @@ use Rattle.block_codec.specs.HighByte.{changed_block, with_high}
 use Rattle.block_codec.specs.Items.{AreItems, IsItemOf, item_at, items_of, low_byte, high_byte}
 use Rattle.block_codec.specs.Kinds.{first_spelling, is_of_kind, item_of_kind, version_words, version_of, hash_count_of, digest_of}
 use Rattle.block_codec.specs.FirstFault.{first_from, first_fault, ok_unless, AreSound}
-use Rattle.block_codec.proofs.FirstFault.{sound_from_none}
+use Rattle.block_codec.proofs.FirstFaultLemmas.{sound_from_none}
 use Rattle.block_codec.proofs.FrameLemmas.{length-frame}
 use Rattle.block_codec.proofs.HighByteLemmas.{frame-set_item, items_of-set, changed_item}
 use Rattle.block_codec.proofs.ItemLemmas.{IsItemOf-from_get}

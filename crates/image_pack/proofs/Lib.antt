@@ -9,10 +9,10 @@ pub mod BoardLemmas
 pub mod FaultLemmas
 pub mod PlanLaws
 pub mod TextLaws
-pub mod OneItem
-pub mod SealedItems
+pub mod OneItemLemmas
+pub mod SealedItemLemmas
 pub mod UnsealableLemmas
-pub mod SealedParts
-pub mod SealedDef
-pub mod SealedBack
+pub mod SealedPartLemmas
+pub mod SealedDefLemmas
+pub mod SealedBackLemmas
 pub mod ReadBackLemmas

@@ -6,7 +6,7 @@ use Rattle.pico_board.specs.declared.boot.Cpu.{Cpu}
 use Rattle.block_codec.specs.Blocks.{BlockView, block_size}
 use Rattle.block_loop.specs.Loop.{loop_of}
 use Rattle.block_loop.specs.Offsets.{loop_offsets, offsets_of}
-use Rattle.block_loop.proofs.LoopBlocks.{length-offsets_of, loop_block, loop_of-offsets}
+use Rattle.block_loop.proofs.LoopBlockLemmas.{length-offsets_of, loop_block, loop_of-offsets}
 use Rattle.load_map.specs.declared.load.Load.{Load}
 use Rattle.image_check.specs.declared.examining.Defined.{Defined}
 use Rattle.image_check.specs.declared.why.Why.{Why}

@@ -8,7 +8,7 @@ use Rattle.picoboot_cmd.specs.Commands as commands
 use Rattle.boot_script.specs.declared.event.ScriptFault.{ScriptFault}
 use Rattle.boot_script.specs.Events.{Command, Happening, PowerOn, Reset}
 use Rattle.boot_script.specs.Scripts.{IsInside, events}
-use Rattle.boot_script.proofs.Following.{whole-script}
+use Rattle.boot_script.proofs.FollowingLemmas.{whole-script}
 use Rattle.image_pack.specs.Filling.{round_up}
 use Rattle.image_pack.specs.Plans.{erase_cmd, last_events, plan_events, plan_text, rest_events, sent, update_cmd, write_cmd, write_events}
 

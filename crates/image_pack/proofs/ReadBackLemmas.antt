@@ -37,10 +37,10 @@ use Rattle.image_pack.specs.Filling.{round_up, whole_sectors, whole_words}
 use Rattle.image_pack.specs.ReadBack.{IsHalves, IsReadBack, MeetsRollback, SaysSpec, covered_of}
 use Rattle.image_pack.specs.Sealing.{block_link, link_offset_of, parts_in, parts_of, relinked, sealed_from, sealed_items, sealed_text}
 use Rattle.image_pack.specs.Unsealable.{KeepsRules}
-use Rattle.image_pack.proofs.OneItem.{IsCopied}
-use Rattle.image_pack.proofs.SealedBack.{SaysSealed, copied_is, definition_stands, loads_begin, says_sealed}
-use Rattle.image_pack.proofs.SealedItems.{are_whole}
-use Rattle.image_pack.proofs.SealedParts.{are_parts, are_words, difference_fits, items_joined}
+use Rattle.image_pack.proofs.OneItemLemmas.{IsCopied}
+use Rattle.image_pack.proofs.SealedBackLemmas.{SaysSealed, copied_is, definition_stands, loads_begin, says_sealed}
+use Rattle.image_pack.proofs.SealedItemLemmas.{are_whole}
+use Rattle.image_pack.proofs.SealedPartLemmas.{are_parts, are_words, difference_fits, items_joined}
 use Rattle.image_pack.proofs.TextLaws.{relinked-long}
 use Rattle.image_pack.proofs.UnsealableLemmas.{keeps-parts, parts-kept}
 use Rattle.image_pack.proofs.WithinLemmas.{IsWithin-parts}

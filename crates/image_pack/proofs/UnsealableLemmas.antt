@@ -8,7 +8,7 @@ use Rattle.block_loop.specs.declared.fault.LoopFault.{LoopFault}
 use Rattle.block_loop.specs.declared.fault.LoopFault.TheVariants.{NoBlock as NoFirst, Broken, TooMany, Overlap}
 use Rattle.block_loop.specs.Loop.{IsFault, IsLoop, loop_of}
 use Rattle.block_loop.proofs.ChainLemmas.{loop_of-fault, loop_of-loop}
-use Rattle.block_loop.proofs.SameLoops.{IsLoop-from_answer}
+use Rattle.block_loop.proofs.SameLoopLemmas.{IsLoop-from_answer}
 use Rattle.image_def.specs.Definition.{def_of}
 use Rattle.image_def.specs.Suits.{does_suit, has_image_type, last_suiting}
 use Rattle.image_check.specs.declared.examining.Defined.{Defined}

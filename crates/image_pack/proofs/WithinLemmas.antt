@@ -9,8 +9,8 @@ use Rattle.block_codec.proofs.AtLemmas.{AreErased-replicate, BlockAt-erased, Blo
 use Rattle.block_loop.specs.declared.fault.LoopFault.{LoopFault}
 use Rattle.block_loop.specs.declared.fault.LoopFault.TheVariants.{NoBlock as NoFirst, Broken, TooMany, Overlap}
 use Rattle.block_loop.specs.Loop.{loop_of}
-use Rattle.block_loop.proofs.LoopBlocks.{loop_count}
-use Rattle.block_loop.proofs.SameLoops.{IsLoop-from_answer}
+use Rattle.block_loop.proofs.LoopBlockLemmas.{loop_count}
+use Rattle.block_loop.proofs.SameLoopLemmas.{IsLoop-from_answer}
 use Rattle.load_map.specs.declared.load.Load.{Load}
 use Rattle.load_map.specs.declared.load.MapFault.{MapFault}
 use Rattle.load_map.specs.Stored.{AreStoredIn, IsStoredIn}

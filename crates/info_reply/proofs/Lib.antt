@@ -1,3 +1,3 @@
-mod Names
-pub mod Asking
-mod Fitting
+mod NameLemmas
+pub mod AskingLemmas
+mod FittingLemmas

@@ -7,7 +7,7 @@ use Rattle.std.proofs.lemmas.Bool.Decides.{nat_tests}
 use Rattle.std.proofs.lemmas.Option.{none-some, same_Some}
 use Rattle.block_codec.specs.Blocks.{BlockView, block_size}
 use Rattle.block_codec.specs.FirstFault.{first_fault, ok_unless, IsFirst, AreSound}
-use Rattle.block_codec.proofs.FirstFault.{first_from_fault, fault_from_first, none_from_sound_at, sound_from_none}
+use Rattle.block_codec.proofs.FirstFaultLemmas.{first_from_fault, fault_from_first, none_from_sound_at, sound_from_none}
 use Rattle.load_map.specs.Addresses.{in_sram}
 use Rattle.load_map.specs.Reading.{load_of, is_used_in_place, is_runtime_right, covers_block, load_fault, entry_fault, loads_or_fault}
 use Rattle.load_map.specs.Faults.{IsUsedInPlace, IsLoadedToSram, IsShared}
@@ -18,7 +18,7 @@ use Rattle.load_map.specs.declared.load.MapFault.TheVariants.{Storage, Runtime, 
 use Rattle.load_map.specs.declared.setting.Setting.{Setting}
 use Rattle.load_map.specs.declared.addresses.TheConstants.{SRAM_START, SRAM_END}
 use Rattle.load_map.specs.Stored.{IsClearOf}
-use Rattle.load_map.proofs.SoundLoads.{clear-of, ok_unless-Ok}
+use Rattle.load_map.proofs.SoundLoadLemmas.{clear-of, ok_unless-Ok}
 
 ok_unless-Err : {A : Type 0} (fault : Option MapFault) (value : A) (given : MapFault)
     → ok_unless fault value ≡ Err given → fault ≡ Some given

@@ -9,7 +9,7 @@ use Rattle.load_map.specs.Addresses.{is_sram}
 use Rattle.load_map.specs.Given.{byte_at, holds, in_window, loaded_byte, stored_byte, word_at, word_if_given}
 use Rattle.load_map.specs.declared.addresses.TheConstants.{SRAM_START, SRAM_END}
 use Rattle.load_map.specs.declared.load.Load.{Load}
-use Rattle.load_map.proofs.LastLoad.{last-at, none-last}
+use Rattle.load_map.proofs.LastLoadLemmas.{last-at, none-last}
 
 pub holds-range : (a : ℕ) (load : Load) → (holds a load ≡ true) ↔ ((load.runtime ≤ a) × (a < load.runtime + load.size))
 holds-range a load = (λ is. (grind (arith, nat_tests), grind (arith, nat_tests)), λ range. held load range.0 range.1)

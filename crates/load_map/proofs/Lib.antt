@@ -1,10 +1,10 @@
-pub mod SoundLoads
-pub mod LongerWindow
+pub mod SoundLoadLemmas
+pub mod LongerWindowLemmas
 pub mod EntryLaws
-pub mod LastLoad
-pub mod Agreement
+pub mod LastLoadLemmas
+pub mod AgreementLemmas
 pub mod GivenLaws
-pub mod Lengthening
-pub mod BlockWords
-pub mod Entries
-mod Feeding
+pub mod LengtheningLemmas
+pub mod BlockWordLemmas
+pub mod EntryLemmas
+mod FeedingLemmas

@@ -1,7 +1,7 @@
-pub mod Bits
-pub mod Counted
-pub mod Digits
-pub mod OnTheWay
-pub mod Raised
-pub mod Rising
-pub mod WrittenRows
+pub mod BitLemmas
+pub mod CountedLemmas
+pub mod DigitLemmas
+pub mod OnTheWayLemmas
+pub mod RaisedLemmas
+pub mod RisingLemmas
+pub mod WrittenRowLemmas

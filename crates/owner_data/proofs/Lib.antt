@@ -1,1 +1,1 @@
-pub mod DataFacts
+pub mod DataLemmas

@@ -14,7 +14,7 @@ pub const PAGE: usize = 256;
 pub const ROWS: usize = 4096;
 
 /// Makes each byte of a sector 0xff.
-#[tactic(auto, using(crate::proofs::Changed::changed_steps))]
+#[tactic(auto, using(crate::proofs::ChangedLemmas::changed_steps))]
 pub fn erase_sector(flash: &mut [u8], at: usize)
     requires { at + 4096 ≤ length flash.old }
     ensures { flash.new ≡ changed (λ i b. 255) at 4096 flash.old }
@@ -25,7 +25,7 @@ pub fn erase_sector(flash: &mut [u8], at: usize)
 }
 
 /// Clears each bit of a page that is clear in the bytes.
-#[tactic(auto, using(crate::proofs::Changed::changed_steps))]
+#[tactic(auto, using(crate::proofs::ChangedLemmas::changed_steps))]
 pub fn program_page(flash: &mut [u8], at: usize, bytes: &[u8; 256])
     requires { at + 256 ≤ length flash.old }
     ensures { flash.new ≡ changed (λ i b. bit_and b (slice_index bytes.now i)) at 256 flash.old }
@@ -36,7 +36,7 @@ pub fn program_page(flash: &mut [u8], at: usize, bytes: &[u8; 256])
 }
 
 /// Fills a sector with the pattern, repeated.
-#[tactic(auto, using(crate::proofs::Changed::changed_steps))]
+#[tactic(auto, using(crate::proofs::ChangedLemmas::changed_steps))]
 fn paint_sector(flash: &mut [u8], at: usize, pattern: &[u8])
     requires range { at + 4096 ≤ length flash.old }
     requires pattern { 1 ≤ length pattern.now }
@@ -48,7 +48,7 @@ fn paint_sector(flash: &mut [u8], at: usize, pattern: &[u8])
 }
 
 /// Clears each bit of a page that is clear both in the bytes and in the pattern, repeated.
-#[tactic(auto, using(crate::proofs::Changed::changed_steps))]
+#[tactic(auto, using(crate::proofs::ChangedLemmas::changed_steps))]
 fn paint_page(flash: &mut [u8], at: usize, bytes: &[u8; 256], pattern: &[u8])
     requires range { at + 256 ≤ length flash.old }
     requires pattern { 1 ≤ length pattern.now }

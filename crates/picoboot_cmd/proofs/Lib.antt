@@ -1,15 +1,15 @@
-mod ByCommand
-mod CommandBytes
-mod Sectors
-mod WordLists
-mod StepLists
-mod PutLists
-mod FilledPages
-mod Passing
-pub mod FirstFailing
-mod RaisedBits
-mod PageByPage
-mod RebootFlags
-mod Refused
-pub mod StepsInside
-pub mod WellFormedDone
+mod ByCommandLemmas
+mod CommandByteLemmas
+mod SectorLemmas
+mod WordListLemmas
+mod StepListLemmas
+mod PutListLemmas
+mod FilledPageLemmas
+mod PassingLemmas
+pub mod FirstFailingLemmas
+mod RaisedBitLemmas
+mod PageByPageLemmas
+mod RebootFlagLemmas
+mod RefusedLemmas
+pub mod StepsInsideLemmas
+pub mod WellFormedDoneLemmas

@@ -1,4 +1,4 @@
-pub mod Places
-pub mod Kept
-pub mod FreeCount
-pub mod Handed
+pub mod PlaceLemmas
+pub mod KeptLemmas
+pub mod FreeCountLemmas
+pub mod HandedLemmas

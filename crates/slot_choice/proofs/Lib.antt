@@ -1,6 +1,6 @@
-pub mod PartLists
+pub mod PartListLemmas
 pub mod ListLemmas
-pub mod UnitFacts
-pub mod PlaceFacts
-pub mod UpdateFacts
-pub mod VersionFacts
+pub mod UnitLemmas
+pub mod PlaceLemmas
+pub mod UpdateLemmas
+pub mod VersionLemmas

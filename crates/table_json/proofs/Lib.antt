@@ -1,8 +1,8 @@
 mod ViewLemmas
 mod PlainLemmas
 pub mod RuleLemmas
-mod WordFields
+mod WordFieldLemmas
 mod SaysLemmas
-mod FewFaults
+mod FewFaultLemmas
 mod WholeLemmas
 mod SpecLemmas

@@ -21,7 +21,7 @@ use Rattle.table_json.specs.declared.fault.Field.TheVariants.{Families, Permissi
 use Rattle.table_json.specs.Members.{object_judged}
 use Rattle.table_json.specs.Partitions.{location_word, marks_word, flag_word, partition_from, id_form, some_name, marks_of, partition_of}
 use Rattle.table_json.specs.Says.{SaysText}
-use Rattle.table_json.proofs.WordFields.{first_back, flags_back, last_back, permissions_back}
+use Rattle.table_json.proofs.WordFieldLemmas.{first_back, flags_back, last_back, permissions_back}
 
 -- a step that is done, and the one after it
 pub then_ok : {A B : Type 0} (r : Result A JsonFault) (next : A → Result B JsonFault) (b : B) → (r >>= next) ≡ Ok b

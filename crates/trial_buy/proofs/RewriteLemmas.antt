@@ -9,8 +9,8 @@ use Rattle.std.proofs.lemmas.List.Edits.{get_or-between, length-between}
 use Rattle.pico_board.specs.declared.Step.TheVariants.{Erase}
 use Rattle.pico_board.specs.Content.{Content, IsContent}
 use Rattle.pico_board.specs.Steps.{after, after_all}
-use Rattle.pico_board.proofs.Changed.{changed-inside, changed-outside}
-use Rattle.pico_board.proofs.Contents.{byte_at, length-after}
+use Rattle.pico_board.proofs.ChangedLemmas.{changed-inside, changed-outside}
+use Rattle.pico_board.proofs.ContentLemmas.{byte_at, length-after}
 use Rattle.trial_buy.specs.Buying.{cleared, cleared_sector, clearing, page_program, rewrite_steps}
 use Rattle.trial_buy.proofs.StepLemmas.{programs-all, programs_from, rewrite-otp}
 

@@ -8,7 +8,7 @@ use Rattle.pico_board.specs.declared.boot.Cpu.{Cpu}
 use Rattle.pico_board.specs.Board.{DoesAll, State}
 use Rattle.pico_board.specs.Content.{Content}
 use Rattle.pico_board.specs.Steps.{after, after_all}
-use Rattle.pico_board.proofs.Steps.{DoesAll-append, DoesAll-append_cut}
+use Rattle.pico_board.proofs.StepLemmas.{DoesAll-append, DoesAll-append_cut}
 use Rattle.slot_choice.specs.declared.choice.Choice.{Choice}
 use Rattle.trial_buy.specs.Starting.{erase_in, image_raises, other_erase, settling, start_steps}
 use Rattle.trial_buy.specs.Buying.{buy_steps, clearing, page_program, page_programs, rewrite_steps, trial_place}

@@ -19,7 +19,7 @@ use Rattle.uf2_place.specs.Accepting.{has_power}
 use Rattle.uf2_place.specs.Marks.{is_marked}
 use Rattle.uf2_place.specs.Placement.{IsInside, sector_in}
 use Rattle.uf2_place.specs.Rulings.{GoesTo, aimed, begun, continues, is_of, is_skipped, is_within, ruled, ruling, target_of, wanted}
-use Rattle.uf2_place.proofs.Ruled.{inside-is}
+use Rattle.uf2_place.proofs.RuledLemmas.{inside-is}
 
 within-is : (w : Window) (b : Uf2) → IsInside w b → is_within w.len b ≡ true
 within-is w b inside =

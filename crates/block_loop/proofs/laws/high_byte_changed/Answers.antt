@@ -1,4 +1,4 @@
-use Rattle.block_loop.proofs.SameLoops.{loop_of-changed, changed_others}
+use Rattle.block_loop.proofs.SameLoopLemmas.{loop_of-changed, changed_others}
 use Rattle.block_loop.proofs.laws.high_byte_changed.Goals as goal
 
 pub returns-clause-loop_ : goal.returns-clause-loop_

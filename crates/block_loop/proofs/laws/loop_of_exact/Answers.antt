@@ -1,5 +1,5 @@
 use Rattle.block_loop.proofs.ChainLemmas.{loop_of-loop, loop_of-fault}
-use Rattle.block_loop.proofs.SameLoops.{IsLoop-from_answer, IsFault-from_answer}
+use Rattle.block_loop.proofs.SameLoopLemmas.{IsLoop-from_answer, IsFault-from_answer}
 use Rattle.block_loop.proofs.laws.loop_of_exact.Goals as goal
 
 pub returns-clause-loop_ : goal.returns-clause-loop_

@@ -1,4 +1,4 @@
-use Rattle.block_loop.proofs.SameLoops.{IsLoop-unique, IsFault-unique, no_loop_and_fault, loop_or_fault}
+use Rattle.block_loop.proofs.SameLoopLemmas.{IsLoop-unique, IsFault-unique, no_loop_and_fault, loop_or_fault}
 use Rattle.block_loop.proofs.laws.one_loop_or_fault.Goals as goal
 
 pub returns-clause-one_loop : goal.returns-clause-one_loop

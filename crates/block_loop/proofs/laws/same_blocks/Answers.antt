@@ -1,4 +1,4 @@
-use Rattle.block_loop.proofs.SameLoops.{loop_of-same, loop_of-erased, loop_of-blank}
+use Rattle.block_loop.proofs.SameLoopLemmas.{loop_of-same, loop_of-erased, loop_of-blank}
 use Rattle.block_loop.proofs.laws.same_blocks.Goals as goal
 
 pub returns-clause-same : goal.returns-clause-same

@@ -1,4 +1,4 @@
-use Rattle.boot_machine.proofs.Boots.{placed-by, valid-by, held-by}
+use Rattle.boot_machine.proofs.BootLemmas.{placed-by, valid-by, held-by}
 use Rattle.boot_machine.proofs.booting.boot.Goals as goal
 
 -- the choice of a decision is placed, and its image is valid

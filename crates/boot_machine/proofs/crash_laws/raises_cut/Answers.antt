@@ -1,4 +1,4 @@
-use Rattle.boot_machine.proofs.RaisesCut.{normal-kept, raises-bytes, raises-kept, update-kept}
+use Rattle.boot_machine.proofs.RaisesCutLemmas.{normal-kept, raises-bytes, raises-kept, update-kept}
 use Rattle.boot_machine.proofs.crash_laws.raises_cut.Goals as goal
 
 pub returns-clause-normal : goal.returns-clause-normal

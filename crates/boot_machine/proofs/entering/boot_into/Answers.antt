@@ -1,7 +1,7 @@
 use Rattle.std.proofs.Common.{None}
-use Rattle.boot_machine.proofs.Entries.{steady-entered}
+use Rattle.boot_machine.proofs.EntryLemmas.{steady-entered}
 use Rattle.boot_machine.specs.declared.parts.Parts.{Parts}
-use Rattle.boot_machine.proofs.Rooms.{room-free, room-kept}
+use Rattle.boot_machine.proofs.RoomLemmas.{room-free, room-kept}
 use Rattle.boot_machine.proofs.entering.boot_into.Goals as goal
 
 pub boot-requires-clause-lease : goal.boot-requires-clause-lease

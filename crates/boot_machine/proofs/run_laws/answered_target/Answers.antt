@@ -1,4 +1,4 @@
-use Rattle.boot_machine.proofs.AnsweredTargets.{bytes-apart, target-answered, ruling-answered, served-answered}
+use Rattle.boot_machine.proofs.AnsweredTargetLemmas.{bytes-apart, target-answered, ruling-answered, served-answered}
 use Rattle.boot_machine.proofs.run_laws.answered_target.Goals as goal
 
 pub returns-clause-target : goal.returns-clause-target

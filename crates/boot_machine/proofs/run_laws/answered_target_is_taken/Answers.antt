@@ -1,4 +1,4 @@
-use Rattle.boot_machine.proofs.AnsweredTargets.{info-told, block-moves, block-refused, block-begins, begun-outside, begun-forbidden, begun-taken}
+use Rattle.boot_machine.proofs.AnsweredTargetLemmas.{info-told, block-moves, block-refused, block-begins, begun-outside, begun-forbidden, begun-taken}
 use Rattle.std.proofs.Common.{None, Some, refl}
 use Rattle.boot_machine.specs.Serving.{table_of}
 use Rattle.uf2_place.specs.declared.answer.PlaceFault.TheVariants.{NoTarget, NotPermitted, Outside}

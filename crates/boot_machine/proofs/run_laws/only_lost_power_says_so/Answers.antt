@@ -1,5 +1,5 @@
-use Rattle.boot_machine.proofs.MovePlaces.{off-lost}
-use Rattle.boot_machine.proofs.MoveTexts.{lost-text, no-step}
+use Rattle.boot_machine.proofs.MovePlaceLemmas.{off-lost}
+use Rattle.boot_machine.proofs.MoveTextLemmas.{lost-text, no-step}
 use Rattle.boot_machine.proofs.run_laws.only_lost_power_says_so.Goals as goal
 
 pub returns-clause-text : goal.returns-clause-text

@@ -1,4 +1,4 @@
-use Rattle.boot_machine.proofs.RamRuns.{runs, plays, run-written}
+use Rattle.boot_machine.proofs.RamRunLemmas.{runs, plays, run-written}
 use Rattle.boot_machine.proofs.run_laws.ram_after_writes.Goals as goal
 
 pub returns-clause-runs : goal.returns-clause-runs

@@ -1,4 +1,4 @@
-use Rattle.boot_machine.proofs.RamStarts.{ram-started, ram-starts, ram-moves}
+use Rattle.boot_machine.proofs.RamStartLemmas.{ram-started, ram-starts, ram-moves}
 use Rattle.boot_machine.proofs.run_laws.ram_start.Goals as goal
 
 pub returns-clause-starts : goal.returns-clause-starts

@@ -1,4 +1,4 @@
-use Rattle.boot_machine.proofs.MoveTables.{table-kept, table-reset, table-power}
+use Rattle.boot_machine.proofs.MoveTableLemmas.{table-kept, table-reset, table-power}
 use Rattle.boot_machine.proofs.run_laws.the_table_is_kept.Goals as goal
 
 pub returns-clause-kept : goal.returns-clause-kept

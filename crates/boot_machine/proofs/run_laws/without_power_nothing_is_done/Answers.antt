@@ -1,4 +1,4 @@
-use Rattle.boot_machine.proofs.MovePlaces.{off-stays, off-line, cut-moves, end-moves}
+use Rattle.boot_machine.proofs.MovePlaceLemmas.{off-stays, off-line, cut-moves, end-moves}
 use Rattle.boot_machine.proofs.run_laws.without_power_nothing_is_done.Goals as goal
 
 pub returns-clause-stays : goal.returns-clause-stays

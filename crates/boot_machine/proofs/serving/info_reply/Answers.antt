@@ -1,5 +1,5 @@
 use Rattle.std.proofs.Common.{sym, ◌∙◌}
-use Rattle.boot_machine.proofs.Infos.{few-asked, few-refused, reply-asked, reply-refused, status-asked, status-refused}
+use Rattle.boot_machine.proofs.InfoLemmas.{few-asked, few-refused, reply-asked, reply-refused, status-asked, status-refused}
 use Rattle.boot_machine.proofs.serving.info_reply.Goals as goal
 
 pub returns-in-Ok-clause-status : goal.returns-in-Ok-clause-status

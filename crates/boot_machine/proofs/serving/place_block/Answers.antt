@@ -1,8 +1,8 @@
 use Rattle.boot_rules.specs.Targets.{target_of}
 use Rattle.std.proofs.Common.{Bor, length, refl, sym, ap, ◌∙◌}
-use Rattle.boot_machine.proofs.Blocks.{came-told, done-in, each-meant, promised-of, same-ruling}
-use Rattle.boot_machine.proofs.Carried.{carried, sound-of}
-use Rattle.boot_machine.proofs.Rooms.{room-free, room_handed, room-kept}
+use Rattle.boot_machine.proofs.BlockLemmas.{came-told, done-in, each-meant, promised-of, same-ruling}
+use Rattle.boot_machine.proofs.CarriedLemmas.{carried, sound-of}
+use Rattle.boot_machine.proofs.RoomLemmas.{room-free, room_handed, room-kept}
 use Rattle.std.specs.Option.{option_map}
 use Rattle.part_table.specs.declared.Table.{Table}
 use Rattle.uf2_place.specs.Accepting.{rules}

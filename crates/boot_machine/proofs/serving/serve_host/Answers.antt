@@ -2,7 +2,7 @@ use Rattle.std.proofs.Common.{Bor}
 use Rattle.std.specs.Option.{option_map}
 use Rattle.part_table.specs.declared.Table.{Table}
 use Rattle.boot_machine.specs.Serving.{table_of}
-use Rattle.boot_machine.proofs.Replies.{host-told}
+use Rattle.boot_machine.proofs.ReplyLemmas.{host-told}
 use Rattle.boot_machine.proofs.serving.serve_host.Goals as goal
 
 pub returns-clause-text : goal.returns-clause-text

@@ -1,6 +1,6 @@
 use Rattle.std.proofs.Common.{◌∙◌, sym, subst, ◌<◌, ◌^◌}
 use Rattle.ram_start.specs.Serving.{ram_command}
-use Rattle.boot_machine.proofs.Replies.{ram-few, ram-none, ram-some}
+use Rattle.boot_machine.proofs.ReplyLemmas.{ram-few, ram-none, ram-some}
 use Rattle.boot_machine.proofs.serving.serve_ram.Goals as goal
 
 pub returns-in-Some-clause-text : goal.returns-in-Some-clause-text

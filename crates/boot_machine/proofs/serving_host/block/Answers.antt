@@ -1,7 +1,7 @@
 use Rattle.std.proofs.Common.{ap}
 use Rattle.boot_machine.specs.Serving.{places}
 use Rattle.boot_machine.specs.Standing.{is_bootsel}
-use Rattle.boot_machine.proofs.Placing.{block-lost, block-ok, block-place, steady-block}
+use Rattle.boot_machine.proofs.PlacingLemmas.{block-lost, block-ok, block-place, steady-block}
 use Rattle.boot_machine.proofs.serving_host.block.Goals as goal
 
 pub place_block-requires-clause-sound : goal.place_block-requires-clause-sound

@@ -3,8 +3,8 @@ use Rattle.uf2_place.specs.Blocks.{uf2_of}
 use Rattle.boot_lines.specs.Texts.{form_text}
 use Rattle.boot_machine.specs.Serving.{places, line_only, uf2_served}
 use Rattle.boot_machine.specs.Standing.{is_on}
-use Rattle.boot_machine.proofs.Placing.{serves-as}
-use Rattle.boot_machine.proofs.Steadiness.{told-served}
+use Rattle.boot_machine.proofs.PlacingLemmas.{serves-as}
+use Rattle.boot_machine.proofs.SteadinessLemmas.{told-served}
 use Rattle.boot_machine.proofs.serving_host.block_bytes.Goals as goal
 
 pub returns-in-Ok-clause-serves : goal.returns-in-Ok-clause-serves

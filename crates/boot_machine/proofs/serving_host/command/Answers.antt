@@ -1,7 +1,7 @@
 use Rattle.std.proofs.Common.{sym}
 use Rattle.boot_machine.specs.Serving.{serves, serves_host, serves_info, serves_ram}
-use Rattle.boot_machine.proofs.Cases.{case-host, case-info, case-ram}
-use Rattle.boot_machine.proofs.Placing.{serves-as}
+use Rattle.boot_machine.proofs.CaseLemmas.{case-host, case-info, case-ram}
+use Rattle.boot_machine.proofs.PlacingLemmas.{serves-as}
 use Rattle.boot_machine.proofs.serving_host.command.Goals as goal
 
 pub returns-then-cmd-clause-serves : goal.returns-then-cmd-clause-serves

@@ -1,7 +1,7 @@
 use Rattle.std.proofs.Common.{ap, sym, ◌∙◌}
 use Rattle.picoboot_cmd.specs.Commands.{command_in}
 use Rattle.boot_machine.specs.Serving.{command_served, serves}
-use Rattle.boot_machine.proofs.Placing.{serves-as}
+use Rattle.boot_machine.proofs.PlacingLemmas.{serves-as}
 use Rattle.boot_machine.proofs.serving_host.command_bytes.Goals as goal
 
 pub returns-in-Ok-clause-serves : goal.returns-in-Ok-clause-serves

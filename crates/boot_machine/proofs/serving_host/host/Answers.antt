@@ -1,6 +1,6 @@
 use Rattle.std.proofs.Common.{ap}
 use Rattle.boot_machine.specs.Standing.{is_bootsel}
-use Rattle.boot_machine.proofs.Steadiness.{steady-board, steady-left}
+use Rattle.boot_machine.proofs.SteadinessLemmas.{steady-board, steady-left}
 use Rattle.boot_machine.proofs.serving_host.host.Goals as goal
 
 pub serve_host-requires-clause-sound : goal.serve_host-requires-clause-sound

@@ -2,8 +2,8 @@ use Rattle.std.proofs.Common.{ℕ, List, Option, ap, refl, ◌∙◌, sym}
 use Rattle.boot_rules.specs.declared.tables.Found.{Found}
 use Rattle.boot_machine.specs.Serving.{info_status, info_text}
 use Rattle.boot_machine.specs.Standing.{is_bootsel, is_on}
-use Rattle.boot_machine.proofs.Rooms.{room-free}
-use Rattle.boot_machine.proofs.Steadiness.{host-kept, steady-host, told-served}
+use Rattle.boot_machine.proofs.RoomLemmas.{room-free}
+use Rattle.boot_machine.proofs.SteadinessLemmas.{host-kept, steady-host, told-served}
 use Rattle.boot_machine.proofs.serving_host.info.Goals as goal
 
 pub serve_info-requires-clause-lease : goal.serve_info-requires-clause-lease

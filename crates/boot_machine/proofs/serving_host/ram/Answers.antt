@@ -1,8 +1,8 @@
 use Rattle.std.proofs.Common.{ap, ◌∙◌, sym}
 use Rattle.boot_machine.specs.Standing.{is_on}
-use Rattle.boot_machine.proofs.Hosting.{ram-served}
-use Rattle.boot_machine.proofs.Rooms.{room-free, room-kept}
-use Rattle.boot_machine.proofs.Steadiness.{steady-host, steady-ram}
+use Rattle.boot_machine.proofs.HostingLemmas.{ram-served}
+use Rattle.boot_machine.proofs.RoomLemmas.{room-free, room-kept}
+use Rattle.boot_machine.proofs.SteadinessLemmas.{steady-host, steady-ram}
 use Rattle.boot_machine.proofs.serving_host.ram.Goals as goal
 
 pub serve_ram-start-requires-clause-lease : goal.serve_ram-start-requires-clause-lease

@@ -3,7 +3,7 @@ use Rattle.picoboot_cmd.specs.Commands.{command_in}
 use Rattle.uf2_place.specs.Blocks.{uf2_of}
 use Rattle.boot_script.specs.Events.{event_from}
 use Rattle.boot_machine.specs.Serving.{command_served, served, uf2_served}
-use Rattle.boot_machine.proofs.Placing.{serves-as}
+use Rattle.boot_machine.proofs.PlacingLemmas.{serves-as}
 use Rattle.boot_machine.proofs.serving_host.serve.Goals as goal
 
 pub returns-in-Command-clause-serves : goal.returns-in-Command-clause-serves

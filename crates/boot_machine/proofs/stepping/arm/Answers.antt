@@ -1,4 +1,4 @@
-use Rattle.boot_machine.proofs.Arming.{arm-steady, arm-step}
+use Rattle.boot_machine.proofs.ArmingLemmas.{arm-steady, arm-step}
 use Rattle.boot_machine.proofs.stepping.arm.Goals as goal
 
 pub returns-clause-step : goal.returns-clause-step

@@ -1,5 +1,5 @@
 use Rattle.std.proofs.Common.{None}
-use Rattle.boot_machine.proofs.Rooms.{room-free}
+use Rattle.boot_machine.proofs.RoomLemmas.{room-free}
 use Rattle.boot_machine.proofs.stepping.buy_choice.Goals as goal
 
 pub buy-requires-clause-lease : goal.buy-requires-clause-lease

@@ -2,8 +2,8 @@ use Rattle.std.proofs.Common.{subst}
 use Rattle.boot_script.specs.Events.{event_from}
 use Rattle.boot_machine.specs.Boots.{booted}
 use Rattle.boot_machine.specs.Standing.{Comes}
-use Rattle.boot_machine.proofs.Advancing.{advances-alone, advances-boot, asked-power}
-use Rattle.boot_machine.proofs.Steadiness.{host-of}
+use Rattle.boot_machine.proofs.AdvancingLemmas.{advances-alone, advances-boot, asked-power}
+use Rattle.boot_machine.proofs.SteadinessLemmas.{host-of}
 use Rattle.boot_machine.proofs.stepping.serve_and_boot.Goals as goal
 
 pub boot_into-requires-clause-power : goal.boot_into-requires-clause-power

@@ -1,5 +1,5 @@
 use Rattle.boot_script.specs.Events.{event_from}
-use Rattle.boot_machine.proofs.Arming.{plain-event, step-of}
+use Rattle.boot_machine.proofs.ArmingLemmas.{plain-event, step-of}
 use Rattle.boot_machine.proofs.stepping.step.Goals as goal
 
 pub returns-in_default : goal.returns-in_default

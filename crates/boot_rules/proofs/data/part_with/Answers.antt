@@ -1,7 +1,7 @@
 use Rattle.std.proofs.Common.{◌≡◌, ◌∙◌, sym, subst, arith, true}
 use Rattle.part_table.specs.Partitions.{no_partition}
-use Rattle.part_table.proofs.TestFacts.{first_position, no_position}
-use Rattle.part_table.proofs.FaultFacts.{index_at}
+use Rattle.part_table.proofs.TestLemmas.{first_position, no_position}
+use Rattle.part_table.proofs.FaultLemmas.{index_at}
 use Rattle.boot_rules.specs.Data.{has_window}
 use Rattle.boot_rules.proofs.data.part_with.Goals as goal
 

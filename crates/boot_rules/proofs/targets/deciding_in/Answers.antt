@@ -1,6 +1,6 @@
 use Rattle.std.proofs.Common.{length, sym, subst, ◌∙◌, ◌<◌}
 use Rattle.std.specs.Prelude.{IfSome}
-use Rattle.owner_data.proofs.DataFacts.{with_owner}
+use Rattle.owner_data.proofs.DataLemmas.{with_owner}
 use Rattle.boot_rules.proofs.targets.deciding_in.Goals as goal
 
 pub unit_of-requires-clause-inside : goal.unit_of-requires-clause-inside

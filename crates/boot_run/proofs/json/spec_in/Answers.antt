@@ -1,4 +1,4 @@
-use Rattle.boot_run.proofs.SealCases.{spec-never}
+use Rattle.boot_run.proofs.SealCaseLemmas.{spec-never}
 use Rattle.boot_run.proofs.json.spec_in.Goals as goal
 
 pub unreachable-requires : goal.unreachable-requires

@@ -1,4 +1,4 @@
-use Rattle.boot_run.proofs.SealCases.{table-never}
+use Rattle.boot_run.proofs.SealCaseLemmas.{table-never}
 use Rattle.boot_run.proofs.json.table_in.Goals as goal
 
 pub unreachable-requires : goal.unreachable-requires

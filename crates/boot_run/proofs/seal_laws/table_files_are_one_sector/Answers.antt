@@ -2,7 +2,7 @@ use Rattle.std.proofs.Common.{◌≡◌, ℕ, ◌-◌, ◌≤◌, List, ◌++◌
 use Rattle.std.proofs.lemmas.List.{length-append, length-replicate}
 use Rattle.part_table.specs.declared.table.Table.{Table}
 use Rattle.part_table.specs.Written.{written, written_size}
-use Rattle.part_table.proofs.BlockFacts.{size_told}
+use Rattle.part_table.proofs.BlockLemmas.{size_told}
 use Rattle.boot_run.specs.Tools.{table_file}
 use Rattle.boot_run.proofs.seal_laws.table_files_are_one_sector.Goals as goal
 

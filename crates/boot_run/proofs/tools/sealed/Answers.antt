@@ -1,6 +1,6 @@
 use Rattle.std.proofs.Common.{rules}
 use Rattle.boot_run.proofs.SealLemmas.{sealed-none}
-use Rattle.boot_run.proofs.SealCases.{error-first}
+use Rattle.boot_run.proofs.SealCaseLemmas.{error-first}
 use Rattle.boot_run.proofs.tools.sealed.Goals as goal
 
 pub returns-in-Ok-clause-none : goal.returns-in-Ok-clause-none

@@ -2,8 +2,8 @@ use Rattle.std.proofs.Common.{[], ◌∷◌, arith, ap, ◌∙◌, length-append
 use Rattle.std.specs.Prelude.{Ok}
 use Rattle.boot_script.specs.Events.{Command}
 use Rattle.boot_script.specs.Reading.{and_next}
-use Rattle.boot_script.proofs.ReadBack.{command-front}
-use Rattle.boot_script.proofs.WhyNot.{command-lacks}
+use Rattle.boot_script.proofs.ReadBackLemmas.{command-front}
+use Rattle.boot_script.proofs.WhyNotLemmas.{command-lacks}
 use Rattle.boot_script.proofs.examples.commands.Goals as goal
 
 pub returns-clause-payload : goal.returns-clause-payload

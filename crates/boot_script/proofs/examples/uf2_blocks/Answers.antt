@@ -2,7 +2,7 @@ use Rattle.std.proofs.Common.{[], ◌∷◌, arith, ap, ◌∙◌}
 use Rattle.std.specs.Prelude.{Ok}
 use Rattle.boot_script.specs.Events.{Uf2}
 use Rattle.boot_script.specs.Reading.{and_next}
-use Rattle.boot_script.proofs.ReadBack.{uf2-back}
+use Rattle.boot_script.proofs.ReadBackLemmas.{uf2-back}
 use Rattle.boot_script.proofs.examples.uf2_blocks.Goals as goal
 
 pub returns-clause-whole : goal.returns-clause-whole

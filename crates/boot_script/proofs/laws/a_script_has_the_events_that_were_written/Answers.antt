@@ -1,6 +1,6 @@
 use Rattle.std.proofs.Common.{length, suc, ◌-◌}
-use Rattle.boot_script.proofs.Spelled.{are-bytes}
-use Rattle.boot_script.proofs.Following.{whole-script, script-spelled}
+use Rattle.boot_script.proofs.SpelledLemmas.{are-bytes}
+use Rattle.boot_script.proofs.FollowingLemmas.{whole-script, script-spelled}
 use Rattle.boot_script.proofs.laws.a_script_has_the_events_that_were_written.Goals as goal
 
 pub returns-clause-read : goal.returns-clause-read

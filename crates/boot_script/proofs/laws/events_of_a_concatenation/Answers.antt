@@ -1,4 +1,4 @@
-use Rattle.boot_script.proofs.Following.{events-append}
+use Rattle.boot_script.proofs.FollowingLemmas.{events-append}
 use Rattle.boot_script.proofs.laws.events_of_a_concatenation.Goals as goal
 
 pub returns : goal.returns

@@ -3,8 +3,8 @@ use Rattle.std.proofs.lemmas.List.{take-append-drop, drop-drop, length-drop}
 use Rattle.std.proofs.Math.Seq.{drop-append_seam}
 use Rattle.boot_script.specs.Events.{Happening, IsWellFormed}
 use Rattle.boot_script.specs.Written.{written}
-use Rattle.boot_script.proofs.Numbers.{bytes-drop}
-use Rattle.boot_script.proofs.Spelled.{IsSpelled, event-spelled, spelled-inside, are-bytes, read-at}
+use Rattle.boot_script.proofs.NumberLemmas.{bytes-drop}
+use Rattle.boot_script.proofs.SpelledLemmas.{IsSpelled, event-spelled, spelled-inside, are-bytes, read-at}
 use Rattle.boot_script.proofs.laws.events_that_are_read_are_written.Goals as goal
 
 found : (bytes : List ℕ) (at : ℕ) (e : Happening) (next : ℕ) → at ≤ length bytes → next ≡ at + length (written e)

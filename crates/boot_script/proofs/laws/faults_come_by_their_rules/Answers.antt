@@ -1,7 +1,7 @@
 use Rattle.std.proofs.Common.{drop, ap}
 use Rattle.boot_script.specs.Reading.{and_next}
-use Rattle.boot_script.proofs.Spelled.{fault-at}
-use Rattle.boot_script.proofs.WhyNot.{fault-why, fault-comes}
+use Rattle.boot_script.proofs.SpelledLemmas.{fault-at}
+use Rattle.boot_script.proofs.WhyNotLemmas.{fault-why, fault-comes}
 use Rattle.boot_script.proofs.laws.faults_come_by_their_rules.Goals as goal
 
 pub returns : goal.returns

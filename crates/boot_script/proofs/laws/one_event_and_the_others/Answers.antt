@@ -1,8 +1,8 @@
 use Rattle.std.proofs.Common.{[], ◌∷◌, sym, ap, refl, ◌∙◌}
 use Rattle.boot_script.specs.Events.{End}
 use Rattle.boot_script.specs.Scripts.{behind, events_from}
-use Rattle.boot_script.proofs.Spelled.{read-at, fault-at}
-use Rattle.boot_script.proofs.Following.{next-events, end-events, fault-events}
+use Rattle.boot_script.proofs.SpelledLemmas.{read-at, fault-at}
+use Rattle.boot_script.proofs.FollowingLemmas.{next-events, end-events, fault-events}
 use Rattle.boot_script.proofs.laws.one_event_and_the_others.Goals as goal
 
 pub returns-clause-more : goal.returns-clause-more

@@ -1,4 +1,4 @@
-use Rattle.boot_script.proofs.ReadBack.{back-at}
+use Rattle.boot_script.proofs.ReadBackLemmas.{back-at}
 use Rattle.boot_script.proofs.laws.written_events_are_read.Goals as goal
 
 pub returns : goal.returns

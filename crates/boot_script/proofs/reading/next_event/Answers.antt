@@ -5,8 +5,8 @@ use Rattle.boot_script.specs.declared.event.ScriptFault.{ScriptFault}
 use Rattle.boot_script.specs.Events.{Happening, event_from}
 use Rattle.boot_script.specs.Written.{written}
 use Rattle.boot_script.specs.Reading.{event_in}
-use Rattle.boot_script.proofs.Numbers.{AreBytes, bytes-drop}
-use Rattle.boot_script.proofs.Spelled.{IsSpelled, spelled-inside, event-spelled, spelled-writable}
+use Rattle.boot_script.proofs.NumberLemmas.{AreBytes, bytes-drop}
+use Rattle.boot_script.proofs.SpelledLemmas.{IsSpelled, spelled-inside, event-spelled, spelled-writable}
 use Rattle.boot_script.proofs.reading.next_event.Goals as goal
 
 -- the event that was read stands at the offset

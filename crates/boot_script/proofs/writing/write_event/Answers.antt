@@ -3,7 +3,7 @@ use Rattle.std.specs.Prelude.{Ok}
 use Rattle.boot_script.specs.Events.{Happening, IsWellFormed}
 use Rattle.boot_script.specs.Written.{written}
 use Rattle.boot_script.specs.Reading.{event_at}
-use Rattle.boot_script.proofs.ReadBack.{back-at}
+use Rattle.boot_script.proofs.ReadBackLemmas.{back-at}
 use Rattle.boot_script.proofs.writing.write_event.Goals as goal
 
 again : (old new rest : List ℕ) (e : Happening) → IsWellFormed e → new ≡ old ++ written e

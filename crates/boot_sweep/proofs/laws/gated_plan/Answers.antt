@@ -1,4 +1,4 @@
-use Rattle.boot_sweep.proofs.PlanServed.{Known}
+use Rattle.boot_sweep.proofs.PlanServedLemmas.{Known}
 use Rattle.boot_sweep.proofs.PlanLaws.{KnownEvents, plan-gated}
 use Rattle.boot_sweep.proofs.laws.gated_plan.Goals as goal
 

@@ -2,7 +2,7 @@ use Rattle.std.proofs.Common.{◌∙◌, ap, sym, take, take_all, Ok, arith}
 use Rattle.block_codec.specs.Blocks.{block_words}
 use Rattle.block_codec.specs.Items.{items_of}
 use Rattle.block_codec.specs.FirstFault.{ok_unless}
-use Rattle.block_codec.proofs.FirstFault.{sound_more, none_from_sound_at, first_at, fault_from_first}
+use Rattle.block_codec.proofs.FirstFaultLemmas.{sound_more, none_from_sound_at, first_at, fault_from_first}
 use Rattle.image_def.specs.Faults.{item_fault}
 use Rattle.image_def.specs.Found.{found_in, with_item}
 use Rattle.image_def.proofs.FoundLemmas.{found_step}

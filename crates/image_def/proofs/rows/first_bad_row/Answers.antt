@@ -1,6 +1,6 @@
 use Rattle.std.proofs.Common.{◌∙◌, sym, get_or}
 use Rattle.std.proofs.lemmas.Option.{slice_get-get_or}
-use Rattle.block_codec.proofs.FirstFault.{sound_more, none_from_sound_at, first_at, fault_from_first}
+use Rattle.block_codec.proofs.FirstFaultLemmas.{sound_more, none_from_sound_at, first_at, fault_from_first}
 use Rattle.image_def.specs.Rows.{row_fault}
 use Rattle.image_def.proofs.rows.first_bad_row.Goals as goal
 

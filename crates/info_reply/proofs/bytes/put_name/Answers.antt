@@ -1,5 +1,5 @@
 use Rattle.std.proofs.Common.{◌++◌, ◌∙◌, sym, ap, arith}
-use Rattle.info_reply.proofs.Names.{name-back}
+use Rattle.info_reply.proofs.NameLemmas.{name-back}
 use Rattle.info_reply.proofs.bytes.put_name.Goals as goal
 
 pub returns : goal.returns

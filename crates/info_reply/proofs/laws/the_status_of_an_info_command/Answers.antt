@@ -1,9 +1,9 @@
 use Rattle.std.proofs.Common.{◌%◌, ◌==◌, ◌&&◌, length}
-use Rattle.picoboot_cmd.proofs.FirstFailing.{to-answer, from-answer}
+use Rattle.picoboot_cmd.proofs.FirstFailingLemmas.{to-answer, from-answer}
 use Rattle.info_reply.specs.declared.kinds.TheConstants.{INFO_SIZE}
 use Rattle.info_reply.specs.Asks.{ask_in}
 use Rattle.info_reply.specs.Statuses.{checks_of_reply, info_checks}
-use Rattle.info_reply.proofs.Asking.{refused, asks}
+use Rattle.info_reply.proofs.AskingLemmas.{refused, asks}
 use Rattle.info_reply.proofs.laws.the_status_of_an_info_command.Goals as goal
 
 pub returns-clause-refused : goal.returns-clause-refused

@@ -1,8 +1,8 @@
 use Rattle.std.proofs.Common.{◌%◌, ◌==◌, ◌&&◌, length}
-use Rattle.picoboot_cmd.proofs.FirstFailing.{to-answer, from-answer}
+use Rattle.picoboot_cmd.proofs.FirstFailingLemmas.{to-answer, from-answer}
 use Rattle.info_reply.specs.declared.kinds.TheConstants.{INFO_SIZE}
 use Rattle.info_reply.specs.Asks.{ask_checks, ask_in}
-use Rattle.info_reply.proofs.Asking.{ok-parts, ok-from, err-parts, err-from}
+use Rattle.info_reply.proofs.AskingLemmas.{ok-parts, ok-from, err-parts, err-from}
 use Rattle.info_reply.proofs.laws.what_is_asked_for.Goals as goal
 
 pub returns-clause-ok : goal.returns-clause-ok

@@ -1,7 +1,7 @@
 use Rattle.std.proofs.Common.{arith}
 use Rattle.std.specs.Option.{option_map}
 use Rattle.info_reply.specs.Infos.{info_of}
-use Rattle.info_reply.proofs.Fitting.{status-longer, status-fits}
+use Rattle.info_reply.proofs.FittingLemmas.{status-longer, status-fits}
 use Rattle.info_reply.proofs.replying.info_put.Goals as goal
 
 pub returns-then-len-from-clause-status : goal.returns-then-len-from-clause-status

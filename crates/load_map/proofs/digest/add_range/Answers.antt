@@ -2,7 +2,7 @@ use Rattle.std.proofs.Common.{◌+◌, ◌++◌, arith, rules, subst}
 use Rattle.std.specs.Prelude.{slice_range}
 use Rattle.sha2.specs.Hashers.{Holds256}
 use Rattle.std.proofs.lemmas.List.{length-take-le}
-use Rattle.pico_board.proofs.Pieces.{range-more}
+use Rattle.pico_board.proofs.PieceLemmas.{range-more}
 use Rattle.load_map.proofs.digest.add_range.Goals as goal
 
 pub loop-done-preserved : goal.loop-done-preserved

@@ -3,7 +3,7 @@ use Rattle.sha2.specs.Hashers.{Holds256}
 use Rattle.block_codec.specs.Blocks.{block_words}
 use Rattle.block_codec.specs.Words.{bytes_of, word_bytes}
 use Rattle.load_map.specs.Covered.{masked_words}
-use Rattle.load_map.proofs.Feeding.{length-masked, words-fed}
+use Rattle.load_map.proofs.FeedingLemmas.{length-masked, words-fed}
 use Rattle.load_map.proofs.digest.add_words.Goals as goal
 
 pub loop-k-preserved : goal.loop-k-preserved

@@ -1,5 +1,5 @@
 use Rattle.block_codec.specs.Blocks.{block_words}
-use Rattle.load_map.proofs.Entries.{entry-read}
+use Rattle.load_map.proofs.EntryLemmas.{entry-read}
 use Rattle.load_map.proofs.entry.entry_in.Goals as goal
 
 pub returns : goal.returns

@@ -1,5 +1,5 @@
-use Rattle.load_map.proofs.Agreement.{AgreeOn-refl}
-use Rattle.load_map.proofs.BlockWords.{SameButTrial-changed}
+use Rattle.load_map.proofs.AgreementLemmas.{AgreeOn-refl}
+use Rattle.load_map.proofs.BlockWordLemmas.{SameButTrial-changed}
 use Rattle.load_map.proofs.laws.a_changed_trial_bit.Goals as goal
 
 pub returns-clause-window : goal.returns-clause-window

@@ -1,4 +1,4 @@
-use Rattle.load_map.proofs.BlockWords.{map-parts, map-from-parts}
+use Rattle.load_map.proofs.BlockWordLemmas.{map-parts, map-from-parts}
 use Rattle.load_map.proofs.laws.a_load_map_item.Goals as goal
 
 pub returns : goal.returns

@@ -1,4 +1,4 @@
-use Rattle.load_map.proofs.Lengthening.{covered-longer, digest-longer, byte-longer, word-longer}
+use Rattle.load_map.proofs.LengtheningLemmas.{covered-longer, digest-longer, byte-longer, word-longer}
 use Rattle.load_map.proofs.laws.a_longer_window_gives_and_covers_the_same.Goals as goal
 
 pub returns-clause-text : goal.returns-clause-text

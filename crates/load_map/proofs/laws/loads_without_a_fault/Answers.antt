@@ -1,4 +1,4 @@
-use Rattle.load_map.proofs.SoundLoads.{sound-loads_of, counted-loads_of}
+use Rattle.load_map.proofs.SoundLoadLemmas.{sound-loads_of, counted-loads_of}
 use Rattle.load_map.proofs.laws.loads_without_a_fault.Goals as goal
 
 pub returns-clause-stored : goal.returns-clause-stored

@@ -3,7 +3,7 @@ use Rattle.block_codec.specs.Blocks.{block_words}
 use Rattle.block_codec.specs.FirstFault.{AreSound}
 use Rattle.load_map.specs.Loads.{entries_of, entry_count, is_absolute}
 use Rattle.load_map.specs.Reading.{entry_fault, setting_of}
-use Rattle.load_map.proofs.SoundLoads.{length-entries}
+use Rattle.load_map.proofs.SoundLoadLemmas.{length-entries}
 use Rattle.load_map.proofs.EntryLaws.{fault-first, first-fault, loads-sound, sound-loads-of}
 use Rattle.load_map.proofs.laws.the_first_fault.Goals as goal
 

@@ -1,4 +1,4 @@
-use Rattle.load_map.proofs.BlockWords.{masked-here, masked-other, masked-count, masked-front}
+use Rattle.load_map.proofs.BlockWordLemmas.{masked-here, masked-other, masked-count, masked-front}
 use Rattle.load_map.proofs.laws.the_trial_bit_is_masked.Goals as goal
 
 pub returns-clause-here : goal.returns-clause-here

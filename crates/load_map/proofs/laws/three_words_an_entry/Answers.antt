@@ -1,5 +1,5 @@
-use Rattle.load_map.proofs.SoundLoads.{length-entries}
-use Rattle.load_map.proofs.Entries.{entry-here}
+use Rattle.load_map.proofs.SoundLoadLemmas.{length-entries}
+use Rattle.load_map.proofs.EntryLemmas.{entry-here}
 use Rattle.load_map.proofs.laws.three_words_an_entry.Goals as goal
 
 pub returns-clause-count : goal.returns-clause-count

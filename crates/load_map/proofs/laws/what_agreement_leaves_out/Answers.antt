@@ -1,5 +1,5 @@
-use Rattle.load_map.proofs.Agreement.{AgreeOn-set, AgreeOn-clear}
-use Rattle.load_map.proofs.BlockWords.{HaveSameEntries-set}
+use Rattle.load_map.proofs.AgreementLemmas.{AgreeOn-set, AgreeOn-clear}
+use Rattle.load_map.proofs.BlockWordLemmas.{HaveSameEntries-set}
 use Rattle.load_map.proofs.laws.what_agreement_leaves_out.Goals as goal
 
 pub returns-clause-byte : goal.returns-clause-byte

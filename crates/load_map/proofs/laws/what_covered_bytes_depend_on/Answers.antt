@@ -1,4 +1,4 @@
-use Rattle.load_map.proofs.Agreement.{same-covered, same-digest}
+use Rattle.load_map.proofs.AgreementLemmas.{same-covered, same-digest}
 use Rattle.load_map.proofs.laws.what_covered_bytes_depend_on.Goals as goal
 
 pub returns-clause-text : goal.returns-clause-text

@@ -1,4 +1,4 @@
-use Rattle.load_map.proofs.Agreement.{same-byte, same-word}
+use Rattle.load_map.proofs.AgreementLemmas.{same-byte, same-word}
 use Rattle.load_map.proofs.laws.what_given_bytes_depend_on.Goals as goal
 
 pub returns-clause-byte : goal.returns-clause-byte

@@ -1,4 +1,4 @@
-use Rattle.load_map.proofs.BlockWords.{same-loads_of, trial-loads_of, map-words}
+use Rattle.load_map.proofs.BlockWordLemmas.{same-loads_of, trial-loads_of, map-words}
 use Rattle.load_map.proofs.laws.what_loads_depend_on.Goals as goal
 
 pub returns-clause-entries : goal.returns-clause-entries

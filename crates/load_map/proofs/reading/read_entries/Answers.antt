@@ -3,8 +3,8 @@ use Rattle.std.proofs.lemmas.Result.{err_from_is_err_and}
 use Rattle.block_codec.specs.Blocks.{block_words}
 use Rattle.load_map.specs.Loads.{entries_of, entry_count, is_absolute}
 use Rattle.load_map.specs.Reading.{load_of, load_fault}
-use Rattle.load_map.proofs.SoundLoads.{length-entries}
-use Rattle.load_map.proofs.Entries.{sound-next, loads-next, loads-all, loads-fault}
+use Rattle.load_map.proofs.SoundLoadLemmas.{length-entries}
+use Rattle.load_map.proofs.EntryLemmas.{sound-next, loads-next, loads-all, loads-fault}
 use Rattle.load_map.proofs.reading.read_entries.Goals as goal
 
 pub returns-in_err-load : goal.returns-in_err-load

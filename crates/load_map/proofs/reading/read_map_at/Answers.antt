@@ -1,7 +1,7 @@
 use Rattle.block_codec.specs.Blocks.{block_words}
 use Rattle.load_map.specs.Loads.{entries_of, is_absolute}
 use Rattle.load_map.specs.Reading.{setting_of}
-use Rattle.load_map.proofs.Entries.{stored-answer}
+use Rattle.load_map.proofs.EntryLemmas.{stored-answer}
 use Rattle.load_map.proofs.reading.read_map_at.Goals as goal
 
 pub returns-clause-stored : goal.returns-clause-stored

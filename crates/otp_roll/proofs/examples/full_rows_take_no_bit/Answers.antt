@@ -1,4 +1,4 @@
-use Rattle.otp_roll.proofs.WrittenRows.{raises-next, raises-last}
+use Rattle.otp_roll.proofs.WrittenRowLemmas.{raises-next, raises-last}
 use Rattle.otp_roll.proofs.examples.full_rows_take_no_bit.Goals as goal
 
 pub returns-clause-next : goal.returns-clause-next

@@ -1,4 +1,4 @@
-use Rattle.otp_roll.proofs.WrittenRows.{count-one_alone, raises-one_alone}
+use Rattle.otp_roll.proofs.WrittenRowLemmas.{count-one_alone, raises-one_alone}
 use Rattle.otp_roll.proofs.examples.one_row_alone_counts_as_nothing.Goals as goal
 
 pub returns-clause-count : goal.returns-clause-count

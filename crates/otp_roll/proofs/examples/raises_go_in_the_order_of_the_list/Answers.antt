@@ -1,4 +1,4 @@
-use Rattle.otp_roll.proofs.WrittenRows.{raises-one_bit, raises-two_bits, raises-three_bits}
+use Rattle.otp_roll.proofs.WrittenRowLemmas.{raises-one_bit, raises-two_bits, raises-three_bits}
 use Rattle.otp_roll.proofs.examples.raises_go_in_the_order_of_the_list.Goals as goal
 
 pub returns-clause-one : goal.returns-clause-one

@@ -1,4 +1,4 @@
-use Rattle.otp_roll.proofs.WrittenRows.{count-at_version, raises-at_version}
+use Rattle.otp_roll.proofs.WrittenRowLemmas.{count-at_version, raises-at_version}
 use Rattle.otp_roll.proofs.examples.rows_at_the_version.Goals as goal
 
 pub returns-clause-count : goal.returns-clause-count

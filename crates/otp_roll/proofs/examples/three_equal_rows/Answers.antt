@@ -1,4 +1,4 @@
-use Rattle.otp_roll.proofs.WrittenRows.{count-three_equal, raises-three_equal}
+use Rattle.otp_roll.proofs.WrittenRowLemmas.{count-three_equal, raises-three_equal}
 use Rattle.otp_roll.proofs.examples.three_equal_rows.Goals as goal
 
 pub returns-clause-count : goal.returns-clause-count

@@ -1,4 +1,4 @@
-use Rattle.otp_roll.proofs.WrittenRows.{count-two_agree}
+use Rattle.otp_roll.proofs.WrittenRowLemmas.{count-two_agree}
 use Rattle.otp_roll.proofs.examples.two_rows_are_a_majority.Goals as goal
 
 pub returns-clause-count : goal.returns-clause-count

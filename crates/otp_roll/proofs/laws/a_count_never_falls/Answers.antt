@@ -1,4 +1,4 @@
-use Rattle.otp_roll.proofs.Rising.{count-Rises, majority-Rises}
+use Rattle.otp_roll.proofs.RisingLemmas.{count-Rises, majority-Rises}
 use Rattle.otp_roll.proofs.laws.a_count_never_falls.Goals as goal
 
 pub returns-clause-count : goal.returns-clause-count

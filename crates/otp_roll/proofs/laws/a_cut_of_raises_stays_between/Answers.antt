@@ -1,4 +1,4 @@
-use Rattle.otp_roll.proofs.Rising.{cut-raises, count-between, majority-between}
+use Rattle.otp_roll.proofs.RisingLemmas.{cut-raises, count-between, majority-between}
 use Rattle.otp_roll.proofs.laws.a_cut_of_raises_stays_between.Goals as goal
 
 pub returns-clause-bits : goal.returns-clause-bits

@@ -1,5 +1,5 @@
-use Rattle.pico_board.proofs.Raises.{IsRaisedIn-torn}
-use Rattle.otp_roll.proofs.Rising.{majority-between}
+use Rattle.pico_board.proofs.RaiseLemmas.{IsRaisedIn-torn}
+use Rattle.otp_roll.proofs.RisingLemmas.{majority-between}
 use Rattle.otp_roll.proofs.laws.a_torn_raise_adds_no_other_bit.Goals as goal
 
 pub returns : goal.returns

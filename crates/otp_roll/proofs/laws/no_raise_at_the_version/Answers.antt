@@ -1,4 +1,4 @@
-use Rattle.otp_roll.proofs.Rising.{raises-none}
+use Rattle.otp_roll.proofs.RisingLemmas.{raises-none}
 use Rattle.otp_roll.proofs.laws.no_raise_at_the_version.Goals as goal
 
 pub returns-clause-reached : goal.returns-clause-reached

@@ -1,5 +1,5 @@
 use Rattle.std.proofs.lemmas.List.Elements.{All-from_recursion, recursion_from_All}
-use Rattle.otp_roll.proofs.Rising.{raises-raise, raises-listed, raises-inside}
+use Rattle.otp_roll.proofs.RisingLemmas.{raises-raise, raises-listed, raises-inside}
 use Rattle.otp_roll.proofs.laws.raises_are_of_listed_triples.Goals as goal
 
 pub returns-clause-raises : goal.returns-clause-raises

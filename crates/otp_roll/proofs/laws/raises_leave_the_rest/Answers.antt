@@ -2,7 +2,7 @@ use Rattle.std.proofs.Common.{◌/◌, ◌%◌, ◌==◌, ap, lit<}
 use Rattle.std.proofs.lemmas.List.Elements.{recursion_from_All}
 use Rattle.otp_roll.specs.Raises.{raises}
 use Rattle.otp_roll.specs.Flags.{slot_size_of}
-use Rattle.otp_roll.proofs.Rising.{raises-raise, raises-elsewhere, flash-left, row-left, low-row}
+use Rattle.otp_roll.proofs.RisingLemmas.{raises-raise, raises-elsewhere, flash-left, row-left, low-row}
 use Rattle.otp_roll.proofs.laws.raises_leave_the_rest.Goals as goal
 
 pub returns-clause-flash : goal.returns-clause-flash

@@ -1,4 +1,4 @@
-use Rattle.otp_roll.proofs.Counted.{count-raises}
+use Rattle.otp_roll.proofs.CountedLemmas.{count-raises}
 use Rattle.otp_roll.proofs.laws.raises_reach_the_version.Goals as goal
 
 pub returns : goal.returns

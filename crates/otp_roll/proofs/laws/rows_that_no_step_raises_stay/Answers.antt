@@ -1,4 +1,4 @@
-use Rattle.otp_roll.proofs.Rising.{elsewhere-from, row-left}
+use Rattle.otp_roll.proofs.RisingLemmas.{elsewhere-from, row-left}
 use Rattle.otp_roll.proofs.laws.rows_that_no_step_raises_stay.Goals as goal
 
 pub returns : goal.returns

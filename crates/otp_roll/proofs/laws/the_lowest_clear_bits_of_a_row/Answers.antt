@@ -1,4 +1,4 @@
-use Rattle.otp_roll.proofs.Bits.{lowest_clear-clear, lowest_clear-first, ones-lowest_clear}
+use Rattle.otp_roll.proofs.BitLemmas.{lowest_clear-clear, lowest_clear-first, ones-lowest_clear}
 use Rattle.otp_roll.proofs.laws.the_lowest_clear_bits_of_a_row.Goals as goal
 
 pub returns-clause-clear : goal.returns-clause-clear

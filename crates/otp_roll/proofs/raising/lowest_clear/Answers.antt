@@ -1,5 +1,5 @@
 use Rattle.std.proofs.Common.{arith, inl, inr}
-use Rattle.otp_roll.proofs.Digits.{found-start, found-taken, found-passed, bit-clear, place-lt}
+use Rattle.otp_roll.proofs.DigitLemmas.{found-start, found-taken, found-passed, bit-clear, place-lt}
 use Rattle.otp_roll.proofs.raising.lowest_clear.Goals.{then-wanted-gt0+then-value-place-eq0, else-wanted-gt0, else-wanted-gt0-via-then-wanted-gt0+else-value-place-eq0, else-wanted-gt0-via-else-wanted-gt0}
 use Rattle.otp_roll.proofs.raising.lowest_clear.Goals as goal
 

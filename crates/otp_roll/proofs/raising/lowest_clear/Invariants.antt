@@ -1,5 +1,5 @@
 -- The bits below the place are found.
-use Rattle.otp_roll.proofs.Digits.{IsFound}
+use Rattle.otp_roll.proofs.DigitLemmas.{IsFound}
 use Rattle.otp_roll.proofs.raising.lowest_clear.Given as goal
 
 abbrev pub invariant-loop-place : goal.invariant-loop-place

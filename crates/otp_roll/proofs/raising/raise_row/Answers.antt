@@ -4,7 +4,7 @@ use Rattle.std.proofs.lemmas.Result.{err_from_is_err_and}
 use Rattle.pico_board.specs.Board.{DoesAll}
 use Rattle.otp_roll.specs.Rows.{majority}
 use Rattle.otp_roll.specs.Raises.{lowest_clear, raise_triple, taken}
-use Rattle.otp_roll.proofs.OnTheWay.{triple-third}
+use Rattle.otp_roll.proofs.OnTheWayLemmas.{triple-third}
 use Rattle.otp_roll.proofs.raising.raise_row.Goals as goal
 
 pub overflow_sub-former : goal.overflow_sub-former

@@ -3,8 +3,8 @@ use Rattle.std.proofs.lemmas.List.{drop_all, drop_more}
 use Rattle.std.proofs.lemmas.Result.{err_from_is_err_and}
 use Rattle.pico_board.specs.Content.{Content}
 use Rattle.otp_roll.specs.Rows.{AreRollbackRows, count}
-use Rattle.otp_roll.proofs.Counted.{ApartInTurn, apart-in_turn, apart-drop, count-raises}
-use Rattle.otp_roll.proofs.OnTheWay.{IsOnTheWay, way-step, way-lost, way-end}
+use Rattle.otp_roll.proofs.CountedLemmas.{ApartInTurn, apart-in_turn, apart-drop, count-raises}
+use Rattle.otp_roll.proofs.OnTheWayLemmas.{IsOnTheWay, way-step, way-lost, way-end}
 use Rattle.otp_roll.proofs.raising.raise_to.Goals as goal
 
 -- the rows from here on are this one and the later ones

@@ -1,6 +1,6 @@
 -- Whatever raises the rows from here on raises all of them from the start.
 use Rattle.std.proofs.Common.{drop}
-use Rattle.otp_roll.proofs.OnTheWay.{IsOnTheWay}
+use Rattle.otp_roll.proofs.OnTheWayLemmas.{IsOnTheWay}
 use Rattle.otp_roll.proofs.raising.raise_to.Given as goal
 
 abbrev pub invariant-loop-row : goal.invariant-loop-row

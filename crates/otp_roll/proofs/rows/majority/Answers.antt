@@ -1,4 +1,4 @@
-use Rattle.otp_roll.proofs.Bits.{majority-lt}
+use Rattle.otp_roll.proofs.BitLemmas.{majority-lt}
 use Rattle.otp_roll.proofs.rows.majority.Goals as goal
 
 pub returns-clause-bits : goal.returns-clause-bits

@@ -1,5 +1,5 @@
 -- By the lemmas on data.
-use Rattle.owner_data.proofs.DataFacts.{data_listed, data_whole, data_few}
+use Rattle.owner_data.proofs.DataLemmas.{data_listed, data_whole, data_few}
 use Rattle.owner_data.proofs.laws.data_follows_its_owner.Goals as goal
 
 pub returns-clause-listed : goal.returns-clause-listed

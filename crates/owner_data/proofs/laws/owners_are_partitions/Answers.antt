@@ -1,5 +1,5 @@
 -- By the lemmas on data.
-use Rattle.owner_data.proofs.DataFacts.{without_owner, with_owner}
+use Rattle.owner_data.proofs.DataLemmas.{without_owner, with_owner}
 use Rattle.owner_data.proofs.laws.owners_are_partitions.Goals as goal
 
 pub returns-clause-none : goal.returns-clause-none

@@ -1,10 +1,10 @@
 use Rattle.std.proofs.Common.{◌≡◌, ◌+◌, ◌<◌, ℕ, ◌∙◌, sym, ap, subst, arith, length, List, true}
 use Rattle.arrayvec.specs.ArrayVec.{ArrayVec}
 use Rattle.part_table.specs.Partitions.{part_at}
-use Rattle.part_table.proofs.FaultFacts.{index_at}
+use Rattle.part_table.proofs.FaultLemmas.{index_at}
 use Rattle.slot_choice.proofs.ListLemmas.{made-more, made-same}
 use Rattle.owner_data.specs.Owners.{is_owned_by, taken_part}
-use Rattle.owner_data.proofs.DataFacts.{room}
+use Rattle.owner_data.proofs.DataLemmas.{room}
 use Rattle.owner_data.proofs.owners.data_of.Goals.{then-is_owned_by, else-is_owned_by}
 use Rattle.owner_data.proofs.owners.data_of.Goals as goal
 

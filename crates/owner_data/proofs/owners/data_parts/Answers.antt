@@ -1,6 +1,6 @@
 use Rattle.std.proofs.Common.{ap, ◌∙◌}
 use Rattle.owner_data.specs.Owners.{data_parts}
-use Rattle.owner_data.proofs.DataFacts.{data_within}
+use Rattle.owner_data.proofs.DataLemmas.{data_within}
 use Rattle.owner_data.proofs.owners.data_parts.Goals as goal
 
 pub returns-clause-inside : goal.returns-clause-inside

@@ -1,5 +1,5 @@
 use Rattle.std.proofs.Common.{sym, ◌∙◌, arith}
-use Rattle.part_table.proofs.ReadFacts.{named}
+use Rattle.part_table.proofs.ReadLemmas.{named}
 use Rattle.part_table.proofs.contents.name_of.Goals as goal
 
 pub returns-then-has_name : goal.returns-then-has_name

@@ -2,7 +2,7 @@ use Rattle.std.proofs.Common.{◌≡◌, ◌+◌, ◌-◌, ◌∷◌, [], ◌++�
 use Rattle.std.proofs.lemmas.List.{take_rest}
 use Rattle.part_table.specs.declared.partition.Partition.{Partition}
 use Rattle.part_table.specs.Partitions.{partitions_in}
-use Rattle.part_table.proofs.ReadFacts.{one_part_more, no_part_more, all_parts, words_left}
+use Rattle.part_table.proofs.ReadLemmas.{one_part_more, no_part_more, all_parts, words_left}
 use Rattle.part_table.proofs.contents.partitions_in.Goals as goal
 
 pub returns-in_err-size : goal.returns-in_err-size

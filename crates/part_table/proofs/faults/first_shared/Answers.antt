@@ -1,8 +1,8 @@
 use Rattle.std.proofs.Common.{◌≡◌, ◌∙◌, sym, subst, arith, true}
 use Rattle.part_table.specs.Partitions.{no_partition}
 use Rattle.part_table.specs.Windows.{shares_sector}
-use Rattle.part_table.proofs.TestFacts.{first_position, no_position}
-use Rattle.part_table.proofs.FaultFacts.{index_at}
+use Rattle.part_table.proofs.TestLemmas.{first_position, no_position}
+use Rattle.part_table.proofs.FaultLemmas.{index_at}
 use Rattle.part_table.proofs.faults.first_shared.Goals as goal
 
 pub returns-then-shares_sector : goal.returns-then-shares_sector

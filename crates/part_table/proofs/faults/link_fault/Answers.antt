@@ -3,7 +3,7 @@ use Rattle.std.proofs.lemmas.Option.{slice_get-get_or}
 use Rattle.part_table.specs.Partitions.{no_partition}
 use Rattle.part_table.specs.declared.table.TableFault.TheVariants.{Link}
 use Rattle.part_table.specs.Faults.{judge_link}
-use Rattle.part_table.proofs.FaultFacts.{found_fault, sound_next, no_fault, place_of, faulty, faultless_if}
+use Rattle.part_table.proofs.FaultLemmas.{found_fault, sound_next, no_fault, place_of, faulty, faultless_if}
 use Rattle.part_table.proofs.faults.link_fault.Goals as goal
 
 pub returns-then-is_wrong_link : goal.returns-then-is_wrong_link

@@ -2,7 +2,7 @@ use Rattle.std.proofs.Common.{◌+◌}
 use Rattle.std.proofs.lemmas.List.{take_rest}
 use Rattle.part_table.specs.declared.table.TableFault.TheVariants.{Overlap}
 use Rattle.part_table.specs.Faults.{judge_overlap}
-use Rattle.part_table.proofs.FaultFacts.{index_of, found_fault, sound_next, no_fault, overlaps, no_overlap}
+use Rattle.part_table.proofs.FaultLemmas.{index_of, found_fault, sound_next, no_fault, overlaps, no_overlap}
 use Rattle.part_table.proofs.faults.overlap_fault.Goals as goal
 
 pub returns-in-Some : goal.returns-in-Some

@@ -2,7 +2,7 @@ use Rattle.std.proofs.Common.{◌∙◌, sym, ap, length, take}
 use Rattle.std.proofs.lemmas.Bool.{eq-eqb, ne_eqb}
 use Rattle.part_table.specs.declared.table.TableFault.TheVariants.{Permissions}
 use Rattle.part_table.specs.Faults.{judge_permissions}
-use Rattle.part_table.proofs.FaultFacts.{index_of, found_fault, sound_next, no_fault, place_of, faulty_unless, faultless_unless}
+use Rattle.part_table.proofs.FaultLemmas.{index_of, found_fault, sound_next, no_fault, place_of, faulty_unless, faultless_unless}
 use Rattle.part_table.proofs.faults.permissions_fault.Goals as goal
 
 pub returns-then-permissions_of : goal.returns-then-permissions_of

@@ -1,7 +1,7 @@
 use Rattle.std.proofs.Common.{◌∙◌, sym, ap, length, take}
 use Rattle.part_table.specs.declared.table.TableFault.TheVariants.{Range}
 use Rattle.part_table.specs.Faults.{judge_range}
-use Rattle.part_table.proofs.FaultFacts.{index_of, found_fault, sound_next, no_fault, place_of, faulty, faultless_if}
+use Rattle.part_table.proofs.FaultLemmas.{index_of, found_fault, sound_next, no_fault, place_of, faulty, faultless_if}
 use Rattle.part_table.proofs.faults.range_fault.Goals as goal
 
 pub returns-then-is_out_of_range : goal.returns-then-is_out_of_range

@@ -3,7 +3,7 @@ use Rattle.sha2.specs.Hashers.{Holds256}
 use Rattle.block_codec.specs.Blocks.{block_words}
 use Rattle.block_codec.specs.Words.{bytes_of, word_bytes}
 use Rattle.block_codec.proofs.FrameLemmas.{length-frame}
-use Rattle.part_table.proofs.ReadFacts.{bytes_more}
+use Rattle.part_table.proofs.ReadLemmas.{bytes_more}
 use Rattle.part_table.proofs.hashes.digest_of_words.Goals as goal
 
 pub word-requires : goal.word-requires

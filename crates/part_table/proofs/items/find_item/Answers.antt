@@ -2,7 +2,7 @@ use Rattle.std.proofs.Common.{◌≡◌, ◌∙◌, sym, subst, add-one, find, t
 use Rattle.std.proofs.lemmas.Bool.{eq-eqb, ne_eqb}
 use Rattle.block_codec.specs.Items.{items_of}
 use Rattle.block_codec.specs.Kinds.{is_of_kind}
-use Rattle.part_table.proofs.SearchFacts.{find_here, find_past, contained}
+use Rattle.part_table.proofs.SearchLemmas.{find_here, find_past, contained}
 use Rattle.part_table.proofs.items.find_item.Goals as goal
 
 pub returns-then-kind_of-kind-clause-value : goal.returns-then-kind_of-kind-clause-value

@@ -2,7 +2,7 @@ use Rattle.std.proofs.Common.{ℕ, ◌∙◌, ap, sym, arith, cond}
 use Rattle.std.proofs.lemmas.Bool.{eq-eqb, ne_eqb}
 use Rattle.block_codec.specs.Items.{items_of}
 use Rattle.block_codec.specs.Kinds.{is_of_kind}
-use Rattle.part_table.proofs.SearchFacts.{counted_more}
+use Rattle.part_table.proofs.SearchLemmas.{counted_more}
 use Rattle.part_table.proofs.items.is_repeated.Goals as goal
 use Rattle.part_table.proofs.items.is_repeated.Goals.{then-kind_of-kind, else-kind_of-kind}
 

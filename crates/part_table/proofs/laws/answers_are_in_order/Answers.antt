@@ -1,5 +1,5 @@
 -- By the lemmas on answers.
-use Rattle.part_table.proofs.AnswerFacts.{read_to, read_back}
+use Rattle.part_table.proofs.AnswerLemmas.{read_to, read_back}
 use Rattle.part_table.proofs.laws.answers_are_in_order.Goals as goal
 
 pub returns : goal.returns

@@ -1,5 +1,5 @@
 -- By the lemmas on rules.
-use Rattle.part_table.proofs.RuleFacts.{first_to_rules, rules_to_first, none_to_rules, rules_to_none}
+use Rattle.part_table.proofs.RuleLemmas.{first_to_rules, rules_to_first, none_to_rules, rules_to_none}
 use Rattle.part_table.proofs.laws.faults_are_the_first.Goals as goal
 
 pub returns-clause-first : goal.returns-clause-first

@@ -1,5 +1,5 @@
 -- By the lemmas on links.
-use Rattle.part_table.proofs.LinkFacts.{first_of_pair, one_second, second_is_found, second_found}
+use Rattle.part_table.proofs.LinkLemmas.{first_of_pair, one_second, second_is_found, second_found}
 use Rattle.part_table.proofs.laws.pairs_are_right.Goals as goal
 
 pub returns-clause-first : goal.returns-clause-first

@@ -1,5 +1,5 @@
 -- By the lemmas on tables.
-use Rattle.part_table.proofs.TableFacts.{partition_placed, sound_placed, partitions_apart}
+use Rattle.part_table.proofs.TableLemmas.{partition_placed, sound_placed, partitions_apart}
 use Rattle.part_table.proofs.laws.partitions_are_placed.Goals as goal
 
 pub returns-clause-placed : goal.returns-clause-placed

@@ -1,5 +1,5 @@
 -- By the lemmas on tables.
-use Rattle.part_table.proofs.TableFacts.{faultless_from_table_of, sound_from_faultless}
+use Rattle.part_table.proofs.TableLemmas.{faultless_from_table_of, sound_from_faultless}
 use Rattle.part_table.proofs.laws.read_tables_are_sound.Goals as goal
 
 pub returns-clause-faultless : goal.returns-clause-faultless

@@ -1,5 +1,5 @@
 -- By the lemmas on tables.
-use Rattle.part_table.proofs.TableFacts.{partition_right, permissions_of_both, other_right}
+use Rattle.part_table.proofs.TableLemmas.{partition_right, permissions_of_both, other_right}
 use Rattle.part_table.proofs.laws.sectors_have_one_right.Goals as goal
 
 pub returns-clause-own : goal.returns-clause-own

@@ -1,5 +1,5 @@
 -- By the lemmas on written tables.
-use Rattle.part_table.proofs.BlockFacts.{is_block, judged_again, stands, read_again, size_told}
+use Rattle.part_table.proofs.BlockLemmas.{is_block, judged_again, stands, read_again, size_told}
 use Rattle.part_table.proofs.laws.tables_are_read_back.Goals as goal
 
 pub returns-clause-block : goal.returns-clause-block

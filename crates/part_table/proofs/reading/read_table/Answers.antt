@@ -1,7 +1,7 @@
 use Rattle.std.proofs.Common.{ℕ, ◌<◌, length}
 use Rattle.part_table.specs.Sound.{IsSoundTable}
 use Rattle.part_table.specs.Windows.{IsPlaced, partition_window}
-use Rattle.part_table.proofs.TableFacts.{of_read, sound_from_table_of, faultless_from_table_of, partition_placed}
+use Rattle.part_table.proofs.TableLemmas.{of_read, sound_from_table_of, faultless_from_table_of, partition_placed}
 use Rattle.part_table.proofs.reading.read_table.Goals as goal
 
 pub returns-clause-sound : goal.returns-clause-sound

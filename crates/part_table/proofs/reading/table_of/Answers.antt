@@ -1,6 +1,6 @@
 use Rattle.std.proofs.Common.{◌∙◌, ap, sym}
 use Rattle.part_table.specs.Faults.{parts_fault}
-use Rattle.part_table.proofs.TableFacts.{not_bad, some_read, fault_of_parts}
+use Rattle.part_table.proofs.TableLemmas.{not_bad, some_read, fault_of_parts}
 use Rattle.part_table.proofs.reading.table_of.Goals as goal
 
 pub returns-in-Some : goal.returns-in-Some

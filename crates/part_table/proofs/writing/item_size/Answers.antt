@@ -1,7 +1,7 @@
 use Rattle.std.proofs.Common.{◌≡◌, ◌<◌, subst, arith, length, get_or}
 use Rattle.std.proofs.lemmas.List.Elements.{All-more}
 use Rattle.part_table.specs.Written.{IsReadable, partition_text}
-use Rattle.part_table.proofs.WriteFacts.{text_more}
+use Rattle.part_table.proofs.WriteLemmas.{text_more}
 use Rattle.part_table.proofs.writing.item_size.Goals as goal
 
 pub loop-part-preserved : goal.loop-part-preserved

@@ -1,5 +1,5 @@
 use Rattle.std.proofs.Common.{◌≡◌, ◌+◌, ◌/◌, ◌∙◌, sym, arith, length}
-use Rattle.part_table.proofs.WrittenFacts.{padded_words}
+use Rattle.part_table.proofs.WrittenLemmas.{padded_words}
 use Rattle.part_table.proofs.writing.padded_words.Goals as goal
 
 pub returns-clause-value : goal.returns-clause-value

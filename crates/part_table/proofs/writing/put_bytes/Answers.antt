@@ -2,7 +2,7 @@ use Rattle.std.proofs.Common.{◌++◌, ◌∙◌, ap, arith}
 use Rattle.std.proofs.lemmas.List.{take_all}
 use Rattle.block_codec.specs.Words.{words_of}
 use Rattle.block_codec.proofs.WordLemmas.{length-words_of}
-use Rattle.part_table.proofs.WriteFacts.{one_word_more}
+use Rattle.part_table.proofs.WriteLemmas.{one_word_more}
 use Rattle.part_table.proofs.writing.put_bytes.Goals as goal
 
 pub loop-k-preserved : goal.loop-k-preserved

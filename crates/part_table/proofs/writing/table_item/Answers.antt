@@ -1,7 +1,7 @@
 use Rattle.std.proofs.Common.{◌≡◌, ap, subst, arith, length, slice_get, Some}
 use Rattle.part_table.specs.Written.{partition_text}
-use Rattle.part_table.proofs.FaultFacts.{index_of}
-use Rattle.part_table.proofs.WriteFacts.{text_within}
+use Rattle.part_table.proofs.FaultLemmas.{index_of}
+use Rattle.part_table.proofs.WriteLemmas.{text_within}
 use Rattle.part_table.proofs.writing.table_item.Goals as goal
 
 pub put_partition-requires : goal.put_partition-requires

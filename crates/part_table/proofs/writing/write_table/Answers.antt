@@ -3,7 +3,7 @@ use Rattle.std.proofs.lemmas.List.Elements.{recursion_from_All}
 use Rattle.block_codec.specs.Items.{AreItems}
 use Rattle.block_codec.proofs.WriteLemmas.{IsBadAt-whole}
 use Rattle.part_table.specs.Written.{IsReadable, table_item}
-use Rattle.part_table.proofs.BlockFacts.{are_whole, judged_when, read_from_judged}
+use Rattle.part_table.proofs.BlockLemmas.{are_whole, judged_when, read_from_judged}
 use Rattle.part_table.proofs.writing.write_table.Goals as goal
 
 pub unreachable-requires : goal.unreachable-requires

@@ -1,6 +1,6 @@
 -- By cases on where the list is parted.
 use Rattle.std.proofs.Common.{refl, inl}
-use Rattle.pico_board.proofs.Sessions.{IsGated-two_pages, other_first, too_early, twice}
+use Rattle.pico_board.proofs.SessionLemmas.{IsGated-two_pages, other_first, too_early, twice}
 use Rattle.pico_board.proofs.examples.gated_lists.Goals as goal
 
 pub returns-clause-two_pages : goal.returns-clause-two_pages

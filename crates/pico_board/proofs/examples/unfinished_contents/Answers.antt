@@ -1,5 +1,5 @@
 -- By the first byte of the first page.
-use Rattle.pico_board.proofs.Sessions.{CutOf-half_done, Unfinished-half_done}
+use Rattle.pico_board.proofs.SessionLemmas.{CutOf-half_done, Unfinished-half_done}
 use Rattle.pico_board.proofs.examples.unfinished_contents.Goals as goal
 
 pub returns-clause-cut : goal.returns-clause-cut

@@ -1,5 +1,5 @@
 -- By induction on the list.
-use Rattle.pico_board.proofs.Confinement.{confined-MayLeave, window_bytes-apart}
+use Rattle.pico_board.proofs.ConfinementLemmas.{confined-MayLeave, window_bytes-apart}
 use Rattle.pico_board.proofs.laws.confined_steps_keep_the_rest.Goals as goal
 
 pub returns-clause-rest : goal.returns-clause-rest

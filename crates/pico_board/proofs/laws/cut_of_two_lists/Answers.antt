@@ -1,6 +1,6 @@
 -- By induction on the first list.
 use Rattle.std.proofs.Common.{inl, inr}
-use Rattle.pico_board.proofs.Steps.{CutOf-append_cases, CutOf-append_left, CutOf-append_right}
+use Rattle.pico_board.proofs.StepLemmas.{CutOf-append_cases, CutOf-append_left, CutOf-append_right}
 use Rattle.pico_board.proofs.laws.cut_of_two_lists.Goals as goal
 
 pub returns : goal.returns

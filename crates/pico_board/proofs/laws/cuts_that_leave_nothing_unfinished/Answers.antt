@@ -1,5 +1,5 @@
 use Rattle.std.proofs.Common.{refl}
-use Rattle.pico_board.proofs.SettledCuts.{cut_elsewhere, cut_before_final}
+use Rattle.pico_board.proofs.SettledCutLemmas.{cut_elsewhere, cut_before_final}
 use Rattle.pico_board.proofs.laws.cuts_that_leave_nothing_unfinished.Goals as goal
 
 pub returns-clause-elsewhere : goal.returns-clause-elsewhere

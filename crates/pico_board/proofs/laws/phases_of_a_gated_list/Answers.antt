@@ -1,5 +1,5 @@
 -- The cut falls in the erase, in a step elsewhere, or in a last program.
-use Rattle.pico_board.proofs.Phases.{phase, prefix_phase, unfinished_phase}
+use Rattle.pico_board.proofs.PhaseLemmas.{phase, prefix_phase, unfinished_phase}
 use Rattle.pico_board.proofs.laws.phases_of_a_gated_list.Goals as goal
 
 pub returns-clause-cut : goal.returns-clause-cut

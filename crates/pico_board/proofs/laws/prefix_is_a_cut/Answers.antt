@@ -2,7 +2,7 @@
 use Rattle.std.proofs.Common.{length}
 use Rattle.std.proofs.lemmas.List.Elements.{recursion_from_All}
 use Rattle.pico_board.specs.Steps.{IsStepIn}
-use Rattle.pico_board.proofs.Cuttings.{CutOf-prefix}
+use Rattle.pico_board.proofs.CuttingLemmas.{CutOf-prefix}
 use Rattle.pico_board.proofs.laws.prefix_is_a_cut.Goals as goal
 
 pub returns : goal.returns

@@ -1,5 +1,5 @@
 -- By induction on the list.
-use Rattle.pico_board.proofs.Raises.{IsRaisedIn-CutOf, IsRaisedIn-torn}
+use Rattle.pico_board.proofs.RaiseLemmas.{IsRaisedIn-CutOf, IsRaisedIn-torn}
 use Rattle.pico_board.proofs.laws.raises_only_set_bits.Goals as goal
 
 pub returns-clause-one : goal.returns-clause-one

@@ -1,5 +1,5 @@
 -- By induction on the list.
-use Rattle.pico_board.proofs.ToldLists.{told_all-cut, told_all-none, told_all-whole}
+use Rattle.pico_board.proofs.CutListLemmas.{told_all-cut, told_all-none, told_all-whole}
 use Rattle.pico_board.proofs.laws.told_cut_falls_at_its_step.Goals as goal
 
 pub returns-clause-none : goal.returns-clause-none

@@ -1,6 +1,6 @@
 -- By cases on the step.
-use Rattle.pico_board.proofs.Cuttings.{Torn-after}
-use Rattle.pico_board.proofs.TornSteps.{Torn-before}
+use Rattle.pico_board.proofs.CuttingLemmas.{Torn-after}
+use Rattle.pico_board.proofs.TornStepLemmas.{Torn-before}
 use Rattle.pico_board.proofs.laws.torn_may_be_either_end.Goals as goal
 
 pub returns-clause-before : goal.returns-clause-before

@@ -2,7 +2,7 @@
 use Rattle.std.proofs.Common.{◌≡◌, List, ℕ, false, sym, ◌∙◌, ap, subst}
 use Rattle.std.specs.Prelude.{string_bytes}
 use Rattle.std.specs.Str.{bytes_eq}
-use Rattle.pico_board.proofs.FileLists.{Entry, lacks-more}
+use Rattle.pico_board.proofs.FileListLemmas.{Entry, lacks-more}
 use Rattle.pico_board.proofs.mem_store.find_file.Goals as goal
 
 pub loop-i-preserved : goal.loop-i-preserved

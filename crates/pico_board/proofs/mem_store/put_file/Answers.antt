@@ -3,7 +3,7 @@ use Rattle.std.proofs.Common.{◌≡◌, List, None, sym, ◌∙◌, ap, subst}
 use Rattle.std.specs.Prelude.{string_bytes}
 use Rattle.pico_board.specs.Files.{HasWritten, file_of}
 use Rattle.pico_board.specs.MemFiles.{IsFirstOf, files_from}
-use Rattle.pico_board.proofs.FileLists.{Entry, HasWritten-set, HasWritten-push}
+use Rattle.pico_board.proofs.FileListLemmas.{Entry, HasWritten-set, HasWritten-push}
 use Rattle.pico_board.proofs.mem_store.put_file.Goals as goal
 
 pub returns-in-Some-clause-ok : goal.returns-in-Some-clause-ok

@@ -1,7 +1,7 @@
 -- At the loop's end no step is left.
 use Rattle.std.proofs.Common.{◌≡◌, drop, []}
 use Rattle.std.proofs.lemmas.List.{drop_all}
-use Rattle.pico_board.proofs.Steps.{DoesAll-none}
+use Rattle.pico_board.proofs.StepLemmas.{DoesAll-none}
 use Rattle.pico_board.proofs.step.do_steps.Goals as goal
 
 pub returns : goal.returns

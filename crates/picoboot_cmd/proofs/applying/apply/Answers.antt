@@ -1,6 +1,6 @@
 use Rattle.std.proofs.Common.{◌∙◌, sym}
 use Rattle.std.specs.Option.{option_map}
-use Rattle.picoboot_cmd.proofs.Passing.{ready}
+use Rattle.picoboot_cmd.proofs.PassingLemmas.{ready}
 use Rattle.picoboot_cmd.proofs.applying.apply.Goals as goal
 
 pub do_command-requires-clause-ready : goal.do_command-requires-clause-ready

@@ -1,6 +1,6 @@
 use Rattle.std.proofs.Common.{◌≡◌, Ok, subst, sym}
 use Rattle.picoboot_cmd.specs.Commands.{command_in}
-use Rattle.picoboot_cmd.proofs.CommandBytes.{read-back}
+use Rattle.picoboot_cmd.proofs.CommandByteLemmas.{read-back}
 use Rattle.picoboot_cmd.proofs.cmd.write_cmd.Goals as goal
 
 pub returns-clause-again : goal.returns-clause-again

@@ -1,6 +1,6 @@
 use Rattle.std.proofs.Common.{◌-◌, ap}
 use Rattle.std.specs.Option.{option_map}
-use Rattle.picoboot_cmd.proofs.Sectors.{allowed-none}
+use Rattle.picoboot_cmd.proofs.SectorLemmas.{allowed-none}
 use Rattle.picoboot_cmd.proofs.judging.all_allowed.Goals as goal
 
 pub returns-in-None : goal.returns-in-None

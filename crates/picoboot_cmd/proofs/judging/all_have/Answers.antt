@@ -1,6 +1,6 @@
 use Rattle.std.proofs.Common.{Some, arith}
 use Rattle.std.proofs.lemmas.Grind.{common_steps}
-use Rattle.picoboot_cmd.proofs.Sectors.{allowed-first}
+use Rattle.picoboot_cmd.proofs.SectorLemmas.{allowed-first}
 use Rattle.picoboot_cmd.proofs.judging.all_have.Goals as goal
 
 pub returns-then-not-allowed : goal.returns-then-not-allowed

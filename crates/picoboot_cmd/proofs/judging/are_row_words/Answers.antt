@@ -1,7 +1,7 @@
 use Rattle.std.proofs.Common.{◌∙◌, sym, arith}
 use Rattle.block_codec.specs.Words.{words_of}
 use Rattle.block_codec.proofs.WordLemmas.{length-words_of}
-use Rattle.picoboot_cmd.proofs.WordLists.{row_words-end}
+use Rattle.picoboot_cmd.proofs.WordListLemmas.{row_words-end}
 use Rattle.picoboot_cmd.proofs.judging.are_row_words.Goals as goal
 
 pub returns : goal.returns

@@ -2,7 +2,7 @@ use Rattle.std.proofs.Common.{◌+◌, ◌∙◌, sym, arith}
 use Rattle.std.proofs.lemmas.Grind.{common_steps}
 use Rattle.block_codec.specs.Words.{words_of}
 use Rattle.block_codec.proofs.WordLemmas.{length-words_of}
-use Rattle.picoboot_cmd.proofs.WordLists.{keeps-first, keeps-next, keeps-end}
+use Rattle.picoboot_cmd.proofs.WordListLemmas.{keeps-first, keeps-next, keeps-end}
 use Rattle.picoboot_cmd.proofs.judging.keeps_raised.Goals as goal
 
 pub returns-then-raised-word_at : goal.returns-then-raised-word_at

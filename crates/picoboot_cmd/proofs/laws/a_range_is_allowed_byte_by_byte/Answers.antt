@@ -1,4 +1,4 @@
-use Rattle.picoboot_cmd.proofs.Sectors.{range-bytes, range-from_bytes}
+use Rattle.picoboot_cmd.proofs.SectorLemmas.{range-bytes, range-from_bytes}
 use Rattle.picoboot_cmd.proofs.laws.a_range_is_allowed_byte_by_byte.Goals as goal
 
 pub returns : goal.returns

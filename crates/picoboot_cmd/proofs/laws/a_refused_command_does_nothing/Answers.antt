@@ -1,6 +1,6 @@
 use Rattle.std.specs.Prelude.{length}
 use Rattle.picoboot_cmd.specs.Checks.{status_of}
-use Rattle.picoboot_cmd.proofs.Refused.{refused-nothing}
+use Rattle.picoboot_cmd.proofs.RefusedLemmas.{refused-nothing}
 use Rattle.picoboot_cmd.proofs.laws.a_refused_command_does_nothing.Goals as goal
 
 pub returns : goal.returns

@@ -1,4 +1,4 @@
-use Rattle.picoboot_cmd.proofs.PageByPage.{programs-page, programs-last}
+use Rattle.picoboot_cmd.proofs.PageByPageLemmas.{programs-page, programs-last}
 use Rattle.picoboot_cmd.proofs.laws.bytes_are_programmed_page_by_page.Goals as goal
 
 pub returns-clause-more : goal.returns-clause-more

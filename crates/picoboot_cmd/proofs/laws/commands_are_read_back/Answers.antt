@@ -1,4 +1,4 @@
-use Rattle.picoboot_cmd.proofs.CommandBytes.{read-back, read-is}
+use Rattle.picoboot_cmd.proofs.CommandByteLemmas.{read-back, read-is}
 use Rattle.picoboot_cmd.proofs.laws.commands_are_read_back.Goals as goal
 
 pub returns-clause-written : goal.returns-clause-written

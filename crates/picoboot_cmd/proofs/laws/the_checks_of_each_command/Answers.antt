@@ -1,4 +1,4 @@
-use Rattle.picoboot_cmd.proofs.ByCommand.{at-exclusive, at-erase, at-read, at-write, at-exit_xip, at-enter_xip, at-reboot, at-otp_read, at-otp_write, at-unknown}
+use Rattle.picoboot_cmd.proofs.ByCommandLemmas.{at-exclusive, at-erase, at-read, at-write, at-exit_xip, at-enter_xip, at-reboot, at-otp_read, at-otp_write, at-unknown}
 use Rattle.picoboot_cmd.proofs.laws.the_checks_of_each_command.Goals as goal
 
 pub returns-clause-exclusive : goal.returns-clause-exclusive

@@ -1,4 +1,4 @@
-use Rattle.picoboot_cmd.proofs.RebootFlags.{one-of_six, six-are}
+use Rattle.picoboot_cmd.proofs.RebootFlagLemmas.{one-of_six, six-are}
 use Rattle.picoboot_cmd.proofs.laws.the_flags_of_a_reboot.Goals as goal
 
 pub returns : goal.returns

@@ -1,5 +1,5 @@
 use Rattle.std.proofs.Common.{◌+◌, ◌*◌, ◌/◌, ◌≤◌, length, sym, subst}
-use Rattle.picoboot_cmd.proofs.Passing.{pages-inside}
+use Rattle.picoboot_cmd.proofs.PassingLemmas.{pages-inside}
 use Rattle.picoboot_cmd.proofs.working.do_command.Goals as goal
 
 pub program_pages-requires-clause-range : goal.program_pages-requires-clause-range

@@ -1,7 +1,7 @@
 use Rattle.std.proofs.Common.{◌+◌, ◌∙◌}
 use Rattle.std.proofs.lemmas.Result.{err_from_is_err_and}
-use Rattle.pico_board.proofs.Steps.{DoesAll-none, DoesAll-step, DoesAll-cut}
-use Rattle.picoboot_cmd.proofs.StepLists.{erases-first, erases-end}
+use Rattle.pico_board.proofs.StepLemmas.{DoesAll-none, DoesAll-step, DoesAll-cut}
+use Rattle.picoboot_cmd.proofs.StepListLemmas.{erases-first, erases-end}
 use Rattle.picoboot_cmd.proofs.working.erase_sectors.Goals as goal
 
 pub returns-in_err-erase : goal.returns-in_err-erase

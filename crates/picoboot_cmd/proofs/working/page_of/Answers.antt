@@ -1,4 +1,4 @@
-use Rattle.picoboot_cmd.proofs.FilledPages.{page-filled}
+use Rattle.picoboot_cmd.proofs.FilledPageLemmas.{page-filled}
 use Rattle.picoboot_cmd.proofs.working.page_of.Goals as goal
 
 pub returns : goal.returns

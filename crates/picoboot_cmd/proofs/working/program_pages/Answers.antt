@@ -1,9 +1,9 @@
 use Rattle.std.proofs.Common.{◌+◌, ◌/◌, ◌*◌, ◌∙◌, ap, arith, take, length, sym}
 use Rattle.std.proofs.lemmas.Result.{err_from_is_err_and}
 use Rattle.std.proofs.lemmas.List.{take_rest}
-use Rattle.pico_board.proofs.Steps.{DoesAll-none, DoesAll-step, DoesAll-cut}
+use Rattle.pico_board.proofs.StepLemmas.{DoesAll-none, DoesAll-step, DoesAll-cut}
 use Rattle.picoboot_cmd.specs.Pages.{filled}
-use Rattle.picoboot_cmd.proofs.StepLists.{programs-first, programs-end}
+use Rattle.picoboot_cmd.proofs.StepListLemmas.{programs-first, programs-end}
 use Rattle.picoboot_cmd.proofs.working.program_pages.Goals as goal
 
 pub returns-in_err-program : goal.returns-in_err-program

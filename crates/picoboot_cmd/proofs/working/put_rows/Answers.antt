@@ -1,7 +1,7 @@
 use Rattle.std.proofs.Common.{◌++◌, arith, subst}
 use Rattle.std.specs.Prelude.{slice_range}
 use Rattle.block_codec.specs.Words.{bytes_of, word_bytes}
-use Rattle.picoboot_cmd.proofs.PutLists.{row-put}
+use Rattle.picoboot_cmd.proofs.PutListLemmas.{row-put}
 use Rattle.picoboot_cmd.proofs.working.put_rows.Goals as goal
 
 pub loop-row-preserved : goal.loop-row-preserved

@@ -1,7 +1,7 @@
 use Rattle.std.proofs.Common.{◌+◌, ◌++◌, arith, rules, subst}
 use Rattle.std.specs.Prelude.{slice_range}
 use Rattle.std.proofs.lemmas.List.{length-take-le}
-use Rattle.pico_board.proofs.Pieces.{range-more}
+use Rattle.pico_board.proofs.PieceLemmas.{range-more}
 use Rattle.picoboot_cmd.proofs.working.put_through.Goals as goal
 
 pub loop-done-preserved : goal.loop-done-preserved

@@ -3,9 +3,9 @@ use Rattle.std.proofs.lemmas.Grind.{common_steps}
 use Rattle.std.proofs.lemmas.Result.{err_from_is_err_and}
 use Rattle.block_codec.specs.Words.{words_of}
 use Rattle.block_codec.proofs.WordLemmas.{length-words_of}
-use Rattle.pico_board.proofs.Steps.{DoesAll-none, DoesAll-step, DoesAll-cut}
-use Rattle.picoboot_cmd.proofs.StepLists.{raises-first, raises-end}
-use Rattle.picoboot_cmd.proofs.WordLists.{row_words-first}
+use Rattle.pico_board.proofs.StepLemmas.{DoesAll-none, DoesAll-step, DoesAll-cut}
+use Rattle.picoboot_cmd.proofs.StepListLemmas.{raises-first, raises-end}
+use Rattle.picoboot_cmd.proofs.WordListLemmas.{row_words-first}
 use Rattle.picoboot_cmd.proofs.working.raise_rows.Goals as goal
 
 pub returns-in_err-raise : goal.returns-in_err-raise

@@ -1,5 +1,5 @@
 use Rattle.std.proofs.Common.{refl}
-use Rattle.picoboot_cmd.proofs.FirstFailing.{to-answer}
+use Rattle.picoboot_cmd.proofs.FirstFailingLemmas.{to-answer}
 use Rattle.ram_start.specs.Serving.{ram_checks, ram_status}
 use Rattle.ram_start.proofs.laws.the_status_of_a_ram_command.Goals as goal
 

@@ -1,4 +1,4 @@
-use Rattle.sector_pool.proofs.FreeCount.{has_free, none_free}
+use Rattle.sector_pool.proofs.FreeCountLemmas.{has_free, none_free}
 use Rattle.sector_pool.proofs.laws.a_free_sector_is_not_out.Goals as goal
 
 pub returns-clause-some : goal.returns-clause-some

@@ -1,5 +1,5 @@
-use Rattle.sector_pool.proofs.Handed.{HandsOver-leased, HandsOver-none, HandsOver-returned, HandsOver-same, HandsOver-trans}
-use Rattle.sector_pool.proofs.Kept.{KeepsOutBut-written}
+use Rattle.sector_pool.proofs.HandedLemmas.{HandsOver-leased, HandsOver-none, HandsOver-returned, HandsOver-same, HandsOver-trans}
+use Rattle.sector_pool.proofs.KeptLemmas.{KeepsOutBut-written}
 use Rattle.sector_pool.proofs.laws.handing_over_composes.Goals as goal
 
 pub returns-clause-leased : goal.returns-clause-leased

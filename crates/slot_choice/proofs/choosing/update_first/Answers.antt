@@ -1,7 +1,7 @@
 use Rattle.std.proofs.Common.{◌∙◌, ◌<◌, ap, sym, subst, length, position, Some}
 use Rattle.std.proofs.lemmas.Option.{slice_get-get_or}
 use Rattle.slot_choice.specs.Updates.{has_member_at}
-use Rattle.slot_choice.proofs.UpdateFacts.{unplaced, placed}
+use Rattle.slot_choice.proofs.UpdateLemmas.{unplaced, placed}
 use Rattle.slot_choice.proofs.choosing.update_first.Goals as goal
 
 pub returns-in_err-place-clause-member : goal.returns-in_err-place-clause-member

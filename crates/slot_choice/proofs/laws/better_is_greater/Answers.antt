@@ -1,5 +1,5 @@
 -- By the lemmas on versions.
-use Rattle.slot_choice.proofs.VersionFacts.{none_better, second_better, swapped, tie}
+use Rattle.slot_choice.proofs.VersionLemmas.{none_better, second_better, swapped, tie}
 use Rattle.slot_choice.proofs.laws.better_is_greater.Goals as goal
 
 pub returns-clause-second : goal.returns-clause-second

@@ -1,5 +1,5 @@
 -- By the lemmas on boot units.
-use Rattle.slot_choice.proofs.PlaceFacts.{unit_at, unit_listed, units_ordered}
+use Rattle.slot_choice.proofs.PlaceLemmas.{unit_at, unit_listed, units_ordered}
 use Rattle.slot_choice.proofs.laws.boot_units_are_listed.Goals as goal
 
 pub returns-clause-listed : goal.returns-clause-listed

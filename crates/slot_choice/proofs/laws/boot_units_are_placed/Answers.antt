@@ -1,5 +1,5 @@
 -- By the lemmas on the places of units.
-use Rattle.slot_choice.proofs.PlaceFacts.{apart_from_slots, boot_members_placed, sound_members_placed, tableless_placed}
+use Rattle.slot_choice.proofs.PlaceLemmas.{apart_from_slots, boot_members_placed, sound_members_placed, tableless_placed}
 use Rattle.slot_choice.proofs.laws.boot_units_are_placed.Goals as goal
 
 pub returns-clause-faultless : goal.returns-clause-faultless

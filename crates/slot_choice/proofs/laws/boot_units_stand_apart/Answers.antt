@@ -1,5 +1,5 @@
 -- By the lemmas on the places of units.
-use Rattle.slot_choice.proofs.PlaceFacts.{boot_pair_apart, boot_units_apart, tableless_apart}
+use Rattle.slot_choice.proofs.PlaceLemmas.{boot_pair_apart, boot_units_apart, tableless_apart}
 use Rattle.slot_choice.proofs.laws.boot_units_stand_apart.Goals as goal
 
 pub returns-clause-units : goal.returns-clause-units

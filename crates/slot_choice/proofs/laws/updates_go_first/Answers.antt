@@ -1,5 +1,5 @@
 -- By the lemmas on updates.
-use Rattle.slot_choice.proofs.UpdateFacts.{not_updated, order_permutes, updated}
+use Rattle.slot_choice.proofs.UpdateLemmas.{not_updated, order_permutes, updated}
 use Rattle.slot_choice.proofs.laws.updates_go_first.Goals as goal
 
 pub returns-clause-same : goal.returns-clause-same

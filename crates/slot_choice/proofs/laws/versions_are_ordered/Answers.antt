@@ -1,5 +1,5 @@
 -- By the lemmas on versions.
-use Rattle.slot_choice.proofs.VersionFacts.{irreflexive, total, transitive}
+use Rattle.slot_choice.proofs.VersionLemmas.{irreflexive, total, transitive}
 use Rattle.slot_choice.proofs.laws.versions_are_ordered.Goals as goal
 
 pub returns-clause-irreflexive : goal.returns-clause-irreflexive

@@ -1,7 +1,7 @@
 use Rattle.std.proofs.Common.{◌≡◌, ◌∙◌, ap, arith, sym, option_map, length, ◌&&◌, Some}
 use Rattle.part_table.specs.Families.{accepts}
 use Rattle.part_table.specs.Partitions.{part_at}
-use Rattle.part_table.proofs.FaultFacts.{index_at}
+use Rattle.part_table.proofs.FaultLemmas.{index_at}
 use Rattle.slot_choice.specs.LoadUnits.{begins_load_unit}
 use Rattle.slot_choice.specs.Units.{unit_of}
 use Rattle.slot_choice.proofs.ListLemmas.{sought-more, sought-here}

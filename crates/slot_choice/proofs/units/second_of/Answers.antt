@@ -1,8 +1,8 @@
 use Rattle.std.proofs.Common.{◌≡◌, ◌∙◌, sym, subst, arith, true}
 use Rattle.part_table.specs.Partitions.{no_partition}
 use Rattle.part_table.specs.Links.{is_second_of}
-use Rattle.part_table.proofs.TestFacts.{first_position, no_position}
-use Rattle.part_table.proofs.FaultFacts.{index_at}
+use Rattle.part_table.proofs.TestLemmas.{first_position, no_position}
+use Rattle.part_table.proofs.FaultLemmas.{index_at}
 use Rattle.slot_choice.proofs.units.second_of.Goals as goal
 
 pub returns-then-is_second_of-clause-value : goal.returns-then-is_second_of-clause-value

@@ -1,7 +1,7 @@
 use Rattle.std.proofs.Common.{◌≡◌, ◌∙◌, ap, arith, length, sym}
 use Rattle.arrayvec.specs.ArrayVec.{ArrayVec}
 use Rattle.part_table.specs.Partitions.{part_at}
-use Rattle.part_table.proofs.FaultFacts.{index_at}
+use Rattle.part_table.proofs.FaultLemmas.{index_at}
 use Rattle.slot_choice.specs.declared.unit.SlotUnit.{SlotUnit}
 use Rattle.slot_choice.specs.Units.{begins_boot_unit, unit_of}
 use Rattle.slot_choice.proofs.ListLemmas.{made-more, made-same}

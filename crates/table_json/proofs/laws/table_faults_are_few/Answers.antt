@@ -1,6 +1,6 @@
 use Rattle.std.proofs.Common.{refl}
 use Rattle.part_table.specs.declared.table.TableFault.TheVariants.{BadItem, Permissions, Hash}
-use Rattle.table_json.proofs.FewFaults.{text_other}
+use Rattle.table_json.proofs.FewFaultLemmas.{text_other}
 use Rattle.table_json.proofs.laws.table_faults_are_few.Goals as goal
 
 pub returns-clause-items : goal.returns-clause-items

@@ -1,4 +1,4 @@
-use Rattle.part_table.proofs.BlockFacts.{judged_again}
+use Rattle.part_table.proofs.BlockLemmas.{judged_again}
 use Rattle.table_json.specs.Tables.{table_from}
 use Rattle.table_json.proofs.WholeLemmas.{fault-fields, judged-short, long-exactly, read-exactly}
 use Rattle.table_json.proofs.laws.whole_tables_are_judged_as_they_are_read.Goals as goal

@@ -2,7 +2,7 @@ use Rattle.std.proofs.Common.{◌<◌, ◌/◌, true, false, length, refl, sym, 
 use Rattle.std.proofs.lemmas.Result.{err_from_is_err_and}
 use Rattle.pico_board.specs.Board.{DoesAll}
 use Rattle.pico_board.specs.Content.{Content}
-use Rattle.pico_board.proofs.Steps.{DoesAll-append_cut}
+use Rattle.pico_board.proofs.StepLemmas.{DoesAll-append_cut}
 use Rattle.trial_buy.proofs.ImageLemmas.{trial-inside, valid-rows, valid-version}
 use Rattle.trial_buy.proofs.StepLemmas.{bought, cut-in_erase, rewrite-otp, settled}
 use Rattle.trial_buy.specs.Buying.{clearing, cleared_sector, trial_place}

@@ -1,4 +1,4 @@
-use Rattle.sector_pool.proofs.Kept.{KeepsOut-call, KeepsOutBut-written}
+use Rattle.sector_pool.proofs.KeptLemmas.{KeepsOut-call, KeepsOutBut-written}
 use Rattle.trial_buy.proofs.buying.clear.Goals as goal
 
 pub returns-clause-kept : goal.returns-clause-kept

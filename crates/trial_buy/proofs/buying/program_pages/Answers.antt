@@ -2,7 +2,7 @@ use Rattle.std.proofs.Common.{◌*◌, ◌+◌, refl, sym, ◌∙◌, subst, tru
 use Rattle.std.proofs.lemmas.Result.{err_from_is_err_and}
 use Rattle.pico_board.specs.declared.Step.TheVariants.{Program}
 use Rattle.pico_board.specs.Board.{Does, DoesAll}
-use Rattle.pico_board.proofs.Steps.{DoesAll-cut, DoesAll-none, DoesAll-step}
+use Rattle.pico_board.proofs.StepLemmas.{DoesAll-cut, DoesAll-none, DoesAll-step}
 use Rattle.trial_buy.proofs.StepLemmas.{programs-all, programs-more, programs-none}
 use Rattle.trial_buy.proofs.buying.program_pages.Goals as goal
 

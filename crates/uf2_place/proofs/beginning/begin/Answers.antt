@@ -1,4 +1,4 @@
-use Rattle.uf2_place.proofs.Beginnings.{follows-none}
+use Rattle.uf2_place.proofs.BeginningLemmas.{follows-none}
 use Rattle.uf2_place.proofs.beginning.begin.Goals as goal
 
 pub returns-clause-follows : goal.returns-clause-follows

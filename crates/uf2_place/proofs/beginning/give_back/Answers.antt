@@ -1,8 +1,8 @@
 use Rattle.std.proofs.Common.{◌≡◌, ◌<◌, None, Some, arith, sym, ap, subst}
 use Rattle.sector_pool.specs.Pool.{returned, free_count}
 use Rattle.sector_pool.specs.Keeping.{HandsOver}
-use Rattle.sector_pool.proofs.FreeCount.{free_count-returned}
-use Rattle.sector_pool.proofs.Handed.{HandsOver-returned}
+use Rattle.sector_pool.proofs.FreeCountLemmas.{free_count-returned}
+use Rattle.sector_pool.proofs.HandedLemmas.{HandsOver-returned}
 use Rattle.uf2_place.specs.Downloads.{lease_in}
 use Rattle.uf2_place.proofs.beginning.give_back.Goals as goal
 

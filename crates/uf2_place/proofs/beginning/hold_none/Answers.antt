@@ -1,6 +1,6 @@
 use Rattle.std.proofs.Common.{None, Some, sym, subst}
 use Rattle.sector_pool.specs.Keeping.{HandsOver}
-use Rattle.sector_pool.proofs.Handed.{HandsOver-leased}
+use Rattle.sector_pool.proofs.HandedLemmas.{HandsOver-leased}
 use Rattle.uf2_place.proofs.beginning.hold_none.Goals as goal
 
 pub returns-clause-pool : goal.returns-clause-pool

@@ -1,4 +1,4 @@
-use Rattle.uf2_place.proofs.SetBits.{marked-set}
+use Rattle.uf2_place.proofs.SetBitLemmas.{marked-set}
 use Rattle.uf2_place.proofs.bits.set_bit.Goals as goal
 
 pub returns : goal.returns

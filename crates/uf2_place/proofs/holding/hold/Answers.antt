@@ -1,5 +1,5 @@
 use Rattle.std.proofs.Common.{refl}
-use Rattle.uf2_place.proofs.HeldPages.{page-held}
+use Rattle.uf2_place.proofs.HeldPageLemmas.{page-held}
 use Rattle.uf2_place.proofs.holding.hold.Goals as goal
 
 pub returns : goal.returns

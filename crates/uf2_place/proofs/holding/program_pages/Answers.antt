@@ -1,9 +1,9 @@
 use Rattle.std.proofs.Common.{◌+◌, ◌*◌, ◌≤◌, subst, sym, false, true}
 use Rattle.std.proofs.lemmas.Result.{err_from_is_err_and}
 use Rattle.pico_board.specs.Board.{DoesAll}
-use Rattle.pico_board.proofs.Steps.{DoesAll-none, DoesAll-append, DoesAll-append_cut}
+use Rattle.pico_board.proofs.StepLemmas.{DoesAll-none, DoesAll-append, DoesAll-append_cut}
 use Rattle.uf2_place.specs.Downloads.{held_page}
-use Rattle.uf2_place.proofs.HeldPages.{programs_left, programs-start, programs-next, programs-end}
+use Rattle.uf2_place.proofs.HeldPageLemmas.{programs_left, programs-start, programs-next, programs-end}
 use Rattle.uf2_place.proofs.holding.program_pages.Goals as goal
 
 pub loop-place-init : goal.loop-place-init

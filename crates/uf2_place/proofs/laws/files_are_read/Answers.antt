@@ -1,8 +1,8 @@
 use Rattle.std.proofs.Common.{ap, ◌∙◌}
 use Rattle.uf2_place.specs.Blocks.{uf2_of}
 use Rattle.uf2_place.specs.Files.{file_block}
-use Rattle.uf2_place.proofs.FileFacts.{file-piece, file_block-is}
-use Rattle.uf2_place.proofs.ReadBack.{written-read}
+use Rattle.uf2_place.proofs.FileLemmas.{file-piece, file_block-is}
+use Rattle.uf2_place.proofs.ReadBackLemmas.{written-read}
 use Rattle.uf2_place.proofs.laws.files_are_read.Goals as goal
 
 pub returns : goal.returns

@@ -1,4 +1,4 @@
-use Rattle.uf2_place.proofs.Growing.{whole-has_all}
+use Rattle.uf2_place.proofs.GrowingLemmas.{whole-has_all}
 use Rattle.uf2_place.proofs.laws.whole_downloads_have_all_numbers.Goals as goal
 
 pub returns : goal.returns

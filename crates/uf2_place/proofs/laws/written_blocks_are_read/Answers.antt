@@ -1,4 +1,4 @@
-use Rattle.uf2_place.proofs.ReadBack.{written-size, written-read}
+use Rattle.uf2_place.proofs.ReadBackLemmas.{written-size, written-read}
 use Rattle.uf2_place.proofs.laws.written_blocks_are_read.Goals as goal
 
 pub returns-clause-size : goal.returns-clause-size

@@ -2,11 +2,11 @@ use Rattle.std.proofs.Common.{◌≡◌, ◌++◌, [], ◌∷◌, false, is_ok, 
 use Rattle.std.proofs.lemmas.Result.{err_from_is_err_and}
 use Rattle.std.specs.Prelude.{Result, Ok, Err, OnOk}
 use Rattle.pico_board.specs.Board.{DoesAll}
-use Rattle.pico_board.proofs.Steps.{DoesAll-append, DoesAll-append_cut}
+use Rattle.pico_board.proofs.StepLemmas.{DoesAll-append, DoesAll-append_cut}
 use Rattle.uf2_place.specs.declared.current.Current.{Current}
 use Rattle.uf2_place.specs.Progress.{is_held_back}
-use Rattle.uf2_place.proofs.Added.{grown-parts, last_part}
-use Rattle.uf2_place.proofs.Following.{follow-put, held-last_push}
+use Rattle.uf2_place.proofs.AddedLemmas.{grown-parts, last_part}
+use Rattle.uf2_place.proofs.FollowingLemmas.{follow-put, held-last_push}
 use Rattle.uf2_place.proofs.placing.place_block.Goals as goal
 
 on_ok : {T E P : Type 0} (r : Result T E) → P → OnOk r P

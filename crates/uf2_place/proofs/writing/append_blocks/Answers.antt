@@ -3,7 +3,7 @@ use Rattle.std.proofs.lemmas.Result.{err_from_is_err_and}
 use Rattle.std.specs.List.{flat_map, range_with_len}
 use Rattle.uf2_place.specs.Blocks.{written}
 use Rattle.uf2_place.specs.Files.{file_block, page_count}
-use Rattle.uf2_place.proofs.FileFacts.{kept-more, file-more}
+use Rattle.uf2_place.proofs.FileLemmas.{kept-more, file-more}
 use Rattle.uf2_place.proofs.writing.append_blocks.Goals as goal
 
 pub loop-number-preserved : goal.loop-number-preserved

@@ -1,5 +1,5 @@
 use Rattle.std.proofs.Common.{◌*◌, ◌∙◌}
-use Rattle.uf2_place.proofs.FileFacts.{page-filled}
+use Rattle.uf2_place.proofs.FileLemmas.{page-filled}
 use Rattle.uf2_place.proofs.writing.page_of.Goals as goal
 
 pub returns : goal.returns

@@ -1,8 +1,8 @@
 use Rattle.std.proofs.Common.{None}
 use Rattle.boot_machine.specs.declared.parts.Parts.{Parts}
 use Rattle.boot_machine.specs.declared.state.State.TheVariants.{Off}
-use Rattle.boot_machine.proofs.Entries.{steady-entered}
-use Rattle.boot_machine.proofs.Rooms.{room-new}
+use Rattle.boot_machine.proofs.EntryLemmas.{steady-entered}
+use Rattle.boot_machine.proofs.RoomLemmas.{room-new}
 use Rattle.boot_machine.proofs.machine.Machine.bootsel.Goals as goal
 
 pub invariant_of-result : goal.invariant_of-result

@@ -1,5 +1,5 @@
 use Rattle.std.proofs.Common.{refl}
-use Rattle.boot_machine.proofs.Beginning.{steady-new}
+use Rattle.boot_machine.proofs.BeginningLemmas.{steady-new}
 use Rattle.boot_machine.proofs.machine.Machine.new.Goals as goal
 
 pub invariant_of-result : goal.invariant_of-result

@@ -2,8 +2,8 @@ use Rattle.std.proofs.Common.{◌≡◌, ◌∙◌, sym, ap, subst, add-one, Som
 use Rattle.std.specs.Option.{option_map_or}
 use Rattle.part_table.specs.declared.partition.Partition.{Partition}
 use Rattle.part_table.specs.Windows.{has_sector}
-use Rattle.part_table.proofs.SearchFacts.{find_here, find_past}
-use Rattle.part_table.proofs.FaultFacts.{index_of}
+use Rattle.part_table.proofs.SearchLemmas.{find_here, find_past}
+use Rattle.part_table.proofs.FaultLemmas.{index_of}
 use Rattle.part_table.proofs.table.Table.right_word.Goals as goal
 
 pub returns-then-has_sector : goal.returns-then-has_sector

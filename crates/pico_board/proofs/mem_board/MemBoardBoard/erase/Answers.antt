@@ -5,9 +5,9 @@ use Rattle.pico_board.specs.Steps.{Erase, changed}
 use Rattle.pico_board.specs.Cuts.{Cut, pattern_at}
 use Rattle.pico_board.specs.Supply.{armed_of}
 use Rattle.pico_board.specs.MemBoard.{state_of}
-use Rattle.pico_board.proofs.Contents.{IsContent-after, IsContent-cut_by, length-cut_by}
-use Rattle.pico_board.proofs.TornSteps.{Torn-cut_by}
-use Rattle.pico_board.proofs.Tells.{Does-done, Does-lost, IsDue, IsDue-from, due_cut, flash_cut, flash_done}
+use Rattle.pico_board.proofs.ContentLemmas.{IsContent-after, IsContent-cut_by, length-cut_by}
+use Rattle.pico_board.proofs.TornStepLemmas.{Torn-cut_by}
+use Rattle.pico_board.proofs.TellLemmas.{Does-done, Does-lost, IsDue, IsDue-from, due_cut, flash_cut, flash_done}
 use Rattle.pico_board.proofs.mem_board.MemBoardBoard.erase.Goals as goal
 
 pub invariant_of-self-in-Some : goal.invariant_of-self-in-Some

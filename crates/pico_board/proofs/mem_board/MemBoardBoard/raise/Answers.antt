@@ -6,9 +6,9 @@ use Rattle.pico_board.specs.Steps.{Raise, after}
 use Rattle.pico_board.specs.Cuts.{Cut, pattern_row}
 use Rattle.pico_board.specs.Supply.{armed_of}
 use Rattle.pico_board.specs.MemBoard.{state_of}
-use Rattle.pico_board.proofs.Contents.{IsContent-after, IsContent-cut_by, length-cut_by}
-use Rattle.pico_board.proofs.TornSteps.{Torn-cut_by}
-use Rattle.pico_board.proofs.Tells.{Does-done, Does-lost, IsDue, IsDue-from, due_cut, otp_cut}
+use Rattle.pico_board.proofs.ContentLemmas.{IsContent-after, IsContent-cut_by, length-cut_by}
+use Rattle.pico_board.proofs.TornStepLemmas.{Torn-cut_by}
+use Rattle.pico_board.proofs.TellLemmas.{Does-done, Does-lost, IsDue, IsDue-from, due_cut, otp_cut}
 use Rattle.pico_board.proofs.mem_board.MemBoardBoard.raise.Goals as goal
 
 -- the content after the row was read and written

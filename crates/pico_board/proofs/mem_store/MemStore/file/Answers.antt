@@ -1,7 +1,7 @@
 -- The first file of the name has its bytes.
 use Rattle.std.proofs.Common.{List, ℕ, Some, sym, ◌∙◌, ap, subst}
 use Rattle.pico_board.specs.MemFiles.{IsFirstOf}
-use Rattle.pico_board.proofs.FileLists.{Entry, found}
+use Rattle.pico_board.proofs.FileListLemmas.{Entry, found}
 use Rattle.pico_board.proofs.mem_store.MemStore.file.Goals as goal
 
 pub returns-in-Some : goal.returns-in-Some

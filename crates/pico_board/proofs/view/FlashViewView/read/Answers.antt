@@ -1,7 +1,7 @@
 -- What the board reads is a range of the window.
 use Rattle.std.proofs.Common.{◌+◌, ◌≤◌, length, arith, sym, ◌∙◌}
 use Rattle.std.proofs.lemmas.List.Edits.{length-between}
-use Rattle.pico_board.proofs.Ranges.{slice_range-slice_range}
+use Rattle.pico_board.proofs.RangeLemmas.{slice_range-slice_range}
 use Rattle.pico_board.proofs.view.FlashViewView.read.Goals as goal
 
 pub returns : goal.returns

@@ -1,4 +1,4 @@
-use Rattle.sector_pool.proofs.FreeCount.{lent_if_free, out_if_lent, still_out_if_lent}
+use Rattle.sector_pool.proofs.FreeCountLemmas.{lent_if_free, out_if_lent, still_out_if_lent}
 use Rattle.sector_pool.proofs.pool.SectorPool.lease.Goals as goal
 
 pub returns-clause-some : goal.returns-clause-some

@@ -2,12 +2,12 @@ use Rattle.std.proofs.Common.{◌≡◌, Some, [], length, sym, ap, subst, ◌�
 use Rattle.std.specs.Option.{option_map}
 use Rattle.part_table.specs.declared.Target.{Target}
 use Rattle.sector_pool.specs.Keeping.{HandsOver}
-use Rattle.sector_pool.proofs.Handed.{HandsOver-trans}
+use Rattle.sector_pool.proofs.HandedLemmas.{HandsOver-trans}
 use Rattle.uf2_place.specs.Accepting.{Kept, Places}
 use Rattle.uf2_place.specs.Downloads.{Follows, IsTargetIn, lease_of}
 use Rattle.uf2_place.specs.Marks.{Marked}
 use Rattle.uf2_place.specs.Placement.{IsInside}
-use Rattle.uf2_place.proofs.Ruled.{rules-begins, rules-continues, next-first, next-after}
+use Rattle.uf2_place.proofs.RuledLemmas.{rules-begins, rules-continues, next-first, next-after}
 use Rattle.uf2_place.proofs.RulingLaws.{answered-power}
 use Rattle.uf2_place.proofs.download.Download.accept.Goals as goal
 

@@ -1,0 +1,150 @@
+-- What an event of a host comes to, with the boot that it asks for.
+use Rattle.std.proofs.Common.{◌≡◌, inr, ℕ, Bool, true, false, List, ◌++◌, Option, Some, None, refl, sym, ◌∙◌, subst}
+use Rattle.std.specs.Prelude.{IsTrue, codes}
+use Rattle.std.specs.Bool.{OnFalse, OnTrue}
+use Rattle.pico_board.specs.declared.Step.{Step}
+use Rattle.pico_board.specs.declared.boot.Cpu.{Cpu}
+use Rattle.pico_board.specs.declared.boot.BootKind.{BootKind}
+use Rattle.pico_board.specs.Content.{Content}
+use Rattle.pico_board.specs.Steps.{after_all}
+use Rattle.pico_board.specs.Board.{State as BoardState, DoesAll}
+use Rattle.pico_board.proofs.StepLemmas.{DoesAll-append, DoesAll-append_cut}
+use Rattle.boot_script.specs.Events.{Happening}
+use Rattle.boot_machine.specs.declared.parts.Parts.{Parts}
+use Rattle.boot_machine.specs.declared.state.State.TheVariants as states
+use Rattle.boot_machine.specs.Machines.{Host, InBootsel, Machine, Off, Place, Running, FromFlash, FromRam}
+use Rattle.boot_machine.specs.Boots.{Effect, booted}
+use Rattle.boot_machine.specs.Moves.{bootsel_effect, effect_in}
+use Rattle.boot_machine.specs.Serving.{Served, before_boot, followed, followed_by, is_hosted, served}
+use Rattle.boot_machine.specs.Standing.{Advances, Comes, IsBy, IsHost, IsServed, Serves, Stands, StandsAt}
+
+-- a machine in BOOTSEL has a host
+pub record HasHost {B : Type 0} (p : Parts B) (place : Place) : Type 0 where
+  pub host : Host
+  pub is : place ≡ InBootsel host
+  pub serves : IsHost p host
+
+pub has-host : {B : Type 0} (p : Parts B) (place : Place) → p.state ≡ states.Bootsel → StandsAt p place
+    → HasHost p place
+has-host p Off is off = let no : states.Bootsel ≡ states.Off = sym is ∙ off in cc no
+has-host p (InBootsel host) is at = record { host = host; is = refl; serves = at }
+has-host p (Running (FromFlash choice)) is run =
+    let no : states.Bootsel ≡ states.Running choice.image = sym is ∙ run.state in cc no
+has-host p (Running (FromRam image)) is run =
+    let no : states.Bootsel ≡ states.Running image = sym is ∙ run.state in cc no
+
+-- the effect of an event of a host is what is served, and the boot that follows
+hosted-effect : (c : Content) (cpu : Cpu) (host : Host) (event : Happening) → is_hosted event ≡ true
+    → followed c cpu (served c cpu host event) ≡ bootsel_effect c cpu host event
+hosted-effect c cpu host (Happening.Command command payload) is = refl
+hosted-effect c cpu host (Happening.Uf2 block) is = refl
+hosted-effect c cpu host Happening.End is = cc is
+hosted-effect c cpu host (Happening.Cut left within pattern) is = cc is
+hosted-effect c cpu host Happening.PowerOn is = cc is
+hosted-effect c cpu host (Happening.Reset kind) is = cc is
+hosted-effect c cpu host Happening.Buy is = cc is
+
+module _ {B : Type 0} (state : B → BoardState) (history : B → List Step → Type 0) where
+  -- an effect of the parts' own content is that of the machine
+  pub advance-by : (old new : Parts B) (event : Happening) (line : List ℕ)
+      → ((m : Machine) → Stands state old m
+      → Comes state history old (effect_in (state old.board).content old.cpu m.place event) new line)
+      → Advances state history old event new line
+  advance-by old new event line comes m stands =
+      inr (subst (λ c. Comes state history old (effect_in c m.cpu m.place event) new line) (sym stands.content)
+      (subst (λ cpu. Comes state history old (effect_in (state old.board).content cpu m.place event) new line)
+      (sym stands.cpu) (comes m stands)))
+
+  -- power is lost before the boot
+  lost-by : (old new : Parts B) (s : Served) (boot : Option BootKind) (c : Content) (cpu : Cpu) (line : List ℕ)
+      → IsBy state history old (before_boot s) false new line
+      → IsBy state history old (followed_by c cpu s boot) false new line
+  lost-by old new s None c cpu line by = by
+  lost-by old new s (Some kind) c cpu line by = record {
+    board = DoesAll-append_cut (booted (after_all c s.steps) cpu kind (s.text ++ codes " boot ")).steps by.board;
+    cpu = by.cpu;
+    place = tt;
+    text = tt;
+    off = by.off;
+    lost = by.lost;
+  }
+
+  -- no boot is asked for, or power was lost
+  served-alone : (old new : Parts B) (s : Served) (c : Content) (cpu : Cpu) (line : List ℕ)
+      → IsServed state history old s None new line → Comes state history old (followed c cpu s) new line
+  served-alone old new s c cpu line is = with_ok is.ok is.by is.asked
+    where
+      with_ok : (ok : Bool) → IsBy state history old (before_boot s) ok new line
+          → OnTrue ok (None ≡ s.boot) → Comes state history old (followed c cpu s) new line
+      with_ok true by asked =
+          (true, subst (λ boot. IsBy state history old (followed_by c cpu s boot) true new line) asked by)
+      with_ok false by asked = (false, lost-by old new s s.boot c cpu line by)
+
+  -- what is done first, and then another effect
+  pub by-then : (old mid new : Parts B) (first : Effect) (steps : List Step) (e : Effect) (ok : Bool)
+      (told line : List ℕ) → first.steps ≡ steps → IsBy state history old first true mid told
+      → IsBy state history mid e ok new line
+      → IsBy state history old (record { steps = steps ++ e.steps; place = e.place; text = e.text }) ok new line
+  by-then old mid new first steps e ok told line same one two = record {
+    board = DoesAll-append (subst (λ xs. DoesAll state history old.board xs true mid.board) same one.board) two.board;
+    cpu = two.cpu ∙ one.cpu;
+    place = two.place;
+    text = two.text;
+    off = two.off;
+    lost = two.lost;
+  }
+
+  -- what is known once a boot is asked for
+  pub asked-power : (old mid : Parts B) (s : Served) (kind : BootKind) (line : List ℕ)
+      → IsServed state history old s (Some kind) mid line → IsTrue (state mid.board).powered
+  asked-power old mid s kind line is = with_ok is.ok is.by is.silent
+    where
+      with_ok : (ok : Bool) → IsBy state history old (before_boot s) ok mid line
+          → OnFalse ok (Some kind ≡ None) → IsTrue (state mid.board).powered
+      with_ok true by silent = by.board.power
+      with_ok false by silent = cc silent
+
+  -- the boot that is asked for is made
+  served-boot : (old mid new : Parts B) (s : Served) (kind : BootKind) (told line : List ℕ)
+      → IsServed state history old s (Some kind) mid told
+      → Comes state history mid (booted (state mid.board).content mid.cpu kind (told ++ codes " boot ")) new line
+      → Comes state history old (followed (state old.board).content old.cpu s) new line
+  served-boot old mid new s kind told line is comes = with_ok is.ok is.by is.asked is.silent
+    where
+      with_ok : (ok : Bool) → IsBy state history old (before_boot s) ok mid told
+          → OnTrue ok (Some kind ≡ s.boot) → OnFalse ok (Some kind ≡ None)
+          → Comes state history old (followed (state old.board).content old.cpu s) new line
+      with_ok false by asked silent = cc silent
+      with_ok true by asked silent =
+          let moved = subst (λ text. Comes state history mid
+          (booted (state mid.board).content mid.cpu kind (text ++ codes " boot ")) new line) by.text comes in
+          let there = subst (λ cpu. Comes state history mid
+          (booted (state mid.board).content cpu kind (s.text ++ codes " boot ")) new line) by.cpu moved in
+          let done = subst (λ c. Comes state history mid
+          (booted c old.cpu kind (s.text ++ codes " boot ")) new line) by.board.done there in (
+            done.0,
+            subst (λ boot. IsBy state history old (followed_by (state old.board).content old.cpu s boot) (done.0) new
+                line) asked (by-then old mid new (before_boot s) s.steps _ (done.0) told line refl by (done.1)),
+          )
+
+  pub advances-alone : (old new : Parts B) (event : Happening) (line : List ℕ) → old.state ≡ states.Bootsel
+      → is_hosted event ≡ true → Serves state history old (λ c cpu host. served c cpu host event) None new line
+      → Advances state history old event new line
+  advances-alone old new event line is hosted serves = advance-by old new event line (λ m stands.
+      let at = has-host old m.place is stands.place in
+      let c = (state old.board).content in
+      subst (λ place. Comes state history old (effect_in c old.cpu place event) new line) (sym at.is)
+      (subst (λ e. Comes state history old e new line) (hosted-effect c old.cpu at.host event hosted)
+      (served-alone old new (served c old.cpu at.host event) c old.cpu line (serves at.host at.serves))))
+
+  pub advances-boot : (old mid new : Parts B) (event : Happening) (kind : BootKind) (told line : List ℕ)
+      → old.state ≡ states.Bootsel → is_hosted event ≡ true
+      → Serves state history old (λ c cpu host. served c cpu host event) (Some kind) mid told
+      → Comes state history mid (booted (state mid.board).content mid.cpu kind (told ++ codes " boot ")) new line
+      → Advances state history old event new line
+  advances-boot old mid new event kind told line is hosted serves comes = advance-by old new event line (λ m stands.
+      let at = has-host old m.place is stands.place in
+      let c = (state old.board).content in
+      subst (λ place. Comes state history old (effect_in c old.cpu place event) new line) (sym at.is)
+      (subst (λ e. Comes state history old e new line) (hosted-effect c old.cpu at.host event hosted)
+      (served-boot old mid new (served c old.cpu at.host event) kind told line (serves at.host at.serves) comes)))

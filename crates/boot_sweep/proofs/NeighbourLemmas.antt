@@ -1,0 +1,92 @@
+-- Where the members of boot units stand beside a member of a pair, and the table slots.
+use Rattle.std.proofs.Common.{◌≡◌, ◌≢◌, ◌⊎◌, inl, inr, ℕ, ◌*◌, ◌/◌, ◌≤◌, List, length, slice_get, Option, Some, None, refl, sym, ap, ◌∙◌, subst, arith, option_map}
+use Rattle.std.proofs.lemmas.Bool.{cases_eq}
+use Rattle.std.proofs.lemmas.Option.{same_Some}
+use Rattle.pico_board.specs.declared.boot.Cpu.{Cpu}
+use Rattle.pico_board.specs.declared.window.Window.{Window}
+use Rattle.pico_board.specs.Content.{AreApart, Content, IsContent}
+use Rattle.otp_roll.specs.Flags.{slot_size}
+use Rattle.part_table.specs.Windows.{IsPlaced}
+use Rattle.part_table.proofs.TableLemmas.{partition_placed}
+use Rattle.slot_choice.specs.declared.unit.Member.{Member}
+use Rattle.slot_choice.specs.declared.unit.Member.TheVariants.{A, B}
+use Rattle.slot_choice.specs.declared.unit.SlotUnit.{SlotUnit}
+use Rattle.slot_choice.specs.Units.{IsMember, IsSoundFor, member_window, units}
+use Rattle.slot_choice.proofs.PlaceLemmas.{apart_from_slots, boot_unit}
+use Rattle.slot_choice.proofs.UnitLemmas.{member_placed}
+use Rattle.boot_rules.specs.declared.tables.Found.{Found}
+use Rattle.boot_rules.specs.Choosing.{boot_units_in, other_of}
+use Rattle.boot_rules.specs.Chosen.{Home}
+use Rattle.boot_rules.specs.Starts.{IsPlacedIn, table_of_content}
+use Rattle.boot_rules.specs.Tables.{slot_window, table_in}
+use Rattle.boot_rules.proofs.PlaceLemmas.{boot-unit-members, slot-size, table-sound}
+use Rattle.boot_rules.proofs.StartLemmas.{boot-pair-apart, is-member, other-apart}
+use Rattle.boot_rules.proofs.TableLemmas.{found-in}
+use Rattle.boot_machine.proofs.OwnDecisionLemmas.{units-apart}
+
+same-or-other : (m n : Member) → (m ≡ n) ⊎ (m ≡ other_of n)
+same-or-other A A = inl refl
+same-or-other A B = inr refl
+same-or-other B A = inr refl
+same-or-other B B = inl refl
+
+module _ (c : Content) (w : Window) (cpu : Cpu) (right : IsContent c) (home : Home c w cpu) where
+  abbrev n : ℕ
+  n = length c.flash
+
+  abbrev z : ℕ
+  z = slot_size c.otp n
+
+  pub in-unit : IsMember home.unit w
+  in-unit = is-member home.member home.unit w home.stands
+
+  pub placed : IsPlacedIn c w
+  placed = boot-unit-members c cpu right home.place home.unit home.tried w in-unit
+
+  -- a member of a boot unit is the window, or stands apart from it
+  pub here-or-apart : (k : ℕ) (v : SlotUnit) (m : Member) (x : Window) → slice_get (boot_units_in c cpu) k ≡ Some v
+      → member_window m v ≡ Some x → (x ≡ w) ⊎ AreApart w x
+  here-or-apart k v m x at stands = elim (cases_eq home.place k) [
+    | inl here ↦
+        let is : home.unit ≡ v =
+        same_Some home.unit v (sym home.tried ∙ ap (slice_get (boot_units_in c cpu)) here ∙ at) in
+        of-unit (subst (λ (u : SlotUnit). member_window m u ≡ Some x) (sym is) stands) (same-or-other m home.member)
+    | inr differ ↦
+        inr (units-apart (table_of_content c) n z cpu (table-sound c (table_in c) refl) home.place k home.unit v differ
+        home.tried at w x in-unit (is-member m v x stands))
+  ]
+    where
+      of-unit : member_window m home.unit ≡ Some x → (m ≡ home.member) ⊎ (m ≡ other_of home.member)
+          → (x ≡ w) ⊎ AreApart w x
+      of-unit mine (inl e) = inl (same_Some x w (sym mine ∙ ap (λ l. member_window l home.unit) e ∙ home.stands))
+      of-unit mine (inr e) =
+          inr (other-apart home.unit
+          (boot-pair-apart (table_of_content c) n z cpu (table-sound c (table_in c) refl) home.place home.unit
+          home.tried)
+          home.member w x home.stands (sym (ap (λ l. member_window l home.unit) e) ∙ mine))
+
+  -- with a table, the window stands apart from both table slots
+  module _ (found : Found) (is : table_in c ≡ Some found) where
+    boot-at : slice_get (units (Some found.table) n z cpu) home.place ≡ Some home.unit
+    boot-at =
+        sym (ap (λ o. slice_get (units (option_map (λ (f : Found). f.table) o) n z cpu) home.place) is) ∙ home.tried
+
+    behind-slots : IsPlaced w (n / 4096) (2 * z / 4096)
+    behind-slots =
+        let boot = boot_unit found.table n z cpu home.place home.unit boot-at in
+        member_placed found.table (n / 4096) (2 * z / 4096)
+        (partition_placed found.table (n / 4096) (2 * z / 4096) (found-in c found is).1) boot.0 boot.1.within w
+        (subst (λ u. IsMember u w) boot.1.unit in-unit)
+
+    pub slots-apart : AreApart (slot_window z 0) w × AreApart (slot_window z 1) w
+    slots-apart =
+        let size = slot-size c.otp n right.flash_length.least in
+        let whole = size.whole in
+        let both : 4096 * (2 * z / 4096) ≡ 2 * z = omega (arith, whole) in
+        let apart = apart_from_slots z (2 * z / 4096) (n / 4096) w both behind-slots in
+        let never : 0 ≡ 0 * z = omega arith in
+        let once : z ≡ 1 * z = omega arith in (
+          subst (λ k. AreApart (record { start = k; len = z }) w) never apart.0,
+          subst
+              (λ k. AreApart (record { start = k; len = z }) w) once apart.1,
+        )
