@@ -1,7 +1,7 @@
 # make demo   builds the program without proving it, and boots the example image
 # make        proves the program and every crate below it, builds it as crates/boot_cli/out/boot_cli, and boots the example image
 # make bench  proves, builds for processors of x86-64-v3, and then times the program beside `openssl dgst -sha256` on flashes of 16 MiB
-# make test   the gate: proves everything from nothing, tries the must-fail edits, and runs the tests and the program
+# make test   the gate: proves everything, tries the must-fail edits, and runs the tests and the program
 
 .PHONY: all demo bench test
 

@@ -8,7 +8,7 @@ use Rattle.std.specs.List.{slice_get}
 use Rattle.block_codec.specs.Blocks.{BlockView, BlockAt}
 use Rattle.block_codec.specs.Reading.{block_at, front_block}
 use Rattle.block_codec.proofs.AtLemmas.{block_at-aligned, BlockAt-from_found, BlockAt-unique, no_block-from_none}
-use Rattle.block_loop.specs.Loop.{target, shares, IsFirstBlock, IsChain, IsLast, IsLoop, IsOpenChain, IsNext, IsFirstShared, IsFault, first_block_from, first_block, block_at_offset, is_offset, first_shared, follow, loop_of}
+use Rattle.block_loop.specs.Loop.{target, shares, IsFirstBlock, IsChain, IsLast, IsLoop, IsOpenChain, IsNext, IsFirstShared, IsFault, block_from, first_block, block_at_offset, is_offset, first_shared, follow, loop_of}
 use Rattle.block_loop.specs.declared.fault.LoopFault.{LoopFault}
 use Rattle.block_loop.specs.declared.fault.LoopFault.TheVariants.{NoBlock, Broken, TooMany, Overlap}
 use Rattle.block_loop.proofs.FollowLemmas.{first_from-end, first_from-here, first_from-later, follow-closed, follow-many, follow-broken, follow-overlap, follow-more, loop_of-none, loop_of-first, is_offset-true, is_offset-same, block_at_offset-found, block_at_offset-stands, place-none, none-place, some-place, place-some}
@@ -39,14 +39,14 @@ between_none w x y c aligned none low high at =
     let same : y ≡ x = omega arith in
     no_block-from_none w x c none (subst (λ k. BlockAt w k c) same at)
 
-pub first_from-found : (w : List ℕ) (n x : ℕ) (b : BlockView) → x % 4 ≡ 0 → first_block_from n x (drop x w) ≡ Some b
+pub first_from-found : (w : List ℕ) (n x : ℕ) (b : BlockView) → x % 4 ≡ 0 → block_from n x (drop x w) ≡ Some b
     → IsFirstFrom w n x b
 first_from-found w zero x b aligned e = absurd (none-some b (sym (first_from-end x (drop x w)) ∙ e))
 first_from-found w (suc n) x b aligned e =
     elim (none_or_some (front_block x (drop x w))) [
       | inl none ↦
-          let later : first_block_from n (x + 4) (drop (x + 4) w) ≡ Some b =
-          ap (first_block_from n (x + 4)) (sym (drop-drop 4 x w)) ∙ sym (first_from-later n x (drop x w) none) ∙ e in
+          let later : block_from n (x + 4) (drop (x + 4) w) ≡ Some b =
+          ap (block_from n (x + 4)) (sym (drop-drop 4 x w)) ∙ sym (first_from-later n x (drop x w) none) ∙ e in
           let rest = first_from-found w n (x + 4) b (omega arith) later in
           let low = rest.low in
           let high = rest.high in
@@ -72,15 +72,15 @@ first_from-found w (suc n) x b aligned e =
           }
     ]
 
-pub first_from-none : (w : List ℕ) (n x : ℕ) → x % 4 ≡ 0 → first_block_from n x (drop x w) ≡ None → (y : ℕ) (c : BlockView)
+pub first_from-none : (w : List ℕ) (n x : ℕ) → x % 4 ≡ 0 → block_from n x (drop x w) ≡ None → (y : ℕ) (c : BlockView)
     → x ≤ y → y < x + 4 * n → BlockAt w y c → ⊥
 first_from-none w zero x aligned e y c low high at = omega arith
 first_from-none w (suc n) x aligned e y c low high at =
     elim (none_or_some (front_block x (drop x w))) [
       | inr some ↦ none-some some.0 (sym e ∙ first_from-here n x (drop x w) some.0 some.1)
       | inl none ↦
-          let later : first_block_from n (x + 4) (drop (x + 4) w) ≡ None =
-          ap (first_block_from n (x + 4)) (sym (drop-drop 4 x w)) ∙ sym (first_from-later n x (drop x w) none) ∙ e in
+          let later : block_from n (x + 4) (drop (x + 4) w) ≡ None =
+          ap (block_from n (x + 4)) (sym (drop-drop 4 x w)) ∙ sym (first_from-later n x (drop x w) none) ∙ e in
           elim (cases_lt y (x + 4)) [
             | inl near ↦ between_none w x y c aligned (block_at-aligned w x aligned ∙ none) low near at
             | inr far ↦ first_from-none w n (x + 4) (omega arith) later y c far (omega arith) at

@@ -8,7 +8,7 @@ use Rattle.block_codec.specs.Blocks.{BlockView, Begins, BlockAt, IsBlock, block_
 use Rattle.block_codec.specs.Reading.{front_block, block_at}
 use Rattle.block_codec.proofs.BlockLemmas.{Begins-room, front_block-stands, front_block-begins}
 use Rattle.block_codec.proofs.AtLemmas.{BlockAt-room, BlockAt-from_found, block_at-none, block_at-aligned, no_block-from_none, same_found}
-use Rattle.block_loop.specs.Loop.{first_block_from, block_at_offset}
+use Rattle.block_loop.specs.Loop.{block_from, block_at_offset}
 use Rattle.block_loop.proofs.FollowLemmas.{first_from-end, first_from-here, first_from-later}
 
 -- what was found stands there, and where nothing was found nothing does
@@ -72,24 +72,24 @@ nowhere_to w (negsuc n) far = refl
 
 -- the search for the first block goes on behind a multiple of 4 at which none stands
 pub search_more : (w : List ℕ) (k : ℕ) → k < 1024 → None ≡ block_at w (4 * k) →
-    first_block_from (1024 - k) (4 * k) (drop (4 * k) w) ≡ first_block_from (1024 - (k + 1)) (4 * (k + 1)) (drop (4 * (k + 1)) w)
+    block_from (1024 - k) (4 * k) (drop (4 * k) w) ≡ block_from (1024 - (k + 1)) (4 * (k + 1)) (drop (4 * (k + 1)) w)
 search_more w k lt none =
     let more : 1024 - k ≡ suc (1024 - (k + 1)) = omega arith in
     let next : 4 * k + 4 ≡ 4 * (k + 1) = omega arith in
-    ap (λ n. first_block_from n (4 * k) (drop (4 * k) w)) more
+    ap (λ n. block_from n (4 * k) (drop (4 * k) w)) more
     ∙ first_from-later (1024 - (k + 1)) (4 * k) (drop (4 * k) w)
     (sym (block_at-aligned w (4 * k) (omega arith)) ∙ sym none)
-    ∙ ap (first_block_from (1024 - (k + 1)) (4 * k + 4)) (drop-drop 4 (4 * k) w)
-    ∙ ap (λ x. first_block_from (1024 - (k + 1)) x (drop x w)) next
+    ∙ ap (block_from (1024 - (k + 1)) (4 * k + 4)) (drop-drop 4 (4 * k) w)
+    ∙ ap (λ x. block_from (1024 - (k + 1)) x (drop x w)) next
 
 pub search_here : (w : List ℕ) (k : ℕ) (b : BlockView) → k < 1024 → Some b ≡ block_at w (4 * k)
-    → first_block_from (1024 - k) (4 * k) (drop (4 * k) w) ≡ Some b
+    → block_from (1024 - k) (4 * k) (drop (4 * k) w) ≡ Some b
 search_here w k b lt found =
     let more : 1024 - k ≡ suc (1024 - (k + 1)) = omega arith in
-    ap (λ n. first_block_from n (4 * k) (drop (4 * k) w)) more
+    ap (λ n. block_from n (4 * k) (drop (4 * k) w)) more
     ∙ first_from-here (1024 - (k + 1)) (4 * k) (drop (4 * k) w) b
     (sym (block_at-aligned w (4 * k) (omega arith)) ∙ sym found)
 
-pub search_end : (w : List ℕ) (k : ℕ) → 1024 ≤ k → first_block_from (1024 - k) (4 * k) (drop (4 * k) w) ≡ None
-search_end w k past = let none : 1024 - k ≡ 0 = omega arith in ap (λ n. first_block_from n (4 * k) (drop (4 * k) w)) none
+pub search_end : (w : List ℕ) (k : ℕ) → 1024 ≤ k → block_from (1024 - k) (4 * k) (drop (4 * k) w) ≡ None
+search_end w k past = let none : 1024 - k ≡ 0 = omega arith in ap (λ n. block_from n (4 * k) (drop (4 * k) w)) none
     ∙ first_from-end (4 * k) (drop (4 * k) w)

@@ -6,21 +6,21 @@ use Rattle.std.specs.List.{slice_get, position_from}
 use Rattle.block_codec.specs.Blocks.{BlockView, BlockAt}
 use Rattle.block_codec.specs.Reading.{front_block}
 use Rattle.block_codec.proofs.AtLemmas.{block_at-stands, BlockAt-from_found}
-use Rattle.block_loop.specs.Loop.{target, first_block_from, first_block, block_at_offset, is_offset, first_shared, follow, loop_of}
+use Rattle.block_loop.specs.Loop.{target, block_from, first_block, block_at_offset, is_offset, first_shared, follow, loop_of}
 use Rattle.block_loop.specs.declared.fault.LoopFault.TheVariants.{NoBlock, Broken, TooMany, Overlap}
 
 pub first_from-here : (n x : ℕ) (bytes : List ℕ) (b : BlockView) → front_block x bytes ≡ Some b
-    → first_block_from (suc n) x bytes ≡ Some b
-unfolding first_block_from
-first_from-here n x bytes b e = rw (e, first_block_from) refl
+    → block_from (suc n) x bytes ≡ Some b
+unfolding block_from
+first_from-here n x bytes b e = rw (e, block_from) refl
 
 pub first_from-later : (n x : ℕ) (bytes : List ℕ) → front_block x bytes ≡ None
-    → first_block_from (suc n) x bytes ≡ first_block_from n (x + 4) (drop 4 bytes)
-unfolding first_block_from
-first_from-later n x bytes e = rw (e, first_block_from) refl
+    → block_from (suc n) x bytes ≡ block_from n (x + 4) (drop 4 bytes)
+unfolding block_from
+first_from-later n x bytes e = rw (e, block_from) refl
 
-pub first_from-end : (x : ℕ) (bytes : List ℕ) → first_block_from 0 x bytes ≡ None
-unfolding first_block_from
+pub first_from-end : (x : ℕ) (bytes : List ℕ) → block_from 0 x bytes ≡ None
+unfolding block_from
 first_from-end x bytes = refl
 
 pub follow-closed : (n : ℕ) (w : List ℕ) (x : ℕ) (bs : List BlockView) (z : BlockView) → is_offset (target z) x ≡ true

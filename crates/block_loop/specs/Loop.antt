@@ -72,14 +72,14 @@ IsFault w (Overlap i j) =
 
 -- the first block at one of the next n multiples of 4 from offset x on, where the bytes from x on
 -- are given
-unfoldable pub first_block_from : ℕ → ℕ → List ℕ → Option BlockView
-first_block_from zero x bytes = None
-first_block_from (suc n) x bytes =
-    elim (front_block x bytes) [ Some b ↦ Some b | None ↦ first_block_from n (x + 4) (drop 4 bytes) ]
+unfoldable pub block_from : ℕ → ℕ → List ℕ → Option BlockView
+block_from zero x bytes = None
+block_from (suc n) x bytes =
+    elim (front_block x bytes) [ Some b ↦ Some b | None ↦ block_from n (x + 4) (drop 4 bytes) ]
 
 -- the first block of a window: the one at the least multiple of 4 below 4096
 abbrev pub first_block : List ℕ → Option BlockView
-first_block w = first_block_from 1024 0 w
+first_block w = block_from 1024 0 w
 
 -- the block at a signed offset
 abbrev pub block_at_offset : List ℕ → ℤ → Option BlockView

@@ -31,3 +31,5 @@ mod MovePlaceLemmas
 mod ArmingLemmas
 mod MoveTableLemmas
 mod BeginningLemmas
+mod ShownImageLemmas
+mod EventTextLemmas

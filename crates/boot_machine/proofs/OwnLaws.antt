@@ -16,8 +16,7 @@ use Rattle.pico_board.specs.Steps.{IsCutAt, IsRaise, MayLeave, after_all}
 use Rattle.pico_board.proofs.CuttingLemmas.{CutOf-from}
 use Rattle.image_def.specs.declared.started.Started.{Started}
 use Rattle.otp_roll.specs.Flags.{slot_size}
-use Rattle.otp_roll.specs.Rows
-use Rattle.otp_roll.specs.Rows.{AreRollbackRows, IsOutside, IsRollbackVersion}
+use Rattle.otp_roll.specs.Rows.{AreRollbackRows, AreRowsApart, IsOutside, IsRollbackVersion}
 use Rattle.otp_roll.proofs.RisingLemmas.{raises-listed}
 use Rattle.part_table.proofs.TableLemmas.{apart_sym}
 use Rattle.part_table.specs.Windows.{IsPlaced}
@@ -267,7 +266,7 @@ module _ (c : Content) (cpu : Cpu) (kind : BootKind) (choice : Choice) (right : 
     | inr none ↦ absurd (none-among row bits (subst (λ xs. Contains xs (Raise row bits)) none among))
   ]
 
-  outside-apart : (row r q : ℕ) → Rows.AreApart r q → ¬ (IsOutside row q) → IsOutside row r
+  outside-apart : (row r q : ℕ) → AreRowsApart r q → ¬ (IsOutside row q) → IsOutside row r
   outside-apart row r q apart is = elim (cases_lt row r) [
     | inl below ↦ inl below
     | inr from ↦

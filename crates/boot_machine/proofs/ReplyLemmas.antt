@@ -38,7 +38,7 @@ drop-few (suc k) (x ∷ xs) = let rest = drop-few k xs in omega (arith, rest)
 slice-most : {X : Type 0} (xs : List X) (a n : ℕ) → length (slice_range xs a (a + n)) ≤ n
 slice-most xs a n = let most = take-most (a + n - a) (drop a xs) in omega (arith, most)
 
-slice-few : {X : Type 0} (xs : List X) (a b : ℕ) → length (slice_range xs a b) ≤ length xs
+pub slice-few : {X : Type 0} (xs : List X) (a b : ℕ) → length (slice_range xs a b) ≤ length xs
 slice-few xs a b =
     let most = take-few (b - a) (drop a xs) in let few = drop-few a xs in omega (arith, most, few)
 

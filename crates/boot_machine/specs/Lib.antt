@@ -8,3 +8,4 @@ pub mod Crashes
 pub mod CrashExamples
 pub mod Runs
 pub mod RunExamples
+pub mod Ranges

@@ -88,8 +88,8 @@ armed_for armed (Happening.Cut left within pattern) =
 armed_for armed event = armed
 
 -- the steps were done or cut, and left this content and this armed cut, as a board told
-pub record LeavesCutOutcome (o : CutOutcome) (done : Bool) (content : Content) (armed : Option (Option Cut))
-    : Type 0 where
+pub record LeavesCutOutcome (o : CutOutcome) (done : Bool) (content : Content)
+    (armed : Option (Option Cut)) : Type 0 where
   pub answer : o.answer ≡ done
   pub left : content ≡ o.content
   pub next : armed ≡ Some o.armed

@@ -101,7 +101,8 @@ pub fn what_a_block_leaves()
     ensures again { block_served busy (arm_block 0x10001000 0) (Answered (Ok Again))
         ≡ line_only busy (codes "uf2 0 again") }
     ensures form { (c : Content) (cpu : Cpu)
-        → served c cpu busy (Happening.Uf2 (replicate 512 0)) ≡ line_only busy (codes "uf2 bad magic") }
+        → served c cpu busy (Happening.Uf2 (replicate 512 0))
+        ≡ line_only busy (codes "uf2 bad magic") }
 {}
 
 /// The boot after a download: an update of its window for the three families of executables, and a

@@ -5,8 +5,9 @@ ghost use Rattle.boot_lines.specs.Examples.{ram_image};
 ghost use Rattle.boot_machine.specs.Boots.{decided_place, decided_steps, entered};
 ghost use Rattle.boot_machine.specs.CrashExamples.{plain_sector, running_trial, table_and_bare, whole_flash_of};
 ghost use Rattle.boot_machine.specs.Crashes.{settled_choice};
-ghost use Rattle.boot_machine.specs.Machines.{FromFlash, FromRam, InBootsel, Off, Program as AnyProgram, Running};
+ghost use Rattle.boot_machine.specs.Machines.{FromFlash, FromRam, InBootsel, Machine, Off, Program as AnyProgram, Running};
 ghost use Rattle.boot_machine.specs.Moves.{Moves, Plays, effect, lost_text};
+ghost use Rattle.boot_machine.specs.Ranges.{AreInRange};
 ghost use Rattle.boot_machine.specs.RunExamples.{arm_block, armed_with, asks_target, block_of, busy, erase_both, erased, fresh_host, idle, image_bytes, image_in_a, loaded_host, lost_with, machine_at, pair_host, slot_two};
 ghost use Rattle.boot_machine.specs.Runs.{AnswersTarget, BeginsDownload, IsFresh, PlaysWriting, StartsRam};
 ghost use Rattle.boot_machine.specs.Serving.{Served, followed_by, ruling_on, serves, table_of, with_ram};
@@ -106,6 +107,18 @@ pub fn blocks_that_begin_a_download()
         → ⊥ }
     ensures another_family { (bytes : List ℕ)
         → BeginsDownload 262144 idle 0xe48bff5a bytes (arm_block 0x10000000 0) → ⊥ }
+{}
+
+/// A machine and an event whose numbers are in range, and machines and events of which one number
+/// is not.
+pub fn numbers_in_range()
+    ensures erase { AreInRange (machine_at erased (InBootsel fresh_host)) erase_both }
+    ensures off { AreInRange (machine_at erased Off) Happening.PowerOn }
+    ensures sram { (event : Happening) → AreInRange (machine_at erased (InBootsel idle)) event
+        → ⊥ }
+    ensures short { (m : Machine) (payload : List ℕ)
+        → AreInRange m (Happening.Command [] payload) → ⊥ }
+    ensures number { (m : Machine) → AreInRange m (Happening.Uf2 (256 ∷ [])) → ⊥ }
 {}
 
 /// A cut that is told: it falls before a step of the command, or has steps left behind it.

@@ -1,12 +1,14 @@
 //! Laws on runs of the machine. Each is a function that does nothing, whose contract is the law.
 
-ghost use Rattle.std.specs.Prelude.{◌≡◌, ◌≢◌, ◌↔◌, ◌⊎◌, ◌<◌, ℕ, All, Bool, List, None, Ok, Option, Some, [], ◌∷◌, codes, false, true, length};
+ghost use Rattle.std.specs.Prelude.{◌≡◌, ◌≢◌, ◌↔◌, ◌⊎◌, ◌<◌, ◌≤◌, ℕ, All, Bool, List, None, Ok, Option, Some, [], ◌∷◌, codes, false, true, length};
 ghost use Rattle.std.specs.List.{AllByRecursion};
 ghost use Rattle.block_codec.specs.Words.{AreWords, bytes_of};
+ghost use Rattle.boot_lines.specs.Events.{IsLine, Line, event_text};
 ghost use Rattle.boot_lines.specs.Texts.{command_text, refused_text};
 ghost use Rattle.boot_machine.specs.Boots.{entered};
 ghost use Rattle.boot_machine.specs.Machines.{Host, InBootsel, Machine, Off};
 ghost use Rattle.boot_machine.specs.Moves.{IsDone, IsLost, Moves, MovesBy, Plays, armed_for, effect, lost_text};
+ghost use Rattle.boot_machine.specs.Ranges.{AreInRange};
 ghost use Rattle.boot_machine.specs.Runs.{AnswersTarget, BeginsDownload, IsFresh, IsBootIntoRam, PlaysWriting, StartsRam, served_by, with_cut};
 ghost use Rattle.boot_machine.specs.Serving.{followed, ruling_on, served, table_of, taken_in};
 ghost use Rattle.boot_rules.specs.Targets.{target_of};
@@ -192,6 +194,16 @@ pub fn only_lost_power_says_so()
     ensures no_step { (m n : Machine) (event : Happening) (text : List ℕ) → Moves m event n text
         → (effect m event).steps ≡ []
         → IsDone m (armed_for m.armed event) (effect m event) n text }
+{}
+
+/// The text of a move is that of an event, and what it tells is in the ranges of its fields, where
+/// the numbers of the machine and of the event are in theirs; so it has at most 181 bytes, and a
+/// line has room for it.
+pub fn texts_of_moves()
+    ensures told { (m n : Machine) (event : Happening) (text : List ℕ) → AreInRange m event
+        → Moves m event n text → (told : Line) × (text ≡ event_text told) × IsLine told }
+    ensures few { (m n : Machine) (event : Happening) (text : List ℕ) → AreInRange m event
+        → Moves m event n text → length text ≤ 181 }
 {}
 
 /// Without power a machine stays as it is, but for a cut that is armed and for power that comes

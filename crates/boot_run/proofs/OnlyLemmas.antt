@@ -22,7 +22,7 @@ use Rattle.boot_run.specs.Commands.{Command, Boot, Info, OwnedData, Replay, Seal
 use Rattle.boot_run.specs.Forms.{HasForm, content_of, events_read, script_events}
 use Rattle.boot_run.specs.Texts.{line, decision_line, table_text, image_text, event_lines, end_line}
 use Rattle.boot_run.specs.Works.{boot_work, info_work, data_work, replay_work, window_line, windows_in, decided_data, data_line, content_files}
-use Rattle.boot_run.specs.Outcome.{Input, Outcome, inputs_of, flash_and_otp, flash_otp_script, refused, worked, first_fault, judged, command_outcome, outcome_on, outcome_found, found, found_next, work_of}
+use Rattle.boot_run.specs.Outcome.{Input, Outcome, inputs_of, flash_and_otp, flash_otp_script, refused, worked, first_fault, unless_refused, command_outcome, outcome_on, outcome_found, found, found_next, work_of}
 use Rattle.boot_run.specs.Rules.{NeedsBytes, IsFirstFault, IsRefusal, decided_status, IsBootOf, IsLineOf, AreLinesOf, IsInfoOf, IsDataOf, IsReplayOf, Obeys, FallsOn, AreFormed, IsWorked}
 use Rattle.boot_run.specs.Replays.{Played, played, powerless}
 use Rattle.boot_run.specs.ToolWorks.{gen_line, made_content, gen_work, uf2_work, plan_work}
@@ -65,22 +65,23 @@ first-exact (input ∷ inputs) (bytes ∷ read) name fault (inr (form, first)) =
 -- a command on a flash file and an OTP file whose content has one right outcome has no other
 pair-only : (flash otp f g : List ℕ) (Right : Outcome → Type 0) (w o : Outcome) → (Right o → o ≡ w)
     → IsRefusal (flash_and_otp flash otp) (f ∷ g ∷ []) o ⊎ (HasForm Flash f × HasForm Otp g × Right o)
-    → o ≡ judged (first_fault (flash_and_otp flash otp) (f ∷ g ∷ [])) w
+    → o ≡ unless_refused (first_fault (flash_and_otp flash otp) (f ∷ g ∷ [])) w
 pair-only flash otp f g Right w o only (inl (name, fault, first, is)) =
-    is ∙ sym (ap (λ j. judged j w) (first-exact (flash_and_otp flash otp) (f ∷ g ∷ []) name fault first))
+    is ∙ sym (ap (λ j. unless_refused j w) (first-exact (flash_and_otp flash otp) (f ∷ g ∷ []) name fault first))
 pair-only flash otp f g Right w o only (inr (flash_form, otp_form, right)) =
-    only right ∙ sym (ap (λ j. judged j w) (no-first flash otp f g flash_form otp_form))
+    only right ∙ sym (ap (λ j. unless_refused j w) (no-first flash otp f g flash_form otp_form))
 
 -- the same of a flash file, an OTP file and a script
 triple-only : (flash otp script f g s : List ℕ) (Right : Outcome → Type 0) (w o : Outcome) → (Right o → o ≡ w)
     → IsRefusal (flash_otp_script flash otp script) (f ∷ g ∷ s ∷ []) o
     ⊎ (HasForm Flash f × HasForm Otp g × HasForm Script s × Right o)
-    → o ≡ judged (first_fault (flash_otp_script flash otp script) (f ∷ g ∷ s ∷ [])) w
+    → o ≡ unless_refused (first_fault (flash_otp_script flash otp script) (f ∷ g ∷ s ∷ [])) w
 triple-only flash otp script f g s Right w o only (inl (name, fault, first, is)) =
-    is ∙ sym (ap (λ j. judged j w) (first-exact (flash_otp_script flash otp script) (f ∷ g ∷ s ∷ []) name fault first))
+    is ∙ sym (ap (λ j. unless_refused j w)
+    (first-exact (flash_otp_script flash otp script) (f ∷ g ∷ s ∷ []) name fault first))
 triple-only flash otp script f g s Right w o only (inr (flash_form, otp_form, script_form, right)) =
     only right
-    ∙ sym (ap (λ j. judged j w) (no-first_script flash otp script f g s flash_form otp_form script_form))
+    ∙ sym (ap (λ j. unless_refused j w) (no-first_script flash otp script f g s flash_form otp_form script_form))
 
 -- one input, and two, that have their forms have no fault
 no-one : (i : Input) (f : List ℕ) → HasForm i.form f → first_fault (i ∷ []) (f ∷ []) ≡ None
@@ -89,10 +90,10 @@ no-one i f form = ap (λ o. option_or (option_map (refused i.name) o) None) (no-
 -- a command on one input, with one right outcome
 one-only : (i : Input) (f : List ℕ) (Right : Outcome → Type 0) (w o : Outcome) → (Right o → o ≡ w)
     → IsRefusal (i ∷ []) (f ∷ []) o ⊎ (HasForm i.form f × Right o)
-    → o ≡ judged (first_fault (i ∷ []) (f ∷ [])) w
+    → o ≡ unless_refused (first_fault (i ∷ []) (f ∷ [])) w
 one-only i f Right w o only (inl (name, fault, first, is)) =
-    is ∙ sym (ap (λ j. judged j w) (first-exact (i ∷ []) (f ∷ []) name fault first))
-one-only i f Right w o only (inr (form, right)) = only right ∙ sym (ap (λ j. judged j w) (no-one i f form))
+    is ∙ sym (ap (λ j. unless_refused j w) (first-exact (i ∷ []) (f ∷ []) name fault first))
+one-only i f Right w o only (inr (form, right)) = only right ∙ sym (ap (λ j. unless_refused j w) (no-one i f form))
 
 -- inputs that have their forms have no fault
 formed-none : (inputs : List Input) (read : List (List ℕ)) → AreFormed inputs read → first_fault inputs read ≡ None
@@ -107,13 +108,14 @@ worked-only : (command : Command) (read : List (List ℕ)) (Right : Outcome → 
     → (Right o → o ≡ worked (work_of command read)) → IsWorked command read Right o
     → o ≡ command_outcome command read
 worked-only command read Right o only (inl (name, fault, inl first, is)) =
-    is ∙ sym (ap (λ j. judged j (worked (work_of command read)))
+    is ∙ sym (ap (λ j. unless_refused j (worked (work_of command read)))
     (first-exact (inputs_of command) read name fault first))
 worked-only command read Right o only (inl (name, fault, inr refuses, is)) =
     is ∙ (sym (work-exact command read name fault refuses.1)
-    ∙ sym (ap (λ j. judged j (worked (work_of command read))) (formed-none (inputs_of command) read refuses.0)))
+    ∙ sym (ap (λ j. unless_refused j (worked (work_of command read))) (formed-none (inputs_of command) read refuses.0)))
 worked-only command read Right o only (inr (all, right)) =
-    only right ∙ sym (ap (λ j. judged j (worked (work_of command read))) (formed-none (inputs_of command) read all))
+    only right ∙ sym (ap (λ j. unless_refused j (worked (work_of command read)))
+    (formed-none (inputs_of command) read all))
 
 uf2-only : (image out i : List ℕ) (family : ℕ) (o : Outcome) → IsUf2Of i family out o
     → o ≡ worked (uf2_work image family out i)
@@ -292,7 +294,7 @@ fall-then f g cpu kind (FallsToBootsel fall) is h flash otp = record {
 
 falls-then : (flash otp f g : List ℕ) (cpu : Cpu) (kind : BootKind) (w : Outcome)
     → w.status ≡ decided_status (decision_in (content_of f g) cpu kind)
-    → (o : Option Outcome) → Judged (flash_and_otp flash otp) (f ∷ g ∷ []) o → (judged o w).status ≡ Bootsel
+    → (o : Option Outcome) → Judged (flash_and_otp flash otp) (f ∷ g ∷ []) o → (unless_refused o w).status ≡ Bootsel
     → FallsOn f g cpu kind
 falls-then flash otp f g cpu kind w is None (all_formed all) h =
     fall-then f g cpu kind (decision_in (content_of f g) cpu kind) refl (sym is ∙ h) all.0 all.1.0
@@ -300,16 +302,16 @@ falls-then flash otp f g cpu kind w is (Some _) (one_faulty name fault first) h 
 
 then-falls : (flash otp f g : List ℕ) (cpu : Cpu) (kind : BootKind) (w : Outcome)
     → w.status ≡ decided_status (decision_in (content_of f g) cpu kind)
-    → FallsOn f g cpu kind → (judged (first_fault (flash_and_otp flash otp) (f ∷ g ∷ [])) w).status ≡ Bootsel
+    → FallsOn f g cpu kind → (unless_refused (first_fault (flash_and_otp flash otp) (f ∷ g ∷ [])) w).status ≡ Bootsel
 then-falls flash otp f g cpu kind w is falls =
-    ap (λ o. (judged o w).status) (no-first flash otp f g falls.flash falls.otp)
+    ap (λ o. (unless_refused o w).status) (no-first flash otp f g falls.flash falls.otp)
     ∙ (is ∙ ap decided_status
     (sym (chosen-decision (content_of f g) cpu kind (FallsToBootsel falls.fall) falls.chosen)))
 
 -- a boot ends with Bootsel exactly where the rules name a fall
 pub falls-exactly : (flash otp f g : List ℕ) (cpu : Cpu) (kind : BootKind) (w : Outcome)
     → w.status ≡ decided_status (decision_in (content_of f g) cpu kind)
-    → ((judged (first_fault (flash_and_otp flash otp) (f ∷ g ∷ [])) w).status ≡ Bootsel) ↔ FallsOn f g cpu kind
+    → ((unless_refused (first_fault (flash_and_otp flash otp) (f ∷ g ∷ [])) w).status ≡ Bootsel) ↔ FallsOn f g cpu kind
 falls-exactly flash otp f g cpu kind w is = (
   falls-then flash otp f g cpu kind w is (first_fault (flash_and_otp flash otp) (f ∷ g ∷ []))
       (judged-first (flash_and_otp flash otp) (f ∷ g ∷ []) refl),

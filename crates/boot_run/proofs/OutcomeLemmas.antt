@@ -11,7 +11,7 @@ use Rattle.boot_run.specs.declared.forms.Form.{Form}
 use Rattle.boot_run.specs.Commands.{Command}
 use Rattle.boot_run.specs.Forms.{limit_of, own_fault, form_fault, HasForm}
 use Rattle.boot_run.specs.Works.{Work, Answers, Refuses}
-use Rattle.boot_run.specs.Outcome.{Input, Outcome, inputs_of, inputs_in, refused, worked, work_of, named_fault, first_fault, judged, command_outcome, outcome_in, outcome_on, outcome_found, found, found_next, is_finished}
+use Rattle.boot_run.specs.Outcome.{Input, Outcome, inputs_of, inputs_in, refused, worked, work_of, named_fault, first_fault, unless_refused, command_outcome, outcome_in, outcome_on, outcome_found, found, found_next, is_finished}
 use Rattle.boot_run.specs.Ends.{AreRead, LacksOne, cut}
 use Rattle.boot_run.proofs.FormLemmas.{faulty, form-apart}
 
@@ -51,7 +51,7 @@ command-text : (command : Command) (read : List (List ℕ)) → IsText (command_
 command-text command read = go (first_fault (inputs_of command) read) refl
   where
     go : (o : Option Outcome) → first_fault (inputs_of command) read ≡ o
-        → IsText (judged o (worked (work_of command read))).status
+        → IsText (unless_refused o (worked (work_of command read))).status
     go None is = worked-text (work_of command read)
     go (Some fault) is = refused-text fault.status (fault-status (inputs_of command) read fault is)
 
@@ -120,9 +120,9 @@ outcome-cut command whole long = go (first_fault (inputs_of command) whole) refl
         → command_outcome command (cut (inputs_of command) whole) ≡ command_outcome command whole
     go None is = ap (command_outcome command) (none-cut (inputs_of command) whole long is)
     go (Some fault) is =
-        ap (λ o. judged o (worked (work_of command (cut (inputs_of command) whole))))
+        ap (λ o. unless_refused o (worked (work_of command (cut (inputs_of command) whole))))
         (first-cut (inputs_of command) whole ∙ is)
-        ∙ sym (ap (λ o. judged o (worked (work_of command whole))) is)
+        ∙ sym (ap (λ o. unless_refused o (worked (work_of command whole))) is)
 
 -- what is read of told files
 pub record AreFound (files : List File) (inputs : List Input) (read : List (List ℕ)) : Type 0 where

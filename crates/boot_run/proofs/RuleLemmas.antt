@@ -22,7 +22,7 @@ use Rattle.boot_run.specs.declared.forms.Form.TheVariants.{Flash, Otp, Script, J
 use Rattle.boot_run.specs.Commands.{Command, Boot, Info, OwnedData, Replay, Seal, Table, Usage, Release, Uf2, Plan, Gen}
 use Rattle.boot_run.specs.Forms.{HasForm, form_fault, content_of, filled, filled_length, events_read, script_events}
 use Rattle.boot_run.specs.Works.{is_fall, boot_work, info_work, data_work, replay_work, window_line, windows_in}
-use Rattle.boot_run.specs.Outcome.{Input, Outcome, inputs_of, flash_and_otp, flash_otp_script, binary_and_spec, one_json, refused, worked, work_of, files_work, script_work, sealing_work, tabling_work, answered_status, first_fault, judged, command_outcome, image_alone, flash_otp_image}
+use Rattle.boot_run.specs.Outcome.{Input, Outcome, inputs_of, flash_and_otp, flash_otp_script, binary_and_spec, one_json, refused, worked, work_of, files_work, script_work, sealing_work, tabling_work, answered_status, first_fault, unless_refused, command_outcome, image_alone, flash_otp_image}
 use Rattle.boot_run.specs.Texts.{line, image_text}
 use Rattle.boot_run.specs.Rules.{NeedsBytes, IsFirstFault, AreFormed, IsRefused, IsRefusal, decided_status, IsBootOf, IsLineOf, AreLinesOf, IsInfoOf, IsDataOf, IsReplayOf, Obeys, IsRefusedWork, IsWorked}
 use Rattle.boot_script.specs.declared.event.ScriptFault.{ScriptFault}
@@ -115,8 +115,8 @@ info-right c cpu = record {
 -- that they give
 pair-obeys : (flash otp f g : List ℕ) (Right : Outcome → Type 0) (w : Outcome) → Right w → (o : Option Outcome)
     → Judged (flash_and_otp flash otp) (f ∷ g ∷ []) o
-    → IsRefusal (flash_and_otp flash otp) (f ∷ g ∷ []) (judged o w)
-    ⊎ (HasForm Flash f × HasForm Otp g × Right (judged o w))
+    → IsRefusal (flash_and_otp flash otp) (f ∷ g ∷ []) (unless_refused o w)
+    ⊎ (HasForm Flash f × HasForm Otp g × Right (unless_refused o w))
 pair-obeys flash otp f g Right w right None (all_formed all) = inr (all.0, all.1.0, right)
 pair-obeys flash otp f g Right w right (Some _) (one_faulty name fault first) = inl (name, fault, first, refl)
 
@@ -124,8 +124,8 @@ pair-obeys flash otp f g Right w right (Some _) (one_faulty name fault first) = 
 triple-obeys : (flash otp script f g s : List ℕ) (Right : Outcome → Type 0) (w : Outcome)
     → (HasForm Script s → Right w) → (o : Option Outcome)
     → Judged (flash_otp_script flash otp script) (f ∷ g ∷ s ∷ []) o
-    → IsRefusal (flash_otp_script flash otp script) (f ∷ g ∷ s ∷ []) (judged o w)
-    ⊎ (HasForm Flash f × HasForm Otp g × HasForm Script s × Right (judged o w))
+    → IsRefusal (flash_otp_script flash otp script) (f ∷ g ∷ s ∷ []) (unless_refused o w)
+    ⊎ (HasForm Flash f × HasForm Otp g × HasForm Script s × Right (unless_refused o w))
 triple-obeys flash otp script f g s Right w right None (all_formed all) =
     inr (all.0, all.1.0, all.1.1.0, right all.1.1.0)
 triple-obeys flash otp script f g s Right w right (Some _) (one_faulty name fault first) =
@@ -134,7 +134,7 @@ triple-obeys flash otp script f g s Right w right (Some _) (one_faulty name faul
 -- a command on one input, and on two inputs
 one-obeys : (i : Input) (f : List ℕ) (Right : Outcome → Type 0) (w : Outcome) → (HasForm i.form f → Right w)
     → (o : Option Outcome) → Judged (i ∷ []) (f ∷ []) o
-    → IsRefusal (i ∷ []) (f ∷ []) (judged o w) ⊎ (HasForm i.form f × Right (judged o w))
+    → IsRefusal (i ∷ []) (f ∷ []) (unless_refused o w) ⊎ (HasForm i.form f × Right (unless_refused o w))
 one-obeys i f Right w right None (all_formed all) = inr (all.0, right all.0)
 one-obeys i f Right w right (Some _) (one_faulty name fault first) = inl (name, fault, first, refl)
 
@@ -142,7 +142,7 @@ one-obeys i f Right w right (Some _) (one_faulty name fault first) = inl (name, 
 pub worked-obeys : (command : Command) (read : List (List ℕ)) (Right : Outcome → Type 0) (w : Outcome)
     → (AreFormed (inputs_of command) read → IsDone command read Right w)
     → (o : Option Outcome) → Judged (inputs_of command) read o
-    → IsWorked command read Right (judged o w)
+    → IsWorked command read Right (unless_refused o w)
 worked-obeys command read Right w done None (all_formed all) = go (done all)
   where
     go : IsDone command read Right w → IsWorked command read Right w
@@ -402,13 +402,13 @@ work-exact Usage read name fault h = absurd h
 work-exact Release read name fault h = absurd h
 
 refused-then : (command : Command) (read : List (List ℕ)) (o : Option Outcome) → Judged (inputs_of command) read o
-    → (judged o (worked (work_of command read))).status ≡ Refused → IsRefused command read
+    → (unless_refused o (worked (work_of command read))).status ≡ Refused → IsRefused command read
 refused-then command read None (all_formed all) h =
     let r = work-refused command read all h in (r.0, r.1, inr (all, r.2))
 refused-then command read (Some _) (one_faulty name fault first) h = (name, fault, inl first)
 
 then-refused : (command : Command) (read : List (List ℕ)) (o : Option Outcome) → Judged (inputs_of command) read o
-    → IsRefused command read → (judged o (worked (work_of command read))).status ≡ Refused
+    → IsRefused command read → (unless_refused o (worked (work_of command read))).status ≡ Refused
 then-refused command read None (all_formed all) (name, fault, inl first) =
     absurd (first-apart (inputs_of command) read name fault all first)
 then-refused command read None (all_formed all) (name, fault, inr refuses) =

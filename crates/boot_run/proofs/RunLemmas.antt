@@ -27,7 +27,7 @@ use Rattle.boot_run.specs.Commands.{Command, Boot}
 use Rattle.boot_run.specs.Forms.{HasForm, content_of}
 use Rattle.boot_run.specs.Texts.{decision_line}
 use Rattle.boot_run.specs.Works.{boot_work, is_fall}
-use Rattle.boot_run.specs.Outcome.{Outcome, Input, inputs_of, inputs_in, flash_and_otp, flash_otp_script, outcome_in, outcome_on, outcome_found, found, found_next, command_outcome, worked, judged, first_fault, refused, answered_status, is_finished}
+use Rattle.boot_run.specs.Outcome.{Outcome, Input, inputs_of, inputs_in, flash_and_otp, flash_otp_script, outcome_in, outcome_on, outcome_found, found, found_next, command_outcome, worked, unless_refused, first_fault, refused, answered_status, is_finished}
 use Rattle.boot_run.specs.Replays.{AreOfBytes}
 use Rattle.boot_run.specs.Rules.{Names, Obeys, IsRefused, decided_status}
 use Rattle.boot_run.specs.Courses.{Runs}
@@ -89,7 +89,8 @@ boot-told flash otp f g cpu kind files d command asks is_f is_g flash_form otp_f
     (λ h. found_next (Some f) (found_next h (Some []))) is_g in
     ap (λ c. outcome_on c files) asks
     ∙ (ap (outcome_found (Some boot)) there
-    ∙ (ap (λ o. judged o (worked (boot_work (content_of f g) cpu kind))) (no-first flash otp f g flash_form otp_form)
+    ∙ (ap (λ o. unless_refused o (worked (boot_work (content_of f g) cpu kind)))
+    (no-first flash otp f g flash_form otp_form)
     ∙ (worked-decided (content_of f g) cpu kind ∙ ap decided
     (sym (chosen-decision (content_of f g) cpu kind d chosen)))))
 

@@ -85,7 +85,7 @@ module _ (binary spec out b s : List ℕ) where
   none-given asked is = ap (λ e. worked (judged_work binary spec out b asked e)) is
 
   -- the outcome refuses an input by the rules, or is right
-  SealDone : Outcome → Type 0
+  abbrev pub SealDone : Outcome → Type 0
   SealDone o = IsDone (Seal binary spec out) (b ∷ s ∷ []) (IsSealedOf out b s) o
 
   pub seal-right : HasForm Spec s → SealDone (worked (seal_work binary spec out b (spec_read s)))

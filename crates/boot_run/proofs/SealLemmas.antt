@@ -130,7 +130,8 @@ module _ (binary : List ℕ) (spec : SealSpec) where
   size-judged : IsSealable binary spec → IsJudged binary spec (sealed_error binary spec)
   size-judged sealable = go (nat_lt MOST_BYTES (length (sealed_text binary spec))) refl
     where
-      block : length (sealed_text binary spec) ≤ MOST_BYTES → (t : Bool) → nat_lt MOST_BLOCK_BYTES (block_bytes binary spec) ≡ t
+      block : length (sealed_text binary spec) ≤ MOST_BYTES → (t : Bool)
+          → nat_lt MOST_BLOCK_BYTES (block_bytes binary spec) ≡ t
           → IsJudged binary spec (cond t (Some (BlockTooLong (block_bytes binary spec)))
           (start_error (block_offset binary) (alone spec (sealed_text binary spec))))
       block small true long =
@@ -138,7 +139,11 @@ module _ (binary : List ℕ) (spec : SealSpec) where
           (sealable, small, ltb-true MOST_BLOCK_BYTES (block_bytes binary spec) long, refl)
       block small false short =
           start-judged
-          (record { sealable = sealable; image = small; block = ltb-false MOST_BLOCK_BYTES (block_bytes binary spec) short })
+          (record {
+            sealable = sealable;
+            image = small;
+            block = ltb-false MOST_BLOCK_BYTES (block_bytes binary spec) short;
+          })
           (alone spec (sealed_text binary spec)) refl
 
       go : (t : Bool) → nat_lt MOST_BYTES (length (sealed_text binary spec)) ≡ t
@@ -148,7 +153,8 @@ module _ (binary : List ℕ) (spec : SealSpec) where
       go true large =
           has_fault TooLarge (sealable, ltb-true MOST_BYTES (length (sealed_text binary spec)) large)
       go false small =
-          block (ltb-false MOST_BYTES (length (sealed_text binary spec)) small) (nat_lt MOST_BLOCK_BYTES (block_bytes binary spec))
+          block (ltb-false MOST_BYTES (length (sealed_text binary spec)) small)
+          (nat_lt MOST_BLOCK_BYTES (block_bytes binary spec))
           refl
 
   binary-judged : {Parts : Type 0} (r : Result Parts Why)

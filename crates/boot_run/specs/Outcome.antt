@@ -160,14 +160,14 @@ first_fault (input ∷ inputs) (bytes ∷ read) =
 first_fault _ _ = None
 
 -- the first fault of a form comes before the work
-abbrev pub judged : Option Outcome → Outcome → Outcome
-judged (Some fault) outcome = fault
-judged None outcome = outcome
+abbrev pub unless_refused : Option Outcome → Outcome → Outcome
+unless_refused (Some fault) outcome = fault
+unless_refused None outcome = outcome
 
 -- the outcome of a command on the bytes of its inputs
 abbrev pub command_outcome : Command → List (List ℕ) → Outcome
 command_outcome command read =
-    judged (first_fault (inputs_of command) read) (worked (work_of command read))
+    unless_refused (first_fault (inputs_of command) read) (worked (work_of command read))
 
 -- the inputs of the words, which have none where they are no command
 abbrev pub inputs_in : Option Command → List Input

@@ -64,7 +64,8 @@ alone spec image =
 abbrev pub sealed_error : List ℕ → SealSpec → Option SealError
 sealed_error binary spec =
     if nat_lt MOST_BYTES (length (sealed_text binary spec)) then Some TooLarge
-    else if nat_lt MOST_BLOCK_BYTES (block_bytes binary spec) then Some (BlockTooLong (block_bytes binary spec))
+    else if nat_lt MOST_BLOCK_BYTES (block_bytes binary spec)
+    then Some (BlockTooLong (block_bytes binary spec))
     else start_error (block_offset binary) (alone spec (sealed_text binary spec))
 
 -- the same where the binary has these parts, or fails this rule

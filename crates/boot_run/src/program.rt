@@ -134,8 +134,8 @@ pub fn run<S: Store, K: Sink>(
     // On told files: the status, the text and the files are those of the words on whole files.
     ensures told { (files : List File) → (S.state store.old).files ≡ Some files
         → is_finished result ≡ true
-        → ShowsOutcome (outcome_on (asked words.now) files) (S.state store.old) (K.state out.old) result
-        (S.state store.new) (K.state out.new) }
+        → ShowsOutcome (outcome_on (asked words.now) files) (S.state store.old) (K.state out.old)
+        result (S.state store.new) (K.state out.new) }
     ensures lacking { (files : List File) → (S.state store.old).files ≡ Some files
         → LacksOne (Some files) (inputs_in (asked words.now))
         → (result ≡ Status.ReadFault) ⊎ (result ≡ Status.Memory) }

@@ -1,6 +1,7 @@
 //! What no clause says of the commands that make files of an image, and of the one that makes a
 //! flash of a number: that they end with ample memory, each status by its cause, and texts and
-//! digests that another program worked out.
+//! digests that another program worked out; and how these and the two that tell of a flash end
+//! where a call fails.
 
 use crate::tests::{ARM_1_0, PAIR, VECTORS, flash, words};
 use crate::{Status, run};
@@ -18,6 +19,15 @@ const PLAN: [&str; 6] = ["plan", "f", "o", "arm", "i", "a"];
 
 /// The same for the RISC-V cores.
 const OTHER_PLAN: [&str; 6] = ["plan", "f", "o", "riscv", "i", "a"];
+
+/// The words of an `info`.
+const INFO: [&str; 4] = ["info", "f", "o", "arm"];
+
+/// The words of a `data`.
+const DATA: [&str; 5] = ["data", "f", "o", "arm", "normal"];
+
+/// The words of a `gen`.
+const GEN: [&str; 2] = ["gen", "7"];
 
 /// The least block of an executable for the Arm cores, linked to the block behind it, and that
 /// block, which makes a sealed image of version 1.9.
@@ -330,4 +340,54 @@ fn the_script_of_a_plan_writes_the_image(rt: HostRuntime) -> Result<(), Fail> {
 3 cmd 0x05 token=0x00000002 status=0
 4 cmd 0x0a token=0x00000003 status=0";
     replays(&rt, alloc, script, between)
+}
+
+/// How a command on good files ends whose read, write and put of these numbers fail, whether its
+/// file stands, and how many bytes it has put.
+fn failing(
+    alloc: Global,
+    texts: &[&str],
+    calls: (u64, u64, u64),
+) -> Result<(Status, bool, usize), Fail> {
+    let (read, write, put) = calls;
+    let flash = pair(alloc)?;
+    let image = sealed(alloc)?;
+    let mut store = store(
+        alloc,
+        flash,
+        Vec::new(alloc),
+        image,
+        Vec::new(alloc),
+        (read, write),
+    )?;
+    let mut out = MemSink::make(alloc, vec![in alloc; put]?);
+    let answer = run(alloc, &words(alloc, texts)?, &mut store, &mut out);
+    Ok((answer, store.file("a").is_some(), out.bytes().len()))
+}
+
+#[test]
+fn each_failing_call_ends_its_command(rt: HostRuntime) -> Result<(), Fail> {
+    let alloc = rt.alloc();
+    let cases: [(&[&str], (u64, u64, u64), Status, bool); 15] = [
+        (&INFO, (0, 0, 1), Status::ReadFault, false),
+        (&INFO, (1, 0, 1), Status::ReadFault, false),
+        (&INFO, (2, 0, 0), Status::OutputFault, false),
+        (&DATA, (0, 0, 1), Status::ReadFault, false),
+        (&DATA, (1, 0, 1), Status::ReadFault, false),
+        (&DATA, (2, 0, 0), Status::OutputFault, false),
+        (&UF2, (0, 1, 1), Status::ReadFault, false),
+        (&UF2, (1, 0, 1), Status::WriteFault, false),
+        (&UF2, (1, 1, 0), Status::OutputFault, true),
+        (&PLAN, (0, 1, 1), Status::ReadFault, false),
+        (&PLAN, (1, 1, 1), Status::ReadFault, false),
+        (&PLAN, (2, 1, 1), Status::ReadFault, false),
+        (&PLAN, (3, 0, 1), Status::WriteFault, false),
+        (&PLAN, (3, 1, 0), Status::OutputFault, true),
+        (&GEN, (0, 0, 0), Status::OutputFault, false),
+    ];
+    for (texts, calls, status, stands) in cases {
+        let end = failing(alloc, texts, calls)?;
+        assert_eq!(rt; end, (status, stands, 0));
+    }
+    Ok(())
 }

@@ -29,8 +29,8 @@ use picoboot_cmd::laws::{
 
 /// Where a session keeps to one member of a pair, and a normal boot before it starts no image
 /// there, the next normal boot after it, or after power was lost in it, decides as before, or
-/// starts a valid image of that member; and where it was a start, it is one. Where the flash has a table,
-/// the session leaves it; without one, that it leaves none is a premise.
+/// starts a valid image of that member; and where it was a start, it is one. Where the flash has a
+/// table, the session leaves it; without one, that it leaves none is a premise.
 pub fn confined_session()
     ensures decision { (c : Content) (w : Window) (cpu : Cpu) (steps : List Step) (d : Content)
         (e : Decision)
@@ -69,8 +69,7 @@ pub fn gated_cut()
 {}
 
 /// The session of a plan is gated on its window: where the plan is for a partition of the flash's
-/// table, or, where there is none, for a member of its pair. Where the window may not be written,
-/// it does nothing.
+/// table, or, where there is none, for a member of its pair.
 pub fn gated_plan()
     ensures gated { (c : Content) (cpu : Cpu) (w : Window) (image : List ℕ) (es : List Happening)
         → IsContent c → IsSlotOf c cpu w → 0 < length image → length image ≤ w.len

@@ -32,7 +32,8 @@ suits_flags Riscv flags = image_kind flags == 1 && chip_of flags == 1 && process
 -- a block suits a processor where it has at most 384 bytes and its first IMAGE_TYPE item says so
 abbrev pub does_suit : Cpu → BlockView → Bool
 does_suit cpu b =
-    nat_le (block_size b) MOST_BLOCK_BYTES && option_map_or (suits_flags cpu) (image_flags_of b) false
+    nat_le (block_size b) MOST_BLOCK_BYTES
+    && option_map_or (suits_flags cpu) (image_flags_of b) false
 
 -- the definition among the blocks of a loop, which is the last one that suits
 abbrev pub last_suiting : Cpu → List BlockView → Option BlockView

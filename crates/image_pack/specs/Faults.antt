@@ -90,8 +90,8 @@ IsSealFault binary spec (Unsealable why) =
 IsSealFault binary spec TooLarge =
     IsSealable binary spec × (MOST_BYTES < length (sealed_text binary spec))
 IsSealFault binary spec (BlockTooLong size) =
-    IsSealable binary spec × (length (sealed_text binary spec) ≤ MOST_BYTES) × (MOST_BLOCK_BYTES < size)
-    × (size ≡ block_bytes binary spec)
+    IsSealable binary spec × (length (sealed_text binary spec) ≤ MOST_BYTES)
+    × (MOST_BLOCK_BYTES < size) × (size ≡ block_bytes binary spec)
 IsSealFault binary spec (NotBootable why) =
     IsShort binary spec × FailsToBoot spec.cpu (sealed_text binary spec) why
 IsSealFault binary spec Displaced =

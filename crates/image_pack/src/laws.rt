@@ -115,8 +115,8 @@ pub fn a_sealed_image_is_read_back()
 
 /// A binary cannot be sealed for a reason exactly where that is the answer of the first of the
 /// rules of a valid image, those from the first block to the items and the one on the load map,
-/// that the binary fails, filled with 0xff to whole sectors; otherwise it keeps them all; and one of
-/// these is so, once.
+/// that the binary fails, filled with 0xff to whole sectors; otherwise it keeps them all; and one
+/// of these is so, once.
 pub fn why_a_binary_cannot_be_sealed()
     ensures fault { (binary : List ℕ) (spec : SealSpec) (why : Why)
         → IsSealFault binary spec (Unsealable why)

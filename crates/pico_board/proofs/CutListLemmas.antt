@@ -104,5 +104,7 @@ module _ {B : Type 0} {state : B → State} {history : B → List Step → Type 
   DoesAll-unarmed {old} {new} {steps} {ok} unarmed does =
       let told : HasCutOutcome (cut_steps steps None (state old).content) ok (state new) =
       subst (λ (a : Option (Option Cut)). AreCutAsArmed a (state old).content steps ok (state new)) unarmed does.told in
-      let whole = told_all-none steps (state old).content in
-      (sym told.answer ∙ ap (λ (o : CutOutcome). o.answer) whole, told.armed ∙ ap (λ (o : CutOutcome). Some o.armed) whole)
+      let whole = told_all-none steps (state old).content in (
+        sym told.answer ∙ ap (λ (o : CutOutcome). o.answer) whole,
+        told.armed ∙ ap (λ (o : CutOutcome). Some o.armed) whole,
+      )

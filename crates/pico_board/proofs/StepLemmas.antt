@@ -49,22 +49,26 @@ pub told_next-true : (o : CutOutcome) (rest : Option Cut → Content → CutOutc
     → unless_cut o rest ≡ rest o.armed o.content
 told_next-true o rest e = ap (λ b. cond b (rest o.armed o.content) o) e
 
-pub told_next-false : (o : CutOutcome) (rest : Option Cut → Content → CutOutcome) → o.answer ≡ false → unless_cut o rest ≡ o
+pub told_next-false : (o : CutOutcome) (rest : Option Cut → Content → CutOutcome) → o.answer ≡ false
+    → unless_cut o rest ≡ o
 told_next-false o rest e = ap (λ b. cond b (rest o.armed o.content) o) e
 
 told_next_assoc : (b : Bool) (o : CutOutcome) (f g h : Option Cut → Content → CutOutcome) → o.answer ≡ b
-    → ((cut : Option Cut) (c : Content) → h cut c ≡ unless_cut (f cut c) g) → unless_cut o h ≡ unless_cut (unless_cut o f) g
+    → ((cut : Option Cut) (c : Content) → h cut c ≡ unless_cut (f cut c) g)
+    → unless_cut o h ≡ unless_cut (unless_cut o f) g
 told_next_assoc true o f g h e same =
     told_next-true o h e ∙ same o.armed o.content ∙ ap (λ (p : CutOutcome). unless_cut p g) (sym (told_next-true o f e))
 told_next_assoc false o f g h e same =
-    told_next-false o h e ∙ sym (ap (λ (p : CutOutcome). unless_cut p g) (told_next-false o f e) ∙ told_next-false o g e)
+    told_next-false o h e
+    ∙ sym (ap (λ (p : CutOutcome). unless_cut p g) (told_next-false o f e) ∙ told_next-false o g e)
 
 -- what a told cut says of a list of steps and then others
 pub told_all-append : (xs ys : List Step) (cut : Option Cut) (c : Content)
     → cut_steps (xs ++ ys) cut c ≡ unless_cut (cut_steps xs cut c) (cut_steps ys)
 told_all-append [] ys cut c = refl
 told_all-append (x ∷ xs) ys cut c =
-    told_next_assoc (cut_step cut c x).answer (cut_step cut c x) (cut_steps xs) (cut_steps ys) (cut_steps (xs ++ ys)) refl
+    told_next_assoc (cut_step cut c x).answer (cut_step cut c x) (cut_steps xs) (cut_steps ys)
+    (cut_steps (xs ++ ys)) refl
     (told_all-append xs ys)
 
 told_none : (a : Option (Option Cut)) (t : State) → t.armed ≡ a → AreCutAsArmed a t.content [] true t

@@ -143,7 +143,8 @@ module _ {B : Type 0} {state : B → State} {history : B → List Step → Type 
     recorded = recorded;
   }
     where
-      is : HasCutOutcome (record { answer = true; content = after (state old).content step; armed = option_map nearer a }) true
+      is : HasCutOutcome
+          (record { answer = true; content = after (state old).content step; armed = option_map nearer a }) true
           (state new)
       is = record { answer = refl; content = content; armed = nearer_cut }
 

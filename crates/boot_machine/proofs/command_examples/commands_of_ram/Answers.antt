@@ -4,7 +4,7 @@ use Rattle.std.specs.Fmt.{padded_integral, digits, char_count}
 use Rattle.block_codec.specs.Words.{word_of, word_bytes}
 use Rattle.image_check.specs.Image.{image_in}
 use Rattle.image_def.specs.Definition.{def_of}
-use Rattle.block_loop.specs.Loop.{loop_of, follow, first_block_from}
+use Rattle.block_loop.specs.Loop.{loop_of, follow, block_from}
 use Rattle.block_codec.specs.Blocks.{frame}
 use Rattle.block_codec.specs.Reading.{block_at, front_block, item_words}
 use Rattle.block_codec.specs.Items.{size_of}
@@ -35,6 +35,6 @@ unfolding padded_integral digits char_count word_bytes
 returns-clause-range c = refl
 
 pub returns-clause-no_image : goal.returns-clause-no_image
-unfolding padded_integral digits char_count image_in def_of loop_of follow first_block_from block_at front_block
+unfolding padded_integral digits char_count image_in def_of loop_of follow block_from block_at front_block
     item_words frame size_of word_of word_bytes
 returns-clause-no_image c = refl

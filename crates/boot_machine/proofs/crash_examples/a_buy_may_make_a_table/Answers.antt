@@ -8,7 +8,7 @@ use Rattle.boot_rules.specs.Tables.{table_in}
 use Rattle.boot_rules.specs.Choosing.{decision_in}
 use Rattle.image_check.specs.Image.{image_in}
 use Rattle.image_def.specs.Definition.{def_of}
-use Rattle.block_loop.specs.Loop.{loop_of, follow, first_block_from}
+use Rattle.block_loop.specs.Loop.{loop_of, follow, block_from}
 use Rattle.block_codec.specs.Blocks.{frame}
 use Rattle.block_codec.specs.Reading.{block_at, front_block, item_words}
 use Rattle.block_codec.specs.Items.{size_of}
@@ -38,79 +38,79 @@ torn = hidden_table torn_sector
 
 pub returns-clause-tableless : goal.returns-clause-tableless
 unfolding all_below first_words schedule rounds compress hash_after digest_bytes sha256 page_programs ones ones_in
-    lowest_clear table_in decision_in image_in def_of loop_of follow first_block_from block_at front_block item_words frame
+    lowest_clear table_in decision_in image_in def_of loop_of follow block_from block_at front_block item_words frame
     size_of word_of word_bytes
 returns-clause-tableless c = refl
 
 pub returns-clause-before : goal.returns-clause-before
 unfolding all_below first_words schedule rounds compress hash_after digest_bytes sha256 page_programs ones ones_in
-    lowest_clear table_in decision_in image_in def_of loop_of follow first_block_from block_at front_block item_words frame
+    lowest_clear table_in decision_in image_in def_of loop_of follow block_from block_at front_block item_words frame
     size_of word_of word_bytes
 returns-clause-before c = refl
 
 pub returns-clause-started : goal.returns-clause-started
 unfolding all_below first_words schedule rounds compress hash_after digest_bytes sha256 page_programs ones ones_in
-    lowest_clear table_in decision_in image_in def_of loop_of follow first_block_from block_at front_block item_words frame
+    lowest_clear table_in decision_in image_in def_of loop_of follow block_from block_at front_block item_words frame
     size_of word_of word_bytes
 returns-clause-started c = refl
 
 pub returns-clause-done : goal.returns-clause-done
 unfolding all_below first_words schedule rounds compress hash_after digest_bytes sha256 page_programs ones ones_in
-    lowest_clear table_in decision_in image_in def_of loop_of follow first_block_from block_at front_block item_words frame
+    lowest_clear table_in decision_in image_in def_of loop_of follow block_from block_at front_block item_words frame
     size_of word_of word_bytes
 returns-clause-done c = refl
 
 pub returns-clause-table : goal.returns-clause-table
 unfolding all_below first_words schedule rounds compress hash_after digest_bytes sha256 page_programs ones ones_in
-    lowest_clear table_in decision_in image_in def_of loop_of follow first_block_from block_at front_block item_words frame
+    lowest_clear table_in decision_in image_in def_of loop_of follow block_from block_at front_block item_words frame
     size_of word_of word_bytes
 returns-clause-table c = refl
 
 pub returns-clause-after : goal.returns-clause-after
 unfolding all_below first_words schedule rounds compress hash_after digest_bytes sha256 page_programs ones ones_in
-    lowest_clear table_in decision_in image_in def_of loop_of follow first_block_from block_at front_block item_words frame
+    lowest_clear table_in decision_in image_in def_of loop_of follow block_from block_at front_block item_words frame
     size_of word_of word_bytes
 returns-clause-after c = refl
 
 pub returns-clause-torn_table : goal.returns-clause-torn_table
 unfolding all_below first_words schedule rounds compress hash_after digest_bytes sha256 page_programs ones ones_in
-    lowest_clear table_in decision_in image_in def_of loop_of follow first_block_from block_at front_block item_words frame
+    lowest_clear table_in decision_in image_in def_of loop_of follow block_from block_at front_block item_words frame
     size_of word_of word_bytes
 returns-clause-torn_table c = refl
 
 pub returns-clause-torn : goal.returns-clause-torn
 unfolding all_below first_words schedule rounds compress hash_after digest_bytes sha256 page_programs ones ones_in
-    lowest_clear table_in decision_in image_in def_of loop_of follow first_block_from block_at front_block item_words frame
+    lowest_clear table_in decision_in image_in def_of loop_of follow block_from block_at front_block item_words frame
     size_of word_of word_bytes
 returns-clause-torn c = refl
 
 pub returns-clause-content : goal.returns-clause-content
 unfolding all_below first_words schedule rounds compress hash_after digest_bytes sha256 page_programs ones ones_in
-    lowest_clear table_in decision_in image_in def_of loop_of follow first_block_from block_at front_block item_words frame
+    lowest_clear table_in decision_in image_in def_of loop_of follow block_from block_at front_block item_words frame
     size_of word_of word_bytes
 returns-clause-content c = content-by before 0x3000 refl refl refl refl refl refl refl
 
 pub returns-clause-cut : goal.returns-clause-cut
 unfolding all_below first_words schedule rounds compress hash_after digest_bytes sha256 page_programs ones ones_in
-    lowest_clear table_in decision_in image_in def_of loop_of follow first_block_from block_at front_block item_words frame
+    lowest_clear table_in decision_in image_in def_of loop_of follow block_from block_at front_block item_words frame
     size_of word_of word_bytes
 returns-clause-cut c = record { stands = refl; torn = torn-before _ torn 17 _ refl }
 
 image-torn : Valid torn (window_at 0 0x3000) Arm false (whole_image false)
 unfolding all_below first_words schedule rounds compress hash_after digest_bytes sha256 page_programs ones ones_in
-    lowest_clear table_in decision_in image_in def_of loop_of follow first_block_from block_at front_block item_words frame
+    lowest_clear table_in decision_in image_in def_of loop_of follow block_from block_at front_block item_words frame
     size_of word_of word_bytes
 image-torn = valid-at torn (window_at 0 0x3000) Arm false (whole_image false) refl
 
 image-after : Valid after (window_at 0 0x3000) Arm false (whole_image false)
 unfolding all_below first_words schedule rounds compress hash_after digest_bytes sha256 page_programs ones ones_in
-    lowest_clear table_in decision_in image_in def_of loop_of follow first_block_from block_at front_block item_words frame
+    lowest_clear table_in decision_in image_in def_of loop_of follow block_from block_at front_block item_words frame
     size_of word_of word_bytes
 image-after = valid-at after (window_at 0 0x3000) Arm false (whole_image false) refl
 
 same-after : SameImage torn after (whole_image false) Arm
 unfolding all_below first_words schedule rounds compress hash_after digest_bytes sha256 page_programs ones ones_in
-    lowest_clear table_in decision_in image_in def_of loop_of follow first_block_from block_at front_block item_words frame
+    lowest_clear table_in decision_in image_in def_of loop_of follow block_from block_at front_block item_words frame
     size_of word_of word_bytes
 same-after =
     let one = window_bytes torn (window_at 0 0x3000) in
@@ -122,7 +122,7 @@ same-after =
 
 same-tables : table_in torn ≡ table_in before
 unfolding all_below first_words schedule rounds compress hash_after digest_bytes sha256 page_programs ones ones_in
-    lowest_clear table_in decision_in image_in def_of loop_of follow first_block_from block_at front_block item_words frame
+    lowest_clear table_in decision_in image_in def_of loop_of follow block_from block_at front_block item_words frame
     size_of word_of word_bytes
 same-tables = refl
 

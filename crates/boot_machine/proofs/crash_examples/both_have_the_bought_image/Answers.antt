@@ -6,7 +6,7 @@ use Rattle.boot_rules.specs.Tables.{table_in}
 use Rattle.boot_rules.specs.Choosing.{decision_in}
 use Rattle.image_check.specs.Image.{image_in}
 use Rattle.image_def.specs.Definition.{def_of}
-use Rattle.block_loop.specs.Loop.{loop_of, follow, first_block_from}
+use Rattle.block_loop.specs.Loop.{loop_of, follow, block_from}
 use Rattle.block_codec.specs.Blocks.{frame}
 use Rattle.block_codec.specs.Reading.{block_at, front_block, item_words}
 use Rattle.block_codec.specs.Items.{size_of}
@@ -38,27 +38,27 @@ abbrev image : Started
 image = bought running_trial.image
 
 starts-there : decision_in (whole_flash_of (plain_sector 0)) Arm Normal ≡ Start (settled_choice running_trial)
-unfolding table_in decision_in image_in def_of loop_of follow first_block_from block_at front_block item_words frame size_of
+unfolding table_in decision_in image_in def_of loop_of follow block_from block_at front_block item_words frame size_of
     word_of word_bytes
 starts-there = refl
 
 starts-bare : decision_in (whole_flash_of bare_sector) Arm Normal ≡ Bootsel NoImage
-unfolding table_in decision_in image_in def_of loop_of follow first_block_from block_at front_block item_words frame size_of
+unfolding table_in decision_in image_in def_of loop_of follow block_from block_at front_block item_words frame size_of
     word_of word_bytes
 starts-bare = refl
 
 pick-there : pick (whole_flash_of (plain_sector 0)) whole_unit Arm ≡ Some image
-unfolding table_in decision_in image_in def_of loop_of follow first_block_from block_at front_block item_words frame size_of
+unfolding table_in decision_in image_in def_of loop_of follow block_from block_at front_block item_words frame size_of
     word_of word_bytes
 pick-there = refl
 
 pick-bare : pick (whole_flash_of bare_sector) whole_unit Arm ≡ None
-unfolding table_in decision_in image_in def_of loop_of follow first_block_from block_at front_block item_words frame size_of
+unfolding table_in decision_in image_in def_of loop_of follow block_from block_at front_block item_words frame size_of
     word_of word_bytes
 pick-bare = refl
 
 valid-there : Valid (whole_flash_of (plain_sector 0)) whole Arm false image
-unfolding table_in decision_in image_in def_of loop_of follow first_block_from block_at front_block item_words frame size_of
+unfolding table_in decision_in image_in def_of loop_of follow block_from block_at front_block item_words frame size_of
     word_of word_bytes
 valid-there = valid-at (whole_flash_of (plain_sector 0)) whole Arm false image refl
 
@@ -80,7 +80,7 @@ never-picked : pick (whole_flash_of bare_sector) whole_unit Arm ≡ Some image �
 never-picked h = let e : Some image ≡ None = sym h ∙ pick-bare in cc
 
 last-byte : SameImage (whole_flash_of (plain_sector 0)) (whole_flash_of (plain_sector 1)) image Arm → ⊥
-unfolding table_in decision_in image_in def_of loop_of follow first_block_from block_at front_block item_words frame size_of
+unfolding table_in decision_in image_in def_of loop_of follow block_from block_at front_block item_words frame size_of
     word_of word_bytes
 last-byte same =
     let one = window_bytes (whole_flash_of (plain_sector 0)) whole in

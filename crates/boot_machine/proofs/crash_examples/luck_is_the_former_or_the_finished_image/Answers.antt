@@ -6,7 +6,7 @@ use Rattle.std.specs.Int.Count.{ones, ones_in}
 use Rattle.boot_rules.specs.Tables.{table_in}
 use Rattle.image_check.specs.Image.{image_in}
 use Rattle.image_def.specs.Definition.{def_of}
-use Rattle.block_loop.specs.Loop.{loop_of, follow, first_block_from}
+use Rattle.block_loop.specs.Loop.{loop_of, follow, block_from}
 use Rattle.block_codec.specs.Blocks.{frame}
 use Rattle.block_codec.specs.Reading.{block_at, front_block, item_words}
 use Rattle.block_codec.specs.Items.{size_of}
@@ -31,7 +31,7 @@ abbrev second : Window
 second = window_at 0x1000 0x1000
 
 bare-none : images_in (one_sector bare_sector) Arm second false ≡ None
-unfolding table_in image_in def_of loop_of follow first_block_from block_at front_block item_words frame size_of word_of
+unfolding table_in image_in def_of loop_of follow block_from block_at front_block item_words frame size_of word_of
     word_bytes
 bare-none = refl
 
@@ -40,22 +40,22 @@ no-image s valid =
     let h : None ≡ Some s = sym bare-none ∙ valid-found (one_sector bare_sector) Arm second false s valid in cc
 
 valid-plain : Valid (one_sector (plain_sector 0)) second Arm false sector_image
-unfolding table_in image_in def_of loop_of follow first_block_from block_at front_block item_words frame size_of word_of
+unfolding table_in image_in def_of loop_of follow block_from block_at front_block item_words frame size_of word_of
     word_bytes
 valid-plain = valid-at (one_sector (plain_sector 0)) second Arm false sector_image refl
 
 valid-other : Valid (one_sector (plain_sector 1)) second Arm false sector_image
-unfolding table_in image_in def_of loop_of follow first_block_from block_at front_block item_words frame size_of word_of
+unfolding table_in image_in def_of loop_of follow block_from block_at front_block item_words frame size_of word_of
     word_bytes
 valid-other = valid-at (one_sector (plain_sector 1)) second Arm false sector_image refl
 
 valid-mapped : Valid (one_sector (mapped_sector 0)) second Arm false sector_image
-unfolding table_in image_in def_of loop_of follow first_block_from block_at front_block item_words frame size_of word_of
+unfolding table_in image_in def_of loop_of follow block_from block_at front_block item_words frame size_of word_of
     word_bytes
 valid-mapped = valid-at (one_sector (mapped_sector 0)) second Arm false sector_image refl
 
 pub returns-clause-bare : goal.returns-clause-bare
-unfolding table_in image_in def_of loop_of follow first_block_from block_at front_block item_words frame size_of word_of
+unfolding table_in image_in def_of loop_of follow block_from block_at front_block item_words frame size_of word_of
     word_bytes
 returns-clause-bare c = empty-lucky (one_sector (plain_sector 0)) (one_sector (plain_sector 1))
     (one_sector bare_sector) second Arm refl no-image
@@ -65,7 +65,7 @@ returns-clause-former c = former-lucky (one_sector (plain_sector 0)) (one_sector
     (one_sector (plain_sector 0)) second Arm refl refl refl
 
 pub returns-clause-finished : goal.returns-clause-finished
-unfolding table_in image_in def_of loop_of follow first_block_from block_at front_block item_words frame size_of word_of
+unfolding table_in image_in def_of loop_of follow block_from block_at front_block item_words frame size_of word_of
     word_bytes
 returns-clause-finished c = finished-lucky (one_sector bare_sector) (one_sector (plain_sector 0))
     (one_sector (plain_sector 0)) second Arm refl refl refl
@@ -80,7 +80,7 @@ returns-clause-new c = λ luck.
 
 -- without a load map the last byte counts
 last-byte : SameImage (one_sector (plain_sector 1)) (one_sector (plain_sector 0)) sector_image Arm → ⊥
-unfolding table_in image_in def_of loop_of follow first_block_from block_at front_block item_words frame size_of word_of
+unfolding table_in image_in def_of loop_of follow block_from block_at front_block item_words frame size_of word_of
     word_bytes
 last-byte same =
     let one = window_bytes (one_sector (plain_sector 1)) second in
@@ -95,13 +95,13 @@ returns-clause-other_byte c = λ luck.
     Arm luck sector_image valid-other) [ inl known ↦ last-byte known.same | inr known ↦ last-byte known.same ]
 
 valid-moved : Valid (one_sector (mapped_sector 1)) second Arm false sector_image
-unfolding table_in image_in def_of loop_of follow first_block_from block_at front_block item_words frame size_of word_of
+unfolding table_in image_in def_of loop_of follow block_from block_at front_block item_words frame size_of word_of
     word_bytes
 valid-moved = valid-at (one_sector (mapped_sector 1)) second Arm false sector_image refl
 
 -- with a load map of no entry the blocks alone count
 same-mapped : SameImage (one_sector (mapped_sector 1)) (one_sector (mapped_sector 0)) sector_image Arm
-unfolding table_in image_in def_of loop_of follow first_block_from block_at front_block item_words frame size_of word_of
+unfolding table_in image_in def_of loop_of follow block_from block_at front_block item_words frame size_of word_of
     word_bytes
 same-mapped =
     let one = window_bytes (one_sector (mapped_sector 1)) second in
@@ -112,7 +112,7 @@ same-mapped =
     tt
 
 pub returns-clause-byte_outside : goal.returns-clause-byte_outside
-unfolding table_in image_in def_of loop_of follow first_block_from block_at front_block item_words frame size_of word_of
+unfolding table_in image_in def_of loop_of follow block_from block_at front_block item_words frame size_of word_of
     word_bytes
 returns-clause-byte_outside c = record {
   table = refl;
@@ -127,7 +127,7 @@ returns-clause-byte_outside c = record {
 
 -- the second item word of the blocks differs
 block-word : SameImage (one_sector (mapped_sector 0)) (one_sector (plain_sector 0)) sector_image Arm → ⊥
-unfolding table_in image_in def_of loop_of follow first_block_from block_at front_block item_words frame size_of word_of
+unfolding table_in image_in def_of loop_of follow block_from block_at front_block item_words frame size_of word_of
     word_bytes
 block-word same =
     let one = window_bytes (one_sector (mapped_sector 0)) second in
@@ -145,7 +145,7 @@ returns-clause-other_block c = λ luck.
     ]
 
 trial-none : images_in (one_sector trial_sector) Arm second false ≡ None
-unfolding table_in image_in def_of loop_of follow first_block_from block_at front_block item_words frame size_of
+unfolding table_in image_in def_of loop_of follow block_from block_at front_block item_words frame size_of
     word_of word_bytes
 trial-none = refl
 
@@ -154,7 +154,7 @@ no-trial s valid =
     let h : None ≡ Some s = sym trial-none ∙ valid-found (one_sector trial_sector) Arm second false s valid in cc
 
 pub returns-clause-trial : goal.returns-clause-trial
-unfolding table_in image_in def_of loop_of follow first_block_from block_at front_block item_words frame size_of
+unfolding table_in image_in def_of loop_of follow block_from block_at front_block item_words frame size_of
     word_of word_bytes
 returns-clause-trial c = empty-lucky (one_sector bare_sector) (one_sector bare_sector) (one_sector trial_sector) second
     Arm refl no-trial
@@ -169,13 +169,13 @@ returns-clause-was_trial c = λ luck.
 
 -- on rows of a count of 2 the first of three images is below them
 below-none : images_in (three_images 0x0c0 3 3 3) Arm (window_at 0x2000 0x1000) false ≡ None
-unfolding ones ones_in table_in image_in def_of loop_of follow first_block_from block_at front_block item_words frame size_of
+unfolding ones ones_in table_in image_in def_of loop_of follow block_from block_at front_block item_words frame size_of
     word_of word_bytes
 below-none = refl
 
 valid-first : Valid (three_images 0x0c0 0 0 0) (window_at 0x2000 0x1000) Arm false
     (rows_image (window_at 0x2000 0x1000) 0 0x0c0)
-unfolding ones ones_in table_in image_in def_of loop_of follow first_block_from block_at front_block item_words frame size_of
+unfolding ones ones_in table_in image_in def_of loop_of follow block_from block_at front_block item_words frame size_of
     word_of word_bytes
 valid-first = valid-at (three_images 0x0c0 0 0 0) (window_at 0x2000 0x1000) Arm false
     (rows_image (window_at 0x2000 0x1000) 0 0x0c0) refl

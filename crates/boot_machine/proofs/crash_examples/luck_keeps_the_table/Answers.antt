@@ -3,7 +3,7 @@ use Rattle.std.proofs.Common.{◌≡◌, false, None, Some, refl, sym, ◌∙◌
 use Rattle.boot_rules.specs.Tables.{table_in}
 use Rattle.image_check.specs.Image.{image_in}
 use Rattle.image_def.specs.Definition.{def_of}
-use Rattle.block_loop.specs.Loop.{loop_of, follow, first_block_from}
+use Rattle.block_loop.specs.Loop.{loop_of, follow, block_from}
 use Rattle.block_codec.specs.Blocks.{frame}
 use Rattle.block_codec.specs.Reading.{block_at, front_block, item_words}
 use Rattle.block_codec.specs.Items.{size_of}
@@ -16,12 +16,12 @@ use Rattle.boot_machine.proofs.LuckLaws.{former-lucky}
 use Rattle.boot_machine.proofs.crash_examples.luck_keeps_the_table.Goals as goal
 
 table-there : table_in table_and_bare ≡ Some (found_in 0 (empty_table false 0 0))
-unfolding table_in image_in def_of loop_of follow first_block_from block_at front_block item_words frame size_of word_of
+unfolding table_in image_in def_of loop_of follow block_from block_at front_block item_words frame size_of word_of
     word_bytes
 table-there = refl
 
 table-bare : table_in (one_sector bare_sector) ≡ None
-unfolding table_in image_in def_of loop_of follow first_block_from block_at front_block item_words frame size_of word_of
+unfolding table_in image_in def_of loop_of follow block_from block_at front_block item_words frame size_of word_of
     word_bytes
 table-bare = refl
 

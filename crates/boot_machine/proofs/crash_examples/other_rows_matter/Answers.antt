@@ -12,7 +12,7 @@ use Rattle.boot_rules.specs.Tables.{table_in}
 use Rattle.boot_rules.specs.Choosing.{decision_in}
 use Rattle.image_check.specs.Image.{image_in}
 use Rattle.image_def.specs.Definition.{def_of}
-use Rattle.block_loop.specs.Loop.{loop_of, follow, first_block_from}
+use Rattle.block_loop.specs.Loop.{loop_of, follow, block_from}
 use Rattle.block_codec.specs.Blocks.{frame}
 use Rattle.block_codec.specs.Reading.{block_at, front_block, item_words}
 use Rattle.block_codec.specs.Items.{size_of}
@@ -30,43 +30,43 @@ use Rattle.boot_machine.proofs.crash_examples.other_rows_matter.Goals as goal
 
 pub returns-clause-before : goal.returns-clause-before
 unfolding all_below first_words schedule rounds compress hash_after digest_bytes sha256 page_programs ones ones_in
-    lowest_clear table_in decision_in image_in def_of loop_of follow first_block_from block_at front_block item_words frame
+    lowest_clear table_in decision_in image_in def_of loop_of follow block_from block_at front_block item_words frame
     size_of word_of word_bytes
 returns-clause-before c = refl
 
 pub returns-clause-started : goal.returns-clause-started
 unfolding all_below first_words schedule rounds compress hash_after digest_bytes sha256 page_programs ones ones_in
-    lowest_clear table_in decision_in image_in def_of loop_of follow first_block_from block_at front_block item_words frame
+    lowest_clear table_in decision_in image_in def_of loop_of follow block_from block_at front_block item_words frame
     size_of word_of word_bytes
 returns-clause-started c = refl
 
 pub returns-clause-steps : goal.returns-clause-steps
 unfolding all_below first_words schedule rounds compress hash_after digest_bytes sha256 page_programs ones ones_in
-    lowest_clear table_in decision_in image_in def_of loop_of follow first_block_from block_at front_block item_words frame
+    lowest_clear table_in decision_in image_in def_of loop_of follow block_from block_at front_block item_words frame
     size_of word_of word_bytes
 returns-clause-steps c = refl
 
 pub returns-clause-done : goal.returns-clause-done
 unfolding all_below first_words schedule rounds compress hash_after digest_bytes sha256 page_programs ones ones_in
-    lowest_clear table_in decision_in image_in def_of loop_of follow first_block_from block_at front_block item_words frame
+    lowest_clear table_in decision_in image_in def_of loop_of follow block_from block_at front_block item_words frame
     size_of word_of word_bytes
 returns-clause-done c = refl
 
 pub returns-clause-after : goal.returns-clause-after
 unfolding all_below first_words schedule rounds compress hash_after digest_bytes sha256 page_programs ones ones_in
-    lowest_clear table_in decision_in image_in def_of loop_of follow first_block_from block_at front_block item_words frame
+    lowest_clear table_in decision_in image_in def_of loop_of follow block_from block_at front_block item_words frame
     size_of word_of word_bytes
 returns-clause-after c = refl
 
 pub returns-clause-torn : goal.returns-clause-torn
 unfolding all_below first_words schedule rounds compress hash_after digest_bytes sha256 page_programs ones ones_in
-    lowest_clear table_in decision_in image_in def_of loop_of follow first_block_from block_at front_block item_words frame
+    lowest_clear table_in decision_in image_in def_of loop_of follow block_from block_at front_block item_words frame
     size_of word_of word_bytes
 returns-clause-torn c = refl
 
 pub returns-clause-content : goal.returns-clause-content
 unfolding all_below first_words schedule rounds compress hash_after digest_bytes sha256 page_programs ones ones_in
-    lowest_clear table_in decision_in image_in def_of loop_of follow first_block_from block_at front_block item_words frame
+    lowest_clear table_in decision_in image_in def_of loop_of follow block_from block_at front_block item_words frame
     size_of word_of word_bytes
 returns-clause-content c = content-by (three_images 0x0c0 0 0 0) 0x5000 refl refl refl refl refl refl refl
 
@@ -104,7 +104,7 @@ first_unit = record { a = window_at 0x2000 0x1000; b = None; a_part = Some 0; b_
 
 pub returns-clause-premise : goal.returns-clause-premise
 unfolding all_below first_words schedule rounds compress hash_after digest_bytes sha256 page_programs ones ones_in
-    lowest_clear table_in decision_in image_in def_of loop_of follow first_block_from block_at front_block item_words frame
+    lowest_clear table_in decision_in image_in def_of loop_of follow block_from block_at front_block item_words frame
     size_of word_of word_bytes
 returns-clause-premise c = λ keeps.
     elim (keeps.apart 0 first_unit A (window_at 0x2000 0x1000) (rows_image (window_at 0x2000 0x1000) 0 0x0c0) 0x0c0
@@ -119,13 +119,13 @@ returns-clause-premise c = λ keeps.
 
 pub returns-clause-own : goal.returns-clause-own
 unfolding all_below first_words schedule rounds compress hash_after digest_bytes sha256 page_programs ones ones_in
-    lowest_clear table_in decision_in image_in def_of loop_of follow first_block_from block_at front_block item_words frame
+    lowest_clear table_in decision_in image_in def_of loop_of follow block_from block_at front_block item_words frame
     size_of word_of word_bytes
 returns-clause-own c = inl (refl, refl)
 
 pub returns-clause-triples : goal.returns-clause-triples
 unfolding all_below first_words schedule rounds compress hash_after digest_bytes sha256 page_programs ones ones_in
-    lowest_clear table_in decision_in image_in def_of loop_of follow first_block_from block_at front_block item_words frame
+    lowest_clear table_in decision_in image_in def_of loop_of follow block_from block_at front_block item_words frame
     size_of word_of word_bytes
 returns-clause-triples c = λ keeps.
     elim (keeps.apart 0 first_unit A (window_at 0x2000 0x1000) (rows_image (window_at 0x2000 0x1000) 0 0x0c0) 0x0c0

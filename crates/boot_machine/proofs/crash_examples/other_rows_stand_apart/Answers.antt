@@ -9,7 +9,7 @@ use Rattle.boot_rules.specs.Tables.{table_in}
 use Rattle.boot_rules.specs.Choosing.{decision_in}
 use Rattle.image_check.specs.Image.{image_in}
 use Rattle.image_def.specs.Definition.{def_of}
-use Rattle.block_loop.specs.Loop.{loop_of, follow, first_block_from}
+use Rattle.block_loop.specs.Loop.{loop_of, follow, block_from}
 use Rattle.block_codec.specs.Blocks.{frame}
 use Rattle.block_codec.specs.Reading.{block_at, front_block, item_words}
 use Rattle.block_codec.specs.Items.{size_of}
@@ -35,25 +35,25 @@ use Rattle.boot_machine.proofs.crash_examples.other_rows_stand_apart.Goals as go
 
 pub returns-clause-before : goal.returns-clause-before
 unfolding first_words schedule rounds compress hash_after digest_bytes sha256 page_programs ones ones_in
-    lowest_clear table_in decision_in image_in def_of loop_of follow first_block_from block_at front_block item_words frame
+    lowest_clear table_in decision_in image_in def_of loop_of follow block_from block_at front_block item_words frame
     size_of word_of word_bytes
 returns-clause-before c = refl
 
 pub returns-clause-steps : goal.returns-clause-steps
 unfolding first_words schedule rounds compress hash_after digest_bytes sha256 page_programs ones ones_in
-    lowest_clear table_in decision_in image_in def_of loop_of follow first_block_from block_at front_block item_words frame
+    lowest_clear table_in decision_in image_in def_of loop_of follow block_from block_at front_block item_words frame
     size_of word_of word_bytes
 returns-clause-steps c = refl
 
 pub returns-clause-after : goal.returns-clause-after
 unfolding first_words schedule rounds compress hash_after digest_bytes sha256 page_programs ones ones_in
-    lowest_clear table_in decision_in image_in def_of loop_of follow first_block_from block_at front_block item_words frame
+    lowest_clear table_in decision_in image_in def_of loop_of follow block_from block_at front_block item_words frame
     size_of word_of word_bytes
 returns-clause-after c = refl
 
 pub returns-clause-torn : goal.returns-clause-torn
 unfolding first_words schedule rounds compress hash_after digest_bytes sha256 page_programs ones ones_in
-    lowest_clear table_in decision_in image_in def_of loop_of follow first_block_from block_at front_block item_words frame
+    lowest_clear table_in decision_in image_in def_of loop_of follow block_from block_at front_block item_words frame
     size_of word_of word_bytes
 returns-clause-torn c = refl
 
@@ -66,21 +66,21 @@ unit_at start part = record { a = window_at start 0x1000; b = None; a_part = Som
 
 units-are : boot_units_in content Arm ≡ unit_at 0x2000 0 ∷ unit_at 0x3000 1 ∷ last_unit ∷ []
 unfolding first_words schedule rounds compress hash_after digest_bytes sha256 page_programs ones ones_in
-    lowest_clear table_in decision_in image_in def_of loop_of follow first_block_from block_at front_block item_words frame
+    lowest_clear table_in decision_in image_in def_of loop_of follow block_from block_at front_block item_words frame
     size_of word_of word_bytes
 units-are = refl
 
 first-image : images_in content Arm (window_at 0x2000 0x1000) false
     ≡ Some (rows_image (window_at 0x2000 0x1000) 0 0x0c3)
 unfolding first_words schedule rounds compress hash_after digest_bytes sha256 page_programs ones ones_in
-    lowest_clear table_in decision_in image_in def_of loop_of follow first_block_from block_at front_block item_words frame
+    lowest_clear table_in decision_in image_in def_of loop_of follow block_from block_at front_block item_words frame
     size_of word_of word_bytes
 first-image = refl
 
 second-image : images_in content Arm (window_at 0x3000 0x1000) false
     ≡ Some (rows_image (window_at 0x3000 0x1000) 1 0x0c3)
 unfolding first_words schedule rounds compress hash_after digest_bytes sha256 page_programs ones ones_in
-    lowest_clear table_in decision_in image_in def_of loop_of follow first_block_from block_at front_block item_words frame
+    lowest_clear table_in decision_in image_in def_of loop_of follow block_from block_at front_block item_words frame
     size_of word_of word_bytes
 second-image = refl
 

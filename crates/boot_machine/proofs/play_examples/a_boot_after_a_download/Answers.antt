@@ -5,7 +5,7 @@ use Rattle.boot_rules.specs.Tables.{table_in}
 use Rattle.boot_rules.specs.Choosing.{decision_in}
 use Rattle.image_check.specs.Image.{image_in}
 use Rattle.image_def.specs.Definition.{def_of}
-use Rattle.block_loop.specs.Loop.{loop_of, follow, first_block_from}
+use Rattle.block_loop.specs.Loop.{loop_of, follow, block_from}
 use Rattle.block_codec.specs.Blocks.{frame}
 use Rattle.block_codec.specs.Reading.{block_at, front_block, item_words}
 use Rattle.block_codec.specs.Items.{size_of}
@@ -15,6 +15,6 @@ use Rattle.boot_machine.proofs.play_examples.a_boot_after_a_download.Goals as go
 
 pub returns-clause-event : goal.returns-clause-event
 unfolding written uf2_bytes decision_in padded_integral digits char_count table_in image_in def_of loop_of follow
-    first_block_from block_at front_block item_words frame size_of word_of
+    block_from block_at front_block item_words frame size_of word_of
     word_bytes
 returns-clause-event c = refl

@@ -4,7 +4,7 @@ use Rattle.std.specs.Prelude.{codes}
 use Rattle.std.specs.Fmt.{padded_integral, digits, char_count}
 use Rattle.image_check.specs.Image.{image_in}
 use Rattle.image_def.specs.Definition.{def_of}
-use Rattle.block_loop.specs.Loop.{loop_of, follow, first_block_from}
+use Rattle.block_loop.specs.Loop.{loop_of, follow, block_from}
 use Rattle.block_codec.specs.Blocks.{frame}
 use Rattle.block_codec.specs.Reading.{block_at, front_block, item_words}
 use Rattle.block_codec.specs.Items.{size_of}
@@ -31,7 +31,7 @@ started =
 loads : Moves (machine_at erased (InBootsel fresh_host))
     (Happening.Command (written (write_command 0x20000000 28)) image_bytes)
     (machine_at erased (InBootsel loaded_host)) loaded
-unfolding padded_integral digits char_count image_in def_of loop_of follow first_block_from block_at front_block
+unfolding padded_integral digits char_count image_in def_of loop_of follow block_from block_at front_block
     item_words frame size_of word_of word_bytes
 loads = inl (record {
   content = refl;
@@ -44,7 +44,7 @@ loads = inl (record {
 starts : Moves (machine_at erased (InBootsel loaded_host))
     (Happening.Command (written (reboot_into 3 0x20000000 28)) [])
     (machine_at erased (Running (FromRam ram_image))) started
-unfolding padded_integral digits char_count image_in def_of loop_of follow first_block_from block_at front_block
+unfolding padded_integral digits char_count image_in def_of loop_of follow block_from block_at front_block
     item_words frame size_of word_of word_bytes
 starts = inl (record {
   content = refl;

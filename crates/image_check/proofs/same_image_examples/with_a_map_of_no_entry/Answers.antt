@@ -6,7 +6,7 @@ use Rattle.block_codec.specs.Blocks.{frame}
 use Rattle.block_codec.specs.Reading.{block_at, front_block, item_words}
 use Rattle.block_codec.specs.Items.{size_of}
 use Rattle.block_codec.specs.Words.{word_bytes, word_of}
-use Rattle.block_loop.specs.Loop.{first_block_from, follow, loop_of}
+use Rattle.block_loop.specs.Loop.{block_from, follow, loop_of}
 use Rattle.image_def.specs.Definition.{def_of}
 use Rattle.image_check.specs.Image.{image_in}
 use Rattle.image_check.specs.Examples.{arm_record, arm_type, otp_with, right_pc, window_with}
@@ -15,7 +15,7 @@ use Rattle.image_check.proofs.SameLemmas.{same-block}
 use Rattle.image_check.proofs.same_image_examples.with_a_map_of_no_entry.Goals as goal
 
 pub returns-clause-same : goal.returns-clause-same
-unfolding image_in def_of loop_of follow first_block_from block_at front_block item_words frame size_of word_of word_bytes
+unfolding image_in def_of loop_of follow block_from block_at front_block item_words frame size_of word_of word_bytes
 returns-clause-same c =
     let one = window_with right_pc (arm_type ∷ 0x00000106 ∷ []) 0 ++ 7 ∷ [] in
     let two = window_with 0x20000005 (arm_type ∷ 0x00000106 ∷ []) 0 ++ 8 ∷ [] in
@@ -25,7 +25,7 @@ returns-clause-same c =
     tt
 
 pub returns-clause-block : goal.returns-clause-block
-unfolding image_in def_of loop_of follow first_block_from block_at front_block item_words frame size_of word_of word_bytes
+unfolding image_in def_of loop_of follow block_from block_at front_block item_words frame size_of word_of word_bytes
 returns-clause-block c = λ s h.
     let one = window_with right_pc (arm_type ∷ 0x00000106 ∷ []) 0 in
     let two = window_with right_pc (arm_type ∷ 0x00000106 ∷ []) 4 in

@@ -6,7 +6,7 @@ use Rattle.block_codec.specs.Blocks.{frame}
 use Rattle.block_codec.specs.Reading.{block_at, front_block, item_words}
 use Rattle.block_codec.specs.Items.{size_of}
 use Rattle.block_codec.specs.Words.{word_bytes, word_of}
-use Rattle.block_loop.specs.Loop.{first_block_from, follow, loop_of}
+use Rattle.block_loop.specs.Loop.{block_from, follow, loop_of}
 use Rattle.image_def.specs.Definition.{def_of}
 use Rattle.image_check.specs.Image.{image_in}
 use Rattle.image_check.specs.Examples.{arm_record, arm_type, map_of, otp_with, right_pc, window_with}
@@ -15,7 +15,7 @@ use Rattle.image_check.proofs.SameLemmas.{same-storage}
 use Rattle.image_check.proofs.same_image_examples.with_an_entry.Goals as goal
 
 pub returns-clause-clear : goal.returns-clause-clear
-unfolding image_in def_of loop_of follow first_block_from block_at front_block item_words frame size_of word_of word_bytes
+unfolding image_in def_of loop_of follow block_from block_at front_block item_words frame size_of word_of word_bytes
 returns-clause-clear c =
     let one = window_with right_pc (arm_type ∷ map_of 0 0x20000000 16) 0 in
     let two = window_with 0x20000005 (arm_type ∷ map_of 0 0x20000000 16) 0 in
@@ -25,7 +25,7 @@ returns-clause-clear c =
     (tt, tt)
 
 pub returns-clause-stored : goal.returns-clause-stored
-unfolding image_in def_of loop_of follow first_block_from block_at front_block item_words frame size_of word_of word_bytes
+unfolding image_in def_of loop_of follow block_from block_at front_block item_words frame size_of word_of word_bytes
 returns-clause-stored c =
     let one = window_with right_pc (arm_type ∷ map_of 0xfffffff0 0x10000000 8) 0 ++ 7 ∷ [] in
     let two = window_with right_pc (arm_type ∷ map_of 0xfffffff0 0x10000000 8) 0 ++ 8 ∷ [] in
@@ -35,7 +35,7 @@ returns-clause-stored c =
     (same-range one two 0 8 (omega arith) (omega arith) refl, tt)
 
 pub returns-clause-other : goal.returns-clause-other
-unfolding image_in def_of loop_of follow first_block_from block_at front_block item_words frame size_of word_of word_bytes
+unfolding image_in def_of loop_of follow block_from block_at front_block item_words frame size_of word_of word_bytes
 returns-clause-other c = λ s h.
     let one = window_with right_pc (arm_type ∷ map_of 0xfffffff0 0x10000000 8) 0 in
     let two = window_with 0x20000005 (arm_type ∷ map_of 0xfffffff0 0x10000000 8) 0 in
