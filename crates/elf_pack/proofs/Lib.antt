@@ -1,0 +1,14 @@
+pub mod ListLemmas
+pub mod SegmentLemmas
+pub mod PlacingLemmas
+pub mod FaultLemmas
+pub mod StoringLemmas
+pub mod TogetherLemmas
+pub mod LoadsLemmas
+pub mod SealedLemmas
+pub mod StoredLemmas
+pub mod AnswerLemmas
+pub mod BlockLemmas
+pub mod OwnLemmas
+pub mod WholeLemmas
+pub mod BinaryLemmas

@@ -1,0 +1,24 @@
+//! ELF files, as compilers and linkers write them, to binaries that can be sealed, and to sealed
+//! images.
+//!
+//! The definitions stand in `specs/`: `Fields` and `Segments` say what is read of a file, `Faults`
+//! when it is refused and for which fault, with `Judging` as the function that finds it, and
+//! `Binaries` what its binary is: a map from addresses to bytes, or an image that loads itself into
+//! SRAM; `Whole` says what its sealed image gives, and `Examples` has worked files.
+#![tactic(auto)]
+
+pub mod examples;
+mod fault;
+mod fields;
+mod judging;
+pub mod laws;
+mod packing;
+mod placing;
+mod segment;
+mod storing;
+
+pub use fault::ElfFault;
+pub use packing::{elf_binary, elf_image};
+
+#[cfg(test)]
+mod tests;

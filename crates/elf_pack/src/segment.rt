@@ -1,0 +1,86 @@
+//! Segments of an ELF file.
+
+ghost use Rattle.std.specs.Prelude.{◌≡◌, ◌⊎◌, ◌+◌, ◌*◌, ◌≤◌, IfOk, length};
+ghost use Rattle.elf_pack.specs.Fields.{header_count, headers_at};
+ghost use Rattle.elf_pack.specs.Segments.{is_in_flash, is_in_sram, segment_at, segments};
+
+use crate::fields::{half_at, word_at};
+use load_map::{SRAM_END, SRAM_START};
+use std::alloc::{AllocError, Global};
+
+/// The size of a program header.
+pub(crate) const HEADER: usize = 32;
+
+/// The type of a program header that asks for bytes to be loaded.
+const LOADED: u32 = 1;
+
+/// The first address of flash, and the one after its last.
+const FLASH: (u64, u64) = (0x1000_0000, 0x1100_0000);
+
+/// What a program header asks to be loaded.
+#[derive(Clone, Copy, Debug, PartialEq, Eq)]
+pub(crate) struct Segment {
+    /// The number of the program header.
+    pub(crate) number: u32,
+    /// The offset in the file of the segment's bytes.
+    pub(crate) offset: u32,
+    /// Their physical address.
+    pub(crate) address: u32,
+    /// Their number in the file.
+    pub(crate) size: u32,
+}
+
+/// The segment of this program header, where it is one.
+#[tactic(auto, unfolding(crate::specs::Segments::segment_at))]
+fn segment_at(elf: &[u8], number: u32) -> Option<Segment>
+    requires long { 52 ≤ length elf.now }
+    requires inside { headers_at elf.now + 32 * number + 32 ≤ length elf.now }
+    ensures { result ≡ segment_at elf.now number }
+{
+    let at = word_at(elf, 28) as usize + HEADER * number as usize;
+    let size = word_at(elf, at + 16);
+    if word_at(elf, at) == LOADED && size > 0 {
+        Some(Segment {
+            number,
+            offset: word_at(elf, at + 4),
+            address: word_at(elf, at + 12),
+            size,
+        })
+    } else {
+        None
+    }
+}
+
+/// The segments of a file.
+pub(crate) fn segments(alloc: Global, elf: &[u8]) -> Result<Vec<Segment>, AllocError>
+    requires long { 52 ≤ length elf.now }
+    requires inside { (header_count elf.now ≡ 0)
+        ⊎ (headers_at elf.now + 32 * header_count elf.now ≤ length elf.now) }
+    ensures value { IfOk result (λ found. found.items ≡ segments elf.now) }
+    ensures few { IfOk result (λ found. length found.items ≤ 65535) }
+{
+    let mut found = Vec::new(alloc);
+    let count = u32::from(half_at(elf, 44));
+    for number in 0..count {
+        if let Some(segment) = segment_at(elf, number) {
+            found.push(segment)?;
+        }
+    }
+    Ok(found)
+}
+
+/// Whether a segment lies wholly in the addresses of flash.
+pub(crate) fn is_in_flash(segment: &Segment) -> bool
+    ensures { result ≡ is_in_flash segment.now }
+{
+    let (first, size) = (u64::from(segment.address), u64::from(segment.size));
+    FLASH.0 <= first && first + size <= FLASH.1
+}
+
+/// Whether a segment lies wholly in SRAM.
+pub(crate) fn is_in_sram(segment: &Segment) -> bool
+    ensures { result ≡ is_in_sram segment.now }
+{
+    let (first, size) = (u64::from(segment.address), u64::from(segment.size));
+    u64::from(SRAM_START) <= first && first + size <= u64::from(SRAM_END)
+}
