@@ -4,7 +4,7 @@
 ghost use Rattle.std.specs.Prelude.{◌≡◌, ℕ, ◌+◌, Err, List, [], ◌∷◌, ◌++◌, Ok, false, length, true};
 ghost use Rattle.pico_board.specs.declared.BootKind.TheVariants.{Bootsel, Normal, Update};
 ghost use Rattle.boot_script.specs.declared.event.ScriptFault.TheVariants.{Kind, Pattern, Short};
-ghost use Rattle.boot_script.specs.Events.{Buy, Command, Cut, End, PowerOn, Reset, Uf2};
+ghost use Rattle.boot_script.specs.Events.{Buy, Command, Cut, End, IsWritable, PowerOn, Reset, Uf2};
 ghost use Rattle.boot_script.specs.Reading.{event_at};
 ghost use Rattle.boot_script.specs.Scripts.{events};
 
@@ -93,4 +93,15 @@ pub fn scripts()
     ensures no_end { events (4 ∷ 6 ∷ []) ≡ Err (Short 2) }
     ensures fault { events (4 ∷ 5 ∷ 0 ∷ 0 ∷ 0 ∷ 0 ∷ 0 ∷ 7 ∷ 0 ∷ []) ≡ Err (Kind 7) }
     ensures nothing { events [] ≡ Err (Short 0) }
+{}
+
+/// An event that is written to a script has a payload that is shorter than a script may be, and the
+/// pattern of its cut is one that a bench takes.
+pub fn events_that_are_written()
+    ensures longest { (command payload : List ℕ) → length payload ≡ 0x3ff_ffff
+        → IsWritable (Command command payload) }
+    ensures longer { (command payload : List ℕ) → length payload ≡ 0x400_0000
+        → ¬ (IsWritable (Command command payload)) }
+    ensures cut_within { IsWritable (Cut 0 true (7 ∷ [])) }
+    ensures no_pattern { ¬ (IsWritable (Cut 0 true [])) }
 {}

@@ -26,21 +26,25 @@ arm_block words = block_with (arm_item ∷ words)
 abbrev pub arm_fault : List ℕ → Option DefFault
 arm_fault words = result_err (def_of (arm_block words))
 
--- what the IMAGE_TYPE item for Arm alone says
-abbrev pub arm_def : Def
-arm_def = record {
-  flags = 0x1021;
+-- a definition of these flags and of so many hashed words, with nothing else that an item says
+abbrev pub def_with : ℕ → ℕ → Def
+def_with flags hashed = record {
+  flags = flags;
   image_word = 1;
   vector = None;
   entry_point = None;
   delta = pos 0;
   map_item = None;
-  hash_words = 0;
+  hash_words = hashed;
   digest = None;
   version = record { major = 0; minor = 0 };
   rollback = None;
   rows = record { items = [] };
 }
+
+-- what the IMAGE_TYPE item for Arm alone says
+abbrev pub arm_def : Def
+arm_def = def_with 0x1021 0
 
 -- a block at this offset with this IMAGE_TYPE item and n items of one word that are passed over; it
 -- has 20 + 4 * n bytes

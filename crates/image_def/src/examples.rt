@@ -12,11 +12,12 @@ ghost use Rattle.block_codec.specs.Blocks.{BlockView, block_size};
 ghost use Rattle.image_def.specs.declared.fault.DefFault.TheVariants.{Repeated, BadItem, BadRow, RepeatedRow};
 ghost use Rattle.pico_board.specs.declared.boot.Cpu.TheVariants.{Arm, Riscv};
 ghost use Rattle.image_def.specs.Definition.{def_of, no_version};
+ghost use Rattle.image_def.specs.Guarantees.{IsDefinition};
 ghost use Rattle.image_def.specs.Flags.{flags_of, image_kind, security_of, processor_of, chip_of, is_trial};
 ghost use Rattle.image_def.specs.Rows.{is_near};
 ghost use Rattle.image_def.specs.Suits.{has_image_type, image_flags_of, suits_flags, does_suit, last_suiting};
 ghost use Rattle.image_def.specs.Trial.{trial_cleared};
-ghost use Rattle.image_def.specs.Examples.{block_with, arm_item, riscv_item, arm_block, arm_fault, arm_def, padded_block, full_block, full_def, digest_words, digest_bytes, many_rows, value_item};
+ghost use Rattle.image_def.specs.Examples.{block_with, arm_item, riscv_item, arm_block, arm_fault, arm_def, def_with, padded_block, full_block, full_def, digest_words, digest_bytes, many_rows, value_item};
 
 /// The flags are the third and the fourth byte of the header, and each field has its bits.
 pub fn bits_of_flags()
@@ -373,4 +374,12 @@ pub fn trial_bits()
         (block_with (0x00000203 ∷ 0x80000000 ∷ 0x90210142 ∷ 0x90210142 ∷ []))
         ≡ block_with (0x00000203 ∷ 0x80000000 ∷ 0x10210142 ∷ 0x90210142 ∷ []) }
     ensures other { trial_cleared (block_with (0x900001fe ∷ [])) ≡ block_with (0x900001fe ∷ []) }
+{}
+
+/// The flags of a definition are 16 bits, and so many words of its block are hashed at most: the
+/// block of one item word has five.
+pub fn bounds_of_definitions()
+    ensures flags { (b : BlockView) (hashed : ℕ) → ¬ (IsDefinition b (def_with 0x1_0000 hashed)) }
+    ensures hashed { (flags : ℕ) → ¬ (IsDefinition (arm_block []) (def_with flags 6)) }
+    ensures all_hashed { def_of (arm_block (0x01000247 ∷ 7 ∷ [])) ≡ Ok (def_with 0x1021 7) }
 {}

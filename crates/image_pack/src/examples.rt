@@ -4,8 +4,12 @@ ghost use Rattle.std.specs.Prelude.{◌≡◌, [], ◌∷◌, ◌++◌, true, fa
 ghost use Rattle.pico_board.specs.declared.boot.Cpu.TheVariants.{Arm, Riscv};
 ghost use Rattle.block_codec.specs.Blocks.{frame};
 ghost use Rattle.block_codec.specs.Words.{bytes_of};
+ghost use Rattle.pico_board.specs.Examples.{window_at};
 ghost use Rattle.image_pack.specs.Examples.{four_bytes, least_image, spec_of};
+ghost use Rattle.image_pack.specs.Plans.{IsPlanned};
+ghost use Rattle.image_pack.specs.ReadBack.{IsHalves};
 ghost use Rattle.image_pack.specs.Sealing.{entry_words, front_items, own_loads, sealed_text};
+ghost use Rattle.image_pack.specs.declared.sealing.TheConstants.{MOST_BYTES};
 
 /// The least image for Arm, sealed with version 1.9: its block links to the new one, and that back
 /// to it.
@@ -47,4 +51,26 @@ pub fn the_loads_of_a_new_block()
         ≡ 0xffffffc8 ∷ 0x20000000 ∷ 4 ∷ [] }
     ensures clear { entry_words 0x138 (four_bytes None 0x20000000)
         ≡ 0 ∷ 0x20000000 ∷ 4 ∷ [] }
+{}
+
+/// A sealed image has at most 16 MiB.
+pub fn the_most_bytes_of_a_sealed_image()
+    ensures { MOST_BYTES ≡ 16777216 }
+{}
+
+/// An update is planned for a window of whole sectors, or of none, that ends at 16,777,216 or
+/// below.
+pub fn windows_of_plans()
+    ensures greatest { IsPlanned (window_at 0 0x100_0000) }
+    ensures above { ¬ (IsPlanned (window_at 0x1000 0x100_0000)) }
+    ensures empty { IsPlanned (window_at 0x100_0000 0) }
+    ensures part_of_a_sector { ¬ (IsPlanned (window_at 0x1000 0xfff)) }
+    ensures between_sectors { ¬ (IsPlanned (window_at 0xfff 0x1000)) }
+{}
+
+/// The numbers of a version are half words.
+pub fn halves_of_versions()
+    ensures greatest { IsHalves (record { major = 0xffff; minor = 0xffff }) }
+    ensures major_above { ¬ (IsHalves (record { major = 0x1_0000; minor = 0 })) }
+    ensures minor_above { ¬ (IsHalves (record { major = 0; minor = 0x1_0000 })) }
 {}

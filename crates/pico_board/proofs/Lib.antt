@@ -9,6 +9,7 @@ pub mod GateLemmas
 pub mod HistoryLemmas
 pub mod PhaseLemmas
 pub mod PieceLemmas
+pub mod SectorLemmas
 pub mod SessionLemmas
 pub mod SettledCutLemmas
 pub mod RaiseLemmas

@@ -6,9 +6,13 @@ use Rattle.pico_board.specs.Content.{Content}
 use Rattle.pico_board.specs.Steps.{Step, Erase, Program, after_all}
 use Rattle.pico_board.specs.Cuts.{cut_by, cut_with}
 
+-- the window of this start and length
+abbrev pub window_at : ℕ → ℕ → Window
+window_at start len = record { start = start; len = len }
+
 -- the window of sectors 2 and 3
 abbrev pub two_sectors : Window
-two_sectors = record { start = 8192; len = 8192 }
+two_sectors = window_at 8192 8192
 
 -- the steps between the first one and the programs of the first sector: they write page 48, which
 -- is the first of sector 3

@@ -1,13 +1,13 @@
 //! Laws on what steps leave, done or torn. Each is a function that does nothing, whose contract is
 //! the law.
 
-ghost use Rattle.std.specs.Prelude.{◌≡◌, ◌⊎◌, ◌↔◌, ℕ, ◌+◌, ◌-◌, ◌≤◌, All, Bool, List, None, Some, [], ◌∷◌, ◌++◌, length, slice_get, take, true, false};
+ghost use Rattle.std.specs.Prelude.{◌≡◌, ◌⊎◌, ◌↔◌, ℕ, ◌+◌, ◌-◌, ◌*◌, ◌<◌, ◌≤◌, All, Bool, List, None, Some, [], ◌∷◌, ◌++◌, length, slice_get, slice_index, take, true, false};
 ghost use Rattle.std.specs.List.{AllByRecursion};
 ghost use Rattle.pico_board.specs.declared.window.Window.{Window};
 ghost use Rattle.pico_board.specs.Content.{AreApart, Content, IsContent, window_bytes};
-ghost use Rattle.pico_board.specs.Steps.{Step, Raise, CutOf, IsCutAt, IsRaise, IsRaisedIn, IsStepIn, MayLeave, Torn, TornErase, after, after_all};
+ghost use Rattle.pico_board.specs.Steps.{Step, Raise, CutOf, IsCutAt, IsRaise, IsBetween, IsRaisedIn, IsStepIn, MayLeave, Torn, TornErase, after, after_all};
 ghost use Rattle.pico_board.specs.Cuts.{cut_by, cut_with, cut_steps};
-ghost use Rattle.pico_board.specs.Sessions.{Confined, Gated, IsBlank, IsClosing, IsGated, IsPartial, SameButWindow, Unfinished};
+ghost use Rattle.pico_board.specs.Sessions.{Confined, Gated, IsBlank, IsBlankPage, IsClosing, IsGated, IsPageOf, IsPartial, IsSamePage, SameButSector, SameButWindow, Unfinished};
 
 /// A cut of a list falls in one of its steps, after the steps before it.
 pub fn cut_falls_in_a_step()
@@ -88,6 +88,19 @@ pub fn prefix_of_gated_is_gated()
     ensures prefix { (xs ys : List Step) (w : Window) → Gated (xs ++ ys) w → Gated xs w }
     ensures sixteen { (steps : List Step) (w : Window) (s : ℕ) (elsewhere last : List Step)
         → IsGated steps w s elsewhere last → length last ≤ 16 }
+{}
+
+/// A sector is made of its pages: it is blank exactly where each of them is, and two contents that
+/// differ in it alone are equal where they have the same pages of it. Where power is lost while the
+/// last sector is written, each bit of that sector is set or is the finished one.
+pub fn pages_make_a_sector()
+    ensures blank { (s : ℕ) (d : Content)
+        → IsBlank s d ↔ ((q : ℕ) → IsPageOf s q → IsBlankPage q d) }
+    ensures same { (s : ℕ) (c d : Content) → SameButSector s c d
+        → ((q : ℕ) → IsPageOf s q → IsSamePage q c d) → d ≡ c }
+    ensures closing { (z : Content) (s p : ℕ) (d : Content) → IsClosing z s p d
+        → (i : ℕ) → i < 4096
+        → IsBetween 255 (slice_index z.flash (4096 * s + i)) (slice_index d.flash (4096 * s + i)) }
 {}
 
 /// The phases of a gated list of a window inside the flash: the loss of power leaves its first

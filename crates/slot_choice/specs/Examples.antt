@@ -3,14 +3,12 @@
 use Rattle.std.specs.Prelude.{ℕ, ◌+◌, false, List, [], ◌∷◌, None, Some}
 use Rattle.block_codec.specs.declared.versions.Version.{Version}
 use Rattle.pico_board.specs.declared.window.Window.{Window}
+-- the crates above name the window of a start and a length from here
+pub use Rattle.pico_board.specs.Examples.{window_at}
 use Rattle.part_table.specs.declared.partition.Partition.{Partition}
 use Rattle.part_table.specs.declared.table.Table.{Table}
 use Rattle.part_table.specs.Examples.{plain_partition, sectors}
 use Rattle.slot_choice.specs.declared.unit.SlotUnit.{SlotUnit}
-
--- a window of this start and length
-abbrev pub window_at : ℕ → ℕ → Window
-window_at from size = record { start = from; len = size }
 
 -- a unit of two partitions, by the window and the number of each
 abbrev pub pair_unit : Window → ℕ → Window → ℕ → SlotUnit
