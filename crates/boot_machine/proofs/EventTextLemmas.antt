@@ -1,6 +1,6 @@
 -- The text of a move is that of an event, and what it tells is in the ranges of its fields.
-use Rattle.std.proofs.Common.{◌≡◌, ◌≢◌, ℕ, zero, suc, ◌+◌, ◌-◌, ◌*◌, ◌%◌, ◌^◌, ◌<◌, ◌≤◌, ◌==◌, ◌&&◌, Bool, true, false, List, [], ◌∷◌, ◌++◌, length, drop, get_or, Option, Some, None, Result, Ok, Err, refl, sym, ap, subst, ◌∙◌, inl, inr, arith, append_assoc, length-drop}
-use Rattle.std.specs.Prelude.{if◌then◌else◌, IfSome, IfOk, All, codes, nat_le, not, is_some, slice_range}
+use Rattle.std.proofs.Common.{◌≡◌, ℕ, zero, suc, ◌+◌, ◌-◌, ◌*◌, ◌%◌, ◌^◌, ◌<◌, ◌≤◌, ◌==◌, Bool, true, false, List, [], ◌∷◌, ◌++◌, length, drop, Option, Some, None, Result, Ok, Err, refl, sym, ap, subst, ◌∙◌, inl, inr, arith, append_assoc, length-drop}
+use Rattle.std.specs.Prelude.{if◌then◌else◌, IfOk, All, codes, nat_le, not, is_some, slice_range}
 use Rattle.std.specs.List.{AllByRecursion}
 use Rattle.std.specs.Result.{result_ok}
 use Rattle.std.proofs.lemmas.Bool.{eqb-true, leb-true}
@@ -20,13 +20,11 @@ use Rattle.image_def.specs.declared.started.Started.{Started}
 use Rattle.image_check.specs.declared.why.Why.{Why}
 use Rattle.uf2_place.specs.declared.block.Uf2.{Uf2}
 use Rattle.uf2_place.specs.declared.block.Uf2Fault.{Uf2Fault}
-use Rattle.uf2_place.specs.declared.block.Uf2Fault.TheVariants.{Magic, Payload, Alignment, Number}
 use Rattle.uf2_place.specs.declared.block.TheConstants.{PAYLOAD}
-use Rattle.uf2_place.specs.declared.answer.Accepted.{Accepted}
 use Rattle.uf2_place.specs.declared.answer.Accepted.TheVariants.{Done, Taken}
 use Rattle.uf2_place.specs.declared.answer.Ruling.{Ruling}
 use Rattle.uf2_place.specs.declared.answer.Ruling.TheVariants.{Answered, Begins, Continues}
-use Rattle.uf2_place.specs.Blocks.{fields_of as block_fields, has_magic, is_number, uf2_of, word_at}
+use Rattle.uf2_place.specs.Blocks.{has_magic, is_number, uf2_of, word_at}
 use Rattle.uf2_place.specs.Placement.{grown, is_whole}
 use Rattle.picoboot_cmd.specs.declared.cmd.Cmd.{Cmd}
 use Rattle.picoboot_cmd.specs.declared.cmd.CmdFault.{CmdFault}
@@ -37,11 +35,11 @@ use Rattle.picoboot_cmd.specs.Commands.{IsCommand, command_in, fields_of}
 use Rattle.picoboot_cmd.specs.Served.{Served as Command, boot_by, reply_of}
 use Rattle.info_reply.specs.declared.ask.Ask.{Ask}
 use Rattle.info_reply.specs.declared.kinds.TheConstants.{BUFFER_TOO_SMALL, INFO, NOT_FOUND}
-use Rattle.info_reply.specs.Asks.{ask_checks, ask_in, asked, is_there, reply_checks}
+use Rattle.info_reply.specs.Asks.{ask_in, asked, is_there, reply_checks}
 use Rattle.info_reply.specs.Statuses.{checks_of_reply, info_checks}
 use Rattle.load_map.specs.declared.addresses.TheConstants.{SRAM_START}
 use Rattle.ram_start.specs.Images.{ram_image, ram_window}
-use Rattle.ram_start.specs.Serving.{RamServed, is_ram_command, ram_checks, ram_command, ram_reply, ram_served, ram_status, reboot_image, reboot_range}
+use Rattle.ram_start.specs.Serving.{RamServed, is_ram_command, ram_checks, ram_reply, ram_status, reboot_image, reboot_range}
 use Rattle.ram_start.specs.Sram.{IsSram}
 use Rattle.image_check.specs.Addressing.{in_ram}
 use Rattle.image_check.proofs.LawLemmas.{answered-valid}
@@ -59,9 +57,9 @@ use Rattle.boot_lines.specs.Texts.{accepted_text, command_text, decision_text, n
 use Rattle.boot_lines.proofs.LengthLemmas.{length_event}
 use Rattle.boot_machine.specs.Boots.{Effect}
 use Rattle.boot_machine.specs.Machines.{Host, Machine, Place, Off, InBootsel, Running, FromFlash, FromRam}
-use Rattle.boot_machine.specs.Moves.{IsDone, IsLost, Moves, effect, effect_in}
+use Rattle.boot_machine.specs.Moves.{Moves, effect, effect_in}
 use Rattle.boot_machine.specs.Ranges.{AreInRange, HasBytes, HasSram}
-use Rattle.boot_machine.specs.Serving.{Served, asked_target, block_served, blocks_of, command_served, device_of, followed_by, host_result, info_reply, info_status, info_words, ram_text, ruling_on, serves, serves_host, serves_info, serves_ram, served, slot_of, table_of, taken_in, uf2_served}
+use Rattle.boot_machine.specs.Serving.{Served, asked_target, block_served, blocks_of, command_served, device_of, followed_by, host_result, info_reply, info_status, info_words, ram_text, ruling_on, serves_host, serves_ram, served, slot_of, table_of, taken_in, uf2_served}
 use Rattle.boot_machine.proofs.InfoLemmas.{few-asked, few-refused, status-asked, status-refused}
 use Rattle.boot_machine.proofs.RamRunLemmas.{either}
 use Rattle.boot_machine.proofs.ReplyLemmas.{slice-few}

@@ -8,7 +8,7 @@ use Rattle.pico_board.specs.declared.Step.TheVariants.{Program, Raise}
 use Rattle.pico_board.specs.Content.{Content, IsContent, IsFlashLength}
 use Rattle.pico_board.specs.Steps.{Torn}
 use Rattle.pico_board.proofs.TornStepLemmas.{SameOutside-refl}
-use Rattle.boot_machine.specs.CrashExamples.{three_raises}
+use Rattle.boot_machine.specs.Examples.{three_raises}
 
 -- each number is below n, by computing
 unfoldable pub all_below : ℕ → List ℕ → Bool

@@ -1,6 +1,6 @@
 -- The numbers of an image that is valid in bytes are in the ranges of their fields.
-use Rattle.std.proofs.Common.{◌≡◌, ℕ, zero, suc, ◌+◌, ◌-◌, ◌*◌, ◌/◌, ◌%◌, ◌^◌, ◌<◌, ◌≤◌, ◌==◌, Bool, true, false, List, [], ◌∷◌, ◌++◌, length, take, drop, get_or, Option, Some, None, Result, Ok, Err, refl, sym, ap, subst, ◌∙◌, arith}
-use Rattle.std.specs.Prelude.{if◌then◌else◌, IfSome, slice_get, slice_index, find, reverse, option_map, option_and_then, unwrap_or}
+use Rattle.std.proofs.Common.{◌≡◌, ℕ, zero, suc, ◌+◌, ◌-◌, ◌^◌, ◌<◌, ◌==◌, Bool, true, false, List, [], ◌∷◌, ◌++◌, length, take, drop, get_or, Option, Some, None, Ok, refl, sym, subst, arith}
+use Rattle.std.specs.Prelude.{if◌then◌else◌, IfSome, slice_get, find, reverse, option_map, option_and_then, unwrap_or}
 use Rattle.pico_board.specs.declared.boot.Cpu.{Cpu}
 use Rattle.pico_board.specs.declared.boot.Cpu.TheVariants.{Arm, Riscv}
 use Rattle.pico_board.specs.declared.window.Window.{Window}
@@ -15,7 +15,7 @@ use Rattle.block_codec.specs.Blocks.{BlockAt, BlockView, block_size, block_words
 use Rattle.block_codec.specs.FirstFault.{ok_unless}
 use Rattle.block_codec.specs.Items.{items_of}
 use Rattle.block_codec.specs.Kinds.{item_of_kind, version_of, version_words}
-use Rattle.block_codec.specs.Words.{high_half, low_half, word_of}
+use Rattle.block_codec.specs.Words.{high_half, low_half}
 use Rattle.block_codec.proofs.AtLemmas.{BlockAt-room}
 use Rattle.block_codec.proofs.BlockLemmas.{AreWords-at, AreWords-block}
 use Rattle.block_codec.proofs.WordLemmas.{AreBytes, AreBytes-drop, AreBytes-take, word_of-lt}
@@ -23,7 +23,7 @@ use Rattle.image_def.specs.declared.fault.DefFault.{DefFault}
 use Rattle.image_def.specs.declared.started.Started.{Started}
 use Rattle.image_def.specs.Definition.{def_of, def_record, entry_point_in, no_version}
 use Rattle.image_def.specs.Faults.{def_fault}
-use Rattle.image_def.specs.Rows.{halves_of, rollback_in, version_tail}
+use Rattle.image_def.specs.Rows.{halves_of, rollback_in}
 use Rattle.load_map.specs.declared.load.Load.{Load}
 use Rattle.load_map.specs.Addresses.{is_sram}
 use Rattle.load_map.specs.Given.{byte_at, holds, in_window, loaded_byte, stored_byte, word_at, word_if_given}

@@ -5,7 +5,6 @@ pub mod Moves
 pub mod Standing
 pub mod Luck
 pub mod Crashes
-pub mod CrashExamples
+pub mod Examples
 pub mod Runs
-pub mod RunExamples
 pub mod Ranges

@@ -2,7 +2,7 @@
 //! function that does nothing.
 
 ghost use Rattle.std.specs.Prelude.{◌≡◌, false, true, None, IsSome};
-ghost use Rattle.boot_machine.specs.CrashExamples.{BothPick, BothStart, IsLuckySector, bare_sector, hidden_table, last_unit, mapped_sector, one_sector, plain_sector, rows_image, second_page, table_and_bare, table_sector, three_images, three_raises, torn_sector, trial_sector, whole_image};
+ghost use Rattle.boot_machine.specs.Examples.{BothPick, BothStart, IsLuckySector, bare_sector, hidden_table, last_unit, mapped_sector, one_sector, plain_sector, rows_image, second_page, table_and_bare, table_sector, three_images, three_raises, torn_sector, trial_sector, whole_image};
 ghost use Rattle.boot_machine.specs.Crashes.{AreOwnSteps, IsLuckyCut, KeepsOtherRows, KeepsOtherTriples};
 ghost use Rattle.boot_machine.specs.Luck.{Lucky};
 ghost use Rattle.pico_board.specs.Content.{Content, IsContent};

@@ -3,7 +3,7 @@
 
 ghost use Rattle.std.specs.Prelude.{◌≡◌, Err, None, Ok, Some, [], ◌∷◌, codes, false, replicate, true};
 ghost use Rattle.boot_machine.specs.Machines.{InBootsel};
-ghost use Rattle.boot_machine.specs.RunExamples.{arm_block, begun_download, block_of, busy, guarded_busy, host_with, idle, slot_one, slot_two};
+ghost use Rattle.boot_machine.specs.Examples.{arm_block, begun_download, block_of, busy, guarded_busy, host_with, idle, slot_one, slot_two};
 ghost use Rattle.boot_machine.specs.Serving.{block_served, done_boot, ruling_on, served, line_only};
 ghost use Rattle.boot_rules.specs.Examples.{found_in};
 ghost use Rattle.boot_script.specs.Events.{Happening};

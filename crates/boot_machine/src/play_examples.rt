@@ -3,12 +3,11 @@
 ghost use Rattle.std.specs.Prelude.{◌≡◌, ◌++◌, List, None, Some, [], ◌∷◌, codes, false, replicate, true, ℕ};
 ghost use Rattle.boot_lines.specs.Examples.{ram_image};
 ghost use Rattle.boot_machine.specs.Boots.{decided_place, decided_steps, entered};
-ghost use Rattle.boot_machine.specs.CrashExamples.{plain_sector, running_trial, table_and_bare, whole_flash_of};
+ghost use Rattle.boot_machine.specs.Examples.{arm_block, armed_with, asks_target, block_of, busy, erase_both, erased, fresh_host, idle, image_bytes, image_in_a, loaded_host, lost_with, machine_at, pair_host, plain_sector, running_trial, slot_two, table_and_bare, whole_flash_of};
 ghost use Rattle.boot_machine.specs.Crashes.{settled_choice};
 ghost use Rattle.boot_machine.specs.Machines.{FromFlash, FromRam, InBootsel, Machine, Off, Program as AnyProgram, Running};
 ghost use Rattle.boot_machine.specs.Moves.{Moves, Plays, effect, lost_text};
-ghost use Rattle.boot_machine.specs.Ranges.{AreInRange};
-ghost use Rattle.boot_machine.specs.RunExamples.{arm_block, armed_with, asks_target, block_of, busy, erase_both, erased, fresh_host, idle, image_bytes, image_in_a, loaded_host, lost_with, machine_at, pair_host, slot_two};
+ghost use Rattle.boot_machine.specs.Ranges.{AreInRange, HasBytes};
 ghost use Rattle.boot_machine.specs.Runs.{AnswersTarget, BeginsDownload, IsFresh, PlaysWriting, StartsRam};
 ghost use Rattle.boot_machine.specs.Serving.{Served, followed_by, ruling_on, serves, table_of, with_ram};
 ghost use Rattle.boot_rules.specs.Choosing.{decision_in};
@@ -119,6 +118,8 @@ pub fn numbers_in_range()
     ensures short { (m : Machine) (payload : List ℕ)
         → AreInRange m (Happening.Command [] payload) → ⊥ }
     ensures number { (m : Machine) → AreInRange m (Happening.Uf2 (256 ∷ [])) → ⊥ }
+    ensures block_bytes { HasBytes (Happening.Uf2 (255 ∷ 0 ∷ [])) }
+    ensures command_bytes { HasBytes (Happening.Command (replicate 32 255) []) }
 {}
 
 /// A cut that is told: it falls before a step of the command, or has steps left behind it.

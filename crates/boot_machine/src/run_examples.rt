@@ -6,7 +6,7 @@ ghost use Rattle.boot_lines.specs.Texts.{decision_text};
 ghost use Rattle.boot_machine.specs.Boots.{booted, decided_place, decided_steps, entered};
 ghost use Rattle.boot_machine.specs.Machines.{FromFlash, FromRam, Host, InBootsel, Machine, Off, Program, Running};
 ghost use Rattle.boot_machine.specs.Moves.{armed_for, effect, effect_in, stays};
-ghost use Rattle.boot_machine.specs.RunExamples.{running};
+ghost use Rattle.boot_machine.specs.Examples.{running};
 ghost use Rattle.boot_rules.specs.Choosing.{decision_in};
 ghost use Rattle.boot_rules.specs.Tables.{table_in};
 ghost use Rattle.boot_rules.specs.declared.decision.Decision.TheVariants.{Bootsel, Start};

@@ -23,7 +23,7 @@ use Rattle.image_check.proofs.HoldLemmas.{hold-same, same-range}
 use Rattle.image_check.proofs.LawLemmas.{valid-at, valid-holds}
 use Rattle.slot_choice.specs.Examples.{window_at}
 use Rattle.boot_machine.specs.Luck.{Lucky}
-use Rattle.boot_machine.specs.CrashExamples.{hidden_table, table_sector, torn_sector, whole_image}
+use Rattle.boot_machine.specs.Examples.{hidden_table, table_sector, torn_sector, whole_image}
 use Rattle.boot_machine.proofs.ExampleLemmas.{all_below, content-by, torn-before}
 use Rattle.boot_machine.proofs.crash_examples.a_buy_may_make_a_table.Goals as goal
 

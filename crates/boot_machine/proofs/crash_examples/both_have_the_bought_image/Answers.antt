@@ -27,7 +27,7 @@ use Rattle.boot_rules.specs.declared.decision.Fall.TheVariants.{NoImage}
 use Rattle.boot_rules.specs.Chosen.{Chosen}
 use Rattle.boot_rules.specs.Picking.{pick}
 use Rattle.boot_rules.proofs.DecisionLemmas.{chosen-exactly}
-use Rattle.boot_machine.specs.CrashExamples.{bare_sector, plain_sector, running_trial, whole_flash_of, whole_unit}
+use Rattle.boot_machine.specs.Examples.{bare_sector, plain_sector, running_trial, whole_flash_of, whole_unit}
 use Rattle.boot_machine.specs.Crashes.{settled_choice}
 use Rattle.boot_machine.proofs.crash_examples.both_have_the_bought_image.Goals as goal
 

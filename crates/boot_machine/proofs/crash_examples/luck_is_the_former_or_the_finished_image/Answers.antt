@@ -23,7 +23,7 @@ use Rattle.image_check.proofs.SameLemmas.{same-block, same-storage}
 use Rattle.slot_choice.specs.Examples.{window_at}
 use Rattle.boot_rules.specs.Choosing.{images_in}
 use Rattle.boot_rules.proofs.DecisionLemmas.{valid-found}
-use Rattle.boot_machine.specs.CrashExamples.{bare_sector, mapped_sector, one_sector, plain_sector, rows_image, sector_image, three_images, trial_sector}
+use Rattle.boot_machine.specs.Examples.{bare_sector, mapped_sector, one_sector, plain_sector, rows_image, sector_image, three_images, trial_sector}
 use Rattle.boot_machine.proofs.LuckLaws.{empty-lucky, finished-lucky, former-lucky, lucky-image}
 use Rattle.boot_machine.proofs.crash_examples.luck_is_the_former_or_the_finished_image.Goals as goal
 

@@ -11,7 +11,7 @@ use Rattle.block_codec.specs.Words.{word_of, word_bytes}
 use Rattle.pico_board.specs.declared.boot.Cpu.TheVariants.{Arm}
 use Rattle.slot_choice.specs.Examples.{window_at}
 use Rattle.boot_rules.specs.Examples.{empty_table, found_in}
-use Rattle.boot_machine.specs.CrashExamples.{bare_sector, one_sector, table_and_bare}
+use Rattle.boot_machine.specs.Examples.{bare_sector, one_sector, table_and_bare}
 use Rattle.boot_machine.proofs.LuckLaws.{former-lucky}
 use Rattle.boot_machine.proofs.crash_examples.luck_keeps_the_table.Goals as goal
 

@@ -24,7 +24,7 @@ use Rattle.slot_choice.specs.declared.unit.Member.TheVariants.{A}
 use Rattle.slot_choice.specs.declared.unit.SlotUnit.{SlotUnit}
 use Rattle.slot_choice.specs.Examples.{window_at}
 use Rattle.boot_rules.proofs.DecisionLemmas.{found-valid}
-use Rattle.boot_machine.specs.CrashExamples.{rows_image, three_images, triple_rows}
+use Rattle.boot_machine.specs.Examples.{rows_image, three_images, triple_rows}
 use Rattle.boot_machine.proofs.ExampleLemmas.{all_below, content-by}
 use Rattle.boot_machine.proofs.crash_examples.other_rows_matter.Goals as goal
 

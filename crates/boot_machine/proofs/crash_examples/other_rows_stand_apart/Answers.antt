@@ -29,7 +29,7 @@ use Rattle.slot_choice.specs.Examples.{window_at}
 use Rattle.slot_choice.specs.Units.{member_window}
 use Rattle.boot_rules.specs.Choosing.{boot_units_in, images_in}
 use Rattle.boot_rules.proofs.DecisionLemmas.{valid-found}
-use Rattle.boot_machine.specs.CrashExamples.{last_unit, rows_image, three_images, three_raises}
+use Rattle.boot_machine.specs.Examples.{last_unit, rows_image, three_images, three_raises}
 use Rattle.boot_machine.proofs.ExampleLemmas.{raised-low}
 use Rattle.boot_machine.proofs.crash_examples.other_rows_stand_apart.Goals as goal
 

@@ -16,7 +16,7 @@ use Rattle.ram_start.specs.Examples.{reboot_into}
 use Rattle.boot_lines.specs.Examples.{ram_image}
 use Rattle.boot_machine.specs.Machines.{FromRam, InBootsel, Running}
 use Rattle.boot_machine.specs.Moves.{Moves}
-use Rattle.boot_machine.specs.RunExamples.{erased, fresh_host, image_bytes, loaded_host, machine_at}
+use Rattle.boot_machine.specs.Examples.{erased, fresh_host, image_bytes, loaded_host, machine_at}
 use Rattle.boot_machine.proofs.play_examples.a_run_into_ram.Goals as goal
 
 abbrev loaded : List ℕ

@@ -11,7 +11,7 @@ use Rattle.picoboot_cmd.specs.Commands.{written}
 use Rattle.picoboot_cmd.specs.Examples.{otp_write_command}
 use Rattle.boot_machine.specs.Machines.{InBootsel}
 use Rattle.boot_machine.specs.Moves.{Moves}
-use Rattle.boot_machine.specs.RunExamples.{idle, machine_at}
+use Rattle.boot_machine.specs.Examples.{idle, machine_at}
 use Rattle.boot_machine.specs.Serving.{info_reply, info_status}
 use Rattle.boot_machine.proofs.play_examples.a_slot_size_that_is_raised.Goals as goal
 

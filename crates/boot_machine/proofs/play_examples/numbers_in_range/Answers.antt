@@ -1,5 +1,5 @@
 -- By computing.
-use Rattle.std.proofs.Common.{refl, arith}
+use Rattle.std.proofs.Common.{replicate, refl, arith}
 use Rattle.pico_board.specs.Content.{IsContent}
 use Rattle.boot_rules.specs.Tables.{table_in}
 use Rattle.boot_rules.specs.Choosing.{decision_in}
@@ -14,7 +14,7 @@ use Rattle.picoboot_cmd.specs.Commands.{written}
 use Rattle.picoboot_cmd.specs.Examples.{erase_command}
 use Rattle.ram_start.proofs.RamLemmas.{zeros-right}
 use Rattle.ram_start.specs.Sram.{zero_ram}
-use Rattle.boot_machine.specs.RunExamples.{erased}
+use Rattle.boot_machine.specs.Examples.{erased}
 use Rattle.boot_machine.proofs.ExampleLemmas.{all_below, below-all, content-by}
 use Rattle.boot_machine.proofs.play_examples.numbers_in_range.Goals as goal
 
@@ -44,3 +44,7 @@ returns-clause-short c = λ m payload is. let long = is.bytes.0 in omega (arith,
 
 pub returns-clause-number : goal.returns-clause-number
 returns-clause-number c = λ m is. let low = is.bytes 0 0 (omega arith) in omega (arith, low)
+
+pub returns-clause-command_bytes : goal.returns-clause-command_bytes
+unfolding all_below
+returns-clause-command_bytes c = (refl, below-all 256 (replicate 32 255) refl)

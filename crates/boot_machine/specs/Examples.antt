@@ -1,23 +1,35 @@
--- Worked contents on which power is lost in a boot's own writes, reckoned by hand from the rules.
--- This project's own.
-use Rattle.std.specs.Prelude.{ℕ, ◌+◌, ◌*◌, Bool, true, false, List, [], ◌∷◌, ◌++◌, replicate, take, Some, None}
+-- Worked contents on which power is lost in a boot's own writes, reckoned by hand from the rules,
+-- and worked examples of what events do in each state. This project's own.
+use Rattle.std.specs.Prelude.{ℕ, ◌+◌, ◌*◌, Bool, true, false, List, [], ◌∷◌, ◌++◌, replicate, take, Some, None, Option}
 use Rattle.block_codec.specs.Words.{bytes_of}
-use Rattle.image_check.specs.Examples.{plain_image}
+use Rattle.image_check.specs.Examples.{plain_image, arm_type, window_with}
 use Rattle.image_def.specs.declared.started.Started.{Started}
 use Rattle.pico_board.specs.Content.{Content}
 use Rattle.pico_board.specs.declared.Step.{Step}
 use Rattle.pico_board.specs.declared.Step.TheVariants.{Raise}
 use Rattle.pico_board.specs.declared.window.Window.{Window}
 use Rattle.slot_choice.specs.declared.unit.SlotUnit.{SlotUnit}
-use Rattle.part_table.specs.Examples.{sectors, three_parts}
+use Rattle.part_table.specs.Examples.{sectors, three_parts, guarded_table, pair_version}
 use Rattle.slot_choice.specs.Examples.{window_at}
 use Rattle.trial_buy.specs.Buying.{cleared_sector, page_program}
-use Rattle.boot_rules.specs.Examples.{framed, region, rows_with, starts_alone}
+use Rattle.boot_rules.specs.Examples.{framed, region, rows_with, starts_alone, bare, found_in, image_region, pair_content}
 use Rattle.boot_machine.specs.Crashes.{PicksBought, StartsBought}
 use Rattle.slot_choice.specs.declared.choice.Choice.{Choice}
 use Rattle.slot_choice.specs.Units.{whole_flash}
 use Rattle.boot_machine.specs.Luck.{Lucky}
 use Rattle.pico_board.specs.declared.boot.Cpu.TheVariants.{Arm}
+use Rattle.part_table.specs.declared.Target.{Target}
+use Rattle.picoboot_cmd.specs.Commands.{written as command_bytes}
+use Rattle.picoboot_cmd.specs.Examples.{erase_command}
+use Rattle.info_reply.specs.Examples.{info}
+use Rattle.ram_start.specs.Sram.{stored, zero_ram}
+use Rattle.boot_script.specs.Events.{Happening}
+use Rattle.pico_board.specs.Cuts.{Cut}
+use Rattle.slot_choice.specs.declared.unit.Member.TheVariants.{B}
+use Rattle.boot_rules.specs.declared.tables.Found.{Found}
+use Rattle.uf2_place.specs.declared.block.Uf2.{Uf2}
+use Rattle.boot_machine.specs.Machines.{Host, InBootsel, Machine, Off, Place, Placing}
+use Rattle.boot_machine.specs.Serving.{with_ram}
 
 -- a sector that begins with SP and a PC in SRAM, and has behind them a block of an Arm image of
 -- version 1.0, of this rollback version with this one row
@@ -189,3 +201,126 @@ BothStart torn after = StartsBought (whole_flash_of after) (whole_flash_of torn)
 abbrev pub BothPick : List ℕ → List ℕ → Type 0
 BothPick torn after =
     PicksBought (whole_flash_of after) (whole_flash_of torn) whole_unit Arm running_trial
+
+-- an Arm machine on this content, whose board tells that no cut is armed
+abbrev pub machine_at : Content → Place → Machine
+machine_at c place = record { content = c; armed = Some None; cpu = Arm; place = place }
+
+-- an erased flash of two sectors
+abbrev pub erased : Content
+erased = one_sector bare_sector
+
+-- an updated start of an image, a trial or not, in the B of a pair
+abbrev pub running : Bool → Choice
+running trial = record {
+  image = record {
+    window = window_at 0x20000 0x1e000;
+    block = 0x100;
+    image_at = 0x104;
+    pc = 0x10000201;
+    sp = 0x20082000;
+    limit = 0x20000000;
+    version = record { major = 1; minor = 2 };
+    rollback = Some 3;
+    rows = record { items = 0x0c0 ∷ [] };
+    trial = trial;
+  };
+  member = B;
+  other = Some (window_at 0x2000 0x1e000);
+  updated = true;
+}
+
+-- BOOTSEL with this table, this download, and an SRAM of eight bytes
+abbrev pub host_with : Option Found → Option Placing → Host
+host_with found placing =
+    record { found = found; placing = placing; ram = 1 ∷ 2 ∷ 3 ∷ 4 ∷ 5 ∷ 6 ∷ 7 ∷ 8 ∷ [] }
+
+abbrev pub idle : Host
+idle = host_with None None
+
+-- sectors 32 to 61 as a target which stays or not
+abbrev pub slot_two : Bool → Target
+slot_two stay = record { window = window_at 0x20000 0x1e000; gated = true; stay = stay }
+
+-- a block of these flags, address, number, count and family
+abbrev pub block_of : ℕ → ℕ → ℕ → ℕ → ℕ → Uf2
+block_of flags address number count family = record {
+  flags = flags;
+  address = address;
+  number = number;
+  count = count;
+  family = family;
+  page = replicate 256 0x55;
+}
+
+-- the first of two blocks of rp2350-arm-s, and the second
+abbrev pub arm_block : ℕ → ℕ → Uf2
+arm_block address number = block_of 0x2000 address number 2 0xe48bff59
+
+-- a download into that target that has taken the first one
+abbrev pub begun_download : Placing
+begun_download =
+    record { target = slot_two false; blocks = arm_block 0x10001000 0 ∷ [] }
+
+-- a download is current
+abbrev pub busy : Host
+busy = host_with None (Some begun_download)
+
+-- 32 bytes that are no command
+abbrev pub no_command : List ℕ
+no_command = replicate 32 0
+
+-- BOOTSEL with a table in which sectors 0 to 31 and those from 62 on may not be written
+abbrev pub guarded : Host
+guarded = host_with (Some (found_in 0 guarded_table)) None
+
+-- the same with the table in slot 1, and with that download
+abbrev pub guarded_busy : Host
+guarded_busy = host_with (Some (found_in 1 guarded_table)) (Some begun_download)
+
+-- sectors 2 to 31 as a target
+abbrev pub slot_one : Target
+slot_one = record { window = window_at 0x2000 0x1e000; gated = false; stay = false }
+
+-- the SRAM holds an image of 28 bytes that starts at 0x20000021
+abbrev pub with_image : Host → Host
+with_image host = with_ram host (window_with 0x20000021 (arm_type ∷ []) 0)
+
+-- a flash of 256 KiB with the table of a pair, and an image of version 1.0 in A alone
+abbrev pub image_in_a : Content
+image_in_a = pair_content 0 (image_region 0x1e000 arm_type 0x10000) bare
+
+-- BOOTSEL as it is entered there
+abbrev pub pair_host : Host
+pair_host = record {
+  found = Some (found_in 0 (pair_version 0 0));
+  placing = None;
+  ram = zero_ram;
+}
+
+-- the 32 bytes of an info command for the target of a family
+abbrev pub asks_target : ℕ → List ℕ
+asks_target family = command_bytes (info 16 2 family)
+
+-- BOOTSEL as it is entered on an erased flash, and with these first bytes in the SRAM
+abbrev pub fresh_host : Host
+fresh_host = record { found = None; placing = None; ram = zero_ram }
+
+abbrev pub image_bytes : List ℕ
+image_bytes = window_with 0x20000021 (arm_type ∷ []) 0
+
+abbrev pub loaded_host : Host
+loaded_host = with_ram fresh_host (stored zero_ram 0 image_bytes)
+
+-- an Arm machine in BOOTSEL on the erased flash, with this cut armed, or none
+abbrev pub armed_with : Option Cut → Machine
+armed_with cut =
+    record { content = erased; armed = Some cut; cpu = Arm; place = InBootsel idle }
+
+-- the same machine once power was lost, with this content
+abbrev pub lost_with : Content → Machine
+lost_with c = record { content = c; armed = Some None; cpu = Arm; place = Off }
+
+-- the command that erases its two sectors
+abbrev pub erase_both : Happening
+erase_both = Happening.Command (command_bytes (erase_command 0x10000000 0x2000)) []
