@@ -6,11 +6,11 @@ use Rattle.pico_board.specs.declared.boot.BootKind.{BootKind}
 use Rattle.pico_board.specs.declared.window.Window.{Window}
 use Rattle.pico_board.specs.Content.{Content, IsContent}
 use Rattle.pico_board.specs.Steps.{after_all}
-use Rattle.part_table.specs.Windows.{IsPlaced}
+use Rattle.part_table.specs.Windows.{IsPlaced, IsPlacedIn}
 use Rattle.image_check.specs.Valid.{Valid}
 use Rattle.slot_choice.specs.declared.choice.Choice.{Choice}
 use Rattle.trial_buy.specs.Starting.{settling, start_steps}
-use Rattle.trial_buy.specs.Windows.{IsPlacedChoice, IsPlacedIn}
+use Rattle.trial_buy.specs.Windows.{IsPlacedChoice}
 use Rattle.boot_rules.specs.declared.decision.Decision.{Decision}
 use Rattle.boot_rules.specs.declared.decision.Decision.TheVariants.{Start}
 use Rattle.boot_rules.specs.Chosen.{Chosen}

@@ -30,7 +30,8 @@ use Rattle.boot_rules.specs.declared.decision.Decision.{Decision}
 use Rattle.boot_rules.specs.declared.decision.Decision.TheVariants.{Start, Bootsel}
 use Rattle.boot_rules.specs.declared.decision.Fall.TheVariants.{FlashOff}
 use Rattle.boot_rules.specs.Choosing.{boot_units_in, decision_in, decision_of, images_in, member_image, ordered_choice, other_of, unit_choice}
-use Rattle.boot_rules.specs.Starts.{IsOfUnit, IsPlacedIn, table_of_content}
+use Rattle.part_table.specs.Windows.{IsPlacedIn}
+use Rattle.boot_rules.specs.Starts.{IsOfUnit, table_of_content}
 use Rattle.boot_rules.specs.Tables.{table_in}
 use Rattle.boot_rules.proofs.DecisionLemmas.{found-valid, valid-found}
 use Rattle.boot_rules.proofs.PlaceLemmas.{table-sound}

@@ -19,7 +19,7 @@ use Rattle.otp_roll.specs.Flags.{slot_size}
 use Rattle.otp_roll.specs.Rows.{AreRollbackRows, AreRowsApart, IsOutside, IsRollbackVersion}
 use Rattle.otp_roll.proofs.RisingLemmas.{raises-listed}
 use Rattle.part_table.proofs.TableLemmas.{apart_sym}
-use Rattle.part_table.specs.Windows.{IsPlaced}
+use Rattle.part_table.specs.Windows.{IsPlaced, IsPlacedIn}
 use Rattle.image_check.specs.Addressing.{in_flash}
 use Rattle.image_check.specs.Changes.{ClearsTrialBit, bought}
 use Rattle.image_check.specs.NotBelow.{NotBelow}
@@ -41,7 +41,7 @@ use Rattle.boot_rules.specs.declared.tables.Found.{Found}
 use Rattle.boot_rules.specs.Choosing.{decision_in, images_in, other_of}
 use Rattle.boot_rules.specs.Chosen.{Chosen}
 use Rattle.boot_rules.specs.Picking.{pick, taken}
-use Rattle.boot_rules.specs.Starts.{IsOfUnit, IsPlacedIn}
+use Rattle.boot_rules.specs.Starts.{IsOfUnit}
 use Rattle.boot_rules.specs.Tables.{slot_window, table_in}
 use Rattle.boot_rules.proofs.DecisionLemmas.{chosen-exactly, chosen-not_below, valid-found}
 use Rattle.boot_rules.proofs.PlaceLemmas.{slot-size}

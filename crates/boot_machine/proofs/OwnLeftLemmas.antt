@@ -22,7 +22,7 @@ use Rattle.otp_roll.proofs.RisingLemmas.{elsewhere-from, flash-left, row-left}
 use Rattle.image_check.specs.NotBelow.{NotBelow}
 use Rattle.slot_choice.specs.declared.choice.Choice.{Choice}
 use Rattle.trial_buy.specs.Starting.{image_raises, other_erase}
-use Rattle.boot_rules.specs.Starts.{IsPlacedIn}
+use Rattle.part_table.specs.Windows.{IsPlacedIn}
 use Rattle.boot_machine.proofs.LeftRowLemmas.{flash_off-left, image-raises, not_below-left, raises-rise, required-left, slot_size-left}
 use Rattle.boot_machine.proofs.OwnStepLemmas.{Erases, Keeps, confined-range, erase-cases, first-confined, left-parts}
 

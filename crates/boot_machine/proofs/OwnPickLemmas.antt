@@ -28,7 +28,8 @@ use Rattle.slot_choice.specs.declared.choice.Choice.{Choice}
 use Rattle.trial_buy.specs.Starting.{image_raises, is_other_better, other_erase}
 use Rattle.boot_rules.specs.Choosing.{choice_of, images_in}
 use Rattle.boot_rules.specs.Picking.{taken}
-use Rattle.boot_rules.specs.Starts.{IsOfUnit, IsPlacedIn}
+use Rattle.part_table.specs.Windows.{IsPlacedIn}
+use Rattle.boot_rules.specs.Starts.{IsOfUnit}
 use Rattle.boot_rules.proofs.DecisionLemmas.{found-valid, valid-found}
 use Rattle.boot_rules.proofs.UnitLemmas.{window-image}
 use Rattle.boot_machine.specs.Crashes.{IsLuckyCut, settled_choice}

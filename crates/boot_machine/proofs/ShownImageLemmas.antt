@@ -36,7 +36,7 @@ use Rattle.image_check.specs.Image.{started_of}
 use Rattle.image_check.specs.Valid.{IsDefined, IsValidImage, Valid}
 use Rattle.boot_lines.specs.Events.{IsShown}
 use Rattle.boot_rules.proofs.PlaceLemmas.{placed-inside}
-use Rattle.trial_buy.specs.Windows.{IsPlacedIn}
+use Rattle.part_table.specs.Windows.{IsPlacedIn}
 use Rattle.boot_machine.proofs.RamRunLemmas.{either}
 use Rattle.boot_machine.proofs.ReplyLemmas.{slice-few}
 

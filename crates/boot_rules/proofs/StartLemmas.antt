@@ -24,7 +24,8 @@ use Rattle.boot_rules.specs.declared.decision.Decision.TheVariants.{Start, Boots
 use Rattle.boot_rules.specs.declared.decision.Fall.TheVariants.{Requested, FlashOff}
 use Rattle.boot_rules.specs.Choosing.{boot_units_in, order_of, other_of}
 use Rattle.boot_rules.specs.Chosen.{Chosen, ChosenInFlash, IsStart, is_updated}
-use Rattle.boot_rules.specs.Starts.{IsOfUnit, IsPlacedIn, table_of_content}
+use Rattle.part_table.specs.Windows.{IsPlacedIn}
+use Rattle.boot_rules.specs.Starts.{IsOfUnit, table_of_content}
 use Rattle.boot_rules.specs.Tables.{table_in}
 use Rattle.boot_rules.proofs.PlaceLemmas.{boot-unit-members, order-all, table-sound}
 

@@ -1,5 +1,5 @@
 -- What a start says of the content that it is chosen on. This project's own.
-use Rattle.std.specs.Prelude.{◌≡◌, ℕ, ◌/◌, length, slice_get, true, Option, Some, option_map}
+use Rattle.std.specs.Prelude.{◌≡◌, ℕ, length, slice_get, true, Option, Some, option_map}
 use Rattle.pico_board.specs.declared.boot.Cpu.{Cpu}
 use Rattle.pico_board.specs.declared.window.Window.{Window}
 use Rattle.pico_board.specs.Content.{Content}
@@ -7,7 +7,6 @@ use Rattle.otp_roll.specs.Flags.{slot_size}
 use Rattle.part_table.specs.declared.table.Table.{Table}
 use Rattle.part_table.specs.Links.{is_owned}
 use Rattle.part_table.specs.Partitions.{part_at}
-use Rattle.part_table.specs.Windows.{IsPlaced}
 use Rattle.slot_choice.specs.declared.choice.Choice.{Choice}
 use Rattle.slot_choice.specs.declared.unit.SlotUnit.{SlotUnit}
 use Rattle.slot_choice.specs.LoadUnits.{load_unit}
@@ -24,10 +23,6 @@ table_of_content c = option_map (λ (found : Found). found.table) (table_in c)
 abbrev pub load_unit_in : Content → ℕ → Option SlotUnit
 load_unit_in c family = load_unit (table_of_content c) (length c.flash)
     (slot_size c.otp (length c.flash)) family
-
--- a window is of whole sectors, at least one, inside the flash
-abbrev pub IsPlacedIn : Content → Window → Type 0
-IsPlacedIn c w = IsPlaced w (length c.flash / 4096) 0
 
 -- the started image stands in a member of a boot unit, and `other` is the other member of that unit
 pub record IsOfUnit (c : Content) (cpu : Cpu) (choice : Choice) (unit : SlotUnit) : Type 0 where

@@ -6,7 +6,7 @@ use Rattle.pico_board.specs.declared.boot.Cpu.{Cpu}
 use Rattle.pico_board.specs.declared.window.Window.{Window}
 use Rattle.pico_board.specs.Content.{AreApart, Content, IsContent}
 use Rattle.otp_roll.specs.Flags.{slot_size}
-use Rattle.part_table.specs.Windows.{IsPlaced}
+use Rattle.part_table.specs.Windows.{IsPlaced, IsPlacedIn}
 use Rattle.part_table.proofs.TableLemmas.{partition_placed}
 use Rattle.slot_choice.specs.declared.unit.Member.{Member}
 use Rattle.slot_choice.specs.declared.unit.Member.TheVariants.{A, B}
@@ -17,7 +17,7 @@ use Rattle.slot_choice.proofs.UnitLemmas.{member_placed}
 use Rattle.boot_rules.specs.declared.tables.Found.{Found}
 use Rattle.boot_rules.specs.Choosing.{boot_units_in, other_of}
 use Rattle.boot_rules.specs.Chosen.{Home}
-use Rattle.boot_rules.specs.Starts.{IsPlacedIn, table_of_content}
+use Rattle.boot_rules.specs.Starts.{table_of_content}
 use Rattle.boot_rules.specs.Tables.{slot_window, table_in}
 use Rattle.boot_rules.proofs.PlaceLemmas.{boot-unit-members, slot-size, table-sound}
 use Rattle.boot_rules.proofs.StartLemmas.{boot-pair-apart, is-member, other-apart}

@@ -1,6 +1,7 @@
 -- Where partitions stand in the flash.
-use Rattle.std.specs.Prelude.{◌≡◌, ℕ, Bool, ◌+◌, ◌-◌, ◌*◌, ◌%◌, ◌≤◌, ◌&&◌, nat_le}
+use Rattle.std.specs.Prelude.{◌≡◌, ℕ, Bool, ◌+◌, ◌-◌, ◌*◌, ◌/◌, ◌%◌, ◌≤◌, ◌&&◌, nat_le, length}
 use Rattle.pico_board.specs.declared.window.Window.{Window}
+use Rattle.pico_board.specs.Content.{Content}
 use Rattle.part_table.specs.declared.partition.Partition.{Partition}
 use Rattle.part_table.specs.declared.table.Table.{Table}
 use Rattle.part_table.specs.Fields.{first_sector, last_sector}
@@ -36,3 +37,7 @@ pub record IsPlaced (w : Window) (n m : ℕ) : Type 0 where
   pub some : 4096 ≤ w.len
   pub inside : w.start + w.len ≤ 4096 * n
   pub free : 4096 * m ≤ w.start
+
+-- a window is of whole sectors, at least one, inside the flash of a content
+abbrev pub IsPlacedIn : Content → Window → Type 0
+IsPlacedIn c w = IsPlaced w (length c.flash / 4096) 0

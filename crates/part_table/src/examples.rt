@@ -1,10 +1,12 @@
 //! Worked examples of the definitions, proved by computing: each is the `ensures` of a function
 //! that does nothing.
 
-ghost use Rattle.std.specs.Prelude.{◌≡◌, ◌++◌, ◌+◌, ◌^◌, ℕ, [], ◌∷◌, true, false, Some, None, Ok, Err};
+ghost use Rattle.std.specs.Prelude.{◌≡◌, ◌++◌, ◌+◌, ◌^◌, ℕ, [], ◌∷◌, length, true, false, Some, None, Ok, Err};
 ghost use Rattle.block_codec.specs.Reading.{block_at};
 ghost use Rattle.block_codec.specs.Words.{bytes_of};
 ghost use Rattle.pico_board.specs.declared.boot.Cpu.TheVariants.{Arm, Riscv};
+ghost use Rattle.pico_board.specs.Content.{Content};
+ghost use Rattle.pico_board.specs.Examples.{window_at};
 ghost use Rattle.part_table.specs.declared.table.Right.TheVariants.{BootRead, BootWrite};
 ghost use Rattle.part_table.specs.declared.table.TableFault.TheVariants.{BadItem, Permissions, Range, Overlap, Link, Hash};
 ghost use Rattle.part_table.specs.Examples.{block_with, table_in_64, table_with, sectors, plain_partition, partition_with, eight_words, guarded_table, unread_table, named_items, named_partition, named_table, owned_items, owned_table, pair_and, pair_hashed, pair_items, pair_misdigested, pair_misdigested_last, pair_table, pair_version, one_part, two_parts, placed_parts, linked_parts, linked_table};
@@ -14,7 +16,7 @@ ghost use Rattle.part_table.specs.Links.{owner_of, pair_of};
 ghost use Rattle.part_table.specs.Partitions.{part_at, partition_of, partition_words};
 ghost use Rattle.part_table.specs.Rights.{allowed, allowed_by};
 ghost use Rattle.part_table.specs.TableOf.{has_table, table_of};
-ghost use Rattle.part_table.specs.Windows.{partition_window};
+ghost use Rattle.part_table.specs.Windows.{IsPlacedIn, partition_window};
 ghost use Rattle.part_table.specs.Written.{hashed_items, table_item, written_items, written_size};
 
 /// The block of a pair stands in its bytes and is read as its table, in a flash of 64 sectors whose
@@ -310,4 +312,23 @@ pub fn digests_are_compared()
     ensures wrong_last { table_in_64 pair_misdigested_last ≡ Err Hash }
     ensures later { table_of (block_with pair_misdigested) 61 2 ≡ Err (Range 1) }
     ensures written { written_items pair_table ≡ pair_hashed }
+{}
+
+/// In the least flash stand the windows of its first, of its last and of both sectors, and none
+/// that leaves it, that has no sector or that has a part of one; in the greatest one stands no
+/// window of a sector more than it has.
+pub fn windows_in_a_flash()
+    ensures first { (c : Content) → length c.flash ≡ 0x2000 → IsPlacedIn c (window_at 0 0x1000) }
+    ensures last { (c : Content) → length c.flash ≡ 0x2000
+        → IsPlacedIn c (window_at 0x1000 0x1000) }
+    ensures both { (c : Content) → length c.flash ≡ 0x2000 → IsPlacedIn c (window_at 0 0x2000) }
+    ensures above { (c : Content) → length c.flash ≡ 0x2000
+        → ¬ (IsPlacedIn c (window_at 0x1000 0x2000)) }
+    ensures empty { (c : Content) → ¬ (IsPlacedIn c (window_at 0 0)) }
+    ensures part { (c : Content) → ¬ (IsPlacedIn c (window_at 0 0x1800)) }
+    ensures between { (c : Content) → ¬ (IsPlacedIn c (window_at 0x800 0x1000)) }
+    ensures greatest { (c : Content) → length c.flash ≡ 0x100_0000
+        → IsPlacedIn c (window_at 0 0x100_0000) }
+    ensures above_greatest { (c : Content) → length c.flash ≡ 0x100_0000
+        → ¬ (IsPlacedIn c (window_at 0 0x100_1000)) }
 {}

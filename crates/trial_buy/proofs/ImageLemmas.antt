@@ -15,7 +15,7 @@ use Rattle.image_check.specs.Valid.{Valid}
 use Rattle.image_check.proofs.RuleLemmas.{suits-type}
 use Rattle.otp_roll.specs.Rows.{AreRollbackRows, IsRollbackVersion}
 use Rattle.trial_buy.specs.Buying.{trial_place}
-use Rattle.trial_buy.specs.Windows.{IsPlacedIn}
+use Rattle.part_table.specs.Windows.{IsPlacedIn}
 
 at-split : {X : Type 0} (before behind : List X) (x : X) → slice_get (before ++ x ∷ behind) (length before) ≡ Some x
 at-split [] behind x = refl

@@ -9,7 +9,8 @@ ghost use Rattle.otp_roll.specs.Rows.{AreRollbackRows, IsRollbackVersion};
 ghost use Rattle.sector_pool.specs.Keeping.{KeepsOut};
 ghost use Rattle.sector_pool.specs.Pool.{HasFree};
 ghost use Rattle.trial_buy.specs.Starting.{erase_in, image_raises, is_other_better, other_erase, other_image, raises_of, settling, start_steps};
-ghost use Rattle.trial_buy.specs.Windows.{IsPlacedChoice, IsPlacedIn};
+ghost use Rattle.part_table.specs.Windows.{IsPlacedIn};
+ghost use Rattle.trial_buy.specs.Windows.{IsPlacedChoice};
 
 use block_codec::Version;
 use image_check::{Started, check};
