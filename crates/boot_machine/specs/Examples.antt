@@ -282,6 +282,10 @@ guarded_busy = host_with (Some (found_in 1 guarded_table)) (Some begun_download)
 abbrev pub slot_one : Target
 slot_one = record { window = window_at 0x2000 0x1e000; gated = false; stay = false }
 
+-- a target of one sector that starts here
+abbrev pub target_at : ℕ → Target
+target_at start = record { window = window_at start 0x1000; gated = false; stay = false }
+
 -- the SRAM holds an image of 28 bytes that starts at 0x20000021
 abbrev pub with_image : Host → Host
 with_image host = with_ram host (window_with 0x20000021 (arm_type ∷ []) 0)

@@ -3,8 +3,9 @@
 
 ghost use Rattle.std.specs.Prelude.{◌≡◌, Err, None, Ok, Some, [], ◌∷◌, codes, false, replicate, true};
 ghost use Rattle.boot_machine.specs.Machines.{InBootsel};
-ghost use Rattle.boot_machine.specs.Examples.{arm_block, begun_download, block_of, busy, guarded_busy, host_with, idle, slot_one, slot_two};
+ghost use Rattle.boot_machine.specs.Examples.{arm_block, begun_download, block_of, busy, guarded_busy, host_with, idle, slot_one, slot_two, target_at};
 ghost use Rattle.boot_machine.specs.Serving.{block_served, done_boot, ruling_on, served, line_only};
+ghost use Rattle.boot_machine.specs.Standing.{IsDoneIn};
 ghost use Rattle.boot_rules.specs.Examples.{found_in};
 ghost use Rattle.boot_script.specs.Events.{Happening};
 ghost use Rattle.part_table.specs.Examples.{guarded_table};
@@ -12,7 +13,7 @@ ghost use Rattle.pico_board.specs.Content.{Content};
 ghost use Rattle.pico_board.specs.declared.Step.TheVariants.{Erase, Program};
 ghost use Rattle.pico_board.specs.declared.boot.BootKind.TheVariants.{Normal, Update};
 ghost use Rattle.pico_board.specs.declared.boot.Cpu.{Cpu};
-ghost use Rattle.uf2_place.specs.declared.answer.Accepted.TheVariants.{Again, Skipped};
+ghost use Rattle.uf2_place.specs.declared.answer.Accepted.TheVariants.{Again, Done, Skipped};
 ghost use Rattle.uf2_place.specs.declared.answer.PlaceFault.TheVariants.{NoTarget, NotPermitted, Outside};
 ghost use Rattle.uf2_place.specs.declared.answer.Ruling.TheVariants.{Answered, Begins, Continues};
 
@@ -116,4 +117,10 @@ pub fn boots_after_downloads()
     ensures rp2040 { done_boot 0xe48bff56 (slot_two false) ≡ Some Normal }
     ensures stays { done_boot 0xe48bff59 (slot_two true) ≡ None }
     ensures data_stays { done_boot 0xe48bff58 (slot_two true) ≡ None }
+{}
+
+/// The target of a done download starts within the greatest flash.
+pub fn targets_of_done_downloads()
+    ensures last { IsDoneIn (Done (target_at 0xff_ffff)) }
+    ensures past { ¬ (IsDoneIn (Done (target_at 0x100_0000))) }
 {}

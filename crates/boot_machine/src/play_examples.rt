@@ -118,6 +118,8 @@ pub fn numbers_in_range()
     ensures short { (m : Machine) (payload : List ℕ)
         → AreInRange m (Happening.Command [] payload) → ⊥ }
     ensures number { (m : Machine) → AreInRange m (Happening.Uf2 (256 ∷ [])) → ⊥ }
+    ensures command_number { (m : Machine) (payload : List ℕ)
+        → AreInRange m (Happening.Command (256 ∷ replicate 31 0) payload) → ⊥ }
     ensures block_bytes { HasBytes (Happening.Uf2 (255 ∷ 0 ∷ [])) }
     ensures command_bytes { HasBytes (Happening.Command (replicate 32 255) []) }
 {}

@@ -1,18 +1,23 @@
 //! Worked examples of what events do in each state, proved by computing: each is the `ensures` of a
 //! function that does nothing.
 
-ghost use Rattle.std.specs.Prelude.{◌≡◌, ◌++◌, ℕ, Bool, List, None, Option, Some, [], ◌∷◌, codes, false, true};
+ghost use Rattle.std.specs.Prelude.{◌≡◌, ◌++◌, ℕ, Bool, List, None, Option, Some, [], ◌∷◌, codes, false, map, true};
 ghost use Rattle.boot_lines.specs.Texts.{decision_text};
 ghost use Rattle.boot_machine.specs.Boots.{booted, decided_place, decided_steps, entered};
 ghost use Rattle.boot_machine.specs.Machines.{FromFlash, FromRam, Host, InBootsel, Machine, Off, Program, Running};
 ghost use Rattle.boot_machine.specs.Moves.{armed_for, effect, effect_in, stays};
 ghost use Rattle.boot_machine.specs.Examples.{running};
+ghost use Rattle.boot_machine.specs.Serving.{is_hosted, slot_of};
+ghost use Rattle.boot_machine.specs.Standing.{is_bootsel, is_on, is_running};
+ghost use Rattle.boot_machine.specs.declared.state.State.TheVariants.{Bootsel as Serves, Off as Unpowered, Running as Runs};
 ghost use Rattle.boot_rules.specs.Choosing.{decision_in};
+ghost use Rattle.boot_rules.specs.Examples.{found_in};
 ghost use Rattle.boot_rules.specs.Tables.{table_in};
 ghost use Rattle.boot_rules.specs.declared.decision.Decision.TheVariants.{Bootsel, Start};
 ghost use Rattle.boot_rules.specs.declared.decision.Fall.{Fall};
 ghost use Rattle.boot_script.specs.Events.{Happening};
 ghost use Rattle.image_def.specs.declared.started.Started.{Started};
+ghost use Rattle.part_table.specs.Examples.{guarded_table};
 ghost use Rattle.pico_board.specs.Content.{Content};
 ghost use Rattle.pico_board.specs.Cuts.{Cut, cut_with};
 ghost use Rattle.pico_board.specs.declared.boot.BootKind.{BootKind};
@@ -110,4 +115,31 @@ pub fn what_a_boot_does()
     ensures text { (c : Content) (cpu : Cpu) (kind : BootKind)
         → (booted c cpu kind (codes "boot ")).text
         ≡ codes "boot " ++ decision_text (decision_in c cpu kind) }
+{}
+
+/// Of the states of the code all but one have power, one is BOOTSEL, and in one an image runs.
+pub fn states_of_the_code()
+    ensures power { (image : Started)
+        → map is_on (Unpowered ∷ Serves ∷ Runs image ∷ []) ≡ false ∷ true ∷ true ∷ [] }
+    ensures bootsel { (image : Started)
+        → map is_bootsel (Unpowered ∷ Serves ∷ Runs image ∷ []) ≡ false ∷ true ∷ false ∷ [] }
+    ensures running { (image : Started)
+        → map is_running (Unpowered ∷ Serves ∷ Runs image ∷ []) ≡ false ∷ false ∷ true ∷ [] }
+{}
+
+/// A host's events are commands and UF2 blocks.
+pub fn events_of_a_host()
+    ensures hosted { (command payload block : List ℕ)
+        → map is_hosted (Happening.Command command payload ∷ Happening.Uf2 block ∷ [])
+        ≡ true ∷ true ∷ [] }
+    ensures others { (left : ℕ) (within : Bool) (pattern : List ℕ) (kind : BootKind)
+        → map is_hosted (Happening.End ∷ Happening.Cut left within pattern ∷ Happening.PowerOn
+        ∷ Happening.Reset kind ∷ Happening.Buy ∷ [])
+        ≡ false ∷ false ∷ false ∷ false ∷ false ∷ [] }
+{}
+
+/// The slot of the table that was found is told, and 0 where there is none.
+pub fn slots_of_tables()
+    ensures found { slot_of (Some (found_in 1 guarded_table)) ≡ 1 }
+    ensures none { slot_of None ≡ 0 }
 {}

@@ -32,8 +32,8 @@ use Rattle.pico_board.specs.declared.boot.Cpu.TheVariants.{Arm}
 use Rattle.pico_board.specs.declared.boot.BootKind.TheVariants.{Normal}
 use Rattle.boot_run.proofs.ToolLemmas.{uf2-whole, plan-whole}
 use Rattle.boot_run.proofs.PlayLemmas.{plays-only}
-use Rattle.boot_run.specs.Jsons.{spec_read, table_read}
-use Rattle.boot_run.specs.Tools.{seal_work, table_work}
+use Rattle.boot_run.specs.Jsons.{table_read}
+use Rattle.boot_run.specs.Tools.{table_work}
 use Rattle.boot_run.specs.SealRules.{IsSealedOf, IsTableOf}
 use Rattle.boot_run.proofs.SealCaseLemmas.{seal-only, table-only}
 use Rattle.boot_run.proofs.FormLemmas.{fault-exact}

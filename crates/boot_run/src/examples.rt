@@ -15,7 +15,7 @@ ghost use Rattle.boot_run.specs.declared.forms.Form.TheVariants.{Flash, Otp, Scr
 ghost use Rattle.boot_run.specs.declared.forms.TheConstants.{RECORD_LIMIT};
 ghost use Rattle.boot_script.specs.Events.{PowerOn, Buy, Reset, Cut};
 ghost use Rattle.boot_machine.specs.Machines.{Off, InBootsel, Running, FromRam};
-ghost use Rattle.boot_run.specs.Replays.{played, powerless};
+ghost use Rattle.boot_run.specs.Replays.{AreBytes, played, powerless};
 ghost use Rattle.boot_run.specs.Works.{content_files};
 ghost use Rattle.boot_run.specs.Commands.{command_of, kind_of, Boot, Info, OwnedData, Replay, Usage, Release};
 ghost use Rattle.boot_run.specs.Forms.{limit_of, form_fault, script_fault, script_events, filled_length, rows_of};
@@ -260,6 +260,12 @@ pub fn first_faults()
     ensures lacking { outcome_on (Some (Boot (codes "f") (codes "o") Arm Normal))
         (record { name = codes "f"; bytes = [] } ∷ []) ≡ unread }
     ensures words { outcome_on None [] ≡ not_understood }
+{}
+
+/// Bytes are below 256.
+pub fn bytes_of_files()
+    ensures greatest { AreBytes (0 ∷ 255 ∷ []) }
+    ensures past { ¬ (AreBytes (0 ∷ 256 ∷ [])) }
 {}
 
 /// Of two writes of one name the later bytes stand.

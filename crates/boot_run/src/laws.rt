@@ -1,7 +1,7 @@
 //! Laws of the program's definitions, proved: each is the `ensures` of a function that does
 //! nothing.
 
-ghost use Rattle.std.specs.Prelude.{◌≡◌, ◌↔◌, ℕ, List, [], ◌∷◌, Option, Some, None, length};
+ghost use Rattle.std.specs.Prelude.{◌≡◌, ◌↔◌, ◌+◌, ◌<◌, ◌≤◌, ℕ, List, [], ◌∷◌, ◌++◌, Option, Some, None, length};
 ghost use Rattle.std.specs.List.{AllByRecursion};
 ghost use Rattle.pico_board.specs.declared.boot.Cpu.{Cpu};
 ghost use Rattle.pico_board.specs.declared.boot.BootKind.{BootKind};
@@ -16,8 +16,8 @@ ghost use Rattle.boot_run.specs.declared.forms.Form.TheVariants.{Flash, Otp};
 ghost use Rattle.boot_run.specs.declared.status.Status.TheVariants.{Done, Words, Input, Bootsel, ReadFault, WriteFault, OutputFault, Memory};
 ghost use Rattle.boot_run.specs.Statuses.{number_of};
 ghost use Rattle.boot_run.specs.Commands.{Command, Boot, OwnedData};
-ghost use Rattle.boot_run.specs.Forms.{HasForm, IsFault, form_fault, content_of};
-ghost use Rattle.boot_run.specs.Outcome.{Outcome, inputs_of, command_outcome, outcome_on, found};
+ghost use Rattle.boot_run.specs.Forms.{HasForm, IsFault, form_fault, content_of, limit_of};
+ghost use Rattle.boot_run.specs.Outcome.{Input as InputFile, Outcome, inputs_of, command_outcome, outcome_on, found};
 ghost use Rattle.boot_run.specs.Rules.{Obeys, IsRefused, FallsOn, NeedsBytes};
 ghost use Rattle.boot_run.specs.Ends.{cut};
 ghost use Rattle.boot_run.specs.Replays.{IsOfBytes, IsTelling, moved, played};
@@ -103,4 +103,14 @@ pub fn longer_files_decide()
     ensures { (command : Command) (whole : List (List ℕ))
         → length whole ≡ length (inputs_of command)
         → command_outcome command (cut (inputs_of command) whole) ≡ command_outcome command whole }
+{}
+
+/// Of a longer file one byte more than its limit is read, and a file within its limit is read
+/// whole.
+pub fn what_is_read_of_files()
+    ensures longer { (input : InputFile) (bytes : List ℕ) → limit_of input.form < length bytes
+        → (first : List ℕ) × (rest : List ℕ) × (length first ≡ limit_of input.form + 1)
+        × (bytes ≡ first ++ rest) × (cut (input ∷ []) (bytes ∷ []) ≡ first ∷ []) }
+    ensures whole { (input : InputFile) (bytes : List ℕ) → length bytes ≤ limit_of input.form
+        → cut (input ∷ []) (bytes ∷ []) ≡ bytes ∷ [] }
 {}

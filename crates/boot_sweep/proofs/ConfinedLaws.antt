@@ -1,29 +1,27 @@
 -- What a normal boot decides on a content that differs in one member of a pair alone.
-use Rattle.std.proofs.Common.{◌≡◌, ◌≢◌, ◌⊎◌, inl, inr, ℕ, zero, suc, Bool, true, false, List, [], ◌∷◌, length, slice_get, Option, Some, None, refl, sym, ap, ◌∙◌, subst}
-use Rattle.std.specs.Prelude.{if◌then◌else◌, IfSome}
+use Rattle.std.proofs.Common.{◌≡◌, ◌≢◌, ◌⊎◌, inl, inr, ℕ, zero, suc, Bool, true, false, List, [], ◌∷◌, length, Option, Some, None, refl, sym, ap, ◌∙◌, subst}
+use Rattle.std.specs.Prelude.{if◌then◌else◌}
 use Rattle.std.specs.Option.{option_or}
 use Rattle.std.specs.Result.{result_ok}
 use Rattle.pico_board.specs.declared.boot.Cpu.{Cpu}
 use Rattle.pico_board.specs.declared.boot.BootKind.TheVariants.{Normal}
 use Rattle.pico_board.specs.declared.window.Window.{Window}
-use Rattle.pico_board.specs.Content.{AreApart, Content, IsContent, window_bytes}
+use Rattle.pico_board.specs.Content.{AreApart, Content, IsContent}
 use Rattle.pico_board.specs.Sessions.{Confined, SameButWindow}
 use Rattle.pico_board.specs.Steps.{MayLeave}
 use Rattle.pico_board.specs.declared.Step.{Step}
 use Rattle.pico_board.proofs.ConfinementLemmas.{confined-MayLeave}
-use Rattle.image_def.specs.declared.started.Started.{Started}
 use Rattle.otp_roll.specs.Flags.{flash_off, slot_size}
 use Rattle.image_check.specs.Valid.{Valid}
 use Rattle.image_check.proofs.LawLemmas.{image-local, valid-window}
 use Rattle.slot_choice.specs.declared.unit.Member.{Member}
 use Rattle.slot_choice.specs.declared.unit.SlotUnit.{SlotUnit}
 use Rattle.slot_choice.specs.declared.choice.Choice.{Choice}
-use Rattle.slot_choice.specs.Units.{member_window}
 use Rattle.boot_rules.specs.declared.decision.Decision.{Decision}
 use Rattle.boot_rules.specs.declared.decision.Decision.TheVariants.{Start, Bootsel}
 use Rattle.boot_rules.specs.declared.decision.Fall.TheVariants.{FlashOff}
 use Rattle.boot_rules.specs.declared.tables.Found.{Found}
-use Rattle.boot_rules.specs.Changes.{AreInPlace, HaveSameImages, HaveSameImagesBut, Images, IsIn, IsNotIn}
+use Rattle.boot_rules.specs.Changes.{HaveSameImages, HaveSameImagesBut, Images, IsIn, IsNotIn}
 use Rattle.boot_rules.specs.Choosing.{Order, boot_units_in, choose, decision_in, decision_of, images_in, order_of, ordered_choice, unit_choice}
 use Rattle.boot_rules.specs.Chosen.{Chosen, Home, is_updated}
 use Rattle.boot_rules.specs.Tables.{table_in}

@@ -1,5 +1,5 @@
 -- What a normal boot decides where power is lost in a gated session on one member of a pair.
-use Rattle.std.proofs.Common.{◌≡◌, ◌≢◌, ◌⊎◌, inl, inr, ℕ, zero, suc, ◌+◌, ◌*◌, ◌/◌, ◌<◌, ◌≤◌, Bool, true, false, List, [], ◌∷◌, length, slice_get, slice_index, get_or, Option, Some, None, refl, sym, ap, ◌∙◌, subst, arith}
+use Rattle.std.proofs.Common.{◌≡◌, ◌≢◌, ◌⊎◌, inl, inr, ℕ, zero, suc, ◌+◌, ◌*◌, ◌/◌, ◌<◌, Bool, true, false, List, [], ◌∷◌, length, slice_get, slice_index, Option, Some, None, refl, sym, ap, ◌∙◌, subst, arith}
 use Rattle.std.specs.Prelude.{◌||◌, not, nat_lt, if◌then◌else◌, option_map}
 use Rattle.std.specs.Str.{bytes_eq}
 use Rattle.std.specs.Result.{result_ok}
@@ -16,20 +16,17 @@ use Rattle.pico_board.specs.Steps.{CutOf, after_all}
 use Rattle.pico_board.proofs.ConfinementLemmas.{SameButWindow-refl, confined-CutOf, confined-after_all}
 use Rattle.pico_board.proofs.RangeLemmas.{get_or-window_bytes}
 use Rattle.block_codec.specs.Erased.{IsErasedFrom}
-use Rattle.block_loop.specs.Loop.{loop_of}
 use Rattle.block_loop.proofs.SameLoopLemmas.{loop_of-blank}
 use Rattle.image_def.specs.declared.started.Started.{Started}
 use Rattle.otp_roll.specs.Flags.{slot_size}
 use Rattle.image_check.specs.Addressing.{in_flash}
 use Rattle.image_check.specs.SameImage.{SameImage}
-use Rattle.image_check.specs.Valid.{Valid}
 use Rattle.image_check.proofs.LawLemmas.{erased-none, one-image}
 use Rattle.part_table.specs.declared.table.Table.{Table}
 use Rattle.part_table.proofs.TableLemmas.{apart_sym}
 use Rattle.slot_choice.specs.declared.unit.Member.{Member}
 use Rattle.slot_choice.specs.declared.unit.Member.TheVariants.{A, B}
 use Rattle.slot_choice.specs.declared.unit.SlotUnit.{SlotUnit}
-use Rattle.slot_choice.specs.declared.choice.Choice.{Choice}
 use Rattle.slot_choice.specs.Versions.{is_below}
 use Rattle.slot_choice.specs.Units.{member_window, slot_pair, tableless_unit, units, whole_flash}
 use Rattle.boot_rules.specs.declared.decision.Decision.{Decision}
@@ -40,7 +37,7 @@ use Rattle.boot_rules.specs.Chosen.{Chosen, Home}
 use Rattle.boot_rules.specs.Tables.{found_of, slot_table, slot_window, table_in, table_in_loop}
 use Rattle.boot_rules.proofs.DataLemmas.{same-bytes, same-length, same-slot}
 use Rattle.boot_rules.proofs.DecisionLemmas.{chosen-exactly, found-valid, valid-found}
-use Rattle.boot_machine.specs.Luck.{HasNoImage, IsKnownImage, IsSameImageIn, Lucky}
+use Rattle.boot_machine.specs.Luck.{HasNoImage, IsKnownImage, Lucky}
 use Rattle.boot_machine.proofs.LuckLaws.{same-there}
 use Rattle.boot_sweep.specs.Results.{CutSession, StartsElsewhere, StartsFinished, StartsThere}
 use Rattle.boot_sweep.proofs.ConfinedLaws.{empty-decision, next-decision, same-image-decision, table-stays}

@@ -1,5 +1,5 @@
 -- Where the members of boot units stand beside a member of a pair, and the table slots.
-use Rattle.std.proofs.Common.{◌≡◌, ◌≢◌, ◌⊎◌, inl, inr, ℕ, ◌*◌, ◌/◌, ◌≤◌, List, length, slice_get, Option, Some, None, refl, sym, ap, ◌∙◌, subst, arith, option_map}
+use Rattle.std.proofs.Common.{◌≡◌, ◌⊎◌, inl, inr, ℕ, ◌*◌, ◌/◌, length, slice_get, Some, refl, sym, ap, ◌∙◌, subst, arith, option_map}
 use Rattle.std.proofs.lemmas.Bool.{cases_eq}
 use Rattle.std.proofs.lemmas.Option.{same_Some}
 use Rattle.pico_board.specs.declared.boot.Cpu.{Cpu}
@@ -11,7 +11,7 @@ use Rattle.part_table.proofs.TableLemmas.{partition_placed}
 use Rattle.slot_choice.specs.declared.unit.Member.{Member}
 use Rattle.slot_choice.specs.declared.unit.Member.TheVariants.{A, B}
 use Rattle.slot_choice.specs.declared.unit.SlotUnit.{SlotUnit}
-use Rattle.slot_choice.specs.Units.{IsMember, IsSoundFor, member_window, units}
+use Rattle.slot_choice.specs.Units.{IsMember, member_window, units}
 use Rattle.slot_choice.proofs.PlaceLemmas.{apart_from_slots, boot_unit}
 use Rattle.slot_choice.proofs.UnitLemmas.{member_placed}
 use Rattle.boot_rules.specs.declared.tables.Found.{Found}

@@ -1,6 +1,5 @@
 -- The session of a plan is gated.
-use Rattle.std.proofs.Common.{◌≡◌, ◌⊎◌, inl, inr, ℕ, ◌+◌, ◌-◌, ◌*◌, ◌/◌, ◌%◌, ◌<◌, ◌≤◌, Bool, true, false, nat_eq, List, [], ◌∷◌, ◌++◌, length, drop, take, Option, Result, Ok, refl, sym, ap, ◌∙◌, subst, arith, append-nil, append_assoc, length-drop}
-use Rattle.std.specs.List.{AllByRecursion, IsDistinct}
+use Rattle.std.proofs.Common.{◌≡◌, ◌⊎◌, inl, inr, ℕ, ◌+◌, ◌-◌, ◌*◌, ◌/◌, ◌%◌, ◌<◌, ◌≤◌, Bool, true, false, List, [], ◌∷◌, ◌++◌, length, drop, take, Result, Ok, refl, sym, ap, ◌∙◌, subst, arith, append-nil, append_assoc, length-drop}
 use Rattle.std.proofs.lemmas.Bool.{cases_lt}
 use Rattle.std.proofs.lemmas.List.{length-take-le}
 use Rattle.pico_board.specs.declared.Step.{Step}
@@ -9,12 +8,12 @@ use Rattle.pico_board.specs.declared.boot.BootKind.TheVariants.{Bootsel}
 use Rattle.pico_board.specs.declared.boot.Cpu.{Cpu}
 use Rattle.pico_board.specs.declared.window.Window.{Window}
 use Rattle.pico_board.specs.Content.{Content, IsContent}
-use Rattle.pico_board.specs.Sessions.{Confined, Gated, IsElsewhere, IsProgramIn, pages_of}
+use Rattle.pico_board.specs.Sessions.{Confined, Gated, IsElsewhere}
 use Rattle.pico_board.specs.Steps.{after_all}
 use Rattle.pico_board.proofs.ConfinementLemmas.{Confined-append, confined-after_all}
 use Rattle.part_table.specs.declared.table.Right.TheVariants.{BootWrite}
 use Rattle.part_table.specs.Rights.{allowed_by}
-use Rattle.picoboot_cmd.specs.Pages.{programs, programs_of}
+use Rattle.picoboot_cmd.specs.Pages.{programs}
 use Rattle.picoboot_cmd.specs.Sectors.{erases}
 use Rattle.picoboot_cmd.specs.WellFormed.{MayWrite}
 use Rattle.boot_script.specs.declared.event.ScriptFault.{ScriptFault}
@@ -25,7 +24,7 @@ use Rattle.boot_machine.specs.Machines.{Host}
 use Rattle.boot_machine.specs.Serving.{table_of}
 use Rattle.image_pack.specs.Filling.{round_up}
 use Rattle.image_pack.specs.Plans.{erase_cmd, plan_text, sent, update_cmd, write_cmd}
-use Rattle.boot_sweep.specs.Sessions.{IsSlotOf, entered_host, session, session_from}
+use Rattle.boot_sweep.specs.Sessions.{IsSlotOf, entered_host, session}
 use Rattle.boot_sweep.proofs.PlanServedLemmas.{Known, erase-done, erase-refused, event, reboot-event, write-done, write-refused}
 use Rattle.boot_sweep.proofs.PlanSlotLemmas.{IsSlot, slot-is}
 use Rattle.boot_sweep.proofs.PlanStepLemmas.{all-append, erases-confined, erases-elsewhere, programs-confined, programs-distinct, programs-elsewhere, programs-in}

@@ -1,12 +1,12 @@
 -- How BOOTSEL serves the commands of a plan.
-use Rattle.std.proofs.Common.{◌≡◌, ◌≢◌, ◌↔◌, inl, inr, ℕ, ◌+◌, ◌-◌, ◌*◌, ◌/◌, ◌^◌, ◌<◌, ◌≤◌, Bool, true, false, ◌&&◌, ◌||◌, ◌==◌, ◌%◌, List, [], ◌∷◌, ◌++◌, length, Option, Some, None, Result, Ok, refl, sym, ap, ◌∙◌, subst, arith}
-use Rattle.std.specs.Prelude.{if◌then◌else◌, nat_le}
+use Rattle.std.proofs.Common.{◌≡◌, ◌≢◌, ◌↔◌, ℕ, ◌+◌, ◌*◌, ◌/◌, ◌^◌, ◌<◌, ◌≤◌, Bool, true, false, ◌&&◌, ◌||◌, ◌==◌, ◌%◌, List, [], ◌∷◌, ◌++◌, length, Option, Some, None, Ok, refl, sym, ap, ◌∙◌, subst, arith}
+use Rattle.std.specs.Prelude.{if◌then◌else◌}
 use Rattle.std.proofs.lemmas.Bool.{lt-leb}
 use Rattle.std.proofs.lemmas.Bool.Decides.{nat_tests}
 use Rattle.pico_board.specs.declared.Step.{Step}
 use Rattle.pico_board.specs.declared.boot.BootKind.{BootKind}
 use Rattle.pico_board.specs.declared.boot.Cpu.{Cpu}
-use Rattle.pico_board.specs.Content.{Content, flash_base}
+use Rattle.pico_board.specs.Content.{Content}
 use Rattle.pico_board.specs.Steps.{after_all}
 use Rattle.load_map.specs.declared.addresses.TheConstants.{SRAM_START}
 use Rattle.part_table.specs.declared.table.Right.{Right}
@@ -28,7 +28,7 @@ use Rattle.boot_rules.specs.Tables.{table_in}
 use Rattle.boot_script.specs.Events as events
 use Rattle.boot_script.specs.Events.{Happening}
 use Rattle.boot_machine.specs.Machines.{Host, Place, InBootsel, Off, Running}
-use Rattle.boot_machine.specs.Serving.{Served, command_served, host_result, served, serves, serves_host, serves_ram, table_of}
+use Rattle.boot_machine.specs.Serving.{Served, command_served, serves, serves_host, serves_ram, table_of}
 use Rattle.image_pack.specs.Plans.{erase_cmd, update_cmd, write_cmd}
 use Rattle.boot_sweep.specs.Sessions.{entered_host, going_on, session_from}
 

@@ -1,5 +1,5 @@
 -- A slot that a plan writes: where it stands, and that its sectors have one right.
-use Rattle.std.proofs.Common.{◌≡◌, ◌⊎◌, inl, inr, ℕ, ◌+◌, ◌-◌, ◌*◌, ◌/◌, ◌<◌, ◌≤◌, Bool, true, ◌&&◌, length, Option, Some, None, refl, sym, ap, ap₂, ◌∙◌, subst, arith, le-leb}
+use Rattle.std.proofs.Common.{◌≡◌, inl, inr, ℕ, ◌+◌, ◌/◌, ◌<◌, ◌≤◌, Bool, true, ◌&&◌, length, Some, sym, ap, ap₂, ◌∙◌, subst, arith, le-leb}
 use Rattle.pico_board.specs.declared.boot.Cpu.{Cpu}
 use Rattle.pico_board.specs.declared.window.Window.{Window}
 use Rattle.pico_board.specs.Content.{Content, IsContent}
@@ -12,8 +12,6 @@ use Rattle.part_table.specs.Rights.{allowed_by}
 use Rattle.part_table.specs.Sound.{IsSoundTable}
 use Rattle.part_table.specs.Windows.{IsPlaced, has_sector, partition_window}
 use Rattle.part_table.proofs.TableLemmas.{partition_right, sound_placed}
-use Rattle.boot_rules.specs.declared.tables.Found.{Found}
-use Rattle.boot_rules.specs.Chosen.{Home}
 use Rattle.boot_rules.specs.Tables.{table_in}
 use Rattle.boot_rules.proofs.TableLemmas.{found-sound}
 use Rattle.boot_machine.specs.Serving.{table_of}

@@ -1,13 +1,11 @@
 -- The steps of a plan: which of them keep to a window, to its first sector, or elsewhere.
-use Rattle.std.proofs.Common.{◌≡◌, inl, inr, ℕ, zero, suc, ◌+◌, ◌*◌, ◌/◌, ◌<◌, ◌≤◌, true, false, nat_eq, List, [], ◌∷◌, ◌++◌, length, drop, take, refl, sym, arith}
+use Rattle.std.proofs.Common.{◌≡◌, inr, ℕ, zero, suc, ◌+◌, ◌*◌, ◌<◌, ◌≤◌, false, nat_eq, List, [], ◌∷◌, ◌++◌, drop, arith}
 use Rattle.std.specs.List.{AllByRecursion, IsDistinct}
 use Rattle.std.proofs.lemmas.Bool.{ne_eqb}
-use Rattle.pico_board.specs.declared.Step.{Step}
-use Rattle.pico_board.specs.declared.Step.TheVariants.{Erase, Program}
 use Rattle.pico_board.specs.declared.window.Window.{Window}
 use Rattle.pico_board.specs.Sessions.{Confined, IsElsewhere, IsProgramIn, pages_of}
 use Rattle.pico_board.proofs.GateLemmas.{IsDistinct-more, IsDistinct-none}
-use Rattle.picoboot_cmd.specs.Pages.{filled, programs_of}
+use Rattle.picoboot_cmd.specs.Pages.{programs_of}
 use Rattle.picoboot_cmd.specs.Sectors.{erases}
 
 pub all-append : {X : Type 0} (P : X → Type 0) (xs ys : List X) → AllByRecursion P xs → AllByRecursion P ys

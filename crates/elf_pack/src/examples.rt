@@ -7,6 +7,7 @@ ghost use Rattle.block_codec.specs.Words.{bytes_of};
 ghost use Rattle.elf_pack.specs.declared.fault.ElfFault.TheVariants.{NotElf, FileType, Processor, Headers, Segment, Empty, TooMany, Mixed, Overlap};
 ghost use Rattle.elf_pack.specs.Binaries.{elf_binary};
 ghost use Rattle.elf_pack.specs.Examples.{file_of, head, header_of, one_at};
+ghost use Rattle.elf_pack.specs.Whole.{IsOfLink};
 ghost use Rattle.elf_pack.specs.Fields.{entry_address, headers_at};
 ghost use Rattle.elf_pack.specs.Judging.{do_overlap, elf_fault, is_misplaced, segments_fault};
 ghost use Rattle.elf_pack.specs.Segments.{segments};
@@ -101,4 +102,12 @@ pub fn binaries()
     ensures riscv { take 16 (elf_binary Riscv (head 2 243 32 1
         ++ header_of 1 0 0x2000_0000 84))
         ≡ bytes_of (0xffff_ded3 ∷ 0x1101_0142 ∷ 0x0000_0344 ∷ 0x2000_0001 ∷ []) }
+{}
+
+/// A link at an offset of an image has four bytes in flash.
+pub fn bytes_of_a_link()
+    ensures before { ¬ (IsOfLink 8 0x10000007) }
+    ensures first { IsOfLink 8 0x10000008 }
+    ensures last { IsOfLink 8 0x1000000b }
+    ensures behind { ¬ (IsOfLink 8 0x1000000c) }
 {}

@@ -1,9 +1,10 @@
 -- A binary and specs that stand as worked examples. This project's own.
 use Rattle.std.specs.Prelude.{ℕ, Bool, List, [], ◌∷◌, ◌++◌, Option, replicate, pos}
 use Rattle.pico_board.specs.declared.boot.Cpu.{Cpu}
-use Rattle.block_codec.specs.Blocks.{frame}
+use Rattle.block_codec.specs.Blocks.{BlockView, frame}
 use Rattle.block_codec.specs.Words.{bytes_of}
 use Rattle.load_map.specs.declared.load.Load.{Load}
+use Rattle.image_pack.specs.declared.parts.Parts.{Parts}
 use Rattle.image_pack.specs.declared.spec.SealSpec.{SealSpec}
 
 -- the least image for Arm: SP and PC, and its block at 0x114
@@ -24,3 +25,18 @@ spec_of cpu trial rollback rows = record {
 -- a load of four bytes
 abbrev pub four_bytes : Option ℕ → ℕ → Load
 four_bytes storage runtime = record { storage = storage; runtime = runtime; size = 4 }
+
+-- parts of a binary: its first block, its last one and that one's link word stand at these offsets,
+-- it has no entry point of its own, and these are its loads
+abbrev pub parts_at : ℕ → ℕ → ℕ → List Load → Parts
+parts_at first last link_at loads = record {
+  first = first;
+  last = last;
+  link_at = link_at;
+  entry = record { items = [] };
+  loads = record { items = loads };
+}
+
+-- a block of one item word that stands here
+abbrev pub one_item : ℕ → BlockView
+one_item at = record { at = at; items = 0x10210142 ∷ []; link = pos 0 }

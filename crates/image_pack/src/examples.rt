@@ -5,10 +5,11 @@ ghost use Rattle.pico_board.specs.declared.boot.Cpu.TheVariants.{Arm, Riscv};
 ghost use Rattle.block_codec.specs.Blocks.{frame};
 ghost use Rattle.block_codec.specs.Words.{bytes_of};
 ghost use Rattle.pico_board.specs.Examples.{window_at};
-ghost use Rattle.image_pack.specs.Examples.{four_bytes, least_image, spec_of};
+ghost use Rattle.image_pack.specs.Examples.{four_bytes, least_image, one_item, parts_at, spec_of};
 ghost use Rattle.image_pack.specs.Plans.{IsPlanned};
 ghost use Rattle.image_pack.specs.ReadBack.{IsHalves};
-ghost use Rattle.image_pack.specs.Sealing.{entry_words, front_items, own_loads, sealed_text};
+ghost use Rattle.image_pack.specs.Sealing.{entry_words, front_items, link_offset_of, offset_of, own_loads, sealed_text};
+ghost use Rattle.image_pack.specs.Within.{IsWithin};
 ghost use Rattle.image_pack.specs.declared.sealing.TheConstants.{MOST_BYTES};
 
 /// The least image for Arm, sealed with version 1.9: its block links to the new one, and that back
@@ -73,4 +74,25 @@ pub fn halves_of_versions()
     ensures greatest { IsHalves (record { major = 0xffff; minor = 0xffff }) }
     ensures major_above { ¬ (IsHalves (record { major = 0x1_0000; minor = 0 })) }
     ensures minor_above { ¬ (IsHalves (record { major = 0; minor = 0x1_0000 })) }
+{}
+
+/// The blocks of a binary begin within it or at its end, its link word ends there, it has at most
+/// 16,777,216 bytes, and so the storage of each load ends there.
+pub fn parts_within_a_binary()
+    ensures at_the_end { IsWithin (parts_at 8 8 4 []) 8 }
+    ensures first_past { ¬ (IsWithin (parts_at 9 8 4 []) 8) }
+    ensures last_past { ¬ (IsWithin (parts_at 8 9 4 []) 8) }
+    ensures link_past { ¬ (IsWithin (parts_at 8 8 5 []) 8) }
+    ensures longest { IsWithin (parts_at 0 0 0 (four_bytes (Some 0xff_fffc) 0 ∷ [])) 0x100_0000 }
+    ensures longer { ¬ (IsWithin (parts_at 0 0 0 []) 0x100_0001) }
+    ensures stored_past { ¬ (IsWithin (parts_at 0 0 0 (four_bytes (Some 0xff_fffd) 0 ∷ [])) 8) }
+{}
+
+/// The offset of a block is where it stands, and its link word is the last but one. Where there is
+/// no block, both are 0.
+pub fn offsets_of_blocks()
+    ensures block { offset_of (Some (one_item 0x40)) ≡ 0x40 }
+    ensures link { link_offset_of (Some (one_item 0x40)) ≡ 0x4c }
+    ensures none { offset_of None ≡ 0 }
+    ensures no_link { link_offset_of None ≡ 0 }
 {}

@@ -1,6 +1,6 @@
 //! Worked examples, proved by computing: each is the `ensures` of a function that does nothing.
 
-ghost use Rattle.std.specs.Prelude.{◌≡◌, List, [], ◌∷◌, Err, Ok, Some, None, false, true, ℕ};
+ghost use Rattle.std.specs.Prelude.{◌≡◌, List, [], ◌∷◌, Err, Ok, Some, None, false, replicate, true, ℕ};
 ghost use Rattle.image_check.specs.Examples.{otp_with, plain_digest, stored_digest};
 ghost use Rattle.image_check.specs.declared.why.Why.TheVariants.{Digest};
 ghost use Rattle.pico_board.specs.Content.{Content};
@@ -11,7 +11,7 @@ ghost use Rattle.ram_start.specs.Examples.{hashed_bytes, hashed_in_ram, image_by
 ghost use Rattle.ram_start.specs.Images.{ram_image};
 ghost use Rattle.ram_start.specs.Serving.{is_ram_command, is_range, ram_command, ram_served, ram_status};
 ghost use Rattle.load_map.specs.Addresses.{in_sram};
-ghost use Rattle.ram_start.specs.Sram.{RamWrite, ram_after, stored, written, written_all, zero_ram};
+ghost use Rattle.ram_start.specs.Sram.{IsSram, RamWrite, ram_after, stored, written, written_all, zero_ram};
 
 /// A range lies in SRAM up to its last byte, and a range of no byte at either end too.
 pub fn ranges_of_sram()
@@ -147,4 +147,13 @@ pub fn writes_are_stored()
         ∷ record { address = 0x20000001; bytes = 7 ∷ 8 ∷ [] } ∷ []) ≡ 5 ∷ 7 ∷ 8 ∷ 4 ∷ [] }
     ensures zeros { ram_after [] ≡ zero_ram }
     ensures first { (w : RamWrite) → ram_after (w ∷ []) ≡ written zero_ram w }
+{}
+
+/// The SRAM has 532,480 bytes, each below 256.
+pub fn what_the_sram_is()
+    ensures zeros { IsSram zero_ram }
+    ensures shorter { ¬ (IsSram (replicate 532479 0)) }
+    ensures longer { ¬ (IsSram (replicate 532481 0)) }
+    ensures greatest { IsSram (255 ∷ replicate 532479 0) }
+    ensures no_byte { ¬ (IsSram (256 ∷ replicate 532479 0)) }
 {}

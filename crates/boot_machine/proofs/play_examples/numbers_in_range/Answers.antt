@@ -45,6 +45,9 @@ returns-clause-short c = λ m payload is. let long = is.bytes.0 in omega (arith,
 pub returns-clause-number : goal.returns-clause-number
 returns-clause-number c = λ m is. let low = is.bytes 0 0 (omega arith) in omega (arith, low)
 
+pub returns-clause-command_number : goal.returns-clause-command_number
+returns-clause-command_number c = λ m payload is. let low = is.bytes.1 0 0 (omega arith) in omega (arith, low)
+
 pub returns-clause-command_bytes : goal.returns-clause-command_bytes
 unfolding all_below
 returns-clause-command_bytes c = (refl, below-all 256 (replicate 32 255) refl)

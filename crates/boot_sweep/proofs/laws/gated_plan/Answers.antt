@@ -1,5 +1,4 @@
-use Rattle.boot_sweep.proofs.PlanServedLemmas.{Known}
-use Rattle.boot_sweep.proofs.PlanLaws.{KnownEvents, plan-gated}
+use Rattle.boot_sweep.proofs.PlanLaws.{plan-gated}
 use Rattle.boot_sweep.proofs.laws.gated_plan.Goals as goal
 
 pub returns : goal.returns
