@@ -1,9 +1,12 @@
 //! Worked examples of texts, each with the answer that the rules give. This project's own.
 
-ghost use Rattle.std.specs.Prelude.{◌≡◌, ◌++◌, [], ◌∷◌, true, false, codes, replicate, is_ok, None, Some, Ok, Err, option_map};
+ghost use Rattle.std.specs.Prelude.{◌≡◌, ◌++◌, ℕ, [], ◌∷◌, true, false, codes, replicate, is_ok, IfSome, None, Some, Ok, Err, option_map};
 ghost use Rattle.part_table.specs.declared.table.TableFault.{TableFault};
 ghost use Rattle.part_table.specs.Examples.{pair_version, owned_table, named_table, table_with, plain_partition, partition_with};
 ghost use Rattle.pico_board.specs.declared.boot.Cpu.{Cpu};
+ghost use Rattle.serde_json.specs.Data.{Data};
+ghost use Rattle.serde_json.specs.Read.{read};
+ghost use Rattle.table_json.specs.Says.{SaysText};
 ghost use Rattle.table_json.specs.Seals.{spec_with};
 ghost use Rattle.table_json.specs.Examples.{table_said, part_in, spec_in, all_rights, rights, part, part_and, part_of, table_of_parts, flagged, part_value, part_missing, top_value, top_missing, outside_value, named, list_of, nested, versioned, plain_spec};
 
@@ -149,6 +152,15 @@ pub fn permissions_are_read()
         ≡ Some (Ok (plain_partition 0x80000000 0x80000000)) }
     ensures all { part_of (rights (codes "rw") (codes "rw") (codes "rw"))
         ≡ Some (Ok (plain_partition 0xfc000000 0xfc000000)) }
+{}
+
+/// A partition says the permissions in both its words, and the bits 20 to 25 of its flag word say
+/// nothing.
+pub fn words_of_partitions()
+    ensures another { (i : ℕ) (d : Data)
+        → ¬ (SaysText i d (plain_partition 0xfc006002 0xf8000000)) }
+    ensures silent { IfSome (read (part (codes "2") (codes "3") []))
+        (λ d. SaysText 0 d (plain_partition 0xfc006002 0xfff00000)) }
 {}
 
 /// Permissions are an object with exactly three members.
