@@ -8,8 +8,6 @@ mod flags;
 pub mod laws;
 mod raising;
 mod rows;
-#[cfg(test)]
-mod tests;
 
 pub use flags::{BOOT_FLAGS, SLOT_SIZE_ROW, flash_off, required, slot_size};
 pub use raising::raise_to;

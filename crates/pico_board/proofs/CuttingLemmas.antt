@@ -78,6 +78,14 @@ CutOf-prefix c xs step ys is all =
     CutOf-append_right c xs (step ∷ ys) (after_all c xs)
     (inl (Torn-before (after_all c xs) step (IsContent-after_all c xs is all).flash_bytes))
 
+-- power may be lost once the last step has changed all of its range
+pub CutOf-end : (c : Content) (xs : List Step) (step : Step) → IsContent c
+    → AllByRecursion (IsStepIn (length c.flash)) (xs ++ step ∷ [])
+    → CutOf c (xs ++ step ∷ []) (after_all c (xs ++ step ∷ []))
+CutOf-end c [] step is all = inl (Torn-after c step is all.0)
+CutOf-end c (x ∷ xs) step is all =
+    inr (CutOf-end (after c x) xs step (IsContent-after c x is all.0) (in_range-after c x (xs ++ step ∷ []) all.1))
+
 -- bits between are bits of one of the two ends
 pub between_lt : (a b x n : ℕ) → IsBetween a b x → a < 2 ^ n → b < 2 ^ n → x < 2 ^ n
 between_lt a b x n between first second =

@@ -18,3 +18,5 @@ pub mod StepLemmas
 pub mod TellLemmas
 pub mod CutListLemmas
 pub mod TornStepLemmas
+pub mod PartLemmas
+pub mod StoreExampleLemmas

@@ -1,10 +1,12 @@
 -- Worked examples of the lists of steps that a session does: two sectors are written, the first of
--- them last, and power is lost within the last step. This project's own.
-use Rattle.std.specs.Prelude.{ℕ, List, [], ◌∷◌, true}
+-- them last, and power is lost within the last step; and of the files of a store. This project's
+-- own.
+use Rattle.std.specs.Prelude.{ℕ, List, [], ◌∷◌, Some, false, true}
 use Rattle.pico_board.specs.declared.window.Window.{Window}
 use Rattle.pico_board.specs.Content.{Content}
 use Rattle.pico_board.specs.Steps.{Step, Erase, Program, after_all}
 use Rattle.pico_board.specs.Cuts.{cut_by, cut_with}
+use Rattle.pico_board.specs.Files.{File, StoreState}
 
 -- the window of this start and length
 abbrev pub window_at : ℕ → ℕ → Window
@@ -32,3 +34,25 @@ two_pages page other = Erase 2 ∷ Erase 3 ∷ Program 48 other ∷ Program 32 p
 abbrev pub half_done : Content → List ℕ → List ℕ → Content
 half_done c page other = cut_by (cut_with 0 true (0x0f ∷ []))
     (after_all c (Erase 2 ∷ Erase 3 ∷ Program 48 other ∷ [])) (Program 32 page)
+
+-- what holds these bytes and rows
+abbrev pub holding : List ℕ → List ℕ → Content
+holding flash otp = record { flash = flash; otp = otp }
+
+-- the names a and b
+abbrev pub name_a : List ℕ
+name_a = 97 ∷ []
+
+abbrev pub name_b : List ℕ
+name_b = 98 ∷ []
+
+-- the files of these names that have one byte
+abbrev pub of_a : ℕ → File
+of_a byte = record { name = name_a; bytes = byte ∷ [] }
+
+abbrev pub of_b : ℕ → File
+of_b byte = record { name = name_b; bytes = byte ∷ [] }
+
+-- a store that tells these files, had no faults, and is not steady
+abbrev pub telling : List File → StoreState
+telling files = record { files = Some files; read_faults = 0; write_faults = 0; steady = false }

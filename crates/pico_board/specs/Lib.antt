@@ -4,6 +4,7 @@ pub mod Cuts
 pub mod Board
 pub mod Sessions
 pub mod Views
+pub mod ViewedWindows
 pub mod Rows
 pub mod Supply
 pub mod MemBoard

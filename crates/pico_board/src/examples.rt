@@ -1,16 +1,21 @@
 //! Worked examples: which lists of steps are confined and gated, a content that the loss of power
-//! leaves unfinished, the patterns of cuts, and what counts and reads tell.
+//! leaves unfinished, the patterns of cuts and what they leave, and what counts, reads, writes and
+//! puts tell.
 
-ghost use Rattle.std.specs.Prelude.{◌≡◌, ◌≢◌, ℕ, ◌<◌, ◌≤◌, All, List, None, [], ◌∷◌, false, length, slice_index, true};
+ghost use Rattle.std.specs.Prelude.{◌≡◌, ◌≢◌, ℕ, ◌<◌, ◌≤◌, All, List, None, Some, Ok, Err, [], ◌∷◌, ◌⊎◌, false, length, slice_index, true};
 ghost use Rattle.pico_board.specs.declared.window.Window.{Window};
+ghost use Rattle.pico_board.specs.declared.window.TheConstants.{FLASH_BASE, MOST_FLASH_BYTES};
+ghost use Rattle.pico_board.specs.declared.sink.SinkFail.{SinkFail};
+ghost use Rattle.pico_board.specs.declared.store.StoreFail.{StoreFail};
 ghost use Rattle.pico_board.specs.Content.{AreApart, Content, IsContent, flash_base};
 ghost use Rattle.pico_board.specs.Steps.{CutOf, Erase, IsStepIn, Program, Raise};
 ghost use Rattle.pico_board.specs.Board.{Rose};
-ghost use Rattle.pico_board.specs.Cuts.{IsPattern};
-ghost use Rattle.pico_board.specs.Files.{IsReadOf};
-ghost use Rattle.pico_board.specs.Sessions.{Confined, Gated, IsElsewhere, IsGated, IsPageOf, IsProgramIn, Unfinished};
+ghost use Rattle.pico_board.specs.Cuts.{IsPattern, torn_by};
+ghost use Rattle.pico_board.specs.Files.{IsReadOf, KeepsOthers, ShowsWrite};
+ghost use Rattle.pico_board.specs.Puts.{IsPutBy};
+ghost use Rattle.pico_board.specs.Sessions.{Confined, Gated, IsBlankPage, IsElsewhere, IsGated, IsPageOf, IsPartial, IsProgramIn, IsSamePage, SameButSector, Unfinished};
 ghost use Rattle.pico_board.specs.Views.{IsViewed};
-ghost use Rattle.pico_board.specs.Examples.{first_sector, half_done, second_sector, two_pages, two_sectors, window_at};
+ghost use Rattle.pico_board.specs.Examples.{first_sector, half_done, holding, name_a, of_a, of_b, second_sector, telling, two_pages, two_sectors, window_at};
 
 /// Steps on the first and the last sector and page of the window of sectors 2 and 3 are confined to
 /// it, and steps on the sectors and pages beside it are not; nor is a raise.
@@ -64,6 +69,8 @@ pub fn windows_and_views()
     ensures share_last { ¬ (AreApart (window_at 0 4097) (window_at 4096 8192)) }
     ensures share_first { ¬ (AreApart (window_at 4096 8192) (window_at 0 4097)) }
     ensures base { flash_base ≡ 0x10000000 }
+    ensures base_in_code { FLASH_BASE ≡ flash_base }
+    ensures most_in_code { MOST_FLASH_BYTES ≡ 16777216 }
     ensures longest { (xs : List ℕ) → length xs ≡ 16777216 → All (λ b. b < 256) xs → IsViewed xs }
     ensures longer { (xs : List ℕ) → length xs ≡ 16777217 → ¬ (IsViewed xs) }
 {}
@@ -114,4 +121,88 @@ pub fn counts_that_rose()
 pub fn reads_of_untold_files()
     ensures at_most { (name : List ℕ) → IsReadOf None name 2 (7 ∷ 8 ∷ 9 ∷ []) }
     ensures above { (name : List ℕ) → ¬ (IsReadOf None name 2 (6 ∷ 7 ∷ 8 ∷ 9 ∷ [])) }
+{}
+
+/// A cut within a step leaves a pattern of two bytes again and again in an erased sector; in a
+/// programmed page it keeps the bits that the pattern has; and in a row it raises no bit that the
+/// pattern's first three bytes have.
+pub fn cuts_within_a_step()
+    ensures erase { torn_by (0x0f ∷ 0x35 ∷ []) (holding (0xdb ∷ 0xdb ∷ 0xdb ∷ []) []) (Erase 0)
+        ≡ holding (0x0f ∷ 0x35 ∷ 0x0f ∷ []) [] }
+    ensures program { torn_by (0x0f ∷ 0x35 ∷ []) (holding (0xdb ∷ 0xdb ∷ 0xdb ∷ []) [])
+        (Program 0 (0x3c ∷ 0x3c ∷ 0x3c ∷ [])) ≡ holding (0x1b ∷ 0x19 ∷ 0x1b ∷ []) [] }
+    ensures raise { torn_by (1 ∷ 2 ∷ []) (holding [] (0 ∷ 0x10 ∷ [])) (Raise 1 0xf_0203)
+        ≡ holding [] (0 ∷ 0xe_0012 ∷ []) }
+{}
+
+/// Page 1 has the bytes 256 to 511, and is the same in two contents where each of these is.
+pub fn pages_that_are_the_same()
+    ensures same { (z d : Content)
+        → ((i : ℕ) → 256 ≤ i → i < 512 → slice_index d.flash i ≡ slice_index z.flash i)
+        → IsSamePage 1 z d }
+    ensures first { (z d : Content) → slice_index d.flash 256 ≢ slice_index z.flash 256
+        → ¬ (IsSamePage 1 z d) }
+    ensures last { (z d : Content) → slice_index d.flash 511 ≢ slice_index z.flash 511
+        → ¬ (IsSamePage 1 z d) }
+{}
+
+/// Sector 2 is finished in part where each of its pages, 32 to 47, is blank or the finished one. It
+/// is not where a page has a byte that is not erased and another one that is not finished, nor
+/// where a byte beside the sector or a row is not the finished one.
+pub fn sectors_that_are_finished_in_part()
+    ensures pages { (z d : Content) → SameButSector 2 z d
+        → ((q : ℕ) → 32 ≤ q → q ≤ 47 → IsBlankPage q d ⊎ IsSamePage q z d) → IsPartial z 2 d }
+    ensures first_page { (z d : Content) → slice_index d.flash 8192 ≢ 255
+        → slice_index d.flash 8193 ≢ slice_index z.flash 8193 → ¬ (IsPartial z 2 d) }
+    ensures last_page { (z d : Content) → slice_index d.flash 12287 ≢ 255
+        → slice_index d.flash 12286 ≢ slice_index z.flash 12286 → ¬ (IsPartial z 2 d) }
+    ensures below { (z d : Content) → slice_index d.flash 8191 ≢ slice_index z.flash 8191
+        → ¬ (IsPartial z 2 d) }
+    ensures above { (z d : Content) → slice_index d.flash 12288 ≢ slice_index z.flash 12288
+        → ¬ (IsPartial z 2 d) }
+    ensures rows { (z d : Content) → d.otp ≢ z.otp → ¬ (IsPartial z 2 d) }
+{}
+
+/// A write leaves the files of all other names: none of them is lost, changed or made.
+pub fn files_beside_the_written_one()
+    ensures other_bytes { KeepsOthers (of_a 1 ∷ of_b 2 ∷ []) name_a (of_b 2 ∷ of_a 7 ∷ []) }
+    ensures lost { ¬ (KeepsOthers (of_a 1 ∷ of_b 2 ∷ []) name_a (of_a 1 ∷ [])) }
+    ensures changed { ¬ (KeepsOthers (of_a 1 ∷ of_b 2 ∷ []) name_a (of_a 1 ∷ of_b 7 ∷ [])) }
+    ensures made { ¬ (KeepsOthers (of_a 1 ∷ []) name_a (of_a 1 ∷ of_b 2 ∷ [])) }
+{}
+
+/// After a write that is Ok the bytes stand under the name, and after one that failed they may
+/// stand there or not; in both cases the other files are as they were, and told files are told.
+pub fn files_after_a_write()
+    ensures ok_old { ¬ (ShowsWrite (telling (of_a 1 ∷ of_b 2 ∷ [])) name_a (7 ∷ []) (Ok tt)
+        (telling (of_a 1 ∷ of_b 2 ∷ []))) }
+    ensures ok_lost { ¬ (ShowsWrite (telling (of_a 1 ∷ of_b 2 ∷ [])) name_a (7 ∷ []) (Ok tt)
+        (telling (of_a 7 ∷ []))) }
+    ensures failed_old { ShowsWrite (telling (of_a 1 ∷ of_b 2 ∷ [])) name_a (7 ∷ [])
+        (Err StoreFail.Memory) (telling (of_a 1 ∷ of_b 2 ∷ [])) }
+    ensures failed_new { ShowsWrite (telling (of_a 1 ∷ of_b 2 ∷ [])) name_a (7 ∷ [])
+        (Err StoreFail.Memory) (telling (of_a 7 ∷ of_b 2 ∷ [])) }
+    ensures failed_lost { (fail : StoreFail) → ¬ (ShowsWrite (telling (of_a 1 ∷ of_b 2 ∷ [])) name_a
+        (7 ∷ []) (Err fail) (telling (of_a 7 ∷ []))) }
+    ensures failed_changed { (fail : StoreFail) → ¬ (ShowsWrite (telling (of_a 1 ∷ of_b 2 ∷ []))
+        name_a (7 ∷ []) (Err fail) (telling (of_a 7 ∷ of_b 7 ∷ []))) }
+{}
+
+/// A put that is Ok appends all of its bytes, and one that failed none, some of the first, or all
+/// of them, and nothing else.
+pub fn bytes_after_a_put()
+    ensures ok { IsPutBy (Some (1 ∷ [])) (7 ∷ 8 ∷ []) (Ok tt) (Some (1 ∷ 7 ∷ 8 ∷ [])) }
+    ensures ok_in_part { ¬ (IsPutBy (Some (1 ∷ [])) (7 ∷ 8 ∷ []) (Ok tt) (Some (1 ∷ 7 ∷ []))) }
+    ensures failed_none { (fail : SinkFail)
+        → IsPutBy (Some (1 ∷ [])) (7 ∷ 8 ∷ []) (Err fail) (Some (1 ∷ [])) }
+    ensures failed_in_part { (fail : SinkFail)
+        → IsPutBy (Some (1 ∷ [])) (7 ∷ 8 ∷ []) (Err fail) (Some (1 ∷ 7 ∷ [])) }
+    ensures failed_whole { (fail : SinkFail)
+        → IsPutBy (Some (1 ∷ [])) (7 ∷ 8 ∷ []) (Err fail) (Some (1 ∷ 7 ∷ 8 ∷ [])) }
+    ensures failed_other { (fail : SinkFail)
+        → ¬ (IsPutBy (Some (1 ∷ [])) (7 ∷ 8 ∷ []) (Err fail) (Some (1 ∷ 8 ∷ []))) }
+    ensures failed_lost { (fail : SinkFail)
+        → ¬ (IsPutBy (Some (1 ∷ [])) (7 ∷ 8 ∷ []) (Err fail) (Some [])) }
+    ensures failed_more { (fail : SinkFail)
+        → ¬ (IsPutBy (Some (1 ∷ [])) (7 ∷ []) (Err fail) (Some (1 ∷ 7 ∷ 1 ∷ []))) }
 {}

@@ -35,6 +35,19 @@ pub fn prefix_is_a_cut()
         → CutOf c (xs ++ step ∷ ys) (after_all c xs) }
 {}
 
+/// What is left after all of the steps, and what each loss of power in them leaves, is what they
+/// may leave. Power may be lost once the last step has changed all of its range, and no power is
+/// lost where there is no step.
+pub fn what_steps_may_leave()
+    ensures whole { (c : Content) (steps : List Step) → MayLeave c steps (after_all c steps) }
+    ensures cut { (c : Content) (steps : List Step) (d : Content) → CutOf c steps d
+        → MayLeave c steps d }
+    ensures at_the_end { (c : Content) (steps : List Step) (step : Step) → IsContent c
+        → All (IsStepIn (length c.flash)) (steps ++ step ∷ [])
+        → CutOf c (steps ++ step ∷ []) (after_all c (steps ++ step ∷ [])) }
+    ensures no_step { (c d : Content) → CutOf c [] d → ⊥ }
+{}
+
 /// Whatever steps leave, done or torn, is a content.
 pub fn steps_leave_a_content()
     ensures { (c : Content) (steps : List Step) (d : Content) → IsContent c

@@ -15,8 +15,6 @@ mod sink;
 mod step;
 mod store;
 mod supply;
-#[cfg(test)]
-mod tests;
 mod view;
 mod window;
 
@@ -29,4 +27,4 @@ pub use sink::{Sink, SinkFail};
 pub use step::{Step, do_step, do_steps};
 pub use store::{Store, StoreFail};
 pub use view::{FlashView, SliceView, View};
-pub use window::Window;
+pub use window::{FLASH_BASE, MOST_FLASH_BYTES, Window};

@@ -12,6 +12,7 @@ use crate::range::{
     PAGE, ROWS, SECTOR, cut_erase, cut_program, cut_raise, erase_sector, program_page,
 };
 use crate::supply::Supply;
+use crate::window::MOST_FLASH_BYTES;
 use std::alloc::Global;
 use thiserror::Error;
 
@@ -46,7 +47,7 @@ pub struct MemBoard {
 fn is_flash_length(n: usize) -> bool
     ensures { IsTrue result ↔ IsFlashLength n }
 {
-    n % SECTOR == 0 && n >= 2 * SECTOR && n <= 4096 * SECTOR
+    n % SECTOR == 0 && n >= 2 * SECTOR && n <= MOST_FLASH_BYTES
 }
 
 /// The least row that has more than 24 bits.

@@ -35,7 +35,7 @@ pub struct FlashView<'a, B: Board> {
 
 impl<'a, B: Board> View for FlashView<'a, B> {
     ghost use Rattle.pico_board.specs.Content.{window_bytes};
-    ghost use Rattle.pico_board.specs.Views.{IsViewed-window};
+    ghost use Rattle.pico_board.specs.ViewedWindows.{IsViewed-window};
 
     ghost bytes = { λ view. window_bytes (B.state view.board.now).content view.window };
 

@@ -1,4 +1,10 @@
-//! Windows of the flash.
+//! The flash as the processors see it, and windows of it.
+
+/// The address at which the first byte of the flash is seen (RP2350 Datasheet, section 2.2, Address
+/// map).
+pub const FLASH_BASE: u32 = 0x1000_0000;
+/// The most bytes of a flash: 16 MiB, those of a chip select (RP2350 Datasheet, section 4.4).
+pub const MOST_FLASH_BYTES: usize = 16_777_216;
 
 /// A range of the flash: `len` bytes from the byte `start` on, both in bytes. Offset x of a window
 /// is seen by the processors at the address `0x10000000 + x` (RP2350 Datasheet, section 12.14, QMI

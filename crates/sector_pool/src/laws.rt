@@ -48,3 +48,31 @@ pub fn a_free_sector_is_not_out()
     ensures some { (pool : Pool) (k : ℕ) → slice_get pool.out k ≡ Some false → HasFree pool }
     ensures none { (pool : Pool) → All (λ is_out. is_out ≡ true) pool.out → HasFree pool → ⊥ }
 {}
+
+/// Keeping what is out says something of each number and of each sector that is out: another list
+/// of numbers out does not keep it, nor do other bytes in a sector that is out, but for the one
+/// sector that may be written.
+pub fn keeping_is_of_every_sector()
+    ensures numbers { (old new : Pool) → new.out ≢ old.out → ¬ (KeepsOut old new) }
+    ensures bytes { (old new : Pool) (j : ℕ) → slice_get old.out j ≡ Some true
+        → slice_get new.sectors j ≢ slice_get old.sectors j → ¬ (KeepsOut old new) }
+    ensures numbers_but { (k : ℕ) (old new : Pool) → new.out ≢ old.out → ¬ (KeepsOutBut k old new) }
+    ensures bytes_but { (k : ℕ) (old new : Pool) (j : ℕ) → j ≢ k → slice_get old.out j ≡ Some true
+        → slice_get new.sectors j ≢ slice_get old.sectors j → ¬ (KeepsOutBut k old new) }
+{}
+
+/// Handing over says which number was free and is out, which one was out and is free, and that
+/// every other one is as it was and keeps its bytes where it is out.
+pub fn handing_over_is_of_every_sector()
+    ensures mine { (had : Option ℕ) (k : ℕ) (old new : Pool) → slice_get new.out k ≢ Some true
+        → ¬ (HandsOver had (Some k) old new) }
+    ensures fresh { (k : ℕ) (old new : Pool) → slice_get old.out k ≢ Some false
+        → ¬ (HandsOver None (Some k) old new) }
+    ensures back { (k : ℕ) (old new : Pool) → slice_get new.out k ≢ Some false
+        → ¬ (HandsOver (Some k) None old new) }
+    ensures others { (had has : Option ℕ) (j : ℕ) (old new : Pool) → had ≢ Some j → has ≢ Some j
+        → slice_get new.out j ≢ slice_get old.out j → ¬ (HandsOver had has old new) }
+    ensures bytes { (had has : Option ℕ) (j : ℕ) (old new : Pool) → had ≢ Some j → has ≢ Some j
+        → slice_get old.out j ≡ Some true → slice_get new.sectors j ≢ slice_get old.sectors j
+        → ¬ (HandsOver had has old new) }
+{}

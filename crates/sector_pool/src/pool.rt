@@ -142,6 +142,3 @@ fn whole(sector: &[u8; SECTOR]) -> &[u8]
 {
     sector
 }
-
-#[cfg(test)]
-mod tests;
