@@ -1,7 +1,7 @@
 //! Worked examples of items, as laws that compute.
 
 ghost use Rattle.std.specs.Prelude.{◌≡◌, Some, None, [], ◌∷◌, true, false};
-ghost use Rattle.block_codec.specs.Items.{item_at};
+ghost use Rattle.block_codec.specs.Items.{headers_of, item_at};
 ghost use Rattle.block_codec.specs.Kinds.{first_spelling, is_of_kind, item_of_kind, items_of_kind, version_words, version_of, hash_count_of, digest_of};
 
 use crate::kinds::{
@@ -45,6 +45,18 @@ pub fn items_of_one_kind()
         ≡ item_at 2 0x186 ∷ item_at 3 0x106 ∷ [] }
     ensures of_kind { is_of_kind 6 (item_at 1 0x186) ≡ true }
     ensures not_of_kind { is_of_kind 6 (item_at 1 0x142) ≡ false }
+{}
+
+/// The headers among the words of items are the first words of each item, in order: a header of a
+/// second spelling has its size in two bytes, another one in one.
+#[tactic(auto, unfolding(crate::specs::Items::size_of))]
+pub fn headers_of_items()
+    ensures in_order { headers_of (0x203 ∷ 7 ∷ 0x142 ∷ 0x346 ∷ 8 ∷ 9 ∷ [])
+        ≡ 0x203 ∷ 0x142 ∷ 0x346 ∷ [] }
+    ensures two_bytes { headers_of (0x000286 ∷ 7 ∷ 0x142 ∷ []) ≡ 0x000286 ∷ 0x142 ∷ [] }
+    ensures long { headers_of (0x010186 ∷ 7 ∷ 0x142 ∷ []) ≡ 0x010186 ∷ [] }
+    ensures one_byte { headers_of (0x010103 ∷ 0x142 ∷ []) ≡ 0x010103 ∷ 0x142 ∷ [] }
+    ensures none { headers_of [] ≡ [] }
 {}
 
 /// A VERSION item has two words without rows, and otherwise a word more for each two of the

@@ -23,6 +23,3 @@ pub use items::Item;
 pub use reading::read_block;
 pub use versions::{Version, version_item};
 pub use writing::write_block;
-
-#[cfg(test)]
-mod tests;

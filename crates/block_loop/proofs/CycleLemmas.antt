@@ -1,5 +1,5 @@
 -- A loop that follows the links of another loop is that loop.
-use Rattle.std.proofs.Common.{◌≡◌, ℕ, zero, suc, ◌+◌, ◌-◌, ◌≤◌, pos, ◌+ℤ◌, List, [], ◌∷◌, length, Some, refl, sym, ap, subst, ◌∙◌, inl, inr, arith}
+use Rattle.std.proofs.Common.{◌≡◌, ◌↔◌, ℕ, zero, suc, ◌+◌, ◌-◌, ◌≤◌, pos, ◌+ℤ◌, List, [], ◌∷◌, length, Some, refl, sym, ap, subst, ◌∙◌, inl, inr, arith}
 use Rattle.std.proofs.lemmas.Bool.{cases_lt, cases_order}
 use Rattle.std.proofs.lemmas.Option.{same_Some, slice_get_within}
 use Rattle.std.specs.List.{slice_get}
@@ -20,6 +20,18 @@ distinct_places w bs chain i j b c here there same =
         | inr more ↦ absurd (apart_places c b (chain.apart j i c b more there here) (sym same))
       ]
     ]
+
+-- the first block of a list is all that counts of where it begins
+pub begins-among : (bs cs : List BlockView) (c : BlockView) → BeginsAmong bs (c ∷ cs)
+    ↔ ((i : ℕ) × (b : BlockView) × (slice_get bs i ≡ Some b) × (c.at ≡ b.at))
+begins-among bs cs c = (
+  λ among. among.begins c refl,
+  λ found. record {
+    begins = λ d is. subst
+        (λ (e : BlockView). (i : ℕ) × (b : BlockView) × (slice_get bs i ≡ Some b) × (e.at ≡ b.at))
+        (same_Some c d is) found;
+  },
+)
 
 like_target : (b c : BlockView) → IsLike b c → target c ≡ target b
 like_target b c like = ap (λ x. pos x +ℤ c.link) like.place ∙ ap (λ l. pos b.at +ℤ l) like.link

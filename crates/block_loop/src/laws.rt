@@ -60,6 +60,13 @@ pub fn same_cycle()
     ensures offsets { (bs cs : List BlockView) → IsSameCycle bs cs → offsets_of cs ≡ offsets_of bs }
 {}
 
+/// A list of blocks begins among others exactly where its first block stands where one of them
+/// does.
+pub fn a_list_begins_among_others()
+    ensures { (bs cs : List BlockView) (c : BlockView) → BeginsAmong bs (c ∷ cs)
+        ↔ ((i : ℕ) × (b : BlockView) × (slice_get bs i ≡ Some b) × (c.at ≡ b.at)) }
+{}
+
 /// Worked loops: two blocks, a link that is no multiple of 4, and a third block that links to the
 /// second.
 pub fn worked_loops()

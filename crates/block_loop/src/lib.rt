@@ -13,6 +13,3 @@ mod walking;
 pub use fault::LoopFault;
 pub use finding::block_at;
 pub use walking::{BlockLoop, block_of, walk};
-
-#[cfg(test)]
-mod tests;

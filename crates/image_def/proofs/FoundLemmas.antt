@@ -12,7 +12,8 @@ use Rattle.block_codec.specs.declared.items.Item.{Item}
 use Rattle.block_codec.specs.declared.kinds.TheConstants.{IMAGE_TYPE, VECTOR_TABLE, ENTRY_POINT, WINDOW_DELTA, LOAD_MAP, HASH_DEF, VERSION, HASH_VALUE}
 use Rattle.block_codec.specs.Kinds.{first_spelling, is_of_kind, item_of_kind}
 use Rattle.image_def.specs.declared.found.Found.{Found}
-use Rattle.image_def.specs.Found.{is_read_kind, found_in, has_kind, with_item}
+use Rattle.image_def.specs.Found.{is_read_kind, found_in}
+use Rattle.image_def.specs.Finding.{has_kind, with_item}
 
 option_or-none : {X : Type 0} (o : Option X) → option_or o None ≡ o
 option_or-none None = refl

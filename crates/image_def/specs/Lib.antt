@@ -2,6 +2,7 @@ pub mod Flags
 pub mod Suits
 pub mod Rows
 pub mod Found
+pub mod Finding
 pub mod Faults
 pub mod Definition
 pub mod Guarantees

@@ -3,7 +3,8 @@
 ghost use Rattle.std.specs.Prelude.{◌≡◌, ◌∷◌, ◌++◌, [], false, true, List, length, is_some};
 ghost use Rattle.std.specs.List.{list_any};
 ghost use Rattle.block_codec.specs.Kinds.{first_spelling, is_of_kind};
-ghost use Rattle.image_def.specs.Found.{found_in, is_read_kind, has_kind, with_item};
+ghost use Rattle.image_def.specs.Found.{found_in, is_read_kind};
+ghost use Rattle.image_def.specs.Finding.{has_kind, with_item};
 
 use block_codec::Item;
 use block_codec::kinds::{

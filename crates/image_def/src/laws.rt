@@ -1,6 +1,6 @@
 //! Laws of image definitions, each the contract of a function without a body.
 
-ghost use Rattle.std.specs.Prelude.{◌≡◌, ◌≢◌, ◌↔◌, ℕ, List, false, true, None, Some, Ok, Err, ◌+◌, ◌-◌, ◌*◌, ◌%◌, ◌^◌, slice_get, slice_index};
+ghost use Rattle.std.specs.Prelude.{◌≡◌, ◌≢◌, ◌↔◌, ℕ, List, false, true, None, Some, Ok, Err, ◌+◌, ◌-◌, ◌*◌, ◌%◌, ◌^◌, ◌<◌, slice_get, slice_index};
 ghost use Rattle.block_codec.specs.declared.definition.Def.{Def};
 ghost use Rattle.block_codec.specs.declared.items.Item.{Item};
 ghost use Rattle.block_codec.specs.Blocks.{BlockView, block_words, block_size};
@@ -10,7 +10,7 @@ ghost use Rattle.block_codec.specs.declared.kinds.TheConstants.{IMAGE_TYPE};
 ghost use Rattle.image_def.specs.Definition.{def_of, def_record};
 ghost use Rattle.image_def.specs.Faults.{item_fault, IsItemFault, IsFaultless, IsDefFault};
 ghost use Rattle.image_def.specs.Found.{is_read_kind};
-ghost use Rattle.image_def.specs.Guarantees.{IsDefinition};
+ghost use Rattle.image_def.specs.Guarantees.{IsDefinition, IsDigestItem};
 ghost use Rattle.image_def.specs.Suits.{image_type_of, has_image_type, image_flags_of, does_suit};
 ghost use Rattle.image_def.specs.Trial.{trial_cleared, untried_answer};
 ghost use Rattle.block_codec.specs.HighByte.{changed_block};
@@ -36,6 +36,12 @@ pub fn first_fault_exact()
 pub fn definitions_are_sound()
     ensures { (b : BlockView) (def : Def)
         → AreItems b.items → has_image_type b ≡ true → def_of b ≡ Ok def → IsDefinition b def }
+{}
+
+/// No word of a block's digest, nor one behind it, is among those that it covers.
+pub fn a_digest_covers_what_stands_before_it()
+    ensures { (b : BlockView) (words : ℕ) (digest : List ℕ) (item : Item) → item.first < words
+        → ¬ (IsDigestItem b words digest item) }
 {}
 
 /// A block that gives a definition has at most one item of each kind that is read.

@@ -22,6 +22,3 @@ pub use fault::DefFault;
 pub use images::{MOST_BLOCK_BYTES, image_flags, suits};
 pub use reading::read_def;
 pub use started::Started;
-
-#[cfg(test)]
-mod tests;

@@ -4,7 +4,8 @@ use Rattle.block_codec.specs.Items.{items_of}
 use Rattle.block_codec.specs.FirstFault.{ok_unless}
 use Rattle.block_codec.proofs.FirstFaultLemmas.{sound_more, none_from_sound_at, first_at, fault_from_first}
 use Rattle.image_def.specs.Faults.{item_fault}
-use Rattle.image_def.specs.Found.{found_in, with_item}
+use Rattle.image_def.specs.Found.{found_in}
+use Rattle.image_def.specs.Finding.{with_item}
 use Rattle.image_def.proofs.FoundLemmas.{found_step}
 use Rattle.image_def.proofs.FaultLemmas.{none_before}
 use Rattle.image_def.proofs.judging.find_items.Goals as goal
