@@ -8,7 +8,7 @@ ghost use Rattle.elf_pack.specs.Faults.{IsInFlash};
 ghost use Rattle.elf_pack.specs.Segments.{segment_bytes};
 
 use crate::segment::Segment;
-use load_map::FLASH_START;
+use pico_board::FLASH_BASE;
 use std::alloc::{AllocError, Global};
 
 /// The byte of erased flash.
@@ -22,7 +22,7 @@ fn greatest_end(segments: &[Segment]) -> u32
     ensures below { result ≤ 0x11000000 }
 {
     match segments {
-        [] => FLASH_START,
+        [] => FLASH_BASE,
         [first, rest @ ..] => (first.address + first.size).max(greatest_end(rest)),
     }
 }
@@ -34,7 +34,7 @@ fn put_segment(bytes: &mut [u8], elf: &[u8], segment: &Segment)
         ++ (segment_bytes elf.now segment.now
         ++ drop (segment.now.address - flash_base + segment.now.size) bytes.old) }
 {
-    let at = (segment.address - FLASH_START) as usize;
+    let at = (segment.address - FLASH_BASE) as usize;
     let (from, size) = (segment.offset as usize, segment.size as usize);
     bytes[at..at + size].copy_from_slice(&elf[from..from + size]);
 }
@@ -69,7 +69,7 @@ pub(crate) fn flash_binary(
     ensures value { IfOk result (λ bytes. bytes.items ≡ flash_binary elf.now segments.now) }
     ensures small { IfOk result (λ bytes. length bytes.items ≤ 16777216) }
 {
-    let count = (greatest_end(segments) - FLASH_START) as usize;
+    let count = (greatest_end(segments) - FLASH_BASE) as usize;
     let mut bytes = erased(alloc, count)?;
     put_segments(bytes.as_mut_slice(), elf, segments);
     Ok(bytes)

@@ -4,6 +4,7 @@ use Rattle.pico_board.specs.declared.window.Window.{Window}
 use Rattle.image_def.specs.declared.started.Started.{Started}
 use Rattle.block_codec.specs.declared.definition.Def.{Def}
 use Rattle.block_codec.specs.declared.definition.EntryPoint.{EntryPoint}
+use Rattle.block_codec.specs.declared.versions.Version.{Version}
 use Rattle.block_codec.specs.Blocks.{BlockView}
 use Rattle.block_codec.specs.Words.{bytes_of}
 use Rattle.image_def.specs.Definition.{no_version}
@@ -63,36 +64,33 @@ window_of first second fourth high =
 abbrev pub window_at_two : Window
 window_at_two = record { start = 0x2000; len = 64 }
 
--- the record of an image in a window, behind a vector table at its start, without a version, a
--- rollback version and rows, by PC and the trial bit
-abbrev pub plain_image : Window → ℕ → Bool → Started
-plain_image window pc trial = record {
+-- the record of an image behind a vector table at its window's start, by window, PC, version,
+-- rollback version, rows and the trial bit
+abbrev pub image_record : Window → ℕ → Version → Option ℕ → List ℕ → Bool → Started
+image_record window pc version rollback rows trial = record {
   window = window;
   block = 8;
   image_at = 12;
   pc = pc;
   sp = 0x20082000;
   limit = 0;
-  version = no_version;
-  rollback = None;
-  rows = record { items = [] };
+  version = version;
+  rollback = rollback;
+  rows = record { items = rows };
   trial = trial;
 }
 
+-- a version, by major and minor
+abbrev pub version_at : ℕ → ℕ → Version
+version_at major minor = record { major = major; minor = minor }
+
+-- the record of an image in a window without a version, a rollback version and rows
+abbrev pub plain_image : Window → ℕ → Bool → Started
+plain_image window pc trial = image_record window pc no_version None [] trial
+
 -- the record of that image of version 9.0, by PC and the trial bit
 abbrev pub version_nine : ℕ → Bool → Started
-version_nine pc trial = record {
-  window = window_at_two;
-  block = 8;
-  image_at = 12;
-  pc = pc;
-  sp = 0x20082000;
-  limit = 0;
-  version = record { major = 9; minor = 0 };
-  rollback = None;
-  rows = record { items = [] };
-  trial = trial;
-}
+version_nine pc trial = image_record window_at_two pc (version_at 9 0) None [] trial
 
 -- the bytes of a window that begins with SP at SRAM's end and this PC, and has at offset 8 a block
 -- of these item words and this link word
@@ -136,22 +134,8 @@ delta_four = 0x00000205 ∷ 4 ∷ []
 
 -- the record of an image of version 1.0 with rollback version 3 and row 0x0c0
 abbrev pub three_record : Started
-three_record = record {
-  window = window_at_two;
-  block = 8;
-  image_at = 12;
-  pc = right_pc;
-  sp = 0x20082000;
-  limit = 0;
-  version = record { major = 1; minor = 0 };
-  rollback = Some 3;
-  rows = record { items = 0x0c0 ∷ [] };
-  trial = false;
-}
-
--- the record of a RISC-V image without further items that starts at this address
-abbrev pub riscv_record : ℕ → Started
-riscv_record pc = plain_image window_at_two pc false
+three_record =
+    image_record window_at_two right_pc (version_at 1 0) (Some 3) (0x0c0 ∷ []) false
 
 -- a HASH_DEF item of four words and a HASH_VALUE item of these words
 abbrev pub hash_of_four : List ℕ → List ℕ
@@ -192,6 +176,7 @@ abbrev pub map_of_both : List ℕ
 map_of_both =
     0x02000706 ∷ 0 ∷ 0x20000000 ∷ 16 ∷ 0xfffffff0 ∷ 0x10000000 ∷ 8 ∷ []
 
--- the record of an Arm image without version and rows that starts here, with its trial bit or not
-abbrev pub arm_record : ℕ → Bool → Started
-arm_record pc trial = plain_image window_at_two pc trial
+-- the record of an image in the same window without version and rows that starts here, with its
+-- trial bit or not
+abbrev pub record_at : ℕ → Bool → Started
+record_at pc trial = plain_image window_at_two pc trial

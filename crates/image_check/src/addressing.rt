@@ -1,6 +1,6 @@
 //! How the addresses of an image are read.
 
-use load_map::FLASH_START;
+use pico_board::FLASH_BASE;
 
 /// The address at which the first byte of an image's window is seen, and whether the image must use
 /// each load map entry where it is stored.
@@ -15,7 +15,7 @@ pub struct Addressing {
 impl Addressing {
     /// In flash: the window is seen from its address on, and entries may be loaded into SRAM.
     pub const FLASH: Addressing = Addressing {
-        base: FLASH_START,
+        base: FLASH_BASE,
         in_place: false,
     };
 }

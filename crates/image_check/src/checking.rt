@@ -20,7 +20,7 @@ use crate::examining::{Candidate, examine};
 use crate::why::Why;
 use block_codec::copy_rows;
 use image_def::Started;
-use load_map::{FLASH_START, covered_digest};
+use load_map::covered_digest;
 use pico_board::{Board, Cpu, FlashView, View, Window};
 use sector_pool::SectorPool;
 

@@ -5,17 +5,17 @@ ghost use Rattle.std.specs.Prelude.{◌≡◌, ◌++◌, [], ◌∷◌, true, fa
 ghost use Rattle.pico_board.specs.declared.boot.Cpu.TheVariants.{Arm};
 ghost use Rattle.image_check.specs.declared.why.Why.TheVariants.{Digest, Delta};
 ghost use Rattle.image_check.specs.Addressing.{in_flash};
-ghost use Rattle.image_check.specs.Examples.{arm_record, arm_type, both_digest, clear_digest, delta_four, hash_of_four, map_of, map_of_both, otp_with, plain_digest, right_pc, stored_digest, trial_type, window_at_two, window_with};
+ghost use Rattle.image_check.specs.Examples.{record_at, arm_type, both_digest, clear_digest, delta_four, hash_of_four, map_of, map_of_both, otp_with, plain_digest, right_pc, stored_digest, trial_type, window_at_two, window_with};
 ghost use Rattle.image_check.specs.Image.{image_in};
 
 /// A digest of the block's first four words, and a wrong one; the trial bit is read as clear.
 pub fn digests_of_the_block()
     ensures right { image_in in_flash window_at_two Arm false (otp_with 0 0 0 0)
         (window_with right_pc (arm_type ∷ hash_of_four plain_digest) 0)
-        ≡ Ok (arm_record right_pc false) }
+        ≡ Ok (record_at right_pc false) }
     ensures trial { image_in in_flash window_at_two Arm true (otp_with 0 0 0 0)
         (window_with right_pc (trial_type ∷ hash_of_four plain_digest) 0)
-        ≡ Ok (arm_record right_pc true) }
+        ≡ Ok (record_at right_pc true) }
     ensures wrong { image_in in_flash window_at_two Arm false (otp_with 0 0 0 0)
         (window_with right_pc (arm_type ∷ hash_of_four stored_digest) 0) ≡ Err Digest }
 {}
@@ -26,17 +26,17 @@ pub fn digests_of_loads()
     ensures stored { image_in in_flash window_at_two Arm false (otp_with 0 0 0 0)
         (window_with right_pc
         (arm_type ∷ map_of 0xfffffff0 0x10000000 8 ++ hash_of_four stored_digest) 0)
-        ≡ Ok (arm_record right_pc false) }
+        ≡ Ok (record_at right_pc false) }
     ensures other { image_in in_flash window_at_two Arm false (otp_with 0 0 0 0)
         (window_with 0x20000005
         (arm_type ∷ map_of 0xfffffff0 0x10000000 8 ++ hash_of_four stored_digest) 0) ≡ Err Digest }
     ensures clear { image_in in_flash window_at_two Arm false (otp_with 0 0 0 0)
         (window_with right_pc
         (arm_type ∷ map_of 0 0x20000000 16 ++ hash_of_four clear_digest) 0)
-        ≡ Ok (arm_record right_pc false) }
+        ≡ Ok (record_at right_pc false) }
     ensures both { image_in in_flash window_at_two Arm false (otp_with 0 0 0 0)
         (window_with right_pc
-        (arm_type ∷ map_of_both ++ hash_of_four both_digest) 0) ≡ Ok (arm_record right_pc false) }
+        (arm_type ∷ map_of_both ++ hash_of_four both_digest) 0) ≡ Ok (record_at right_pc false) }
 {}
 
 /// A wrong digest before a window delta, and a right one with such a delta.
@@ -48,5 +48,5 @@ pub fn the_digest_before_the_delta()
         (window_with right_pc (arm_type ∷ hash_of_four plain_digest ++ delta_four) 0) ≡ Err Delta }
     ensures zero { image_in in_flash window_at_two Arm false (otp_with 0 0 0 0)
         (window_with right_pc (arm_type ∷ 0x00000205 ∷ 0 ∷ []) 0)
-        ≡ Ok (arm_record right_pc false) }
+        ≡ Ok (record_at right_pc false) }
 {}

@@ -11,7 +11,7 @@ ghost use Rattle.image_check.specs.Rules.{rollback_fault};
 ghost use Rattle.load_map.specs.declared.load.MapFault.TheVariants.{Runtime};
 ghost use Rattle.image_check.specs.Addressing.{in_flash, in_ram};
 ghost use Rattle.image_check.specs.Image.{image_in};
-ghost use Rattle.image_check.specs.Examples.{arm_record, arm_type, map_of, right_pc, window_with, small_block, entry_at, tabled, pointed, table_bytes, def_with, otp_with, window_of, version_nine, window_at_two};
+ghost use Rattle.image_check.specs.Examples.{record_at, arm_type, map_of, right_pc, window_with, small_block, entry_at, tabled, pointed, table_bytes, def_with, otp_with, window_of, version_nine, window_at_two};
 
 /// PC with bit 0 set in a window of 8192 bytes and past it, before, in and behind the block at
 /// 0x114, which has 20 bytes.
@@ -136,16 +136,16 @@ pub fn whole_windows()
 /// block there; a load must be used where it is stored, and so is no clear entry.
 pub fn images_in_ram()
     ensures starts { image_in (in_ram 0x20001000) window_at_two Arm false (otp_with 0 0 0 0)
-        (window_with right_pc (arm_type ∷ []) 0) ≡ Ok (arm_record right_pc false) }
+        (window_with right_pc (arm_type ∷ []) 0) ≡ Ok (record_at right_pc false) }
     ensures in_block { image_in (in_ram 0x20001000) window_at_two Arm false (otp_with 0 0 0 0)
         (window_with 0x20001009 (arm_type ∷ []) 0) ≡ Err (Entry InBlock) }
     ensures before { image_in (in_ram 0x20001000) window_at_two Arm false (otp_with 0 0 0 0)
-        (window_with 0x20001007 (arm_type ∷ []) 0) ≡ Ok (arm_record 0x20001007 false) }
+        (window_with 0x20001007 (arm_type ∷ []) 0) ≡ Ok (record_at 0x20001007 false) }
     ensures flash_table { image_in (in_ram 0x20001000) window_at_two Arm false (otp_with 0 0 0 0)
         (window_with right_pc (arm_type ∷ 0x00000203 ∷ 0x10000000 ∷ []) 0) ≡ Err (Entry Table) }
     ensures in_place { image_in (in_ram 0x20001000) window_at_two Arm false (otp_with 0 0 0 0)
         (window_with right_pc (arm_type ∷ map_of 0xfffffff0 0x20001000 8) 0)
-        ≡ Ok (arm_record right_pc false) }
+        ≡ Ok (record_at right_pc false) }
     ensures elsewhere { image_in (in_ram 0x20001000) window_at_two Arm false (otp_with 0 0 0 0)
         (window_with right_pc (arm_type ∷ map_of 0xfffffff0 0x20002000 8) 0)
         ≡ Err (Map (Runtime 0)) }
@@ -160,5 +160,5 @@ pub fn rollback_versions_are_required()
     ensures both_flags { image_in in_flash window_at_two Arm false (otp_with 3 0 0 0)
         (window_with right_pc (arm_type ∷ []) 0) ≡ Err RollbackRequired }
     ensures not_required { image_in in_flash window_at_two Arm false (otp_with 2 0 0 0)
-        (window_with right_pc (arm_type ∷ []) 0) ≡ Ok (arm_record right_pc false) }
+        (window_with right_pc (arm_type ∷ []) 0) ≡ Ok (record_at right_pc false) }
 {}

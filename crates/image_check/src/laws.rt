@@ -1,18 +1,20 @@
 //! Laws of valid images, each the contract of a function that does nothing.
 
-ghost use Rattle.std.specs.Prelude.{◌≡◌, ◌⊎◌, ◌↔◌, ℕ, ◌+◌, ◌%◌, ◌^◌, ◌≤◌, ◌++◌, Bool, true, false, List, [], length, slice_get, slice_index, slice_set, Some, None, Ok, Err};
+ghost use Rattle.std.specs.Prelude.{◌≡◌, ◌⊎◌, ◌↔◌, ℕ, ◌+◌, ◌*◌, ◌%◌, ◌^◌, ◌≤◌, ◌++◌, Bool, true, false, List, [], length, slice_get, slice_index, slice_set, Some, None, Ok, Err};
 ghost use Rattle.pico_board.specs.declared.boot.Cpu.{Cpu};
 ghost use Rattle.pico_board.specs.declared.window.Window.{Window};
 ghost use Rattle.pico_board.specs.Content.{Content, flash_base, window_bytes};
 ghost use Rattle.block_loop.specs.declared.fault.LoopFault.TheVariants.{NoBlock as NoFirst};
 ghost use Rattle.image_def.specs.declared.started.Started.{Started};
+ghost use Rattle.image_def.specs.Flags.{is_trial};
 ghost use Rattle.image_def.specs.Trial.{trial_cleared, untried};
 ghost use Rattle.load_map.specs.Covered.{covered_digest};
 ghost use Rattle.image_check.specs.declared.addressing.Addressing.{Addressing};
 ghost use Rattle.image_check.specs.declared.why.Why.{Why};
 ghost use Rattle.image_check.specs.declared.why.Why.TheVariants.{Loop, NoBlock};
+ghost use Rattle.image_check.specs.Entering.{IsEntry};
 ghost use Rattle.image_check.specs.Image.{defined_in, image_at, image_in};
-ghost use Rattle.image_check.specs.Valid.{IsRecordOfImage, IsSound, IsValidImage, Valid};
+ghost use Rattle.image_check.specs.Valid.{IsDefined, IsRecordOfImage, IsSound, IsValidImage, Valid};
 ghost use Rattle.image_check.specs.Changes.{ClearsTrialBit, bought, moved_to, place_of, untried_image};
 ghost use Rattle.otp_roll.specs.Flags.{rollback_required};
 ghost use Rattle.otp_roll.specs.Rows.{Rises, count};
@@ -189,6 +191,25 @@ pub fn a_record_says_what_the_image_says()
     ensures { (a : Addressing) (w : Window) (cpu : Cpu) (trial : Bool) (otp bytes : List ℕ)
         (s : Started)
         → IsValidImage a w cpu trial otp bytes s → IsRecordOfImage a w cpu bytes s }
+{}
+
+/// What a record of an image says: where the image stands, where it starts, its versions and rows,
+/// and whether it is a trial, each as the definition or the entry has it.
+pub fn what_a_record_says()
+    ensures image { (a : Addressing) (w : Window) (cpu : Cpu) (bytes : List ℕ) (s : Started)
+        (r : IsRecordOfImage a w cpu bytes s) → IsDefined cpu bytes r.loop r.image
+        × IsEntry a.base bytes cpu r.image.block r.image.def r.loads r.entry }
+    ensures place { (a : Addressing) (w : Window) (cpu : Cpu) (bytes : List ℕ) (s : Started)
+        (r : IsRecordOfImage a w cpu bytes s) → (s.window ≡ w) × (s.block ≡ r.image.block.at)
+        × (s.image_at ≡ r.image.block.at + 4 * r.image.def.image_word) }
+    ensures start { (a : Addressing) (w : Window) (cpu : Cpu) (bytes : List ℕ) (s : Started)
+        (r : IsRecordOfImage a w cpu bytes s) → (s.pc ≡ r.entry.pc) × (s.sp ≡ r.entry.sp)
+        × (s.limit ≡ r.entry.limit) }
+    ensures versions { (a : Addressing) (w : Window) (cpu : Cpu) (bytes : List ℕ) (s : Started)
+        (r : IsRecordOfImage a w cpu bytes s) → (s.version ≡ r.image.def.version)
+        × (s.rollback ≡ r.image.def.rollback) × (s.rows ≡ r.image.def.rows) }
+    ensures trial { (a : Addressing) (w : Window) (cpu : Cpu) (bytes : List ℕ) (s : Started)
+        (r : IsRecordOfImage a w cpu bytes s) → s.trial ≡ is_trial r.image.def.flags }
 {}
 
 /// An image loads what its LOAD_MAP item says, and nothing where it has none.

@@ -23,6 +23,3 @@ pub use examining::{Candidate, Defined, defined_in, examine, loads_of};
 pub use image_def::Started;
 pub use same::same_content;
 pub use why::{EntryFault, Why};
-
-#[cfg(test)]
-mod tests;

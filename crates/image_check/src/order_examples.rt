@@ -9,7 +9,7 @@ ghost use Rattle.load_map.specs.declared.load.MapFault.TheVariants.{Storage};
 ghost use Rattle.image_check.specs.declared.why.Why.TheVariants.{NoBlock, Loop, NoDefinition, NotForProcessor, Items, Trial, RollbackRequired, Below, Map, Entry, Digest, Delta};
 ghost use Rattle.image_check.specs.declared.why.EntryFault.TheVariants.{Table, InBlock, Pc};
 ghost use Rattle.image_check.specs.Addressing.{in_flash, in_ram};
-ghost use Rattle.image_check.specs.Examples.{arm_type, delta_four, otp_with, riscv_record, riscv_type, right_pc, stray_pc, three_record, trial_type, version_three, window_at_two, window_with, wrong_hash, wrong_map};
+ghost use Rattle.image_check.specs.Examples.{arm_type, delta_four, otp_with, record_at, riscv_type, right_pc, stray_pc, three_record, trial_type, version_three, window_at_two, window_with, wrong_hash, wrong_map};
 ghost use Rattle.image_check.specs.Image.{image_in};
 
 /// A loop that does not close before a window without a definition; no definition before none for
@@ -56,7 +56,7 @@ pub fn whole_records()
     ensures rows { image_in in_flash window_at_two Arm false (otp_with 1 0x7 0x7 0x7)
         (window_with right_pc (arm_type ∷ version_three) 0) ≡ Ok three_record }
     ensures flash { image_in in_flash window_at_two Riscv false (otp_with 0 0 0 0)
-        (window_with right_pc (riscv_type ∷ []) 0) ≡ Ok (riscv_record 0x10000000) }
+        (window_with right_pc (riscv_type ∷ []) 0) ≡ Ok (record_at 0x10000000 false) }
     ensures ram { image_in (in_ram 0x20001000) window_at_two Riscv false (otp_with 0 0 0 0)
-        (window_with right_pc (riscv_type ∷ []) 0) ≡ Ok (riscv_record 0x20001000) }
+        (window_with right_pc (riscv_type ∷ []) 0) ≡ Ok (record_at 0x20001000 false) }
 {}

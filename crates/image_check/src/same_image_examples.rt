@@ -4,13 +4,13 @@
 ghost use Rattle.std.specs.Prelude.{[], ◌∷◌, ◌++◌, false};
 ghost use Rattle.pico_board.specs.declared.boot.Cpu.TheVariants.{Arm};
 ghost use Rattle.image_def.specs.declared.started.Started.{Started};
-ghost use Rattle.image_check.specs.Examples.{arm_record, arm_type, map_of, right_pc, window_with};
+ghost use Rattle.image_check.specs.Examples.{record_at, arm_type, map_of, right_pc, window_with};
 ghost use Rattle.image_check.specs.SameImage.{HoldSameImage};
 
 /// Without a load map each byte of the window is compared, also behind the block.
 pub fn without_a_map()
     ensures same { HoldSameImage Arm (window_with right_pc (arm_type ∷ []) 0)
-        (window_with right_pc (arm_type ∷ []) 0) (arm_record right_pc false) }
+        (window_with right_pc (arm_type ∷ []) 0) (record_at right_pc false) }
     ensures byte_behind { (s : Started)
         → HoldSameImage Arm (window_with right_pc (arm_type ∷ []) 0 ++ 7 ∷ [])
         (window_with right_pc (arm_type ∷ []) 0 ++ 8 ∷ []) s → ⊥ }
@@ -25,7 +25,7 @@ pub fn with_a_map_of_no_entry()
     ensures same { HoldSameImage Arm
         (window_with right_pc (arm_type ∷ 0x00000106 ∷ []) 0 ++ 7 ∷ [])
         (window_with 0x20000005 (arm_type ∷ 0x00000106 ∷ []) 0 ++ 8 ∷ [])
-        (arm_record right_pc false) }
+        (record_at right_pc false) }
     ensures block { (s : Started)
         → HoldSameImage Arm (window_with right_pc (arm_type ∷ 0x00000106 ∷ []) 0)
         (window_with right_pc (arm_type ∷ 0x00000106 ∷ []) 4) s → ⊥ }
@@ -34,11 +34,11 @@ pub fn with_a_map_of_no_entry()
 /// A clear entry has no bytes to compare; of an entry that is stored each byte is compared.
 pub fn with_an_entry()
     ensures clear { HoldSameImage Arm (window_with right_pc (arm_type ∷ map_of 0 0x20000000 16) 0)
-        (window_with 0x20000005 (arm_type ∷ map_of 0 0x20000000 16) 0) (arm_record right_pc false) }
+        (window_with 0x20000005 (arm_type ∷ map_of 0 0x20000000 16) 0) (record_at right_pc false) }
     ensures stored { HoldSameImage Arm
         (window_with right_pc (arm_type ∷ map_of 0xfffffff0 0x10000000 8) 0 ++ 7 ∷ [])
         (window_with right_pc (arm_type ∷ map_of 0xfffffff0 0x10000000 8) 0 ++ 8 ∷ [])
-        (arm_record right_pc false) }
+        (record_at right_pc false) }
     ensures other { (s : Started)
         → HoldSameImage Arm (window_with right_pc (arm_type ∷ map_of 0xfffffff0 0x10000000 8) 0)
         (window_with 0x20000005 (arm_type ∷ map_of 0xfffffff0 0x10000000 8) 0) s → ⊥ }

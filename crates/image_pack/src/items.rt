@@ -11,8 +11,8 @@ ghost use Rattle.image_pack.specs.Sealing.{entry_words, front_items, image_type_
 use crate::spec::SealSpec;
 use arrayvec::ArrayVec;
 use block_codec::kinds::{HASH_DEF, IMAGE_TYPE, LOAD_MAP, VERSION};
-use load_map::{FLASH_START, Load, SRAM_END, SRAM_START};
-use pico_board::Cpu;
+use load_map::{Load, SRAM_END, SRAM_START};
+use pico_board::{Cpu, FLASH_BASE};
 
 /// The item words of a new block: at most one of IMAGE_TYPE, 19 of VERSION, 156 copied ones, 157 of
 /// LOAD_MAP, 2 of HASH_DEF and 9 of HASH_VALUE.
@@ -141,7 +141,7 @@ pub(crate) fn own_loads(size: u32, at: u32, loads: &[Load]) -> OwnLoads
     let mut own = OwnLoads::new();
     own.push(Load {
         storage: Some(0),
-        runtime: FLASH_START,
+        runtime: FLASH_BASE,
         size,
     });
     for load in loads {

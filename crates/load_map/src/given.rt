@@ -6,10 +6,10 @@ ghost use Rattle.load_map.specs.Addresses.{is_sram};
 ghost use Rattle.load_map.specs.Given.{byte_at, holds, in_window, loaded_byte, word_at};
 ghost use Rattle.load_map.specs.Stored.{AreStoredIn, IsStoredIn};
 
-use crate::addresses::{FLASH_START, SRAM_END, SRAM_START};
+use crate::addresses::{SRAM_END, SRAM_START};
 use crate::load::{Load, Loads};
 use byteorder::{ByteOrder, LittleEndian};
-use pico_board::View;
+use pico_board::{FLASH_BASE, View};
 
 /// Whether the address is one of SRAM.
 fn is_sram(address: u64) -> bool
@@ -102,5 +102,5 @@ pub fn loaded_word<V: View>(view: &V, loads: &Loads, address: u32) -> Option<u32
     requires stored { AreStoredIn (length (V.bytes view.now)) loads.now.items }
     ensures { result ≡ word_at flash_base (V.bytes view.now) loads.now.items address }
 {
-    loaded_word_at(view, loads, FLASH_START, address)
+    loaded_word_at(view, loads, FLASH_BASE, address)
 }

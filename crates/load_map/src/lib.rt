@@ -12,11 +12,8 @@ mod load;
 mod reading;
 mod setting;
 
-pub use addresses::{FLASH_START, SRAM_END, SRAM_START};
+pub use addresses::{SRAM_END, SRAM_START};
 pub use digest::covered_digest;
 pub use given::{loaded_word, loaded_word_at};
 pub use load::{Load, Loads, MapFault};
 pub use reading::{read_map, read_map_at};
-
-#[cfg(test)]
-mod tests;

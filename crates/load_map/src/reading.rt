@@ -9,11 +9,11 @@ ghost use Rattle.load_map.specs.Loads.{IsMapAt, entries_of, entry_count, is_abso
 ghost use Rattle.load_map.specs.Reading.{listed, load_fault, loads_of, loads_or_fault};
 ghost use Rattle.load_map.specs.Stored.{AreStoredIn};
 
-use crate::addresses::FLASH_START;
 use crate::entry::{entry_count, entry_in, is_absolute};
 use crate::load::{Load, Loads, MapFault};
 use crate::setting::{Setting, covers_block, is_runtime_right, load_of};
 use block_codec::{Block, Item};
+use pico_board::FLASH_BASE;
 
 /// The load of the entry at place `i`, or the first rule that it breaks.
 fn judged(setting: &Setting, block: &Block, i: u32, load: Option<Load>) -> Result<Load, MapFault>
@@ -87,5 +87,5 @@ pub fn read_map(block: &Block, item: u32, window_len: u32) -> Result<Loads, MapF
     ensures stored { IfOk result (λ loads. AreStoredIn window_len loads.items) }
     ensures few { IfOk result (λ loads. length loads.items ≤ 51) }
 {
-    read_map_at(block, item, window_len, FLASH_START, false)
+    read_map_at(block, item, window_len, FLASH_BASE, false)
 }

@@ -9,7 +9,7 @@ use Rattle.block_codec.specs.Words.{word_bytes, word_of}
 use Rattle.block_loop.specs.Loop.{block_from, follow, loop_of}
 use Rattle.image_def.specs.Definition.{def_of}
 use Rattle.image_check.specs.Image.{image_in}
-use Rattle.image_check.specs.Examples.{arm_record, arm_type, map_of, otp_with, right_pc, window_with}
+use Rattle.image_check.specs.Examples.{record_at, arm_type, map_of, otp_with, right_pc, window_with}
 use Rattle.image_check.proofs.HoldLemmas.{answered-held, hold-same, same-range}
 use Rattle.image_check.proofs.SameLemmas.{same-storage}
 use Rattle.image_check.proofs.same_image_examples.with_an_entry.Goals as goal
@@ -19,8 +19,8 @@ unfolding image_in def_of loop_of follow block_from block_at front_block item_wo
 returns-clause-clear c =
     let one = window_with right_pc (arm_type ∷ map_of 0 0x20000000 16) 0 in
     let two = window_with 0x20000005 (arm_type ∷ map_of 0 0x20000000 16) 0 in
-    hold-same Arm one two (arm_record right_pc false) _ _ _
-    (answered-held Arm false (otp_with 0 0 0 0) one (arm_record right_pc false) refl) refl refl refl refl
+    hold-same Arm one two (record_at right_pc false) _ _ _
+    (answered-held Arm false (otp_with 0 0 0 0) one (record_at right_pc false) refl) refl refl refl refl
     (same-range one two 8 36 (omega arith) (omega arith) refl, tt)
     (tt, tt)
 
@@ -29,8 +29,8 @@ unfolding image_in def_of loop_of follow block_from block_at front_block item_wo
 returns-clause-stored c =
     let one = window_with right_pc (arm_type ∷ map_of 0xfffffff0 0x10000000 8) 0 ++ 7 ∷ [] in
     let two = window_with right_pc (arm_type ∷ map_of 0xfffffff0 0x10000000 8) 0 ++ 8 ∷ [] in
-    hold-same Arm one two (arm_record right_pc false) _ _ _
-    (answered-held Arm false (otp_with 0 0 0 0) one (arm_record right_pc false) refl) refl refl refl refl
+    hold-same Arm one two (record_at right_pc false) _ _ _
+    (answered-held Arm false (otp_with 0 0 0 0) one (record_at right_pc false) refl) refl refl refl refl
     (same-range one two 8 36 (omega arith) (omega arith) refl, tt)
     (same-range one two 0 8 (omega arith) (omega arith) refl, tt)
 

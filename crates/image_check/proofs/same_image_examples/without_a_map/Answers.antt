@@ -9,7 +9,7 @@ use Rattle.block_codec.specs.Words.{word_bytes, word_of}
 use Rattle.block_loop.specs.Loop.{block_from, follow, loop_of}
 use Rattle.image_def.specs.Definition.{def_of}
 use Rattle.image_check.specs.Image.{image_in}
-use Rattle.image_check.specs.Examples.{arm_record, arm_type, otp_with, right_pc, window_with}
+use Rattle.image_check.specs.Examples.{record_at, arm_type, otp_with, right_pc, window_with}
 use Rattle.image_check.proofs.HoldLemmas.{answered-held, hold-same, same-range}
 use Rattle.image_check.proofs.SameLemmas.{same-storage}
 use Rattle.image_check.proofs.same_image_examples.without_a_map.Goals as goal
@@ -19,8 +19,8 @@ unfolding image_in def_of loop_of follow block_from block_at front_block item_wo
 returns-clause-same c =
     let one = window_with right_pc (arm_type ∷ []) 0 in
     let two = window_with right_pc (arm_type ∷ []) 0 in
-    hold-same Arm one two (arm_record right_pc false) _ _ _
-    (answered-held Arm false (otp_with 0 0 0 0) one (arm_record right_pc false) refl) refl refl refl refl
+    hold-same Arm one two (record_at right_pc false) _ _ _
+    (answered-held Arm false (otp_with 0 0 0 0) one (record_at right_pc false) refl) refl refl refl refl
     (same-range one two 8 20 (omega arith) (omega arith) refl, tt)
     (same-range one two 0 28 (omega arith) (omega arith) refl)
 

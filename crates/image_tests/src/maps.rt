@@ -1,10 +1,12 @@
+//! Load maps and what an image's digest covers.
+
 ghost use Rattle.std.specs.Prelude.{◌≡◌, ◌≤◌, true, length};
 ghost use Rattle.load_map.specs.Loads.{IsMapAt, is_load_map};
 ghost use Rattle.load_map.specs.Stored.{AreStoredIn};
 
-use super::*;
 use arrayvec::ArrayVec;
 use block_codec::{Block, Def, Item, Version, kinds, read_block, write_block};
+use load_map::{Loads, covered_digest, read_map};
 use pico_board::SliceView;
 use sector_pool::SectorPool;
 use sha2::{Digest, Sha256};
@@ -112,83 +114,6 @@ fn whole_text(
         text.extend_from_slice(&bytes)?;
     }
     Ok(text)
-}
-
-#[test]
-fn reads_the_loads_of_a_map(rt: HostRuntime) -> Result<(), Fail> {
-    let bytes = window(rt.alloc(), &ITEMS)?;
-    let block = block_in(bytes.as_slice())?;
-    assert!(rt; has_map(&block));
-    let loads = read_map(&block, 1, 0x4000).map_err(|_| "a fault")?;
-    let expected = [
-        (None, 0x20000000, 0x1234),
-        (Some(0x1000), 0x20001000, 5000),
-        (Some(0x3fff), 0x20003000, 1),
-        (Some(0x2000), 0x20004000, 0x2000),
-        (Some(0x2000), 0x20006000, 0),
-    ];
-    assert_eq!(rt; loads.len(), 5);
-    for (load, (storage, runtime, size)) in loads.as_slice().iter().zip(expected) {
-        assert_eq!(rt;
-            *load,
-            Load {
-                storage,
-                runtime,
-                size
-            }
-        );
-    }
-    Ok(())
-}
-
-#[test]
-fn tells_the_first_fault(rt: HostRuntime) -> Result<(), Fail> {
-    let bytes = window(rt.alloc(), &ITEMS)?;
-    let block = block_in(bytes.as_slice())?;
-    assert!(rt; has_map(&block));
-    assert_eq!(rt;
-        read_map(&block, 1, 0x3fff).err(),
-        Some(MapFault::Storage(2))
-    );
-    assert_eq!(rt;
-        read_map(&block, 1, 0x1000).err(),
-        Some(MapFault::Storage(1))
-    );
-    let in_ram = read_map_at(&block, 1, 0x4000, 0x20000000, true);
-    assert_eq!(rt; in_ram.err(), Some(MapFault::Runtime(0)));
-    let in_sram = read_map_at(&block, 1, 0x4000, 0x20000000, false).map_err(|_| "a fault")?;
-    assert_eq!(rt; in_sram.len(), 5);
-    Ok(())
-}
-
-#[test]
-fn gives_words_of_the_window_and_of_loads(rt: HostRuntime) -> Result<(), Fail> {
-    let bytes = window(rt.alloc(), &ITEMS)?;
-    let block = block_in(bytes.as_slice())?;
-    assert!(rt; has_map(&block));
-    assert!(rt; bytes.len() == 0x4000);
-    let view = view_of(bytes.as_slice());
-    let loads = read_map(&block, 1, 0x4000).map_err(|_| "a fault")?;
-    for (address, word) in [
-        (0x10000000, Some(0x03020100)),
-        (0x10000100, Some(0xffffded3)),
-        (0x10003ffc, Some(0x44434241)),
-        (0x10003ffd, None),
-        (0x20000000, Some(0)),
-        (0x20001000, Some(0x53525150)),
-        (0x20001233, Some(0x908f8e8d)),
-        (0x20002385, None),
-        (0x20003000, None),
-    ] {
-        assert_eq!(rt; loaded_word(&view, &loads, address), word);
-        let base = 0x10000000;
-        assert_eq!(rt; loaded_word_at(&view, &loads, base, address), word);
-    }
-    assert_eq!(rt;
-        loaded_word_at(&view, &loads, 0x20000000, 0x20000000),
-        Some(0x03020100)
-    );
-    Ok(())
 }
 
 /// The digest of what is covered, by the call and by the whole text.
