@@ -7,6 +7,3 @@ pub mod laws;
 mod owners;
 
 pub use owners::{data_parts, owner_pair};
-
-#[cfg(test)]
-mod tests;

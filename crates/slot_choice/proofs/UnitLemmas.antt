@@ -38,7 +38,7 @@ second_is parts a b at =
     (found.0, both.0, eqb-true _ _ both.1)
 
 -- what belongs to a partition's unit is a partition
-belongs_within : (parts : List Partition) (i e : ℕ) → i < length parts → Belongs parts i e → e < length parts
+pub belongs_within : (parts : List Partition) (i e : ℕ) → i < length parts → Belongs parts i e → e < length parts
 belongs_within parts i e lt (inl same) = omega arith
 belongs_within parts i e lt (inr at) = (second_is parts i e at).0
 

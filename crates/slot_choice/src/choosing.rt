@@ -7,9 +7,7 @@ ghost use Rattle.slot_choice.specs.Versions.{better, is_below};
 use crate::unit::{Member, SlotUnit};
 use arrayvec::ArrayVec;
 use block_codec::Version;
-
-/// The address at which the first byte of the flash is seen.
-const FLASH_START: u32 = 0x1000_0000;
+use pico_board::FLASH_BASE;
 
 /// The member of the unit whose window starts at this offset of the flash, A before B.
 fn member_at(unit: &SlotUnit, start: u32) -> Option<Member>
@@ -41,7 +39,7 @@ pub fn update_first(units: &mut ArrayVec<SlotUnit, 15>, base: u32) -> Option<Mem
     ensures member { result ≡ updated_member units.old.items base }
     ensures order { units.new.items ≡ update_order units.old.items base }
 {
-    let start = base.checked_sub(FLASH_START)?;
+    let start = base.checked_sub(FLASH_BASE)?;
     let place = place_of(units.as_slice(), start)?;
     let unit = units.remove(place);
     units.insert(0, unit);

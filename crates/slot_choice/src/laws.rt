@@ -9,7 +9,7 @@ ghost use Rattle.part_table.specs.Partitions.{part_at};
 ghost use Rattle.part_table.specs.Sound.{IsSoundTable};
 ghost use Rattle.part_table.specs.Windows.{IsPlaced};
 ghost use Rattle.part_table.specs.declared.table.Table.{Table};
-ghost use Rattle.pico_board.specs.Content.{AreApart};
+ghost use Rattle.pico_board.specs.Content.{AreApart, flash_base};
 ghost use Rattle.pico_board.specs.declared.boot.Cpu.{Cpu};
 ghost use Rattle.pico_board.specs.declared.window.Window.{Window};
 ghost use Rattle.slot_choice.specs.LoadUnits.{load_unit};
@@ -111,4 +111,7 @@ pub fn updates_go_first()
         → IsUpdateless us base }
     ensures some { (us : List SlotUnit) (base : ℕ) (m : Member) → updated_member us base ≡ Some m
         → (u : SlotUnit) × (w : Window) × IsUpdateOf us base m u w }
+    ensures first { (us : List SlotUnit) (base : ℕ) (m : Member) (u : SlotUnit) (w : Window)
+        (update : IsUpdateOf us base m u w) (k : ℕ) (v : SlotUnit) (x : Window)
+        → slice_get update.before k ≡ Some v → IsMember v x → flash_base + x.start ≢ base }
 {}

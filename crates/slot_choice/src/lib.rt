@@ -16,6 +16,3 @@ pub use choice::Choice;
 pub use choosing::{better, is_below, update_first};
 pub use unit::{Member, SlotUnit};
 pub use units::{boot_units, load_unit, second_of, unit_of};
-
-#[cfg(test)]
-mod tests;

@@ -10,3 +10,6 @@ returns-clause-none c = not_updated
 
 pub returns-clause-some : goal.returns-clause-some
 returns-clause-some c = updated
+
+pub returns-clause-first : goal.returns-clause-first
+returns-clause-first c = λ us base m u w update. update.first
