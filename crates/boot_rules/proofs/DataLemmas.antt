@@ -177,6 +177,24 @@ table-by : (c : Content) → table_in c
 unfolding table_in table_by
 table-by c = refl
 
+-- a window behind the table slots of a content stands apart from both
+pub slots-apart : (c : Content) (w : Window) → IsContent c
+    → IsPlaced w (length c.flash / 4096) (2 * slot_size c.otp (length c.flash) / 4096)
+    → AreApart (slot_window (slot_size c.otp (length c.flash)) 0) w
+    × AreApart (slot_window (slot_size c.otp (length c.flash)) 1) w
+slots-apart c w right behind =
+    let n : ℕ = length c.flash in
+    let z : ℕ = slot_size c.otp n in
+    let size = slot-size c.otp n right.flash_length.least in
+    let whole = size.whole in
+    let both : 4096 * (2 * z / 4096) ≡ 2 * z = omega (arith, whole) in
+    let apart = apart_from_slots z (2 * z / 4096) (n / 4096) w both behind in
+    let never : 0 ≡ 0 * z = omega arith in
+    let once : z ≡ 1 * z = omega arith in (
+      subst (λ k. AreApart (record { start = k; len = z }) w) never apart.0,
+      subst (λ k. AreApart (record { start = k; len = z }) w) once apart.1,
+    )
+
 module _ (c d : Content) (w : Window) (same : SameButWindow w c d) where
   pub same-length : length d.flash ≡ length c.flash
   same-length = same.outside.long
@@ -278,17 +296,7 @@ module _ (c : Content) (cpu : Cpu) (family : ℕ) (found : Found) (u : SlotUnit)
       target.window (subst (λ v. IsMember v target.window) load.unit in-unit)
 
   slots : AreApart (slot_window z 0) target.window × AreApart (slot_window z 1) target.window
-  slots =
-      let size = slot-size c.otp n right.flash_length.least in
-      let whole = size.whole in
-      let both : 4096 * (2 * z / 4096) ≡ 2 * z = omega (arith, whole) in
-      let apart = apart_from_slots z (2 * z / 4096) (n / 4096) target.window both behind-slots in
-      let never : 0 ≡ 0 * z = omega arith in
-      let once : z ≡ 1 * z = omega arith in (
-        subst (λ k. AreApart (record { start = k; len = z }) target.window) never apart.0,
-        subst
-            (λ k. AreApart (record { start = k; len = z }) target.window) once apart.1,
-      )
+  slots = slots-apart c target.window right behind-slots
 
   units-apart : (k : ℕ) (v : SlotUnit) → slice_get (boot_units_in c cpu) k ≡ Some v → (x : Window) → IsMember v x
       → AreApart target.window x

@@ -10,3 +10,6 @@ pub mod TargetLemmas
 pub mod DataLemmas
 pub mod PickLaws
 pub mod HomeLemmas
+pub mod BesideLemmas
+pub mod GatedLemmas
+pub mod TableRuleLemmas

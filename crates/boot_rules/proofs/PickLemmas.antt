@@ -23,7 +23,8 @@ use Rattle.slot_choice.specs.declared.choice.Choice.{Choice}
 use Rattle.slot_choice.specs.Versions.{better, is_below}
 use Rattle.slot_choice.specs.Units.{member_window}
 use Rattle.boot_rules.specs.Choosing.{choice_of, images_in, member_image, of_better, version_of_image}
-use Rattle.boot_rules.specs.Picking.{seen_in, seen_version, taken}
+use Rattle.boot_rules.specs.Picking.{taken}
+use Rattle.boot_rules.specs.Stages.{seen_in, seen_version}
 
 -- the record of what the last two rules let pass
 abbrev pub confirm_in : Content → Window → Candidate → Option Started

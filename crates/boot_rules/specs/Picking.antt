@@ -2,12 +2,7 @@
 use Rattle.std.specs.Prelude.{◌≡◌, ℕ, ◌≤◌, ◌+◌, false, Option, Some, None, option_map, IfSome}
 use Rattle.pico_board.specs.declared.boot.Cpu.{Cpu}
 use Rattle.pico_board.specs.declared.window.Window.{Window}
-use Rattle.std.specs.Result.{result_ok}
-use Rattle.block_codec.specs.declared.versions.Version.{Version}
-use Rattle.pico_board.specs.Content.{Content, window_bytes}
-use Rattle.image_check.specs.declared.examining.Candidate.{Candidate}
-use Rattle.image_check.specs.Addressing.{in_flash}
-use Rattle.image_check.specs.Examined.{examined_in}
+use Rattle.pico_board.specs.Content.{Content}
 use Rattle.image_def.specs.declared.started.Started.{Started}
 use Rattle.slot_choice.specs.declared.unit.Member.{Member}
 use Rattle.slot_choice.specs.declared.unit.SlotUnit.{SlotUnit}
@@ -52,12 +47,3 @@ IsInside n w = w.start + w.len ≤ n
 pub record AreInside (n : ℕ) (u : SlotUnit) : Type 0 where
   pub first : IsInside n u.a
   pub second : IfSome u.b (IsInside n)
-
--- the image of a member before its digest is made, where no trial image is allowed
-abbrev pub seen_in : Content → Cpu → Option Window → Option Candidate
-seen_in c cpu None = None
-seen_in c cpu (Some w) = result_ok (examined_in in_flash cpu false c.otp (window_bytes c w))
-
--- the version that is seen
-abbrev pub seen_version : Option Candidate → Option Version
-seen_version seen = option_map (λ (x : Candidate). x.def.version) seen

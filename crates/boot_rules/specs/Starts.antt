@@ -1,16 +1,17 @@
 -- What a start says of the content that it is chosen on. This project's own.
-use Rattle.std.specs.Prelude.{◌≡◌, ℕ, length, slice_get, true, Option, Some, option_map}
+use Rattle.std.specs.Prelude.{◌≡◌, ◌⊎◌, ℕ, ◌<◌, length, slice_get, true, Option, Some, option_map}
 use Rattle.pico_board.specs.declared.boot.Cpu.{Cpu}
 use Rattle.pico_board.specs.declared.window.Window.{Window}
 use Rattle.pico_board.specs.Content.{Content}
 use Rattle.otp_roll.specs.Flags.{slot_size}
 use Rattle.part_table.specs.declared.table.Table.{Table}
+use Rattle.part_table.specs.Fields.{is_ignored}
 use Rattle.part_table.specs.Links.{is_owned}
 use Rattle.part_table.specs.Partitions.{part_at}
 use Rattle.slot_choice.specs.declared.choice.Choice.{Choice}
 use Rattle.slot_choice.specs.declared.unit.SlotUnit.{SlotUnit}
 use Rattle.slot_choice.specs.LoadUnits.{load_unit}
-use Rattle.slot_choice.specs.Units.{member_window}
+use Rattle.slot_choice.specs.Units.{IsMember, member_window, unit_of}
 use Rattle.boot_rules.specs.declared.tables.Found.{Found}
 use Rattle.boot_rules.specs.Choosing.{boot_units_in, other_of}
 use Rattle.boot_rules.specs.Tables.{table_in}
@@ -37,3 +38,14 @@ pub record IsOwnedPair (t : Table) (u : SlotUnit) (second : Window) : Type 0 whe
   pub first : u.a_part ≡ Some part
   pub owned : is_owned (part_at t.parts.items part) ≡ true
   pub pair : u.b ≡ Some second
+
+-- the window is a member of a unit of a partition that begins no boot unit, since it has an owner
+-- or is ignored for the processor
+pub record IsOfKeptUnit (c : Content) (cpu : Cpu) (w : Window) : Type 0 where
+  pub found : Found
+  pub part : ℕ
+  pub table : table_in c ≡ Some found
+  pub within : part < length found.table.parts.items
+  pub member : IsMember (unit_of found.table.parts.items part) w
+  pub kept : (is_owned (part_at found.table.parts.items part) ≡ true)
+      ⊎ (is_ignored cpu (part_at found.table.parts.items part) ≡ true)

@@ -1,10 +1,11 @@
 //! Laws of the decision, each the contract of a function that does nothing.
 
-ghost use Rattle.std.specs.Prelude.{◌≡◌, ◌↔◌, ◌⊎◌, ℕ, List, Bool, None, Some, IsSome, map, slice_get, true};
+ghost use Rattle.std.specs.Prelude.{◌≡◌, ◌↔◌, ◌⊎◌, ℕ, ◌<◌, ◌≤◌, List, Bool, None, Some, IsSome, length, map, slice_get, true};
 ghost use Rattle.pico_board.specs.Content.{AreApart, IsContent, window_bytes};
 ghost use Rattle.pico_board.specs.Sessions.{Confined};
 ghost use Rattle.pico_board.specs.Steps.{MayLeave};
 ghost use Rattle.pico_board.specs.declared.Step.{Step};
+ghost use Rattle.part_table.specs.declared.table.Table.{Table};
 ghost use Rattle.part_table.specs.declared.target.Target.{Target};
 ghost use Rattle.part_table.specs.Windows.{IsPlacedIn, partition_window};
 ghost use Rattle.slot_choice.specs.declared.unit.Member.{Member};
@@ -16,7 +17,8 @@ ghost use Rattle.owner_data.specs.Owners.{data_parts};
 ghost use Rattle.boot_rules.specs.declared.tables.Found.{Found};
 ghost use Rattle.boot_rules.specs.Data.{data_of, is_second_member};
 ghost use Rattle.boot_rules.specs.Picking.{IsNormalImage, IsPick, pick};
-ghost use Rattle.boot_rules.specs.Starts.{load_unit_in, table_of_content, IsOfUnit, IsOwnedPair};
+ghost use Rattle.boot_rules.specs.Starts.{load_unit_in, table_of_content, IsOfKeptUnit, IsOfUnit, IsOwnedPair};
+ghost use Rattle.boot_rules.specs.TableRules.{IsSlotTable, IsTableIn};
 ghost use Rattle.boot_rules.specs.Tables.{table_in};
 ghost use Rattle.boot_rules.specs.Targets.{target_of};
 ghost use Rattle.pico_board.specs.declared.boot.BootKind.TheVariants.{Normal};
@@ -95,6 +97,14 @@ pub fn what_a_start_gives()
         → Chosen c cpu kind (Start choice) → choice.image.trial ≡ true → choice.updated ≡ true }
 {}
 
+/// The table of a content is that of slot 0 or of slot 1, by the words of the rules; there is none
+/// exactly where neither slot has one.
+pub fn a_table_is_that_of_a_slot()
+    ensures some { (c : Content) (found : Found) → (table_in c ≡ Some found) ↔ IsTableIn c found }
+    ensures none { (c : Content) → (table_in c ≡ None)
+        ↔ ((number : ℕ) (t : Table) → number ≤ 1 → IsSlotTable c number t → ⊥) }
+{}
+
 /// What is picked of a unit is the image of a member, valid in a normal boot, to which the other
 /// member's is not preferred; nothing is picked exactly where neither member has such an image.
 pub fn a_pick_is_the_better_image()
@@ -163,6 +173,30 @@ pub fn owned_data()
         → Chosen c cpu Normal (Start choice)
         → slice_get (data_of (Some found.table) choice) k ≡ Some w
         → window_bytes d w ≡ window_bytes c w }
+{}
+
+/// Steps that are confined to a partition, done or torn, leave the table; and where the partition
+/// is a member of no boot unit, they leave the decision of a normal boot.
+pub fn a_partition_beside_the_boot_units()
+    ensures table { (c : Content) (found : Found) (i : ℕ) (steps : List Step) (d : Content)
+        → IsContent c → table_in c ≡ Some found → i < length found.table.parts.items
+        → Confined steps (partition_window found.table i) → MayLeave c steps d
+        → table_in d ≡ Some found }
+    ensures decision { (c : Content) (cpu : Cpu) (found : Found) (i : ℕ) (steps : List Step)
+        (d : Content) (e : Decision)
+        → IsContent c → table_in c ≡ Some found → i < length found.table.parts.items
+        → ((k : ℕ) (u : SlotUnit) → slice_get (boot_units_in c cpu) k ≡ Some u
+        → ¬ (IsMember u (partition_window found.table i)))
+        → Confined steps (partition_window found.table i) → MayLeave c steps d
+        → Chosen c cpu Normal e → Chosen d cpu Normal e }
+{}
+
+/// A gated target of a content is home, or stands in a unit of a partition that has an owner or is
+/// ignored for the processor.
+pub fn a_gated_target_is_home_or_kept()
+    ensures { (c : Content) (cpu : Cpu) (family : ℕ) (target : Target)
+        → target_of c (table_of_content c) cpu family ≡ Some target → target.gated ≡ true
+        → Home c target.window cpu ⊎ IsOfKeptUnit c cpu target.window }
 {}
 
 /// A window is home exactly where it is a member of a boot unit that has two members.

@@ -26,6 +26,3 @@ pub use part_table::Target;
 pub use slot_choice::Choice;
 pub use tables::{Found, find_table};
 pub use targets::{is_executable, target};
-
-#[cfg(test)]
-mod tests;

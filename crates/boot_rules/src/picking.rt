@@ -10,7 +10,8 @@ ghost use Rattle.sector_pool.specs.Keeping.{KeepsOut};
 ghost use Rattle.sector_pool.specs.Pool.{HasFree};
 ghost use Rattle.slot_choice.specs.Units.{member_window};
 ghost use Rattle.boot_rules.specs.Choosing.{choice_of, images_in, member_image, other_of, unit_choice};
-ghost use Rattle.boot_rules.specs.Picking.{seen_in, seen_version, taken, AreInside, IsInside};
+ghost use Rattle.boot_rules.specs.Picking.{taken, AreInside, IsInside};
+ghost use Rattle.boot_rules.specs.Stages.{seen_in, seen_version};
 
 use block_codec::Version;
 use image_check::{Addressing, Candidate, Started, check, confirm, examine};

@@ -12,6 +12,3 @@ mod settling;
 
 pub use buying::buy;
 pub use settling::settle;
-
-#[cfg(test)]
-mod tests;

@@ -63,13 +63,16 @@ pub(crate) fn better_sector<B: Board>(
         (λ s. 4096 * s + 4096 ≤ length (B.state board.now).content.flash) }
     ensures kept { KeepsOut pool.old pool.new }
 {
+    if !choice.updated {
+        return None;
+    }
     let Some(window) = choice.other else {
         return None;
     };
     let Some(other) = other_image(board, pool, cpu, choice.other) else {
         return None;
     };
-    if choice.updated && is_other_better(choice.member, choice.image.version, other.version) {
+    if is_other_better(choice.member, choice.image.version, other.version) {
         Some(window.start / 4096)
     } else {
         None

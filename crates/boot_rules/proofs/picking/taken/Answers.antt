@@ -1,5 +1,5 @@
 use Rattle.std.proofs.Common.{sym, ap, ◌∙◌, Some}
-use Rattle.boot_rules.specs.Picking.{seen_version}
+use Rattle.boot_rules.specs.Stages.{seen_version}
 use Rattle.boot_rules.proofs.PickLemmas.{by-first, by-none, by-second, or-some, taken-seen}
 use Rattle.boot_rules.proofs.picking.taken.Goals as goal
 

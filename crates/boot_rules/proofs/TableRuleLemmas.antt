@@ -1,0 +1,227 @@
+-- The table that is found is the one that the rules name.
+use Rattle.std.proofs.Common.{◌≡◌, ◌⊎◌, ◌↔◌, ℕ, zero, suc, ◌*◌, ◌/◌, ◌≤◌, Bool, true, false, ◌||◌, not, if◌then◌else◌, List, length, Option, Some, None, Result, Ok, Err, refl, sym, ap, ◌∙◌, subst, inl, inr, arith}
+use Rattle.std.specs.Prelude.{find, reverse}
+use Rattle.std.specs.Result.{result_ok}
+use Rattle.std.proofs.lemmas.Option.{same_Some}
+use Rattle.block_codec.specs.Blocks.{BlockView}
+use Rattle.block_loop.specs.Loop.{loop_of}
+use Rattle.block_loop.specs.declared.fault.LoopFault.{LoopFault}
+use Rattle.block_loop.proofs.ChainLemmas.{loop_of-loop}
+use Rattle.block_loop.proofs.SameLoopLemmas.{IsLoop-from_answer}
+use Rattle.image_check.proofs.LastLemmas.{found-last, last-found}
+use Rattle.otp_roll.specs.Flags.{slot_size}
+use Rattle.part_table.specs.declared.table.Table.{Table}
+use Rattle.part_table.specs.declared.table.TableFault.{TableFault}
+use Rattle.part_table.specs.TableOf.{has_table, table_of}
+use Rattle.pico_board.specs.Content.{Content, window_bytes}
+use Rattle.slot_choice.specs.Versions.{is_below}
+use Rattle.boot_rules.specs.declared.tables.Found.{Found}
+use Rattle.boot_rules.specs.Tables.{found_of, slot_table, slot_window, table_in, table_in_block, table_in_loop}
+use Rattle.boot_rules.specs.TableRules.{IsSlotTable, IsTableIn}
+
+-- the table of a slot
+module _ (c : Content) (number : ℕ) where
+  abbrev bytes : List ℕ
+  bytes = window_bytes c (slot_window (slot_size c.otp (length c.flash)) number)
+
+  abbrev sectors : ℕ
+  sectors = length c.flash / 4096
+
+  abbrev first : ℕ
+  first = 2 * slot_size c.otp (length c.flash) / 4096
+
+  abbrev pub table_at : Option Table
+  table_at = slot_table sectors first bytes
+
+  pub slot-is : (t : Table) → table_at ≡ Some t → IsSlotTable c number t
+  slot-is t e = from-loop (loop_of bytes) refl e
+    where
+      from-read : (loop : List BlockView) → loop_of bytes ≡ Ok loop → (b : BlockView)
+          → find has_table (reverse loop) ≡ Some b → (r : Result Table TableFault) → table_of b sectors first ≡ r
+          → result_ok r ≡ Some t → IsSlotTable c number t
+      from-read loop closes b last (Ok x) read same = record {
+        loop = loop;
+        block = b;
+        closes = IsLoop-from_answer bytes loop closes;
+        last = last-found has_table loop b last;
+        read = read ∙ ap Ok (same_Some x t same);
+      }
+      from-read loop closes b last (Err f) read same = cc
+
+      from-block : (loop : List BlockView) → loop_of bytes ≡ Ok loop → (o : Option BlockView)
+          → find has_table (reverse loop) ≡ o → table_in_block sectors first o ≡ Some t → IsSlotTable c number t
+      from-block loop closes (Some b) last same =
+          from-read loop closes b last (table_of b sectors first) refl same
+      from-block loop closes None last same = cc
+
+      from-loop : (r : Result (List BlockView) LoopFault) → loop_of bytes ≡ r → table_in_loop sectors first r ≡ Some t
+          → IsSlotTable c number t
+      from-loop (Ok loop) closes same = from-block loop closes (find has_table (reverse loop)) refl same
+      from-loop (Err f) closes same = cc
+
+  pub is-slot : (t : Table) → IsSlotTable c number t → table_at ≡ Some t
+  is-slot t is =
+      ap (table_in_loop sectors first) (loop_of-loop bytes is.loop is.closes)
+      ∙ (ap (table_in_block sectors first) (found-last has_table is.loop is.block is.last) ∙ ap result_ok is.read)
+
+-- the table of a content by those of its slots
+table-at : (c : Content) → table_in c ≡ found_of (table_at c 0) (table_at c 1)
+unfolding table_in
+table-at c = refl
+
+not-below : (singleton lower : Bool) → (singleton || not lower) ≡ true → (singleton ≡ true) ⊎ (lower ≡ false)
+not-below true lower e = inl refl
+not-below false false e = inr refl
+not-below false true e = cc
+
+below : (singleton lower : Bool) → (singleton || not lower) ≡ false → (singleton ≡ false) × (lower ≡ true)
+below true lower e = cc
+below false true e = (refl, refl)
+below false false e = cc
+
+above : (singleton lower : Bool) → (singleton ≡ true) ⊎ (lower ≡ false) → (singleton || not lower) ≡ true
+above true lower e = refl
+above false false e = refl
+above false true (inl e) = cc
+above false true (inr e) = cc
+
+under : (singleton lower : Bool) → (singleton ≡ false) × (lower ≡ true) → (singleton || not lower) ≡ false
+under false true e = refl
+under true lower (is, never) = cc
+under false false (never, is) = cc
+
+found-at : (slot : ℕ) (t : Table) (f : Found) → f.slot ≡ slot → f.table ≡ t
+    → Some (record { slot = slot; table = t }) ≡ Some f
+found-at slot t f at is = ap (λ k. Some (record { slot = k; table = t })) (sym at)
+    ∙ ap (λ u. Some (record { slot = f.slot; table = u })) (sym is)
+
+-- of the tables of two slots
+module _ (one two : Option Table) (f : Found) where
+  abbrev TakesFirst : Type 0
+  TakesFirst = (f.slot ≡ 0) × (one ≡ Some f.table)
+      × ((u : Table) → two ≡ Some u → (f.table.singleton ≡ true) ⊎ (is_below f.table.version u.version ≡ false))
+
+  abbrev TakesSecond : Type 0
+  TakesSecond = (f.slot ≡ 1) × (two ≡ Some f.table)
+      × ((u : Table) → one ≡ Some u → (u.singleton ≡ false) × (is_below u.version f.table.version ≡ true))
+
+taken-of : (one two : Option Table) (f : Found) → found_of one two ≡ Some f
+    → TakesFirst one two f ⊎ TakesSecond one two f
+taken-of None None f e = cc
+taken-of None (Some t) f e =
+    subst (λ g. TakesFirst None (Some t) g ⊎ TakesSecond None (Some t) g)
+    (same_Some (record { slot = 1; table = t }) f e)
+    (inr (refl, refl, λ u never. cc))
+taken-of (Some t) None f e =
+    subst (λ g. TakesFirst (Some t) None g ⊎ TakesSecond (Some t) None g)
+    (same_Some (record { slot = 0; table = t }) f e)
+    (inl (refl, refl, λ u never. cc))
+taken-of (Some t) (Some u) f e = go (t.singleton || not (is_below t.version u.version)) refl e
+  where
+    go : (yes : Bool) → (t.singleton || not (is_below t.version u.version)) ≡ yes
+        → (if yes then Some (record { slot = 0; table = t }) else Some (record { slot = 1; table = u })) ≡ Some f
+        → TakesFirst (Some t) (Some u) f ⊎ TakesSecond (Some t) (Some u) f
+    go true is same =
+        subst (λ g. TakesFirst (Some t) (Some u) g ⊎ TakesSecond (Some t) (Some u) g)
+        (same_Some (record { slot = 0; table = t }) f same)
+        (inl (
+          refl,
+          refl,
+          λ v at. subst (λ (x : Table). (t.singleton ≡ true) ⊎ (is_below t.version x.version ≡ false))
+              (same_Some u v at) (not-below t.singleton (is_below t.version u.version) is),
+        ))
+    go false is same =
+        subst (λ g. TakesFirst (Some t) (Some u) g ⊎ TakesSecond (Some t) (Some u) g)
+        (same_Some (record { slot = 1; table = u }) f same)
+        (inr (
+          refl,
+          refl,
+          λ v at. subst (λ (x : Table). (x.singleton ≡ false) × (is_below x.version u.version ≡ true))
+              (same_Some t v at) (below t.singleton (is_below t.version u.version) is),
+        ))
+
+first-of : (one two : Option Table) (f : Found) → TakesFirst one two f → found_of one two ≡ Some f
+first-of None two f (at, never, over) = cc
+first-of (Some t) None f takes = found-at 0 t f takes.0 (sym (same_Some t f.table takes.1))
+first-of (Some t) (Some u) f takes =
+    let same : t ≡ f.table = same_Some t f.table takes.1 in
+    let over : (t.singleton ≡ true) ⊎ (is_below t.version u.version ≡ false) =
+    subst (λ (x : Table). (x.singleton ≡ true) ⊎ (is_below x.version u.version ≡ false)) (sym same) (takes.2 u refl) in
+    ap (λ yes. if yes then Some (record { slot = 0; table = t }) else Some (record { slot = 1; table = u }))
+    (above t.singleton (is_below t.version u.version) over)
+    ∙ found-at 0 t f takes.0 (sym same)
+
+second-of : (one two : Option Table) (f : Found) → TakesSecond one two f → found_of one two ≡ Some f
+second-of None None f (at, never, over) = cc
+second-of (Some t) None f (at, never, over) = cc
+second-of None (Some u) f takes = found-at 1 u f takes.0 (sym (same_Some u f.table takes.1))
+second-of (Some t) (Some u) f takes =
+    let same : u ≡ f.table = same_Some u f.table takes.1 in
+    let over : (t.singleton ≡ false) × (is_below t.version u.version ≡ true) =
+    subst (λ (x : Table). (t.singleton ≡ false) × (is_below t.version x.version ≡ true)) (sym same) (takes.2 t refl) in
+    ap (λ yes. if yes then Some (record { slot = 0; table = t }) else Some (record { slot = 1; table = u }))
+    (under t.singleton (is_below t.version u.version) over)
+    ∙ found-at 1 u f takes.0 (sym same)
+
+pub table-words : (c : Content) (f : Found) → (table_in c ≡ Some f) ↔ IsTableIn c f
+table-words c f = (
+  λ e. elim (taken-of (table_at c 0) (table_at c 1) f (sym (table-at c) ∙ e)) [
+    | inl takes ↦ inl (
+      takes.0,
+      record {
+        stands = slot-is c 0 f.table takes.1;
+        taken = λ u is. takes.2 u (is-slot c 1 u is);
+      },
+    )
+    | inr takes ↦ inr (
+      takes.0,
+      record {
+        stands = slot-is c 1 f.table takes.1;
+        taken = λ u is. takes.2 u (is-slot c 0 u is);
+      },
+    )
+  ],
+  λ is. elim is [
+    | inl taken ↦ table-at c ∙ first-of (table_at c 0) (table_at c 1) f
+        (taken.0, is-slot c 0 f.table taken.1.stands, λ u at. taken.1.taken u (slot-is c 1 u at))
+    | inr taken ↦ table-at c ∙ second-of (table_at c 0) (table_at c 1) f
+        (taken.0, is-slot c 1 f.table taken.1.stands, λ u at. taken.1.taken u (slot-is c 0 u at))
+  ],
+)
+
+none-of : (one two : Option Table) → found_of one two ≡ None → (one ≡ None) × (two ≡ None)
+none-of None None e = (refl, refl)
+none-of None (Some u) e = cc
+none-of (Some t) None e = cc
+none-of (Some t) (Some u) e = absurd (go (t.singleton || not (is_below t.version u.version)) e)
+  where
+    go : (yes : Bool) → (let o : Option Found = if yes then Some (record { slot = 0; table = t })
+        else Some (record { slot = 1; table = u }) in o)
+        ≡ None → ⊥
+    go true same = absurd cc
+    go false same = absurd cc
+
+absent : (o : Option Table) → ((t : Table) → o ≡ Some t → ⊥) → o ≡ None
+absent None never = refl
+absent (Some t) never = absurd (never t refl)
+
+nothing : (t : Table) → None ≡ Some t → ⊥
+nothing t both = absurd cc
+
+present : (o : Option Table) (t : Table) → o ≡ None → o ≡ Some t → ⊥
+present o t none some = nothing t (sym none ∙ some)
+
+pub no-table-words : (c : Content)
+    → (table_in c ≡ None) ↔ ((number : ℕ) (t : Table) → number ≤ 1 → IsSlotTable c number t → ⊥)
+no-table-words c = (
+  λ e number. by number (none-of (table_at c 0) (table_at c 1) (sym (table-at c) ∙ e)),
+  λ never. table-at c ∙ (ap (λ o. found_of o (table_at c 1))
+      (absent (table_at c 0) (λ t at. never 0 t (omega arith) (slot-is c 0 t at)))
+      ∙ ap (found_of None) (absent (table_at c 1) (λ t at. never 1 t (omega arith) (slot-is c 1 t at)))),
+)
+  where
+    by : (number : ℕ) → (table_at c 0 ≡ None) × (table_at c 1 ≡ None) → (t : Table) → number ≤ 1
+        → IsSlotTable c number t → ⊥
+    by zero both t le is = present (table_at c 0) t both.0 (is-slot c 0 t is)
+    by (suc zero) both t le is = present (table_at c 1) t both.1 (is-slot c 1 t is)
+    by (suc (suc n)) both t le is = absurd (omega (arith, le))
