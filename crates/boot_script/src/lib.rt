@@ -7,8 +7,6 @@ pub mod examples;
 pub mod kinds;
 pub mod laws;
 mod reading;
-#[cfg(test)]
-mod tests;
 mod writing;
 
 pub use event::{Event, ScriptFault};
