@@ -11,3 +11,5 @@ pub mod WriteLemmas
 pub mod BlockLemmas
 pub mod RuleLemmas
 pub mod AnswerLemmas
+pub mod TwiceLemmas
+pub mod BadItemLemmas

@@ -5,6 +5,7 @@ pub mod Windows
 pub mod Links
 pub mod Rights
 pub mod Contents
+pub mod BadItems
 pub mod Faults
 pub mod TableOf
 pub mod Sound

@@ -1,13 +1,18 @@
 //! Laws of the definitions, proved: each is the `ensures` of a function that does nothing.
 
-ghost use Rattle.std.specs.Prelude.{◌++◌, pos, ◌≡◌, ◌≢◌, ◌↔◌, ◌<◌, ◌+◌, ◌*◌, ℕ, List, true, false, length, Option, Some, None, Result, Ok};
+ghost use Rattle.std.specs.Prelude.{◌++◌, pos, ◌≡◌, ◌≢◌, ◌↔◌, ◌<◌, ◌+◌, ◌*◌, ℕ, List, true, false, length, Option, Some, None, Result, Ok, Err};
 ghost use Rattle.std.specs.List.{AllByRecursion, flat_map};
-ghost use Rattle.block_codec.specs.Blocks.{BlockView, IsBlock};
+ghost use Rattle.block_codec.specs.declared.items.Item.{Item};
+ghost use Rattle.block_codec.specs.Blocks.{BlockView, IsBlock, block_words};
+ghost use Rattle.block_codec.specs.Items.{items_of};
 ghost use Rattle.block_codec.specs.Reading.{block_at};
 ghost use Rattle.pico_board.specs.Content.{AreApart};
 ghost use Rattle.part_table.specs.declared.partition.Partition.{Partition};
 ghost use Rattle.part_table.specs.declared.table.Table.{Table};
 ghost use Rattle.part_table.specs.declared.table.TableFault.{TableFault};
+ghost use Rattle.part_table.specs.declared.table.TableFault.TheVariants.{BadItem};
+ghost use Rattle.part_table.specs.BadItems.{HasBadItem};
+ghost use Rattle.part_table.specs.Contents.{table_of_items};
 ghost use Rattle.part_table.specs.Faults.{table_fault, parts_fault, permissions_fault, overlap_fault, link_fault};
 ghost use Rattle.part_table.specs.Fields.{link_type, permissions_of};
 ghost use Rattle.part_table.specs.Judged.{IsJudgedAs};
@@ -35,6 +40,16 @@ pub fn faults_are_the_first()
         → (parts_fault parts n m ≡ Some f) ↔ IsFirstFault parts n m f }
     ensures none { (parts : List Partition) (n m : ℕ)
         → (parts_fault parts n m ≡ None) ↔ HasNoFault parts n m }
+{}
+
+/// A block's items say no table exactly where one of the kinds that are read stands twice, an item
+/// has a wrong size or header, the hash is misplaced, the fields do not fill the PARTITION_TABLE
+/// item exactly, or there is no such item; and then, and only then, the answer is BadItem.
+pub fn bad_items_come_by_their_rules()
+    ensures items { (words : List ℕ) (items : List Item)
+        → (table_of_items words items ≡ None) ↔ HasBadItem words items }
+    ensures block { (b : BlockView) (n m : ℕ) → (table_of b n m ≡ Err BadItem)
+        ↔ HasBadItem (block_words b) (items_of b.items) }
 {}
 
 /// What a block is read as, in each flash: BadItem where its items say no table, else the first

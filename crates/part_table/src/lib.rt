@@ -23,6 +23,3 @@ pub use reading::{has_table, read_table};
 pub use table::{Right, Table, TableFault, TableWriteFault};
 pub use target::Target;
 pub use writing::write_table;
-
-#[cfg(test)]
-mod tests;
