@@ -1,4 +1,4 @@
-//! Laws of info commands: their status, and the sizes of their replies.
+//! Laws of info commands: what they ask for, and their status.
 
 ghost use Rattle.std.specs.Prelude.{◌≡◌, ◌≢◌, ◌↔◌, ℕ, ◌*◌, ◌<◌, ◌≤◌, Err, List, None, Ok, Option, Some, IfSome, length};
 ghost use Rattle.part_table.specs.declared.Table.{Table};

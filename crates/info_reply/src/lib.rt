@@ -1,5 +1,6 @@
 //! The replies of info commands: what the board tells of its partition table, of the target of a
-//! download, of itself, and of a partition. The id and the layouts are this project's own.
+//! download, of itself, and of a partition. The command's id is that of the RP2350 Datasheet's
+//! GET_INFO; the kinds and the layouts of the replies are this project's own.
 #![tactic(auto)]
 
 mod ask;
@@ -8,8 +9,6 @@ pub mod examples;
 pub mod kinds;
 pub mod laws;
 mod replying;
-#[cfg(test)]
-mod tests;
 
 pub use ask::{Ask, Device, info_ask};
 pub use replying::info_put;
