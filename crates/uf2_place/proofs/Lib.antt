@@ -10,3 +10,4 @@ pub mod ReadBackLemmas
 pub mod RuledLemmas
 pub mod RulingLaws
 pub mod SetBitLemmas
+pub mod ReadOfLemmas

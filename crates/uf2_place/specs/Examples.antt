@@ -1,9 +1,11 @@
 -- Worked examples of blocks and of downloads, with their answers reckoned by hand from the rules.
 -- This project's own.
-use Rattle.std.specs.Prelude.{ℕ, Bool, false, List, [], None}
+use Rattle.std.specs.Prelude.{ℕ, Bool, false, List, [], ◌∷◌, ◌++◌, None, replicate}
+use Rattle.std.specs.List.{flat_map}
 use Rattle.part_table.specs.declared.Target.{Target}
 use Rattle.uf2_place.specs.declared.block.Uf2.{Uf2}
 use Rattle.uf2_place.specs.declared.current.Current.{Current}
+use Rattle.uf2_place.specs.Blocks.{word_bytes}
 
 -- a block of rp2350-arm-s, one of three, by its number, its address and its page
 abbrev pub arm_block : ℕ → ℕ → List ℕ → Uf2
@@ -15,6 +17,14 @@ arm_block number address page = record {
   family = 0xe48bff59;
   page = page;
 }
+
+-- the 512 bytes of a block of rp2350-arm-s of this payload size, address, number and count, whose
+-- payload is of bytes 0
+abbrev pub block_bytes : ℕ → ℕ → ℕ → ℕ → List ℕ
+block_bytes payload address number count =
+    flat_map word_bytes
+    (0x0a324655 ∷ 0x9e5d5157 ∷ 0x2000 ∷ address ∷ payload ∷ number ∷ count ∷ 0xe48bff59 ∷ [])
+    ++ (replicate 476 0 ++ word_bytes 0x0ab16f30)
 
 -- a block of the absolute family, one of two
 abbrev pub absolute_block : ℕ → Uf2

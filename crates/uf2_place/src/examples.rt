@@ -1,14 +1,16 @@
 //! Worked examples of the definitions: the bytes of a block, both sides of each bound, and the
 //! steps of downloads.
 
-ghost use Rattle.std.specs.Prelude.{◌≡◌, ℕ, ◌++◌, Err, None, Ok, Some, List, [], ◌∷◌, false, length, replicate, true};
+ghost use Rattle.std.specs.Prelude.{◌≡◌, ℕ, ◌++◌, Err, None, Ok, Some, List, [], ◌∷◌, drop, false, length, replicate, true};
 ghost use Rattle.pico_board.specs.declared.Step.TheVariants.{Erase, Program};
 ghost use Rattle.part_table.specs.Examples.{guarded_table, pair_table};
 ghost use Rattle.uf2_place.specs.declared.answer.Accepted.TheVariants.{Again, Skipped};
 ghost use Rattle.uf2_place.specs.declared.answer.PlaceFault.TheVariants.{NoTarget, NotPermitted, Outside};
 ghost use Rattle.uf2_place.specs.declared.answer.Ruling.TheVariants.{Answered, Begins, Continues};
-ghost use Rattle.uf2_place.specs.Blocks.{is_number, written};
-ghost use Rattle.uf2_place.specs.Examples.{absolute_block, arm_block, arm_download, first_slot, flagged, slot};
+ghost use Rattle.uf2_place.specs.declared.block.Uf2Fault.TheVariants.{Alignment, Magic, Number, Payload};
+ghost use Rattle.uf2_place.specs.Blocks.{is_number, uf2_of, written};
+ghost use Rattle.uf2_place.specs.Downloads.{IsTargetIn};
+ghost use Rattle.uf2_place.specs.Examples.{absolute_block, arm_block, arm_download, block_bytes, first_slot, flagged, slot};
 ghost use Rattle.uf2_place.specs.Files.{file_block, filled, page_count};
 ghost use Rattle.uf2_place.specs.Placement.{HasWholeSectors, is_whole, placed};
 ghost use Rattle.uf2_place.specs.Rulings.{is_of, is_skipped, is_within, ruling, wanted};
@@ -21,6 +23,19 @@ pub fn bytes_of_a_block()
         ∷ 0x00 ∷ 0x01 ∷ 0x00 ∷ 0x00 ∷ 0x01 ∷ 0x00 ∷ 0x00 ∷ 0x00
         ∷ 0x03 ∷ 0x00 ∷ 0x00 ∷ 0x00 ∷ 0x59 ∷ 0xff ∷ 0x8b ∷ 0xe4
         ∷ (page ++ (replicate 220 0 ++ (0x30 ∷ 0x6f ∷ 0xb1 ∷ 0x0a ∷ []))) }
+{}
+
+/// A block is read of its bytes where its payload has 256 bytes, its address is a multiple of 256
+/// and its number is below its count. The first of these that fails is its fault.
+pub fn faults_of_blocks()
+    ensures none { uf2_of (block_bytes 256 0x10000200 1 3)
+        ≡ Ok (arm_block 1 0x10000200 (replicate 256 0)) }
+    ensures magic { uf2_of (0x54 ∷ drop 1 (block_bytes 128 0x10000200 1 3)) ≡ Err Magic }
+    ensures payload { uf2_of (block_bytes 128 0x10000200 1 3) ≡ Err Payload }
+    ensures alignment { uf2_of (block_bytes 256 0x10000280 1 3) ≡ Err Alignment }
+    ensures number { uf2_of (block_bytes 256 0x10000200 3 3) ≡ Err Number }
+    ensures payload_and_alignment { uf2_of (block_bytes 128 0x10000280 1 3) ≡ Err Payload }
+    ensures alignment_and_number { uf2_of (block_bytes 256 0x10000280 3 3) ≡ Err Alignment }
 {}
 
 /// A file has 1 to 65,536 blocks, numbered from 0.
@@ -42,6 +57,7 @@ pub fn pages_of_an_image()
     ensures address { (image : List ℕ) → (file_block image 0xe48bff59 2).address ≡ 0x10000200 }
     ensures flags { (image : List ℕ) → (file_block image 0xe48bff59 2).flags ≡ 0x2000 }
     ensures number { (image : List ℕ) → (file_block image 0xe48bff59 2).number ≡ 2 }
+    ensures family { (image : List ℕ) → (file_block image 0xe48bff5a 2).family ≡ 0xe48bff5a }
 {}
 
 /// A block is skipped that is not for the main flash, names no family, or is absolute and not
@@ -158,4 +174,10 @@ pub fn the_first_sector_last()
 /// A window of one whole sector is enough for a target.
 pub fn the_least_window()
     ensures { HasWholeSectors (record { start = 0x2000; len = 4096 }) }
+{}
+
+/// The window of a target may end with the flash, and no later.
+pub fn targets_in_a_flash()
+    ensures at_its_end { IsTargetIn 0x3e000 (slot true) }
+    ensures past { ¬ (IsTargetIn 0x3dfff (slot true)) }
 {}

@@ -46,11 +46,11 @@ pub fn program_held<B: Board>(
         (programs_in sector (held_page held.now.pages (bytes_of pool.now held.now.lease)))
         (is_ok result) board.new }
 {
-    program_pages(board, pool.bytes(&held.lease), held.pages, sector)
+    program_marked(board, pool.bytes(&held.lease), held.pages, sector)
 }
 
 /// Programs the pages of a sector whose bit is set, ascending.
-fn program_pages<B: Board>(
+fn program_marked<B: Board>(
     board: &mut B,
     bytes: &[u8],
     pages: u16,

@@ -1,6 +1,6 @@
 //! Laws of UF2 blocks and of downloads.
 
-ghost use Rattle.std.specs.Prelude.{◌≡◌, ◌≢◌, ◌↔◌, ℕ, ◌+◌, ◌*◌, ◌^◌, ◌<◌, ◌≤◌, ◌++◌, true, false, nat_eq, Contains, Err, Ok, None, Option, Some, List, length, slice_get, slice_range};
+ghost use Rattle.std.specs.Prelude.{◌≡◌, ◌≢◌, ◌↔◌, ℕ, ◌+◌, ◌*◌, ◌^◌, ◌<◌, ◌≤◌, ◌++◌, true, false, nat_eq, Contains, Err, Ok, None, Option, Some, List, length, slice_get, slice_range, take};
 ghost use Rattle.std.specs.List.{AllByRecursion};
 ghost use Rattle.std.specs.Set.{is_member};
 ghost use Rattle.pico_board.specs.Sessions.{Gated};
@@ -34,6 +34,12 @@ pub fn written_blocks_are_read()
 pub fn faults_come_by_their_rules()
     ensures { (bytes : List ℕ) (fault : Uf2Fault)
         → (uf2_of bytes ≡ Err fault) ↔ IsUf2Fault bytes fault }
+{}
+
+/// A block is read of its first 288 bytes and its last word; the bytes between them are not read.
+pub fn what_a_block_is_read_of()
+    ensures { (one other : List ℕ) → take 288 one ≡ take 288 other
+        → slice_range one 508 512 ≡ slice_range other 508 512 → uf2_of one ≡ uf2_of other }
 {}
 
 /// Each block of the file of an image is read back.

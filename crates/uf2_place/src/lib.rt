@@ -11,8 +11,6 @@ mod bits;
 mod block;
 mod current;
 mod download;
-#[cfg(test)]
-mod download_tests;
 pub mod examples;
 mod holding;
 mod judging;
@@ -21,8 +19,6 @@ mod marks;
 mod pages;
 mod placing;
 mod reading;
-#[cfg(test)]
-mod tests;
 mod writing;
 
 pub use answer::{Accepted, PlaceFault};

@@ -4,7 +4,7 @@ use Rattle.pico_board.specs.Board.{DoesAll}
 use Rattle.pico_board.proofs.StepLemmas.{DoesAll-none, DoesAll-append, DoesAll-append_cut}
 use Rattle.uf2_place.specs.Downloads.{held_page}
 use Rattle.uf2_place.proofs.HeldPageLemmas.{programs_left, programs-start, programs-next, programs-end}
-use Rattle.uf2_place.proofs.holding.program_pages.Goals as goal
+use Rattle.uf2_place.proofs.holding.program_marked.Goals as goal
 
 pub loop-place-init : goal.loop-place-init
 loop-place-init g c = record {

@@ -4,7 +4,7 @@ use Rattle.pico_board.specs.Board.{DoesAll}
 use Rattle.uf2_place.specs.Downloads.{held_page}
 use Rattle.uf2_place.specs.Placement.{programs_in}
 use Rattle.uf2_place.proofs.HeldPageLemmas.{programs_left}
-use Rattle.uf2_place.proofs.holding.program_pages.Given as goal
+use Rattle.uf2_place.proofs.holding.program_marked.Given as goal
 
 abbrev pub invariant-loop-place : goal.invariant-loop-place
 invariant-loop-place g l = record {
