@@ -13,3 +13,4 @@ mod RebootFlagLemmas
 mod RefusedLemmas
 pub mod StepsInsideLemmas
 pub mod WellFormedDoneLemmas
+mod ReadArgumentLemmas

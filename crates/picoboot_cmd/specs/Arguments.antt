@@ -1,6 +1,6 @@
 -- The arguments of a command. Source: RP2350 Datasheet, chapter 5 (Bootrom, the PICOBOOT
 -- interface).
-use Rattle.std.specs.Prelude.{ℕ, ◌-◌, drop, slice_index}
+use Rattle.std.specs.Prelude.{ℕ, ◌-◌, List, drop, slice_index}
 use Rattle.byteorder.specs.Endian.{little_number}
 use Rattle.pico_board.specs.Content.{flash_base}
 use Rattle.picoboot_cmd.specs.declared.cmd.Cmd.{Cmd}
@@ -37,3 +37,13 @@ row_count cmd = little_number 2 (drop 2 cmd.args)
 
 abbrev pub ecc : Cmd → ℕ
 ecc cmd = slice_index cmd.args 4
+
+-- a command with other argument bytes
+abbrev pub with_args : Cmd → List ℕ → Cmd
+with_args cmd args = record {
+  token = cmd.token;
+  id = cmd.id;
+  arg_size = cmd.arg_size;
+  transfer = cmd.transfer;
+  args = args;
+}

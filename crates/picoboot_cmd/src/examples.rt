@@ -6,6 +6,7 @@ ghost use Rattle.pico_board.specs.declared.BootKind.TheVariants.{Bootsel, Normal
 ghost use Rattle.pico_board.specs.declared.Step.TheVariants.{Erase, Program, Raise};
 ghost use Rattle.part_table.specs.Examples.{guarded_table};
 ghost use Rattle.picoboot_cmd.specs.declared.cmd.CmdFault.TheVariants.{Magic};
+ghost use Rattle.picoboot_cmd.specs.Arguments.{address, ecc, first_row, reboot_flags, reboot_p0, reboot_p1, row_count, size};
 ghost use Rattle.picoboot_cmd.specs.Commands.{command_in, written};
 ghost use Rattle.picoboot_cmd.specs.Examples.{answer, busy_answer, command, erase_command, guarded_answer, otp_read_command, otp_write_command, plain_command, range_args, read_command, reboot_command, row_args, unread_answer, word, write_command};
 ghost use Rattle.part_table.specs.Sound.{IsSoundFor};
@@ -75,11 +76,26 @@ pub fn transfer_lengths()
     ensures otp_write_size { answer (command 13 5 8 (row_args 0x0c0 1 0)) (word 7 ++ word 7) ≡ 3 }
 {}
 
+/// The words of a range and of a reboot, in their places, and the row and the number of rows, in
+/// two bytes each.
+pub fn places_of_arguments()
+    ensures at { address (erase_command 0x12345678 0x9abcdef0) ≡ 0x12345678 }
+    ensures long { size (erase_command 0x12345678 0x9abcdef0) ≡ 0x9abcdef0 }
+    ensures flags { reboot_flags (reboot_command 0x01020304 0x05060708) ≡ 0x01020304 }
+    ensures p0 { reboot_p0 (reboot_command 0x01020304 0x05060708) ≡ 0x05060708 }
+    ensures p1 { reboot_p1 (reboot_command 0x01020304 0x05060708) ≡ 0x9abcdef0 }
+    ensures row { first_row (otp_read_command 0x0102 0x0304 5) ≡ 0x0102 }
+    ensures rows { row_count (otp_read_command 0x0102 0x0304 5) ≡ 0x0304 }
+    ensures corrected { ecc (otp_read_command 0x0102 0x0304 5) ≡ 5 }
+{}
+
 /// Whole sectors of an erase, and the page that a write begins with; a read may begin anywhere.
 pub fn alignment()
     ensures erase { answer (erase_command 0x10001000 0x2000) [] ≡ 0 }
     ensures erase_address { answer (erase_command 0x10001100 0x1000) [] ≡ 5 }
     ensures erase_size { answer (erase_command 0x10001000 0x1100) [] ≡ 5 }
+    ensures half_sector { answer (erase_command 0x10001800 0x1000) [] ≡ 5 }
+    ensures half_size { answer (erase_command 0x10001000 0x1800) [] ≡ 5 }
     ensures write { answer (write_command 0x10000100 1) (0 ∷ []) ≡ 0 }
     ensures write_address { answer (write_command 0x10000180 1) (0 ∷ []) ≡ 5 }
 {}

@@ -1,7 +1,7 @@
 //! Laws of commands: their bytes, the first check that fails, what is left of the checks for each
 //! command, and what well-formed commands do.
 
-ghost use Rattle.std.specs.Prelude.{◌≡◌, ◌≢◌, ◌⊎◌, ◌↔◌, ℕ, ◌+◌, ◌-◌, ◌/◌, ◌<◌, ◌≤◌, All, Bool, Err, List, None, Ok, Option, Some, [], ◌∷◌, ◌++◌, false, is_some, length, replicate, slice_index, true};
+ghost use Rattle.std.specs.Prelude.{◌≡◌, ◌≢◌, ◌⊎◌, ◌↔◌, ℕ, ◌+◌, ◌-◌, ◌/◌, ◌<◌, ◌≤◌, All, Bool, Err, List, None, Ok, Option, Some, [], ◌∷◌, ◌++◌, false, is_some, length, replicate, slice_index, take, true};
 ghost use Rattle.byteorder.specs.Endian.{little_number};
 ghost use Rattle.pico_board.specs.declared.Step.TheVariants.{Program};
 ghost use Rattle.pico_board.specs.Content.{Content, IsContent};
@@ -12,7 +12,7 @@ ghost use Rattle.part_table.specs.Rights.{allowed_by};
 ghost use Rattle.picoboot_cmd.specs.declared.cmd.Cmd.{Cmd};
 ghost use Rattle.picoboot_cmd.specs.declared.cmd.CmdFault.TheVariants.{Magic};
 ghost use Rattle.picoboot_cmd.specs.declared.kinds.TheConstants.{ENTER_XIP, ERASE, EXCLUSIVE, EXIT_XIP, MAGIC, OTP_READ, OTP_WRITE, READ, REBOOT, UNKNOWN_COMMAND, WRITE};
-ghost use Rattle.picoboot_cmd.specs.Arguments.{reboot_flags, reboot_p0};
+ghost use Rattle.picoboot_cmd.specs.Arguments.{reboot_flags, reboot_p0, with_args};
 ghost use Rattle.picoboot_cmd.specs.ByCommand.{erase_checks, exclusive_checks, otp_read_checks, otp_write_checks, read_checks, reboot_checks, write_checks, xip_checks};
 ghost use Rattle.picoboot_cmd.specs.Checks.{IsAnswer, are_reboot_flags, checks, first_failing, is_known, status_of};
 ghost use Rattle.picoboot_cmd.specs.Commands.{IsCommand, command_in, written};
@@ -72,6 +72,13 @@ pub fn the_checks_of_each_command()
     ensures unknown { (n : ℕ) (otp : List ℕ) (t : Option Table) (busy : Bool) (cmd : Cmd)
         (payload : List ℕ) → is_known cmd ≡ false
         → status_of n otp t busy cmd payload ≡ UNKNOWN_COMMAND }
+{}
+
+/// Argument bytes past the argument size are not read.
+pub fn arguments_are_read_by_their_size()
+    ensures { (c : Content) (t : Option Table) (busy : Bool) (cmd : Cmd) (args payload : List ℕ)
+        → take cmd.arg_size args ≡ take cmd.arg_size cmd.args
+        → command_of c t busy (with_args cmd args) payload ≡ command_of c t busy cmd payload }
 {}
 
 /// A range has a right where the sector of each of its bytes has it.

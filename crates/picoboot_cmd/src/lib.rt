@@ -13,8 +13,6 @@ mod judging;
 pub mod kinds;
 pub mod laws;
 mod reply;
-#[cfg(test)]
-mod tests;
 mod words;
 mod working;
 

@@ -50,7 +50,7 @@ fn page_of(bytes: &[u8]) -> [u8; 256]
 }
 
 /// Programs the bytes into the pages from `first` on, ascending, the last one filled with 0.
-fn program_pages<B: Board>(board: &mut B, first: u32, bytes: &[u8]) -> Result<(), PowerLost>
+fn program_payload<B: Board>(board: &mut B, first: u32, bytes: &[u8]) -> Result<(), PowerLost>
     requires power { IsTrue (B.state board.old).powered }
     requires range { 256 * (first + (length bytes.now + 255) / 256)
         ≤ length (B.state board.old).content.flash }
@@ -140,7 +140,7 @@ pub(crate) fn do_command<B: Board, R: Reply>(
             put_flash(board, cmd.offset(), cmd.size(), reply);
             Ok(())
         }
-        WRITE => program_pages(board, cmd.offset() / PAGE as u32, payload),
+        WRITE => program_payload(board, cmd.offset() / PAGE as u32, payload),
         OTP_READ => {
             put_rows(board, cmd.first_row(), cmd.row_count(), reply);
             Ok(())

@@ -2,7 +2,7 @@
 use Rattle.std.proofs.Common.{◌≡◌, ◌+◌, ◌-◌, ◌*◌, ◌/◌, Bool, true, length, drop}
 use Rattle.pico_board.specs.Board.{DoesAll}
 use Rattle.picoboot_cmd.specs.Pages.{programs, programs_of}
-use Rattle.picoboot_cmd.proofs.working.program_pages.Given as goal
+use Rattle.picoboot_cmd.proofs.working.program_payload.Given as goal
 
 abbrev pub invariant-loop-i : goal.invariant-loop-i
 invariant-loop-i g l = record {

@@ -4,7 +4,7 @@ use Rattle.std.proofs.lemmas.List.{take_rest}
 use Rattle.pico_board.proofs.StepLemmas.{DoesAll-none, DoesAll-step, DoesAll-cut}
 use Rattle.picoboot_cmd.specs.Pages.{filled}
 use Rattle.picoboot_cmd.proofs.StepListLemmas.{programs-first, programs-end}
-use Rattle.picoboot_cmd.proofs.working.program_pages.Goals as goal
+use Rattle.picoboot_cmd.proofs.working.program_payload.Goals as goal
 
 pub returns-in_err-program : goal.returns-in_err-program
 returns-in_err-program g c =
