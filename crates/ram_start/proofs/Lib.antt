@@ -1,1 +1,2 @@
 pub mod RamLemmas
+pub mod StartLemmas

@@ -14,6 +14,3 @@ mod serving;
 pub use checking::ram_check;
 pub use ram::Ram;
 pub use serving::{RamDone, ram_apply, ram_asks};
-
-#[cfg(test)]
-mod tests;
