@@ -8,8 +8,6 @@ mod downloads;
 pub mod examples;
 pub mod laws;
 mod numbers;
-#[cfg(test)]
-mod tests;
 
 pub use commands::set_answer;
 pub use decisions::{put_boot, put_decision, put_ram_start, set_boot};
