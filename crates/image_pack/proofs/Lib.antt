@@ -15,4 +15,5 @@ pub mod UnsealableLemmas
 pub mod SealedPartLemmas
 pub mod SealedDefLemmas
 pub mod SealedBackLemmas
+pub mod StartLemmas
 pub mod ReadBackLemmas

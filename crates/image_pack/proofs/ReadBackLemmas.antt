@@ -1,5 +1,5 @@
 -- A sealed image in a window, with erased bytes behind it, is read back as its spec asks.
-use Rattle.std.proofs.Common.{◌≡◌, ◌≢◌, ◌↔◌, Option, [], ℕ, ◌+◌, ◌-◌, ◌≤◌, List, ◌∷◌, ◌++◌, length, take, drop, replicate, ℤ, refl, sym, ap, subst, ◌∙◌, arith, Some, Result, Ok, length-append, length-drop, append_assoc}
+use Rattle.std.proofs.Common.{◌≡◌, ◌≢◌, ◌↔◌, Option, None, [], ℕ, ◌+◌, ◌-◌, ◌≤◌, List, ◌∷◌, ◌++◌, length, take, drop, replicate, ℤ, refl, sym, ap, subst, ◌∙◌, arith, Some, Result, Ok, length-append, length-drop, append_assoc}
 use Rattle.std.specs.Prelude.{IsTrue, IfSome, slice_get}
 use Rattle.std.specs.List.{flat_map}
 use Rattle.std.specs.Result.{result_ok}
@@ -8,6 +8,7 @@ use Rattle.sha2.specs.Sha256.{sha256}
 use Rattle.pico_board.specs.declared.window.Window.{Window}
 use Rattle.pico_board.specs.Content.{flash_base}
 use Rattle.block_codec.specs.Blocks.{BlockAt, BlockView, IsBlock, block_size, block_words, frame}
+use Rattle.block_codec.specs.declared.definition.EntryPoint.{EntryPoint}
 use Rattle.block_codec.specs.Erased.{AreErased}
 use Rattle.block_codec.specs.Items.{AreItems}
 use Rattle.block_codec.specs.Words.{bytes_of, word_bytes}
@@ -25,7 +26,9 @@ use Rattle.arrayvec.specs.ArrayVec.{ArrayVec}
 use Rattle.otp_roll.specs.Flags.{rollback_required}
 use Rattle.otp_roll.specs.Rows.{count}
 use Rattle.image_check.specs.NotBelow.{NotBelow}
+use Rattle.image_check.specs.declared.entry.Source.{Source}
 use Rattle.image_check.specs.Addressing.{in_flash}
+use Rattle.image_check.specs.Entering.{IsSource}
 use Rattle.image_check.specs.Changes.{moved_to}
 use Rattle.image_check.specs.Rules.{map_loads}
 use Rattle.image_check.specs.Valid.{IsSound}
@@ -36,11 +39,13 @@ use Rattle.image_pack.specs.Faults.{IsSealed, block_offset}
 use Rattle.image_pack.specs.Filling.{round_up, whole_sectors, whole_words}
 use Rattle.image_pack.specs.ReadBack.{IsHalves, IsReadBack, MeetsRollback, SaysSpec, covered_of}
 use Rattle.image_pack.specs.Sealing.{block_link, link_offset_of, parts_in, parts_of, relinked, sealed_from, sealed_items, sealed_text}
+use Rattle.image_pack.specs.Starts.{KeepsStart, StartsAs}
 use Rattle.image_pack.specs.Unsealable.{KeepsRules}
 use Rattle.image_pack.proofs.OneItemLemmas.{IsCopied}
 use Rattle.image_pack.proofs.SealedBackLemmas.{SaysSealed, copied_is, definition_stands, loads_begin, says_sealed}
 use Rattle.image_pack.proofs.SealedItemLemmas.{are_whole}
 use Rattle.image_pack.proofs.SealedPartLemmas.{are_parts, are_words, difference_fits, items_joined}
+use Rattle.image_pack.proofs.StartLemmas.{Copied, copied_of, keeps}
 use Rattle.image_pack.proofs.TextLaws.{relinked-long}
 use Rattle.image_pack.proofs.UnsealableLemmas.{keeps-parts, parts-kept}
 use Rattle.image_pack.proofs.WithinLemmas.{IsWithin-parts}
@@ -209,6 +214,36 @@ module _ (binary : List ℕ) (spec : SealSpec) (sealed : IsSealed binary spec) w
           trial = ap (λ (s : Started). s.trial) is ∙ says.trial;
         }
 
+    -- it keeps the start of the binary
+    pub keeps-start : (own : KeepsRules spec.cpu (whole_sectors binary)) → KeepsStart own.image.def image.def
+    keeps-start own =
+        let bytes = whole_sectors binary in
+        let made : Parts = parts_of own.loop own.image.block own.loads in
+        let same : made ≡ parts =
+        same_ok (parts_in spec.cpu bytes) parts made sealed.short.sealable.read (keeps-parts spec.cpu bytes own) in
+        let stands = definition_stands spec.cpu bytes own.loop own.image own.defined in
+        let p = take (block_size own.image.block) (drop own.image.block.at bytes) in
+        keeps spec kept entry loads (length (whole_words binary)) link sealed.short.sealable.right copied few_words
+        image.def read own.image.block p stands.stands own.image.def own.defined.items
+        (subst (λ (q : Parts). Copied own.image.block p stands.stands own.image.def own.defined.items q.entry.items)
+        same (copied_of own.image.block p stands.stands own.image.def own.defined.items))
+
+    -- and where that is an ENTRY_POINT, it starts there
+    pub starts-as : (own : KeepsRules spec.cpu (whole_sectors binary)) (e : EntryPoint)
+        → own.image.def.entry_point ≡ Some e → (w : Window) → StartsAs e (moved_to w sealed.started)
+    starts-as own e has w =
+        let enters = sealed.boots.sound.enters in
+        let said : image.def.entry_point ≡ Some e = (keeps-start own).entry ∙ has in
+        let from : enters.source ≡ record { entry = e; table = None } =
+        subst (λ o. IsSource in_flash.base (whole_sectors (sealed_text binary spec)) spec.cpu image.def
+        sealed.boots.sound.loads o enters.source) said enters.found in
+        let entry_is : sealed.boots.entry ≡ e = enters.is ∙ ap (λ (x : Source). x.entry) from in
+        let is = sealed.boots.started in record {
+          pc = ap (λ (s : Started). s.pc) is ∙ ap (λ (x : EntryPoint). x.pc) entry_is;
+          sp = ap (λ (s : Started). s.sp) is ∙ ap (λ (x : EntryPoint). x.sp) entry_is;
+          limit = ap (λ (s : Started). s.limit) is ∙ ap (λ (x : EntryPoint). x.limit) entry_is;
+        }
+
     -- so it is not below its rows for the OTPs that meet the spec's rollback rule
     pub meets-exactly : (otp : List ℕ) → NotBelow otp sealed.started ↔ MeetsRollback otp spec
     meets-exactly otp =
@@ -290,6 +325,7 @@ module _ (binary : List ℕ) (spec : SealSpec) (sealed : IsSealed binary spec) w
         rollback = says.rollback;
         rows = says.rows;
         trial = says.trial;
+        start = keeps-start;
         map = sound.map;
         rest = others ++ behind;
         before = before;

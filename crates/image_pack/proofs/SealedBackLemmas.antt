@@ -115,8 +115,8 @@ pub record SaysSealed (spec : SealSpec) (def : Def) : Type 0 where
 
 module _ (spec : SealSpec) (bytes entry : List ℕ) (loads : List Load) (at : ℕ) (link : ℤ) (right : IsRightSpec spec)
     (copied : IsCopied entry) (few : length (sealed_items spec bytes entry loads) ≤ 156) where
-  abbrev pub block_of : BlockView
-  block_of = record { at = at; items = sealed_items spec bytes entry loads; link = link }
+  abbrev pub sealed_block : BlockView
+  sealed_block = record { at = at; items = sealed_items spec bytes entry loads; link = link }
 
   abbrev type_of : ℕ
   type_of = type_word spec bytes entry loads
@@ -139,15 +139,15 @@ module _ (spec : SealSpec) (bytes entry : List ℕ) (loads : List Load) (at : �
   abbrev value_rest : List ℕ
   value_rest = value_body spec bytes entry loads
 
-  abbrev items_listed : List Item
+  abbrev pub items_listed : List Item
   items_listed =
       all_items type_of version_of_block version_rest entry map_of map_rest (header HASH_DEF 2 1) counted
       (header HASH_VALUE 9 0) value_rest
 
-  abbrev words : List ℕ
-  words = block_words block_of
+  abbrev pub words : List ℕ
+  words = block_words sealed_block
 
-  items_there : items_of (sealed_items spec bytes entry loads) ≡ items_listed
+  pub items_there : items_of (sealed_items spec bytes entry loads) ≡ items_listed
   items_there = ap items_of (items_joined spec bytes entry loads)
       ∙ items_are _ _ _ _ _ _ _ _ _ _ (are_parts spec bytes entry loads right copied few)
 
@@ -161,23 +161,24 @@ module _ (spec : SealSpec) (bytes entry : List ℕ) (loads : List Load) (at : �
       value_at type_of version_of_block version_rest entry map_of map_rest (header HASH_DEF 2 1) counted
       (header HASH_VALUE 9 0) value_rest
 
-  image_there : item_of_kind IMAGE_TYPE (items_of block_of.items) ≡ Some (item_at 1 type_of)
+  image_there : item_of_kind IMAGE_TYPE (items_of sealed_block.items) ≡ Some (item_at 1 type_of)
   image_there =
       ap (item_of_kind IMAGE_TYPE) items_there
       ∙ image_sought _ _ _ _ _ _ _ _ _ _ (are_parts spec bytes entry loads right copied few)
 
-  version_there : item_of_kind VERSION (items_of block_of.items) ≡ Some (item_at 2 version_of_block)
+  version_there : item_of_kind VERSION (items_of sealed_block.items) ≡ Some (item_at 2 version_of_block)
   version_there =
       ap (item_of_kind VERSION) items_there
       ∙ version_sought _ _ _ _ _ _ _ _ _ _ (are_parts spec bytes entry loads right copied few)
 
-  value_there : item_of_kind HASH_VALUE (items_of block_of.items) ≡ Some (item_at value_place (header HASH_VALUE 9 0))
+  value_there : item_of_kind HASH_VALUE (items_of sealed_block.items)
+      ≡ Some (item_at value_place (header HASH_VALUE 9 0))
   value_there =
       ap (item_of_kind HASH_VALUE) items_there
       ∙ value_sought _ _ _ _ _ _ _ _ _ _ (are_parts spec bytes entry loads right copied few)
 
-  map_there : option_and_then (slice_get (items_of block_of.items))
-      (position (is_of_kind LOAD_MAP) (items_of block_of.items))
+  map_there : option_and_then (slice_get (items_of sealed_block.items))
+      (position (is_of_kind LOAD_MAP) (items_of sealed_block.items))
       ≡ Some (item_at map_place map_of)
   map_there =
       ap (λ (xs : List Item). option_and_then (slice_get xs) (position (is_of_kind LOAD_MAP) xs)) items_there
@@ -185,10 +186,10 @@ module _ (spec : SealSpec) (bytes entry : List ℕ) (loads : List Load) (at : �
 
   -- the words behind the header of the VERSION item
   words_whole : words ≡ start_word ∷ (sealed_words spec bytes entry loads
-      ++ (last_item (length block_of.items) ∷ cast_unsigned w32 link ∷ end_word ∷ []))
+      ++ (last_item (length sealed_block.items) ∷ cast_unsigned w32 link ∷ end_word ∷ []))
   words_whole =
       words_are type_of version_of_block version_rest entry map_of map_rest (header HASH_DEF 2 1) counted
-      (header HASH_VALUE 9 0) value_rest block_of.items link (items_joined spec bytes entry loads)
+      (header HASH_VALUE 9 0) value_rest sealed_block.items link (items_joined spec bytes entry loads)
 
   version_word : slice_index words 3 ≡ spec.version.minor + 65536 * spec.version.major
   version_word = ap (λ ws. slice_index ws 3) words_whole
@@ -196,14 +197,14 @@ module _ (spec : SealSpec) (bytes entry : List ℕ) (loads : List Load) (at : �
   abbrev behind_rows : List ℕ
   behind_rows =
       (entry ++ (map_of ∷ map_rest ++ (header HASH_DEF 2 1 ∷ counted ∷ header HASH_VALUE 9 0 ∷ value_rest)))
-      ++ (last_item (length block_of.items) ∷ cast_unsigned w32 link ∷ end_word ∷ [])
+      ++ (last_item (length sealed_block.items) ∷ cast_unsigned w32 link ∷ end_word ∷ [])
 
   rows_there : drop 4 words ≡ packed (row_halves spec.rollback spec.rows.items) ++ behind_rows
   rows_there =
       ap (drop 4) words_whole
       ∙ append_assoc (packed (row_halves spec.rollback spec.rows.items))
       (entry ++ (map_of ∷ map_rest ++ (header HASH_DEF 2 1 ∷ counted ∷ header HASH_VALUE 9 0 ∷ value_rest)))
-      (last_item (length block_of.items) ∷ cast_unsigned w32 link ∷ end_word ∷ [])
+      (last_item (length sealed_block.items) ∷ cast_unsigned w32 link ∷ end_word ∷ [])
 
   abbrev listed : List ℕ → ArrayVec ℕ
   listed xs = record { items = xs }
@@ -227,9 +228,9 @@ module _ (spec : SealSpec) (bytes entry : List ℕ) (loads : List Load) (at : �
       ))
       (omega (arith, right.rows.few))
 
-  module _ (halves : IsHalves spec.version) (def : Def) (is : def_of block_of ≡ Ok def) where
-    abbrev has : {X : Type 0} (field : Def → X) → field (def_record words (items_of block_of.items)) ≡ field def
-    has field = ap field (def_is block_of def is)
+  module _ (halves : IsHalves spec.version) (def : Def) (is : def_of sealed_block ≡ Ok def) where
+    abbrev has : {X : Type 0} (field : Def → X) → field (def_record words (items_of sealed_block.items)) ≡ field def
+    has field = ap field (def_is sealed_block def is)
 
     pub says_sealed : SaysSealed spec def
     says_sealed =
@@ -261,13 +262,13 @@ module _ (spec : SealSpec) (bytes entry : List ℕ) (loads : List Load) (at : �
           );
         }
 
-    pub map_item_there : option_and_then (slice_get (items_of block_of.items)) def.map_item
+    pub map_item_there : option_and_then (slice_get (items_of sealed_block.items)) def.map_item
         ≡ Some (item_at map_place map_of)
     map_item_there =
-        sym (has (λ (d : Def). option_and_then (slice_get (items_of block_of.items)) d.map_item)) ∙ map_there
+        sym (has (λ (d : Def). option_and_then (slice_get (items_of sealed_block.items)) d.map_item)) ∙ map_there
 
     -- the loads begin with the bytes before the block
-    pub loads_begin : (n : ℕ) (given : List Load) → map_loads in_flash n block_of def ≡ Ok given → at ≡ length bytes
+    pub loads_begin : (n : ℕ) (given : List Load) → map_loads in_flash n sealed_block def ≡ Ok given → at ≡ length bytes
         → length bytes ≤ n → length bytes ≤ 16777216 → (runtime : ℕ) × (rest : List Load)
         × (given ≡ record { storage = Some 0; runtime = runtime; size = length bytes } ∷ rest)
     loads_begin n given mapped at_is room small =
@@ -279,7 +280,7 @@ module _ (spec : SealSpec) (bytes entry : List ℕ) (loads : List Load) (at : �
         let near : mo ≤ 2 ^ 30 = omega (arith, small, fewer, front) in
         let word : (k : ℕ) → k < length map_rest → slice_index words (map_place + 1 + k) ≡ slice_index map_rest k =
         λ k lt. map_word type_of version_of_block version_rest entry map_of map_rest (header HASH_DEF 2 1) counted
-        (header HASH_VALUE 9 0) value_rest block_of.items link k (items_joined spec bytes entry loads) lt in
+        (header HASH_VALUE 9 0) value_rest sealed_block.items link k (items_joined spec bytes entry loads) lt in
         let place = word 0 (omega arith) in
         let extent = word 2 (omega arith) in
         let zero_more : map_place + 1 + 0 ≡ map_place + 1 = omega arith in
@@ -291,8 +292,9 @@ module _ (spec : SealSpec) (bytes entry : List ℕ) (loads : List Load) (at : �
         ap (λ k. nat_le 128 k) (header_high 0x06 (1 + 3 * length (own spec bytes entry loads))
         (length (own spec bytes entry loads)) (omega arith) (omega (arith, fewer)) (omega (arith, fewer)))
         ∙ below_limit (length (own spec bytes entry loads)) (omega (arith, fewer)) in
-        let found = begins_with in_flash.base n in_flash.in_place block_of item words (map_place + 1) mo (length bytes)
+        let found = begins_with in_flash.base n in_flash.in_place sealed_block item words (map_place + 1) mo
+        (length bytes)
         stands (omega arith) near room (ap (slice_index words) (sym zero_more) ∙ place) extent
         (length (own spec bytes entry loads) - 1) given refl refl (count ∙ omega arith) relative
-        (sym (ap (item_loads in_flash n block_of) map_item_there) ∙ mapped) in
+        (sym (ap (item_loads in_flash n sealed_block) map_item_there) ∙ mapped) in
         (slice_index words (map_place + 1 + 1), found.0, found.1)

@@ -1,15 +1,15 @@
 -- The item words of a new block, by its parts: which items they are, and where they stand.
-use Rattle.std.proofs.Common.{◌≡◌, ℕ, suc, ◌+◌, ◌<◌, false, List, [], ◌∷◌, ◌++◌, length, refl, sym, ap, ◌∙◌, inl, inr, arith, Some, length-append, append_assoc, ℤ}
+use Rattle.std.proofs.Common.{◌≡◌, ℕ, suc, ◌+◌, ◌<◌, ◌==◌, true, false, List, [], ◌∷◌, ◌++◌, length, refl, sym, ap, ◌∙◌, inl, inr, arith, None, Some, length-append, append_assoc, ℤ}
 use Rattle.std.specs.List.{slice_get, slice_index, position}
 use Rattle.std.specs.Option.{option_and_then}
 use Rattle.std.specs.Int.{cast_unsigned, w32}
 use Rattle.std.proofs.lemmas.List.{get_or-append-add, get_or_append_left}
 use Rattle.std.proofs.lemmas.Option.{none-some}
 use Rattle.block_codec.specs.declared.items.Item.{Item}
-use Rattle.block_codec.specs.declared.kinds.TheConstants.{HASH_VALUE, IMAGE_TYPE, LOAD_MAP, VERSION}
+use Rattle.block_codec.specs.declared.kinds.TheConstants.{ENTRY_POINT, HASH_VALUE, IMAGE_TYPE, LOAD_MAP, VECTOR_TABLE, VERSION}
 use Rattle.block_codec.specs.Blocks.{end_word, frame, last_item, start_word}
 use Rattle.block_codec.specs.Items.{AreItems, item_at, items_from, items_of, size_of, type_byte}
-use Rattle.block_codec.specs.Kinds.{is_of_kind, item_of_kind}
+use Rattle.block_codec.specs.Kinds.{first_spelling, is_of_kind, item_of_kind}
 use Rattle.part_table.proofs.TestLemmas.{search_of}
 use Rattle.image_pack.proofs.OneItemLemmas.{IsCopied, IsOneItem, copied_items, copied_list, copied_then, find_copied, find_first, find_next, item_alone, item_then, items_alone, items_then, of_kind}
 
@@ -103,6 +103,52 @@ module _ (iw vh : ℕ) (vb entry : List ℕ) (lh : ℕ) (lb : List ℕ) (hh hc d
         find_next kind (item_at 1 iw) (item_at 2 vh ∷ behind_version) a
         ∙ find_next kind (item_at 2 vh) behind_version b
 
+    -- the copied item is the one of its kind, and of another kind there is none
+    abbrev Elsewhere : ℕ → Type 0
+    Elsewhere kind = ((0x42 == kind) ≡ false) × ((0x48 == kind) ≡ false)
+
+    pub copied_sought : (kind h : ℕ) (body : List ℕ) → Elsewhere kind → entry ≡ h ∷ body
+        → (first_spelling (type_byte h) == kind) ≡ true → item_of_kind kind all_items ≡ Some (item_at copied_at h)
+    copied_sought kind h body front is here =
+        behind kind (of_kind 0x42 kind (item_at 1 iw) are.image_kind ∙ front.0)
+        (of_kind 0x48 kind (item_at 2 vh) are.version_kind ∙ front.1)
+        ∙ ap (λ ws. item_of_kind kind (copied_items copied_at ws ++ last_three)) is
+        ∙ find_first kind (item_at copied_at h) last_three here
+
+    none_behind : (kind : ℕ) → (6 == kind) ≡ false → (0x47 == kind) ≡ false → (0x4b == kind) ≡ false
+        → item_of_kind kind last_three ≡ None
+    none_behind kind a b d =
+        find_next kind (item_at map_at lh) (item_at hash_at hh ∷ item_at value_at dh ∷ [])
+        (of_kind 0x06 kind (item_at map_at lh) are.map_kind ∙ a)
+        ∙ find_next kind (item_at hash_at hh) (item_at value_at dh ∷ [])
+        (of_kind 0x47 kind (item_at hash_at hh) are.hash_kind ∙ b)
+        ∙ find_next kind (item_at value_at dh) [] (of_kind 0x4b kind (item_at value_at dh) are.value_kind ∙ d)
+
+    no_entry : (rest : List ℕ) → entry ≡ rest
+        → item_of_kind ENTRY_POINT (copied_items copied_at rest ++ last_three) ≡ item_of_kind ENTRY_POINT last_three
+        → item_of_kind ENTRY_POINT all_items ≡ None
+    no_entry rest is passed =
+        behind ENTRY_POINT (of_kind 0x42 ENTRY_POINT (item_at 1 iw) are.image_kind)
+        (of_kind 0x48 ENTRY_POINT (item_at 2 vh) are.version_kind)
+        ∙ ap (λ ws. item_of_kind ENTRY_POINT (copied_items copied_at ws ++ last_three)) is ∙ passed
+        ∙ none_behind ENTRY_POINT refl refl refl
+
+    pub no_entry_alone : entry ≡ [] → item_of_kind ENTRY_POINT all_items ≡ None
+    no_entry_alone is = no_entry [] is refl
+
+    pub no_entry_beside : (h : ℕ) (body : List ℕ) → entry ≡ h ∷ body → type_byte h ≡ 3
+        → item_of_kind ENTRY_POINT all_items ≡ None
+    no_entry_beside h body is kind =
+        no_entry (h ∷ body) is
+        (find_next ENTRY_POINT (item_at copied_at h) last_three (of_kind 3 ENTRY_POINT (item_at copied_at h) kind))
+
+    pub no_vector_alone : entry ≡ [] → item_of_kind VECTOR_TABLE all_items ≡ None
+    no_vector_alone is =
+        behind VECTOR_TABLE (of_kind 0x42 VECTOR_TABLE (item_at 1 iw) are.image_kind)
+        (of_kind 0x48 VECTOR_TABLE (item_at 2 vh) are.version_kind)
+        ∙ ap (λ ws. item_of_kind VECTOR_TABLE (copied_items copied_at ws ++ last_three)) is
+        ∙ none_behind VECTOR_TABLE refl refl refl
+
     map_sought : item_of_kind LOAD_MAP all_items ≡ Some (item_at map_at lh)
     map_sought =
         behind LOAD_MAP (of_kind 0x42 LOAD_MAP (item_at 1 iw) are.image_kind)
@@ -159,3 +205,19 @@ module _ (iw vh : ℕ) (vb entry : List ℕ) (lh : ℕ) (lb : List ℕ) (hh hc d
       ∙ ap (λ n. slice_index (front ++ (lh ∷ lb ++ rest)) n) place
       ∙ get_or-append-add front (lh ∷ lb ++ rest) (suc k) 0
       ∙ get_or_append_left lb rest 0 k lt
+
+  -- the words of the copied item
+  pub copied_word : (items : List ℕ) (link : ℤ) (k : ℕ) → items ≡ joined → k < length entry
+      → slice_index (frame items link) (copied_at + k) ≡ slice_index entry k
+  copied_word items link k is lt =
+      let front : List ℕ = start_word ∷ iw ∷ vh ∷ vb in
+      let last : List ℕ = last_item (length items) ∷ cast_unsigned w32 link ∷ end_word ∷ [] in
+      let rest : List ℕ = lh ∷ lb ++ (hh ∷ hc ∷ dh ∷ db) in
+      let parts : vb ++ (entry ++ rest) ++ last ≡ vb ++ (entry ++ (rest ++ last)) =
+      append_assoc vb (entry ++ rest) last ∙ ap (λ ws. vb ++ ws) (append_assoc entry rest last) in
+      let place : copied_at + k ≡ length front + k = omega arith in
+      ap (λ ws. slice_index ws (copied_at + k)) (words_are items link is)
+      ∙ ap (λ ws. slice_index (start_word ∷ iw ∷ vh ∷ ws) (copied_at + k)) parts
+      ∙ ap (λ n. slice_index (front ++ (entry ++ (rest ++ last))) n) place
+      ∙ get_or-append-add front (entry ++ (rest ++ last)) k 0
+      ∙ get_or_append_left entry (rest ++ last) 0 k lt

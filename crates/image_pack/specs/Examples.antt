@@ -40,3 +40,7 @@ parts_at first last link_at loads = record {
 -- a block of one item word that stands here
 abbrev pub one_item : ℕ → BlockView
 one_item at = record { at = at; items = 0x10210142 ∷ []; link = pos 0 }
+
+-- a block of these item words that stands at 0x40
+abbrev pub block_at_40 : List ℕ → BlockView
+block_at_40 items = record { at = 0x40; items = items; link = pos 0 }

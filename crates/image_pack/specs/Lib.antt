@@ -8,4 +8,5 @@ pub mod Faults
 pub mod Starting
 pub mod Examples
 pub mod Unsealable
+pub mod Starts
 pub mod ReadBack

@@ -15,6 +15,9 @@ use Rattle.image_check.specs.Valid.{IsDefined}
 use Rattle.sha2.specs.Sha256.{sha256}
 use Rattle.image_pack.specs.declared.spec.SealSpec.{SealSpec}
 use Rattle.image_pack.specs.Faults.{block_offset}
+use Rattle.image_pack.specs.Filling.{whole_sectors}
+use Rattle.image_pack.specs.Starts.{KeepsStart}
+use Rattle.image_pack.specs.Unsealable.{KeepsRules}
 
 -- major and minor are half words, as they are in a block
 pub record IsHalves (v : Version) : Type 0 where
@@ -40,9 +43,9 @@ abbrev pub covered_of : List ℕ → Defined → List Load → List ℕ
 covered_of bytes image loads =
     covered bytes loads image.block image.def.hash_words image.def.image_word
 
--- a window has the image of a binary that was sealed by a spec: its definition is the new block and
--- says what the spec asks for; the covered bytes begin with all bytes before the new block; and
--- their SHA-256 is the value of its HASH_VALUE item
+-- a window has the image of a binary that was sealed by a spec: its definition is the new block,
+-- says what the spec asks for and keeps the start that the binary's own says; the covered bytes
+-- begin with all bytes before the new block; and their SHA-256 is the value of its HASH_VALUE item
 pub record IsReadBack (binary : List ℕ) (spec : SealSpec) (bytes : List ℕ) : Type 0 where
   pub loop : List BlockView
   pub image : Defined
@@ -53,6 +56,8 @@ pub record IsReadBack (binary : List ℕ) (spec : SealSpec) (bytes : List ℕ) :
   pub rollback : image.def.rollback ≡ spec.rollback
   pub rows : image.def.rows ≡ spec.rows
   pub trial : is_trial image.def.flags ≡ spec.trial
+  pub start : (own : KeepsRules spec.cpu (whole_sectors binary))
+      → KeepsStart own.image.def image.def
   pub map : map_loads in_flash (length bytes) image.block image.def ≡ Ok loads
   pub rest : List ℕ
   pub before : covered_of bytes image loads ≡ take (block_offset binary) bytes ++ rest

@@ -1,14 +1,17 @@
 //! Worked examples of sealed images. Each is the `ensures` of a function that does nothing.
 
-ghost use Rattle.std.specs.Prelude.{◌≡◌, [], ◌∷◌, ◌++◌, true, false, None, Some, pos, replicate};
+ghost use Rattle.std.specs.Prelude.{◌≡◌, [], ◌∷◌, ◌++◌, true, false, length, None, Some, pos, replicate};
 ghost use Rattle.pico_board.specs.declared.boot.Cpu.TheVariants.{Arm, Riscv};
 ghost use Rattle.block_codec.specs.Blocks.{frame};
 ghost use Rattle.block_codec.specs.Words.{bytes_of};
 ghost use Rattle.pico_board.specs.Examples.{window_at};
-ghost use Rattle.image_pack.specs.Examples.{four_bytes, least_image, one_item, parts_at, spec_of};
-ghost use Rattle.image_pack.specs.Plans.{IsPlanned};
+ghost use Rattle.image_pack.specs.Examples.{block_at_40, four_bytes, least_image, one_item, parts_at, spec_of};
+ghost use Rattle.image_pack.specs.Filling.{padded, whole_sectors, whole_words};
+ghost use Rattle.image_pack.specs.Flashes.{generated, made_image, made_table};
+ghost use Rattle.part_table.specs.Written.{written};
+ghost use Rattle.image_pack.specs.Plans.{IsPlanned, update_cmd};
 ghost use Rattle.image_pack.specs.ReadBack.{IsHalves};
-ghost use Rattle.image_pack.specs.Sealing.{entry_words, front_items, link_offset_of, offset_of, own_loads, sealed_text};
+ghost use Rattle.image_pack.specs.Sealing.{copied_words, entry_words, front_items, link_offset_of, offset_of, own_loads, parts_of, sealed_text};
 ghost use Rattle.image_pack.specs.Within.{IsWithin};
 ghost use Rattle.image_pack.specs.declared.sealing.TheConstants.{MOST_BYTES};
 
@@ -95,4 +98,50 @@ pub fn offsets_of_blocks()
     ensures link { link_offset_of (Some (one_item 0x40)) ≡ 0x4c }
     ensures none { offset_of None ≡ 0 }
     ensures no_link { link_offset_of None ≡ 0 }
+{}
+
+/// The item that is copied is the ENTRY_POINT, also behind a VECTOR_TABLE; without one it is the
+/// VECTOR_TABLE, and without both there is none.
+#[tactic(auto, unfolding(block_codec::specs::Items::size_of, block_codec::specs::Blocks::frame))]
+pub fn copied_items()
+    ensures both { copied_words (block_at_40 (0x10210142 ∷ 0x00000203 ∷ 0x10000100 ∷ 0x00000344
+        ∷ 0x10000201 ∷ 0x20082000 ∷ [])) ≡ 0x00000344 ∷ 0x10000201 ∷ 0x20082000 ∷ [] }
+    ensures table { copied_words (block_at_40 (0x10210142 ∷ 0x00000203 ∷ 0x10000100 ∷ []))
+        ≡ 0x00000203 ∷ 0x10000100 ∷ [] }
+    ensures none { copied_words (block_at_40 (0x10210142 ∷ [])) ≡ [] }
+{}
+
+/// The first block of a loop of two is the one that is linked to, and the last one's link word is
+/// the one that is changed.
+pub fn parts_of_a_loop_of_two()
+    ensures first { (parts_of (one_item 0x40 ∷ one_item 0x80 ∷ []) (one_item 0x40) []).first
+        ≡ 0x40 }
+    ensures last { (parts_of (one_item 0x40 ∷ one_item 0x80 ∷ []) (one_item 0x40) []).last
+        ≡ 0x80 }
+    ensures link { (parts_of (one_item 0x40 ∷ one_item 0x80 ∷ []) (one_item 0x40) []).link_at
+        ≡ 0x8c }
+{}
+
+/// Bytes are filled with 0xff up to whole words of 4 bytes, and up to whole sectors of 4096.
+pub fn bytes_are_filled()
+    ensures words { whole_words (1 ∷ 2 ∷ 3 ∷ 4 ∷ 5 ∷ [])
+        ≡ 1 ∷ 2 ∷ 3 ∷ 4 ∷ 5 ∷ 255 ∷ 255 ∷ 255 ∷ [] }
+    ensures whole { whole_words (1 ∷ 2 ∷ 3 ∷ 4 ∷ []) ≡ 1 ∷ 2 ∷ 3 ∷ 4 ∷ [] }
+    ensures sector { whole_sectors (7 ∷ []) ≡ 7 ∷ replicate 4095 255 }
+    ensures sectors { length (whole_sectors (replicate 4097 7)) ≡ 8192 }
+{}
+
+/// The reboot of a plan has the flags 4, no delay, the window's address as p0, and a p1 of 0.
+pub fn the_reboot_of_a_plan()
+    ensures { (update_cmd 5 0x20000).args
+        ≡ 4 ∷ 0 ∷ 0 ∷ 0 ∷ 0 ∷ 0 ∷ 0 ∷ 0 ∷ 0 ∷ 0 ∷ 2 ∷ 0x10 ∷ 0 ∷ 0 ∷ 0 ∷ 0 ∷ [] }
+{}
+
+/// The images of made flashes: the minor versions are the last two digits of the number, and the
+/// seed behind the greatest is 0.
+pub fn images_of_made_flashes()
+    ensures digits { generated 129 ≡ padded 0x2000 (written made_table)
+        ++ (padded 0x40000 (made_image 129 9) ++ padded 0xbe000 (made_image 130 2)) }
+    ensures greatest { generated 4294967295 ≡ padded 0x2000 (written made_table)
+        ++ (padded 0x40000 (made_image 4294967295 5) ++ padded 0xbe000 (made_image 0 9)) }
 {}

@@ -31,7 +31,9 @@ ghost use Rattle.image_check.specs.declared.why.Why.{Why};
 ghost use Rattle.image_pack.specs.declared.spec.SealError.TheVariants.{Unsealable};
 ghost use Rattle.image_pack.specs.Faults.{IsRightSpec, IsSealable};
 ghost use Rattle.image_pack.specs.ReadBack.{IsHalves, IsReadBack, MeetsRollback, SaysSpec};
+ghost use Rattle.image_pack.specs.Starts.{StartsAs};
 ghost use Rattle.image_pack.specs.Unsealable.{IsUnsealable, KeepsRules};
+ghost use Rattle.block_codec.specs.declared.definition.EntryPoint.{EntryPoint};
 ghost use Rattle.pico_board.specs.declared.boot.Cpu.{Cpu};
 
 /// The events of a plan: the power comes on, the board is reset to BOOTSEL, and the window's first
@@ -97,10 +99,12 @@ pub fn a_sealed_image_is_valid_in_a_flash()
 {}
 
 /// In each window of a flash that has a sealed image with 0xff behind it, that is read back as the
-/// spec asks: its definition is the new block and has the spec's version, rollback version, rows
-/// and trial bit; the covered bytes begin with all bytes before the new block; and their SHA-256 is
-/// the value of the HASH_VALUE item. The record of the image there says what the spec asks for, and
-/// is not below its rows for exactly those OTPs that meet the spec's rollback rule.
+/// spec asks: its definition is the new block, has the spec's version, rollback version, rows and
+/// trial bit, and keeps the ENTRY_POINT of the binary's definition, or else its VECTOR_TABLE; the
+/// covered bytes begin with all bytes before the new block; and their SHA-256 is the value of the
+/// HASH_VALUE item. The record of the image there says what the spec asks for, and is not below its
+/// rows for exactly those OTPs that meet the spec's rollback rule. Where the binary's definition
+/// has an ENTRY_POINT, the image starts as that says.
 pub fn a_sealed_image_is_read_back()
     ensures image { (binary : List ℕ) (spec : SealSpec) → IsSealed binary spec
         → IsHalves spec.version → (f : List ℕ) → AreErased f
@@ -111,6 +115,10 @@ pub fn a_sealed_image_is_read_back()
     ensures not_below { (binary : List ℕ) (spec : SealSpec) (sealed : IsSealed binary spec)
         → IsHalves spec.version → (otp : List ℕ)
         → NotBelow otp sealed.started ↔ MeetsRollback otp spec }
+    ensures entry { (binary : List ℕ) (spec : SealSpec) (sealed : IsSealed binary spec)
+        → IsHalves spec.version → (own : KeepsRules spec.cpu (whole_sectors binary))
+        (e : EntryPoint) → own.image.def.entry_point ≡ Some e
+        → (w : Window) → StartsAs e (moved_to w sealed.started) }
 {}
 
 /// A binary cannot be sealed for a reason exactly where that is the answer of the first of the

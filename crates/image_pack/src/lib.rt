@@ -23,6 +23,3 @@ pub use generating::generate;
 pub use planning::{PlanError, plan};
 pub use sealing::seal;
 pub use spec::{SealError, SealSpec, SpecField};
-
-#[cfg(test)]
-mod tests;

@@ -1,4 +1,4 @@
-use Rattle.image_pack.proofs.ReadBackLemmas.{is-read-back, meets-exactly, says-record}
+use Rattle.image_pack.proofs.ReadBackLemmas.{is-read-back, meets-exactly, says-record, starts-as}
 use Rattle.image_pack.proofs.laws.a_sealed_image_is_read_back.Goals as goal
 
 pub returns-clause-image : goal.returns-clause-image
@@ -10,3 +10,6 @@ returns-clause-record c = λ binary spec sealed halves w. says-record binary spe
 
 pub returns-clause-not_below : goal.returns-clause-not_below
 returns-clause-not_below c = λ binary spec sealed halves otp. meets-exactly binary spec sealed halves otp
+
+pub returns-clause-entry : goal.returns-clause-entry
+returns-clause-entry c = λ binary spec sealed halves own e has w. starts-as binary spec sealed halves own e has w
