@@ -1,11 +1,14 @@
 //! Worked examples of texts, each with the answer that the rules give. This project's own.
 
-ghost use Rattle.std.specs.Prelude.{◌≡◌, ◌++◌, ℕ, [], ◌∷◌, true, false, codes, replicate, is_ok, IfSome, None, Some, Ok, Err, option_map};
+ghost use Rattle.std.specs.Prelude.{◌≡◌, ◌++◌, ℕ, [], ◌∷◌, true, false, codes, length, replicate, is_ok, IfSome, None, Some, Ok, Err, option_map};
 ghost use Rattle.part_table.specs.declared.table.TableFault.{TableFault};
 ghost use Rattle.part_table.specs.Examples.{pair_version, owned_table, named_table, table_with, plain_partition, partition_with};
 ghost use Rattle.pico_board.specs.declared.boot.Cpu.{Cpu};
 ghost use Rattle.serde_json.specs.Data.{Data};
 ghost use Rattle.serde_json.specs.Read.{read};
+ghost use Rattle.table_json.specs.declared.members.Shape.TheVariants.{OfPartition, OfPermissions, OfSpec, OfTable, OfUnpartitioned};
+ghost use Rattle.table_json.specs.Families.{family_names};
+ghost use Rattle.table_json.specs.Members.{names_of};
 ghost use Rattle.table_json.specs.Says.{SaysText};
 ghost use Rattle.table_json.specs.Seals.{spec_with};
 ghost use Rattle.table_json.specs.Examples.{table_said, part_in, spec_in, all_rights, rights, part, part_and, part_of, table_of_parts, flagged, part_value, part_missing, top_value, top_missing, outside_value, named, list_of, nested, versioned, plain_spec};
@@ -226,6 +229,34 @@ pub fn partitions_are_counted()
         ≡ top_value Field.Partitions }
     ensures second { table_said (table_of_parts (part (codes "2") (codes "3") [] ++ codes ",{}"))
         ≡ Some (Err (JsonFault.Missing (Place.Partition 1) Field.First)) }
+{}
+
+/// A member of another object is not listed, nor is one of another tool's text; an object has no
+/// more members than those that the other examples give it. No family is named `rp2350-arm`.
+pub fn members_belong_to_their_objects()
+    ensures table_id { table_said (codes "{\"id\":1,\"unpartitioned\":{" ++ all_rights
+        ++ codes "},\"partitions\":[]}") ≡ Some (Err (JsonFault.Unknown Place.Top)) }
+    ensures outside_first { table_said (codes "{\"unpartitioned\":{\"first\":1," ++ all_rights
+        ++ codes "},\"partitions\":[]}") ≡ Some (Err (JsonFault.Unknown Place.Unpartitioned)) }
+    ensures part_start { part_and (codes ",\"start\":2")
+        ≡ Some (Err (JsonFault.Unknown (Place.Partition 0))) }
+    ensures part_size { part_and (codes ",\"size\":4096")
+        ≡ Some (Err (JsonFault.Unknown (Place.Partition 0))) }
+    ensures part_version { part_and (codes ",\"version\":[1,0]")
+        ≡ Some (Err (JsonFault.Unknown (Place.Partition 0))) }
+    ensures spec_families { spec_in (codes "{\"processor\":\"arm\",\"families\":[]}")
+        ≡ Some (Err (JsonFault.Unknown Place.Top)) }
+    ensures rights_first { part_of (codes "\"permissions\":"
+        ++ codes "{\"secure\":\"\",\"nonsecure\":\"\",\"bootloader\":\"\",\"first\":\"\"}")
+        ≡ part_value Field.Permissions }
+    ensures family { part_and (codes ",\"families\":[\"rp2350-arm\"]")
+        ≡ part_value Field.Families }
+    ensures table_members { length (names_of OfTable) ≡ 4 }
+    ensures outside_members { length (names_of OfUnpartitioned) ≡ 2 }
+    ensures part_members { length (names_of OfPartition) ≡ 10 }
+    ensures rights_members { length (names_of OfPermissions) ≡ 3 }
+    ensures spec_members { length (names_of OfSpec) ≡ 5 }
+    ensures families { length family_names ≡ 6 }
 {}
 
 /// Two faults of the top object each: the first of them is the answer.

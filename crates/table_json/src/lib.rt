@@ -15,6 +15,3 @@ mod tables;
 pub use fault::{Field, JsonFault, Place};
 pub use seals::spec_of;
 pub use tables::table_of;
-
-#[cfg(test)]
-mod tests;
