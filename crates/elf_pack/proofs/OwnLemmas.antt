@@ -21,7 +21,7 @@ use Rattle.image_pack.specs.Filling.{round_up}
 use Rattle.image_pack.specs.ReadBack.{IsHalves}
 use Rattle.image_pack.specs.Sealing.{own_load, sealed_items}
 use Rattle.image_pack.proofs.OneItemLemmas.{IsCopied}
-use Rattle.image_pack.proofs.SealedBackLemmas.{block_of, map_item_there}
+use Rattle.image_pack.proofs.SealedBackLemmas.{sealed_block, map_item_there}
 use Rattle.image_pack.proofs.SealedItemLemmas.{map_at, map_word}
 use Rattle.image_pack.proofs.SealedPartLemmas.{few_own, hash_count, header_high, items_joined, map_body, map_head, map_offset_of, own, type_word, value_body, version_body, version_head}
 use Rattle.elf_pack.specs.declared.segment.Segment.{Segment}
@@ -38,9 +38,9 @@ below-limit n lt = grind (arith, nat_tests)
 module _ (spec : SealSpec) (bytes entry : List ℕ) (loads : List Load) (at : ℕ) (link : ℤ) (right : IsRightSpec spec)
     (copied : IsCopied entry) (few : length (sealed_items spec bytes entry loads) ≤ 156)
     (halves : IsHalves spec.version) (def : Def)
-    (is : def_of (block_of spec bytes entry loads at link right copied few) ≡ Ok def) where
+    (is : def_of (sealed_block spec bytes entry loads at link right copied few) ≡ Ok def) where
   abbrev b : BlockView
-  b = block_of spec bytes entry loads at link right copied few
+  b = sealed_block spec bytes entry loads at link right copied few
 
   abbrev all : List Load
   all = own spec bytes entry loads

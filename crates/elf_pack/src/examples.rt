@@ -1,6 +1,6 @@
 //! Worked examples of ELF files. Each is the `ensures` of a function that does nothing.
 
-ghost use Rattle.std.specs.Prelude.{◌≡◌, ◌+◌, [], ◌∷◌, ◌++◌, None, Some, pos, take, replicate, true, false};
+ghost use Rattle.std.specs.Prelude.{◌≡◌, ◌+◌, [], ◌∷◌, ◌++◌, None, Some, pos, drop, take, replicate, true, false};
 ghost use Rattle.pico_board.specs.declared.boot.Cpu.TheVariants.{Arm, Riscv};
 ghost use Rattle.block_codec.specs.Blocks.{frame};
 ghost use Rattle.block_codec.specs.Words.{bytes_of};
@@ -16,6 +16,8 @@ ghost use Rattle.elf_pack.specs.Segments.{segments};
 pub fn the_first_of_two_faults()
     ensures not_elf { elf_fault Arm (take 51 (head 3 40 32 0)) ≡ Some NotElf }
     ensures other_class { elf_fault Arm (take 4 (head 3 40 32 0) ++ (2 ∷ replicate 60 1))
+        ≡ Some NotElf }
+    ensures other_version { elf_fault Arm (take 6 (head 2 40 32 0) ++ (2 ∷ drop 7 (head 2 40 32 0)))
         ≡ Some NotElf }
     ensures file_type { elf_fault Arm (head 3 243 32 0) ≡ Some FileType }
     ensures processor { elf_fault Arm (head 2 243 31 1) ≡ Some Processor }

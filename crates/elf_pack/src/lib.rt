@@ -19,6 +19,3 @@ mod storing;
 
 pub use fault::ElfFault;
 pub use packing::{elf_binary, elf_image};
-
-#[cfg(test)]
-mod tests;

@@ -18,6 +18,11 @@ unfolding frame word_bytes elf_binary flash_bytes sram_items half_at word_at cou
     mixed_fault overlap_fault segments_fault segment_at
 returns-clause-other_class c = refl
 
+pub returns-clause-other_version : goal.returns-clause-other_version
+unfolding frame word_bytes elf_binary flash_bytes sram_items half_at word_at count_fault head_fault misplaced_fault
+    mixed_fault overlap_fault segments_fault segment_at
+returns-clause-other_version c = refl
+
 pub returns-clause-file_type : goal.returns-clause-file_type
 unfolding frame word_bytes elf_binary flash_bytes sram_items half_at word_at count_fault head_fault misplaced_fault
     mixed_fault overlap_fault segments_fault segment_at
