@@ -30,6 +30,6 @@ mod MoveTextLemmas
 mod MovePlaceLemmas
 mod ArmingLemmas
 mod MoveTableLemmas
-mod BeginningLemmas
+pub mod BeginningLemmas
 mod ShownImageLemmas
 mod EventTextLemmas

@@ -8,22 +8,22 @@
 
 mod booting;
 pub mod command_examples;
+mod commands;
 pub mod crash_examples;
 pub mod crash_laws;
 pub mod download_examples;
 mod entering;
+mod found;
+mod infos;
 mod machine;
 mod parts;
+mod placing;
 pub mod play_examples;
 pub mod run_examples;
 pub mod run_laws;
 mod serving;
-mod serving_host;
 mod state;
 mod stepping;
 
 pub use machine::Machine;
 pub use state::State;
-
-#[cfg(test)]
-mod tests;

@@ -11,7 +11,7 @@ ghost use Rattle.boot_machine.specs.declared.state.State.TheVariants.{Off as POW
 
 use crate::entering::enter_bootsel;
 use crate::parts::Parts;
-use crate::serving_host::serve;
+use crate::serving::serve;
 use crate::state::State;
 use crate::stepping::step;
 use arrayvec::ArrayString;

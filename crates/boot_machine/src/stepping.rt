@@ -13,7 +13,7 @@ ghost use Rattle.boot_machine.specs.declared.state.State.TheVariants.{Off as POW
 
 use crate::entering::{boot_into, lose, run};
 use crate::parts::Parts;
-use crate::serving_host::serve;
+use crate::serving::serve;
 use crate::state::State;
 use arrayvec::ArrayString;
 use boot_lines::{put_text, set_text};

@@ -1,0 +1,28 @@
+//! The table that was found when BOOTSEL was entered.
+
+ghost use Rattle.std.specs.Prelude.{◌≡◌, ◌/◌, ◌<◌, None, Option, Some};
+ghost use Rattle.std.specs.Option.{option_map};
+ghost use Rattle.boot_machine.specs.Serving.{slot_of, table_of};
+
+use boot_rules::Found;
+use part_table::Table;
+
+/// The table that was found.
+pub fn table_of(found: &Option<Found>) -> Option<&Table>
+    ensures { option_map (λ t. t.now) result ≡ table_of found.now }
+{
+    match found {
+        Some(found) => Some(&found.table),
+        None => None,
+    }
+}
+
+/// The slot of the table that was found, 0 where there is none.
+pub fn slot_of(found: &Option<Found>) -> u32
+    ensures { result ≡ slot_of found.now }
+{
+    match found {
+        Some(found) => found.slot,
+        None => 0,
+    }
+}

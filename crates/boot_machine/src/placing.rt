@@ -1,0 +1,137 @@
+//! The blocks of a download, before the boot that a done one asks for.
+
+ghost use Rattle.std.specs.Prelude.{◌≡◌, ◌/◌, ◌<◌, ◌≤◌, ◌^◌, Ok, IfOk, IsTrue, OnOk, None, Option, Some, length};
+ghost use Rattle.std.specs.Option.{ForSome, option_map};
+ghost use Rattle.sector_pool.specs.Keeping.{KeepsOut};
+ghost use Rattle.sector_pool.specs.Pool.{HasFree};
+ghost use Rattle.part_table.specs.Sound.{IsSoundTable};
+ghost use Rattle.slot_choice.specs.Units.{IsSoundFor};
+ghost use Rattle.uf2_place.specs.Blocks.{IsUf2};
+ghost use Rattle.uf2_place.specs.Downloads.{IsTargetIn, lease_of};
+ghost use Rattle.uf2_place.specs.Rulings.{wanted};
+ghost use Rattle.boot_machine.specs.Machines.{Host, Placing};
+ghost use Rattle.boot_machine.specs.Serving.{answer_of, block_text, boot_of_accepted, done_boot, places, table_of, wanted_in};
+ghost use Rattle.boot_machine.specs.Standing.{Carries, HasRoom, IsDoneIn, IsServedBlock};
+
+use crate::found::table_of;
+use arrayvec::ArrayString;
+use boot_lines::{set_accepted, set_refusal};
+use boot_rules::{Found, Target, is_executable, target};
+use part_table::Table;
+use pico_board::{Board, BootKind, Cpu, PowerLost};
+use sector_pool::SectorPool;
+use uf2_place::{Accepted, Download, PlaceFault, Uf2};
+
+/// The address of the first byte of the flash.
+const FLASH_BASE: u32 = 0x1000_0000;
+
+/// The boot that a download into this target asks for once it is done.
+fn done_boot(family: u32, target: Target) -> Option<BootKind>
+    requires { target.window.start < 2 ^ 24 }
+    ensures { result ≡ done_boot family target }
+{
+    if target.stay {
+        return None;
+    }
+    if is_executable(family) {
+        Some(BootKind::Update(FLASH_BASE + target.window.start))
+    } else {
+        Some(BootKind::Normal)
+    }
+}
+
+/// The boot that an accepted block asks for.
+fn boot_of_accepted(family: u32, accepted: Accepted) -> Option<BootKind>
+    requires { IsDoneIn accepted }
+    ensures { result ≡ boot_of_accepted family accepted }
+{
+    match accepted {
+        Accepted::Done(target) => done_boot(family, target),
+        _ => None,
+    }
+}
+
+/// Makes the line what came of a block. The answer is the boot that it asks for.
+fn tell(
+    line: &mut ArrayString<320>,
+    block: &Uf2,
+    answer: Result<Accepted, PlaceFault>,
+) -> Result<Option<BootKind>, PowerLost>
+    requires { IfOk answer IsDoneIn }
+    ensures answer { result ≡ answer_of block.now.family answer }
+    ensures text { OnOk result (line.new.bytes ≡ block_text block.now.number answer) }
+    ensures short { OnOk result (length line.new.bytes ≤ 132) }
+{
+    let fault = match answer {
+        Ok(accepted) => {
+            set_accepted(line, block.number, &accepted);
+            return Ok(boot_of_accepted(block.family, accepted));
+        }
+        Err(fault) => fault,
+    };
+    match fault {
+        PlaceFault::PowerLost => Err(PowerLost),
+        PlaceFault::NoTarget | PlaceFault::Outside | PlaceFault::NotPermitted => {
+            set_refusal(line, fault);
+            Ok(None)
+        }
+    }
+}
+
+/// The target of a block's family, where the block begins a download.
+fn wanted_target<B: Board>(
+    board: &B,
+    pool: &mut SectorPool,
+    download: &Download,
+    table: Option<&Table>,
+    cpu: Cpu,
+    block: &Uf2,
+) -> Option<Target>
+    requires power { IsTrue (B.state board.now).powered }
+    requires lease { HasFree pool.old }
+    requires sound { IsSoundFor (option_map (λ t. t.now) table)
+        (length (B.state board.now).content.flash) }
+    ensures exact { result ≡ wanted_in (B.state board.now).content
+        (option_map (λ t. t.now) table.entry) cpu
+        (wanted (length (B.state board.now).content.flash) download.now.current block.now) }
+    ensures placed { ForSome result (IsTargetIn (length (B.state board.now).content.flash)) }
+    ensures kept { KeepsOut pool.old pool.new }
+{
+    match download.wants(board.flash_len(), block) {
+        Some(family) => target(board, pool, table, cpu, family),
+        None => None,
+    }
+}
+
+/// Places a block. The answer is the boot that a done download asks for.
+pub fn place_block<B: Board>(
+    board: &mut B,
+    pool: &mut SectorPool,
+    download: &mut Download,
+    found: &Option<Found>,
+    cpu: Cpu,
+    block: &Uf2,
+    line: &mut ArrayString<320>,
+) -> Result<Option<BootKind>, PowerLost>
+    requires power { IsTrue (B.state board.old).powered }
+    requires block { IsUf2 block.now }
+    requires sound { ForSome found.now (λ f. IsSoundTable f.table
+        (length (B.state board.old).content.flash / 4096)) }
+    requires current { ForSome download.old.current
+        (λ c. IsTargetIn (length (B.state board.old).content.flash) c.target) }
+    requires room { HasRoom pool.old (lease_of download.old.current) }
+    requires carries { (placing : Option Placing) × Carries download.old pool.old placing }
+    ensures served { (host : Host) → host.found ≡ found.now
+        → Carries download.old pool.old host.placing → IsServedBlock B.state B.history
+        (places (B.state board.old).content cpu host block.now) board.old result board.new
+        download.new pool.new line.new.bytes }
+    ensures short { OnOk result (length line.new.bytes ≤ 132) }
+    ensures room { HasRoom pool.new (lease_of download.new.current) }
+    ensures target { ForSome download.new.current
+        (λ c. IsTargetIn (length (B.state board.new).content.flash) c.target) }
+{
+    let table = table_of(found);
+    let target = wanted_target(board, pool, download, table, cpu, block);
+    let answer = download.accept(board, pool, table, target, block);
+    tell(line, block, answer)
+}

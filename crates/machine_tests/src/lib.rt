@@ -1,0 +1,5 @@
+//! Tests of the machine through its public calls.
+#![tactic(auto)]
+
+#[cfg(test)]
+mod tests;
