@@ -37,7 +37,8 @@ pub valid-by : (c : Content) (cpu : Cpu) (kind : BootKind) (choice : Choice) (d 
 valid-by c cpu kind choice d right chosen is =
     start-valid c cpu kind choice (subst (Chosen c cpu kind) is chosen)
 
-trial-steps : (c : Content) (cpu : Cpu) (choice : Choice) → choice.image.trial ≡ true → start_steps c cpu choice ≡ []
+pub trial-steps : (c : Content) (cpu : Cpu) (choice : Choice) → choice.image.trial ≡ true
+    → start_steps c cpu choice ≡ []
 trial-steps c cpu choice trial = ap (λ b. if b then [] else settling c cpu choice) trial
 
 if-same : {X : Type 0} (P Q : X → Type 0) (o : Option X) → ((x : X) → P x → Q x) → IfSome o P → IfSome o Q

@@ -14,7 +14,7 @@ mod OwnLeftLemmas
 mod OwnPickLemmas
 pub mod OwnDecisionLemmas
 pub mod OwnLaws
-mod ExampleLemmas
+pub mod ExampleLemmas
 mod InfoLemmas
 mod ReplyLemmas
 mod SteadinessLemmas
@@ -27,9 +27,10 @@ mod RamRunLemmas
 mod RamStartLemmas
 mod MoveLemmas
 mod MoveTextLemmas
-mod MovePlaceLemmas
+pub mod MovePlaceLemmas
 mod ArmingLemmas
 mod MoveTableLemmas
 pub mod BeginningLemmas
 mod ShownImageLemmas
 mod EventTextLemmas
+mod TrialRunLemmas

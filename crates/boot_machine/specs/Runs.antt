@@ -3,7 +3,10 @@
 use Rattle.std.specs.Prelude.{ℕ, ◌≡◌, ◌≢◌, ⊤, ◌==◌, ◌&&◌, Bool, false, true, is_some, if◌then◌else◌, List, [], ◌∷◌, ◌++◌, Option, Some, None, Result, Ok, Err, option_map}
 use Rattle.pico_board.specs.declared.boot.Cpu.{Cpu}
 use Rattle.pico_board.specs.Content.{Content}
+use Rattle.pico_board.specs.declared.Step.{Step}
+use Rattle.pico_board.specs.Board.{State as BoardState}
 use Rattle.pico_board.specs.Cuts.{cut_with}
+use Rattle.pico_board.specs.Steps.{after_all}
 use Rattle.part_table.specs.declared.Target.{Target}
 use Rattle.uf2_place.specs.declared.block.Uf2.{Uf2}
 use Rattle.uf2_place.specs.Blocks.{uf2_of}
@@ -132,3 +135,7 @@ with_cut m left within pattern = record {
   cpu = m.cpu;
   place = m.place;
 }
+
+-- the board has done these steps, from this content on
+abbrev pub HasDone : Content → BoardState → List Step → Type 0
+HasDone c board steps = board.content ≡ after_all c steps

@@ -1,16 +1,27 @@
 //! Laws on runs of the machine. Each is a function that does nothing, whose contract is the law.
 
-ghost use Rattle.std.specs.Prelude.{◌≡◌, ◌≢◌, ◌↔◌, ◌⊎◌, ◌<◌, ◌≤◌, ℕ, All, Bool, List, None, Ok, Option, Some, [], ◌∷◌, codes, false, true, length};
+ghost use Rattle.std.specs.Prelude.{◌≡◌, ◌≢◌, ◌↔◌, ◌⊎◌, ◌++◌, ◌<◌, ◌≤◌, ℕ, All, Bool, List, None, Ok, Option, Some, [], ◌∷◌, codes, false, true, length};
 ghost use Rattle.std.specs.List.{AllByRecursion};
 ghost use Rattle.block_codec.specs.Words.{AreWords, bytes_of};
 ghost use Rattle.boot_lines.specs.Events.{IsLine, Line, event_text};
 ghost use Rattle.boot_lines.specs.Texts.{command_text, refused_text};
 ghost use Rattle.boot_machine.specs.Boots.{entered};
-ghost use Rattle.boot_machine.specs.Machines.{Host, InBootsel, Machine, Off};
+ghost use Rattle.boot_machine.specs.Machines.{FromFlash, Host, InBootsel, Machine, Off, Placing, Running};
 ghost use Rattle.boot_machine.specs.Moves.{IsDone, IsLost, Moves, MovesBy, Plays, armed_for, effect, lost_text};
 ghost use Rattle.boot_machine.specs.Ranges.{AreInRange};
-ghost use Rattle.boot_machine.specs.Runs.{AnswersTarget, BeginsDownload, IsFresh, IsBootIntoRam, PlaysWriting, StartsRam, served_by, with_cut};
-ghost use Rattle.boot_machine.specs.Serving.{followed, ruling_on, served, table_of, taken_in};
+ghost use Rattle.boot_machine.specs.Runs.{AnswersTarget, BeginsDownload, HasDone, IsFresh, IsBootIntoRam, PlaysWriting, StartsRam, served_by, with_cut};
+ghost use Rattle.boot_machine.specs.Serving.{followed, ruling_on, served, table_of, taken_in, wanted_in};
+ghost use Rattle.boot_machine.specs.Standing.{Carries, IsStep};
+ghost use Rattle.boot_machine.specs.declared.parts.Parts.{Parts};
+ghost use Rattle.boot_machine.specs.declared.state.State.TheVariants.{Off as POWERLESS};
+ghost use Rattle.boot_rules.specs.Chosen.{Chosen};
+ghost use Rattle.boot_rules.specs.declared.decision.Decision.TheVariants.{Start};
+ghost use Rattle.slot_choice.specs.declared.choice.Choice.{Choice};
+ghost use Rattle.sector_pool.specs.Pool.{Pool};
+ghost use Rattle.uf2_place.specs.Accepting.{Kept};
+ghost use Rattle.pico_board.specs.Board.{Rose, State as BoardState};
+ghost use Rattle.pico_board.specs.declared.Step.{Step};
+ghost use Rattle.part_table.specs.declared.Table.{Table};
 ghost use Rattle.boot_rules.specs.Targets.{target_of};
 ghost use Rattle.boot_script.specs.Events.{Happening};
 ghost use Rattle.info_reply.specs.Infos.{target_words};
@@ -28,7 +39,7 @@ ghost use Rattle.image_def.specs.declared.started.Started.{Started};
 ghost use Rattle.ram_start.specs.Serving.{is_ram_command};
 ghost use Rattle.ram_start.specs.Sram.{RamWrite, ram_after};
 ghost use Rattle.uf2_place.specs.Placement.{grown, sector_in};
-ghost use Rattle.uf2_place.specs.Rulings.{begun, is_within};
+ghost use Rattle.uf2_place.specs.Rulings.{begun, is_within, ruling, wanted};
 ghost use Rattle.uf2_place.specs.declared.answer.PlaceFault.TheVariants.{NoTarget, NotPermitted, Outside};
 ghost use Rattle.uf2_place.specs.declared.block.Uf2.{Uf2};
 
@@ -238,4 +249,38 @@ pub fn the_table_is_kept()
     ensures power { (m n : Machine) (other : Host) (text : List ℕ)
         → m.place ≡ Off → Moves m Happening.PowerOn n text → n.place ≡ InBootsel other
         → InBootsel other ≡ entered n.content }
+{}
+
+/// Whatever is recorded of a board, a step whose line does not say that power was lost appends the
+/// event's steps to it, here to what was done from a content on; where the line says so, the board
+/// has no power, and its count of cuts rose.
+pub fn a_step_tells_what_it_did()
+    ensures recorded { (c : Content) (old new : Parts BoardState) (m : Machine) (event : Happening)
+        (line : List ℕ) (steps : List Step) → IsStep (λ s. s) (HasDone c) old m event new line
+        → line ≢ lost_text → HasDone c old.board steps
+        → HasDone c new.board (steps ++ (effect m event).steps) }
+    ensures lost { (c : Content) (old new : Parts BoardState) (m : Machine) (event : Happening)
+        (line : List ℕ) → IsStep (λ s. s) (HasDone c) old m event new line → line ≡ lost_text
+        → (new.state ≡ POWERLESS) × (new.board.powered ≡ false)
+        × Rose old.board.cuts new.board.cuts }
+{}
+
+/// In every run that begins without power or in BOOTSEL as it is entered, a trial image that runs
+/// is what a boot chooses on the content as it is: its start wrote nothing, and nothing is written
+/// while it runs. So what is said of the own writes of a buy holds of each buy in a run.
+pub fn a_running_trial_is_chosen()
+    ensures { (m n : Machine) (events : List Happening) (texts : List (List ℕ)) (choice : Choice)
+        → IsFresh m.place → Plays m events n texts → n.place ≡ Running (FromFlash choice)
+        → choice.image.trial ≡ true
+        → (kind : BootKind) × Chosen n.content n.cpu kind (Start choice) }
+{}
+
+/// The ruling on a block by the blocks that a download stands for is the ruling by what the
+/// download keeps, whose answers come by their rules.
+pub fn rulings_are_by_the_blocks()
+    ensures { (n : ℕ) (table : Option Table) (c : Content) (cpu : Cpu) (d : Kept) (pool : Pool)
+        (placing : Option Placing) (b : Uf2) → Carries d pool placing
+        → ruling_on n table (target_of c table cpu b.family) placing b
+        ≡ ruling n table (wanted_in c table cpu (wanted n d.current b)) d.marks.numbers d.current
+        b }
 {}
