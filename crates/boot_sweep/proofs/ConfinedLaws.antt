@@ -30,7 +30,7 @@ use Rattle.boot_rules.proofs.DataLemmas.{same-bytes, same-length, same-table}
 use Rattle.boot_rules.proofs.DecisionLemmas.{chosen-exactly}
 use Rattle.boot_rules.proofs.StartLemmas.{chosen-start}
 use Rattle.boot_machine.proofs.LeftImageLemmas.{units-same}
-use Rattle.boot_sweep.specs.Results.{StartsElsewhere, StartsThere}
+use Rattle.boot_sweep.specs.Results.{ConfinedSession, StartsElsewhere, StartsThere}
 use Rattle.boot_sweep.proofs.NeighbourLemmas.{here-or-apart, slots-apart}
 
 -- the images of a normal boot, which allows no trial image
@@ -217,3 +217,15 @@ pub confined-table : (c : Content) (w : Window) (cpu : Cpu) (steps : List Step) 
     → table_in d ≡ Some found
 confined-table c w cpu steps d found right home confined leaves is =
     table-stays c w cpu right home d (confined-MayLeave c w steps d confined leaves) found is
+
+-- the same by the record of its premises
+pub confined-session : (c : Content) (w : Window) (cpu : Cpu) (steps : List Step) (d : Content) (e : Decision)
+    → ConfinedSession c w cpu steps d e → Chosen d cpu Normal e ⊎ StartsThere d w cpu
+confined-session c w cpu steps d e s =
+    confined-decision c w cpu steps d e s.right s.home s.confined s.leaves (same (table_in c) refl) s.former
+    s.elsewhere
+  where
+    same : (o : Option Found) → table_in c ≡ o → table_in d ≡ table_in c
+    same None none = s.table none ∙ sym none
+    same (Some found) is =
+        confined-table c w cpu steps d found s.right s.home s.confined s.leaves is ∙ sym is

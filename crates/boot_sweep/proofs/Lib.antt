@@ -5,3 +5,6 @@ pub mod PlanStepLemmas
 pub mod PlanSlotLemmas
 pub mod PlanServedLemmas
 pub mod PlanLaws
+mod PlayLemmas
+mod TargetLemmas
+mod OutsideLaws

@@ -30,6 +30,23 @@ same-or-other A B = inr refl
 same-or-other B A = inr refl
 same-or-other B B = inl refl
 
+-- a window behind both table slots stands apart from them
+pub placed-apart : (c : Content) (w : Window) → IsContent c
+    → IsPlaced w (length c.flash / 4096) (2 * slot_size c.otp (length c.flash) / 4096)
+    → AreApart (slot_window (slot_size c.otp (length c.flash)) 0) w
+    × AreApart (slot_window (slot_size c.otp (length c.flash)) 1) w
+placed-apart c w right placed =
+    let z = slot_size c.otp (length c.flash) in
+    let size = slot-size c.otp (length c.flash) right.flash_length.least in
+    let whole = size.whole in
+    let both : 4096 * (2 * z / 4096) ≡ 2 * z = omega (arith, whole) in
+    let apart = apart_from_slots z (2 * z / 4096) (length c.flash / 4096) w both placed in
+    let never : 0 ≡ 0 * z = omega arith in
+    let once : z ≡ 1 * z = omega arith in (
+      subst (λ k. AreApart (record { start = k; len = z }) w) never apart.0,
+      subst (λ k. AreApart (record { start = k; len = z }) w) once apart.1,
+    )
+
 module _ (c : Content) (w : Window) (cpu : Cpu) (right : IsContent c) (home : Home c w cpu) where
   abbrev n : ℕ
   n = length c.flash
@@ -79,14 +96,4 @@ module _ (c : Content) (w : Window) (cpu : Cpu) (right : IsContent c) (home : Ho
         (subst (λ u. IsMember u w) boot.1.unit in-unit)
 
     pub slots-apart : AreApart (slot_window z 0) w × AreApart (slot_window z 1) w
-    slots-apart =
-        let size = slot-size c.otp n right.flash_length.least in
-        let whole = size.whole in
-        let both : 4096 * (2 * z / 4096) ≡ 2 * z = omega (arith, whole) in
-        let apart = apart_from_slots z (2 * z / 4096) (n / 4096) w both behind-slots in
-        let never : 0 ≡ 0 * z = omega arith in
-        let once : z ≡ 1 * z = omega arith in (
-          subst (λ k. AreApart (record { start = k; len = z }) w) never apart.0,
-          subst
-              (λ k. AreApart (record { start = k; len = z }) w) once apart.1,
-        )
+    slots-apart = placed-apart c w right behind-slots

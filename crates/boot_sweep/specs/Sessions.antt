@@ -1,18 +1,19 @@
 -- The session of a script: what its host writes, from BOOTSEL on, up to the boot that it asks for.
 -- This project's own.
-use Rattle.std.specs.Prelude.{◌≡◌, ◌⊎◌, ℕ, ◌<◌, if◌then◌else◌, List, [], ◌∷◌, ◌++◌, length, Option, Some, None}
+use Rattle.std.specs.Prelude.{◌≡◌, ◌⊎◌, ⊤, ℕ, ◌<◌, Bool, true, false, MatchBool, if◌then◌else◌, List, [], ◌∷◌, ◌++◌, length, Option, Some, None}
 use Rattle.pico_board.specs.declared.Step.{Step}
 use Rattle.pico_board.specs.declared.boot.Cpu.{Cpu}
 use Rattle.pico_board.specs.declared.boot.BootKind.{BootKind}
 use Rattle.pico_board.specs.declared.window.Window.{Window}
 use Rattle.pico_board.specs.Content.{Content}
-use Rattle.pico_board.specs.Steps.{after_all}
+use Rattle.pico_board.specs.Steps.{CutOf, after_all}
 use Rattle.part_table.specs.Windows.{partition_window}
 use Rattle.ram_start.specs.Sram.{zero_ram}
 use Rattle.boot_rules.specs.declared.tables.Found.{Found}
 use Rattle.boot_rules.specs.Chosen.{Home}
 use Rattle.boot_rules.specs.Tables.{table_in}
 use Rattle.boot_script.specs.Events.{Happening}
+use Rattle.boot_machine.specs.Boots.{booted}
 use Rattle.boot_machine.specs.Machines.{Host, Place, Off, InBootsel, Running}
 use Rattle.boot_machine.specs.Serving.{is_hosted, served}
 
@@ -46,3 +47,29 @@ IsSlotOf c cpu w =
     ((found : Found) × (i : ℕ) × (table_in c ≡ Some found) × (i < length found.table.parts.items)
     × (w ≡ partition_window found.table i))
     ⊎ ((table_in c ≡ None) × Home c w cpu)
+
+-- the event makes a boot by itself
+abbrev pub makes_boot : Happening → Bool
+makes_boot Happening.PowerOn = true
+makes_boot (Happening.Reset kind) = true
+makes_boot event = false
+
+-- what follows an event that asks for no boot and stays in BOOTSEL
+abbrev pub stays_on : (Host → Type 0) → Option BootKind → Place → Type 0
+stays_on rest (Some kind) place = ⊥
+stays_on rest None Off = ⊥
+stays_on rest None (Running program) = ⊥
+stays_on rest None (InBootsel host) = rest host
+
+-- none of the events makes a boot, asks for one, or starts an image in RAM
+abbrev pub StaysIn : Content → Cpu → Host → List Happening → Type 0
+StaysIn c cpu host [] = ⊤
+StaysIn c cpu host (event ∷ events) =
+    (makes_boot event ≡ false)
+    × MatchBool (is_hosted event) (let s = served c cpu host event in
+    stays_on (λ next. StaysIn (after_all c s.steps) cpu next events) s.boot s.place)
+    (StaysIn c cpu host events)
+
+-- power was lost in what a boot on the content writes
+abbrev pub IsCutBoot : Content → Cpu → Content → Type 0
+IsCutBoot c cpu d = (kind : BootKind) × CutOf c (booted c cpu kind []).steps d

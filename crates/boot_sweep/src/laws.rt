@@ -1,25 +1,33 @@
 //! Laws on what a session on one slot of a pair leaves, each the contract of a function that does
 //! nothing.
 
-ghost use Rattle.std.specs.Prelude.{◌≡◌, ◌⊎◌, ℕ, ◌+◌, ◌<◌, ◌≤◌, List, Ok, Some, length, slice_index};
+ghost use Rattle.std.specs.Prelude.{◌≡◌, ◌≢◌, ◌⊎◌, ◌++◌, ◌∷◌, [], ℕ, ◌+◌, ◌<◌, ◌≤◌, List, Ok, Some, length, slice_index, true};
 ghost use Rattle.boot_script.specs.Events.{Happening};
 ghost use Rattle.boot_script.specs.Scripts.{events};
 ghost use Rattle.image_pack.specs.Plans.{plan_text};
-ghost use Rattle.boot_sweep.specs.Sessions.{IsSlotOf, session};
+ghost use Rattle.boot_sweep.specs.Sessions.{IsCutBoot, IsSlotOf, StaysIn, entered_host, session};
+ghost use Rattle.boot_machine.specs.Boots.{entered};
+ghost use Rattle.boot_machine.specs.Machines.{Machine, Off};
+ghost use Rattle.boot_machine.specs.Moves.{Plays};
+ghost use Rattle.boot_machine.specs.Serving.{is_hosted};
 ghost use Rattle.pico_board.specs.Content.{Content, IsContent};
 ghost use Rattle.pico_board.specs.Sessions.{Confined, Gated, Unfinished};
-ghost use Rattle.pico_board.specs.Steps.{MayLeave, after_all};
+ghost use Rattle.pico_board.specs.Steps.{CutOf, MayLeave, after_all};
 ghost use Rattle.pico_board.specs.declared.Step.{Step};
 ghost use Rattle.pico_board.specs.declared.boot.BootKind.TheVariants.{Normal};
 ghost use Rattle.pico_board.specs.declared.boot.Cpu.{Cpu};
 ghost use Rattle.pico_board.specs.declared.window.Window.{Window};
 ghost use Rattle.slot_choice.specs.declared.choice.Choice.{Choice};
 ghost use Rattle.boot_rules.specs.Chosen.{Chosen, Home};
+ghost use Rattle.boot_rules.specs.Starts.{table_of_content};
 ghost use Rattle.boot_rules.specs.Tables.{table_in};
+ghost use Rattle.boot_rules.specs.Targets.{target_of};
+ghost use Rattle.part_table.specs.declared.Target.{Target};
+ghost use Rattle.part_table.specs.Windows.{partition_window};
 ghost use Rattle.boot_rules.specs.declared.decision.Decision.{Decision};
 ghost use Rattle.boot_rules.specs.declared.decision.Decision.TheVariants.{Start};
 ghost use Rattle.boot_rules.specs.declared.tables.Found.{Found};
-ghost use Rattle.boot_sweep.specs.Results.{CutSession, StartsElsewhere, StartsFinished, StartsThere};
+ghost use Rattle.boot_sweep.specs.Results.{ConfinedSession, CutSession, IsInNoUnit, StartsElsewhere, StartsFinished, StartsThere};
 
 use image_pack::laws::{the_commands_of_a_plan, the_events_of_a_plan};
 use picoboot_cmd::laws::{
@@ -47,6 +55,19 @@ pub fn confined_session()
         (found : Found)
         → IsContent c → Home c w cpu → Confined steps w → MayLeave c steps d
         → table_in c ≡ Some found → table_in d ≡ Some found }
+    ensures session { (c : Content) (w : Window) (cpu : Cpu) (steps : List Step) (d : Content)
+        (e : Decision)
+        → ConfinedSession c w cpu steps d e → Chosen d cpu Normal e ⊎ StartsThere d w cpu }
+{}
+
+/// Where a session keeps to a partition that is in no boot unit, as a partition of data, the next
+/// normal boot after it, or after power was lost in it, decides as before.
+pub fn partitions_in_no_unit_decide_nothing()
+    ensures { (c : Content) (w : Window) (cpu : Cpu) (steps : List Step) (d : Content)
+        (e : Decision) (found : Found) (i : ℕ)
+        → IsContent c → table_in c ≡ Some found → i < length found.table.parts.items
+        → w ≡ partition_window found.table i → IsInNoUnit c cpu w
+        → Confined steps w → MayLeave c steps d → Chosen c cpu Normal e → Chosen d cpu Normal e }
 {}
 
 /// Where power is lost in a gated session on one slot of a pair, of which a normal boot before it
@@ -84,3 +105,37 @@ pub fn gated_plan()
     the_checks_of_each_command();
     a_range_is_allowed_byte_by_byte();
 }
+
+/// Where a download goes is a slot of the content, or the whole flash; a gated target is a slot. So
+/// the session of a plan for a gated target, or for a partition, is gated on its window.
+pub fn targets_are_slots()
+    ensures stands { (c : Content) (cpu : Cpu) (family : ℕ) (target : Target)
+        → target_of c (table_of_content c) cpu family ≡ Some target
+        → IsSlotOf c cpu target.window
+        ⊎ (target.window ≡ record { start = 0; len = length c.flash }) }
+    ensures gated { (c : Content) (cpu : Cpu) (family : ℕ) (target : Target)
+        → target_of c (table_of_content c) cpu family ≡ Some target → target.gated ≡ true
+        → IsSlotOf c cpu target.window }
+{}
+
+/// What a machine that has entered BOOTSEL does of a script is its session. Where no event makes a
+/// boot, asks for one, or starts an image in RAM, the machine is behind all steps of the session,
+/// or it is without power, which was lost in them. Where the last event may ask for a boot too,
+/// power that is lost was lost in the session, or in what that boot writes behind it.
+pub fn plays_do_sessions()
+    ensures whole { (m n : Machine) (es : List Happening) (texts : List (List ℕ))
+        → m.place ≡ entered m.content → StaysIn m.content m.cpu (entered_host m.content) es
+        → Plays m es n texts → n.place ≢ Off
+        → n.content ≡ after_all m.content (session m.content m.cpu es) }
+    ensures lost { (m n : Machine) (es : List Happening) (texts : List (List ℕ))
+        → m.place ≡ entered m.content → StaysIn m.content m.cpu (entered_host m.content) es
+        → Plays m es n texts → n.place ≡ Off
+        → CutOf m.content (session m.content m.cpu es) n.content }
+    ensures last { (m n : Machine) (es : List Happening) (last : Happening)
+        (texts : List (List ℕ))
+        → m.place ≡ entered m.content → StaysIn m.content m.cpu (entered_host m.content) es
+        → is_hosted last ≡ true → Plays m (es ++ last ∷ []) n texts → n.place ≡ Off
+        → CutOf m.content (session m.content m.cpu (es ++ last ∷ [])) n.content
+        ⊎ IsCutBoot (after_all m.content (session m.content m.cpu (es ++ last ∷ []))) m.cpu
+        n.content }
+{}

@@ -1,4 +1,4 @@
-use Rattle.boot_sweep.proofs.ConfinedLaws.{confined-decision, confined-start, confined-table}
+use Rattle.boot_sweep.proofs.ConfinedLaws.{confined-decision, confined-session, confined-start, confined-table}
 use Rattle.boot_sweep.proofs.laws.confined_session.Goals as goal
 
 pub returns-clause-decision : goal.returns-clause-decision
@@ -12,3 +12,6 @@ returns-clause-start c = λ content w cpu steps d choice right home confined lea
 pub returns-clause-table : goal.returns-clause-table
 returns-clause-table c = λ content w cpu steps d found right home confined leaves is.
     confined-table content w cpu steps d found right home confined leaves is
+
+pub returns-clause-session : goal.returns-clause-session
+returns-clause-session c = confined-session
