@@ -5,6 +5,10 @@ pub mod PlanStepLemmas
 pub mod PlanSlotLemmas
 pub mod PlanServedLemmas
 pub mod PlanLaws
+mod ExampleLemmas
 mod PlayLemmas
 mod TargetLemmas
+mod CutBetweenLemmas
+mod CutBehindLemmas
+mod CutWithinLemmas
 mod OutsideLaws
