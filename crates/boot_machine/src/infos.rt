@@ -18,14 +18,11 @@ use arrayvec::ArrayString;
 use boot_lines::set_answer;
 use boot_rules::{Found, Target, target};
 use info_reply::{Ask, Device, info_ask, info_put};
-use otp_roll::slot_size;
+use otp_roll::{BOOT_FLAGS, slot_size};
 use part_table::Table;
 use pico_board::{Board, Cpu};
 use picoboot_cmd::{Cmd, HashReply};
 use sector_pool::SectorPool;
-
-/// The row of the boot flags.
-const BOOT_FLAGS: u16 = 0x048;
 
 /// What is told of the board.
 fn device_of<B: Board>(board: &B, cpu: Cpu) -> Device

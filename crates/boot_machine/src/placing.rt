@@ -18,12 +18,9 @@ use arrayvec::ArrayString;
 use boot_lines::{set_accepted, set_refusal};
 use boot_rules::{Found, Target, is_executable, target};
 use part_table::Table;
-use pico_board::{Board, BootKind, Cpu, PowerLost};
+use pico_board::{Board, BootKind, Cpu, FLASH_BASE, PowerLost};
 use sector_pool::SectorPool;
 use uf2_place::{Accepted, Download, PlaceFault, Uf2};
-
-/// The address of the first byte of the flash.
-const FLASH_BASE: u32 = 0x1000_0000;
 
 /// The boot that a download into this target asks for once it is done.
 fn done_boot(family: u32, target: Target) -> Option<BootKind>

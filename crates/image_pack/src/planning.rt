@@ -7,7 +7,7 @@ ghost use Rattle.image_pack.specs.Plans.{IsPlanned, erase_cmd, last_events, plan
 
 use boot_script::{Event, write_event};
 use byteorder::{ByteOrder, LittleEndian};
-use pico_board::{BootKind, Window};
+use pico_board::{BootKind, FLASH_BASE, Window};
 use picoboot_cmd::kinds::{ERASE, REBOOT, WRITE};
 use picoboot_cmd::{Cmd, write_cmd};
 use std::alloc::{AllocError, Global};
@@ -15,9 +15,6 @@ use thiserror::Error;
 
 /// The number of bytes of a sector.
 const SECTOR: u32 = 4096;
-
-/// The address at which the flash's first byte is seen.
-const FLASH_BASE: u32 = 0x1000_0000;
 
 /// The flags of a reboot into an update.
 const UPDATE: u32 = 4;

@@ -5,9 +5,7 @@ ghost use Rattle.picoboot_cmd.specs.Arguments.{address, ecc, first_row, offset, 
 
 use crate::cmd::Cmd;
 use byteorder::{ByteOrder, LittleEndian};
-
-/// The address of the first byte of the flash.
-pub(crate) const FLASH_BASE: u32 = 0x1000_0000;
+use pico_board::FLASH_BASE;
 
 impl Cmd {
     /// The address of an erase, a read or a write.

@@ -10,7 +10,6 @@ ghost use Rattle.picoboot_cmd.specs.Rows.{are_row_words, keeps_raised};
 ghost use Rattle.part_table.specs.Sound.{IsSoundFor};
 ghost use Rattle.picoboot_cmd.specs.Sectors.{TellsRights, all_allowed, range_allowed};
 
-use crate::arguments::FLASH_BASE;
 use crate::cmd::Cmd;
 use crate::kinds::{
     ADDRESS, ALIGNMENT, COMMAND_LENGTH, ENTER_XIP, ERASE, EXCLUSIVE, EXIT_XIP, INVALID_ARGUMENT,
@@ -19,7 +18,7 @@ use crate::kinds::{
 };
 use crate::words::word_at;
 use part_table::{Right, Table};
-use pico_board::Board;
+use pico_board::{Board, FLASH_BASE};
 
 /// The bytes of a sector.
 const SECTOR: u32 = 4096;

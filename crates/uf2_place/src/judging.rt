@@ -14,9 +14,8 @@ use crate::current::Current;
 use crate::marks::Marks;
 use crate::pages::sector_in;
 use part_table::{Right, Table, Target};
+use pico_board::FLASH_BASE;
 
-/// The address of the first byte of a flash or of a target.
-pub const FLASH_BASE: u32 = 0x1000_0000;
 /// The family of blocks at absolute addresses.
 const ABSOLUTE: u32 = 0xe48b_ff57;
 

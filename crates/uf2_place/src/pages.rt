@@ -4,8 +4,7 @@ ghost use Rattle.std.specs.Prelude.{◌≡◌, ◌+◌, ◌-◌, ◌*◌, ◌<�
 ghost use Rattle.uf2_place.specs.Placement.{IsInside, page_in, sector_in, first_in};
 
 use crate::block::Uf2;
-use crate::judging::FLASH_BASE;
-use pico_board::Window;
+use pico_board::{FLASH_BASE, Window};
 
 /// The number of the flash page of a block that lies in the window.
 pub fn page_in(window: Window, block: &Uf2) -> u32

@@ -6,12 +6,8 @@ ghost use Rattle.uf2_place.specs.Files.{IsKept, file_block, file_bytes, page_cou
 ghost use Rattle.uf2_place.specs.declared.block.Uf2WriteFault.TheVariants.{Empty, TooLarge};
 
 use crate::block::{END, HAS_FAMILY, PAYLOAD, SECOND, START, Uf2, Uf2WriteFault};
+use pico_board::{FLASH_BASE, MOST_FLASH_BYTES};
 use std::alloc::{AllocError, Global};
-
-/// The most bytes of an image.
-const MOST_BYTES: usize = 16_777_216;
-/// The address of an image's first byte.
-const FLASH_BASE: u32 = 0x1000_0000;
 
 /// Appends the UF2 file of an image for a family: a block for each page of 256 bytes, the last one
 /// filled with 0xff.
@@ -31,7 +27,7 @@ pub fn write_uf2(
     if image.is_empty() {
         return Err(Uf2WriteFault::Empty);
     }
-    if image.len() > MOST_BYTES {
+    if image.len() > MOST_FLASH_BYTES {
         return Err(Uf2WriteFault::TooLarge);
     }
     let former = out.len();
