@@ -1,0 +1,97 @@
+#!/usr/bin/env python3
+"""Compares docs/FAULTS.md with the texts in the code of the program.
+
+    faults.py
+
+Run it at the top of the repository. Each text that the code of the program can put has to stand in
+docs/FAULTS.md, in code marks, or below among the texts that tell no fault; and each fault of that
+page has to stand in the code. Numbers and names that vary count as equal. The last line is
+`N faults are explained, M texts are not, K faults are in no code`, and the status is 0 where M and
+K are 0.
+"""
+
+import pathlib
+import re
+import sys
+
+PAGE = "docs/FAULTS.md"
+CODE = "crates/*/src/**/*.rt"
+# The names of JSON members, which the texts of their faults have.
+FIELDS = "crates/table_json/src/fault.rt"
+# Crates and files that put no text by themselves: what they have in quotes is read, or is tested.
+NO_CRATE = re.compile(r"crates/(boot_cli|table_json|\w+_tests)/")
+NO_FILE = re.compile(r"(^|[/_])(tests?|examples|laws|usage|words|values)(/|\.rt$)")
+
+# Texts that tell no fault.
+OTHERS = """
+end|taken|done|buy done|cut armed|none|yes|no|running|bootsel|0x
+{}|{} {}
+gen n={} sha256={}|plan {} bytes={}|sealed bytes={} block={}|uf2 blocks={}
+window={}+{}|block={} pc={} sp={} limit={}|version={}.{}
+start {} {} {} rollback={} trial={}|image {} ok {} rollback={}|data {}|end state={}
+table slot={} {} partitions={}|table bytes=4096 partitions={}
+input {}: {}|image {} fault={}
+"""
+
+
+def plain(text):
+    """A text with `*` for what varies in it, and without that at its end."""
+    text = re.sub(r"\{[^}]*\}|\b[A-Z]+\b|0x[A-Z]+\b", "*", text.replace("\\n", ""))
+    text = text.replace("0x*", "*").removeprefix("uf2 * ")  # such a line is put in parts
+    return re.sub(r"( \*)+$", "", text).strip()
+
+
+def code_files():
+    files = sorted(it.as_posix() for it in pathlib.Path(".").glob(CODE))
+    return [it for it in files if not NO_CRATE.match(it) and not NO_FILE.search(it)]
+
+
+def code_texts(files):
+    """The texts in the code, each with a file that has it."""
+    found = {}
+    for file in files:
+        code = pathlib.Path(file).read_text(encoding="utf-8")
+        code = re.sub(r"(?m)^\s*(//|ghost use|#\[).*$", "", code)
+        code = re.sub(r"(?s)\b(requires|ensures)\b[^{]*\{.*?\}\n", "\n", code)
+        for text in re.findall(r'"((?:[^"\\]|\\.)*)"', code):
+            # what begins or ends with a blank or a sign is a part of a line
+            if re.search(r"[a-z]", text) and not re.search(r"^[ .+]|[ =+]$", text):
+                found.setdefault(plain(text), file)
+    return found
+
+
+def marks(text):
+    return {plain(it) for it in re.findall(r"`([^`]+)`", text)}
+
+
+def page_names():
+    """The faults that have a row, the names that other lines explain, and the names of members."""
+    rows, others, fields = set(), set(), set()
+    for line in pathlib.Path(PAGE).read_text(encoding="utf-8").splitlines():
+        cells = line.strip("| ").split(" | ")
+        if line.startswith("FIELD is "):
+            fields |= marks(line)
+        elif not line.startswith("|") or "PLACE is " in line:
+            others |= marks(line)
+        if line.startswith("|"):
+            rows |= {plain(it.strip("`")) for it in cells[:2] if re.fullmatch(r"`[^`]+`", it)}
+    return rows - {"", "status="}, others, fields
+
+
+def main():
+    rows, others, fields = page_names()
+    others |= {plain(it) for line in OTHERS.split("\n") for it in line.split("|")}
+    texts, members = code_texts(code_files()), code_texts([FIELDS])
+    missing = {it: texts[it] for it in sorted(texts) if it not in rows | others}
+    missing.update({it: members[it] for it in sorted(members) if it not in fields})
+    for text, file in missing.items():
+        print(f"{PAGE} does not have `{text}`, of {file}")
+    gone = sorted(rows - set(texts)) + sorted(fields - set(members))
+    for text in gone:
+        print(f"no code has `{text}`, of {PAGE}")
+    print(f"{len(rows)} faults are explained, {len(missing)} texts are not, "
+          f"{len(gone)} faults are in no code")
+    sys.exit(1 if missing or gone or not rows else 0)
+
+
+main()
