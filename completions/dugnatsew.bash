@@ -1,0 +1,40 @@
+# Completion of dugnatsew's words for bash: source this file, or install it where bash looks.
+
+_dugnatsew() {
+    local word=${COMP_WORDS[COMP_CWORD]} words=""
+    COMPREPLY=()
+    case $(_dugnatsew_form "${COMP_WORDS[1]}" "$COMP_CWORD") in
+        COMMAND) words="boot info data replay seal table uf2 plan gen --help --version" ;;
+        CPU) words="arm riscv" ;;
+        KIND) words="normal bootsel update=0x" ;;
+        FAMILY) words="rp2040 absolute data rp2350-arm-s rp2350-riscv rp2350-arm-ns" ;;
+        FILE)
+            compopt -o filenames 2> /dev/null
+            mapfile -t COMPREPLY < <(compgen -f -- "$word")
+            ;;
+    esac
+    if [ -n "$words" ]; then
+        mapfile -t COMPREPLY < <(compgen -W "$words" -- "$word")
+    fi
+    # eight digits follow
+    if [ "${COMPREPLY[*]}" = "update=0x" ]; then
+        compopt -o nospace 2> /dev/null
+    fi
+}
+
+# What stands at a place of the words that begin with this command.
+_dugnatsew_form() {
+    local -a forms=(COMMAND)
+    case $1 in
+        boot | data) forms+=(FILE FILE CPU KIND) ;;
+        info) forms+=(FILE FILE CPU) ;;
+        replay) forms+=(FILE FILE CPU FILE FILE FILE) ;;
+        seal) forms+=(FILE FILE FILE) ;;
+        table) forms+=(FILE FILE) ;;
+        uf2) forms+=(FILE FAMILY FILE) ;;
+        plan) forms+=(FILE FILE CPU FILE FILE) ;;
+    esac
+    echo "${forms[$2 - 1]}"
+}
+
+complete -F _dugnatsew dugnatsew
