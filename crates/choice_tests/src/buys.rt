@@ -1,0 +1,122 @@
+//! The buy of a trial image.
+
+ghost use Rattle.std.specs.Prelude.{◌≡◌, IsTrue, IfOk, true};
+ghost use Rattle.pico_board.specs.MemBoard.{state_of};
+
+use image_check::check;
+use pico_board::{Board, Cpu, MemBoard, Window};
+use sector_pool::SectorPool;
+use slot_choice::{Choice, Member};
+use std::alloc::{AllocError, Global};
+use std::process::Abort;
+use std::test::Fail;
+use trial_buy::buy;
+
+/// SP at the end of SRAM, and PC at 0x200 of the window in Thumb state.
+const VECTORS: [u32; 2] = [0x2008_2000, 0x1000_0201];
+
+/// The block of an image of version 1.1 with the trial bit set.
+const TRIAL: [u32; 7] = [
+    0xffff_ded3,
+    0x9021_0142,
+    0x0000_0248,
+    0x0001_0001,
+    0x0000_03ff,
+    0,
+    0xab12_3579,
+];
+
+/// The block of an image of version 1.1 with the trial bit clear.
+const PLAIN: [u32; 7] = [
+    0xffff_ded3,
+    0x1021_0142,
+    0x0000_0248,
+    0x0001_0001,
+    0x0000_03ff,
+    0,
+    0xab12_3579,
+];
+
+/// A flash of 16,384 bytes: the vectors and this block at 0, and at 8192; 0xff elsewhere.
+fn flash_of(alloc: Global, first: &[u32], second: &[u32]) -> Result<Vec<u8>, AllocError> {
+    let mut flash = Vec::new(alloc);
+    for place in 0..4096u32 {
+        let (at, block) = if place < 2048 {
+            (place, first)
+        } else {
+            (place - 2048, second)
+        };
+        let word = match at {
+            0 => VECTORS[0],
+            1 => VECTORS[1],
+            _ => block
+                .get(at.wrapping_sub(64) as usize)
+                .copied()
+                .unwrap_or(0xffff_ffff),
+        };
+        flash.extend_from_slice(&word.to_le_bytes())?;
+    }
+    Ok(flash)
+}
+
+/// A powered board of this flash and of an OTP of zeros.
+fn board_of(alloc: Global, flash: Vec<u8>) -> Result<MemBoard, Fail>
+    ensures power { IfOk result (λ board. IsTrue (state_of board).powered) }
+{
+    let rows = vec![in alloc; 0; 4096]?;
+    Ok(MemBoard::new(alloc, flash, rows)?)
+}
+
+/// The windows of A and B, of two sectors each.
+const FIRST: Window = Window {
+    start: 0,
+    len: 8192,
+};
+
+const SECOND: Window = Window {
+    start: 8192,
+    len: 8192,
+};
+
+/// Does a buy of the trial image in B, started in its update, and answers how many steps that took,
+/// what B's image is then, and whether A still has one.
+fn bought(rt: &impl Abort, alloc: Global, first: &[u32]) -> Result<(u64, bool, bool), Fail> {
+    let mut board = board_of(alloc, flash_of(alloc, first, &TRIAL)?)?;
+    let mut pool = SectorPool::make(alloc, 2)?;
+    assert!(rt; pool.free() == 2);
+    assert!(rt; board.flash_len() == 16384);
+    let Ok(image) = check(&board, &mut pool, SECOND, Cpu::Arm, true) else {
+        return Err("no image".into());
+    };
+    assert!(rt; image.trial);
+    let choice = Choice {
+        image,
+        member: Member::B,
+        other: Some(FIRST),
+        updated: true,
+    };
+    assert!(rt; buy(&mut board, &mut pool, Cpu::Arm, &choice).is_ok());
+    assert!(rt; board.powered());
+    assert!(rt; board.flash_len() == 16384);
+    assert!(rt; pool.free() == 2);
+    let steps = board.steps();
+    let plain = check(&board, &mut pool, SECOND, Cpu::Arm, false).is_ok();
+    let other = check(&board, &mut pool, FIRST, Cpu::Arm, false).is_ok();
+    Ok((steps, plain, other))
+}
+
+#[test]
+fn a_buy_rewrites_one_sector(rt: HostRuntime) -> Result<(), Fail> {
+    let lesser = [
+        0xffff_ded3,
+        0x1021_0142,
+        0x248,
+        0x0001_0000,
+        0x3ff,
+        0,
+        0xab12_3579,
+    ];
+    assert_eq!(rt; bought(&rt, rt.alloc(), &lesser)?, (17, true, true));
+    assert_eq!(rt; bought(&rt, rt.alloc(), &PLAIN)?, (18, true, false));
+    Ok(())
+}
