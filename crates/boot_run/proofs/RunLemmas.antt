@@ -1,6 +1,5 @@
--- What the clauses of the top call say, from the course of a run.
-use Rattle.std.proofs.Common.{◌≡◌, ◌⊎◌, ◌↔◌, ℕ, true, IsTrue, Option, Some, None, option_map, List, [], ◌∷◌, length, refl, sym, ◌∙◌, ap, subst, inl, inr}
-use Rattle.std.specs.Option.{option_or}
+-- What a run says, by the ways in which it ends.
+use Rattle.std.proofs.Common.{◌≡◌, ◌⊎◌, ◌↔◌, ℕ, true, IsTrue, List, [], ◌∷◌, length, Option, Some, None, refl, sym, ◌∙◌, ap, subst, inl, inr}
 use Rattle.pico_board.specs.declared.boot.Cpu.{Cpu}
 use Rattle.pico_board.specs.declared.boot.BootKind.{BootKind}
 use Rattle.pico_board.specs.declared.boot.BootKind.TheVariants.{Normal}
@@ -16,66 +15,53 @@ use Rattle.pico_board.specs.Puts.{SinkState, Put, IsPut}
 use Rattle.image_check.specs.NotBelow.{NotBelow}
 use Rattle.slot_choice.specs.declared.choice.Choice.{Choice}
 use Rattle.boot_rules.specs.declared.decision.Decision.{Decision}
-use Rattle.boot_rules.specs.declared.decision.Decision.TheVariants.{Start, Bootsel as FallsToBootsel}
-use Rattle.boot_rules.specs.Choosing.{decision_in}
+use Rattle.boot_rules.specs.declared.decision.Decision.TheVariants.{Start}
 use Rattle.boot_rules.specs.Chosen.{Chosen}
 use Rattle.boot_rules.proofs.DecisionLemmas.{chosen-decision, chosen-not_below}
-use Rattle.boot_run.specs.declared.status.Status.{Status}
-use Rattle.boot_run.specs.declared.status.Status.TheVariants.{Words, Input as Refused, ReadFault, WriteFault, OutputFault, Memory}
-use Rattle.boot_run.specs.declared.forms.Form.TheVariants.{Flash, Otp, Script}
-use Rattle.boot_run.specs.Commands.{Command, Boot}
-use Rattle.boot_run.specs.Forms.{HasForm, content_of}
-use Rattle.boot_run.specs.Texts.{decision_line}
-use Rattle.boot_run.specs.Works.{boot_work, is_fall}
-use Rattle.boot_run.specs.Outcome.{Outcome, Input, inputs_of, inputs_in, flash_and_otp, flash_otp_script, outcome_in, outcome_on, outcome_found, found, found_next, command_outcome, worked, unless_refused, first_fault, refused, answered_status, is_finished}
-use Rattle.boot_run.specs.Replays.{AreOfBytes}
-use Rattle.boot_run.specs.Rules.{Names, Obeys, IsRefused, decided_status}
-use Rattle.boot_run.specs.Courses.{Runs}
-use Rattle.boot_run.specs.Ends.{AreRead, LacksOne, Does, ShowsOutcome, LeftAt}
+use Rattle.run_course.specs.declared.status.Status.{Status}
+use Rattle.run_course.specs.declared.status.Status.TheVariants.{Words, Input as Refused, ReadFault, WriteFault, OutputFault, Memory}
+use Rattle.run_forms.specs.declared.forms.Form.TheVariants.{Flash, Otp}
+use Rattle.run_words.specs.Commands.{Command, Boot}
+use Rattle.run_forms.specs.Forms.{HasForm, content_of}
+use Rattle.run_texts.specs.Texts.{decision_line}
+use Rattle.board_work.specs.Works.{boot_work}
+use Rattle.run_course.specs.Outcomes.{Outcome, outcome_found, found, found_next, worked, is_finished}
+use Rattle.boot_run.specs.Works.{inputs_of, work_of, inputs_in, outcome_in, outcome_on, command_outcome}
+use Rattle.run_forms.specs.Inputs.{flash_and_otp, unless_refused}
+use Rattle.boot_run.specs.Rules.{Names, Obeys}
+use Rattle.boot_run.specs.Rules.{IsRefused}
+use Rattle.board_work.specs.Rules.{decided_status}
+use Rattle.run_course.specs.Courses.{Runs}
+use Rattle.run_course.specs.Ends.{AreRead, LacksOne, Does, ShowsOutcome, LeftAt}
 use Rattle.boot_run.proofs.RuleLemmas.{bytes-serve, obeys, refused-exactly}
-use Rattle.boot_run.proofs.OutcomeLemmas.{outcome-finished, outcome-words, outcome-told, not-lacking, no-fault}
-use Rattle.boot_run.proofs.EndLemmas.{RunEnd, run-end, room, unread, cut_short, whole, put_fault, put_memory, Finished, end-finished}
+use Rattle.run_course.proofs.ReadLemmas.{are-found, not-lacking, read-bytes}
+use Rattle.run_forms.specs.Inputs.{readings}
+use Rattle.run_forms.proofs.InputLemmas.{outcome-text, outcome-cut, formed-none, readings-long}
+use Rattle.board_work.proofs.BoardWorkLemmas.{decided, worked-decided}
+use Rattle.run_course.proofs.EndLemmas.{RunEnd, run-end, room, unread, cut_short, whole, put_fault, put_memory, Finished, end-finished}
 
--- a decision's outcome
-abbrev pub decided : Decision → Outcome
-decided d = record { status = decided_status d; text = decision_line d; files = [] }
+-- each outcome ends with a text
+pub outcome-finished : (command : Option Command) (read : List (List ℕ))
+    → is_finished (outcome_in command read).status ≡ true
+outcome-finished None read = refl
+outcome-finished (Some command) read = (outcome-text (inputs_of command) (work_of command) read).0
 
-pub fall-status : (d : Decision) → answered_status (is_fall d) ≡ decided_status d
-fall-status (Start choice) = refl
-fall-status (FallsToBootsel fall) = refl
+pub outcome-words : (command : Option Command) (read : List (List ℕ)) → (outcome_in command read).status ≡ Words
+    → command ≡ None
+outcome-words None read h = refl
+outcome-words (Some command) read h = absurd ((outcome-text (inputs_of command) (work_of command) read).1 h)
 
-pub worked-decided : (c : Content) (cpu : Cpu) (kind : BootKind)
-    → worked (boot_work c cpu kind) ≡ decided (decision_in c cpu kind)
-worked-decided c cpu kind =
-    ap (λ s. record { status = s; text = decision_line (decision_in c cpu kind); files = [] })
-    (fall-status (decision_in c cpu kind))
-
--- two files that have their forms have no fault
-pub no-first : (flash otp f g : List ℕ) → HasForm Flash f → HasForm Otp g
-    → first_fault (flash_and_otp flash otp) (f ∷ g ∷ []) ≡ None
-no-first flash otp f g flash_form otp_form =
-    ap (λ o. option_or (option_map (refused flash) o) (first_fault (record { name = otp; form = Otp } ∷ []) (g ∷ [])))
-    (no-fault Flash f flash_form)
-    ∙ ap (λ o. option_or (option_map (refused otp) o) None) (no-fault Otp g otp_form)
-
--- the same of three files
-pub no-first_script : (flash otp script f g s : List ℕ) → HasForm Flash f → HasForm Otp g → HasForm Script s
-    → first_fault (flash_otp_script flash otp script) (f ∷ g ∷ s ∷ []) ≡ None
-no-first_script flash otp script f g s flash_form otp_form script_form =
-    ap (λ o. option_or (option_map (refused flash) o)
-    (first_fault (record { name = otp; form = Otp } ∷ record { name = script; form = Script } ∷ []) (g ∷ s ∷ [])))
-    (no-fault Flash f flash_form)
-    ∙ (ap (λ o. option_or (option_map (refused otp) o)
-    (first_fault (record { name = script; form = Script } ∷ []) (s ∷ []))) (no-fault Otp g otp_form)
-    ∙ ap (λ o. option_or (option_map (refused script) o) None) (no-fault Script s script_form))
-
--- what was read is of bytes
-pub read-bytes : (files : Option (List File)) (inputs : List Input) (read : List (List ℕ)) → AreRead files inputs read
-    → AreOfBytes read
-read-bytes files [] [] are = tt
-read-bytes files [] (bytes ∷ read) are = absurd are
-read-bytes files (input ∷ inputs) [] are = absurd are
-read-bytes files (input ∷ inputs) (bytes ∷ read) are = (are.0, read-bytes files inputs read are.2)
+-- the outcome of what is read of told files is that of the files
+pub outcome-told : (command : Option Command) (files : List File) (read : List (List ℕ))
+    → AreRead (Some files) (inputs_in command) read
+    → outcome_in command read ≡ outcome_on command files
+outcome-told None files [] are = refl
+outcome-told None files (bytes ∷ read) are = absurd are
+outcome-told (Some command) files read are =
+    let f = are-found files (readings (inputs_of command)) read are in
+    ap (command_outcome command) f.is
+    ∙ (outcome-cut (inputs_of command) (work_of command) f.whole (f.long ∙ readings-long (inputs_of command)) ∙ sym
+    (ap (outcome_found (command_outcome command)) f.are))
 
 -- the outcome of a boot on told files that have their forms is the decision that the rules name
 pub boot-told : (flash otp f g : List ℕ) (cpu : Cpu) (kind : BootKind) (files : List File) (d : Decision)
@@ -84,13 +70,13 @@ pub boot-told : (flash otp f g : List ℕ) (cpu : Cpu) (kind : BootKind) (files 
     → HasForm Flash f → HasForm Otp g → Chosen (content_of f g) cpu kind d → outcome_on command files ≡ decided d
 boot-told flash otp f g cpu kind files d command asks is_f is_g flash_form otp_form chosen =
     let boot : Command = Boot flash otp cpu kind in
-    let there : found files (flash_and_otp flash otp) ≡ Some (f ∷ g ∷ []) =
+    let there : found files (readings (flash_and_otp flash otp)) ≡ Some (f ∷ g ∷ []) =
     ap (λ h. found_next h (found_next (file_of files otp) (Some []))) is_f ∙ ap
     (λ h. found_next (Some f) (found_next h (Some []))) is_g in
     ap (λ c. outcome_on c files) asks
-    ∙ (ap (outcome_found (Some boot)) there
+    ∙ (ap (outcome_found (command_outcome boot)) there
     ∙ (ap (λ o. unless_refused o (worked (boot_work (content_of f g) cpu kind)))
-    (no-first flash otp f g flash_form otp_form)
+    (formed-none (flash_and_otp flash otp) (f ∷ g ∷ []) (flash_form, (otp_form, tt)))
     ∙ (worked-decided (content_of f g) cpu kind ∙ ap decided
     (sym (chosen-decision (content_of f g) cpu kind d chosen)))))
 
@@ -227,12 +213,13 @@ module _ {S : Type 0} (state : S → StoreState) (history : S → List Access �
     pub right : Obeys c read o
     pub answer : status ≡ o.status
     pub input : (status ≡ Refused) ↔ IsRefused c read
-    pub does : Does state history shown taken (inputs_of c) read o old before new after
+    pub does : Does state history shown taken (readings (inputs_of c)) read o old before new after
 
   pub run-obeys : Ends → (c : Command) → command ≡ Some c → is_finished status ≡ true → RunObeys c
   run-obeys ends c asks h =
       let f = done ends h in
-      let long : length f.read ≡ length (inputs_of c) = f.long ∙ ap (λ x. length (inputs_in x)) asks in
+      let long : length f.read ≡ length (inputs_of c) =
+      f.long ∙ (ap (λ x. length (inputs_in x)) asks ∙ readings-long (inputs_of c)) in
       let is : status ≡ (command_outcome c f.read).status = f.is ∙ ap (λ x. (outcome_in x f.read).status) asks in
       let exactly = refused-exactly c f.read long in
       record {

@@ -1,93 +1,62 @@
--- The work of each command on a content, as a function. This project's own.
-use Rattle.std.specs.Prelude.{ℕ, Bool, true, false, List, [], ◌∷◌, ◌++◌, map, length, Option, Some, None, option_map, option_to_list}
-use Rattle.std.specs.List.{flat_map}
-use Rattle.pico_board.specs.declared.boot.Cpu.{Cpu}
-use Rattle.pico_board.specs.declared.boot.BootKind.{BootKind}
-use Rattle.pico_board.specs.declared.window.Window.{Window}
-use Rattle.pico_board.specs.Content.{Content}
+-- The commands: the inputs of each, and its work on their bytes, from which the outcome of a run
+-- follows. This project's own.
+use Rattle.std.specs.Prelude.{ℕ, false, List, [], Option, Some, None}
 use Rattle.pico_board.specs.Files.{File}
-use Rattle.otp_roll.specs.Flags.{slot_size}
-use Rattle.part_table.specs.Windows.{part_window}
-use Rattle.slot_choice.specs.declared.unit.SlotUnit.{SlotUnit}
-use Rattle.slot_choice.specs.Units.{units}
-use Rattle.image_check.specs.Image.{image_at}
-use Rattle.boot_rules.specs.declared.decision.Decision.{Decision}
-use Rattle.boot_rules.specs.declared.decision.Decision.TheVariants.{Start, Bootsel}
-use Rattle.boot_rules.specs.declared.tables.Found.{Found}
-use Rattle.boot_rules.specs.Choosing.{decision_in}
-use Rattle.boot_rules.specs.Tables.{table_in}
-use Rattle.boot_rules.specs.Data.{data_of}
-use Rattle.block_codec.specs.Words.{bytes_of}
-use Rattle.boot_run.specs.Forms.{script_events}
-use Rattle.boot_run.specs.Replays.{Played, played, powerless}
-use Rattle.boot_run.specs.Texts.{line, decision_line, table_text, image_text, data_text, event_lines, end_line}
+use Rattle.run_course.specs.Outcomes.{Input, Outcome, Work, Answers, not_understood, found, outcome_found}
+use Rattle.run_words.specs.Commands.{Command, Boot, Info, OwnedData, Replay, Seal, Table, Usage, Release, Uf2, Plan, Gen}
+use Rattle.run_words.specs.Usages.{usage_text, release_line}
+use Rattle.run_forms.specs.Forms.{content_of}
+use Rattle.run_forms.specs.Jsons.{spec_read, table_read}
+use Rattle.run_forms.specs.Inputs.{InputFile, readings, flash_and_otp, flash_otp_script, flash_otp_image, binary_and_spec, one_json, image_alone, of_one, of_two, of_three, outcome_by}
+use Rattle.board_work.specs.Works.{boot_work, info_work, data_work}
+use Rattle.script_work.specs.Works.{replay_work}
+use Rattle.tool_work.specs.Tools.{seal_work, table_work}
+use Rattle.tool_work.specs.ToolWorks.{uf2_work, plan_work, gen_work}
 
--- What the work of a command comes to on the bytes of its inputs: it answers whether a boot falls
--- to BOOTSEL, the text and the files to write, in word order; or it refuses an input, by its word,
--- with a fault.
-pub data Work : Type 0 where
-  Answers : (falls : Bool) → (text : List ℕ) → (files : List File) → Work
-  Refuses : (name fault : List ℕ) → Work
+-- the inputs of a command, in word order
+abbrev pub inputs_of : Command → List InputFile
+inputs_of (Boot flash otp cpu kind) = flash_and_otp flash otp
+inputs_of (Info flash otp cpu) = flash_and_otp flash otp
+inputs_of (OwnedData flash otp cpu kind) = flash_and_otp flash otp
+inputs_of (Replay flash otp cpu script out_flash out_otp) = flash_otp_script flash otp script
+inputs_of (Seal binary spec out) = binary_and_spec binary spec
+inputs_of (Table json out) = one_json json
+inputs_of (Uf2 image family out) = image_alone image
+inputs_of (Plan flash otp cpu image out) = flash_otp_image flash otp image
+inputs_of (Gen n) = []
+inputs_of Usage = []
+inputs_of Release = []
 
--- a decision is a fall to BOOTSEL
-abbrev pub is_fall : Decision → Bool
-is_fall (Start choice) = false
-is_fall (Bootsel fall) = true
+-- the work of a command on the bytes of its inputs
+abbrev pub work_of : Command → List (List ℕ) → Work
+work_of (Boot flash otp cpu kind) = of_two (λ f g. boot_work (content_of f g) cpu kind)
+work_of (Info flash otp cpu) = of_two (λ f g. info_work (content_of f g) cpu)
+work_of (OwnedData flash otp cpu kind) = of_two (λ f g. data_work (content_of f g) cpu kind)
+work_of (Replay flash otp cpu script out_flash out_otp) =
+    of_three (λ f g s. replay_work (content_of f g) cpu s out_flash out_otp)
+work_of (Seal binary spec out) = of_two (λ b s. seal_work binary spec out b (spec_read s))
+work_of (Table json out) = of_one (λ j. table_work out (table_read j))
+work_of (Uf2 image family out) = of_one (uf2_work image family out)
+work_of (Plan flash otp cpu image out) =
+    of_three (λ f g i. plan_work (content_of f g) cpu image out i)
+work_of (Gen n) = λ read. gen_work n
+work_of Usage = λ read. Answers false usage_text []
+work_of Release = λ read. Answers false release_line []
 
-abbrev pub boot_work : Content → Cpu → BootKind → Work
-boot_work c cpu kind =
-    Answers (is_fall (decision_in c cpu kind)) (decision_line (decision_in c cpu kind)) []
+-- the outcome of a command on the bytes of its inputs
+abbrev pub command_outcome : Command → List (List ℕ) → Outcome
+command_outcome command read = outcome_by (inputs_of command) (work_of command) read
 
--- the windows of a unit's members, A first
-abbrev pub unit_windows : SlotUnit → List Window
-unit_windows u = u.a ∷ option_to_list u.b
+-- what is read for the words: nothing where they are no command
+abbrev pub inputs_in : Option Command → List Input
+inputs_in None = []
+inputs_in (Some command) = readings (inputs_of command)
 
--- the windows of a flash of n bytes with slots of z bytes: those of the table's partitions, in
--- table order, or without a table those of the members of its one unit
-abbrev pub windows_of : Option Found → ℕ → ℕ → Cpu → List Window
-windows_of None n z cpu = flat_map unit_windows (units None n z cpu)
-windows_of (Some found) n z cpu = map part_window found.table.parts.items
+-- the outcome of the words on the bytes of the inputs
+abbrev pub outcome_in : Option Command → List (List ℕ) → Outcome
+outcome_in None read = not_understood
+outcome_in (Some command) read = command_outcome command read
 
--- the windows of a content
-abbrev pub windows_in : Content → Cpu → List Window
-windows_in c cpu = windows_of (table_in c) (length c.flash) (slot_size c.otp (length c.flash)) cpu
-
--- the line of a window, whose image is valid with trial not allowed, or why it is not
-abbrev pub window_line : Content → Cpu → Window → List ℕ
-window_line c cpu w = line (image_text w (image_at c w cpu false))
-
-abbrev pub info_work : Content → Cpu → Work
-info_work c cpu =
-    Answers false
-    (line (table_text (table_in c)) ++ flat_map (window_line c cpu) (windows_in c cpu)) []
-
--- the windows of the data of a decision; a fall has none
-abbrev pub decided_data : Content → Decision → List Window
-decided_data c (Start choice) = data_of (option_map (λ found. found.table) (table_in c)) choice
-decided_data c (Bootsel fall) = []
-
--- the line of a window of data
-abbrev pub data_line : Window → List ℕ
-data_line w = line (data_text w)
-
-abbrev pub data_work : Content → Cpu → BootKind → Work
-data_work c cpu kind =
-    let d = decision_in c cpu kind in Answers (is_fall d)
-    (decision_line d ++ flat_map data_line (decided_data c d)) []
-
--- the files of a content: the bytes of the whole flash, and each row of the OTP in four bytes, the
--- lowest first
-abbrev pub content_files : List ℕ → List ℕ → Content → List File
-content_files flash otp c =
-    record { name = flash; bytes = c.flash } ∷ record { name = otp; bytes = bytes_of c.otp } ∷ []
-
--- the events of a script that were played: their lines, and the content that they leave
-abbrev pub played_work : Played → List ℕ → List ℕ → Work
-played_work p flash otp =
-    Answers false (event_lines 0 p.texts ++ end_line p.last.place)
-    (content_files flash otp p.last.content)
-
--- a script on a machine without power
-abbrev pub replay_work : Content → Cpu → List ℕ → List ℕ → List ℕ → Work
-replay_work c cpu script flash otp =
-    played_work (played (powerless c cpu) (script_events script)) flash otp
+-- the outcome of the words on these files
+abbrev pub outcome_on : Option Command → List File → Outcome
+outcome_on command files = outcome_found (outcome_in command) (found files (inputs_in command))

@@ -17,21 +17,24 @@ ghost use Rattle.slot_choice.specs.declared.choice.Choice.{Choice};
 ghost use Rattle.boot_rules.specs.declared.decision.Decision.{Decision};
 ghost use Rattle.boot_rules.specs.declared.decision.Decision.TheVariants.{Start};
 ghost use Rattle.boot_rules.specs.Chosen.{Chosen};
-ghost use Rattle.boot_run.specs.Commands.{Command, Boot, asked};
-ghost use Rattle.boot_run.specs.Forms.{HasForm, content_of};
-ghost use Rattle.boot_run.specs.Texts.{decision_line};
-ghost use Rattle.boot_run.specs.Outcome.{Outcome, inputs_of, inputs_in, outcome_in, outcome_on, command_outcome, is_finished};
-ghost use Rattle.boot_run.specs.Courses.{Runs};
-ghost use Rattle.boot_run.specs.Rules.{Names, Obeys, IsRefused, decided_status};
-ghost use Rattle.boot_run.specs.Ends.{Does, ShowsOutcome, LacksOne, IsCutShort, IsPutShort};
-ghost use Rattle.boot_run.specs.Views.{command_from};
+ghost use Rattle.run_words.specs.Commands.{Command, Boot, asked};
+ghost use Rattle.run_forms.specs.Forms.{HasForm, content_of};
+ghost use Rattle.run_texts.specs.Texts.{decision_line};
+ghost use Rattle.run_forms.specs.Inputs.{readings};
+ghost use Rattle.run_course.specs.Outcomes.{Outcome, is_finished};
+ghost use Rattle.boot_run.specs.Works.{inputs_of, inputs_in, outcome_in, outcome_on, command_outcome};
+ghost use Rattle.run_course.specs.Courses.{Runs};
+ghost use Rattle.boot_run.specs.Rules.{Names, Obeys};
+ghost use Rattle.boot_run.specs.Rules.{IsRefused};
+ghost use Rattle.board_work.specs.Rules.{decided_status};
+ghost use Rattle.run_course.specs.Ends.{Does, ShowsOutcome, LacksOne, IsCutShort, IsPutShort};
+ghost use Rattle.run_words.specs.Views.{command_from};
 
-use crate::course::{finish, put_text, read_all};
-use crate::forms::Form;
-use crate::status::Status;
-use crate::words::{CommandWords, command};
 use crate::work::{answer, inputs};
 use pico_board::{Sink, SinkFail, Store};
+use run_course::{Status, finish, put_text, read_all};
+use run_forms::{Form, readings};
+use run_words::{CommandWords, command};
 use std::alloc::Global;
 
 /// Runs a command.
@@ -41,14 +44,19 @@ fn run_command<S: Store, K: Sink>(
     store: &mut S,
     out: &mut K,
 ) -> Status
-    ensures { Runs S.state S.history K.state K.history (inputs_of (command_from command.now))
+    ensures { Runs S.state S.history K.state K.history
+        (readings (inputs_of (command_from command.now)))
         (command_outcome (command_from command.now)) store.old out.old result store.new out.new }
 {
     let inputs = match inputs(alloc, command) {
         Ok(inputs) => inputs,
         Err(_) => return Status::Memory,
     };
-    let files = match read_all(alloc, &inputs, store) {
+    let words = match readings(alloc, &inputs) {
+        Ok(words) => words,
+        Err(_) => return Status::Memory,
+    };
+    let files = match read_all(alloc, &words, store) {
         Ok(files) => files,
         Err(status) => return status,
     };
@@ -124,7 +132,7 @@ pub fn run<S: Store, K: Sink>(
         → (read : List (List ℕ)) × (o : Outcome) × Obeys command read o × (result ≡ o.status)
         × ((result ≡ Status.Input) ↔ IsRefused command read)
         × Does S.state S.history K.state K.history
-        (inputs_of command) read o store.old out.old store.new out.new }
+        (readings (inputs_of command)) read o store.old out.old store.new out.new }
 
     // The calls of a run in their order, how it ends, and its outcome by the bytes that were read.
     ensures course { Runs S.state S.history K.state K.history (inputs_in (asked words.now))

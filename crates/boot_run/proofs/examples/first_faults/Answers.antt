@@ -1,6 +1,6 @@
 use Rattle.std.proofs.Common.{refl}
 use Rattle.std.specs.Fmt.{digits}
-use Rattle.boot_run.specs.Forms.{script_fault}
+use Rattle.run_forms.specs.Forms.{script_fault}
 use Rattle.boot_run.proofs.examples.first_faults.Goals as goal
 
 pub returns-clause-replay_script : goal.returns-clause-replay_script

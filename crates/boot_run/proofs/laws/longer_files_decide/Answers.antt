@@ -1,5 +1,6 @@
-use Rattle.boot_run.proofs.OutcomeLemmas.{outcome-cut}
+use Rattle.run_forms.proofs.InputLemmas.{outcome-cut}
+use Rattle.boot_run.specs.Works.{inputs_of, work_of}
 use Rattle.boot_run.proofs.laws.longer_files_decide.Goals as goal
 
 pub returns : goal.returns
-returns c = outcome-cut
+returns c = λ command. outcome-cut (inputs_of command) (work_of command)

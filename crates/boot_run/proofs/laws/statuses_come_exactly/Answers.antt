@@ -1,10 +1,10 @@
 use Rattle.boot_rules.specs.Choosing.{decision_in}
-use Rattle.boot_run.specs.Forms.{content_of}
-use Rattle.boot_run.specs.Works.{boot_work, data_work}
-use Rattle.boot_run.specs.Outcome.{worked}
+use Rattle.run_forms.specs.Forms.{content_of}
+use Rattle.board_work.specs.Works.{boot_work, data_work}
+use Rattle.run_course.specs.Outcomes.{worked}
 use Rattle.boot_run.proofs.RuleLemmas.{refused-exactly}
-use Rattle.boot_run.proofs.RunLemmas.{fall-status}
-use Rattle.boot_run.proofs.OnlyLemmas.{falls-exactly}
+use Rattle.board_work.proofs.BoardWorkLemmas.{fall-status}
+use Rattle.boot_run.proofs.RuleLemmas.{falls-exactly}
 use Rattle.boot_run.proofs.laws.statuses_come_exactly.Goals as goal
 
 pub returns-clause-input : goal.returns-clause-input

@@ -1,7 +1,7 @@
-use Rattle.boot_run.specs.Commands.{asked}
-use Rattle.boot_run.specs.Outcome.{inputs_in, outcome_in}
-use Rattle.boot_run.proofs.OutcomeLemmas.{outcome-finished}
-use Rattle.boot_run.proofs.EndLemmas.{end-read_fault, end-write_fault, end-output_fault, end-memory}
+use Rattle.run_words.specs.Commands.{asked}
+use Rattle.boot_run.specs.Works.{inputs_in, outcome_in}
+use Rattle.boot_run.proofs.RunLemmas.{outcome-finished}
+use Rattle.run_course.proofs.EndLemmas.{end-read_fault, end-write_fault, end-output_fault, end-memory}
 use Rattle.boot_run.proofs.RunLemmas.{run-ends, run-told, run-boot, run-session, run-lacking, run-words, run-no_command, run-complete, run-steady, run-obeys}
 use Rattle.boot_run.proofs.program.run.Goals as goal
 

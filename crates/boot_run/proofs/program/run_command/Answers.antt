@@ -1,29 +1,48 @@
-use Rattle.std.proofs.Common.{map, List, subst, Ok, []}
-use Rattle.boot_run.specs.Outcome.{inputs_of, command_outcome}
-use Rattle.boot_run.specs.declared.course.InputWord.{InputWord}
-use Rattle.boot_run.specs.Courses.{ReadsIn}
-use Rattle.boot_run.specs.Views.{input_from, command_from, bytes_of}
-use Rattle.boot_run.proofs.CourseLemmas.{run-read, run-no_room}
+use Rattle.std.proofs.Common.{◌∙◌, ap, map, length, List, subst, sym, Ok, []}
+use Rattle.std.proofs.lemmas.List.{length-map}
+use Rattle.run_course.specs.Outcomes.{Input}
+use Rattle.run_course.specs.declared.course.InputWord.{InputWord}
+use Rattle.run_course.specs.Courses.{ReadsIn}
+use Rattle.run_course.specs.Views.{input_from, bytes_of}
+use Rattle.run_course.proofs.CourseLemmas.{run-read, run-no_room}
+use Rattle.run_forms.specs.declared.inputs.FormWord.{FormWord}
+use Rattle.run_forms.specs.Inputs.{readings}
+use Rattle.run_forms.specs.Views.{input_file_from}
+use Rattle.run_forms.proofs.InputLemmas.{readings-long}
+use Rattle.run_words.specs.Views.{command_from}
+use Rattle.boot_run.specs.Works.{inputs_of, command_outcome}
 use Rattle.boot_run.proofs.program.run_command.Goals as goal
+
+pub answer-requires-clause-count : goal.answer-requires-clause-count
+answer-requires-clause-count g c =
+    let words = c.in-Ok-readings.words.items in let inputs = c.deref.result.now in
+    let read = c.in-Ok-read_all.ensures.count
+    ∙ ap (λ (xs : List InputWord). length xs) c.deref-2.ensures.value in
+    let named = sym (length-map words input_from) ∙ (ap (λ (xs : List Input). length xs) c.in-Ok-readings.ensures
+    ∙ (readings-long (map input_file_from inputs) ∙ length-map inputs input_file_from)) in
+    read ∙ (named ∙ (ap (λ (xs : List FormWord). length xs) c.deref.ensures.value
+    ∙ ap (λ (xs : List FormWord). length xs) (sym c.deref-3.ensures.value)))
 
 pub returns-in-Ok-answer : goal.returns-in-Ok-answer
 returns-in-Ok-answer g c =
     run-read g.S.Store.state g.S.Store.history g.K.Sink.state g.K.Sink.history
-    (inputs_of (command_from c.args.command.now)) (map input_from c.in-Ok.inputs.items)
+    (readings (inputs_of (command_from c.args.command.now))) (map input_from c.in-Ok-readings.words.items)
     (command_outcome (command_from c.args.command.now)) c.args.store.now c.args.out.now
     (bytes_of c.in-Ok-read_all.files.items) _ c.read_all.new.store _ _ _
-    c.in-Ok.ensures
+    (c.in-Ok-readings.ensures ∙ ap readings
+    (ap (λ (xs : List FormWord). map input_file_from xs) c.deref.ensures.value ∙ c.in-Ok.ensures))
     (subst (λ (xs : List InputWord). ReadsIn g.S.Store.state g.S.Store.history
     (map input_from xs) [] c.args.store.now (Ok (bytes_of c.in-Ok-read_all.files.items)) c.read_all.new.store)
-    c.deref.ensures.value c.in-Ok-read_all.ensures) c.in-Ok-answer.ensures c.finish.ensures
+    c.deref-2.ensures.value c.in-Ok-read_all.ensures.course) c.in-Ok-answer.ensures c.finish.ensures
 
 pub returns : goal.returns
 returns g c =
     run-no_room g.S.Store.state g.S.Store.history g.K.Sink.state g.K.Sink.history
-    (inputs_of (command_from c.args.command.now)) (map input_from c.in-Ok.inputs.items)
+    (readings (inputs_of (command_from c.args.command.now))) (map input_from c.in-Ok-readings.words.items)
     (command_outcome (command_from c.args.command.now)) c.args.store.now c.args.out.now
     (bytes_of c.in-Ok-read_all.files.items) c.read_all.new.store
-    c.in-Ok.ensures
+    (c.in-Ok-readings.ensures ∙ ap readings
+    (ap (λ (xs : List FormWord). map input_file_from xs) c.deref.ensures.value ∙ c.in-Ok.ensures))
     (subst (λ (xs : List InputWord). ReadsIn g.S.Store.state g.S.Store.history
     (map input_from xs) [] c.args.store.now (Ok (bytes_of c.in-Ok-read_all.files.items)) c.read_all.new.store)
-    c.deref.ensures.value c.in-Ok-read_all.ensures)
+    c.deref-2.ensures.value c.in-Ok-read_all.ensures.course)

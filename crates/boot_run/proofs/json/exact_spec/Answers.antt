@@ -1,6 +1,0 @@
-use Rattle.boot_run.proofs.JsonLemmas.{exact-spec}
-use Rattle.boot_run.proofs.json.exact_spec.Goals as goal
-
-pub returns : goal.returns
-returns c =
-    exact-spec c.args.text.now c.spec_of.result c.spec_of.ensures.spec c.spec_of.ensures.first c.spec_of.ensures.exact

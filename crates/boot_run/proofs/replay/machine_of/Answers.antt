@@ -1,5 +1,0 @@
-use Rattle.boot_run.proofs.ReplayLemmas.{pool-free}
-use Rattle.boot_run.proofs.replay.machine_of.Goals as goal
-
-pub new-requires-clause-leases : goal.new-requires-clause-leases
-new-requires-clause-leases c = pool-free c.in_ok-pool.pool c.in_ok-pool.ensures

@@ -1,7 +1,0 @@
-use Rattle.std.proofs.Common.{refl}
-use Rattle.std.specs.Fmt.{digits}
-use Rattle.boot_run.proofs.seal_examples.seal_texts.Goals as goal
-
-pub returns-clause-block_too_long : goal.returns-clause-block_too_long
-unfolding digits
-returns-clause-block_too_long c = refl

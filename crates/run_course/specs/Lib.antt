@@ -1,0 +1,5 @@
+pub mod Statuses
+pub mod Outcomes
+pub mod Courses
+pub mod Views
+pub mod Ends

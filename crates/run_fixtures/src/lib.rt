@@ -1,0 +1,133 @@
+//! Flashes and words of the worked examples, for tests through the program's top call.
+#![tactic(auto)]
+
+ghost use Rattle.std.specs.Prelude.{◌≡◌, IfOk, length};
+
+use std::alloc::{AllocError, Global};
+
+/// The first two words of a vector table: SP 0x20082000 and PC 0x10000201.
+pub const VECTORS: [u32; 2] = [0x2008_2000, 0x1000_0201];
+
+/// The least block of an executable for the Arm cores.
+pub const ARM: [u32; 5] = [0xffff_ded3, 0x1021_0142, 0x0000_01ff, 0, 0xab12_3579];
+
+/// The block of one of version 1.0.
+pub const ARM_1_0: [u32; 7] = [
+    0xffff_ded3,
+    0x1021_0142,
+    0x0000_0248,
+    0x0001_0000,
+    0x0000_03ff,
+    0,
+    0xab12_3579,
+];
+
+/// The block of one of version 1.1, as a trial.
+pub const TRIAL_1_1: [u32; 7] = [
+    0xffff_ded3,
+    0x9021_0142,
+    0x0000_0248,
+    0x0001_0001,
+    0x0000_03ff,
+    0,
+    0xab12_3579,
+];
+
+/// The block of one of version 1.9.
+pub const ARM_1_9: [u32; 7] = [
+    0xffff_ded3,
+    0x1021_0142,
+    0x0000_0248,
+    0x0001_0009,
+    0x0000_03ff,
+    0,
+    0xab12_3579,
+];
+
+/// The block of one of version 1.10.
+pub const ARM_1_10: [u32; 7] = [
+    0xffff_ded3,
+    0x1021_0142,
+    0x0000_0248,
+    0x0001_000a,
+    0x0000_03ff,
+    0,
+    0xab12_3579,
+];
+
+/// A table whose A has the sectors 2 to 31 and whose B has the sectors 32 to 61.
+pub const PAIR: [u32; 10] = [
+    0xffff_ded3,
+    0x0200_060a,
+    0xfc00_8000,
+    0xfc03_e002,
+    0xfc02_0000,
+    0xfc07_a020,
+    0xfc02_0002,
+    0x0000_06ff,
+    0,
+    0xab12_3579,
+];
+
+/// The least block of an executable for the Arm cores, linked to the block behind it, and that
+/// block, which makes a sealed image of version 1.9.
+pub const SEALED: [u32; 27] = [
+    0xffff_ded3,
+    0x1021_0142,
+    0x0000_01ff,
+    0x0000_0014,
+    0xab12_3579,
+    0xffff_ded3,
+    0x1021_0142,
+    0x0000_0248,
+    0x0001_0009,
+    0x0100_0406,
+    0xffff_fec8,
+    0x1000_0000,
+    0x0000_0128,
+    0x0100_0247,
+    0x0000_000a,
+    0x0000_094b,
+    0xeda6_2c5f,
+    0x61a0_8060,
+    0xa844_74d8,
+    0x44da_a3aa,
+    0x129c_6b06,
+    0xaf45_aed2,
+    0x3a33_ea57,
+    0x8e4c_4aff,
+    0x0000_12ff,
+    0xffff_ffec,
+    0xab12_3579,
+];
+
+/// A flash file with these words at these offsets, in ascending order, of so many bytes, of which
+/// the others are 0xff. It fails only where memory is out.
+pub fn flash(
+    alloc: Global,
+    parts: &[(usize, &[u32])],
+    size: usize,
+) -> Result<Vec<u8>, AllocError>
+    ensures { IfOk result (λ bytes. length bytes.items ≡ size) }
+{
+    let mut bytes = Vec::new(alloc);
+    for (at, words) in parts {
+        bytes.resize(*at, 0xff)?;
+        for word in words.iter() {
+            bytes.extend_from_slice(&word.to_le_bytes())?;
+        }
+    }
+    bytes.resize(size, 0xff)?;
+    Ok(bytes)
+}
+
+/// The words as the program gets them. It fails only where memory is out.
+pub fn words(alloc: Global, texts: &[&str]) -> Result<Vec<String>, AllocError>
+    ensures { IfOk result (λ words. length words.items ≡ length texts.now) }
+{
+    let mut words = Vec::new(alloc);
+    for text in texts {
+        words.push(String::from_str(alloc, text)?)?;
+    }
+    Ok(words)
+}

@@ -1,0 +1,53 @@
+-- Every content is that of two files.
+use Rattle.std.proofs.Common.{ℕ, ◌≡◌, ◌-◌, ◌*◌, ◌%◌, ◌^◌, ◌<◌, ◌≤◌, List, [], ◌++◌, length, replicate, All, refl, sym, ◌∙◌, ap, subst, arith}
+use Rattle.std.proofs.lemmas.List.{append-nil}
+use Rattle.std.proofs.lemmas.List.Elements.{recursion_from_All}
+use Rattle.pico_board.specs.Content.{Content, IsContent}
+use Rattle.block_codec.specs.Words.{bytes_of, words_of, AreWords}
+use Rattle.block_codec.proofs.WordLemmas.{words_of-append, length-bytes_of}
+use Rattle.image_pack.specs.Faults.{zero_otp}
+use Rattle.run_forms.specs.declared.forms.Form.TheVariants.{Flash, Otp}
+use Rattle.run_forms.specs.Forms.{HasForm, rows_of, filled_length, filled, otp_of, content_of}
+
+-- rows written as bytes are read back
+rows-back : (rows : List ℕ) → All (λ row. row < 2 ^ 24) rows → rows_of (bytes_of rows) ≡ rows
+rows-back rows narrow =
+    let words : AreWords rows =
+    recursion_from_All (λ w. w < 2 ^ 32) rows (λ k d lt. let small = narrow k d lt in omega arith) in
+    ap words_of (sym (append-nil (bytes_of rows))) ∙ (words_of-append rows [] words ∙ append-nil rows)
+
+pub flash-back : (flash : List ℕ) → length flash % 4096 ≡ 0 → 8192 ≤ length flash → filled flash ≡ flash
+unfolding filled
+flash-back flash whole least =
+    let none : filled_length (length flash) - length flash ≡ 0 = omega arith in
+    ap (λ n. flash ++ replicate n 255) none ∙ append-nil flash
+
+otp-back : (rows : List ℕ) → All (λ row. row < 2 ^ 24) rows → length rows ≡ 4096 → otp_of (bytes_of rows) ≡ rows
+unfolding otp_of
+otp-back rows narrow long =
+    let back = rows-back rows narrow in
+    let none : 4096 - length rows ≡ 0 = omega arith in
+    ap (λ xs. xs ++ replicate (4096 - length xs) 0) back ∙ (ap (λ n. rows ++ replicate n 0) none ∙ append-nil rows)
+
+-- an OTP file of no byte gives an OTP of zeros
+pub zero-rows : otp_of [] ≡ zero_otp
+unfolding otp_of zero_otp
+zero-rows = refl
+
+abbrev pub IsGiven : Content → Type 0
+IsGiven c = (f : List ℕ) × (g : List ℕ) × HasForm Flash f × HasForm Otp g × (content_of f g ≡ c)
+
+pub given : (c : Content) → IsContent c → IsGiven c
+given c is =
+    let long : length (bytes_of c.otp) ≡ 16384 = length-bytes_of c.otp ∙ ap (λ n. 4 * n) is.otp_length in
+    let narrow : All (λ row. row < 2 ^ 24) (rows_of (bytes_of c.otp)) =
+    subst (All (λ row. row < 2 ^ 24)) (sym (rows-back c.otp is.otp_rows)) is.otp_rows in
+    let least = is.flash_length.least in let most = is.flash_length.most in (
+      c.flash,
+      bytes_of c.otp,
+      (λ e. let none : length c.flash ≡ 0 = ap (λ (xs : List ℕ). length xs) e in absurd (omega arith), most),
+      (omega arith, omega arith, narrow),
+      ap (λ flash. record { flash = flash; otp = otp_of (bytes_of c.otp) })
+          (flash-back c.flash is.flash_length.whole least)
+          ∙ ap (λ otp. record { flash = c.flash; otp = otp }) (otp-back c.otp is.otp_rows is.otp_length),
+    )

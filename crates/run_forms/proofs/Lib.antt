@@ -1,0 +1,8 @@
+mod RowLemmas
+mod BoardLemmas
+pub mod JsonLemmas
+pub mod ScriptLemmas
+pub mod FormLemmas
+pub mod ContentLemmas
+pub mod InputLemmas
+pub mod WorkLemmas

@@ -1,0 +1,176 @@
+-- The forms of input files, and the content that a flash file and an OTP file give. This project's
+-- own.
+use Rattle.std.specs.Prelude.{ℕ, ◌≡◌, ◌≢◌, ◌⊎◌, zero, suc, ◌+◌, ◌-◌, ◌*◌, ◌/◌, ◌%◌, ◌^◌, ◌<◌, ◌≤◌, ◌==◌, max, if◌then◌else◌, nat_lt, List, [], ◌∷◌, ◌++◌, length, replicate, All, Option, Some, None, option_map, Result, Ok, Err, false, codes, decimal}
+use Rattle.pico_board.specs.Content.{Content}
+use Rattle.pico_board.specs.Rows.{IsFirstWide}
+use Rattle.block_codec.specs.Words.{words_of}
+use Rattle.boot_script.specs.declared.event.ScriptFault.{ScriptFault}
+use Rattle.boot_script.specs.declared.event.ScriptFault.TheVariants.{Kind, Short, Pattern}
+use Rattle.boot_script.specs.Events.{Happening, End}
+use Rattle.boot_script.specs.Reading.{event_at}
+use Rattle.boot_script.specs.Scripts.{is_end, events}
+use Rattle.run_forms.specs.declared.forms.Form.{Form}
+use Rattle.run_forms.specs.declared.forms.Form.TheVariants.{Flash, Otp, Script, Binary, Spec, Json, Image}
+use Rattle.run_forms.specs.declared.forms.TheConstants.{FLASH_LIMIT, OTP_LIMIT, SCRIPT_LIMIT, RECORD_LIMIT, BINARY_LIMIT, JSON_LIMIT, IMAGE_LIMIT}
+use Rattle.image_pack.specs.declared.spec.SealSpec.{SealSpec}
+use Rattle.part_table.specs.declared.table.Table.{Table}
+use Rattle.run_texts.specs.Texts.{hex_row}
+use Rattle.run_forms.specs.Jsons.{IsSpecText, IsTableText, IsSpecFault, IsTableFault, IsTextFault, spec_read, table_read, read_fault}
+
+-- why a script is not read, by the offset of its first faulty record
+abbrev pub script_text : ScriptFault → List ℕ
+script_text (Kind at) = codes "script kind at=" ++ decimal at
+script_text (Short at) = codes "script short at=" ++ decimal at
+script_text (Pattern at) = codes "script pattern at=" ++ decimal at
+
+-- the greatest length of a file of the form, in bytes
+abbrev pub limit_of : Form → ℕ
+limit_of Flash = FLASH_LIMIT
+limit_of Otp = OTP_LIMIT
+limit_of Script = SCRIPT_LIMIT
+limit_of Binary = BINARY_LIMIT
+limit_of Spec = JSON_LIMIT
+limit_of Json = JSON_LIMIT
+limit_of Image = IMAGE_LIMIT
+
+-- the rows of an OTP file: each word of four bytes is one, the lowest byte first
+abbrev pub rows_of : List ℕ → List ℕ
+rows_of bytes = words_of bytes
+
+-- the records of these events stand one after another, from the first offset to the last one, and
+-- none of them is an end
+abbrev pub AreRecords : List ℕ → ℕ → List Happening → ℕ → Type 0
+AreRecords bytes at [] last = last ≡ at
+AreRecords bytes at (e ∷ es) last =
+    (next : ℕ) × (event_at bytes at ≡ Ok (e, next)) × (is_end e ≡ false)
+    × AreRecords bytes next es last
+
+-- from the offset on, an end stands among so many records, and those before it have no fault
+pub record IsEnded (most : ℕ) (bytes : List ℕ) (at : ℕ) : Type 0 where
+  pub happened : List Happening
+  pub last : ℕ
+  pub next : ℕ
+  pub few : length happened < most
+  pub before : AreRecords bytes at happened last
+  pub ends : event_at bytes last ≡ Ok (End, next)
+
+-- from the offset on, the first fault stands among so many records, and no end stands before it
+pub record IsUnread (most : ℕ) (bytes : List ℕ) (at : ℕ) (fault : ScriptFault) : Type 0 where
+  pub happened : List Happening
+  pub last : ℕ
+  pub few : length happened < most
+  pub before : AreRecords bytes at happened last
+  pub wrong : event_at bytes last ≡ Err fault
+
+-- from the offset on, so many records have no fault, and none of them is an end
+pub record IsEndless (most : ℕ) (bytes : List ℕ) (at : ℕ) : Type 0 where
+  pub happened : List Happening
+  pub last : ℕ
+  pub many : length happened ≡ most
+  pub before : AreRecords bytes at happened last
+
+-- a file has its form: a flash file is not empty, an OTP file is of whole rows of 24 bits, a script
+-- has an end among its first records, with no fault before it, a JSON text gives a spec or a table,
+-- and none of them is too long; of a binary and an image nothing else is asked
+abbrev pub HasForm : Form → List ℕ → Type 0
+HasForm Flash bytes = (bytes ≢ []) × (length bytes ≤ FLASH_LIMIT)
+HasForm Otp bytes =
+    (length bytes ≤ OTP_LIMIT) × (length bytes % 4 ≡ 0) × All (λ row. row < 2 ^ 24) (rows_of bytes)
+HasForm Script bytes = (length bytes ≤ SCRIPT_LIMIT) × IsEnded RECORD_LIMIT bytes 0
+HasForm Binary bytes = length bytes ≤ BINARY_LIMIT
+HasForm Spec bytes = (length bytes ≤ JSON_LIMIT) × ((spec : SealSpec) × IsSpecText bytes spec)
+HasForm Json bytes = (length bytes ≤ JSON_LIMIT) × ((table : Table) × IsTableText bytes table)
+HasForm Image bytes = length bytes ≤ IMAGE_LIMIT
+
+-- a file is too long, and this is its fault
+abbrev pub IsTooLarge : Form → List ℕ → List ℕ → Type 0
+IsTooLarge form bytes fault = (limit_of form < length bytes) × (fault ≡ codes "too-large")
+
+-- the fault of a file that is not too long: a flash file is empty; an OTP file has a part of a row
+-- at its end, or has a row of more bits, of which the least is named; a script has a fault among
+-- its first records, or these have neither a fault nor an end; a JSON text has the first fault by
+-- the rules of a spec or a table; a binary and an image have none
+abbrev pub IsOwnFault : Form → List ℕ → List ℕ → Type 0
+IsOwnFault Flash bytes fault = (bytes ≡ []) × (fault ≡ codes "empty")
+IsOwnFault Otp bytes fault =
+    ((length bytes % 4 ≢ 0) × (fault ≡ codes "otp-length"))
+    ⊎ ((length bytes % 4 ≡ 0) × (row : ℕ) × IsFirstWide (rows_of bytes) row
+    × (fault ≡ codes "otp-row " ++ hex_row row))
+IsOwnFault Script bytes text =
+    ((fault : ScriptFault) × IsUnread RECORD_LIMIT bytes 0 fault × (text ≡ script_text fault))
+    ⊎ (IsEndless RECORD_LIMIT bytes 0 × (text ≡ codes "script too-many"))
+IsOwnFault Binary bytes fault = ⊥
+IsOwnFault Spec bytes fault = IsTextFault IsSpecFault bytes fault
+IsOwnFault Json bytes fault = IsTextFault IsTableFault bytes fault
+IsOwnFault Image bytes fault = ⊥
+
+-- why a file does not have its form: that it is too long comes first
+abbrev pub IsFault : Form → List ℕ → List ℕ → Type 0
+IsFault form bytes fault =
+    IsTooLarge form bytes fault ⊎ ((length bytes ≤ limit_of form) × IsOwnFault form bytes fault)
+
+-- the least row that has more than 24 bits, counted from a first number
+abbrev pub wide_from : ℕ → List ℕ → Option ℕ
+wide_from n [] = None
+wide_from n (row ∷ rows) = if nat_lt row (2 ^ 24) then wide_from (n + 1) rows else Some n
+
+-- the fault of an OTP file that is not too long, as a function
+abbrev pub otp_fault : List ℕ → Option (List ℕ)
+otp_fault bytes =
+    if length bytes % 4 == 0
+    then option_map (λ row. codes "otp-row " ++ hex_row row) (wide_from 0 (rows_of bytes))
+    else Some (codes "otp-length")
+
+-- the fault of a script that is not too long, as a function: of the record that was read, or of
+-- those behind it
+abbrev pub record_fault : Result (Happening × ℕ) ScriptFault → (ℕ → Option (List ℕ))
+    → Option (List ℕ)
+record_fault (Err fault) others = Some (script_text fault)
+record_fault (Ok record_read) others =
+    if is_end record_read.0 then None else others record_read.1
+
+-- the same from an offset on, of so many records
+unfoldable pub script_fault : ℕ → List ℕ → ℕ → Option (List ℕ)
+script_fault zero bytes at = Some (codes "script too-many")
+script_fault (suc most) bytes at = record_fault (event_at bytes at) (script_fault most bytes)
+
+-- the events of a script before its end
+abbrev pub events_read : Result (List Happening) ScriptFault → List Happening
+events_read (Ok es) = es
+events_read (Err fault) = []
+
+abbrev pub script_events : List ℕ → List Happening
+script_events bytes = events_read (events bytes)
+
+-- the fault of a file of each form that is not too long
+abbrev pub own_fault : Form → List ℕ → Option (List ℕ)
+own_fault Flash [] = Some (codes "empty")
+own_fault Flash (b ∷ bytes) = None
+own_fault Otp bytes = otp_fault bytes
+own_fault Script bytes = script_fault RECORD_LIMIT bytes 0
+own_fault Binary bytes = None
+own_fault Spec bytes = read_fault (spec_read bytes)
+own_fault Json bytes = read_fault (table_read bytes)
+own_fault Image bytes = None
+
+-- the fault of a file
+abbrev pub form_fault : Form → List ℕ → Option (List ℕ)
+form_fault form bytes =
+    if nat_lt (limit_of form) (length bytes) then Some (codes "too-large") else own_fault form bytes
+
+-- the length of the flash that a file of n bytes gives: whole sectors of 4096 bytes, and at least
+-- two
+abbrev pub filled_length : ℕ → ℕ
+filled_length n = max 8192 (4096 * ((n + 4095) / 4096))
+
+-- the flash that a file gives: its bytes, filled with 0xff
+unfoldable pub filled : List ℕ → List ℕ
+filled bytes = bytes ++ replicate (filled_length (length bytes) - length bytes) 255
+
+-- the 4096 rows that an OTP file gives: its rows, and 0 where it has none
+unfoldable pub otp_of : List ℕ → List ℕ
+otp_of bytes = rows_of bytes ++ replicate (4096 - length (rows_of bytes)) 0
+
+-- the content that a flash file and an OTP file give
+abbrev pub content_of : List ℕ → List ℕ → Content
+content_of flash otp = record { flash = filled flash; otp = otp_of otp }

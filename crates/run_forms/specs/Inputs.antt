@@ -1,0 +1,85 @@
+-- The inputs of a command, in word order, and the outcome by their bytes. This project's own.
+use Rattle.std.specs.Prelude.{ℕ, false, List, [], ◌∷◌, map, Option, Some, None, option_map}
+use Rattle.std.specs.Option.{option_or}
+use Rattle.run_course.specs.Outcomes.{Input, Outcome, Work, Answers, refused, worked}
+use Rattle.run_forms.specs.declared.forms.Form.{Form}
+use Rattle.run_forms.specs.declared.forms.Form.TheVariants.{Flash, Otp, Script, Binary, Spec, Json, Image}
+use Rattle.run_forms.specs.Forms.{limit_of, form_fault}
+
+-- an input of a command: its name and its form
+pub record InputFile : Type 0 where
+  pub name : List ℕ
+  pub form : Form
+
+-- what is read of an input
+abbrev pub to_read : InputFile → Input
+to_read input = record { name = input.name; limit = limit_of input.form }
+
+abbrev pub readings : List InputFile → List Input
+readings inputs = map to_read inputs
+
+-- a flash file and an OTP file
+abbrev pub flash_and_otp : List ℕ → List ℕ → List InputFile
+flash_and_otp flash otp =
+    record { name = flash; form = Flash } ∷ record { name = otp; form = Otp } ∷ []
+
+-- these and a script
+abbrev pub flash_otp_script : List ℕ → List ℕ → List ℕ → List InputFile
+flash_otp_script flash otp script =
+    record { name = flash; form = Flash } ∷ record { name = otp; form = Otp }
+    ∷ record { name = script; form = Script } ∷ []
+
+-- a flash file, an OTP file and an image
+abbrev pub flash_otp_image : List ℕ → List ℕ → List ℕ → List InputFile
+flash_otp_image flash otp image =
+    record { name = flash; form = Flash } ∷ record { name = otp; form = Otp }
+    ∷ record { name = image; form = Image } ∷ []
+
+-- a binary and a spec
+abbrev pub binary_and_spec : List ℕ → List ℕ → List InputFile
+binary_and_spec binary spec =
+    record { name = binary; form = Binary } ∷ record { name = spec; form = Spec } ∷ []
+
+-- a table's text
+abbrev pub one_json : List ℕ → List InputFile
+one_json json = record { name = json; form = Json } ∷ []
+
+-- an image
+abbrev pub image_alone : List ℕ → List InputFile
+image_alone image = record { name = image; form = Image } ∷ []
+
+-- nothing, which is what a work comes to on another number of inputs than it has
+abbrev pub nothing : Work
+nothing = Answers false [] []
+
+-- a work on the bytes of one input, of two and of three
+abbrev pub of_one : (List ℕ → Work) → List (List ℕ) → Work
+of_one work (a ∷ []) = work a
+of_one work _ = nothing
+
+abbrev pub of_two : (List ℕ → List ℕ → Work) → List (List ℕ) → Work
+of_two work (a ∷ b ∷ []) = work a b
+of_two work _ = nothing
+
+abbrev pub of_three : (List ℕ → List ℕ → List ℕ → Work) → List (List ℕ) → Work
+of_three work (a ∷ b ∷ c ∷ []) = work a b c
+of_three work _ = nothing
+
+-- an input whose bytes do not have its form, with their fault
+abbrev pub named_fault : InputFile → List ℕ → Option Outcome
+named_fault input bytes = option_map (refused input.name) (form_fault input.form bytes)
+
+-- the first input in word order whose bytes do not have its form
+abbrev pub first_fault : List InputFile → List (List ℕ) → Option Outcome
+first_fault (input ∷ inputs) (bytes ∷ read) =
+    option_or (named_fault input bytes) (first_fault inputs read)
+first_fault _ _ = None
+
+-- the first fault of a form comes before the work
+abbrev pub unless_refused : Option Outcome → Outcome → Outcome
+unless_refused (Some fault) outcome = fault
+unless_refused None outcome = outcome
+
+-- the outcome of a work by the bytes of its inputs
+abbrev pub outcome_by : List InputFile → (List (List ℕ) → Work) → List (List ℕ) → Outcome
+outcome_by inputs work read = unless_refused (first_fault inputs read) (worked (work read))

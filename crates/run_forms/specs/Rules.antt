@@ -1,0 +1,77 @@
+-- What is right for a command, by rules of its own on inputs that have their forms. This project's
+-- own.
+use Rattle.std.specs.Prelude.{ℕ, ⊤, ◌≡◌, ◌⊎◌, List, [], ◌∷◌, map, length}
+use Rattle.run_course.specs.declared.status.Status.TheVariants.{Input as Refused}
+use Rattle.run_course.specs.Outcomes.{Outcome, Work, refused, worked}
+use Rattle.run_forms.specs.declared.forms.Form.{Form}
+use Rattle.run_forms.specs.Forms.{HasForm, IsFault}
+use Rattle.run_forms.specs.Inputs.{InputFile}
+
+-- each of so many files has its form
+abbrev pub HaveForms : List Form → List (List ℕ) → Type 0
+HaveForms [] [] = ⊤
+HaveForms (form ∷ forms) (bytes ∷ read) = HasForm form bytes × HaveForms forms read
+HaveForms _ _ = ⊥
+
+-- each input has its form
+abbrev pub AreFormed : List InputFile → List (List ℕ) → Type 0
+AreFormed inputs read = HaveForms (map (λ (input : InputFile). input.form) inputs) read
+
+-- the first input in word order that does not have its form has this name, and its bytes have this
+-- fault
+abbrev pub IsFirstFault : List InputFile → List (List ℕ) → List ℕ → List ℕ → Type 0
+IsFirstFault (input ∷ inputs) (bytes ∷ read) name fault =
+    ((name ≡ input.name) × IsFault input.form bytes fault)
+    ⊎ (HasForm input.form bytes × IsFirstFault inputs read name fault)
+IsFirstFault _ _ name fault = ⊥
+
+-- a fact of the bytes of one input, of two and of three; of another number it is none
+abbrev pub OfOne : (List ℕ → Type 0) → List (List ℕ) → Type 0
+OfOne P (a ∷ []) = P a
+OfOne P _ = ⊥
+
+abbrev pub OfTwo : (List ℕ → List ℕ → Type 0) → List (List ℕ) → Type 0
+OfTwo P (a ∷ b ∷ []) = P a b
+OfTwo P _ = ⊥
+
+abbrev pub OfThree : (List ℕ → List ℕ → List ℕ → Type 0) → List (List ℕ) → Type 0
+OfThree P (a ∷ b ∷ c ∷ []) = P a b c
+OfThree P _ = ⊥
+
+-- the input of this name is refused with this fault: it is the first that breaks its form, or all
+-- have their forms and the work refuses it
+abbrev pub IsRefusedFor : List InputFile → (List ℕ → List ℕ → Type 0) → List (List ℕ) → List ℕ
+    → List ℕ → Type 0
+IsRefusedFor inputs IsRefusedWork read name fault =
+    IsFirstFault inputs read name fault ⊎ (AreFormed inputs read × IsRefusedWork name fault)
+
+-- the outcome names the input that is refused, with its fault; otherwise each input has its form,
+-- and the outcome is right
+pub record IsWorked (inputs : List InputFile) (IsRefusedWork : List ℕ → List ℕ → Type 0)
+    (IsRight : Outcome → Type 0) (read : List (List ℕ)) (o : Outcome) : Type 0 where
+  pub long : length read ≡ length inputs
+  pub is : ((name : List ℕ) × (fault : List ℕ)
+      × IsRefusedFor inputs IsRefusedWork read name fault × (o ≡ refused name fault))
+      ⊎ (AreFormed inputs read × IsRight o)
+
+-- the outcome names the input that the work refuses, with its fault, or it is right
+abbrev pub IsDone : (List ℕ → List ℕ → Type 0) → (Outcome → Type 0) → Outcome → Type 0
+IsDone IsRefusedWork IsRight o =
+    ((name : List ℕ) × (fault : List ℕ) × IsRefusedWork name fault × (o ≡ refused name fault))
+    ⊎ IsRight o
+
+-- On inputs that have their forms a work is right by the rules, where its inputs are as it needs:
+-- it refuses an input where they do, and no other; otherwise its outcome is right, and no other
+-- outcome is.
+pub record WorksBy (inputs : List InputFile) (Needs : List (List ℕ) → Type 0)
+    (work : List (List ℕ) → Work) (IsRefusedWork : List (List ℕ) → List ℕ → List ℕ → Type 0)
+    (IsRight : List (List ℕ) → Outcome → Type 0) : Type 0 where
+  pub done : (read : List (List ℕ)) → AreFormed inputs read → Needs read
+      → IsDone (IsRefusedWork read) (IsRight read) (worked (work read))
+  pub only : (read : List (List ℕ)) (o : Outcome) → AreFormed inputs read → IsRight read o
+      → o ≡ worked (work read)
+  pub refuses : (read : List (List ℕ)) → AreFormed inputs read
+      → (worked (work read)).status ≡ Refused
+      → (name : List ℕ) × (fault : List ℕ) × IsRefusedWork read name fault
+  pub exact : (read : List (List ℕ)) (name fault : List ℕ) → AreFormed inputs read
+      → IsRefusedWork read name fault → worked (work read) ≡ refused name fault

@@ -1,0 +1,103 @@
+//! Worked examples of the definitions, proved by computing: each is the `ensures` of a function
+//! that does nothing.
+
+ghost use Rattle.std.specs.Prelude.{◌≡◌, [], ◌∷◌, codes, Some, None};
+ghost use Rattle.part_table.specs.declared.table.TableFault.TheVariants.{Overlap, BadItem, Permissions, Range, Link, Hash};
+ghost use Rattle.run_forms.specs.declared.forms.Form.TheVariants.{Flash, Otp, Script, Binary, Spec, Json, Image};
+ghost use Rattle.run_forms.specs.declared.forms.TheConstants.{RECORD_LIMIT};
+ghost use Rattle.boot_script.specs.Events.{PowerOn, Buy};
+ghost use Rattle.run_forms.specs.Forms.{limit_of, form_fault, script_fault, script_events, filled_length, rows_of};
+ghost use Rattle.table_json.specs.declared.fault.JsonFault.TheVariants.{NotJson, Unknown, Missing, Value, TooLong, Table as Faulty};
+ghost use Rattle.table_json.specs.declared.fault.Place.TheVariants.{Top, Unpartitioned as Outside, Partition as Numbered};
+ghost use Rattle.table_json.specs.declared.fault.Field.TheVariants.{Processor, Partitions, Families, IgnoreArm};
+ghost use Rattle.run_forms.specs.JsonTexts.{json_text};
+
+/// Limits, and the faults of files on both sides of their bounds.
+pub fn forms_of_files()
+    ensures flash_limit { limit_of Flash ≡ 16777216 }
+    ensures otp_limit { limit_of Otp ≡ 16384 }
+    ensures script_limit { limit_of Script ≡ 67108864 }
+    ensures empty { form_fault Flash [] ≡ Some (codes "empty") }
+    ensures one { form_fault Flash (0 ∷ []) ≡ None }
+    ensures no_rows { form_fault Otp [] ≡ None }
+    ensures three { form_fault Otp (0 ∷ 0 ∷ 0 ∷ []) ≡ Some (codes "otp-length") }
+    ensures rows { rows_of (1 ∷ 2 ∷ 3 ∷ 0 ∷ 255 ∷ 255 ∷ 255 ∷ 0 ∷ []) ≡ 0x030201 ∷ 0xffffff ∷ [] }
+    ensures narrow { form_fault Otp (0 ∷ 0 ∷ 0 ∷ 0 ∷ 255 ∷ 255 ∷ 255 ∷ 0 ∷ []) ≡ None }
+    ensures wide { form_fault Otp (0 ∷ 0 ∷ 0 ∷ 0 ∷ 0 ∷ 0 ∷ 0 ∷ 1 ∷ 0 ∷ 0 ∷ 0 ∷ 2 ∷ [])
+        ≡ Some (codes "otp-row 0x001") }
+    ensures part_of_wide { form_fault Otp (0 ∷ 0 ∷ 0 ∷ 1 ∷ 0 ∷ []) ≡ Some (codes "otp-length") }
+{}
+
+/// The form of a script: it ends at its first end, what follows is not read, and it has a bound on
+/// its records with the end. A fault of a record comes before the want of an end.
+pub fn forms_of_scripts()
+    ensures bound { RECORD_LIMIT ≡ 524288 }
+    ensures ended { form_fault Script (4 ∷ 0 ∷ []) ≡ None }
+    ensures behind { form_fault Script (0 ∷ 9 ∷ []) ≡ None }
+    ensures empty { form_fault Script [] ≡ Some (codes "script short at=0") }
+    ensures short { form_fault Script (4 ∷ []) ≡ Some (codes "script short at=1") }
+    ensures kind { form_fault Script (4 ∷ 6 ∷ 7 ∷ []) ≡ Some (codes "script kind at=2") }
+    ensures pattern { form_fault Script (3 ∷ 0 ∷ 0 ∷ 0 ∷ 0 ∷ 1 ∷ 0 ∷ 0 ∷ [])
+        ≡ Some (codes "script pattern at=0") }
+    ensures most { script_fault 2 (4 ∷ 0 ∷ []) 0 ≡ None }
+    ensures too_many { script_fault 2 (4 ∷ 4 ∷ 0 ∷ []) 0 ≡ Some (codes "script too-many") }
+    ensures last { script_fault 2 (4 ∷ 9 ∷ []) 0 ≡ Some (codes "script kind at=1") }
+    ensures past { script_fault 2 (4 ∷ 4 ∷ 9 ∷ []) 0 ≡ Some (codes "script too-many") }
+    ensures events { script_events (4 ∷ 6 ∷ 0 ∷ 4 ∷ []) ≡ PowerOn ∷ Buy ∷ [] }
+{}
+
+/// The length of the flash that a file gives: whole sectors, and at least two.
+pub fn filled_lengths()
+    ensures one { filled_length 1 ≡ 8192 }
+    ensures sector { filled_length 4096 ≡ 8192 }
+    ensures two { filled_length 8192 ≡ 8192 }
+    ensures more { filled_length 8193 ≡ 12288 }
+    ensures most { filled_length 16777215 ≡ 16777216 }
+{}
+
+/// The greatest lengths of their inputs.
+pub fn limits_of_tools()
+    ensures binary { limit_of Binary ≡ 16777216 }
+    ensures spec { limit_of Spec ≡ 65536 }
+    ensures json { limit_of Json ≡ 65536 }
+{}
+
+/// The texts of the faults of a JSON text.
+pub fn json_texts()
+    ensures not_json { json_text NotJson ≡ codes "not-json" }
+    ensures unknown_top { json_text (Unknown Top) ≡ codes "unknown top" }
+    ensures unknown_outside { json_text (Unknown Outside) ≡ codes "unknown unpartitioned" }
+    ensures unknown_part { json_text (Unknown (Numbered 14)) ≡ codes "unknown partition 14" }
+    ensures missing { json_text (Missing Top Processor) ≡ codes "missing top processor" }
+    ensures value { json_text (Value Top Partitions) ≡ codes "value top partitions" }
+    ensures value_outside { json_text (Value Outside Families)
+        ≡ codes "value unpartitioned families" }
+    ensures value_part { json_text (Value (Numbered 1) IgnoreArm)
+        ≡ codes "value partition 1 ignore_arm" }
+    ensures too_long { json_text (TooLong 644) ≡ codes "too-long 644" }
+    ensures bad_item { json_text (Faulty BadItem) ≡ codes "table bad-item" }
+    ensures permissions { json_text (Faulty (Permissions 3)) ≡ codes "table permissions 3" }
+    ensures range { json_text (Faulty (Range 0)) ≡ codes "table range 0" }
+    ensures overlap { json_text (Faulty (Overlap 0 1)) ≡ codes "table overlap 0 1" }
+    ensures link { json_text (Faulty (Link 2)) ≡ codes "table link 2" }
+    ensures hash { json_text (Faulty Hash) ≡ codes "table hash" }
+{}
+
+/// The first fault of a JSON text.
+pub fn forms_of_texts()
+    ensures binary { form_fault Binary [] ≡ None }
+    ensures empty { form_fault Spec [] ≡ Some (codes "not-json") }
+    ensures not_utf8 { form_fault Json (34 ∷ 255 ∷ 34 ∷ []) ≡ Some (codes "not-json") }
+    ensures spec { form_fault Spec (codes "{\"processor\":\"arm\",\"version\":[1,9]}") ≡ None }
+    ensures processor { form_fault Spec (codes "{}") ≡ Some (codes "missing top processor") }
+    ensures list { form_fault Json (codes "[]") ≡ Some (codes "value top partitions") }
+    ensures list_of_spec { form_fault Spec (codes "[]") ≡ Some (codes "value top processor") }
+    ensures unknown { form_fault Json (codes "{\"x\":1}") ≡ Some (codes "unknown top") }
+{}
+
+/// An image has a bound, and no byte is no fault of its form.
+pub fn forms_of_images()
+    ensures limit { limit_of Image ≡ 16777216 }
+    ensures empty { form_fault Image [] ≡ None }
+    ensures one { form_fault Image (0 ∷ []) ≡ None }
+{}

@@ -1,0 +1,262 @@
+//! The forms of input files, and the board that two of them give.
+
+ghost use Rattle.std.specs.Prelude.{◌≡◌, ◌+◌, ◌-◌, ◌*◌, ◌/◌, ◌≤◌, ◌++◌, replicate, length, slice_index, IfOk, OnOk, option_map, string_bytes};
+ghost use Rattle.pico_board.specs.Content.{IsFlashLength};
+ghost use Rattle.pico_board.specs.MemBoard.{state_of, new_state};
+ghost use Rattle.boot_script.specs.Events.{event_from};
+ghost use Rattle.boot_script.specs.Scripts.{is_end};
+ghost use Rattle.run_forms.specs.declared.forms.TheConstants.{RECORD_LIMIT};
+ghost use Rattle.run_forms.specs.Forms.{limit_of, form_fault, otp_fault, own_fault, script_fault, script_text, wide_from, rows_of, HasForm, filled, filled_length, otp_of};
+
+use crate::json::{spec_fault, table_fault};
+use boot_script::{Event, ScriptFault, next_event};
+use byteorder::{ByteOrder, LittleEndian};
+use pico_board::{BoardError, MemBoard};
+use std::alloc::{AllocError, Global};
+
+/// The greatest flash, in bytes.
+pub const FLASH_LIMIT: u32 = 16_777_216;
+
+/// The greatest OTP file, in bytes.
+pub const OTP_LIMIT: u32 = 16_384;
+
+/// The greatest script, in bytes.
+pub const SCRIPT_LIMIT: u32 = 67_108_864;
+
+/// The greatest image, in bytes.
+pub const IMAGE_LIMIT: u32 = 16_777_216;
+
+/// The greatest number of records of a script, with its end.
+pub const RECORD_LIMIT: u32 = 524_288;
+
+/// The greatest binary, in bytes.
+pub const BINARY_LIMIT: u32 = 16_777_216;
+
+/// The greatest JSON text, in bytes.
+pub const JSON_LIMIT: u32 = 65_536;
+
+/// The form of an input file.
+#[derive(Clone, Copy, PartialEq, Eq, Debug)]
+pub enum Form {
+    /// The bytes of a flash.
+    Flash,
+    /// The rows of an OTP, of four bytes each.
+    Otp,
+    /// The records of a script, up to its end.
+    Script,
+    /// Any bytes, of which an image is made.
+    Binary,
+    /// The JSON text of the spec of a sealed image.
+    Spec,
+    /// The JSON text of a partition table.
+    Json,
+    /// The bytes of an image.
+    Image,
+}
+
+impl Form {
+    /// The greatest length of a file, in bytes.
+    pub fn limit(self) -> u32
+        ensures { result ≡ limit_of self }
+    {
+        match self {
+            Form::Flash => FLASH_LIMIT,
+            Form::Otp => OTP_LIMIT,
+            Form::Script => SCRIPT_LIMIT,
+            Form::Binary => BINARY_LIMIT,
+            Form::Spec | Form::Json => JSON_LIMIT,
+            Form::Image => IMAGE_LIMIT,
+        }
+    }
+}
+
+/// The row at a place of an OTP file.
+#[tactic(auto, unfolding(block_codec::specs::Words::word_of))]
+fn row_at(file: &[u8], place: usize) -> u32
+    requires { 4 * place + 4 ≤ length file.now }
+    ensures { result ≡ slice_index (rows_of file.now) place }
+{
+    LittleEndian::read_u32(&file[4 * place..])
+}
+
+/// The least row of an OTP file that has more than 24 bits.
+fn wide_row(file: &[u8]) -> Option<usize>
+    ensures { result ≡ wide_from 0 (rows_of file.now) }
+{
+    for place in 0..file.len() / 4 {
+        if row_at(file, place) >= 1 << 24 {
+            return Some(place);
+        }
+    }
+    None
+}
+
+/// The fault of an OTP file that is not too long.
+fn otp_fault(alloc: Global, file: &[u8]) -> Result<Option<String>, AllocError>
+    ensures { IfOk result (λ fault. option_map string_bytes fault ≡ otp_fault file.now) }
+{
+    if file.len() % 4 != 0 {
+        return Ok(Some(String::from_str(alloc, "otp-length")?));
+    }
+    match wide_row(file) {
+        Some(row) => Ok(Some(format!(in alloc; "otp-row 0x{row:03x}")?)),
+        None => Ok(None),
+    }
+}
+
+/// Whether a script ends with the event.
+pub fn is_end(event: &Event<'_>) -> bool
+    ensures { result ≡ is_end (event_from event.now) }
+{
+    match event {
+        Event::End => true,
+        Event::Command(..)
+        | Event::Uf2(_)
+        | Event::Cut(..)
+        | Event::PowerOn
+        | Event::Reset(_)
+        | Event::Buy => false,
+    }
+}
+
+/// Why a script is not read.
+fn script_text(alloc: Global, fault: ScriptFault) -> Result<String, AllocError>
+    ensures { IfOk result (λ t. string_bytes t ≡ script_text fault) }
+{
+    match fault {
+        ScriptFault::Kind(at) => format!(in alloc; "script kind at={at}"),
+        ScriptFault::Short(at) => format!(in alloc; "script short at={at}"),
+        ScriptFault::Pattern(at) => format!(in alloc; "script pattern at={at}"),
+    }
+}
+
+/// The fault of a script that is not too long.
+fn script_fault(alloc: Global, file: &[u8]) -> Result<Option<String>, AllocError>
+    requires { length file.now ≤ 67108864 }
+    ensures { IfOk result
+        (λ fault. option_map string_bytes fault ≡ script_fault RECORD_LIMIT file.now 0) }
+{
+    let mut at = 0;
+    for _ in 0..RECORD_LIMIT {
+        let (event, next) = match next_event(file, at) {
+            Ok(read) => read,
+            Err(fault) => return Ok(Some(script_text(alloc, fault)?)),
+        };
+        if is_end(&event) {
+            return Ok(None);
+        }
+        at = next;
+    }
+    Ok(Some(String::from_str(alloc, "script too-many")?))
+}
+
+/// The fault of a file that is not too long.
+fn own_fault(alloc: Global, form: Form, file: &[u8]) -> Result<Option<String>, AllocError>
+    requires { length file.now ≤ limit_of form }
+    ensures { IfOk result (λ fault. option_map string_bytes fault ≡ own_fault form file.now) }
+{
+    match form {
+        Form::Flash if file.is_empty() => Ok(Some(String::from_str(alloc, "empty")?)),
+        Form::Flash => Ok(None),
+        Form::Otp => otp_fault(alloc, file),
+        Form::Script => script_fault(alloc, file),
+        Form::Binary => Ok(None),
+        Form::Spec => spec_fault(alloc, file),
+        Form::Json => table_fault(alloc, file),
+        Form::Image => Ok(None),
+    }
+}
+
+/// The first fault of a file's form.
+pub fn form_fault(alloc: Global, form: Form, file: &[u8]) -> Result<Option<String>, AllocError>
+    ensures { IfOk result (λ fault. option_map string_bytes fault ≡ form_fault form file.now) }
+{
+    if file.len() > form.limit() as usize {
+        return Ok(Some(String::from_str(alloc, "too-large")?));
+    }
+    own_fault(alloc, form, file)
+}
+
+/// The length of the flash that a file of this many bytes gives.
+fn whole_sectors(length: usize) -> usize
+    requires { length ≤ 16777216 }
+    ensures value { result ≡ filled_length length }
+    ensures room { length ≤ result }
+    ensures flash { IsFlashLength result }
+{
+    (4096 * length.div_ceil(4096)).max(8192)
+}
+
+/// Fills a flash file to whole sectors, and at least two, with 0xff. It fails only where memory is
+/// out.
+#[tactic(auto, unfolding(crate::specs::Forms::filled))]
+fn fill(flash: &mut Vec<u8>) -> Result<(), AllocError>
+    requires { length flash.old.items ≤ 16777216 }
+    ensures filled { OnOk result (flash.new.items ≡ filled flash.old.items) }
+    ensures whole { OnOk result (IsFlashLength (length flash.new.items)) }
+{
+    let length = whole_sectors(flash.len());
+    flash.resize(length, 0xff)
+}
+
+/// The rows of an OTP file, as many as it has.
+fn file_rows(alloc: Global, file: &[u8]) -> Result<Vec<u32>, AllocError>
+    ensures rows { IfOk result (λ rows. rows.items ≡ rows_of file.now) }
+    ensures count { IfOk result (λ rows. length rows.items ≡ length file.now / 4) }
+{
+    let mut rows = Vec::new(alloc);
+    for place in 0..file.len() / 4 {
+        rows.push(row_at(file, place))?;
+    }
+    Ok(rows)
+}
+
+/// Fills rows with 0 to so many.
+fn pad(rows: &mut Vec<u32>, count: usize) -> Result<(), AllocError>
+    requires { length rows.old.items ≤ count }
+    ensures rows { OnOk result
+        (rows.new.items ≡ rows.old.items ++ replicate (count - length rows.old.items) 0) }
+    ensures count { OnOk result (length rows.new.items ≡ count) }
+{
+    rows.resize(count, 0)
+}
+
+/// The 4096 rows that an OTP file gives, with 0 for those that it does not have. It fails only
+/// where memory is out.
+#[tactic(auto, unfolding(crate::specs::Forms::otp_of))]
+fn otp_rows(alloc: Global, file: &[u8]) -> Result<Vec<u32>, AllocError>
+    requires { length file.now ≤ 16384 }
+    ensures rows { IfOk result (λ rows. rows.items ≡ otp_of file.now) }
+    ensures all { IfOk result (λ rows. length rows.items ≡ 4096) }
+{
+    let mut rows = file_rows(alloc, file)?;
+    pad(&mut rows, 4096)?;
+    Ok(rows)
+}
+
+/// The one error that a board of files with their forms can have.
+fn want_of_memory(error: BoardError) -> AllocError
+    requires { error ≡ BoardError.Memory }
+{
+    match error {
+        BoardError::Memory => AllocError,
+        _ => unreachable!(),
+    }
+}
+
+/// The board in memory of a flash file and an OTP file, which have their forms. It fails only where
+/// memory is out.
+pub fn board_of(alloc: Global, flash: Vec<u8>, otp: &[u8]) -> Result<MemBoard, AllocError>
+    requires flash { HasForm Form.Flash flash.items }
+    requires otp { HasForm Form.Otp otp.now }
+    ensures { IfOk result
+        (λ board. state_of board ≡ new_state (filled flash.items) (otp_of otp.now)) }
+{
+    let mut whole = flash;
+    fill(&mut whole)?;
+    let rows = otp_rows(alloc, otp)?;
+    match MemBoard::new(alloc, whole, rows) {
+        Ok(board) => Ok(board),
+        Err(error) => Err(want_of_memory(error)),
+    }
+}

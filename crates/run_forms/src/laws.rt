@@ -1,0 +1,21 @@
+//! Laws of forms, proved: each is the `ensures` of a function that does nothing.
+
+ghost use Rattle.std.specs.Prelude.{ℕ, ◌≡◌, ◌↔◌, List, Some, None};
+ghost use Rattle.pico_board.specs.Content.{Content, IsContent};
+ghost use Rattle.run_forms.specs.declared.forms.Form.{Form};
+ghost use Rattle.run_forms.specs.declared.forms.Form.TheVariants.{Flash, Otp};
+ghost use Rattle.run_forms.specs.Forms.{HasForm, IsFault, form_fault, content_of};
+
+/// A file has its form, or it has the one fault that the rules name first.
+pub fn forms_are_judged()
+    ensures fault { (form : Form) (bytes fault : List ℕ)
+        → (form_fault form bytes ≡ Some fault) ↔ IsFault form bytes fault }
+    ensures none { (form : Form) (bytes : List ℕ) → (form_fault form bytes ≡ None)
+        ↔ HasForm form bytes }
+{}
+
+/// Every content is that of a flash file and an OTP file that have their forms.
+pub fn every_content_is_given()
+    ensures { (c : Content) → IsContent c
+        → (f : List ℕ) × (g : List ℕ) × HasForm Flash f × HasForm Otp g × (content_of f g ≡ c) }
+{}

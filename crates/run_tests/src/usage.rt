@@ -1,0 +1,107 @@
+//! The usage, the version, and words that are no command.
+
+use boot_run::{Status, run};
+use pico_board::{MemSink, MemStore};
+use run_fixtures::words;
+use std::alloc::Global;
+use std::test::Fail;
+
+/// How the program is used.
+const USAGE: &str = "boot FLASH OTP CPU KIND  which image a boot starts, or why it falls to BOOTSEL
+info FLASH OTP CPU       the partition table, and the image in each window or why there is none
+data FLASH OTP CPU KIND  the same as boot, and the windows of the data that the image owns
+replay FLASH OTP CPU SCRIPT OUTFLASH OUTOTP  what each event of a script does, and what it leaves
+seal BIN SPEC OUT        the sealed image of a binary: with a version, a load map and a digest
+table JSON OUT           the partition table of a text, as the first sector of a flash
+uf2 IMAGE FAMILY OUT     the UF2 file of an image
+plan FLASH OTP CPU IMAGE OUT  a script that writes an image to where a download of it goes
+gen N                    the digest of a flash that is made of a number, and what boots on it
+--help                   this text
+--version                the version of the program
+
+CPU     arm or riscv
+KIND    normal, bootsel, or update=0x and eight hexadecimal digits: the flash address of the update
+FLASH   a file of 1 to 16777216 bytes, filled with 0xff to whole sectors of 4096 bytes, at least two
+OTP     a file of at most 16384 bytes, 4 for each row, the lowest byte first; missing rows are 0
+SCRIPT  a file of at most 67108864 bytes, with an end among its first 524288 records
+OUTFLASH, OUTOTP  files to write: the whole flash, and all 4096 rows, 4 bytes each
+BIN     a file of at most 16777216 bytes: an image, with or without a version and a digest
+SPEC    a JSON text of at most 65536 bytes: processor, version, rollback, rows and trial
+JSON    a JSON text of at most 65536 bytes: version, singleton, unpartitioned and partitions
+IMAGE   a file of 1 to 16777216 bytes, and for plan at most as many as it has room for
+FAMILY  rp2040, absolute, data, rp2350-arm-s, rp2350-riscv or rp2350-arm-ns
+N       a number below 4294967296, of 1 to 10 decimal digits
+OUT     a file to write: the sealed image; the first sector of a flash with the table; the UF2 file,
+        in blocks of 512 bytes; or the script
+
+Status 0 means that the text is whole, 1 that the words are no command, 2 that an input is refused,
+3 that the boot falls to BOOTSEL, 4 that a file could not be read, 5 that a file could not be
+written, 6 that standard output failed, and 7 that there was no memory.
+";
+
+/// The words, and the status and the text that they give without any file.
+const CASES: [(&[&str], Status, &str); 15] = [
+    (&["--help"], Status::Done, USAGE),
+    (&["--version"], Status::Done, "dugnatsew 0.1.0\n"),
+    (&[], Status::Words, "words not understood\n"),
+    (&["-h"], Status::Words, "words not understood\n"),
+    (&["--version", "x"], Status::Words, "words not understood\n"),
+    (&["boot", "f", "o"], Status::Words, "words not understood\n"),
+    (
+        &["boot", "f", "o", "x86", "normal"],
+        Status::Words,
+        "words not understood\n",
+    ),
+    (
+        &["boot", "f", "o", "arm", "update=0x1000200"],
+        Status::Words,
+        "words not understood\n",
+    ),
+    (
+        &["info", "f", "o", "arm", "normal"],
+        Status::Words,
+        "words not understood\n",
+    ),
+    (&["gen", ""], Status::Words, "words not understood\n"),
+    (
+        &["gen", "4294967296"],
+        Status::Words,
+        "words not understood\n",
+    ),
+    (
+        &["gen", "00000000007"],
+        Status::Words,
+        "words not understood\n",
+    ),
+    (&["gen", "-1"], Status::Words, "words not understood\n"),
+    (&["gen", "7 "], Status::Words, "words not understood\n"),
+    (&["gen", "0x7"], Status::Words, "words not understood\n"),
+];
+
+/// How a run ends, in no read, no write and one put: another one would fail.
+fn ended(alloc: Global, texts: &[&str]) -> Result<(Status, MemSink), Fail> {
+    let bad_reads = vec![in alloc; 0_u64]?;
+    let bad_writes = vec![in alloc; 0_u64]?;
+    let mut store = MemStore::make(alloc, Vec::new(alloc), bad_reads, bad_writes);
+    let mut out = MemSink::make(alloc, vec![in alloc; 1_u64]?);
+    let status = run(alloc, &words(alloc, texts)?, &mut store, &mut out);
+    Ok((status, out))
+}
+
+#[test]
+fn words_without_files_are_answered(rt: HostRuntime) -> Result<(), Fail> {
+    for (texts, status, text) in CASES {
+        let (answer, out) = ended(rt.alloc(), texts)?;
+        assert_eq!(rt; answer, status, "for {text}");
+        assert_eq!(rt; out.bytes(), text.as_bytes());
+    }
+    Ok(())
+}
+
+#[test]
+fn no_line_of_the_usage_is_longer_than_100_characters(rt: HostRuntime) -> Result<(), Fail> {
+    for line in USAGE.split('\n') {
+        assert!(rt; line.len() <= 100, "{line}");
+    }
+    Ok(())
+}

@@ -1,0 +1,23 @@
+use Rattle.std.proofs.Common.{refl}
+use Rattle.std.specs.Fmt.{padded_integral, digits, char_count}
+use Rattle.run_texts.proofs.examples.hexadecimal_words.Goals as goal
+
+pub returns-clause-zero : goal.returns-clause-zero
+unfolding padded_integral digits char_count
+returns-clause-zero c = refl
+
+pub returns-clause-short : goal.returns-clause-short
+unfolding padded_integral digits char_count
+returns-clause-short c = refl
+
+pub returns-clause-lower_case : goal.returns-clause-lower_case
+unfolding padded_integral digits char_count
+returns-clause-lower_case c = refl
+
+pub returns-clause-row : goal.returns-clause-row
+unfolding padded_integral digits char_count
+returns-clause-row c = refl
+
+pub returns-clause-long_row : goal.returns-clause-long_row
+unfolding padded_integral digits char_count
+returns-clause-long_row c = refl

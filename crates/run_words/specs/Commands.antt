@@ -1,0 +1,135 @@
+-- The words that are a command. This project's own.
+use Rattle.std.specs.Prelude.{ℕ, ◌+◌, ◌-◌, ◌*◌, ◌==◌, ◌&&◌, nat_le, if◌then◌else◌, List, [], ◌∷◌, length, take, drop, Option, Some, None, option_map, option_and_then, codes, bytes_eq, map, Vec, String, string_bytes}
+use Rattle.std.specs.Option.{option_or}
+use Rattle.std.specs.declared.alloc.Global.{Global}
+use Rattle.pico_board.specs.declared.boot.Cpu.{Cpu}
+use Rattle.pico_board.specs.declared.boot.Cpu.TheVariants.{Arm, Riscv}
+use Rattle.pico_board.specs.declared.boot.BootKind.{BootKind}
+use Rattle.pico_board.specs.declared.boot.BootKind.TheVariants.{Normal, Bootsel, Update}
+use Rattle.run_words.specs.Values.{family_of, number_of}
+
+-- a command, with the names of its files as bytes of text
+pub data Command : Type 0 where
+  Boot : (flash otp : List ℕ) → (cpu : Cpu) → (kind : BootKind) → Command
+  Info : (flash otp : List ℕ) → (cpu : Cpu) → Command
+  OwnedData : (flash otp : List ℕ) → (cpu : Cpu) → (kind : BootKind) → Command
+  Replay : (flash otp : List ℕ) → (cpu : Cpu) → (script out_flash out_otp : List ℕ) → Command
+  Seal : (binary spec out : List ℕ) → Command
+  Table : (json out : List ℕ) → Command
+  Uf2 : (image : List ℕ) → (family : ℕ) → (out : List ℕ) → Command
+  Plan : (flash otp : List ℕ) → (cpu : Cpu) → (image out : List ℕ) → Command
+  Gen : (n : ℕ) → Command
+  Usage : Command
+  Release : Command
+
+-- the word of a processor
+abbrev pub cpu_of : List ℕ → Option Cpu
+cpu_of word =
+    if bytes_eq word (codes "arm") then Some Arm
+    else if bytes_eq word (codes "riscv") then Some Riscv
+    else None
+
+-- the value of a hexadecimal digit of either case, by its code
+abbrev pub hex_digit : ℕ → Option ℕ
+hex_digit code =
+    if nat_le 48 code && nat_le code 57 then Some (code - 48)
+    else if nat_le 65 code && nat_le code 70 then Some (code - 55)
+    else if nat_le 97 code && nat_le code 102 then Some (code - 87)
+    else None
+
+-- the number of these digits behind those of a first number
+abbrev pub hex_value : ℕ → List ℕ → Option ℕ
+hex_value first [] = Some first
+hex_value first (code ∷ codes) =
+    option_and_then (λ digit. hex_value (16 * first + digit) codes) (hex_digit code)
+
+-- the base of an update: `update=0x` and eight hexadecimal digits
+abbrev pub update_base : List ℕ → Option ℕ
+update_base word =
+    if length word == 17 && bytes_eq (take 9 word) (codes "update=0x")
+    then hex_value 0 (drop 9 word)
+    else None
+
+-- the word of a boot type
+abbrev pub kind_of : List ℕ → Option BootKind
+kind_of word =
+    if bytes_eq word (codes "normal") then Some Normal
+    else if bytes_eq word (codes "bootsel") then Some Bootsel
+    else option_map Update (update_base word)
+
+-- one word
+abbrev pub one_word : List ℕ → Option Command
+one_word name =
+    if bytes_eq name (codes "--help") then Some Usage
+    else if bytes_eq name (codes "--version") then Some Release
+    else None
+
+-- the name of a command and one word
+abbrev pub two_words : List ℕ → Option ℕ → Option Command
+two_words name None = None
+two_words name (Some n) = if bytes_eq name (codes "gen") then Some (Gen n) else None
+
+-- the name of a command and two words
+abbrev pub three_words : List ℕ → List ℕ → List ℕ → Option Command
+three_words name first second =
+    if bytes_eq name (codes "table") then Some (Table first second) else None
+
+-- the name of a command on a flash, an OTP and a processor
+abbrev pub board_words : List ℕ → List ℕ → List ℕ → Option Cpu → Option Command
+board_words name flash otp None = None
+board_words name flash otp (Some cpu) =
+    if bytes_eq name (codes "info") then Some (Info flash otp cpu) else None
+
+-- the name of a command on an image and a family
+abbrev pub uf2_words : List ℕ → List ℕ → Option ℕ → List ℕ → Option Command
+uf2_words name image None out = None
+uf2_words name image (Some family) out =
+    if bytes_eq name (codes "uf2") then Some (Uf2 image family out) else None
+
+-- the name of a command and three words
+abbrev pub four_words : List ℕ → List ℕ → List ℕ → List ℕ → Option Command
+four_words name first second third =
+    if bytes_eq name (codes "seal") then Some (Seal first second third)
+    else option_or (board_words name first second (cpu_of third))
+    (uf2_words name first (family_of second) third)
+
+-- the name of a command and four words
+abbrev pub five_words : List ℕ → List ℕ → List ℕ → Option Cpu → Option BootKind → Option Command
+five_words name flash otp None kind = None
+five_words name flash otp (Some cpu) None = None
+five_words name flash otp (Some cpu) (Some kind) =
+    if bytes_eq name (codes "boot") then Some (Boot flash otp cpu kind)
+    else if bytes_eq name (codes "data") then Some (OwnedData flash otp cpu kind)
+    else None
+
+-- the name of a command and five words
+abbrev pub six_words : List ℕ → List ℕ → List ℕ → Option Cpu → List ℕ → List ℕ → Option Command
+six_words name flash otp None image out = None
+six_words name flash otp (Some cpu) image out =
+    if bytes_eq name (codes "plan") then Some (Plan flash otp cpu image out) else None
+
+-- the name of a command and six words
+abbrev pub seven_words : List ℕ → List ℕ → List ℕ → Option Cpu → List ℕ → List ℕ → List ℕ
+    → Option Command
+seven_words name flash otp None script out_flash out_otp = None
+seven_words name flash otp (Some cpu) script out_flash out_otp =
+    if bytes_eq name (codes "replay") then Some (Replay flash otp cpu script out_flash out_otp)
+    else None
+
+-- the command that the words are; other words are none
+abbrev pub command_of : List (List ℕ) → Option Command
+command_of (name ∷ []) = one_word name
+command_of (name ∷ number ∷ []) = two_words name (number_of number)
+command_of (name ∷ first ∷ second ∷ []) = three_words name first second
+command_of (name ∷ first ∷ second ∷ third ∷ []) = four_words name first second third
+command_of (name ∷ flash ∷ otp ∷ cpu ∷ kind ∷ []) =
+    five_words name flash otp (cpu_of cpu) (kind_of kind)
+command_of (name ∷ flash ∷ otp ∷ cpu ∷ image ∷ out ∷ []) =
+    six_words name flash otp (cpu_of cpu) image out
+command_of (name ∷ flash ∷ otp ∷ cpu ∷ script ∷ out_flash ∷ out_otp ∷ []) =
+    seven_words name flash otp (cpu_of cpu) script out_flash out_otp
+command_of _ = None
+
+-- the command of a run's words
+abbrev pub asked : Vec (String Global) Global → Option Command
+asked words = command_of (map string_bytes words.items)

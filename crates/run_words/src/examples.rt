@@ -1,0 +1,145 @@
+//! Worked examples of the definitions, proved by computing: each is the `ensures` of a function
+//! that does nothing.
+
+ghost use Rattle.std.specs.Prelude.{◌≡◌, [], ◌∷◌, codes, Some, None};
+ghost use Rattle.pico_board.specs.declared.boot.Cpu.TheVariants.{Arm, Riscv};
+ghost use Rattle.pico_board.specs.declared.boot.BootKind.TheVariants.{Normal, Bootsel as AskBootsel, Update};
+ghost use Rattle.run_words.specs.Commands.{Table, command_of, kind_of, Boot, Info, OwnedData, Replay, Usage, Release, Seal, Uf2, Plan, Gen};
+ghost use Rattle.run_words.specs.Usages.{release_line};
+ghost use Rattle.run_words.specs.Values.{family_of, number_of};
+
+/// The words of each command.
+pub fn words_of_commands()
+    ensures boot { command_of
+        (codes "boot" ∷ codes "f" ∷ codes "o" ∷ codes "arm" ∷ codes "normal" ∷ [])
+        ≡ Some (Boot (codes "f") (codes "o") Arm Normal) }
+    ensures bootsel { command_of
+        (codes "boot" ∷ codes "" ∷ codes "o" ∷ codes "riscv" ∷ codes "bootsel" ∷ [])
+        ≡ Some (Boot (codes "") (codes "o") Riscv AskBootsel) }
+    ensures info { command_of (codes "info" ∷ codes "f" ∷ codes "o" ∷ codes "arm" ∷ [])
+        ≡ Some (Info (codes "f") (codes "o") Arm) }
+    ensures data { command_of
+        (codes "data" ∷ codes "f" ∷ codes "o" ∷ codes "arm" ∷ codes "normal" ∷ [])
+        ≡ Some (OwnedData (codes "f") (codes "o") Arm Normal) }
+    ensures replay { command_of
+        (codes "replay" ∷ codes "f" ∷ codes "o" ∷ codes "riscv" ∷ codes "s" ∷ codes "a"
+        ∷ codes "b" ∷ []) ≡ Some
+        (Replay (codes "f") (codes "o") Riscv (codes "s") (codes "a") (codes "b")) }
+    ensures help { command_of (codes "--help" ∷ []) ≡ Some Usage }
+    ensures release { command_of (codes "--version" ∷ []) ≡ Some Release }
+{}
+
+/// The kind of an update boot has eight hexadecimal digits of either case.
+pub fn update_words()
+    ensures lower { kind_of (codes "update=0x1002abcd") ≡ Some (Update 0x1002abcd) }
+    ensures upper { kind_of (codes "update=0xFFFFFFFF") ≡ Some (Update 0xffffffff) }
+    ensures mixed { kind_of (codes "update=0x09afAF00") ≡ Some (Update 0x09afaf00) }
+    ensures short { kind_of (codes "update=0x1002000") ≡ None }
+    ensures long { kind_of (codes "update=0x100200000") ≡ None }
+    ensures prefix { kind_of (codes "update=0X10020000") ≡ None }
+    ensures below_0 { kind_of (codes "update=0x1002000/") ≡ None }
+    ensures above_9 { kind_of (codes "update=0x1002000:") ≡ None }
+    ensures below_upper { kind_of (codes "update=0x1002000@") ≡ None }
+    ensures above_upper { kind_of (codes "update=0x1002000G") ≡ None }
+    ensures below_lower { kind_of (codes "update=0x1002000`") ≡ None }
+    ensures above_lower { kind_of (codes "update=0x1002000g") ≡ None }
+{}
+
+/// Words that are no command.
+pub fn other_words()
+    ensures none { command_of [] ≡ None }
+    ensures three { command_of (codes "boot" ∷ codes "f" ∷ codes "o" ∷ []) ≡ None }
+    ensures six { command_of
+        (codes "boot" ∷ codes "f" ∷ codes "o" ∷ codes "arm" ∷ codes "normal" ∷ codes "" ∷ [])
+        ≡ None }
+    ensures cpu { command_of
+        (codes "boot" ∷ codes "f" ∷ codes "o" ∷ codes "Arm" ∷ codes "normal" ∷ []) ≡ None }
+    ensures kind { command_of
+        (codes "boot" ∷ codes "f" ∷ codes "o" ∷ codes "arm" ∷ codes "Normal" ∷ []) ≡ None }
+    ensures name { command_of
+        (codes "info" ∷ codes "f" ∷ codes "o" ∷ codes "arm" ∷ codes "normal" ∷ []) ≡ None }
+    ensures four { command_of (codes "boot" ∷ codes "f" ∷ codes "o" ∷ codes "arm" ∷ []) ≡ None }
+    ensures info_cpu { command_of (codes "info" ∷ codes "f" ∷ codes "o" ∷ codes "x86" ∷ []) ≡ None }
+    ensures one { command_of (codes "-h" ∷ []) ≡ None }
+    ensures two { command_of (codes "--version" ∷ codes "x" ∷ []) ≡ None }
+    ensures seven { command_of
+        (codes "boot" ∷ codes "f" ∷ codes "o" ∷ codes "arm" ∷ codes "s" ∷ codes "a" ∷ codes "b"
+        ∷ []) ≡ None }
+    ensures replay_cpu { command_of
+        (codes "replay" ∷ codes "f" ∷ codes "o" ∷ codes "x86" ∷ codes "s" ∷ codes "a" ∷ codes "b"
+        ∷ []) ≡ None }
+    ensures eight { command_of
+        (codes "replay" ∷ codes "f" ∷ codes "o" ∷ codes "arm" ∷ codes "s" ∷ codes "a" ∷ codes "b"
+        ∷ codes "c" ∷ []) ≡ None }
+{}
+
+/// The words of a sealing and of a table.
+pub fn words_of_sealings()
+    ensures seal { command_of (codes "seal" ∷ codes "b" ∷ codes "s" ∷ codes "a" ∷ [])
+        ≡ Some (Seal (codes "b") (codes "s") (codes "a")) }
+    ensures table { command_of (codes "table" ∷ codes "t" ∷ codes "a" ∷ [])
+        ≡ Some (Table (codes "t") (codes "a")) }
+    ensures seal_of_three { command_of (codes "seal" ∷ codes "b" ∷ codes "s" ∷ []) ≡ None }
+    ensures table_of_four { command_of
+        (codes "table" ∷ codes "t" ∷ codes "a" ∷ codes "arm" ∷ []) ≡ None }
+    ensures seal_for_arm { command_of (codes "seal" ∷ codes "b" ∷ codes "s" ∷ codes "arm" ∷ [])
+        ≡ Some (Seal (codes "b") (codes "s") (codes "arm")) }
+{}
+
+/// The words of each of the commands.
+pub fn words_of_tools()
+    ensures uf2 { command_of (codes "uf2" ∷ codes "i" ∷ codes "data" ∷ codes "a" ∷ [])
+        ≡ Some (Uf2 (codes "i") 0xe48bff58 (codes "a")) }
+    ensures uf2_cpu { command_of (codes "uf2" ∷ codes "i" ∷ codes "data" ∷ codes "arm" ∷ [])
+        ≡ Some (Uf2 (codes "i") 0xe48bff58 (codes "arm")) }
+    ensures plan { command_of
+        (codes "plan" ∷ codes "f" ∷ codes "o" ∷ codes "riscv" ∷ codes "i" ∷ codes "a" ∷ [])
+        ≡ Some (Plan (codes "f") (codes "o") Riscv (codes "i") (codes "a")) }
+    ensures made { command_of (codes "gen" ∷ codes "007" ∷ []) ≡ Some (Gen 7) }
+{}
+
+/// Words that are none of them.
+pub fn other_words_of_tools()
+    ensures family { command_of (codes "uf2" ∷ codes "i" ∷ codes "arm" ∷ codes "a" ∷ []) ≡ None }
+    ensures three { command_of (codes "uf2" ∷ codes "i" ∷ codes "data" ∷ []) ≡ None }
+    ensures cpu { command_of
+        (codes "plan" ∷ codes "f" ∷ codes "o" ∷ codes "x86" ∷ codes "i" ∷ codes "a" ∷ []) ≡ None }
+    ensures five { command_of
+        (codes "plan" ∷ codes "f" ∷ codes "o" ∷ codes "arm" ∷ codes "i" ∷ []) ≡ None }
+    ensures name { command_of
+        (codes "boot" ∷ codes "f" ∷ codes "o" ∷ codes "arm" ∷ codes "i" ∷ codes "a" ∷ []) ≡ None }
+    ensures number { command_of (codes "gen" ∷ codes "x" ∷ []) ≡ None }
+    ensures two { command_of (codes "uf2" ∷ codes "7" ∷ []) ≡ None }
+{}
+
+/// The families by their words.
+pub fn families()
+    ensures rp2040 { family_of (codes "rp2040") ≡ Some 0xe48bff56 }
+    ensures absolute { family_of (codes "absolute") ≡ Some 0xe48bff57 }
+    ensures data { family_of (codes "data") ≡ Some 0xe48bff58 }
+    ensures arm_s { family_of (codes "rp2350-arm-s") ≡ Some 0xe48bff59 }
+    ensures riscv { family_of (codes "rp2350-riscv") ≡ Some 0xe48bff5a }
+    ensures arm_ns { family_of (codes "rp2350-arm-ns") ≡ Some 0xe48bff5b }
+    ensures prefix { family_of (codes "rp2350-arm") ≡ None }
+    ensures upper { family_of (codes "DATA") ≡ None }
+{}
+
+/// A number has 1 to 10 decimal digits, of which the first may be 0, and is below 2^32.
+pub fn numbers()
+    ensures zero { number_of (codes "0") ≡ Some 0 }
+    ensures digits { number_of (codes "1234567890") ≡ Some 1234567890 }
+    ensures zeros { number_of (codes "0000000007") ≡ Some 7 }
+    ensures most { number_of (codes "4294967295") ≡ Some 4294967295 }
+    ensures past { number_of (codes "4294967296") ≡ None }
+    ensures none { number_of [] ≡ None }
+    ensures eleven { number_of (codes "00000000007") ≡ None }
+    ensures below_0 { number_of (codes "7/") ≡ None }
+    ensures above_9 { number_of (codes "7:") ≡ None }
+    ensures sign { number_of (codes "+7") ≡ None }
+    ensures blank { number_of (codes " 7") ≡ None }
+{}
+
+/// The line of the version.
+pub fn lines_of_releases()
+    ensures { release_line ≡ codes "dugnatsew 0.1.0\n" }
+{}

@@ -1,0 +1,363 @@
+//! The words that are a command.
+
+ghost use Rattle.std.specs.Prelude.{◌≡◌, ◌≢◌, ◌<◌, ◌≤◌, length, IfSome, option_map, map, string_bytes};
+ghost use Rattle.run_words.specs.Commands.{command_of, cpu_of, kind_of, hex_digit, hex_value, update_base, one_word, three_words, board_words, four_words, five_words, seven_words, two_words, uf2_words, six_words};
+ghost use Rattle.run_words.specs.Values.{family_of, number_of};
+ghost use Rattle.run_words.specs.Views.{command_from};
+
+use crate::values::{family_word, number_word};
+use pico_board::{BootKind, Cpu};
+
+/// A command, with the words that name its files.
+#[derive(Clone, Copy, Drop)]
+pub enum CommandWords<'a> {
+    /// Which image a boot starts.
+    Boot {
+        flash: &'a str,
+        otp: &'a str,
+        cpu: Cpu,
+        kind: BootKind,
+    },
+    /// The partition table, and the image in each window.
+    Info {
+        flash: &'a str,
+        otp: &'a str,
+        cpu: Cpu,
+    },
+    /// Which image a boot starts, and the data that it owns.
+    OwnedData {
+        flash: &'a str,
+        otp: &'a str,
+        cpu: Cpu,
+        kind: BootKind,
+    },
+    /// What a script does to a machine.
+    Replay {
+        flash: &'a str,
+        otp: &'a str,
+        cpu: Cpu,
+        script: &'a str,
+        out_flash: &'a str,
+        out_otp: &'a str,
+    },
+    /// The sealed image of a binary.
+    Seal {
+        binary: &'a str,
+        spec: &'a str,
+        out: &'a str,
+    },
+    /// The partition table of a text.
+    Table {
+        json: &'a str,
+        out: &'a str,
+    },
+    /// The UF2 file of an image.
+    Uf2 {
+        image: &'a str,
+        family: u32,
+        out: &'a str,
+    },
+    /// The script that writes an image.
+    Plan {
+        flash: &'a str,
+        otp: &'a str,
+        cpu: Cpu,
+        image: &'a str,
+        out: &'a str,
+    },
+    /// The flash of a number.
+    Gen {
+        n: u32,
+    },
+    /// How the program is used.
+    Usage,
+    /// The version of the program.
+    Release,
+}
+
+/// The processor that a word names.
+fn cpu_word(word: &str) -> Option<Cpu>
+    ensures { result ≡ cpu_of word.now }
+{
+    if word == "arm" {
+        Some(Cpu::Arm)
+    } else if word == "riscv" {
+        Some(Cpu::Riscv)
+    } else {
+        None
+    }
+}
+
+/// The value of a hexadecimal digit of either case, by its code.
+fn hex_digit(code: u8) -> Option<u32>
+    ensures value { result ≡ hex_digit code }
+    ensures small { IfSome result (λ digit. digit < 16) }
+{
+    match code {
+        b'0'..=b'9' => Some((code - b'0') as u32),
+        b'A'..=b'F' => Some((code - b'A' + 10) as u32),
+        b'a'..=b'f' => Some((code - b'a' + 10) as u32),
+        _ => None,
+    }
+}
+
+/// The number of at most eight hexadecimal digits.
+fn hex_number(digits: &[u8]) -> Option<u32>
+    requires { length digits.now ≤ 8 }
+    ensures { result ≡ hex_value 0 digits.now }
+{
+    let mut number = 0;
+    for code in digits {
+        match hex_digit(*code) {
+            Some(digit) => number = 16 * number + digit,
+            None => return None,
+        }
+    }
+    Some(number)
+}
+
+/// The base of an update: `update=0x` and eight hexadecimal digits.
+fn update_base(word: &[u8]) -> Option<u32>
+    ensures { result ≡ update_base word.now }
+{
+    if word.len() == 17 && &word[..9] == b"update=0x".as_slice() {
+        hex_number(&word[9..])
+    } else {
+        None
+    }
+}
+
+/// The boot type that a word names.
+fn kind_word(word: &str) -> Option<BootKind>
+    ensures { result ≡ kind_of word.now }
+{
+    if word == "normal" {
+        Some(BootKind::Normal)
+    } else if word == "bootsel" {
+        Some(BootKind::Bootsel)
+    } else {
+        Some(BootKind::Update(update_base(word.as_bytes())?))
+    }
+}
+
+/// The command of one word.
+fn one_word(name: &str) -> Option<CommandWords<'static>>
+    ensures { option_map command_from result ≡ one_word name.now }
+{
+    if name == "--help" {
+        Some(CommandWords::Usage)
+    } else if name == "--version" {
+        Some(CommandWords::Release)
+    } else {
+        None
+    }
+}
+
+/// The command of two words.
+fn two_words(name: &str, number: &str) -> Option<CommandWords<'static>>
+    ensures { option_map command_from result ≡ two_words name.now (number_of number.now) }
+{
+    let n = number_word(number)?;
+    if name == "gen" {
+        Some(CommandWords::Gen { n })
+    } else {
+        None
+    }
+}
+
+/// The command of three words.
+fn three_words<'a>(name: &str, first: &'a str, second: &'a str) -> Option<CommandWords<'a>>
+    ensures { option_map command_from result
+        ≡ three_words name.now first.entry.now second.entry.now }
+{
+    if name == "table" {
+        Some(CommandWords::Table {
+            json: first,
+            out: second,
+        })
+    } else {
+        None
+    }
+}
+
+/// The command of an image and a family.
+fn uf2_words<'a>(name: &str, image: &'a str, family: &str, out: &'a str) -> Option<CommandWords<'a>>
+    ensures { option_map command_from result
+        ≡ uf2_words name.now image.entry.now (family_of family.now) out.entry.now }
+{
+    let family = family_word(family)?;
+    if name == "uf2" {
+        Some(CommandWords::Uf2 { image, family, out })
+    } else {
+        None
+    }
+}
+
+/// The command of a flash, an OTP and a processor.
+fn board_words<'a>(name: &str, flash: &'a str, otp: &'a str, cpu: &str) -> Option<CommandWords<'a>>
+    ensures { option_map command_from result
+        ≡ board_words name.now flash.entry.now otp.entry.now (cpu_of cpu.now) }
+{
+    let cpu = cpu_word(cpu)?;
+    if name == "info" {
+        Some(CommandWords::Info { flash, otp, cpu })
+    } else {
+        None
+    }
+}
+
+/// The command of four words.
+fn four_words<'a>(
+    name: &str,
+    first: &'a str,
+    second: &'a str,
+    third: &'a str,
+) -> Option<CommandWords<'a>>
+    ensures { option_map command_from result
+        ≡ four_words name.now first.entry.now second.entry.now third.entry.now }
+{
+    if name == "seal" {
+        Some(CommandWords::Seal {
+            binary: first,
+            spec: second,
+            out: third,
+        })
+    } else {
+        match board_words(name, first, second, third) {
+            Some(command) => Some(command),
+            None => uf2_words(name, first, second, third),
+        }
+    }
+}
+
+/// The command of five words.
+fn five_words<'a>(
+    name: &str,
+    flash: &'a str,
+    otp: &'a str,
+    cpu: &str,
+    kind: &str,
+) -> Option<CommandWords<'a>>
+    ensures { option_map command_from result
+        ≡ five_words name.now flash.entry.now otp.entry.now (cpu_of cpu.now) (kind_of kind.now) }
+{
+    let cpu = cpu_word(cpu)?;
+    let kind = kind_word(kind)?;
+    if name == "boot" {
+        Some(CommandWords::Boot {
+            flash,
+            otp,
+            cpu,
+            kind,
+        })
+    } else if name == "data" {
+        Some(CommandWords::OwnedData {
+            flash,
+            otp,
+            cpu,
+            kind,
+        })
+    } else {
+        None
+    }
+}
+
+/// The command of six words.
+fn six_words<'a>(
+    name: &str,
+    flash: &'a str,
+    otp: &'a str,
+    cpu: &str,
+    image: &'a str,
+    out: &'a str,
+) -> Option<CommandWords<'a>>
+    ensures { option_map command_from result
+        ≡ six_words name.now flash.entry.now otp.entry.now (cpu_of cpu.now) image.entry.now
+        out.entry.now }
+{
+    let cpu = cpu_word(cpu)?;
+    if name == "plan" {
+        Some(CommandWords::Plan {
+            flash,
+            otp,
+            cpu,
+            image,
+            out,
+        })
+    } else {
+        None
+    }
+}
+
+/// The command of seven words.
+fn seven_words<'a>(
+    name: &str,
+    flash: &'a str,
+    otp: &'a str,
+    cpu: &str,
+    script: &'a str,
+    out_flash: &'a str,
+    out_otp: &'a str,
+) -> Option<CommandWords<'a>>
+    ensures { option_map command_from result
+        ≡ seven_words name.now flash.entry.now otp.entry.now (cpu_of cpu.now) script.entry.now
+        out_flash.entry.now out_otp.entry.now }
+{
+    let cpu = cpu_word(cpu)?;
+    if name == "replay" {
+        Some(CommandWords::Replay {
+            flash,
+            otp,
+            cpu,
+            script,
+            out_flash,
+            out_otp,
+        })
+    } else {
+        None
+    }
+}
+
+/// The command of words that are more than five, or none.
+#[tactic(auto, using(crate::proofs::WordLemmas::no_command))]
+fn six_or_more(words: &[String]) -> Option<CommandWords<'_>>
+    requires not_one { length words.now ≢ 1 }
+    requires not_two { length words.now ≢ 2 }
+    requires not_three { length words.now ≢ 3 }
+    requires not_four { length words.now ≢ 4 }
+    requires not_five { length words.now ≢ 5 }
+    ensures { option_map command_from result ≡ command_of (map string_bytes words.entry.now) }
+{
+    match words {
+        [name, flash, otp, cpu, image, out] => six_words(name, flash, otp, cpu, image, out),
+        [name, flash, otp, cpu, script, out_flash, out_otp] => {
+            seven_words(name, flash, otp, cpu, script, out_flash, out_otp)
+        }
+        _ => None,
+    }
+}
+
+/// The command of words that are not one and not two.
+fn three_or_more(words: &[String]) -> Option<CommandWords<'_>>
+    requires not_one { length words.now ≢ 1 }
+    requires not_two { length words.now ≢ 2 }
+    ensures { option_map command_from result ≡ command_of (map string_bytes words.entry.now) }
+{
+    match words {
+        [name, first, second] => three_words(name, first, second),
+        [name, first, second, third] => four_words(name, first, second, third),
+        [name, flash, otp, cpu, kind] => five_words(name, flash, otp, cpu, kind),
+        _ => six_or_more(words),
+    }
+}
+
+/// The command that the words are. None exactly where they are none.
+pub fn command(words: &[String]) -> Option<CommandWords<'_>>
+    ensures { option_map command_from result ≡ command_of (map string_bytes words.entry.now) }
+{
+    match words {
+        [name] => one_word(name),
+        [name, number] => two_words(name, number),
+        _ => three_or_more(words),
+    }
+}

@@ -1,0 +1,4 @@
+pub mod PlayLemmas
+mod ReplayLemmas
+mod TornLemmas
+pub mod ReplayRuleLemmas

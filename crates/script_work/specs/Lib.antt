@@ -1,0 +1,4 @@
+pub mod Replays
+pub mod Works
+pub mod Rules
+pub mod Examples

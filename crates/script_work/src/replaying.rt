@@ -1,0 +1,145 @@
+//! The replay of a script on a machine over a board in memory.
+
+ghost use Rattle.std.specs.Prelude.{◌≡◌, ◌^◌, ◌≤◌, IfOk, None, Some, length, string_bytes};
+ghost use Rattle.pico_board.specs.MemBoard.{state_of};
+ghost use Rattle.block_codec.specs.Words.{bytes_of};
+ghost use Rattle.boot_script.specs.Events.{IsWritable, event_from};
+ghost use Rattle.boot_machine.specs.Machines.{Machine as Model};
+ghost use Rattle.boot_machine.specs.Standing.{Stands};
+ghost use Rattle.run_forms.specs.declared.forms.TheConstants.{RECORD_LIMIT};
+ghost use Rattle.run_forms.specs.declared.forms.Form.TheVariants.{Script};
+ghost use Rattle.run_forms.specs.Forms.{content_of, HasForm, IsEnded, script_events};
+ghost use Rattle.script_work.specs.Replays.{moved, played, powerless};
+ghost use Rattle.script_work.specs.Works.{event_lines, replay_work};
+ghost use Rattle.run_course.specs.Outcomes.{worked};
+ghost use Rattle.run_course.specs.Views.{outcome_from};
+ghost use Rattle.run_forms.specs.declared.forms.Form.{Form};
+
+use crate::text::{end_line, push_event};
+use arrayvec::ArrayString;
+use boot_machine::Machine;
+use boot_script::{Event, next_event};
+use pico_board::{Cpu, MemBoard};
+use ram_start::Ram;
+use run_course::{Answer, OutFile, Status};
+use run_forms::{RECORD_LIMIT, board_of, is_end};
+use sector_pool::SectorPool;
+use std::alloc::{AllocError, Global};
+use uf2_place::Download;
+
+/// A machine without power, over a board on which no cut is armed.
+fn machine_of(alloc: Global, board: MemBoard, cpu: Cpu) -> Result<Machine<MemBoard>, AllocError>
+    requires unarmed { (state_of board).armed ≡ Some None }
+    ensures { IfOk result
+        (λ machine. Stands state_of machine (powerless (state_of board).content cpu)) }
+{
+    let pool = SectorPool::make(alloc, 4)?;
+    let download = Download::make(alloc)?;
+    let ram = Ram::make(alloc)?;
+    Ok(Machine::new(board, pool, download, ram, cpu))
+}
+
+/// What an event does to the machine, and the text of its line.
+fn step(machine: &mut Machine<MemBoard>, event: &Event<'_>, line: &mut ArrayString<320>)
+    requires writable { IsWritable (event_from event.now) }
+    ensures { (m : Model) → Stands state_of machine.old m
+        → Stands state_of machine.new (moved m (event_from event.now)).next
+        × (line.new.bytes ≡ (moved m (event_from event.now)).text) }
+{
+    machine.step(event, line);
+}
+
+/// Plays the events of a script, and answers their lines.
+fn play(alloc: Global, machine: &mut Machine<MemBoard>, script: &[u8]) -> Result<String, AllocError>
+    requires few { length script.now ≤ 2 ^ 26 }
+    requires ended { IsEnded RECORD_LIMIT script.now 0 }
+    ensures { IfOk result (λ t. (m : Model) → Stands state_of machine.old m
+        → Stands state_of machine.new (played m (script_events script.now)).last
+        × (string_bytes t ≡ event_lines 0 (played m (script_events script.now)).texts)) }
+{
+    let mut text = String::new(alloc);
+    let mut line = ArrayString::new();
+    let mut at = 0;
+    for number in 0..RECORD_LIMIT {
+        let (event, next) = match next_event(script, at) {
+            Ok(read) => read,
+            Err(_) => return Ok(text),
+        };
+        if is_end(&event) {
+            return Ok(text);
+        }
+        step(machine, &event, &mut line);
+        push_event(alloc, &mut text, number, &line)?;
+        at = next;
+    }
+    Ok(text)
+}
+
+/// Each row in four bytes, the lowest first.
+#[tactic(auto, unfolding(block_codec::specs::Words::word_bytes))]
+fn row_bytes(alloc: Global, rows: &[u32]) -> Result<Vec<u8>, AllocError>
+    ensures { IfOk result (λ bytes. bytes.items ≡ bytes_of rows.now) }
+{
+    let mut bytes = Vec::new(alloc);
+    for row in rows {
+        bytes.extend_from_slice(&row.to_le_bytes())?;
+    }
+    Ok(bytes)
+}
+
+/// The answer of `replay`: the lines of the script's events, and the content that they leave.
+fn replay_answer<'a>(
+    alloc: Global,
+    board: MemBoard,
+    cpu: Cpu,
+    script: &[u8],
+    out_flash: &'a str,
+    out_otp: &'a str,
+) -> Result<Answer<'a>, AllocError>
+    requires unarmed { (state_of board).armed ≡ Some None }
+    requires form { HasForm Script script.now }
+    ensures { IfOk result (λ answer. outcome_from answer ≡ worked (replay_work
+        (state_of board).content cpu script.now out_flash.entry.now out_otp.entry.now)) }
+{
+    let mut machine = machine_of(alloc, board, cpu)?;
+    let mut text = play(alloc, &mut machine, script)?;
+    let end = end_line(alloc, machine.state())?;
+    text.push_str(&end)?;
+    let (flash, rows) = machine.into_board().into_parts();
+    let otp = row_bytes(alloc, &rows)?;
+    let flash = OutFile {
+        name: out_flash,
+        bytes: flash,
+    };
+    let otp = OutFile {
+        name: out_otp,
+        bytes: otp,
+    };
+    Ok(Answer {
+        status: Status::Done,
+        text,
+        files: vec![in alloc; flash, otp]?,
+    })
+}
+
+/// The work of `replay` on a flash file, an OTP file and a script, which have their forms: the
+/// lines of the script's events on a machine without power, and the files of the content that they
+/// leave. It fails only where memory is out.
+pub fn replay<'a>(
+    alloc: Global,
+    flash: Vec<u8>,
+    otp: &[u8],
+    cpu: Cpu,
+    script: &[u8],
+    out_flash: &'a str,
+    out_otp: &'a str,
+) -> Result<Answer<'a>, AllocError>
+    requires flash { HasForm Form.Flash flash.items }
+    requires otp { HasForm Form.Otp otp.now }
+    requires script { HasForm Form.Script script.now }
+    ensures { IfOk result (λ answer. outcome_from answer ≡ worked (replay_work
+        (content_of flash.items otp.now) cpu script.now out_flash.entry.now out_otp.entry.now)) }
+{
+    let board = board_of(alloc, flash, otp)?;
+    replay_answer(alloc, board, cpu, script, out_flash, out_otp)
+}

@@ -1,0 +1,3 @@
+pub mod ToolLemmas
+mod SealLemmas
+pub mod SealCaseLemmas

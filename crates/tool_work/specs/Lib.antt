@@ -1,0 +1,5 @@
+pub mod Seals
+pub mod Tools
+pub mod ToolWorks
+pub mod SealRules
+pub mod ToolRules

@@ -1,0 +1,61 @@
+//! Worked examples of the definitions, proved by computing: each is the `ensures` of a function
+//! that does nothing.
+
+ghost use Rattle.std.specs.Prelude.{◌≡◌, [], ◌∷◌, ◌++◌, codes, None};
+ghost use Rattle.pico_board.specs.declared.boot.Cpu.TheVariants.{Arm, Riscv};
+ghost use Rattle.image_check.specs.declared.why.Why.TheVariants.{NoBlock, Entry};
+ghost use Rattle.image_check.specs.declared.why.EntryFault.TheVariants.{Pc};
+ghost use Rattle.run_course.specs.Outcomes.{refused, worked};
+ghost use Rattle.run_texts.specs.Examples.{small_window};
+ghost use Rattle.image_pack.specs.declared.spec.SealError.TheVariants.{BadSpec, Unsealable, TooLarge as SealedTooLarge, BlockTooLong, NotBootable, Displaced};
+ghost use Rattle.image_pack.specs.declared.spec.SpecField.TheVariants.{Rollback, Rows};
+ghost use Rattle.tool_work.specs.Seals.{blamed, seal_text, sealed_line};
+ghost use Rattle.tool_work.specs.Tools.{table_line};
+ghost use Rattle.tool_work.specs.ToolWorks.{executable_family, gen_line, plan_line, target_work, uf2_line, window_work};
+
+/// The texts of the errors of a sealing, and the inputs that they are told of.
+pub fn seal_texts()
+    ensures rows { seal_text (BadSpec Rows) ≡ codes "bad-spec rows" }
+    ensures rollback { seal_text (BadSpec Rollback) ≡ codes "bad-spec rollback" }
+    ensures unsealable { seal_text (Unsealable NoBlock) ≡ codes "unsealable no-block" }
+    ensures too_large { seal_text SealedTooLarge ≡ codes "sealed-too-large" }
+    ensures block_too_long { seal_text (BlockTooLong 388) ≡ codes "block-too-long 388" }
+    ensures not_bootable { seal_text (NotBootable (Entry Pc)) ≡ codes "not-bootable entry pc" }
+    ensures displaced { seal_text Displaced ≡ codes "displaced" }
+    ensures of_spec { blamed (codes "b") (codes "s") (BadSpec Rows) ≡ codes "s" }
+    ensures of_binary { blamed (codes "b") (codes "s") Displaced ≡ codes "b" }
+{}
+
+/// The lines of a sealed image and of a table.
+pub fn lines_of_sealings()
+    ensures sealed { sealed_line 384 0x128 ≡ codes "sealed bytes=384 block=0x00000128\n" }
+    ensures table { table_line 2 ≡ codes "table bytes=4096 partitions=2\n" }
+{}
+
+/// The lines of the commands, of which that of a flash has the digest of its bytes: here that of
+/// `abc`.
+pub fn lines_of_tools()
+    ensures uf2 { uf2_line 2 ≡ codes "uf2 blocks=2\n" }
+    ensures plan { plan_line small_window 384
+        ≡ codes "plan window=0x00000000+0x00002000 bytes=384\n" }
+    ensures made { gen_line 7 (codes "abc")
+        ≡ codes "gen n=7 sha256=ba7816bf8f01cfea414140de5dae2223"
+        ++ codes "b00361a396177a9cb410ff61f20015ad\n" }
+{}
+
+/// An image is refused by the first fault, under its own name.
+pub fn refusals_of_images()
+    ensures no_target { worked (target_work None (codes "i") (codes "a") [])
+        ≡ refused (codes "i") (codes "no-target") }
+    ensures empty { worked (window_work (record { start = 0; len = 0 }) (codes "i") (codes "a") [])
+        ≡ refused (codes "i") (codes "empty") }
+    ensures past { worked
+        (window_work (record { start = 0; len = 2 }) (codes "i") (codes "a") (1 ∷ 2 ∷ 3 ∷ []))
+        ≡ refused (codes "i") (codes "past-window") }
+{}
+
+/// The family of a processor's executables.
+pub fn executables()
+    ensures arm { executable_family Arm ≡ 0xe48bff59 }
+    ensures riscv { executable_family Riscv ≡ 0xe48bff5a }
+{}

@@ -1,0 +1,14 @@
+//! The work of the commands that make images, tables, UF2 files, plans and flashes.
+#![tactic(auto)]
+
+pub mod examples;
+mod generating;
+pub mod laws;
+mod planning;
+mod tools;
+mod uf2_files;
+
+pub use generating::made_flash;
+pub use planning::plan_image;
+pub use tools::{seal_binary, table};
+pub use uf2_files::uf2;

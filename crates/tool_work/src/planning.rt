@@ -1,0 +1,118 @@
+//! The script that writes an image where a download of it goes.
+
+ghost use Rattle.std.specs.Prelude.{◌≡◌, ◌/◌, IfOk, IfSome, IsTrue, length, string_bytes};
+ghost use Rattle.part_table.specs.Windows.{IsPlaced};
+ghost use Rattle.sector_pool.specs.Pool.{HasFree};
+ghost use Rattle.image_pack.specs.Plans.{IsPlanned};
+ghost use Rattle.run_course.specs.Outcomes.{worked};
+ghost use Rattle.tool_work.specs.ToolWorks.{executable_family, plan_target, plan_line, window_work, plan_work};
+ghost use Rattle.run_course.specs.Views.{outcome_from};
+ghost use Rattle.run_forms.specs.declared.forms.Form.{Form};
+ghost use Rattle.run_forms.specs.Forms.{HasForm, content_of};
+
+use boot_rules::{Target, find_table, target};
+use image_pack::{PlanError, plan};
+use pico_board::{Board, Cpu, Window};
+use run_course::{Answer, one_file, refusal};
+use run_forms::board_of;
+use run_texts::place_text;
+use sector_pool::SectorPool;
+use std::alloc::{AllocError, Global};
+
+/// The family of a processor's executables.
+fn executable_family(cpu: Cpu) -> u32
+    ensures { result ≡ executable_family cpu }
+{
+    match cpu {
+        Cpu::Arm => 0xe48b_ff59,
+        Cpu::Riscv => 0xe48b_ff5a,
+    }
+}
+
+/// Where a download of the processor's executables goes.
+fn plan_target<B: Board>(board: &B, pool: &mut SectorPool, cpu: Cpu) -> Option<Target>
+    requires power { IsTrue (B.state board.now).powered }
+    requires free { HasFree pool.old }
+    ensures value { result ≡ plan_target (B.state board.now).content cpu }
+    ensures placed { IfSome result
+        (λ t. IsPlaced t.window (length (B.state board.now).content.flash / 4096) 0) }
+{
+    let family = executable_family(cpu);
+    match find_table(board) {
+        Some(found) => target(board, pool, Some(&found.table), cpu, family),
+        None => target(board, pool, None, cpu, family),
+    }
+}
+
+/// The line of a plan for an image of so many bytes.
+fn plan_line(alloc: Global, window: Window, length: usize) -> Result<String, AllocError>
+    ensures { IfOk result (λ t. string_bytes t ≡ plan_line window length) }
+{
+    let place = place_text(alloc, window)?;
+    format!(in alloc; "plan {place} bytes={length}\n")
+}
+
+/// The script that writes an image into a window, or why there is none.
+fn window_answer<'a>(
+    alloc: Global,
+    window: Window,
+    name: &str,
+    out: &'a str,
+    image: &[u8],
+) -> Result<Answer<'a>, AllocError>
+    requires { IsPlanned window }
+    ensures { IfOk result (λ answer. outcome_from answer
+        ≡ worked (window_work window name.now out.entry.now image.now)) }
+{
+    let mut script = Vec::new(alloc);
+    match plan(alloc, window, image, &mut script) {
+        Ok(()) => {
+            let text = plan_line(alloc, window, image.len())?;
+            one_file(alloc, text, out, script)
+        }
+        Err(PlanError::Empty) => refusal(alloc, name, "empty"),
+        Err(PlanError::TooLarge) => refusal(alloc, name, "past-window"),
+        Err(PlanError::Memory) => Err(AllocError),
+    }
+}
+
+/// The answer of `plan`: the window and the length, and the script.
+fn plan_answer<'a, B: Board>(
+    alloc: Global,
+    board: &B,
+    cpu: Cpu,
+    name: &str,
+    out: &'a str,
+    image: &[u8],
+) -> Result<Answer<'a>, AllocError>
+    requires power { IsTrue (B.state board.now).powered }
+    ensures { IfOk result (λ answer. outcome_from answer
+        ≡ worked (plan_work (B.state board.now).content cpu name.now out.entry.now image.now)) }
+{
+    let mut pool = SectorPool::make(alloc, 4)?;
+    match plan_target(board, &mut pool, cpu) {
+        Some(target) => window_answer(alloc, target.window, name, out, image),
+        None => refusal(alloc, name, "no-target"),
+    }
+}
+
+/// The work of `plan` on a flash file, an OTP file and an image, which have their forms: the line
+/// of the window and the length, and the script; or why there is none, told of the image by its
+/// word. It fails only where memory is out.
+pub fn plan_image<'a>(
+    alloc: Global,
+    flash: Vec<u8>,
+    otp: &[u8],
+    cpu: Cpu,
+    name: &str,
+    out: &'a str,
+    image: &[u8],
+) -> Result<Answer<'a>, AllocError>
+    requires flash { HasForm Form.Flash flash.items }
+    requires otp { HasForm Form.Otp otp.now }
+    ensures { IfOk result (λ answer. outcome_from answer ≡ worked
+        (plan_work (content_of flash.items otp.now) cpu name.now out.entry.now image.now)) }
+{
+    let board = board_of(alloc, flash, otp)?;
+    plan_answer(alloc, &board, cpu, name, out, image)
+}
