@@ -25,8 +25,7 @@ use Rattle.board_work.proofs.BoardWorkLemmas.{boot-works, info-works, data-works
 use Rattle.script_work.proofs.ReplayRuleLemmas.{replay-works}
 use Rattle.tool_work.proofs.SealCaseLemmas.{seal-works, table-works}
 use Rattle.tool_work.proofs.ToolLemmas.{uf2-works, plan-works, gen-works}
-use Rattle.boot_run.specs.Works.{inputs_of, work_of, command_outcome, outcome_on}
-use Rattle.boot_run.specs.Rules.{IsRefused, NeedsBytes, IsRefusedWork, IsRight, Tells, Obeys, FallsOn}
+use Rattle.boot_run.specs.Commands.{inputs_of, work_of, command_outcome, outcome_on, IsRefused, NeedsBytes, IsRefusedWork, IsRight, Tells, Obeys, FallsOn}
 
 -- the work of each command is right by the rules
 works : (command : Command)
@@ -112,7 +111,8 @@ then-falls : (flash otp f g : List ℕ) (cpu : Cpu) (kind : BootKind) (w : Outco
     → w.status ≡ decided_status (decision_in (content_of f g) cpu kind)
     → FallsOn f g cpu kind → (unless_refused (first_fault (flash_and_otp flash otp) (f ∷ g ∷ [])) w).status ≡ Bootsel
 then-falls flash otp f g cpu kind w is falls =
-    ap (λ o. (unless_refused o w).status) (formed-none (flash_and_otp flash otp) (f ∷ g ∷ []) (falls.flash, (falls.otp, tt)))
+    ap (λ o. (unless_refused o w).status)
+    (formed-none (flash_and_otp flash otp) (f ∷ g ∷ []) (falls.flash, (falls.otp, tt)))
     ∙ (is ∙ ap decided_status
     (sym (chosen-decision (content_of f g) cpu kind (FallsToBootsel falls.fall) falls.chosen)))
 

@@ -6,7 +6,8 @@ use Rattle.pico_board.specs.declared.boot.BootKind.TheVariants.{Normal}
 use Rattle.pico_board.specs.declared.window.Window.{Window}
 use Rattle.pico_board.specs.declared.Step.{Step}
 use Rattle.pico_board.specs.Steps.{after_all}
-use Rattle.boot_sweep.specs.Results.{CutSession, StartsFinished}
+use Rattle.boot_sweep.specs.Results.{CutSession, ConfinedSession, StartsFinished, StartsThere}
+use Rattle.boot_sweep.proofs.ConfinedLaws.{confined-session}
 use Rattle.boot_sweep.proofs.GatedLaws.{gated-decision}
 use Rattle.pico_board.specs.Board.{Rose}
 use Rattle.pico_board.specs.Content.{Content}
@@ -26,16 +27,13 @@ use Rattle.run_forms.specs.Forms.{HasForm, content_of}
 use Rattle.run_texts.specs.Texts.{decision_line}
 use Rattle.board_work.specs.Works.{boot_work}
 use Rattle.run_course.specs.Outcomes.{Outcome, outcome_found, found, found_next, worked, is_finished}
-use Rattle.boot_run.specs.Works.{inputs_of, work_of, inputs_in, outcome_in, outcome_on, command_outcome}
-use Rattle.run_forms.specs.Inputs.{flash_and_otp, unless_refused}
-use Rattle.boot_run.specs.Rules.{Names, Obeys}
-use Rattle.boot_run.specs.Rules.{IsRefused}
+use Rattle.boot_run.specs.Commands.{inputs_of, work_of, inputs_in, outcome_in, outcome_on, command_outcome, Names, Obeys, IsRefused}
+use Rattle.run_forms.specs.Inputs.{flash_and_otp, unless_refused, readings}
 use Rattle.board_work.specs.Rules.{decided_status}
 use Rattle.run_course.specs.Courses.{Runs}
 use Rattle.run_course.specs.Ends.{AreRead, LacksOne, Does, ShowsOutcome, LeftAt}
 use Rattle.boot_run.proofs.RuleLemmas.{bytes-serve, obeys, refused-exactly}
 use Rattle.run_course.proofs.ReadLemmas.{are-found, not-lacking, read-bytes}
-use Rattle.run_forms.specs.Inputs.{readings}
 use Rattle.run_forms.proofs.InputLemmas.{outcome-text, outcome-cut, formed-none, readings-long}
 use Rattle.board_work.proofs.BoardWorkLemmas.{decided, worked-decided}
 use Rattle.run_course.proofs.EndLemmas.{RunEnd, run-end, room, unread, cut_short, whole, put_fault, put_memory, Finished, end-finished}
@@ -138,6 +136,25 @@ module _ {S : Type 0} (state : S → StoreState) (history : S → List Access �
       elim (gated-decision c w cpu steps (content_of f g) former lost) [
         | inl same ↦ inl (named former same)
         | inr finished ↦ inr (finished, named (Start finished.choice) finished.here)
+      ]
+    where
+      named : (d : Decision) → Chosen (content_of f g) cpu Normal d → Names d status (shown before) (shown after)
+      named d chosen =
+          let is = run-boot ends flash otp f g cpu Normal files d asks told is_f is_g flash_form otp_form h chosen in
+          (is.0, is.1)
+
+  pub run-confined : Ends → (flash otp f g : List ℕ) (cpu : Cpu) (files : List File) (c : Content) (w : Window)
+      (steps : List Step) (former : Decision)
+      → command ≡ Some (Boot flash otp cpu Normal) → (state old).files ≡ Some files → file_of files flash ≡ Some f
+      → file_of files otp ≡ Some g → HasForm Flash f → HasForm Otp g → is_finished status ≡ true
+      → ConfinedSession c w cpu steps (content_of f g) former
+      → Names former status (shown before) (shown after)
+      ⊎ ((there : StartsThere (content_of f g) w cpu)
+      × Names (Start there.choice) status (shown before) (shown after))
+  run-confined ends flash otp f g cpu files c w steps former asks told is_f is_g flash_form otp_form h session =
+      elim (confined-session c w cpu steps (content_of f g) former session) [
+        | inl same ↦ inl (named former same)
+        | inr there ↦ inr (there, named (Start there.choice) there.chosen)
       ]
     where
       named : (d : Decision) → Chosen (content_of f g) cpu Normal d → Names d status (shown before) (shown after)

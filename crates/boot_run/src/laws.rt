@@ -9,9 +9,7 @@ ghost use Rattle.run_course.specs.declared.status.Status.TheVariants.{Input, Boo
 ghost use Rattle.run_words.specs.Commands.{Command, Boot, OwnedData};
 ghost use Rattle.run_forms.specs.Inputs.{readings};
 ghost use Rattle.run_course.specs.Outcomes.{Outcome, found};
-ghost use Rattle.boot_run.specs.Works.{inputs_of, command_outcome, outcome_on};
-ghost use Rattle.boot_run.specs.Rules.{Obeys, FallsOn, NeedsBytes};
-ghost use Rattle.boot_run.specs.Rules.{IsRefused};
+ghost use Rattle.boot_run.specs.Commands.{inputs_of, command_outcome, outcome_on, Obeys, FallsOn, NeedsBytes, IsRefused};
 ghost use Rattle.run_course.specs.Ends.{cut};
 
 /// The outcome of a command on the bytes of its inputs is the one that is right by the rules. Of a

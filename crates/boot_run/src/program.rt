@@ -9,7 +9,7 @@ ghost use Rattle.pico_board.specs.Steps.{after_all};
 ghost use Rattle.pico_board.specs.declared.Step.{Step};
 ghost use Rattle.pico_board.specs.declared.boot.BootKind.TheVariants.{Normal};
 ghost use Rattle.pico_board.specs.declared.window.Window.{Window};
-ghost use Rattle.boot_sweep.specs.Results.{CutSession, StartsFinished};
+ghost use Rattle.boot_sweep.specs.Results.{CutSession, ConfinedSession, StartsFinished, StartsThere};
 ghost use Rattle.pico_board.specs.Files.{File, file_of};
 ghost use Rattle.pico_board.specs.Puts.{IsPut};
 ghost use Rattle.image_check.specs.NotBelow.{NotBelow};
@@ -17,18 +17,15 @@ ghost use Rattle.slot_choice.specs.declared.choice.Choice.{Choice};
 ghost use Rattle.boot_rules.specs.declared.decision.Decision.{Decision};
 ghost use Rattle.boot_rules.specs.declared.decision.Decision.TheVariants.{Start};
 ghost use Rattle.boot_rules.specs.Chosen.{Chosen};
-ghost use Rattle.run_words.specs.Commands.{Command, Boot, asked};
+ghost use Rattle.run_words.specs.Commands.{Command, Boot, asked, command_from};
 ghost use Rattle.run_forms.specs.Forms.{HasForm, content_of};
 ghost use Rattle.run_texts.specs.Texts.{decision_line};
 ghost use Rattle.run_forms.specs.Inputs.{readings};
 ghost use Rattle.run_course.specs.Outcomes.{Outcome, is_finished};
-ghost use Rattle.boot_run.specs.Works.{inputs_of, inputs_in, outcome_in, outcome_on, command_outcome};
+ghost use Rattle.boot_run.specs.Commands.{inputs_of, inputs_in, outcome_in, outcome_on, command_outcome, Names, Obeys, IsRefused};
 ghost use Rattle.run_course.specs.Courses.{Runs};
-ghost use Rattle.boot_run.specs.Rules.{Names, Obeys};
-ghost use Rattle.boot_run.specs.Rules.{IsRefused};
 ghost use Rattle.board_work.specs.Rules.{decided_status};
 ghost use Rattle.run_course.specs.Ends.{Does, ShowsOutcome, LacksOne, IsCutShort, IsPutShort};
-ghost use Rattle.run_words.specs.Views.{command_from};
 
 use crate::work::{answer, inputs};
 use pico_board::{Sink, SinkFail, Store};
@@ -52,11 +49,11 @@ fn run_command<S: Store, K: Sink>(
         Ok(inputs) => inputs,
         Err(_) => return Status::Memory,
     };
-    let words = match readings(alloc, &inputs) {
-        Ok(words) => words,
+    let to_read = match readings(alloc, &inputs) {
+        Ok(to_read) => to_read,
         Err(_) => return Status::Memory,
     };
-    let files = match read_all(alloc, &words, store) {
+    let files = match read_all(alloc, &to_read, store) {
         Ok(files) => files,
         Err(status) => return status,
     };
@@ -67,7 +64,7 @@ fn run_command<S: Store, K: Sink>(
 }
 
 /// What [`run`] does, by its course alone.
-fn run_words<S: Store, K: Sink>(
+fn run_asked<S: Store, K: Sink>(
     alloc: Global,
     words: &Vec<String>,
     store: &mut S,
@@ -124,6 +121,20 @@ pub fn run<S: Store, K: Sink>(
         → Names former result (K.state out.old) (K.state out.new)
         ⊎ ((whole : StartsFinished (after_all c steps) (content_of f g) cpu)
         × Names (Start whole.choice) result (K.state out.old) (K.state out.new)) }
+
+    // The same of any session that writes only one slot of a pair, done or cut anywhere, where the
+    // former answer is not in that slot: a normal boot names the former answer, or an image that is
+    // valid in the written slot. No luck is asked, and of the table only that none came.
+    ensures confined { (flash otp f g : List ℕ) (cpu : Cpu) (files : List File) (c : Content)
+        (w : Window) (steps : List Step) (former : Decision)
+        → asked words.now ≡ Some (Boot flash otp cpu Normal)
+        → (S.state store.old).files ≡ Some files
+        → file_of files flash ≡ Some f → file_of files otp ≡ Some g → HasForm Form.Flash f
+        → HasForm Form.Otp g
+        → is_finished result ≡ true → ConfinedSession c w cpu steps (content_of f g) former
+        → Names former result (K.state out.old) (K.state out.new)
+        ⊎ ((there : StartsThere (content_of f g) w cpu)
+        × Names (Start there.choice) result (K.state out.old) (K.state out.new)) }
 
     // What the rules say, on every store: the run read some bytes, and the text that it put, its
     // files and its status are right for the command on those bytes. `Input` comes exactly where
@@ -182,5 +193,5 @@ pub fn run<S: Store, K: Sink>(
         → (LacksOne (S.state store.old).files (inputs_in (asked words.now)) → ⊥)
         → (is_finished result ≡ true) ⊎ (result ≡ Status.Memory) }
 {
-    run_words(alloc, words, store, out)
+    run_asked(alloc, words, store, out)
 }

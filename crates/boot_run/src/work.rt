@@ -3,10 +3,10 @@
 ghost use Rattle.std.specs.Prelude.{◌≡◌, IfOk, map, length};
 ghost use Rattle.run_course.specs.Outcomes.{worked};
 ghost use Rattle.run_course.specs.Views.{outcome_from, bytes_of};
-ghost use Rattle.run_words.specs.Views.{command_from};
+ghost use Rattle.run_words.specs.Commands.{command_from};
 ghost use Rattle.run_forms.specs.Rules.{AreFormed};
 ghost use Rattle.run_forms.specs.Views.{input_file_from};
-ghost use Rattle.boot_run.specs.Works.{command_outcome, inputs_of, work_of};
+ghost use Rattle.boot_run.specs.Commands.{command_outcome, inputs_of, work_of};
 
 use board_work::{boot, data, info};
 use run_course::{Answer, told};

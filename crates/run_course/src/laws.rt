@@ -4,7 +4,7 @@
 ghost use Rattle.std.specs.Prelude.{ℕ, ◌≡◌, ◌<◌, ◌≤◌, ◌+◌, ◌++◌, [], ◌∷◌, List, length};
 ghost use Rattle.run_course.specs.declared.status.Status.TheVariants.{Done, Words, Input, Bootsel, ReadFault, WriteFault, OutputFault, Memory};
 ghost use Rattle.run_course.specs.Statuses.{number_of};
-ghost use Rattle.run_course.specs.Outcomes.{Input as InputFile};
+ghost use Rattle.run_course.specs.Outcomes.{Input as ReadInput};
 ghost use Rattle.run_course.specs.Ends.{cut};
 
 /// The program ends with one of eight numbers, by how the run ended.
@@ -22,9 +22,9 @@ pub fn statuses_have_numbers()
 /// Of a longer file one byte more than its limit is read, and a file within its limit is read
 /// whole.
 pub fn what_is_read_of_files()
-    ensures longer { (input : InputFile) (bytes : List ℕ) → input.limit < length bytes
+    ensures longer { (input : ReadInput) (bytes : List ℕ) → input.limit < length bytes
         → (first : List ℕ) × (rest : List ℕ) × (length first ≡ input.limit + 1)
         × (bytes ≡ first ++ rest) × (cut (input ∷ []) (bytes ∷ []) ≡ first ∷ []) }
-    ensures whole { (input : InputFile) (bytes : List ℕ) → length bytes ≤ input.limit
+    ensures whole { (input : ReadInput) (bytes : List ℕ) → length bytes ≤ input.limit
         → cut (input ∷ []) (bytes ∷ []) ≡ bytes ∷ [] }
 {}

@@ -103,11 +103,7 @@ pub const SEALED: [u32; 27] = [
 
 /// A flash file with these words at these offsets, in ascending order, of so many bytes, of which
 /// the others are 0xff. It fails only where memory is out.
-pub fn flash(
-    alloc: Global,
-    parts: &[(usize, &[u32])],
-    size: usize,
-) -> Result<Vec<u8>, AllocError>
+pub fn flash(alloc: Global, parts: &[(usize, &[u32])], size: usize) -> Result<Vec<u8>, AllocError>
     ensures { IfOk result (λ bytes. length bytes.items ≡ size) }
 {
     let mut bytes = Vec::new(alloc);

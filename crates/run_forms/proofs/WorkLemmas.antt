@@ -179,7 +179,8 @@ pub three-works : (i j k : InputFile) (Needs : List (List ℕ) → Type 0) (work
     → ((a b c name fault : List ℕ) → HasForm i.form a → HasForm j.form b → HasForm k.form c → Refuses a b c name fault
     → worked (work a b c) ≡ refused name fault)
     → WorksBy (i ∷ j ∷ k ∷ []) Needs (of_three work)
-    (λ read name fault. OfThree (λ a b c. Refuses a b c name fault) read) (λ read o. OfThree (λ a b c. Right a b c o) read)
+    (λ read name fault. OfThree (λ a b c. Refuses a b c name fault) read)
+    (λ read o. OfThree (λ a b c. Right a b c o) read)
 three-works i j k Needs work Refuses Right done only refuses exact = record {
   done = go_done;
   only = go_only;

@@ -1,12 +1,12 @@
 //! Worked examples of the definitions, proved by computing: each is the `ensures` of a function
 //! that does nothing.
 
-ghost use Rattle.std.specs.Prelude.{◌≡◌, [], ◌∷◌, codes, Some, None};
+ghost use Rattle.std.specs.Prelude.{◌≡◌, [], ◌∷◌, codes, slice_get, Some, None};
 ghost use Rattle.part_table.specs.declared.table.TableFault.TheVariants.{Overlap, BadItem, Permissions, Range, Link, Hash};
 ghost use Rattle.run_forms.specs.declared.forms.Form.TheVariants.{Flash, Otp, Script, Binary, Spec, Json, Image};
 ghost use Rattle.run_forms.specs.declared.forms.TheConstants.{RECORD_LIMIT};
 ghost use Rattle.boot_script.specs.Events.{PowerOn, Buy};
-ghost use Rattle.run_forms.specs.Forms.{limit_of, form_fault, script_fault, script_events, filled_length, rows_of};
+ghost use Rattle.run_forms.specs.Forms.{limit_of, form_fault, script_fault, script_events, filled, filled_length, rows_of};
 ghost use Rattle.table_json.specs.declared.fault.JsonFault.TheVariants.{NotJson, Unknown, Missing, Value, TooLong, Table as Faulty};
 ghost use Rattle.table_json.specs.declared.fault.Place.TheVariants.{Top, Unpartitioned as Outside, Partition as Numbered};
 ghost use Rattle.table_json.specs.declared.fault.Field.TheVariants.{Processor, Partitions, Families, IgnoreArm};
@@ -100,4 +100,11 @@ pub fn forms_of_images()
     ensures limit { limit_of Image ≡ 16777216 }
     ensures empty { form_fault Image [] ≡ None }
     ensures one { form_fault Image (0 ∷ []) ≡ None }
+{}
+
+/// A flash file is filled with 0xff.
+pub fn filled_flashes()
+    ensures own { slice_get (filled (7 ∷ [])) 0 ≡ Some 7 }
+    ensures behind { slice_get (filled (7 ∷ [])) 1 ≡ Some 255 }
+    ensures last { slice_get (filled (7 ∷ [])) 8191 ≡ Some 255 }
 {}

@@ -1,10 +1,12 @@
 //! Laws of forms, proved: each is the `ensures` of a function that does nothing.
 
-ghost use Rattle.std.specs.Prelude.{ℕ, ◌≡◌, ◌↔◌, List, Some, None};
+ghost use Rattle.std.specs.Prelude.{◌+◌, ◌<◌, ◌≤◌, ◌++◌, [], ◌∷◌, length, ℕ, ◌≡◌, ◌↔◌, List, Some, None};
 ghost use Rattle.pico_board.specs.Content.{Content, IsContent};
 ghost use Rattle.run_forms.specs.declared.forms.Form.{Form};
 ghost use Rattle.run_forms.specs.declared.forms.Form.TheVariants.{Flash, Otp};
-ghost use Rattle.run_forms.specs.Forms.{HasForm, IsFault, form_fault, content_of};
+ghost use Rattle.run_course.specs.Ends.{cut};
+ghost use Rattle.run_forms.specs.Inputs.{InputFile, readings};
+ghost use Rattle.run_forms.specs.Forms.{limit_of, HasForm, IsFault, form_fault, content_of};
 
 /// A file has its form, or it has the one fault that the rules name first.
 pub fn forms_are_judged()
@@ -18,4 +20,15 @@ pub fn forms_are_judged()
 pub fn every_content_is_given()
     ensures { (c : Content) → IsContent c
         → (f : List ℕ) × (g : List ℕ) × HasForm Flash f × HasForm Otp g × (content_of f g ≡ c) }
+{}
+
+/// Of a file that is longer than its form allows one byte more than that is read, and another one
+/// is read whole.
+pub fn what_is_read_of_inputs()
+    ensures longer { (input : InputFile) (bytes : List ℕ) → limit_of input.form < length bytes
+        → (first : List ℕ) × (rest : List ℕ) × (length first ≡ limit_of input.form + 1)
+        × (bytes ≡ first ++ rest)
+        × (cut (readings (input ∷ [])) (bytes ∷ []) ≡ first ∷ []) }
+    ensures whole { (input : InputFile) (bytes : List ℕ) → length bytes ≤ limit_of input.form
+        → cut (readings (input ∷ [])) (bytes ∷ []) ≡ bytes ∷ [] }
 {}

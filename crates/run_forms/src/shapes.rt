@@ -50,8 +50,8 @@ pub fn binary_and_spec<'a>(
     binary: &'a str,
     spec: &'a str,
 ) -> Result<Vec<FormWord<'a>>, AllocError>
-    ensures { IfOk result
-        (λ inputs. map input_file_from inputs.items ≡ binary_and_spec binary.entry.now spec.entry.now) }
+    ensures { IfOk result (λ inputs. map input_file_from inputs.items
+        ≡ binary_and_spec binary.entry.now spec.entry.now) }
 {
     Ok(vec![in alloc; input(binary, Form::Binary), input(spec, Form::Spec)]?)
 }

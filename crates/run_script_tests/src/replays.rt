@@ -144,3 +144,23 @@ end state=running
     }
     Ok(())
 }
+
+#[test]
+fn a_flash_of_one_byte_is_filled_with_0xff(rt: HostRuntime) -> Result<(), Fail> {
+    let alloc = rt.alloc();
+    let files = vec![in alloc;
+        (String::from_str(alloc, "f")?, vec![in alloc; 7_u8]?),
+        (String::from_str(alloc, "o")?, Vec::new(alloc)),
+        (String::from_str(alloc, "s")?, vec![in alloc; 0_u8]?),
+    ]?;
+    let mut store = MemStore::make(alloc, files, Vec::new(alloc), Vec::new(alloc));
+    let mut out = MemSink::make(alloc, Vec::new(alloc));
+    let texts = words(alloc, &["replay", "f", "o", "arm", "s", "a", "b"])?;
+    run(alloc, &texts, &mut store, &mut out);
+    let mut wanted = vec![in alloc; 0xff_u8; 8192]?;
+    if let Some(first) = wanted.first_mut() {
+        *first = 7;
+    }
+    assert_eq!(rt; store.file("a"), Some(wanted.as_slice()));
+    Ok(())
+}

@@ -85,8 +85,8 @@ const WITH_DATA: (&[(usize, &[u32])], usize) = (
     262_144,
 );
 
-/// No OTP row; 5 in the row of the slot size, 0x055; three bytes; one row too many; and a row of 25
-/// bits.
+/// OTP files by their length and the byte at 0x154, the row of the slot size: no row; a slot size
+/// of 5; three bytes; and one row too many.
 const NO_ROW: (usize, u8) = (0, 0);
 
 const SLOT_SIZE: (usize, u8) = (0x158, 5);
@@ -203,7 +203,7 @@ const BOOTS: [Case; 12] = [
 ];
 
 /// What windows have, and the data of an owner.
-const WINDOWS: [Case; 6] = [
+const WINDOWS: [Case; 8] = [
     (
         &["info", "f", "o", "arm"],
         TWO_VERSIONS,
@@ -261,10 +261,27 @@ data window=0x00012000+0x00008000
         Status::Bootsel,
         "bootsel no-image\n",
     ),
+    (
+        &["data", "f", "o", "arm", "normal"],
+        ERASED,
+        NO_ROW,
+        Status::Bootsel,
+        "bootsel no-image\n",
+    ),
+    (
+        &["info", "f", "o", "arm"],
+        WITH_TRIAL,
+        NO_ROW,
+        Status::Done,
+        "table slot=0 version=0.0 partitions=2
+image window=0x00002000+0x0001e000 ok version=1.0 rollback=none
+image window=0x00020000+0x0001e000 fault=trial
+",
+    ),
 ];
 
 /// Inputs that are refused, the first in word order.
-const REFUSED: [Case; 5] = [
+const REFUSED: [Case; 4] = [
     (
         &["boot", "f", "o", "arm", "normal"],
         EMPTY,
@@ -292,13 +309,6 @@ const REFUSED: [Case; 5] = [
         ROWS_TOO_MANY,
         Status::Input,
         "input o: too-large\n",
-    ),
-    (
-        &["data", "f", "o", "arm", "normal"],
-        ERASED,
-        NO_ROW,
-        Status::Bootsel,
-        "bootsel no-image\n",
     ),
 ];
 

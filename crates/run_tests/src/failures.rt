@@ -46,8 +46,8 @@ fn store(alloc: Global, bad_read: u64, bad_write: u64) -> Result<MemStore, Fail>
     Ok(MemStore::make(alloc, files, bad_reads, vec![in alloc; bad_write]?))
 }
 
-/// How a run ends whose read, write and put of these numbers fail, which of its two files stand, and
-/// whether it has put a byte.
+/// How a run ends whose read, write and put of these numbers fail, which of its two files stand,
+/// and whether it has put a byte.
 fn ended(
     alloc: Global,
     texts: &[&str],
@@ -85,6 +85,18 @@ fn each_failing_call_ends_its_command(rt: HostRuntime) -> Result<(), Fail> {
         assert_eq!(rt; end, (Status::OutputFault, writes >= 1, writes == 2, false));
         let end = ended(alloc, texts, (reads, writes, 1))?;
         assert_eq!(rt; end, (Status::Done, writes >= 1, writes == 2, true));
+    }
+    Ok(())
+}
+
+#[test]
+fn a_name_that_the_store_lacks_is_a_read_fault(rt: HostRuntime) -> Result<(), Fail> {
+    for texts in [
+        ["boot", "x", "o", "arm", "normal"],
+        ["boot", "f", "x", "arm", "normal"],
+    ] {
+        let end = ended(rt.alloc(), &texts, (9, 9, 9))?;
+        assert_eq!(rt; end, (Status::ReadFault, false, false, false));
     }
     Ok(())
 }

@@ -27,6 +27,7 @@ SCRIPT  a file of at most 67108864 bytes, with an end among its first 524288 rec
 OUTFLASH, OUTOTP  files to write: the whole flash, and all 4096 rows, 4 bytes each
 BIN     a file of at most 16777216 bytes: an image, with or without a version and a digest
 SPEC    a JSON text of at most 65536 bytes: processor, version, rollback, rows and trial
+        of the image; those of the binary are lost, also where the spec leaves them out
 JSON    a JSON text of at most 65536 bytes: version, singleton, unpartitioned and partitions
 IMAGE   a file of 1 to 16777216 bytes, and for plan at most as many as it has room for
 FAMILY  rp2040, absolute, data, rp2350-arm-s, rp2350-riscv or rp2350-arm-ns

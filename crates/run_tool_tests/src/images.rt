@@ -45,7 +45,13 @@ type Case = (Binary, &'static str, Status, &'static str);
 const MINIMAL: Binary = Binary::Words(&[(0, &VECTORS), (0x114, &ARM)], 0x128);
 
 /// Sealings and refusals: first of the binary, and then of the spec.
-const CASES: [Case; 13] = [
+const CASES: [Case; 14] = [
+    (
+        MINIMAL,
+        "{\"processor\":\"arm\",\"version\":[2,0],\"rollback\":3,\"rows\":[192],\"trial\":true}",
+        Status::Done,
+        "sealed bytes=388 block=0x00000128\n",
+    ),
     (
         MINIMAL,
         SPEC,

@@ -85,6 +85,22 @@ fn each_text_is_a_table_or_is_refused(rt: HostRuntime) -> Result<(), Fail> {
     Ok(())
 }
 
+#[test]
+fn a_table_is_read_again(rt: HostRuntime) -> Result<(), Fail> {
+    let alloc = rt.alloc();
+    let (_, _, store) = ended(alloc, &["table", "t", "a"], &[("t", PAIR.as_bytes())])?;
+    let mut file = Vec::from_slice(alloc, store.file("a").unwrap_or(&[]))?;
+    file.resize(262_144, 0xff)?;
+    let text = "table slot=0 version=1.0 partitions=2
+image window=0x00002000+0x0001e000 fault=no-block
+image window=0x00020000+0x0001e000 fault=no-block
+";
+    let named = [("f", file.as_slice()), ("o", &[])];
+    let (_, out, _) = ended(alloc, &["info", "f", "o", "arm"], &named)?;
+    assert_eq!(rt; out.bytes(), text.as_bytes());
+    Ok(())
+}
+
 /// A text with blanks behind it, of so many bytes.
 fn padded(alloc: Global, text: &str, length: usize) -> Result<Vec<u8>, Fail> {
     let mut bytes = Vec::from_slice(alloc, text.as_bytes())?;
@@ -107,7 +123,7 @@ fn a_table_may_have_65536_bytes(rt: HostRuntime) -> Result<(), Fail> {
     Ok(())
 }
 
-/// The sealed least image of this version.
+/// The sealed least image by this spec.
 fn sealed(alloc: Global, spec: &str) -> Result<Vec<u8>, Fail> {
     let binary = flash(alloc, &[(0, &VECTORS), (0x114, &ARM)], 0x128)?;
     let named = [("b", binary.as_slice()), ("s", spec.as_bytes())];

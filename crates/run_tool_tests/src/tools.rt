@@ -20,8 +20,8 @@ const PLAN_DIGEST: [u8; 32] = [
     0xbb, 0x70, 0x0f, 0x7e, 0x43, 0x5a, 0x53, 0x9e, 0x82, 0x89, 0xaf, 0xc2, 0xc9, 0xb8, 0xed, 0x3a,
 ];
 
-/// A flash file: of a pair whose first slot has version 1.0, the same with version 1.10 in the second
-/// one, or empty; the length of the OTP file; and an image: the sealed one, or so many zeros.
+/// A flash file: of a pair whose first slot has version 1.0, the same with version 1.10 in the
+/// second one, or empty.
 #[derive(Clone, Copy)]
 enum Flash {
     OneImage,
@@ -29,8 +29,9 @@ enum Flash {
     Empty,
 }
 
-/// The words, the flash, the length of the OTP file, the length of an image of zeros or none for the
-/// sealed one, the status, the text, and the digest of the file `a`, or none where it has another.
+/// The words, the flash, the length of the OTP file, the length of an image of zeros or none for
+/// the sealed one, the status, the text, and the digest of the file `a`, or none where it is not
+/// compared.
 type Case = (
     &'static [&'static str],
     Flash,

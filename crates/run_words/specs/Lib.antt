@@ -1,4 +1,3 @@
 pub mod Values
 pub mod Commands
 pub mod Usages
-pub mod Views

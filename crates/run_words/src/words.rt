@@ -1,9 +1,8 @@
 //! The words that are a command.
 
 ghost use Rattle.std.specs.Prelude.{◌≡◌, ◌≢◌, ◌<◌, ◌≤◌, length, IfSome, option_map, map, string_bytes};
-ghost use Rattle.run_words.specs.Commands.{command_of, cpu_of, kind_of, hex_digit, hex_value, update_base, one_word, three_words, board_words, four_words, five_words, seven_words, two_words, uf2_words, six_words};
+ghost use Rattle.run_words.specs.Commands.{command_of, cpu_of, kind_of, hex_digit, hex_value, update_base, one_word, three_words, board_words, four_words, five_words, seven_words, two_words, uf2_words, six_words, command_from};
 ghost use Rattle.run_words.specs.Values.{family_of, number_of};
-ghost use Rattle.run_words.specs.Views.{command_from};
 
 use crate::values::{family_word, number_word};
 use pico_board::{BootKind, Cpu};

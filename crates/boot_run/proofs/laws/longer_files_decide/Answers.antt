@@ -1,5 +1,5 @@
 use Rattle.run_forms.proofs.InputLemmas.{outcome-cut}
-use Rattle.boot_run.specs.Works.{inputs_of, work_of}
+use Rattle.boot_run.specs.Commands.{inputs_of, work_of}
 use Rattle.boot_run.proofs.laws.longer_files_decide.Goals as goal
 
 pub returns : goal.returns

@@ -1,5 +1,4 @@
-use Rattle.boot_run.proofs.RuleLemmas.{obeys}
-use Rattle.boot_run.proofs.RuleLemmas.{only, whole-right}
+use Rattle.boot_run.proofs.RuleLemmas.{obeys, only, whole-right}
 use Rattle.boot_run.proofs.laws.outcomes_are_right.Goals as goal
 
 pub returns-clause-right : goal.returns-clause-right

@@ -2,9 +2,8 @@ use Rattle.boot_rules.specs.Choosing.{decision_in}
 use Rattle.run_forms.specs.Forms.{content_of}
 use Rattle.board_work.specs.Works.{boot_work, data_work}
 use Rattle.run_course.specs.Outcomes.{worked}
-use Rattle.boot_run.proofs.RuleLemmas.{refused-exactly}
+use Rattle.boot_run.proofs.RuleLemmas.{refused-exactly, falls-exactly}
 use Rattle.board_work.proofs.BoardWorkLemmas.{fall-status}
-use Rattle.boot_run.proofs.RuleLemmas.{falls-exactly}
 use Rattle.boot_run.proofs.laws.statuses_come_exactly.Goals as goal
 
 pub returns-clause-input : goal.returns-clause-input

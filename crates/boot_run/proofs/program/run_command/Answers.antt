@@ -9,13 +9,13 @@ use Rattle.run_forms.specs.declared.inputs.FormWord.{FormWord}
 use Rattle.run_forms.specs.Inputs.{readings}
 use Rattle.run_forms.specs.Views.{input_file_from}
 use Rattle.run_forms.proofs.InputLemmas.{readings-long}
-use Rattle.run_words.specs.Views.{command_from}
-use Rattle.boot_run.specs.Works.{inputs_of, command_outcome}
+use Rattle.run_words.specs.Commands.{command_from}
+use Rattle.boot_run.specs.Commands.{inputs_of, command_outcome}
 use Rattle.boot_run.proofs.program.run_command.Goals as goal
 
 pub answer-requires-clause-count : goal.answer-requires-clause-count
 answer-requires-clause-count g c =
-    let words = c.in-Ok-readings.words.items in let inputs = c.deref.result.now in
+    let words = c.in-Ok-readings.to_read.items in let inputs = c.deref.result.now in
     let read = c.in-Ok-read_all.ensures.count
     ∙ ap (λ (xs : List InputWord). length xs) c.deref-2.ensures.value in
     let named = sym (length-map words input_from) ∙ (ap (λ (xs : List Input). length xs) c.in-Ok-readings.ensures
@@ -26,7 +26,7 @@ answer-requires-clause-count g c =
 pub returns-in-Ok-answer : goal.returns-in-Ok-answer
 returns-in-Ok-answer g c =
     run-read g.S.Store.state g.S.Store.history g.K.Sink.state g.K.Sink.history
-    (readings (inputs_of (command_from c.args.command.now))) (map input_from c.in-Ok-readings.words.items)
+    (readings (inputs_of (command_from c.args.command.now))) (map input_from c.in-Ok-readings.to_read.items)
     (command_outcome (command_from c.args.command.now)) c.args.store.now c.args.out.now
     (bytes_of c.in-Ok-read_all.files.items) _ c.read_all.new.store _ _ _
     (c.in-Ok-readings.ensures ∙ ap readings
@@ -38,7 +38,7 @@ returns-in-Ok-answer g c =
 pub returns : goal.returns
 returns g c =
     run-no_room g.S.Store.state g.S.Store.history g.K.Sink.state g.K.Sink.history
-    (readings (inputs_of (command_from c.args.command.now))) (map input_from c.in-Ok-readings.words.items)
+    (readings (inputs_of (command_from c.args.command.now))) (map input_from c.in-Ok-readings.to_read.items)
     (command_outcome (command_from c.args.command.now)) c.args.store.now c.args.out.now
     (bytes_of c.in-Ok-read_all.files.items) c.read_all.new.store
     (c.in-Ok-readings.ensures ∙ ap readings

@@ -6,8 +6,8 @@ use Rattle.run_course.specs.Views.{outcome_from, bytes_of}
 use Rattle.run_forms.specs.Inputs.{InputFile, first_fault}
 use Rattle.run_forms.specs.Views.{input_file_from}
 use Rattle.run_forms.proofs.InputLemmas.{none-formed, vec-long}
-use Rattle.run_words.specs.Views.{command_from}
-use Rattle.boot_run.specs.Works.{inputs_of}
+use Rattle.run_words.specs.Commands.{command_from}
+use Rattle.boot_run.specs.Commands.{inputs_of}
 use Rattle.boot_run.proofs.work.answer.Goals as goal
 
 pub work-requires : goal.work-requires
@@ -16,5 +16,6 @@ work-requires c =
     (sym (vec-long c.args.files.items) ∙ (c.requires.count ∙ (sym (length-map c.args.inputs.now input_file_from)
     ∙ ap (λ (xs : List InputFile). length xs) c.requires.inputs)))
     (subst (λ (xs : List InputFile). first_fault xs (bytes_of c.args.files.items) ≡ None) c.requires.inputs
-    (subst (λ (files : List (Vec ℕ Global)). first_fault (map input_file_from c.args.inputs.now) (bytes_of files) ≡ None)
+    (subst (λ (files : List (Vec ℕ Global)). first_fault (map input_file_from c.args.inputs.now) (bytes_of files)
+    ≡ None)
     c.deref.ensures.value (sym c.in_ok-fault.ensures ∙ ap (option_map outcome_from) c.in-None.is)))

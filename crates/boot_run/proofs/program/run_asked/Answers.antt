@@ -2,9 +2,9 @@ use Rattle.std.proofs.Common.{subst, refl, ◌∙◌, ap, map, List, String, inr
 use Rattle.std.specs.Prelude.{string_bytes}
 use Rattle.std.specs.declared.alloc.Global.{Global}
 use Rattle.run_words.specs.Commands.{Command, command_of}
-use Rattle.boot_run.specs.Works.{inputs_in, outcome_in}
+use Rattle.boot_run.specs.Commands.{inputs_in, outcome_in}
 use Rattle.run_course.specs.Courses.{Runs, was_read, finished}
-use Rattle.boot_run.proofs.program.run_words.Goals as goal
+use Rattle.boot_run.proofs.program.run_asked.Goals as goal
 
 pub returns-in-Some : goal.returns-in-Some
 returns-in-Some g c =
