@@ -126,7 +126,8 @@ fn a_table_may_have_65536_bytes(rt: HostRuntime) -> Result<(), Fail> {
 /// The sealed least image by this spec.
 fn sealed(alloc: Global, spec: &str) -> Result<Vec<u8>, Fail> {
     let binary = flash(alloc, &[(0, &VECTORS), (0x114, &ARM)], 0x128)?;
-    let named = [("b", binary.as_slice()), ("s", spec.as_bytes())];
+    let spec = Vec::from_slice(alloc, spec.as_bytes())?;
+    let named = [("b", binary.as_slice()), ("s", spec.as_slice())];
     let (_, _, store) = ended(alloc, &["seal", "b", "s", "a"], &named)?;
     Ok(Vec::from_slice(alloc, store.file("a").unwrap_or(&[]))?)
 }
