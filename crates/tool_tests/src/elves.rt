@@ -1,20 +1,12 @@
 //! The calls with ample memory. The digests are those of files that were made outside this program.
 
-use arrayvec::ArrayVec;
-use block_codec::Version;
+use crate::fixtures::{BLOCK, LEAST_SEALED, sha256, spec};
 use elf_pack::{ElfFault, elf_binary, elf_image};
 use image_pack::SealSpec;
 use pico_board::Cpu;
-use sha2::{Digest, Sha256};
 use std::alloc::{AllocError, Global};
 use std::process::Abort;
 use std::test::Fail;
-
-/// The least image, sealed for Arm with version 1.9.
-const LEAST_SEALED: [u8; 32] = [
-    0x5b, 0x1d, 0x03, 0x00, 0x31, 0x7d, 0xb4, 0xfd, 0x26, 0x07, 0xe9, 0xba, 0x8b, 0xe6, 0xdb, 0x00,
-    0xb3, 0xc1, 0x6e, 0x75, 0x2b, 0xc9, 0x27, 0xf8, 0x82, 0x45, 0xa1, 0x2b, 0x5d, 0xf6, 0x50, 0xbb,
-];
 
 /// The binary of sixteen bytes in SRAM.
 const IN_SRAM: [u8; 32] = [
@@ -36,9 +28,6 @@ const THREE_IN_SRAM: [u8; 32] = [
 
 /// Sixteen bytes.
 const BYTES: [u8; 16] = [0, 1, 2, 3, 4, 5, 6, 7, 8, 9, 10, 11, 12, 13, 14, 15];
-
-/// The words of the block of the least image: one IMAGE_TYPE item for Arm, and link 0.
-const BLOCK: [u32; 5] = [0xffff_ded3, 0x1021_0142, 0x0000_01ff, 0, 0xab12_3579];
 
 /// The machine of Arm, and that of RISC-V.
 const ARM: u16 = 40;
@@ -98,24 +87,6 @@ fn least_image(alloc: Global) -> Result<Vec<u8>, AllocError> {
         bytes.extend_from_slice(&word.to_le_bytes())?;
     }
     Ok(bytes)
-}
-
-/// A spec for Arm of version 1.minor without rows.
-fn spec(minor: u16) -> SealSpec {
-    SealSpec {
-        cpu: Cpu::Arm,
-        version: Version { major: 1, minor },
-        rollback: None,
-        rows: ArrayVec::new(),
-        trial: false,
-    }
-}
-
-/// The SHA-256 of these bytes.
-fn sha256(bytes: &[u8]) -> [u8; 32] {
-    let mut hasher = Sha256::new();
-    hasher.update(bytes);
-    hasher.finalize()
 }
 
 /// The most bytes that a file may have.

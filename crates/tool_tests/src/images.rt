@@ -3,20 +3,12 @@
 ghost use Rattle.std.specs.Prelude.{◌≡◌, ◌≤◌, IfOk, length};
 ghost use Rattle.image_pack.specs.Plans.{IsPlanned};
 
-use arrayvec::ArrayVec;
-use block_codec::Version;
-use image_pack::{SealSpec, generate, plan, seal};
-use pico_board::{Cpu, Window};
-use sha2::{Digest, Sha256};
+use crate::fixtures::{BLOCK, LEAST_SEALED, sha256, spec};
+use image_pack::{generate, plan, seal};
+use pico_board::Window;
 use std::alloc::{AllocError, Global};
 use std::process::Abort;
 use std::test::Fail;
-
-/// The least image, sealed for Arm with version 1.9.
-const SEALED: [u8; 32] = [
-    0x5b, 0x1d, 0x03, 0x00, 0x31, 0x7d, 0xb4, 0xfd, 0x26, 0x07, 0xe9, 0xba, 0x8b, 0xe6, 0xdb, 0x00,
-    0xb3, 0xc1, 0x6e, 0x75, 0x2b, 0xc9, 0x27, 0xf8, 0x82, 0x45, 0xa1, 0x2b, 0x5d, 0xf6, 0x50, 0xbb,
-];
 
 /// The script that writes it into the window of sectors 2 to 31.
 const PLANNED: [u8; 32] = [
@@ -42,9 +34,6 @@ const MADE: [u8; 32] = [
     0x21, 0xe4, 0xdb, 0x43, 0xc7, 0xc7, 0x16, 0x93, 0x9b, 0xe1, 0x8a, 0xaf, 0x08, 0x44, 0x57, 0xc6,
 ];
 
-/// The words of the block of the least image: one IMAGE_TYPE item for Arm, and link 0.
-const BLOCK: [u32; 5] = [0xffff_ded3, 0x1021_0142, 0x0000_01ff, 0, 0xab12_3579];
-
 /// A binary of so many words: SP and PC, the least block at 0x114, and this word elsewhere.
 fn binary(alloc: Global, words: u32, fill: u32) -> Result<Vec<u8>, AllocError>
     requires { words ≤ 16320 }
@@ -65,17 +54,6 @@ fn binary(alloc: Global, words: u32, fill: u32) -> Result<Vec<u8>, AllocError>
     Ok(bytes)
 }
 
-/// A spec for Arm of version 1.minor without rows.
-fn spec(minor: u16) -> SealSpec {
-    SealSpec {
-        cpu: Cpu::Arm,
-        version: Version { major: 1, minor },
-        rollback: None,
-        rows: ArrayVec::new(),
-        trial: false,
-    }
-}
-
 /// The window of the 30 sectors from this one on.
 fn slot(sector: u32) -> Window
     requires { sector ≤ 32 }
@@ -87,13 +65,6 @@ fn slot(sector: u32) -> Window
     }
 }
 
-/// The SHA-256 of these bytes.
-fn sha256(bytes: &[u8]) -> [u8; 32] {
-    let mut hasher = Sha256::new();
-    hasher.update(bytes);
-    hasher.finalize()
-}
-
 #[test]
 fn the_least_image_is_sealed_and_planned(rt: HostRuntime) -> Result<(), Fail> {
     let alloc = rt.alloc();
@@ -101,7 +72,7 @@ fn the_least_image_is_sealed_and_planned(rt: HostRuntime) -> Result<(), Fail> {
     let mut sealed = Vec::new(alloc);
     assert_eq!(rt; seal(alloc, &bytes, &spec(9), &mut sealed), Ok(0x128));
     assert_eq!(rt; sealed.len(), 384);
-    assert_eq!(rt; sha256(&sealed), SEALED);
+    assert_eq!(rt; sha256(&sealed), LEAST_SEALED);
     let mut script = Vec::new(alloc);
     assert_eq!(rt; plan(alloc, slot(2), &sealed, &mut script), Ok(()));
     assert_eq!(rt; sha256(&script), PLANNED);

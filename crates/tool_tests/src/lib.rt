@@ -6,6 +6,8 @@
 #[cfg(test)]
 mod elves;
 #[cfg(test)]
+mod fixtures;
+#[cfg(test)]
 mod images;
 #[cfg(test)]
 mod starts;
