@@ -22,8 +22,7 @@ use Rattle.boot_script.specs.Scripts.{events}
 use Rattle.boot_rules.specs.Tables.{table_in}
 use Rattle.boot_machine.specs.Machines.{Host}
 use Rattle.boot_machine.specs.Serving.{table_of}
-use Rattle.image_pack.specs.Filling.{round_up}
-use Rattle.image_pack.specs.Plans.{erase_cmd, plan_text, sent, update_cmd, write_cmd}
+use Rattle.image_plan.specs.Plans.{erase_cmd, in_sectors, plan_text, sent, update_cmd, write_cmd}
 use Rattle.boot_sweep.specs.Sessions.{IsSlotOf, entered_host, session}
 use Rattle.boot_sweep.proofs.PlanServedLemmas.{Known, erase-done, erase-refused, event, reboot-event, write-done, write-refused}
 use Rattle.boot_sweep.proofs.PlanSlotLemmas.{IsSlot, slot-is}
@@ -313,7 +312,7 @@ pub record KnownEvents : Type 0 where
       → w.start % 4096 ≡ 0 → w.len % 4096 ≡ 0 → w.start + w.len ≤ 16777216
       → events (plan_text w.start image)
       ≡ Ok (PowerOn ∷ Reset Bootsel ∷ sent (erase_cmd 1 w.start 4096) []
-      ∷ sent (erase_cmd 2 (w.start + 4096) (round_up 4096 (length (drop 4096 image)))) []
+      ∷ sent (erase_cmd 2 (w.start + 4096) (in_sectors (length (drop 4096 image)))) []
       ∷ sent (write_cmd 3 (w.start + 4096) (length (drop 4096 image))) (drop 4096 image)
       ∷ sent (write_cmd 4 w.start 4096) (take 4096 image) ∷ sent (update_cmd 5 w.start) [] ∷ [])
 

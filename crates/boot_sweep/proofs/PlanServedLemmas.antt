@@ -29,7 +29,7 @@ use Rattle.boot_script.specs.Events as events
 use Rattle.boot_script.specs.Events.{Happening}
 use Rattle.boot_machine.specs.Machines.{Host, Place, InBootsel, Off, Running}
 use Rattle.boot_machine.specs.Serving.{Served, command_served, serves, serves_host, serves_ram, table_of}
-use Rattle.image_pack.specs.Plans.{erase_cmd, update_cmd, write_cmd}
+use Rattle.image_plan.specs.Plans.{erase_cmd, update_cmd, write_cmd}
 use Rattle.boot_sweep.specs.Sessions.{entered_host, going_on, session_from}
 
 -- what the laws below say of commands and of those of a plan

@@ -4,7 +4,7 @@
 ghost use Rattle.std.specs.Prelude.{◌≡◌, ◌≢◌, ◌⊎◌, ◌++◌, ◌∷◌, [], ℕ, ◌+◌, ◌<◌, ◌≤◌, List, Ok, Some, length, slice_index, true};
 ghost use Rattle.boot_script.specs.Events.{Happening};
 ghost use Rattle.boot_script.specs.Scripts.{events};
-ghost use Rattle.image_pack.specs.Plans.{plan_text};
+ghost use Rattle.image_plan.specs.Plans.{plan_text};
 ghost use Rattle.boot_sweep.specs.Sessions.{IsCutBoot, IsSlotOf, StaysIn, entered_host, session};
 ghost use Rattle.boot_machine.specs.Boots.{entered};
 ghost use Rattle.boot_machine.specs.Machines.{Machine, Off};
@@ -29,7 +29,7 @@ ghost use Rattle.boot_rules.specs.declared.decision.Decision.TheVariants.{Start}
 ghost use Rattle.boot_rules.specs.declared.tables.Found.{Found};
 ghost use Rattle.boot_sweep.specs.Results.{ConfinedSession, CutSession, IsInNoUnit, StartsElsewhere, StartsFinished, StartsThere};
 
-use image_pack::laws::{the_commands_of_a_plan, the_events_of_a_plan};
+use image_plan::laws::{the_commands_of_a_plan, the_events_of_a_plan};
 use picoboot_cmd::laws::{
     a_permitted_erase_is_done, a_permitted_write_is_done, a_range_is_allowed_byte_by_byte,
     a_reboot_asks_for_its_boot, a_refused_command_does_nothing, the_checks_of_each_command,

@@ -10,7 +10,7 @@ ghost use Rattle.boot_sweep.specs.Examples.{begins_with, beside_former, beside_s
 ghost use Rattle.boot_sweep.specs.Results.{CutSession, StartsFinished};
 ghost use Rattle.boot_sweep.specs.Sessions.{IsSlotOf, session};
 ghost use Rattle.image_check.specs.SameImage.{SameImage};
-ghost use Rattle.image_pack.specs.Plans.{plan_events};
+ghost use Rattle.image_plan.specs.Plans.{plan_events};
 ghost use Rattle.pico_board.specs.Sessions.{Unfinished};
 ghost use Rattle.pico_board.specs.Steps.{after_all};
 ghost use Rattle.pico_board.specs.declared.Step.TheVariants.{Erase};

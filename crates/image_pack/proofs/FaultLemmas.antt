@@ -2,6 +2,7 @@
 use Rattle.std.proofs.Common.{◌≡◌, ◌⊎◌, ℕ, zero, suc, ◌<◌, ◌≤◌, true, List, length, Result, Ok, Err, OnOk, IfErr, refl, sym, ap, subst, ◌∙◌, inl, inr, arith}
 use Rattle.std.specs.Prelude.{IsErrOf}
 use Rattle.std.proofs.lemmas.Bool.{cases_lt}
+use Rattle.pico_board.specs.declared.window.TheConstants.{MOST_FLASH_BYTES}
 use Rattle.image_def.specs.declared.started.Started.{Started}
 use Rattle.otp_roll.specs.Rows.{AreRollbackRows}
 use Rattle.image_check.specs.declared.why.Why.{Why}
@@ -13,7 +14,6 @@ use Rattle.image_pack.specs.declared.spec.SealError.{SealError}
 use Rattle.image_pack.specs.declared.spec.SealError.TheVariants.{BadSpec, Unsealable, TooLarge, BlockTooLong, NotBootable, Displaced, Memory}
 use Rattle.image_pack.specs.declared.spec.SealSpec.{SealSpec}
 use Rattle.image_pack.specs.declared.spec.SpecField.TheVariants.{Rollback, Rows}
-use Rattle.image_pack.specs.declared.sealing.TheConstants.{MOST_BYTES}
 use Rattle.image_pack.specs.Faults.{Boots, IsRightSpec, IsSealFault, IsSealable, IsSealed, IsShort, block_offset, whole_window, zero_otp}
 use Rattle.image_pack.specs.Filling.{whole_sectors}
 use Rattle.image_pack.specs.Sealing.{parts_in, sealed_text}
@@ -36,7 +36,7 @@ module _ (b : List ℕ) (s : SealSpec) where
   Passed zero = AreRollbackRows s.rows.items
   Passed (suc zero) = IsRightSpec s
   Passed (suc (suc zero)) = IsSealable b s
-  Passed (suc (suc (suc zero))) = length (sealed_text b s) ≤ MOST_BYTES
+  Passed (suc (suc (suc zero))) = length (sealed_text b s) ≤ MOST_FLASH_BYTES
   Passed (suc (suc (suc (suc zero)))) = IsShort b s
   Passed (suc (suc (suc (suc (suc zero))))) = (x : Started) × Boots s.cpu (sealed_text b s) x
   Passed (suc (suc (suc (suc (suc (suc k)))))) = IsSealed b s

@@ -1,13 +1,9 @@
-pub mod PlanLemmas
 pub mod PartLemmas
 pub mod WithinLemmas
 pub mod RangeLemmas
-pub mod StreamLemmas
-pub mod FlashLemmas
 pub mod RowLemmas
 pub mod BoardLemmas
 pub mod FaultLemmas
-pub mod PlanLaws
 pub mod TextLaws
 pub mod OneItemLemmas
 pub mod SealedItemLemmas

@@ -4,6 +4,7 @@ use Rattle.std.specs.Prelude.{IsTrue, IfSome, slice_get}
 use Rattle.std.specs.List.{flat_map}
 use Rattle.std.specs.Result.{result_ok}
 use Rattle.std.proofs.lemmas.List.{drop_at, length-replicate, length-take, take_all}
+use Rattle.pico_board.specs.declared.window.TheConstants.{MOST_FLASH_BYTES}
 use Rattle.sha2.specs.Sha256.{sha256}
 use Rattle.pico_board.specs.declared.window.Window.{Window}
 use Rattle.pico_board.specs.Content.{flash_base}
@@ -94,7 +95,7 @@ module _ (binary : List ℕ) (spec : SealSpec) (sealed : IsSealed binary spec) w
       let fill = length-replicate {A = ℕ} (round_up 4 (length binary) - length binary) 255 in
       omega (arith, whole, fill)
 
-  pub small : length binary ≤ 16777216
+  pub small : length binary ≤ MOST_FLASH_BYTES
   small =
       let all = ap length text_is in
       let sum = length-append kept (bytes_of (frame items link)) in

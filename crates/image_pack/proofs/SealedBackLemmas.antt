@@ -7,6 +7,7 @@ use Rattle.std.specs.Int.{cast_unsigned, w32}
 use Rattle.std.proofs.lemmas.Bool.Decides.{nat_tests}
 use Rattle.std.proofs.lemmas.Grind.{common_steps}
 use Rattle.std.proofs.lemmas.List.{drop_at, get_or-drop, length-take-le}
+use Rattle.pico_board.specs.declared.window.TheConstants.{MOST_FLASH_BYTES}
 use Rattle.arrayvec.specs.ArrayVec.{ArrayVec}
 use Rattle.pico_board.specs.declared.boot.Cpu.{Cpu}
 use Rattle.block_codec.specs.declared.definition.Def.{Def}
@@ -269,7 +270,7 @@ module _ (spec : SealSpec) (bytes entry : List ℕ) (loads : List Load) (at : �
 
     -- the loads begin with the bytes before the block
     pub loads_begin : (n : ℕ) (given : List Load) → map_loads in_flash n sealed_block def ≡ Ok given → at ≡ length bytes
-        → length bytes ≤ n → length bytes ≤ 16777216 → (runtime : ℕ) × (rest : List Load)
+        → length bytes ≤ n → length bytes ≤ MOST_FLASH_BYTES → (runtime : ℕ) × (rest : List Load)
         × (given ≡ record { storage = Some 0; runtime = runtime; size = length bytes } ∷ rest)
     loads_begin n given mapped at_is room small =
         let item = item_at map_place map_of in

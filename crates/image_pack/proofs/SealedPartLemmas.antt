@@ -6,6 +6,7 @@ use Rattle.std.specs.Int.{w32}
 use Rattle.std.proofs.Math.Facts.{Fits-of_z}
 use Rattle.std.proofs.lemmas.Bool.Decides.{nat_tests}
 use Rattle.std.proofs.lemmas.Int.{ints}
+use Rattle.pico_board.specs.declared.window.TheConstants.{MOST_FLASH_BYTES}
 use Rattle.sha2.specs.Sha256.{sha256}
 use Rattle.sha2.proofs.Facts256.{length-sha256}
 use Rattle.pico_board.specs.declared.boot.Cpu.{Cpu}
@@ -113,7 +114,7 @@ in_range : (runtime size : ℕ) → in_sram runtime size ≡ true → (runtime <
 in_range runtime size is =
     let end_ : runtime + size < 2 ^ 32 = grind (arith, nat_tests) in (omega (arith, end_), omega (arith, end_))
 
-own_place : (at : ℕ) (storage : Option ℕ) (size : ℕ) → IsStoredIn 16777216 storage size
+own_place : (at : ℕ) (storage : Option ℕ) (size : ℕ) → IsStoredIn MOST_FLASH_BYTES storage size
     → IfSome (own_storage at storage) (λ x. x ≤ 2 ^ 30)
 own_place at None size is = tt
 own_place at (Some x) size is = go (x == at)
@@ -122,7 +123,7 @@ own_place at (Some x) size is = go (x == at)
     go true = tt
     go false = omega (arith, is)
 
-entries_words : (at : ℕ) (loads : List Load) → at ≤ 2 ^ 30 → AreStoredIn 16777216 loads
+entries_words : (at : ℕ) (loads : List Load) → at ≤ 2 ^ 30 → AreStoredIn MOST_FLASH_BYTES loads
     → AreWords (flat_map (entry_words at)
     (map (own_load at) (filter (λ (load : Load). in_sram load.runtime load.size) loads)))
 entries_words at [] small stored = tt
@@ -233,7 +234,7 @@ module _ (spec : SealSpec) (bytes entry : List ℕ) (loads : List Load) where
     copied_words [] is = tt
     copied_words (h ∷ body) is = is.2
 
-    pub are_words : IsHalves spec.version → AreStoredIn 16777216 loads → length bytes ≤ 16777216
+    pub are_words : IsHalves spec.version → AreStoredIn MOST_FLASH_BYTES loads → length bytes ≤ MOST_FLASH_BYTES
         → AreWords (sealed_items spec bytes entry loads)
     are_words halves stored small =
         let front = length-append version_body entry in

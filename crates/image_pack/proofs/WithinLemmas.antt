@@ -3,6 +3,7 @@ use Rattle.std.proofs.Common.{◌≡◌, ℕ, ◌+◌, ◌-◌, ◌<◌, ◌≤�
 use Rattle.std.specs.List.{slice_get}
 use Rattle.std.proofs.lemmas.List.{length-replicate}
 use Rattle.std.proofs.lemmas.Option.{slice_get-get_or}
+use Rattle.pico_board.specs.declared.window.TheConstants.{MOST_FLASH_BYTES}
 use Rattle.pico_board.specs.declared.boot.Cpu.{Cpu}
 use Rattle.block_codec.specs.Blocks.{BlockView, block_size}
 use Rattle.block_codec.proofs.AtLemmas.{AreErased-replicate, BlockAt-erased, BlockAt-room}
@@ -71,13 +72,13 @@ stored-more n m (load ∷ loads) le are = (more load.storage are.0, stored-more 
   more (Some x) is = omega (arith, le, is)
 
 -- a round number of bytes
-pub round_up-most : (n : ℕ) → n ≤ 16777216 → round_up 4096 n ≤ 16777216
+pub round_up-most : (n : ℕ) → n ≤ MOST_FLASH_BYTES → round_up 4096 n ≤ MOST_FLASH_BYTES
 round_up-most n le = omega (arith, le)
 
 pub round_up-least : (n : ℕ) → n ≤ round_up 4 n
 round_up-least n = omega arith
 
-pub length-whole_sectors : (binary : List ℕ) → length binary ≤ 16777216 → length (whole_sectors binary) ≤ 16777216
+pub length-whole_sectors : (binary : List ℕ) → length binary ≤ MOST_FLASH_BYTES → length (whole_sectors binary) ≤ MOST_FLASH_BYTES
 length-whole_sectors binary le =
     let long = length-append binary (replicate (round_up 4096 (length binary) - length binary) 255) in
     let fill = length-replicate {A = ℕ} (round_up 4096 (length binary) - length binary) 255 in
@@ -106,7 +107,7 @@ block_inside binary fill loop k closed lt =
     }
 
 -- the parts of a binary lie in it
-pub IsWithin-parts : (binary : List ℕ) (cpu : Cpu) (p : Parts) → length binary ≤ 16777216
+pub IsWithin-parts : (binary : List ℕ) (cpu : Cpu) (p : Parts) → length binary ≤ MOST_FLASH_BYTES
     → parts_in cpu (whole_sectors binary) ≡ Ok p → IsWithin p (length (whole_words binary))
 IsWithin-parts binary cpu p small is =
     let w = whole_sectors binary in
@@ -132,11 +133,11 @@ IsWithin-parts binary cpu p small is =
       last = omega (arith, ends, last.inside, words, filled, least);
       link = omega (arith, links, last.inside, words, filled, least);
       small = omega (arith, small, words, filled);
-      stored = stored-more (length w) 16777216 read.c (length-whole_sectors binary small) stored;
+      stored = stored-more (length w) MOST_FLASH_BYTES read.c (length-whole_sectors binary small) stored;
     })
 
 -- the same of an answer
-pub IsWithin-answer : (binary : List ℕ) (cpu : Cpu) (r : Result Parts Why) → length binary ≤ 16777216
+pub IsWithin-answer : (binary : List ℕ) (cpu : Cpu) (r : Result Parts Why) → length binary ≤ MOST_FLASH_BYTES
     → r ≡ parts_in cpu (whole_sectors binary) → IfOk r (λ p. IsWithin p (length (whole_words binary)))
 IsWithin-answer binary cpu (Ok p) small is = IsWithin-parts binary cpu p small (sym is)
 IsWithin-answer binary cpu (Err why) small is = tt

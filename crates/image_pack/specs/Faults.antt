@@ -1,6 +1,7 @@
 -- Why a binary is not sealed: the first of these conditions, in the order of the error's variants.
 -- This project's own.
 use Rattle.std.specs.Prelude.{◌≡◌, ◌≢◌, ℕ, ◌-◌, ◌<◌, ◌≤◌, true, List, [], length, replicate, Option, Some, None, Ok, Err}
+use Rattle.pico_board.specs.declared.window.TheConstants.{MOST_FLASH_BYTES}
 use Rattle.pico_board.specs.declared.boot.Cpu.{Cpu}
 use Rattle.pico_board.specs.declared.window.Window.{Window}
 use Rattle.image_def.specs.declared.started.Started.{Started}
@@ -11,7 +12,6 @@ use Rattle.image_check.specs.Valid.{IsValidImage}
 use Rattle.image_check.specs.WhyNot.{IsWhyNot}
 use Rattle.image_def.specs.declared.images.TheConstants.{MOST_BLOCK_BYTES}
 use Rattle.image_pack.specs.declared.parts.Parts.{Parts}
-use Rattle.image_pack.specs.declared.sealing.TheConstants.{MOST_BYTES}
 use Rattle.image_pack.specs.declared.spec.SealError.{SealError}
 use Rattle.image_pack.specs.declared.spec.SealError.TheVariants.{BadSpec, Unsealable, TooLarge, BlockTooLong, NotBootable, Displaced, Memory}
 use Rattle.image_pack.specs.declared.spec.SealSpec.{SealSpec}
@@ -54,7 +54,7 @@ pub record IsSealable (binary : List ℕ) (spec : SealSpec) : Type 0 where
 -- besides the sealed image and its new block are not too long
 pub record IsShort (binary : List ℕ) (spec : SealSpec) : Type 0 where
   pub sealable : IsSealable binary spec
-  pub image : length (sealed_text binary spec) ≤ MOST_BYTES
+  pub image : length (sealed_text binary spec) ≤ MOST_FLASH_BYTES
   pub block : block_bytes binary spec ≤ MOST_BLOCK_BYTES
 
 -- an OTP of zeros
@@ -88,9 +88,9 @@ IsSealFault binary spec (BadSpec field) = IsWrong spec field
 IsSealFault binary spec (Unsealable why) =
     IsRightSpec spec × (parts_in spec.cpu (whole_sectors binary) ≡ Err why)
 IsSealFault binary spec TooLarge =
-    IsSealable binary spec × (MOST_BYTES < length (sealed_text binary spec))
+    IsSealable binary spec × (MOST_FLASH_BYTES < length (sealed_text binary spec))
 IsSealFault binary spec (BlockTooLong size) =
-    IsSealable binary spec × (length (sealed_text binary spec) ≤ MOST_BYTES)
+    IsSealable binary spec × (length (sealed_text binary spec) ≤ MOST_FLASH_BYTES)
     × (MOST_BLOCK_BYTES < size) × (size ≡ block_bytes binary spec)
 IsSealFault binary spec (NotBootable why) =
     IsShort binary spec × FailsToBoot spec.cpu (sealed_text binary spec) why

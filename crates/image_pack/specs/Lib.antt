@@ -1,9 +1,6 @@
 pub mod Filling
-pub mod Plans
-pub mod Streams
 pub mod Sealing
 pub mod Within
-pub mod Flashes
 pub mod Faults
 pub mod Starting
 pub mod Examples

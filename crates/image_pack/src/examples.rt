@@ -4,16 +4,11 @@ ghost use Rattle.std.specs.Prelude.{◌≡◌, [], ◌∷◌, ◌++◌, true, fa
 ghost use Rattle.pico_board.specs.declared.boot.Cpu.TheVariants.{Arm, Riscv};
 ghost use Rattle.block_codec.specs.Blocks.{frame};
 ghost use Rattle.block_codec.specs.Words.{bytes_of};
-ghost use Rattle.pico_board.specs.Examples.{window_at};
 ghost use Rattle.image_pack.specs.Examples.{block_at_40, four_bytes, least_image, one_item, parts_at, spec_of};
-ghost use Rattle.image_pack.specs.Filling.{padded, whole_sectors, whole_words};
-ghost use Rattle.image_pack.specs.Flashes.{generated, made_image, made_table};
-ghost use Rattle.part_table.specs.Written.{written};
-ghost use Rattle.image_pack.specs.Plans.{IsPlanned, update_cmd};
+ghost use Rattle.image_pack.specs.Filling.{whole_sectors, whole_words};
 ghost use Rattle.image_pack.specs.ReadBack.{IsHalves};
 ghost use Rattle.image_pack.specs.Sealing.{copied_words, entry_words, front_items, link_offset_of, offset_of, own_loads, parts_of, sealed_text};
 ghost use Rattle.image_pack.specs.Within.{IsWithin};
-ghost use Rattle.image_pack.specs.declared.sealing.TheConstants.{MOST_BYTES};
 
 /// The least image for Arm, sealed with version 1.9: its block links to the new one, and that back
 /// to it.
@@ -55,21 +50,6 @@ pub fn the_loads_of_a_new_block()
         ≡ 0xffffffc8 ∷ 0x20000000 ∷ 4 ∷ [] }
     ensures clear { entry_words 0x138 (four_bytes None 0x20000000)
         ≡ 0 ∷ 0x20000000 ∷ 4 ∷ [] }
-{}
-
-/// A sealed image has at most 16 MiB.
-pub fn the_most_bytes_of_a_sealed_image()
-    ensures { MOST_BYTES ≡ 16777216 }
-{}
-
-/// An update is planned for a window of whole sectors, or of none, that ends at 16,777,216 or
-/// below.
-pub fn windows_of_plans()
-    ensures greatest { IsPlanned (window_at 0 0x100_0000) }
-    ensures above { ¬ (IsPlanned (window_at 0x1000 0x100_0000)) }
-    ensures empty { IsPlanned (window_at 0x100_0000 0) }
-    ensures part_of_a_sector { ¬ (IsPlanned (window_at 0x1000 0xfff)) }
-    ensures between_sectors { ¬ (IsPlanned (window_at 0xfff 0x1000)) }
 {}
 
 /// The numbers of a version are half words.
@@ -129,19 +109,4 @@ pub fn bytes_are_filled()
     ensures whole { whole_words (1 ∷ 2 ∷ 3 ∷ 4 ∷ []) ≡ 1 ∷ 2 ∷ 3 ∷ 4 ∷ [] }
     ensures sector { whole_sectors (7 ∷ []) ≡ 7 ∷ replicate 4095 255 }
     ensures sectors { length (whole_sectors (replicate 4097 7)) ≡ 8192 }
-{}
-
-/// The reboot of a plan has the flags 4, no delay, the window's address as p0, and a p1 of 0.
-pub fn the_reboot_of_a_plan()
-    ensures { (update_cmd 5 0x20000).args
-        ≡ 4 ∷ 0 ∷ 0 ∷ 0 ∷ 0 ∷ 0 ∷ 0 ∷ 0 ∷ 0 ∷ 0 ∷ 2 ∷ 0x10 ∷ 0 ∷ 0 ∷ 0 ∷ 0 ∷ [] }
-{}
-
-/// The images of made flashes: the minor versions are the last two digits of the number, and the
-/// seed behind the greatest is 0.
-pub fn images_of_made_flashes()
-    ensures digits { generated 129 ≡ padded 0x2000 (written made_table)
-        ++ (padded 0x40000 (made_image 129 9) ++ padded 0xbe000 (made_image 130 2)) }
-    ensures greatest { generated 4294967295 ≡ padded 0x2000 (written made_table)
-        ++ (padded 0x40000 (made_image 4294967295 5) ++ padded 0xbe000 (made_image 0 9)) }
 {}

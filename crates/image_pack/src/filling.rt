@@ -1,6 +1,7 @@
 //! Bytes filled with 0xff.
 
 ghost use Rattle.std.specs.Prelude.{◌≡◌, ◌+◌, ◌≤◌, ◌<◌, ◌^◌, IfOk, OnOk, length};
+ghost use Rattle.pico_board.specs.declared.window.TheConstants.{MOST_FLASH_BYTES};
 ghost use Rattle.image_pack.specs.Filling.{padded, round_up, whole_sectors, whole_words};
 
 use std::alloc::{AllocError, Global};
@@ -12,7 +13,7 @@ const ERASED: u8 = 0xff;
 fn round_up(m: usize, n: usize) -> usize
     requires some { 0 < m }
     requires few { m ≤ 4096 }
-    requires small { n ≤ 16777216 }
+    requires small { n ≤ MOST_FLASH_BYTES }
     ensures value { result ≡ round_up m n }
 {
     m * ((n + (m - 1)) / m)
@@ -32,7 +33,7 @@ pub(crate) fn padded(alloc: Global, bytes: &[u8], count: usize) -> Result<Vec<u8
 
 /// A copy of the bytes in whole words.
 pub(crate) fn whole_words(alloc: Global, bytes: &[u8]) -> Result<Vec<u8>, AllocError>
-    requires { length bytes.now ≤ 16777216 }
+    requires { length bytes.now ≤ MOST_FLASH_BYTES }
     ensures value { IfOk result (λ copy. copy.items ≡ whole_words bytes.now) }
     ensures few { IfOk result (λ copy. length copy.items ≤ length bytes.now + 3) }
 {
@@ -41,7 +42,7 @@ pub(crate) fn whole_words(alloc: Global, bytes: &[u8]) -> Result<Vec<u8>, AllocE
 
 /// A copy of the bytes in whole sectors.
 pub(crate) fn whole_sectors(alloc: Global, bytes: &[u8]) -> Result<Vec<u8>, AllocError>
-    requires { length bytes.now ≤ 16777216 }
+    requires { length bytes.now ≤ MOST_FLASH_BYTES }
     ensures { IfOk result (λ copy. copy.items ≡ whole_sectors bytes.now) }
 {
     padded(alloc, bytes, round_up(4096, bytes.len()))
@@ -49,9 +50,9 @@ pub(crate) fn whole_sectors(alloc: Global, bytes: &[u8]) -> Result<Vec<u8>, Allo
 
 /// Fills the bytes to whole sectors.
 pub(crate) fn fill_sectors(bytes: &mut Vec<u8>) -> Result<(), AllocError>
-    requires { length bytes.old.items ≤ 16777216 }
+    requires { length bytes.old.items ≤ MOST_FLASH_BYTES }
     ensures value { OnOk result (bytes.new.items ≡ whole_sectors bytes.old.items) }
-    ensures len { OnOk result (length bytes.new.items ≤ 16777216) }
+    ensures len { OnOk result (length bytes.new.items ≤ MOST_FLASH_BYTES) }
 {
     let count = round_up(4096, bytes.len());
     bytes.resize(count, ERASED)

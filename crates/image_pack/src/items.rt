@@ -1,6 +1,7 @@
 //! The items of the new block of a sealed image.
 
 ghost use Rattle.std.specs.Prelude.{◌≡◌, ◌+◌, ◌*◌, ◌<◌, ◌≤◌, ◌∷◌, ◌++◌, length, IfSome};
+ghost use Rattle.pico_board.specs.declared.window.TheConstants.{MOST_FLASH_BYTES};
 ghost use Rattle.std.specs.List.{flat_map};
 ghost use Rattle.block_codec.specs.Kinds.{version_words};
 ghost use Rattle.load_map.specs.Addresses.{in_sram};
@@ -131,12 +132,12 @@ fn own_load(at: u32, load: &Load) -> Load
 
 /// The loads of a new block behind `size` bytes, whose LOAD_MAP item stands at `at`.
 pub(crate) fn own_loads(size: u32, at: u32, loads: &[Load]) -> OwnLoads
-    requires size { size ≤ 16777216 }
+    requires size { size ≤ MOST_FLASH_BYTES }
     requires few { length loads.now ≤ 51 }
-    requires stored { AreStoredIn 16777216 loads.now }
+    requires stored { AreStoredIn MOST_FLASH_BYTES loads.now }
     ensures value { result.items ≡ own_loads size at loads.now }
     ensures few { length result.items ≤ 52 }
-    ensures stored { AreStoredIn 16777216 result.items }
+    ensures stored { AreStoredIn MOST_FLASH_BYTES result.items }
 {
     let mut own = OwnLoads::new();
     own.push(Load {
@@ -155,7 +156,7 @@ pub(crate) fn own_loads(size: u32, at: u32, loads: &[Load]) -> OwnLoads
 /// The first word of a relative entry of a LOAD_MAP item at this offset.
 fn place_word(at: u32, storage: Option<u32>) -> u32
     requires at { at ≤ 16778000 }
-    requires stored { IfSome storage (λ x. x ≤ 16777216) }
+    requires stored { IfSome storage (λ x. x ≤ MOST_FLASH_BYTES) }
     ensures { result ≡ place_word at storage }
 {
     match storage {
@@ -168,7 +169,7 @@ fn place_word(at: u32, storage: Option<u32>) -> u32
 fn put_entries(words: &mut Words, at: u32, loads: &[Load])
     requires at { at ≤ 16778000 }
     requires room { length words.old.items + 3 * length loads.now ≤ 344 }
-    requires stored { AreStoredIn 16777216 loads.now }
+    requires stored { AreStoredIn MOST_FLASH_BYTES loads.now }
     ensures items { words.new.items ≡ words.old.items ++ flat_map (entry_words at) loads.now }
     ensures len { length words.new.items ≡ length words.old.items + 3 * length loads.now }
 {
@@ -182,10 +183,10 @@ fn put_entries(words: &mut Words, at: u32, loads: &[Load])
 /// The items before the HASH_VALUE item of a new block behind `size` bytes: the front ones, and
 /// LOAD_MAP and HASH_DEF.
 pub(crate) fn with_map(size: u32, front: &[u32], own: &[Load]) -> Words
-    requires size { size ≤ 16777216 }
+    requires size { size ≤ MOST_FLASH_BYTES }
     requires front { length front.now ≤ 176 }
     requires few { length own.now ≤ 52 }
-    requires stored { AreStoredIn 16777216 own.now }
+    requires stored { AreStoredIn MOST_FLASH_BYTES own.now }
     ensures value { result.items ≡ with_map size front.now own.now }
     ensures few { length result.items ≤ 335 }
 {

@@ -1,6 +1,7 @@
 //! Whether a sealed image starts.
 
 ghost use Rattle.std.specs.Prelude.{◌≡◌, ◌≤◌, IfOk, IsTrue, OnOk, length, true};
+ghost use Rattle.pico_board.specs.declared.window.TheConstants.{MOST_FLASH_BYTES};
 ghost use Rattle.pico_board.specs.Content.{IsFlashLength};
 ghost use Rattle.pico_board.specs.MemBoard.{state_of};
 ghost use Rattle.image_check.specs.Addressing.{in_flash};
@@ -71,7 +72,7 @@ fn zero_board(alloc: Global) -> Result<MemBoard, AllocError>
 
 /// The image of a view alone in a window, with an OTP of zeros and trial images allowed.
 fn image_of(alloc: Global, sectors: &[u8], cpu: Cpu) -> Result<Result<Started, Why>, AllocError>
-    requires { length sectors.now ≤ 16777216 }
+    requires { length sectors.now ≤ MOST_FLASH_BYTES }
     ensures { IfOk result (λ image. image ≡ image_in in_flash
         (record { start = 0; len = length sectors.now }) cpu true zero_otp sectors.now) }
 {
@@ -101,7 +102,7 @@ pub(crate) fn booted(
     image: &mut Vec<u8>,
     cpu: Cpu,
 ) -> Result<Result<Started, Why>, AllocError>
-    requires { length image.old.items ≤ 16777216 }
+    requires { length image.old.items ≤ MOST_FLASH_BYTES }
     ensures value { IfOk result (λ r. r ≡ image_in in_flash (whole_window image.old.items) cpu true
         zero_otp (whole_sectors image.old.items)) }
     ensures kept { OnOk result (image.new.items ≡ image.old.items) }

@@ -1,27 +1,18 @@
-//! Laws of plans and of sealed images, each the contract of a function that does nothing.
+//! Laws of sealed images, each the contract of a function that does nothing.
 
 ghost use Rattle.std.specs.Prelude.{◌≡◌, ◌⊎◌, ◌↔◌, ℕ, ◌+◌, ◌-◌, ◌*◌, ◌<◌, ◌≤◌, ◌^◌, List, [], ◌∷◌, ◌++◌, true, length, take, drop, slice_index, Ok, Option, Some, None};
+ghost use Rattle.pico_board.specs.declared.window.TheConstants.{MOST_FLASH_BYTES};
 ghost use Rattle.pico_board.specs.declared.window.Window.{Window};
-ghost use Rattle.pico_board.specs.declared.boot.BootKind.TheVariants.{Bootsel, Update};
 ghost use Rattle.pico_board.specs.Content.{Content, flash_base, window_bytes};
 ghost use Rattle.block_codec.specs.Erased.{AreErased};
 ghost use Rattle.load_map.specs.declared.addresses.TheConstants.{SRAM_START};
-ghost use Rattle.part_table.specs.declared.table.Table.{Table};
 ghost use Rattle.image_check.specs.Changes.{moved_to};
 ghost use Rattle.image_check.specs.NotBelow.{NotBelow};
 ghost use Rattle.image_check.specs.Valid.{Valid};
-ghost use Rattle.picoboot_cmd.specs.declared.cmd.Cmd.{Cmd};
-ghost use Rattle.picoboot_cmd.specs.Arguments.{reboot_flags, reboot_p0};
-ghost use Rattle.picoboot_cmd.specs.Commands.{command_in, written};
-ghost use Rattle.picoboot_cmd.specs.Served.{boot_by};
-ghost use Rattle.picoboot_cmd.specs.WellFormed.{IsErase, IsReboot, IsWrite, MayWrite};
-ghost use Rattle.boot_script.specs.Events.{Command, PowerOn, Reset};
-ghost use Rattle.boot_script.specs.Scripts.{events};
 ghost use Rattle.image_pack.specs.declared.spec.SealError.{SealError};
 ghost use Rattle.image_pack.specs.declared.spec.SealSpec.{SealSpec};
 ghost use Rattle.image_pack.specs.Faults.{IsSealFault, IsSealed, block_offset};
-ghost use Rattle.image_pack.specs.Filling.{round_up, whole_sectors, whole_words};
-ghost use Rattle.image_pack.specs.Plans.{IsPlanned, erase_cmd, plan_text, sent, update_cmd, write_cmd};
+ghost use Rattle.image_pack.specs.Filling.{whole_sectors, whole_words};
 ghost use Rattle.image_pack.specs.declared.parts.Parts.{Parts};
 ghost use Rattle.image_pack.specs.Sealing.{digest_text, own_loads, parts_in, relinked, sealed_text};
 ghost use Rattle.image_pack.specs.Within.{IsWithin};
@@ -35,47 +26,6 @@ ghost use Rattle.image_pack.specs.Starts.{StartsAs};
 ghost use Rattle.image_pack.specs.Unsealable.{IsUnsealable, KeepsRules};
 ghost use Rattle.block_codec.specs.declared.definition.EntryPoint.{EntryPoint};
 ghost use Rattle.pico_board.specs.declared.boot.Cpu.{Cpu};
-
-/// The events of a plan: the power comes on, the board is reset to BOOTSEL, and the window's first
-/// sector is erased. An image of at most a sector is then written; of a longer one the other
-/// sectors are erased and written before the first sector is. At last the board reboots into an
-/// update of the window.
-pub fn the_events_of_a_plan()
-    ensures short { (w : Window) (image : List ℕ) → IsPlanned w → length image ≤ w.len
-        → length image ≤ 4096
-        → events (plan_text w.start image)
-        ≡ Ok (PowerOn ∷ Reset Bootsel ∷ sent (erase_cmd 1 w.start 4096) []
-        ∷ sent (write_cmd 2 w.start (length image)) image ∷ sent (update_cmd 3 w.start) [] ∷ []) }
-    ensures long { (w : Window) (image : List ℕ) → IsPlanned w → length image ≤ w.len
-        → 4096 < length image
-        → events (plan_text w.start image)
-        ≡ Ok (PowerOn ∷ Reset Bootsel ∷ sent (erase_cmd 1 w.start 4096) []
-        ∷ sent (erase_cmd 2 (w.start + 4096) (round_up 4096 (length (drop 4096 image)))) []
-        ∷ sent (write_cmd 3 (w.start + 4096) (length (drop 4096 image))) (drop 4096 image)
-        ∷ sent (write_cmd 4 w.start 4096) (take 4096 image) ∷ sent (update_cmd 5 w.start) []
-        ∷ []) }
-    ensures sent { (cmd : Cmd) (payload : List ℕ)
-        → sent cmd payload ≡ Command (written cmd) payload }
-{}
-
-/// The commands of a plan are read back, and are the erases, the writes and the reboot that they
-/// say, where their sectors may be written.
-pub fn the_commands_of_a_plan()
-    ensures read { (token at size : ℕ) → token < 2 ^ 32 → size < 2 ^ 32
-        → (command_in (written (erase_cmd token at size)) ≡ Ok (erase_cmd token at size))
-        × (command_in (written (write_cmd token at size)) ≡ Ok (write_cmd token at size))
-        × (command_in (written (update_cmd token at)) ≡ Ok (update_cmd token at)) }
-    ensures erase { (n token s k : ℕ) (t : Option Table) → n ≤ 16777216 → 4096 * (s + k) ≤ n
-        → MayWrite t (4096 * s) (4096 * k)
-        → IsErase n t s k (erase_cmd token (4096 * s) (4096 * k)) }
-    ensures write { (n token p : ℕ) (t : Option Table) (payload : List ℕ) → n ≤ 16777216
-        → 256 * p + length payload ≤ n → MayWrite t (256 * p) (length payload)
-        → IsWrite n t p payload (write_cmd token (256 * p) (length payload)) }
-    ensures reboot { (token at : ℕ) → IsReboot (update_cmd token at) }
-    ensures update { (token at : ℕ) → at < 16777216
-        → boot_by (reboot_flags (update_cmd token at)) (reboot_p0 (update_cmd token at))
-        ≡ Update (flash_base + at) }
-{}
 
 /// A binary and a spec have at most one fault, and none where the binary is sealed.
 pub fn at_most_one_fault()
@@ -143,7 +93,7 @@ pub fn why_a_binary_cannot_be_sealed()
 /// The bytes before the new block are the binary's, but for the link word of the last block of its
 /// loop, which leads from that block to their end. That word lies within the binary.
 pub fn the_binary_stays_but_for_one_link()
-    ensures within { (binary : List ℕ) (cpu : Cpu) (p : Parts) → length binary ≤ 16777216
+    ensures within { (binary : List ℕ) (cpu : Cpu) (p : Parts) → length binary ≤ MOST_FLASH_BYTES
         → parts_in cpu (whole_sectors binary) ≡ Ok p
         → IsWithin p (length (whole_words binary)) }
     ensures long { (bytes : List ℕ) (p : Parts) → IsWithin p (length bytes)

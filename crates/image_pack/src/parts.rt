@@ -1,6 +1,7 @@
 //! What a sealed image takes over from its binary.
 
 ghost use Rattle.std.specs.Prelude.{◌≡◌, ◌+◌, ◌≤◌, Contains, IfOk, IfSome, length, slice_range};
+ghost use Rattle.pico_board.specs.declared.window.TheConstants.{MOST_FLASH_BYTES};
 ghost use Rattle.block_codec.specs.Blocks.{IsWhole, block_words};
 ghost use Rattle.block_codec.specs.Items.{IsItemOf, items_of};
 ghost use Rattle.block_codec.specs.Kinds.{item_of_kind};
@@ -91,7 +92,7 @@ fn copied_words(block: &Block) -> ArrayVec<u32, 156>
 /// What a sealed image takes over from a binary, whose bytes in whole sectors these are, or the
 /// first rule that the binary fails.
 fn parts_in(bytes: &[u8], cpu: Cpu) -> Result<Parts, Why>
-    requires { length bytes.now ≤ 16777216 }
+    requires { length bytes.now ≤ MOST_FLASH_BYTES }
     ensures { result ≡ parts_in cpu bytes.now }
 {
     let view = SliceView { bytes };
@@ -125,7 +126,7 @@ pub(crate) fn binary_parts(
     binary: &[u8],
     cpu: Cpu,
 ) -> Result<Result<Parts, Why>, AllocError>
-    requires { length binary.now ≤ 16777216 }
+    requires { length binary.now ≤ MOST_FLASH_BYTES }
     ensures value { IfOk result (λ parts. parts ≡ parts_in cpu (whole_sectors binary.now)) }
     ensures within { IfOk result
         (λ parts. IfOk parts (λ p. IsWithin p (length (whole_words binary.now)))) }

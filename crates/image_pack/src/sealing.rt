@@ -1,6 +1,7 @@
 //! Binaries to sealed images.
 
 ghost use Rattle.std.specs.Prelude.{◌≡◌, ◌≤◌, ◌++◌, ◌⊎◌, Err, Ok, IfErr, IfOk, IsErrOf, OnErr, OnOk, List, ℕ, length};
+ghost use Rattle.pico_board.specs.declared.window.TheConstants.{MOST_FLASH_BYTES};
 ghost use Rattle.image_pack.specs.declared.spec.SealError.{SealError};
 ghost use Rattle.image_pack.specs.Faults.{IsRightSpec, IsSealFault, IsSealable, IsSealed, IsShort, block_bytes, block_offset};
 ghost use Rattle.image_pack.specs.Filling.{whole_sectors, whole_words};
@@ -15,16 +16,14 @@ use crate::spec::{SealError, SealSpec};
 use crate::text::text_with;
 use image_check::Why;
 use image_def::{MOST_BLOCK_BYTES, Started};
+use pico_board::MOST_FLASH_BYTES;
 use std::alloc::Global;
-
-/// The most bytes that an image may have.
-pub const MOST_BYTES: usize = 16_777_216;
 
 /// The offset of the new block of a binary of this length.
 fn block_offset(binary: &[u8]) -> usize
-    requires { length binary.now ≤ 16777216 }
+    requires { length binary.now ≤ MOST_FLASH_BYTES }
     ensures value { result ≡ block_offset binary.now }
-    ensures small { result ≤ 16777216 }
+    ensures small { result ≤ MOST_FLASH_BYTES }
 {
     4 * ((binary.len() + 3) / 4)
 }
@@ -32,7 +31,7 @@ fn block_offset(binary: &[u8]) -> usize
 /// What a sealed image takes over from the binary, where the spec is right and the binary may be
 /// sealed.
 fn check_binary(alloc: Global, binary: &[u8], spec: &SealSpec) -> Result<Parts, SealError>
-    requires { length binary.now ≤ 16777216 }
+    requires { length binary.now ≤ MOST_FLASH_BYTES }
     ensures ok { OnOk result (IsSealable binary.now spec.now) }
     ensures read { IfOk result (λ p. parts_in spec.now.cpu (whole_sectors binary.now) ≡ Ok p) }
     ensures within { IfOk result (λ p. IsWithin p (length (whole_words binary.now))) }
@@ -51,14 +50,14 @@ fn check_binary(alloc: Global, binary: &[u8], spec: &SealSpec) -> Result<Parts, 
 
 /// Whether the sealed image and its new block are not too long.
 fn check_size(binary: &[u8], spec: &SealSpec, text: &[u8]) -> Result<(), SealError>
-    requires small { length binary.now ≤ 16777216 }
+    requires small { length binary.now ≤ MOST_FLASH_BYTES }
     requires sealable { IsSealable binary.now spec.now }
     requires text { text.now ≡ sealed_text binary.now spec.now }
     ensures ok { OnOk result (IsShort binary.now spec.now) }
     ensures fault { IfErr result (λ e. IsSealFault binary.now spec.now e) }
 {
     let size = text.len().saturating_sub(block_offset(binary));
-    if text.len() > MOST_BYTES {
+    if text.len() > MOST_FLASH_BYTES {
         Err(SealError::TooLarge)
     } else if size > MOST_BLOCK_BYTES as usize {
         Err(SealError::BlockTooLong(size as u64))
@@ -81,7 +80,7 @@ fn check_block(image: Result<Started, Why>, at: u32) -> Result<(), SealError>
 
 /// The sealed image of a binary by a spec, or why there is none.
 fn judged_text(alloc: Global, binary: &[u8], spec: &SealSpec) -> Result<Vec<u8>, SealError>
-    requires { length binary.now ≤ 16777216 }
+    requires { length binary.now ≤ MOST_FLASH_BYTES }
     ensures text { IfOk result (λ text. text.items ≡ sealed_text binary.now spec.now) }
     ensures sealed { OnOk result (IsSealed binary.now spec.now) }
     ensures fault { IfErr result
@@ -111,7 +110,7 @@ fn judged_text(alloc: Global, binary: &[u8], spec: &SealSpec) -> Result<Vec<u8>,
 
 /// The same, with each fault told exactly where its condition holds.
 fn judged_exactly(alloc: Global, binary: &[u8], spec: &SealSpec) -> Result<Vec<u8>, SealError>
-    requires { length binary.now ≤ 16777216 }
+    requires { length binary.now ≤ MOST_FLASH_BYTES }
     ensures text { IfOk result (λ text. text.items ≡ sealed_text binary.now spec.now) }
     ensures sealed { OnOk result (IsSealed binary.now spec.now) }
     ensures fault { IfErr result
@@ -132,7 +131,7 @@ pub fn seal(
     spec: &SealSpec,
     out: &mut Vec<u8>,
 ) -> Result<u32, SealError>
-    requires { length binary.now ≤ 16777216 }
+    requires { length binary.now ≤ MOST_FLASH_BYTES }
     ensures appended { OnOk result
         (out.new.items ≡ out.old.items ++ sealed_text binary.now spec.now) }
     ensures offset { IfOk result (λ at. at ≡ block_offset binary.now) }

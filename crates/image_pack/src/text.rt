@@ -1,6 +1,7 @@
 //! The text of a sealed image.
 
 ghost use Rattle.std.specs.Prelude.{◌≡◌, ℕ, List, ◌+◌, ◌*◌, ◌/◌, ◌<◌, ◌≤◌, ◌∷◌, ◌++◌, IfOk, IfSome, OnOk, length, pos, ◌-ℤ◌, replicate, Some, None};
+ghost use Rattle.pico_board.specs.declared.window.TheConstants.{MOST_FLASH_BYTES};
 ghost use Rattle.std.specs.List.{flat_map};
 ghost use Rattle.sha2.specs.Hashers.{Holds256};
 ghost use Rattle.sha2.specs.Sha256.{sha256};
@@ -110,10 +111,10 @@ fn put_bytes(words: &mut Words, bytes: &[u8])
 /// The item words before the HASH_VALUE item, with this trial bit.
 #[tactic(auto, unfolding(crate::specs::Sealing::hashed_items))]
 fn hashed_items(spec: &SealSpec, trial: bool, size: u32, entry: &[u32], own: &[Load]) -> Words
-    requires size { size ≤ 16777216 }
+    requires size { size ≤ MOST_FLASH_BYTES }
     requires entry { length entry.now ≤ 156 }
     requires few { length own.now ≤ 52 }
-    requires stored { AreStoredIn 16777216 own.now }
+    requires stored { AreStoredIn MOST_FLASH_BYTES own.now }
     ensures value { result.items ≡ hashed_items spec.now trial size entry.now own.now }
     ensures few { length result.items ≤ 335 }
 {
@@ -122,10 +123,10 @@ fn hashed_items(spec: &SealSpec, trial: bool, size: u32, entry: &[u32], own: &[L
 
 /// The item words of a new block behind these bytes with these own loads.
 fn items_with(spec: &SealSpec, bytes: &[u8], entry: &[u32], own: &[Load]) -> Words
-    requires size { length bytes.now ≤ 16777216 }
+    requires size { length bytes.now ≤ MOST_FLASH_BYTES }
     requires entry { length entry.now ≤ 156 }
     requires few { length own.now ≤ 52 }
-    requires stored { AreStoredIn 16777216 own.now }
+    requires stored { AreStoredIn MOST_FLASH_BYTES own.now }
     ensures value { result.items ≡ items_with spec.now bytes.now entry.now own.now }
     ensures few { length result.items ≤ 344 }
 {
@@ -141,10 +142,10 @@ fn items_with(spec: &SealSpec, bytes: &[u8], entry: &[u32], own: &[Load]) -> Wor
 /// The item words of the new block behind these bytes.
 #[tactic(auto, unfolding(crate::specs::Sealing::sealed_items))]
 fn sealed_items(spec: &SealSpec, bytes: &[u8], entry: &[u32], loads: &[Load]) -> Words
-    requires size { length bytes.now ≤ 16777216 }
+    requires size { length bytes.now ≤ MOST_FLASH_BYTES }
     requires entry { length entry.now ≤ 156 }
     requires few { length loads.now ≤ 51 }
-    requires stored { AreStoredIn 16777216 loads.now }
+    requires stored { AreStoredIn MOST_FLASH_BYTES loads.now }
     ensures value { result.items ≡ sealed_items spec.now bytes.now entry.now loads.now }
     ensures few { length result.items ≤ 344 }
 {
@@ -156,7 +157,7 @@ fn sealed_items(spec: &SealSpec, bytes: &[u8], entry: &[u32], loads: &[Load]) ->
 
 /// The item words of the new block behind these bytes, of a binary with these parts.
 fn block_items(spec: &SealSpec, bytes: &[u8], parts: &Option<Parts>) -> Words
-    requires size { length bytes.now ≤ 16777216 }
+    requires size { length bytes.now ≤ MOST_FLASH_BYTES }
     requires within { IfSome parts.now (λ p. IsWithin p (length bytes.now)) }
     ensures value { result.items ≡ block_items spec.now bytes.now parts.now }
     ensures few { length result.items ≤ 344 }
@@ -169,7 +170,7 @@ fn block_items(spec: &SealSpec, bytes: &[u8], parts: &Option<Parts>) -> Words
 
 /// The link of the new block at this offset.
 fn block_link(at: u32, parts: &Option<Parts>) -> i32
-    requires small { at ≤ 16777216 }
+    requires small { at ≤ MOST_FLASH_BYTES }
     requires within { IfSome parts.now (λ p. IsWithin p at) }
     ensures { result ≡ block_link at parts.now }
 {
@@ -181,7 +182,7 @@ fn block_link(at: u32, parts: &Option<Parts>) -> i32
 
 /// Appends the bytes of words.
 #[tactic(auto, unfolding(block_codec::specs::Words::word_bytes))]
-pub(crate) fn put_words(out: &mut Vec<u8>, words: &[u32]) -> Result<(), AllocError>
+fn put_words(out: &mut Vec<u8>, words: &[u32]) -> Result<(), AllocError>
     ensures items { OnOk result (out.new.items ≡ out.old.items ++ bytes_of words.now) }
     ensures len { OnOk result
         (length out.new.items ≡ length out.old.items + 4 * length words.now) }
@@ -194,7 +195,7 @@ pub(crate) fn put_words(out: &mut Vec<u8>, words: &[u32]) -> Result<(), AllocErr
 
 /// Appends the block of these item words and this link.
 #[tactic(auto, unfolding(block_codec::specs::Blocks::frame))]
-pub(crate) fn put_frame(out: &mut Vec<u8>, items: &[u32], link: i32) -> Result<(), AllocError>
+fn put_frame(out: &mut Vec<u8>, items: &[u32], link: i32) -> Result<(), AllocError>
     requires { length items.now ≤ 344 }
     ensures items { OnOk result
         (out.new.items ≡ out.old.items ++ bytes_of (frame items.now link)) }
@@ -215,7 +216,7 @@ fn append_block(
     spec: &SealSpec,
     parts: &Option<Parts>,
 ) -> Result<(), AllocError>
-    requires size { length text.old.items ≤ 16777216 }
+    requires size { length text.old.items ≤ MOST_FLASH_BYTES }
     requires within { IfSome parts.now (λ p. IsWithin p (length text.old.items)) }
     ensures items { OnOk result (text.new.items
         ≡ text.old.items ++ new_block spec.now text.old.items parts.now) }
@@ -230,7 +231,7 @@ fn append_block(
 /// stays as it is.
 #[tactic(auto, unfolding(crate::specs::Sealing::relinked, block_codec::specs::Words::word_bytes))]
 fn relink(bytes: &mut [u8], parts: &Option<Parts>)
-    requires size { length bytes.old ≤ 16777216 }
+    requires size { length bytes.old ≤ MOST_FLASH_BYTES }
     requires within { IfSome parts.now (λ p. IsWithin p (length bytes.old)) }
     ensures { bytes.new ≡ relinked bytes.old parts.now }
 {
@@ -250,7 +251,7 @@ pub(crate) fn text_with(
     spec: &SealSpec,
     parts: &Option<Parts>,
 ) -> Result<Vec<u8>, AllocError>
-    requires small { length binary.now ≤ 16777216 }
+    requires small { length binary.now ≤ MOST_FLASH_BYTES }
     requires read { parts.now ≡ result_ok (parts_in spec.now.cpu (whole_sectors binary.now)) }
     requires within { IfSome parts.now (λ p. IsWithin p (length (whole_words binary.now))) }
     ensures value { IfOk result (λ text. text.items ≡ sealed_text binary.now spec.now) }
@@ -262,13 +263,10 @@ pub(crate) fn text_with(
     Ok(text)
 }
 
-/// The same of a binary whose parts are not read yet.
-pub(crate) fn sealed_text(
-    alloc: Global,
-    binary: &[u8],
-    spec: &SealSpec,
-) -> Result<Vec<u8>, AllocError>
-    requires { length binary.now ≤ 16777216 }
+/// The sealed image of a binary by a spec, in a list of its own. It judges nothing: a binary that
+/// cannot be sealed keeps its links, and its new block links to itself.
+pub fn sealed_text(alloc: Global, binary: &[u8], spec: &SealSpec) -> Result<Vec<u8>, AllocError>
+    requires { length binary.now ≤ MOST_FLASH_BYTES }
     ensures value { IfOk result (λ text. text.items ≡ sealed_text binary.now spec.now) }
     ensures few { IfOk result (λ text. length text.items ≤ length binary.now + 1395) }
 {

@@ -1,10 +1,12 @@
 //! The calls with ample memory. The digests are those of files that were made outside this program.
 
 ghost use Rattle.std.specs.Prelude.{◌≡◌, ◌≤◌, IfOk, length};
-ghost use Rattle.image_pack.specs.Plans.{IsPlanned};
+ghost use Rattle.image_plan.specs.Plans.{IsPlanned};
 
 use crate::fixtures::{BLOCK, LEAST_SEALED, sha256, spec};
-use image_pack::{generate, plan, seal};
+use flash_maker::generate;
+use image_pack::seal;
+use image_plan::plan;
 use pico_board::Window;
 use std::alloc::{AllocError, Global};
 use std::process::Abort;

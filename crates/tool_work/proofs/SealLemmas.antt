@@ -15,7 +15,7 @@ use Rattle.image_pack.specs.declared.spec.SealError.TheVariants.{BadSpec, Unseal
 use Rattle.image_pack.specs.declared.spec.SealSpec.{SealSpec}
 use Rattle.image_pack.specs.declared.spec.SpecField.TheVariants.{Rollback, Rows}
 use Rattle.image_def.specs.declared.images.TheConstants.{MOST_BLOCK_BYTES}
-use Rattle.image_pack.specs.declared.sealing.TheConstants.{MOST_BYTES}
+use Rattle.pico_board.specs.declared.window.TheConstants.{MOST_FLASH_BYTES}
 use Rattle.image_pack.specs.Faults.{IsRightRollback, IsRightSpec, IsSealFault, IsSealable, IsSealed, IsShort, block_bytes, block_offset}
 use Rattle.image_pack.specs.Filling.{whole_sectors}
 use Rattle.image_pack.specs.Sealing.{parts_in, sealed_text}
@@ -128,9 +128,9 @@ module _ (binary : List ℕ) (spec : SealSpec) where
           (started, is, eqb-false started.block (block_offset binary) other))
 
   size-judged : IsSealable binary spec → IsJudged binary spec (sealed_error binary spec)
-  size-judged sealable = go (nat_lt MOST_BYTES (length (sealed_text binary spec))) refl
+  size-judged sealable = go (nat_lt MOST_FLASH_BYTES (length (sealed_text binary spec))) refl
     where
-      block : length (sealed_text binary spec) ≤ MOST_BYTES → (t : Bool)
+      block : length (sealed_text binary spec) ≤ MOST_FLASH_BYTES → (t : Bool)
           → nat_lt MOST_BLOCK_BYTES (block_bytes binary spec) ≡ t
           → IsJudged binary spec (cond t (Some (BlockTooLong (block_bytes binary spec)))
           (start_error (block_offset binary) (alone spec (sealed_text binary spec))))
@@ -146,14 +146,14 @@ module _ (binary : List ℕ) (spec : SealSpec) where
           })
           (alone spec (sealed_text binary spec)) refl
 
-      go : (t : Bool) → nat_lt MOST_BYTES (length (sealed_text binary spec)) ≡ t
+      go : (t : Bool) → nat_lt MOST_FLASH_BYTES (length (sealed_text binary spec)) ≡ t
           → IsJudged binary spec (cond t (Some TooLarge)
           (if nat_lt MOST_BLOCK_BYTES (block_bytes binary spec) then Some (BlockTooLong (block_bytes binary spec))
           else start_error (block_offset binary) (alone spec (sealed_text binary spec))))
       go true large =
-          has_fault TooLarge (sealable, ltb-true MOST_BYTES (length (sealed_text binary spec)) large)
+          has_fault TooLarge (sealable, ltb-true MOST_FLASH_BYTES (length (sealed_text binary spec)) large)
       go false small =
-          block (ltb-false MOST_BYTES (length (sealed_text binary spec)) small)
+          block (ltb-false MOST_FLASH_BYTES (length (sealed_text binary spec)) small)
           (nat_lt MOST_BLOCK_BYTES (block_bytes binary spec))
           refl
 

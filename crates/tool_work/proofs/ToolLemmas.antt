@@ -9,7 +9,7 @@ use Rattle.part_table.specs.declared.target.Target.{Target}
 use Rattle.boot_rules.specs.Choosing.{decision_in}
 use Rattle.boot_rules.proofs.DecisionLemmas.{decision-chosen, chosen-decision}
 use Rattle.uf2_place.specs.Files.{file_bytes, page_count}
-use Rattle.image_pack.specs.Plans.{plan_text}
+use Rattle.image_plan.specs.Plans.{plan_text}
 use Rattle.run_course.specs.declared.status.Status.TheVariants.{Done, Input as Refused}
 use Rattle.run_forms.specs.Forms.{content_of}
 use Rattle.run_course.specs.Outcomes.{Work, Answers, Refuses, one_file, Outcome, refused, worked}
@@ -20,7 +20,7 @@ use Rattle.run_forms.specs.Inputs.{image_alone, flash_otp_image, of_one, of_thre
 use Rattle.run_forms.specs.Rules.{OfOne, OfThree, IsDone, WorksBy}
 use Rattle.run_forms.proofs.WorkLemmas.{same-outcome, none-works, one-works, three-works}
 use Rattle.run_texts.specs.Texts.{decision_line}
-use Rattle.image_pack.specs.Flashes.{generated}
+use Rattle.flash_maker.specs.Flashes.{generated}
 
 none-of : (xs : List ℕ) → length xs ≡ 0 → xs ≡ []
 none-of [] h = refl

@@ -12,7 +12,7 @@ use Rattle.image_pack.specs.declared.spec.SealError.TheVariants.{BadSpec, Unseal
 use Rattle.image_pack.specs.declared.spec.SealSpec.{SealSpec}
 use Rattle.image_pack.specs.declared.spec.SpecField.TheVariants.{Rollback, Rows}
 use Rattle.image_def.specs.declared.images.TheConstants.{MOST_BLOCK_BYTES}
-use Rattle.image_pack.specs.declared.sealing.TheConstants.{MOST_BYTES}
+use Rattle.pico_board.specs.declared.window.TheConstants.{MOST_FLASH_BYTES}
 use Rattle.image_pack.specs.Faults.{IsSealFault, block_bytes, block_offset, whole_window, zero_otp}
 use Rattle.image_pack.specs.Filling.{whole_sectors}
 use Rattle.image_pack.specs.Sealing.{parts_in, sealed_text}
@@ -64,7 +64,7 @@ alone spec image =
 -- it does not start by its new block
 abbrev pub sealed_error : List ℕ → SealSpec → Option SealError
 sealed_error binary spec =
-    if nat_lt MOST_BYTES (length (sealed_text binary spec)) then Some TooLarge
+    if nat_lt MOST_FLASH_BYTES (length (sealed_text binary spec)) then Some TooLarge
     else if nat_lt MOST_BLOCK_BYTES (block_bytes binary spec)
     then Some (BlockTooLong (block_bytes binary spec))
     else start_error (block_offset binary) (alone spec (sealed_text binary spec))

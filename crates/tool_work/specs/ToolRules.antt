@@ -10,8 +10,8 @@ use Rattle.part_table.specs.declared.target.Target.{Target}
 use Rattle.boot_rules.specs.declared.decision.Decision.{Decision}
 use Rattle.boot_rules.specs.Chosen.{Chosen}
 use Rattle.uf2_place.specs.Files.{file_bytes, page_count}
-use Rattle.image_pack.specs.Plans.{plan_text}
-use Rattle.image_pack.specs.Flashes.{generated}
+use Rattle.image_plan.specs.Plans.{plan_text}
+use Rattle.flash_maker.specs.Flashes.{generated}
 use Rattle.run_course.specs.declared.status.Status.TheVariants.{Done}
 use Rattle.run_texts.specs.Texts.{decision_line}
 use Rattle.run_course.specs.Outcomes.{one_file, Outcome}

@@ -16,8 +16,8 @@ use Rattle.boot_lines.specs.Texts.{digest_text}
 use Rattle.run_texts.specs.Texts.{window_text, decision_line}
 use Rattle.uf2_place.specs.Files.{file_bytes, page_count}
 use Rattle.image_pack.specs.Faults.{zero_otp}
-use Rattle.image_pack.specs.Plans.{plan_text}
-use Rattle.image_pack.specs.Flashes.{generated}
+use Rattle.image_plan.specs.Plans.{plan_text}
+use Rattle.flash_maker.specs.Flashes.{generated}
 use Rattle.run_course.specs.Outcomes.{one_file, line, Work, Answers, Refuses}
 
 -- the line of a UF2 file of so many blocks

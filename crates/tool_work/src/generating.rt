@@ -13,7 +13,7 @@ ghost use Rattle.tool_work.specs.ToolWorks.{gen_line, gen_work};
 ghost use Rattle.run_course.specs.Views.{outcome_from};
 
 use boot_rules::{Decision, decide};
-use image_pack::generate;
+use flash_maker::generate;
 use pico_board::{BootKind, Cpu, MemBoard};
 use run_course::{Answer, told};
 use run_forms::board_of;

@@ -3,7 +3,7 @@
 ghost use Rattle.std.specs.Prelude.{◌≡◌, ◌/◌, IfOk, IfSome, IsTrue, length, string_bytes};
 ghost use Rattle.part_table.specs.Windows.{IsPlaced};
 ghost use Rattle.sector_pool.specs.Pool.{HasFree};
-ghost use Rattle.image_pack.specs.Plans.{IsPlanned};
+ghost use Rattle.image_plan.specs.Plans.{IsPlanned};
 ghost use Rattle.run_course.specs.Outcomes.{worked};
 ghost use Rattle.tool_work.specs.ToolWorks.{executable_family, plan_target, plan_line, window_work, plan_work};
 ghost use Rattle.run_course.specs.Views.{outcome_from};
@@ -11,7 +11,7 @@ ghost use Rattle.run_forms.specs.declared.forms.Form.{Form};
 ghost use Rattle.run_forms.specs.Forms.{HasForm, content_of};
 
 use boot_rules::{Target, find_table, target};
-use image_pack::{PlanError, plan};
+use image_plan::{PlanError, plan};
 use pico_board::{Board, Cpu, Window};
 use run_course::{Answer, one_file, refusal};
 use run_forms::board_of;

@@ -2,8 +2,9 @@
 
 ghost use Rattle.std.specs.Prelude.{◌≡◌, ◌↔◌, ◌+◌, ◌<◌, ◌≤◌, ◌^◌, [], ◌++◌, length, OnOk, OnErr, IsErrOf, IfOk};
 ghost use Rattle.std.specs.List.{flat_map};
+ghost use Rattle.pico_board.specs.declared.window.TheConstants.{MOST_FLASH_BYTES};
 ghost use Rattle.boot_script.specs.Written.{written};
-ghost use Rattle.image_pack.specs.Plans.{IsPlanned, erase_cmd, last_events, plan_text, rest_events, sent, update_cmd, words_args, write_cmd, write_events};
+ghost use Rattle.image_plan.specs.Plans.{IsPlanned, erase_cmd, last_events, plan_text, rest_events, sent, update_cmd, words_args, write_cmd, write_events};
 
 use boot_script::{Event, write_event};
 use byteorder::{ByteOrder, LittleEndian};
@@ -46,7 +47,7 @@ fn args_of(first: u32, second: u32, third: u32) -> [u8; 16]
 
 /// The command that erases bytes at a flash offset.
 fn erase(token: u32, at: u32, size: u32) -> Cmd
-    requires { at < 16777216 }
+    requires { at < MOST_FLASH_BYTES }
     ensures { result ≡ erase_cmd token at size }
 {
     Cmd {
@@ -60,7 +61,7 @@ fn erase(token: u32, at: u32, size: u32) -> Cmd
 
 /// The command that writes bytes at a flash offset.
 fn write(token: u32, at: u32, size: u32) -> Cmd
-    requires { at < 16777216 }
+    requires { at < MOST_FLASH_BYTES }
     ensures { result ≡ write_cmd token at size }
 {
     Cmd {
@@ -74,7 +75,7 @@ fn write(token: u32, at: u32, size: u32) -> Cmd
 
 /// The command that reboots into an update of the region at a flash offset.
 fn update(token: u32, at: u32) -> Cmd
-    requires { at < 16777216 }
+    requires { at < MOST_FLASH_BYTES }
     ensures { result ≡ update_cmd token at }
 {
     Cmd {
@@ -97,8 +98,8 @@ fn send(alloc: Global, cmd: &Cmd, payload: &[u8], out: &mut Vec<u8>) -> Result<(
 
 /// Appends the erase and the write of what follows the first sector.
 fn send_rest(alloc: Global, at: u32, rest: &[u8], out: &mut Vec<u8>) -> Result<(), AllocError>
-    requires near { at < 16777216 }
-    requires small { length rest.now ≤ 16777216 }
+    requires near { at < MOST_FLASH_BYTES }
+    requires small { length rest.now ≤ MOST_FLASH_BYTES }
     ensures { OnOk result (out.new.items
         ≡ out.old.items ++ flat_map written (rest_events at rest.now)) }
 {
@@ -121,7 +122,7 @@ fn send_last(
     out: &mut Vec<u8>,
 ) -> Result<(), AllocError>
     requires token { token < 100 }
-    requires near { at < 16777216 }
+    requires near { at < MOST_FLASH_BYTES }
     requires small { length first.now ≤ 4096 }
     ensures { OnOk result (out.new.items
         ≡ out.old.items ++ flat_map written (last_events token at first.now)) }
@@ -132,8 +133,8 @@ fn send_last(
 
 /// Appends what follows the erase of the first sector.
 fn send_image(alloc: Global, at: u32, image: &[u8], out: &mut Vec<u8>) -> Result<(), AllocError>
-    requires near { at < 16777216 }
-    requires inside { at + length image.now ≤ 16777216 }
+    requires near { at < MOST_FLASH_BYTES }
+    requires inside { at + length image.now ≤ MOST_FLASH_BYTES }
     ensures { OnOk result (out.new.items
         ≡ out.old.items ++ flat_map written (write_events at image.now)) }
 {
@@ -147,8 +148,8 @@ fn send_image(alloc: Global, at: u32, image: &[u8], out: &mut Vec<u8>) -> Result
 
 /// Appends the events that write the image, and the end.
 fn send_plan(alloc: Global, at: u32, image: &[u8], out: &mut Vec<u8>) -> Result<(), AllocError>
-    requires near { at < 16777216 }
-    requires inside { at + length image.now ≤ 16777216 }
+    requires near { at < MOST_FLASH_BYTES }
+    requires inside { at + length image.now ≤ MOST_FLASH_BYTES }
     ensures { OnOk result (out.new.items ≡ out.old.items ++ plan_text at image.now) }
 {
     write_event(alloc, &Event::PowerOn, out)?;
@@ -160,8 +161,8 @@ fn send_plan(alloc: Global, at: u32, image: &[u8], out: &mut Vec<u8>) -> Result<
 
 /// The script, as a text of its own.
 fn plan_in(alloc: Global, at: u32, image: &[u8]) -> Result<Vec<u8>, AllocError>
-    requires near { at < 16777216 }
-    requires inside { at + length image.now ≤ 16777216 }
+    requires near { at < MOST_FLASH_BYTES }
+    requires inside { at + length image.now ≤ MOST_FLASH_BYTES }
     ensures { IfOk result (λ text. text.items ≡ plan_text at image.now) }
 {
     let mut text = Vec::new(alloc);

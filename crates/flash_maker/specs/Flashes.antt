@@ -7,7 +7,7 @@ use Rattle.part_table.specs.Written.{written}
 use Rattle.image_pack.specs.declared.spec.SealSpec.{SealSpec}
 use Rattle.image_pack.specs.Filling.{padded}
 use Rattle.image_pack.specs.Sealing.{sealed_text}
-use Rattle.image_pack.specs.Streams.{binary_of}
+use Rattle.flash_maker.specs.Streams.{binary_of}
 
 -- a partition of a location word and a flag word alone
 abbrev pub plain_part : ℕ → ℕ → Partition

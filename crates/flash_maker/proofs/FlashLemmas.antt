@@ -3,7 +3,7 @@ use Rattle.std.proofs.Common.{◌≡◌, ◌∙◌, zero, suc, ◌<◌, All, len
 use Rattle.part_table.specs.declared.table.Table.{Table}
 use Rattle.part_table.specs.Written.{AgreesWithFlags, written, written_size}
 use Rattle.part_table.proofs.BlockLemmas.{size_told}
-use Rattle.image_pack.specs.Flashes.{made_table}
+use Rattle.flash_maker.specs.Flashes.{made_table}
 
 made-agrees : All AgreesWithFlags made_table.parts.items
 unfolding made_table

@@ -1,9 +1,10 @@
 -- The script by which a host writes an image into a window and starts it, with the window's first
 -- sector last. The commands are of the RP2350 Datasheet, chapter 5 (Bootrom, the PICOBOOT
 -- interface); the plan is this project's own.
-use Rattle.std.specs.Prelude.{◌≡◌, ℕ, ◌+◌, ◌%◌, ◌≤◌, nat_lt, if◌then◌else◌, List, [], ◌∷◌, ◌++◌, length, take, drop}
+use Rattle.std.specs.Prelude.{◌≡◌, ℕ, ◌+◌, ◌*◌, ◌/◌, ◌%◌, ◌≤◌, nat_lt, if◌then◌else◌, List, [], ◌∷◌, ◌++◌, length, take, drop}
 use Rattle.std.specs.List.{flat_map}
 use Rattle.byteorder.specs.Endian.{little_bytes}
+use Rattle.pico_board.specs.declared.window.TheConstants.{MOST_FLASH_BYTES}
 use Rattle.pico_board.specs.declared.window.Window.{Window}
 use Rattle.pico_board.specs.declared.boot.BootKind.TheVariants.{Bootsel}
 use Rattle.pico_board.specs.Content.{flash_base}
@@ -12,13 +13,16 @@ use Rattle.picoboot_cmd.specs.declared.kinds.TheConstants.{ERASE, REBOOT, WRITE}
 use Rattle.picoboot_cmd.specs.Commands as commands
 use Rattle.boot_script.specs.Events.{Happening, Command, End, PowerOn, Reset}
 use Rattle.boot_script.specs.Written.{written}
-use Rattle.image_pack.specs.Filling.{round_up}
 
--- a window of whole sectors that ends at or below 16,777,216
+-- the number of bytes of as many whole sectors as n bytes need
+abbrev pub in_sectors : ℕ → ℕ
+in_sectors n = 4096 * ((n + 4095) / 4096)
+
+-- a window of whole sectors that ends at or below the most bytes of a flash
 pub record IsPlanned (w : Window) : Type 0 where
   pub start : w.start % 4096 ≡ 0
   pub len : w.len % 4096 ≡ 0
-  pub low : w.start + w.len ≤ 16777216
+  pub low : w.start + w.len ≤ MOST_FLASH_BYTES
 
 -- three words as arguments, and a word 0
 abbrev pub words_args : ℕ → ℕ → ℕ → List ℕ
@@ -68,7 +72,7 @@ sent cmd payload = Command (commands.written cmd) payload
 -- the rest of an image behind its first sector: its sectors are erased, and it is written
 abbrev pub rest_events : ℕ → List ℕ → List Happening
 rest_events at rest =
-    sent (erase_cmd 2 at (round_up 4096 (length rest))) []
+    sent (erase_cmd 2 at (in_sectors (length rest))) []
     ∷ sent (write_cmd 3 at (length rest)) rest ∷ []
 
 -- the bytes of the first sector are written, and the board reboots into the update

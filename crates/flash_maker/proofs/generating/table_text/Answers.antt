@@ -1,8 +1,8 @@
 use Rattle.std.proofs.Common.{◌∙◌, Err, ap, length, length-append, arith}
 use Rattle.part_table.specs.declared.table.Table.{Table}
 use Rattle.part_table.specs.Written.{written}
-use Rattle.image_pack.proofs.FlashLemmas.{table-agrees, table-fits, table-size}
-use Rattle.image_pack.proofs.generating.table_text.Goals as goal
+use Rattle.flash_maker.proofs.FlashLemmas.{table-agrees, table-fits, table-size}
+use Rattle.flash_maker.proofs.generating.table_text.Goals as goal
 
 pub write_table-requires : goal.write_table-requires
 write_table-requires c = table-agrees c.made_table.result c.made_table.ensures

@@ -1,6 +1,6 @@
 use Rattle.std.proofs.Common.{arith}
-use Rattle.image_pack.proofs.PlanLaws.{long-events, sent-is, short-events}
-use Rattle.image_pack.proofs.laws.the_events_of_a_plan.Goals as goal
+use Rattle.image_plan.proofs.PlanLaws.{long-events, sent-is, short-events}
+use Rattle.image_plan.proofs.laws.the_events_of_a_plan.Goals as goal
 
 pub returns-clause-short : goal.returns-clause-short
 returns-clause-short c = λ w image planned fits few. short-events w.start image few

@@ -1,7 +1,7 @@
 -- The bytes of a stream, one after another.
 use Rattle.std.proofs.Common.{◌≡◌, ℕ, suc, ◌+◌, ◌-◌, ◌/◌, ◌^◌, ◌<◌, ◌≤◌, List, [], ◌∷◌, ◌++◌, refl, sym, ap, ◌∙◌, append_assoc, arith}
 use Rattle.std.proofs.lemmas.List.{append-nil}
-use Rattle.image_pack.specs.Streams.{next_of, stream}
+use Rattle.flash_maker.specs.Streams.{next_of, stream}
 
 pub stream-none : (x : ℕ) → stream 0 x ≡ []
 unfolding stream

@@ -1,7 +1,7 @@
 use Rattle.std.proofs.Common.{◌+◌, ◌-◌, ◌/◌, ◌^◌, ◌∷◌, ◌++◌, [], ◌∙◌, ap, sym, arith}
-use Rattle.image_pack.specs.Streams.{stream}
-use Rattle.image_pack.proofs.StreamLemmas.{stream-end, stream-more}
-use Rattle.image_pack.proofs.generating.put_stream.Goals as goal
+use Rattle.flash_maker.specs.Streams.{stream}
+use Rattle.flash_maker.proofs.StreamLemmas.{stream-end, stream-more}
+use Rattle.flash_maker.proofs.generating.put_stream.Goals as goal
 
 pub loop-i-preserved : goal.loop-i-preserved
 loop-i-preserved c = record {

@@ -4,7 +4,7 @@ use Rattle.std.specs.List.{flat_map}
 use Rattle.std.proofs.lemmas.List.{take_all}
 use Rattle.std.proofs.lemmas.List.Concat.{flat_map-append}
 use Rattle.boot_script.specs.Written.{written}
-use Rattle.image_pack.specs.Plans.{last_events, rest_events, write_events}
+use Rattle.image_plan.specs.Plans.{last_events, rest_events, write_events}
 
 -- behind a first sector the rest is erased and written, and the first sector last
 pub events-rest : (at : ℕ) (image : List ℕ) → 4096 < length image

@@ -1,16 +1,17 @@
 //! Flashes that are made of a number, to be compared.
 
-ghost use Rattle.std.specs.Prelude.{◌≡◌, ◌+◌, ◌<◌, ◌≤◌, ◌^◌, ◌++◌, IfOk, OnOk, OnErr, length, All};
-ghost use Rattle.boot_script.specs.Written.{IsKept};
+ghost use Rattle.std.specs.Prelude.{◌≡◌, ◌+◌, ◌<◌, ◌≤◌, ◌^◌, ◌++◌, ◌∷◌, [], IfOk, OnOk, OnErr, length, All, pos, take};
+ghost use Rattle.block_codec.specs.Blocks.{frame};
+ghost use Rattle.block_codec.specs.Words.{bytes_of};
+ghost use Rattle.pico_board.specs.declared.window.TheConstants.{MOST_FLASH_BYTES};
 ghost use Rattle.part_table.specs.Written.{AgreesWithFlags, written, written_size};
 ghost use Rattle.image_pack.specs.Filling.{padded};
-ghost use Rattle.image_pack.specs.Flashes.{generated, made_image, made_spec, made_table, plain_part};
-ghost use Rattle.image_pack.specs.Streams.{binary_of, least_bytes, next_of, stream};
+ghost use Rattle.flash_maker.specs.Flashes.{generated, made_image, made_spec, made_table, plain_part};
+ghost use Rattle.flash_maker.specs.Streams.{binary_of, least_bytes, next_of, stream};
 
-use crate::spec::SealSpec;
-use crate::text::{put_frame, put_words, sealed_text};
 use arrayvec::ArrayVec;
-use block_codec::Version;
+use block_codec::{BlockError, Version, write_block};
+use image_pack::{SealSpec, sealed_text};
 use part_table::{Partition, Table, TableWriteFault, write_table};
 use pico_board::Cpu;
 use std::alloc::{AllocError, Global};
@@ -47,14 +48,29 @@ fn put_stream(out: &mut Vec<u8>, seed: u32, count: usize) -> Result<(), AllocErr
     Ok(())
 }
 
+/// Appends the block of the least image for Arm, of one IMAGE_TYPE item, with link 0.
+fn put_block(alloc: Global, out: &mut Vec<u8>) -> Result<(), AllocError>
+    ensures items { OnOk result
+        (out.new.items ≡ out.old.items ++ bytes_of (frame (0x10210142 ∷ []) (pos 0))) }
+    ensures len { OnOk result (length out.new.items ≡ length out.old.items + 20) }
+{
+    match write_block(alloc, &[0x1021_0142], 0, out) {
+        Ok(()) => Ok(()),
+        Err(BlockError::Memory) => Err(AllocError),
+        Err(BlockError::TooLong(_)) => unreachable!(),
+        Err(BlockError::ItemSize(_)) => unreachable!(),
+    }
+}
+
 /// Appends the least image for Arm: its vector bytes and its block.
-#[tactic(auto, unfolding(crate::specs::Streams::least_bytes, block_codec::specs::Blocks::frame))]
-fn put_least(out: &mut Vec<u8>) -> Result<(), AllocError>
+#[tactic(auto, unfolding(crate::specs::Streams::least_bytes, block_codec::specs::Words::word_bytes))]
+fn put_least(alloc: Global, out: &mut Vec<u8>) -> Result<(), AllocError>
     ensures items { OnOk result (out.new.items ≡ out.old.items ++ least_bytes) }
     ensures len { OnOk result (length out.new.items ≡ length out.old.items + 28) }
 {
-    put_words(out, &[0x2008_2000, 0x1000_0201])?;
-    put_frame(out, &[0x1021_0142], 0)
+    out.extend_from_slice(&0x2008_2000u32.to_le_bytes())?;
+    out.extend_from_slice(&0x1000_0201u32.to_le_bytes())?;
+    put_block(alloc, out)
 }
 
 /// The binary of a seed.
@@ -64,7 +80,7 @@ fn binary_of(alloc: Global, seed: u32) -> Result<Vec<u8>, AllocError>
     ensures len { IfOk result (λ binary. length binary.items ≡ 200000) }
 {
     let mut binary = Vec::new(alloc);
-    put_least(&mut binary)?;
+    put_least(alloc, &mut binary)?;
     put_stream(&mut binary, seed, STREAM)?;
     Ok(binary)
 }
@@ -136,7 +152,7 @@ fn table_text(alloc: Global) -> Result<Vec<u8>, AllocError>
 
 /// Appends the bytes, with 0xff behind them up to so many bytes.
 fn put_padded(out: &mut Vec<u8>, bytes: &[u8], count: usize) -> Result<(), AllocError>
-    requires small { count ≤ 16777216 }
+    requires small { count ≤ MOST_FLASH_BYTES }
     requires few { length bytes.now ≤ count }
     ensures items { OnOk result (out.new.items ≡ out.old.items ++ padded count bytes.now) }
     ensures len { OnOk result (length out.new.items ≡ length out.old.items + count) }
@@ -168,7 +184,7 @@ fn flash_of(alloc: Global, n: u32) -> Result<Vec<u8>, AllocError>
 pub fn generate(alloc: Global, n: u32, out: &mut Vec<u8>) -> Result<(), AllocError>
     ensures ok { OnOk result (out.new.items ≡ out.old.items ++ generated n) }
     ensures len { OnOk result (length out.new.items ≡ length out.old.items + 0x100000) }
-    ensures err { OnErr result (IsKept out.old.items out.new.items) }
+    ensures err { OnErr result (take (length out.old.items) out.new.items ≡ out.old.items) }
 {
     let flash = flash_of(alloc, n)?;
     out.extend_from_slice(&flash)

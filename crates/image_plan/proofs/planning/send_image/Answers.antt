@@ -1,7 +1,7 @@
 use Rattle.std.proofs.Common.{sym, arith}
 use Rattle.std.proofs.lemmas.List.{length-take-le, take_rest}
-use Rattle.image_pack.proofs.PlanLemmas.{events-first, sent-both}
-use Rattle.image_pack.proofs.planning.send_image.Goals as goal
+use Rattle.image_plan.proofs.PlanLemmas.{events-first, sent-both}
+use Rattle.image_plan.proofs.planning.send_image.Goals as goal
 
 pub slice_bounds-send_last-end : goal.slice_bounds-send_last-end
 slice_bounds-send_last-end c = sym (length-take-le 4096 c.args.image.now (omega arith))

@@ -1,7 +1,7 @@
 -- What is appended and the rest of the stream are the whole stream.
 use Rattle.std.proofs.Common.{◌≡◌, ◌+◌, ◌-◌, ◌++◌, length}
-use Rattle.image_pack.specs.Streams.{stream}
-use Rattle.image_pack.proofs.generating.put_stream.Given as goal
+use Rattle.flash_maker.specs.Streams.{stream}
+use Rattle.flash_maker.proofs.generating.put_stream.Given as goal
 
 abbrev pub invariant-loop-i : goal.invariant-loop-i
 invariant-loop-i l = record {

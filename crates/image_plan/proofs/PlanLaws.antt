@@ -2,6 +2,7 @@
 use Rattle.std.proofs.Common.{◌≡◌, ℕ, ◌+◌, ◌^◌, ◌<◌, ◌≤◌, List, [], ◌∷◌, ◌++◌, length, take, drop, Result, Ok, refl, sym, ap, subst, ◌∙◌, arith, length-drop, lt-ltb, le-ltb}
 use Rattle.std.specs.List.{AllByRecursion}
 use Rattle.std.proofs.lemmas.List.{length-take-le, take_all}
+use Rattle.pico_board.specs.declared.window.TheConstants.{MOST_FLASH_BYTES}
 use Rattle.pico_board.specs.declared.boot.BootKind.TheVariants.{Bootsel}
 use Rattle.picoboot_cmd.specs.declared.cmd.Cmd.{Cmd}
 use Rattle.picoboot_cmd.specs.Commands as commands
@@ -9,8 +10,7 @@ use Rattle.boot_script.specs.declared.event.ScriptFault.{ScriptFault}
 use Rattle.boot_script.specs.Events.{Command, Happening, PowerOn, Reset}
 use Rattle.boot_script.specs.Scripts.{IsInside, events}
 use Rattle.boot_script.proofs.FollowingLemmas.{whole-script}
-use Rattle.image_pack.specs.Filling.{round_up}
-use Rattle.image_pack.specs.Plans.{erase_cmd, last_events, plan_events, plan_text, rest_events, sent, update_cmd, write_cmd, write_events}
+use Rattle.image_plan.specs.Plans.{erase_cmd, in_sectors, last_events, plan_events, plan_text, rest_events, sent, update_cmd, write_cmd, write_events}
 
 -- a command as an event
 pub sent-is : (cmd : Cmd) (payload : List ℕ) → sent cmd payload ≡ Command (commands.written cmd) payload
@@ -42,10 +42,10 @@ last-inside token at first few = (
   (inside (update_cmd (token + 1) at) [] refl (omega arith), tt),
 )
 
-rest-inside : (at : ℕ) (rest first : List ℕ) → length rest ≤ 16777216 → length first ≤ 4096
+rest-inside : (at : ℕ) (rest first : List ℕ) → length rest ≤ MOST_FLASH_BYTES → length first ≤ 4096
     → Insides (rest_events (at + 4096) rest ++ last_events 4 at first)
 rest-inside at rest first small few = (
-  inside (erase_cmd 2 (at + 4096) (round_up 4096 (length rest))) [] refl (omega arith),
+  inside (erase_cmd 2 (at + 4096) (in_sectors (length rest))) [] refl (omega arith),
   (inside (write_cmd 3 (at + 4096) (length rest)) rest refl (omega (arith, small)), last-inside 4 at first few),
 )
 
@@ -73,10 +73,10 @@ short-events at image few =
     script at image (subst Insides (sym writes) (last-inside 2 at image few)) ∙ ap front writes
 
 -- and of a longer one
-pub long-events : (at : ℕ) (image : List ℕ) → length image ≤ 16777216 → 4096 < length image
+pub long-events : (at : ℕ) (image : List ℕ) → length image ≤ MOST_FLASH_BYTES → 4096 < length image
     → events (plan_text at image)
     ≡ Ok (PowerOn ∷ Reset Bootsel ∷ sent (erase_cmd 1 at 4096) []
-    ∷ sent (erase_cmd 2 (at + 4096) (round_up 4096 (length (drop 4096 image)))) []
+    ∷ sent (erase_cmd 2 (at + 4096) (in_sectors (length (drop 4096 image)))) []
     ∷ sent (write_cmd 3 (at + 4096) (length (drop 4096 image))) (drop 4096 image)
     ∷ sent (write_cmd 4 at 4096) (take 4096 image) ∷ sent (update_cmd 5 at) [] ∷ [])
 long-events at image small more =
@@ -86,7 +86,7 @@ long-events at image small more =
     let front : List Happening → Result (List Happening) ScriptFault =
     λ es. Ok (PowerOn ∷ Reset Bootsel ∷ sent (erase_cmd 1 at 4096) [] ∷ es) in
     let whole : ℕ → Result (List Happening) ScriptFault =
-    λ n. front (sent (erase_cmd 2 (at + 4096) (round_up 4096 (length (drop 4096 image)))) []
+    λ n. front (sent (erase_cmd 2 (at + 4096) (in_sectors (length (drop 4096 image)))) []
     ∷ sent (write_cmd 3 (at + 4096) (length (drop 4096 image))) (drop 4096 image)
     ∷ sent (write_cmd 4 at n) (take 4096 image) ∷ sent (update_cmd 5 at) [] ∷ []) in
     let all = rest-inside at (drop 4096 image) (take 4096 image) (omega (arith, left, small)) (omega (arith, size)) in
