@@ -23,15 +23,15 @@ use Rattle.load_map.specs.declared.load.Load.{Load}
 use Rattle.part_table.proofs.TestLemmas.{search_of}
 use Rattle.image_check.specs.Addressing.{in_flash}
 use Rattle.image_check.specs.Rules.{item_loads, map_loads}
+use Rattle.image_pack.proofs.LoadsBackLemmas.{IsReadable, loads-back}
 use Rattle.image_pack.proofs.OneItemLemmas.{find_first, find_next, items_alone, items_then, of_kind}
 use Rattle.image_pack.proofs.SealedDefLemmas.{def_is}
-use Rattle.image_pack.proofs.SealedPartLemmas.{header_high, says_type}
+use Rattle.image_pack.proofs.SealedPartLemmas.{length-entries, header_high, says_type}
 use Rattle.part_table.proofs.RoundTripLemmas.{type_is}
 use Rattle.elf_pack.specs.declared.segment.Segment.{Segment}
 use Rattle.elf_pack.specs.Binaries.{first_stack, loads_from, sram_items, first_storage}
-use Rattle.elf_pack.proofs.LoadsLemmas.{IsReadable, loads-back}
 use Rattle.elf_pack.proofs.StoredLemmas.{block}
-use Rattle.elf_pack.proofs.StoringLemmas.{entry_head, entry_item, length-entries, length-loads, map_body, map_head, map_item, type_item, type_word}
+use Rattle.elf_pack.proofs.StoringLemmas.{entry_head, entry_item, length-loads, map_body, map_head, map_item, type_item, type_word}
 
 -- a block at 0 that links to itself is the whole loop
 module _ (w : List ℕ) (b : BlockView) (start : b.at ≡ 0) (self : b.link ≡ pos 0) (stands : BlockAt w 0 b) where

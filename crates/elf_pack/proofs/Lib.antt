@@ -4,7 +4,6 @@ pub mod PlacingLemmas
 pub mod FaultLemmas
 pub mod StoringLemmas
 pub mod TogetherLemmas
-pub mod LoadsLemmas
 pub mod SealedLemmas
 pub mod StoredLemmas
 pub mod AnswerLemmas

@@ -10,13 +10,13 @@ use Rattle.block_codec.specs.Words.{AreWords, bytes_of}
 use Rattle.block_codec.proofs.FrameLemmas.{length-frame}
 use Rattle.block_codec.proofs.WordLemmas.{length-bytes_of}
 use Rattle.image_pack.specs.Filling.{padded, round_up, whole_words}
+use Rattle.image_pack.proofs.LoadsBackLemmas.{IsReadable}
 use Rattle.image_pack.proofs.SealedPartLemmas.{place_small, says_type}
 use Rattle.image_pack.specs.Sealing.{entry_words}
 use Rattle.elf_pack.specs.declared.segment.Segment.{Segment}
 use Rattle.elf_pack.specs.Binaries.{loads_from, sram_items, first_storage}
 use Rattle.elf_pack.specs.Faults.{IsInSram}
 use Rattle.elf_pack.specs.Segments.{segment_bytes}
-use Rattle.elf_pack.proofs.LoadsLemmas.{IsReadable}
 use Rattle.elf_pack.proofs.StoringLemmas.{items_few, items_whole}
 
 -- the bytes of a segment in whole words
@@ -102,7 +102,7 @@ module _ (elf : List ℕ) where
   all-readable (y ∷ ys) at place n inside apart room small =
       let sum = length-append (stored elf y) (all_stored ys) in
       let long = long_stored y inside.0 in (
-        (at, refl, λ same. clear same, omega (arith, room, sum, long), omega (arith, room, small)),
+        (λ same. clear same, omega (arith, room, sum, long), omega (arith, room, small)),
         all-readable ys (at + round_up 4 y.size) place n inside.1 (elim apart [
           | inl before ↦ inl (omega (arith, before))
           | inr behind ↦ inr (omega (arith, behind, sum, long))

@@ -13,14 +13,10 @@ use Rattle.part_table.specs.Written.{header}
 use Rattle.part_table.proofs.RoundTripLemmas.{size_is, type_is}
 use Rattle.image_pack.specs.Sealing.{entry_words, image_type_word}
 use Rattle.image_pack.proofs.OneItemLemmas.{IsOneItem, item_alone, item_then}
-use Rattle.image_pack.proofs.SealedPartLemmas.{says_type}
+use Rattle.image_pack.proofs.SealedPartLemmas.{length-entries, says_type}
 use Rattle.elf_pack.specs.declared.segment.Segment.{Segment}
 use Rattle.elf_pack.specs.Binaries.{first_stack, front_words, loads_from, sram_items, first_storage}
 use Rattle.image_pack.specs.Filling.{round_up}
-
-pub length-entries : (at : ℕ) (loads : List Load) → length (flat_map (entry_words at) loads) ≡ 3 * length loads
-length-entries at [] = refl
-length-entries at (load ∷ loads) = let rest = length-entries at loads in omega (arith, rest)
 
 pub length-loads : (at : ℕ) (xs : List Segment) → length (loads_from at xs) ≡ length xs
 length-loads at [] = refl

@@ -25,11 +25,11 @@ use Rattle.image_check.proofs.LongerLemmas.{longer-valid}
 use Rattle.image_check.proofs.RollbackLemmas.{valid-elsewhere}
 use Rattle.image_pack.specs.declared.spec.SealSpec.{SealSpec}
 use Rattle.image_pack.specs.Faults.{IsSealed, whole_window, zero_otp}
-use Rattle.image_pack.specs.Filling.{padded, round_up, whole_sectors, whole_words}
+use Rattle.image_pack.specs.Filling.{padded, round_up, whole_sectors}
 use Rattle.image_pack.specs.ReadBack.{IsHalves}
 use Rattle.image_pack.specs.Sealing.{link_offset_of, own_load, sealed_text}
 use Rattle.image_pack.specs.Unsealable.{KeepsRules}
-use Rattle.image_pack.proofs.ReadBackLemmas.{binary_keeps, copied, definition_is, entry, few_words, image, kept, link, link_at-is, loads, loads-are, long_kept, meets-exactly, read, small, sound}
+use Rattle.image_pack.proofs.ReadBackLemmas.{binary_keeps, entry, image, kept, link_at-is, loads, loads-are, loads-there, long_kept, meets-exactly, small, sound}
 use Rattle.image_pack.proofs.SealedPartLemmas.{map_offset_of, own}
 use Rattle.image_pack.proofs.WithinLemmas.{length-whole_sectors}
 use Rattle.elf_pack.specs.declared.fault.ElfFault.{ElfFault}
@@ -41,8 +41,7 @@ use Rattle.elf_pack.specs.Segments.{byte_of, segments}
 use Rattle.elf_pack.specs.Whole.{IsElfWhole, IsOfLink, image_sectors}
 use Rattle.elf_pack.proofs.BlockLemmas.{block-loads, last-of-one, loop-one}
 use Rattle.elf_pack.proofs.ListLemmas.{all-at}
-use Rattle.elf_pack.proofs.LoadsLemmas.{IsReadable}
-use Rattle.elf_pack.proofs.OwnLemmas.{load-from, own-kept, sealed-loads}
+use Rattle.elf_pack.proofs.OwnLemmas.{load-from, own-kept}
 use Rattle.elf_pack.proofs.PlacingLemmas.{length-flash}
 use Rattle.elf_pack.proofs.SealedLemmas.{kept-at, long_text, long_window, long_words}
 use Rattle.elf_pack.proofs.StoredLemmas.{all-readable, all_stored, block, block-stands, padded_long, where-stored}
@@ -193,36 +192,11 @@ module _ (elf : List ℕ) (spec : SealSpec) (has : HasBinary spec.cpu elf)
       abbrev bytes : List ℕ
       bytes = image_sectors elf spec ++ f
 
-      window-long : length (kept binary spec sealed) ≤ length bytes
-      window-long =
-          let text = long_text binary spec sealed f in
-          let more = long_window binary spec sealed f in
-          omega (arith, text, more, long_kept binary spec sealed)
-
-      readable : AllByRecursion (IsReadable mo (length bytes))
-          (own spec (kept binary spec sealed) (entry binary spec sealed) (loads binary spec sealed))
-      readable =
-          let words = long_words binary spec sealed f in
-          subst (AllByRecursion (IsReadable mo (length bytes))) (sym own-is) (
-            (0, refl, λ none. omega (arith, none), omega (arith, window-long), omega arith),
-            all-readable elf xs first_storage mo (length bytes) inside (inr behind-all)
-                (omega (arith, long-binary, words, long_kept binary spec sealed, window-long)) (omega (arith, below)),
-          )
-
       abbrev the_sound : IsSound in_flash spec.cpu bytes (image binary spec sealed halves) sealed.boots.entry
       the_sound = sound binary spec sealed halves f erased below
 
       window-loads : the_sound.loads ≡ first ∷ loads_from first_storage xs
-      window-loads =
-          sealed-loads spec (kept binary spec sealed) (entry binary spec sealed) (loads binary spec sealed)
-          (length (whole_words binary)) (link binary spec sealed) sealed.short.sealable.right
-          (copied binary spec sealed) (few_words binary spec sealed) halves (image binary spec sealed halves).def
-          (read binary spec sealed halves) (length bytes) the_sound.loads readable
-          (subst (λ x. map_loads in_flash (length bytes) x (image binary spec sealed halves).def ≡ Ok the_sound.loads)
-          (definition_is binary spec sealed halves) the_sound.map)
-          (sym (long_kept binary spec sealed))
-          (omega (arith, long_text binary spec sealed f, sealed.short.image, long_kept binary spec sealed))
-          ∙ own-is
+      window-loads = loads-there binary spec sealed halves f erased below ∙ own-is
 
       pub sram-gives : (i : ℕ) (s : Segment) (a : ℕ) → slice_get xs i ≡ Some s → HasAddress a s
           → byte_at flash_base bytes the_sound.loads a ≡ Some (byte_of elf a s)

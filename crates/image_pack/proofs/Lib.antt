@@ -10,6 +10,8 @@ pub mod SealedItemLemmas
 pub mod UnsealableLemmas
 pub mod SealedPartLemmas
 pub mod SealedDefLemmas
+pub mod LoadsBackLemmas
 pub mod SealedBackLemmas
+pub mod SealedLoadLemmas
 pub mod StartLemmas
 pub mod ReadBackLemmas

@@ -1,14 +1,17 @@
 -- A sealed image in a window, with erased bytes behind it, is read back as its spec asks.
-use Rattle.std.proofs.Common.{◌≡◌, ◌≢◌, ◌↔◌, Option, None, [], ℕ, ◌+◌, ◌-◌, ◌≤◌, List, ◌∷◌, ◌++◌, length, take, drop, replicate, ℤ, refl, sym, ap, subst, ◌∙◌, arith, Some, Result, Ok, length-append, length-drop, append_assoc}
-use Rattle.std.specs.Prelude.{IsTrue, IfSome, slice_get}
-use Rattle.std.specs.List.{flat_map}
+use Rattle.std.proofs.Common.{◌≡◌, ◌≢◌, ◌↔◌, Option, None, [], ℕ, ◌+◌, ◌-◌, ◌<◌, ◌≤◌, List, ◌∷◌, ◌++◌, length, take, drop, replicate, ℤ, refl, sym, ap, subst, ◌∙◌, arith, Some, Result, Ok, length-append, length-drop, append_assoc}
+use Rattle.std.specs.Prelude.{IsTrue, IfSome, slice_get, unwrap_or}
+use Rattle.std.specs.List.{AllByRecursion, flat_map}
 use Rattle.std.specs.Result.{result_ok}
 use Rattle.std.proofs.lemmas.List.{drop_at, length-replicate, length-take, take_all}
 use Rattle.pico_board.specs.declared.window.TheConstants.{MOST_FLASH_BYTES}
 use Rattle.sha2.specs.Sha256.{sha256}
 use Rattle.pico_board.specs.declared.window.Window.{Window}
+use Rattle.pico_board.specs.declared.boot.Cpu.{Cpu}
+use Rattle.pico_board.specs.declared.boot.Cpu.TheVariants.{Arm, Riscv}
 use Rattle.pico_board.specs.Content.{flash_base}
 use Rattle.block_codec.specs.Blocks.{BlockAt, BlockView, IsBlock, block_size, block_words, frame}
+use Rattle.block_codec.specs.declared.definition.Def.{Def}
 use Rattle.block_codec.specs.declared.definition.EntryPoint.{EntryPoint}
 use Rattle.block_codec.specs.Erased.{AreErased}
 use Rattle.block_codec.specs.Items.{AreItems}
@@ -21,6 +24,7 @@ use Rattle.image_def.specs.Definition.{def_of}
 use Rattle.load_map.specs.declared.addresses.TheConstants.{SRAM_START}
 use Rattle.load_map.specs.declared.load.Load.{Load}
 use Rattle.load_map.specs.Covered.{covered_digest, covered_load, masked_words}
+use Rattle.load_map.specs.Stored.{AreStoredIn}
 use Rattle.image_check.specs.declared.examining.Defined.{Defined}
 use Rattle.image_check.specs.declared.why.Why.{Why}
 use Rattle.arrayvec.specs.ArrayVec.{ArrayVec}
@@ -29,27 +33,32 @@ use Rattle.otp_roll.specs.Rows.{count}
 use Rattle.image_check.specs.NotBelow.{NotBelow}
 use Rattle.image_check.specs.declared.entry.Source.{Source}
 use Rattle.image_check.specs.Addressing.{in_flash}
-use Rattle.image_check.specs.Entering.{IsSource}
+use Rattle.image_check.specs.Entering.{IsSource, IsTabled}
+use Rattle.image_check.specs.Image.{defined_in}
 use Rattle.image_check.specs.Changes.{moved_to}
 use Rattle.image_check.specs.Rules.{map_loads}
-use Rattle.image_check.specs.Valid.{IsSound}
+use Rattle.image_check.specs.Valid.{IsDefined, IsSound}
+use Rattle.image_check.proofs.AnsweredLemmas.{defined-ok}
+use Rattle.image_check.proofs.MapLemmas.{map-stored}
 use Rattle.image_check.proofs.LongerLemmas.{longer-sound}
 use Rattle.image_pack.specs.declared.parts.Parts.{Parts}
 use Rattle.image_pack.specs.declared.spec.SealSpec.{SealSpec}
 use Rattle.image_pack.specs.Faults.{IsSealed, block_offset}
 use Rattle.image_pack.specs.Filling.{round_up, whole_sectors, whole_words}
-use Rattle.image_pack.specs.ReadBack.{IsHalves, IsReadBack, MeetsRollback, SaysSpec, covered_of}
-use Rattle.image_pack.specs.Sealing.{block_link, link_offset_of, parts_in, parts_of, relinked, sealed_from, sealed_items, sealed_text}
-use Rattle.image_pack.specs.Starts.{KeepsStart, StartsAs}
+use Rattle.image_pack.specs.ReadBack.{IsHalves, IsReadBack, MeetsRollback, SaysSpec, covered_of, map_place}
+use Rattle.image_pack.specs.Sealing.{block_link, copied_loads, link_offset_of, load_in_place, new_block, parts_in, parts_of, relinked, sealed_from, sealed_items, sealed_text, sram_loads}
+use Rattle.image_pack.specs.Starts.{KeepsStart, StartsAs, StartsBy}
 use Rattle.image_pack.specs.Unsealable.{KeepsRules}
+use Rattle.image_pack.proofs.LoadsBackLemmas.{IsReadable}
 use Rattle.image_pack.proofs.OneItemLemmas.{IsCopied}
-use Rattle.image_pack.proofs.SealedBackLemmas.{SaysSealed, copied_is, definition_stands, loads_begin, says_sealed}
+use Rattle.image_pack.proofs.SealedBackLemmas.{SaysSealed, copied_is, definition_stands, says_sealed}
 use Rattle.image_pack.proofs.SealedItemLemmas.{are_whole}
-use Rattle.image_pack.proofs.SealedPartLemmas.{are_parts, are_words, difference_fits, items_joined}
+use Rattle.image_pack.proofs.SealedLoadLemmas.{copied-readable, copied-same, copied-stored, map_place-is, sealed-loads}
+use Rattle.image_pack.proofs.SealedPartLemmas.{are_parts, are_words, difference_fits, items_joined, map_offset_of, own}
 use Rattle.image_pack.proofs.StartLemmas.{Copied, copied_of, keeps}
-use Rattle.image_pack.proofs.TextLaws.{relinked-long}
+use Rattle.image_pack.proofs.TextLaws.{relinked-long, relinked-none}
 use Rattle.image_pack.proofs.UnsealableLemmas.{keeps-parts, parts-kept}
-use Rattle.image_pack.proofs.WithinLemmas.{IsWithin-parts}
+use Rattle.image_pack.proofs.WithinLemmas.{IsWithin-parts, length-whole_sectors, stored-more}
 
 same_ok : (r : Result Parts Why) (p q : Parts) → r ≡ Ok p → r ≡ Ok q → q ≡ p
 same_ok r p q one two = cc
@@ -64,6 +73,62 @@ relinked-least bytes p =
     let t = length-take p.link_at bytes in
     let four = length-word_bytes (length bytes - p.last) in
     omega (arith, a, b, d, t, four)
+
+-- a sealed text has at least the bytes before its new block
+text-least-from : (spec : SealSpec) (bytes : List ℕ) (parts : Option Parts)
+    → length bytes ≤ length (sealed_from spec bytes parts)
+text-least-from spec bytes None =
+    let sum = length-append (relinked bytes None) (new_block spec (relinked bytes None) None) in
+    let same = ap length (relinked-none bytes) in
+    omega (arith, sum, same)
+text-least-from spec bytes (Some p) =
+    let sum = length-append (relinked bytes (Some p)) (new_block spec (relinked bytes (Some p)) (Some p)) in
+    let least = relinked-least bytes p in
+    omega (arith, sum, least)
+
+pub text-least : (binary : List ℕ) (spec : SealSpec) → block_offset binary ≤ length (sealed_text binary spec)
+unfolding sealed_text
+text-least binary spec =
+    text-least-from spec (whole_words binary) (result_ok (parts_in spec.cpu (whole_sectors binary)))
+
+pub offset-least : (binary : List ℕ) → length binary ≤ block_offset binary
+offset-least binary =
+    let whole = length-append binary (replicate (round_up 4 (length binary) - length binary) 255) in
+    omega (arith, whole)
+
+-- whole sectors, by the number of their bytes
+long-sectors : (xs : List ℕ) → length (whole_sectors xs) ≡ round_up 4096 (length xs)
+long-sectors xs =
+    let whole = length-append xs (replicate (round_up 4096 (length xs) - length xs) 255) in
+    let fill = length-replicate {A = ℕ} (round_up 4096 (length xs) - length xs) 255 in
+    omega (arith, whole, fill)
+
+sectors-more : (n m : ℕ) → n ≤ m → round_up 4096 n ≤ round_up 4096 m
+sectors-more n m le = omega (arith, le)
+
+-- a window has one definition, with one list of loads
+one-loads : (cpu : Cpu) (bytes : List ℕ) (loop other : List BlockView) (image another : Defined)
+    (loads more : List Load) → IsDefined cpu bytes loop image → IsDefined cpu bytes other another
+    → map_loads in_flash (length bytes) image.block image.def ≡ Ok loads
+    → map_loads in_flash (length bytes) another.block another.def ≡ Ok more → loads ≡ more
+one-loads cpu bytes loop other image another loads more one two mapped again =
+    let same : image ≡ another =
+    one-ok (defined_in cpu bytes) image another (defined-ok cpu bytes loop image one)
+    (defined-ok cpu bytes other another two) in
+    one-ok (map_loads in_flash (length bytes) another.block another.def) loads more
+    (subst (λ (i : Defined). map_loads in_flash (length bytes) i.block i.def ≡ Ok loads) same mapped) again
+  where
+    one-ok : {A F : Type 0} (r : Result A F) (x y : A) → r ≡ Ok x → r ≡ Ok y → x ≡ y
+    one-ok r x y a b = cc
+
+-- where a start comes from, by a definition that keeps another's
+source-kept : (base : ℕ) (bytes : List ℕ) (cpu : Cpu) (def mine : Def) (loads : List Load) (o : Option EntryPoint)
+    (source : Source) → mine.entry_point ≡ o → KeepsStart mine def → IsSource base bytes cpu def loads o source
+    → IsSource base bytes cpu mine loads o source
+source-kept base bytes cpu def mine loads (Some e) source is keeps found = found
+source-kept base bytes Arm def mine loads None source is keeps found =
+    subst (λ (v : Option ℕ). IsTabled base bytes loads (unwrap_or v base) source) (keeps.vector is) found
+source-kept base bytes Riscv def mine loads None source is keeps found = found
 
 module _ (binary : List ℕ) (spec : SealSpec) (sealed : IsSealed binary spec) where
   abbrev pub parts : Parts
@@ -285,25 +350,68 @@ module _ (binary : List ℕ) (spec : SealSpec) (sealed : IsSealed binary spec) w
           let more = length-append (whole_sectors (sealed_text binary spec)) f in
           omega (arith, all, sum, filled, more)
 
-      begin : (runtime : ℕ) × (rest : List Load)
-          × (sound.loads ≡ record { storage = Some 0; runtime = runtime; size = length kept } ∷ rest)
-      begin =
+      abbrev mo : ℕ
+      mo = map_offset_of spec kept entry loads
+
+      -- the binary's loads lie in the window
+      stored : AreStoredIn (length (whole_sectors binary)) loads
+      stored =
+          subst (AreStoredIn (length (whole_sectors binary))) (sym loads-are)
+          (map-stored in_flash (length (whole_sectors binary)) binary_keeps.image.block binary_keeps.image.def
+          binary_keeps.loads binary_keeps.map)
+
+      wider : length (whole_sectors binary) ≤ length bytes
+      wider =
+          let all = ap length text_is in
+          let sum = length-append kept (bytes_of (frame items link)) in
+          let more = length-append (whole_sectors (sealed_text binary spec)) f in
+          let least : length binary ≤ length (sealed_text binary spec) =
+          omega (arith, all, sum, long_kept, long_words) in
+          let grown = sectors-more (length binary) (length (sealed_text binary spec)) least in
+          omega (arith, more, grown, long-sectors binary, long-sectors (sealed_text binary spec))
+
+      readable : AllByRecursion (IsReadable mo (length bytes)) (own spec kept entry loads)
+      readable =
+          let near = length-whole_sectors binary small in (
+            (λ none. omega (arith, none), omega (arith, room), omega arith),
+            copied-readable mo (length bytes) (length (whole_sectors binary)) wider (omega (arith, near)) loads stored,
+          )
+
+      pub loads-there : sound.loads ≡ own spec kept entry loads
+      loads-there =
           let inside = IsWithin-parts binary spec.cpu parts small sealed.short.sealable.read in
-          loads_begin spec kept entry loads (length (whole_words binary)) link sealed.short.sealable.right copied
-          few_words halves image.def read (length bytes) sound.loads
+          sealed-loads spec kept entry loads (length (whole_words binary)) link sealed.short.sealable.right copied
+          few_words halves image.def read (length bytes) sound.loads readable
           (subst (λ b. map_loads in_flash (length bytes) b image.def ≡ Ok sound.loads) definition_is sound.map)
-          (sym long_kept) room (omega (arith, long_kept, inside.small))
+          (sym long_kept) (omega (arith, long_kept, inside.small))
+
+      -- where the LOAD_MAP item stands
+      place-is : map_place image ≡ mo
+      place-is =
+          ap (λ (b : BlockView). map_place (record { block = b; def = image.def })) definition_is
+          ∙ map_place-is spec kept entry loads (length (whole_words binary)) link sealed.short.sealable.right copied
+          few_words halves image.def read (sym long_kept)
+
+      kept-loads : (own : KeepsRules spec.cpu (whole_sectors binary))
+          → copied_loads mo loads ≡ copied_loads (map_place image) own.loads
+      kept-loads own =
+          let made : Parts = parts_of own.loop own.image.block own.loads in
+          let same : made ≡ parts =
+          same_ok (parts_in spec.cpu (whole_sectors binary)) parts made sealed.short.sealable.read
+          (keeps-parts spec.cpu (whole_sectors binary) own) in
+          ap (copied_loads mo) (sym (ap (λ (q : Parts). q.loads.items) same))
+          ∙ ap (λ m. copied_loads m own.loads) (sym place-is)
 
       abbrev behind : List ℕ
       behind = bytes_of (take image.def.hash_words (masked_words (block_words image.block) image.def.image_word))
 
       abbrev others : List ℕ
-      others = flat_map (covered_load bytes) begin.1
+      others = flat_map (covered_load bytes) (copied_loads mo loads)
 
       before : covered_of bytes image sound.loads ≡ take (block_offset binary) bytes ++ (others ++ behind)
       before =
           let count : 0 + length kept - 0 ≡ length (whole_words binary) = omega (arith, long_kept) in
-          ap (λ ls. flat_map (covered_load bytes) ls ++ behind) begin.2
+          ap (λ ls. flat_map (covered_load bytes) ls ++ behind) loads-there
           ∙ ap (λ n. (take n bytes ++ others) ++ behind) count
           ∙ append_assoc (take (length (whole_words binary)) bytes) others behind
 
@@ -328,7 +436,52 @@ module _ (binary : List ℕ) (spec : SealSpec) (sealed : IsSealed binary spec) w
         trial = says.trial;
         start = keeps-start;
         map = sound.map;
+        copied = copied_loads mo loads;
+        first = loads-there ∙ ap (λ n. load_in_place n ∷ copied_loads mo loads) long_kept;
+        behind = subst (λ m. length (whole_words binary) < m) (sym place-is) (omega (arith, long_kept));
+        kept = kept-loads;
         rest = others ++ behind;
         before = before;
         digest = value;
       }
+
+      -- it starts as the binary's definition says
+      pub starts-by : (own : KeepsRules spec.cpu (whole_sectors binary)) (back : IsReadBack binary spec bytes)
+          (w : Window) → StartsBy spec.cpu own.image.def bytes back.loads (moved_to w sealed.started)
+      starts-by own back w =
+          let keeps = keeps-start own in
+          let enters = sound.enters in
+          let is = sealed.boots.started in
+          let found = subst (λ o. IsSource in_flash.base bytes spec.cpu image.def sound.loads o enters.source)
+          keeps.entry enters.found in
+          subst (λ ls. StartsBy spec.cpu own.image.def bytes ls (moved_to w sealed.started))
+          (one-loads spec.cpu bytes sound.loop back.loop image back.image sound.loads back.loads sound.defined
+          back.defined sound.map back.map)
+          (record {
+            source = enters.source;
+            said =
+                source-kept in_flash.base bytes spec.cpu image.def own.image.def sound.loads
+                own.image.def.entry_point enters.source refl keeps found;
+            starts = record {
+              pc = ap (λ (s : Started). s.pc) is ∙ ap (λ (x : EntryPoint). x.pc) enters.is;
+              sp = ap (λ (s : Started). s.sp) is ∙ ap (λ (x : EntryPoint). x.sp) enters.is;
+              limit = ap (λ (s : Started). s.limit) is ∙ ap (λ (x : EntryPoint). x.limit) enters.is;
+            };
+          })
+
+-- the loads that are read back, where those of the binary are stored in it
+module _ (binary : List ℕ) (spec : SealSpec) (bytes : List ℕ) (back : IsReadBack binary spec bytes)
+    (own : KeepsRules spec.cpu (whole_sectors binary)) (stored : AreStoredIn (block_offset binary) own.loads) where
+  pub stored-within : AreStoredIn (length (sealed_text binary spec)) back.loads
+  stored-within =
+      subst (AreStoredIn (length (sealed_text binary spec)))
+      (sym (back.first ∙ ap (λ ls. load_in_place (block_offset binary) ∷ ls) (back.kept own))) (
+        (let least = text-least binary spec in omega (arith, least)),
+        stored-more (block_offset binary) (length (sealed_text binary spec))
+            (copied_loads (map_place back.image) own.loads)
+            (text-least binary spec) (copied-stored (map_place back.image) (block_offset binary) own.loads stored),
+      )
+
+  pub copied-are : back.copied ≡ sram_loads own.loads
+  copied-are =
+      back.kept own ∙ copied-same (map_place back.image) (block_offset binary) back.behind own.loads stored

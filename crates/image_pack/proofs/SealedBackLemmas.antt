@@ -1,5 +1,5 @@
 -- A sealed image as it is read back: its new block stands behind the bytes before it, and defines the image.
-use Rattle.std.proofs.Common.{◌≡◌, ◌⊎◌, ℕ, zero, suc, ◌+◌, ◌-◌, ◌*◌, ◌%◌, ◌^◌, ◌<◌, ◌≤◌, ◌==◌, if◌then◌else◌, true, false, List, [], ◌∷◌, ◌++◌, length, get_or, take, drop, ℤ, refl, sym, ap, subst, ◌∙◌, inl, inr, arith, Option, Some, None, Ok, length-append, length-drop, append_assoc, nat_le}
+use Rattle.std.proofs.Common.{◌≡◌, ◌⊎◌, ℕ, zero, suc, ◌+◌, ◌-◌, ◌*◌, ◌<◌, ◌≤◌, ◌==◌, if◌then◌else◌, true, false, List, [], ◌∷◌, ◌++◌, length, get_or, take, drop, ℤ, refl, sym, ap, subst, ◌∙◌, inl, inr, arith, Option, Some, None, Ok, length-drop, append_assoc, nat_le}
 use Rattle.std.specs.Prelude.{unwrap_or, option_and_then, slice_get}
 use Rattle.std.specs.List.{slice_index, slice_range, position}
 use Rattle.std.specs.Option.{option_map_or, option_or}
@@ -7,7 +7,6 @@ use Rattle.std.specs.Int.{cast_unsigned, w32}
 use Rattle.std.proofs.lemmas.Bool.Decides.{nat_tests}
 use Rattle.std.proofs.lemmas.Grind.{common_steps}
 use Rattle.std.proofs.lemmas.List.{drop_at, get_or-drop, length-take-le}
-use Rattle.pico_board.specs.declared.window.TheConstants.{MOST_FLASH_BYTES}
 use Rattle.arrayvec.specs.ArrayVec.{ArrayVec}
 use Rattle.pico_board.specs.declared.boot.Cpu.{Cpu}
 use Rattle.block_codec.specs.declared.definition.Def.{Def}
@@ -24,23 +23,20 @@ use Rattle.image_def.specs.Definition.{def_of, def_record, no_version}
 use Rattle.image_def.specs.Flags.{flags_of, is_trial}
 use Rattle.image_def.specs.Rows.{rollback_in, rows_in}
 use Rattle.load_map.specs.declared.load.Load.{Load}
-use Rattle.load_map.specs.Loads.{entry_count, is_absolute}
 use Rattle.part_table.specs.Written.{header}
 use Rattle.part_table.proofs.RoundTripLemmas.{size_is}
 use Rattle.part_table.proofs.SearchLemmas.{contained}
 use Rattle.part_table.proofs.TestLemmas.{found_place}
 use Rattle.image_check.specs.declared.examining.Defined.{Defined}
-use Rattle.image_check.specs.Addressing.{in_flash}
-use Rattle.image_check.specs.Rules.{item_loads, map_loads}
 use Rattle.image_check.specs.Valid.{IsDefined}
 use Rattle.image_pack.specs.declared.spec.SealSpec.{SealSpec}
 use Rattle.image_pack.specs.Faults.{IsRightSpec}
 use Rattle.image_pack.specs.ReadBack.{IsHalves}
 use Rattle.image_pack.specs.Sealing.{copied_words, item_words_of, packed, row_halves, sealed_items}
 use Rattle.image_pack.proofs.OneItemLemmas.{IsCopied}
-use Rattle.image_pack.proofs.SealedDefLemmas.{begins_with, def_is, rollback_says, version_says}
-use Rattle.image_pack.proofs.SealedItemLemmas.{all_items, image_sought, items_are, map_at, map_found, map_word, value_at, value_sought, version_sought, words_are}
-use Rattle.image_pack.proofs.SealedPartLemmas.{are_parts, few_own, halves_are, hash_count, header_high, items_joined, map_body, map_head, map_offset_of, own, rows_of, says_type, sealed_words, type_word, value_body, version_body, version_head, version_size}
+use Rattle.image_pack.proofs.SealedDefLemmas.{def_is, rollback_says, version_says}
+use Rattle.image_pack.proofs.SealedItemLemmas.{all_items, image_sought, items_are, map_at, map_found, value_at, value_sought, version_sought, words_are}
+use Rattle.image_pack.proofs.SealedPartLemmas.{are_parts, few_own, halves_are, hash_count, header_high, items_joined, map_body, map_head, rows_of, says_type, sealed_words, type_word, value_body, version_body, version_head, version_size}
 
 -- the copied item is one of its kind, and whole
 sought_kind : (kind : ℕ) (item : Item) → (kind ≡ 0x44) ⊎ (kind ≡ 0x03) → is_of_kind kind item ≡ true
@@ -267,35 +263,3 @@ module _ (spec : SealSpec) (bytes entry : List ℕ) (loads : List Load) (at : �
         ≡ Some (item_at map_place map_of)
     map_item_there =
         sym (has (λ (d : Def). option_and_then (slice_get (items_of sealed_block.items)) d.map_item)) ∙ map_there
-
-    -- the loads begin with the bytes before the block
-    pub loads_begin : (n : ℕ) (given : List Load) → map_loads in_flash n sealed_block def ≡ Ok given → at ≡ length bytes
-        → length bytes ≤ n → length bytes ≤ MOST_FLASH_BYTES → (runtime : ℕ) × (rest : List Load)
-        × (given ≡ record { storage = Some 0; runtime = runtime; size = length bytes } ∷ rest)
-    loads_begin n given mapped at_is room small =
-        let item = item_at map_place map_of in
-        let fewer = few_own spec bytes entry loads right copied few in
-        let front = length-append version_rest entry in
-        let mo = map_offset_of spec bytes entry loads in
-        let stands : at + 4 * map_place ≡ mo = omega (arith, at_is, front) in
-        let near : mo ≤ 2 ^ 30 = omega (arith, small, fewer, front) in
-        let word : (k : ℕ) → k < length map_rest → slice_index words (map_place + 1 + k) ≡ slice_index map_rest k =
-        λ k lt. map_word type_of version_of_block version_rest entry map_of map_rest (header HASH_DEF 2 1) counted
-        (header HASH_VALUE 9 0) value_rest sealed_block.items link k (items_joined spec bytes entry loads) lt in
-        let place = word 0 (omega arith) in
-        let extent = word 2 (omega arith) in
-        let zero_more : map_place + 1 + 0 ≡ map_place + 1 = omega arith in
-        let count : entry_count item ≡ length (own spec bytes entry loads) =
-        ap (λ k. k % 128) (header_high 0x06 (1 + 3 * length (own spec bytes entry loads))
-        (length (own spec bytes entry loads)) (omega arith) (omega (arith, fewer)) (omega (arith, fewer)))
-        ∙ omega (arith, fewer) in
-        let relative : is_absolute item ≡ false =
-        ap (λ k. nat_le 128 k) (header_high 0x06 (1 + 3 * length (own spec bytes entry loads))
-        (length (own spec bytes entry loads)) (omega arith) (omega (arith, fewer)) (omega (arith, fewer)))
-        ∙ below_limit (length (own spec bytes entry loads)) (omega (arith, fewer)) in
-        let found = begins_with in_flash.base n in_flash.in_place sealed_block item words (map_place + 1) mo
-        (length bytes)
-        stands (omega arith) near room (ap (slice_index words) (sym zero_more) ∙ place) extent
-        (length (own spec bytes entry loads) - 1) given refl refl (count ∙ omega arith) relative
-        (sym (ap (item_loads in_flash n sealed_block) map_item_there) ∙ mapped) in
-        (slice_index words (map_place + 1 + 1), found.0, found.1)

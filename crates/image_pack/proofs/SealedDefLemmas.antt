@@ -1,31 +1,21 @@
 -- What the definition of a new block says, and its first load.
-use Rattle.std.proofs.Common.{◌≡◌, ℕ, suc, ◌+◌, ◌*◌, ◌/◌, ◌%◌, ◌^◌, ◌≤◌, ◌==◌, if◌then◌else◌, Bool, true, false, List, [], ◌∷◌, ◌++◌, length, take, drop, pos, refl, sym, ap, subst, ◌∙◌, arith, Option, Some, None, Ok, nat_le}
-use Rattle.std.specs.Prelude.{◌-ℤ◌, ◌+ℤ◌, filter_map}
+use Rattle.std.proofs.Common.{◌≡◌, ℕ, suc, ◌+◌, ◌*◌, ◌/◌, ◌%◌, ◌==◌, if◌then◌else◌, true, false, List, [], ◌∷◌, ◌++◌, length, take, drop, refl, sym, ap, subst, ◌∙◌, arith, Option, Some, None, Ok}
 use Rattle.std.specs.List.{slice_index}
-use Rattle.std.specs.Option.{option_map}
-use Rattle.std.specs.Int.{cast_signed, w32}
 use Rattle.std.proofs.lemmas.Bool.{eq-eqb, ne_eqb}
-use Rattle.std.proofs.lemmas.Bool.Decides.{nat_tests}
-use Rattle.std.proofs.lemmas.Int.{ints, to_z-of_z}
 use Rattle.block_codec.specs.declared.definition.Def.{Def}
-use Rattle.block_codec.specs.declared.items.Item.{Item}
 use Rattle.block_codec.specs.declared.versions.Version.{Version}
 use Rattle.block_codec.specs.Blocks.{BlockView, block_words}
-use Rattle.block_codec.specs.FirstFault.{first_fault, ok_unless}
+use Rattle.block_codec.specs.FirstFault.{ok_unless}
 use Rattle.block_codec.specs.Items.{high_byte, item_at, items_of, size_of}
 use Rattle.block_codec.specs.Kinds.{version_of, version_words}
 use Rattle.image_def.specs.declared.fault.DefFault.{DefFault}
 use Rattle.image_def.specs.Definition.{def_of, def_record}
 use Rattle.image_def.specs.Faults.{def_fault}
 use Rattle.image_def.specs.Rows.{halves_of, rollback_in, rows_in}
-use Rattle.load_map.specs.declared.load.Load.{Load}
-use Rattle.load_map.specs.Loads.{entries_from, entries_of, entry_at, entry_count, is_absolute}
-use Rattle.load_map.specs.Reading.{entry_fault, load_of, loads_of, offset_within, setting_of, stored_at}
-use Rattle.load_map.proofs.SoundLoadLemmas.{ok_unless-Ok}
 use Rattle.image_pack.specs.Faults.{IsRightRollback}
 use Rattle.image_pack.specs.ReadBack.{IsHalves}
-use Rattle.image_pack.specs.Sealing.{packed, place_word, row_halves}
-use Rattle.image_pack.proofs.SealedPartLemmas.{AreHalves, difference_fits}
+use Rattle.image_pack.specs.Sealing.{packed, row_halves}
+use Rattle.image_pack.proofs.SealedPartLemmas.{AreHalves}
 
 -- the half words that were packed are read again, whatever follows them
 pub halves_back : (hs rest : List ℕ) → AreHalves hs → take (length hs) (halves_of (packed hs ++ rest)) ≡ hs
@@ -89,53 +79,3 @@ def_is b def is = go (def_fault (block_words b) (items_of b.items)) is
         → def_record (block_words b) (items_of b.items) ≡ def
     go None same = cc
     go (Some fault) same = cc
-
--- the first entry of the new block's map: the bytes before the block, in place
-module _ (base n : ℕ) (in_place : Bool) (b : BlockView) (item : Item) (words : List ℕ) (k at size : ℕ)
-    (stands : b.at + 4 * item.first ≡ at) (some : 1 ≤ at) (near : at ≤ 2 ^ 30) (room : size ≤ n)
-    (place : slice_index words k ≡ place_word at (Some 0)) (extent : slice_index words (k + 2) ≡ size) where
-  back : cast_signed w32 (slice_index words k) ≡ pos 0 -ℤ pos at
-  back = ap (cast_signed w32) place ∙ to_z-of_z w32 (pos 0 -ℤ pos at) (difference_fits 0 at (omega arith) near)
-
-  not_clear : (slice_index words k == 0) ≡ false
-  not_clear = ne_eqb (slice_index words k) 0 (λ none.
-      let read : pos 0 ≡ pos 0 -ℤ pos at = sym (ap (cast_signed w32) none) ∙ back in omega (arith, ints, read, some))
-
-  offset : pos (b.at + 4 * item.first) +ℤ cast_signed w32 (slice_index words k) ≡ pos 0
-  offset = ap (λ z. pos (b.at + 4 * item.first) +ℤ z) back ∙ ap (λ m. pos m +ℤ (pos 0 -ℤ pos at)) stands
-      ∙ (let none : pos at +ℤ (pos 0 -ℤ pos at) ≡ pos 0 = omega (arith, ints) in none)
-
-  inside : nat_le (0 + size) n ≡ true
-  inside = grind (arith, nat_tests)
-
-  pub first_load : load_of (setting_of base in_place n b item) false (entry_at words k)
-      ≡ Some (record { storage = Some 0; runtime = slice_index words (k + 1); size = size })
-  first_load =
-      ap (λ t. if t
-      then Some (record { storage = None; runtime = slice_index words (k + 1); size = slice_index words (k + 2) })
-      else option_map (stored_at (entry_at words k) (slice_index words (k + 2)))
-      (offset_within n (pos (b.at + 4 * item.first) +ℤ cast_signed w32 (slice_index words k))
-      (slice_index words (k + 2)))) not_clear
-      ∙ ap (λ z. option_map (stored_at (entry_at words k) (slice_index words (k + 2)))
-      (offset_within n z (slice_index words (k + 2)))) offset
-      ∙ ap (λ m. option_map (stored_at (entry_at words k) m) (offset_within n (pos 0) m)) extent
-      ∙ ap (λ t. option_map (stored_at (entry_at words k) size) (if t then Some 0 else None)) inside
-
-  -- so the loads begin with it
-  pub begins_with : (count : ℕ) (loads : List Load) → words ≡ block_words b → k ≡ item.first + 1
-      → entry_count item ≡ suc count
-      → is_absolute item ≡ false → loads_of base in_place n b item ≡ Ok loads
-      → (rest : List Load)
-      × (loads ≡ record { storage = Some 0; runtime = slice_index words (k + 1); size = size } ∷ rest)
-  begins_with count loads same first counted relative is =
-      let s = setting_of base in_place n b item in
-      let entries : entries_of (block_words b) item ≡ entry_at words k ∷ entries_from words (k + 3) count =
-      ap (λ ws. entries_from ws (item.first + 1) (entry_count item)) (sym same)
-      ∙ ap (λ m. entries_from words m (entry_count item)) (sym first)
-      ∙ ap (entries_from words k) counted in
-      let found = ok_unless-Ok (first_fault (entry_fault s b (is_absolute item)) (entries_of (block_words b) item))
-      (filter_map (load_of s (is_absolute item)) (entries_of (block_words b) item)) loads is in
-      let given : loads ≡ filter_map (load_of s false) (entry_at words k ∷ entries_from words (k + 3) count) =
-      sym found.1 ∙ ap (λ t. filter_map (load_of s t) (entries_of (block_words b) item)) relative
-      ∙ ap (filter_map (load_of s false)) entries in
-      (filter_map (load_of s false) (entries_from words (k + 3) count), given ∙ rw first_load refl)

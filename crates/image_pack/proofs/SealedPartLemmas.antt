@@ -105,7 +105,7 @@ pub place_small : (at : ℕ) (storage : Option ℕ) → at ≤ 2 ^ 30 → IfSome
 place_small at None a b = omega arith
 place_small at (Some x) a b = (Fits-of_z (difference_fits x at b a)).fits
 
-length-entries : (at : ℕ) (own : List Load) → length (flat_map (entry_words at) own) ≡ 3 * length own
+pub length-entries : (at : ℕ) (own : List Load) → length (flat_map (entry_words at) own) ≡ 3 * length own
 length-entries at [] = refl
 length-entries at (load ∷ own) = let rest = length-entries at own in omega (arith, rest)
 

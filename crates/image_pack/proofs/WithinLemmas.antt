@@ -64,7 +64,7 @@ answered {A} {B} {C} {D} {F} (Ok a) (Ok b) s make d is = third (s b) refl is whe
       record { a = a; b = b; c = c; one = refl; two = refl; three = same; made = (let is : make a b c ≡ d = cc in is) }
 
 -- loads that are stored in fewer bytes are stored in more
-stored-more : (n m : ℕ) (loads : List Load) → n ≤ m → AreStoredIn n loads → AreStoredIn m loads
+pub stored-more : (n m : ℕ) (loads : List Load) → n ≤ m → AreStoredIn n loads → AreStoredIn m loads
 stored-more n m [] le are = tt
 stored-more n m (load ∷ loads) le are = (more load.storage are.0, stored-more n m loads le are.1) where
   more : (storage : Option ℕ) → IsStoredIn n storage load.size → IsStoredIn m storage load.size

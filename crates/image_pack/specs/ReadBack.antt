@@ -1,7 +1,10 @@
 -- A sealed image as it is read back from a window that begins with it. This project's own.
-use Rattle.std.specs.Prelude.{◌≡◌, ◌≢◌, ℕ, ◌++◌, ◌^◌, ◌<◌, ◌≤◌, IsTrue, List, [], length, take, IfSome, Ok, Some}
+use Rattle.std.specs.Prelude.{◌≡◌, ◌≢◌, ℕ, ◌+◌, ◌*◌, ◌∷◌, ◌++◌, ◌^◌, ◌<◌, ◌≤◌, IsTrue, List, [], length, take, slice_get, IfSome, Ok, Some, option_and_then}
+use Rattle.std.specs.Option.{option_map_or}
+use Rattle.block_codec.specs.declared.items.Item.{Item}
 use Rattle.block_codec.specs.declared.versions.Version.{Version}
 use Rattle.block_codec.specs.Blocks.{BlockView}
+use Rattle.block_codec.specs.Items.{items_of}
 use Rattle.image_def.specs.declared.started.Started.{Started}
 use Rattle.image_def.specs.Flags.{is_trial}
 use Rattle.load_map.specs.declared.load.Load.{Load}
@@ -16,6 +19,7 @@ use Rattle.sha2.specs.Sha256.{sha256}
 use Rattle.image_pack.specs.declared.spec.SealSpec.{SealSpec}
 use Rattle.image_pack.specs.Faults.{block_offset}
 use Rattle.image_pack.specs.Filling.{whole_sectors}
+use Rattle.image_pack.specs.Sealing.{copied_loads, load_in_place}
 use Rattle.image_pack.specs.Starts.{KeepsStart}
 use Rattle.image_pack.specs.Unsealable.{KeepsRules}
 
@@ -43,9 +47,18 @@ abbrev pub covered_of : List ℕ → Defined → List Load → List ℕ
 covered_of bytes image loads =
     covered bytes loads image.block image.def.hash_words image.def.image_word
 
+-- the offset of the LOAD_MAP item of an image in its window, and 0 where it has none
+abbrev pub map_place : Defined → ℕ
+map_place image =
+    option_map_or (λ (item : Item). image.block.at + 4 * item.first)
+    (option_and_then (slice_get (items_of image.block.items)) image.def.map_item) 0
+
 -- a window has the image of a binary that was sealed by a spec: its definition is the new block,
--- says what the spec asks for and keeps the start that the binary's own says; the covered bytes
--- begin with all bytes before the new block; and their SHA-256 is the value of its HASH_VALUE item
+-- says what the spec asks for and keeps the start that the binary's own says. Its first load is all
+-- bytes before the new block, where they are stored, and the others are those of the binary that go
+-- into SRAM, in order, as a LOAD_MAP item behind the start of the new block has them. The covered
+-- bytes begin with all bytes before the new block, and their SHA-256 is the value of its HASH_VALUE
+-- item
 pub record IsReadBack (binary : List ℕ) (spec : SealSpec) (bytes : List ℕ) : Type 0 where
   pub loop : List BlockView
   pub image : Defined
@@ -59,6 +72,11 @@ pub record IsReadBack (binary : List ℕ) (spec : SealSpec) (bytes : List ℕ) :
   pub start : (own : KeepsRules spec.cpu (whole_sectors binary))
       → KeepsStart own.image.def image.def
   pub map : map_loads in_flash (length bytes) image.block image.def ≡ Ok loads
+  pub copied : List Load
+  pub first : loads ≡ load_in_place (block_offset binary) ∷ copied
+  pub behind : block_offset binary < map_place image
+  pub kept : (own : KeepsRules spec.cpu (whole_sectors binary))
+      → copied ≡ copied_loads (map_place image) own.loads
   pub rest : List ℕ
   pub before : covered_of bytes image loads ≡ take (block_offset binary) bytes ++ rest
   pub digest : image.def.digest ≡ Some (sha256 (covered_of bytes image loads))

@@ -107,12 +107,22 @@ abbrev pub own_load : ℕ → Load → Load
 own_load at load =
     record { storage = own_storage at load.storage; runtime = load.runtime; size = load.size }
 
--- the loads of the new block, whose LOAD_MAP item stands at this offset: the first `size` bytes
--- where they are stored, and then those of the binary that go into SRAM
+-- the load of the first `size` bytes where they are stored
+abbrev pub load_in_place : ℕ → Load
+load_in_place size = record { storage = Some 0; runtime = flash_base; size = size }
+
+-- the loads that go into SRAM, in order
+abbrev pub sram_loads : List Load → List Load
+sram_loads loads = filter (λ (load : Load). in_sram load.runtime load.size) loads
+
+-- the same as the new map has them, whose item stands at this offset
+abbrev pub copied_loads : ℕ → List Load → List Load
+copied_loads at loads = map (own_load at) (sram_loads loads)
+
+-- the loads of the new block, whose LOAD_MAP item stands at this offset: the first `size` bytes,
+-- and then those of the binary that go into SRAM
 abbrev pub own_loads : ℕ → ℕ → List Load → List Load
-own_loads size at loads =
-    record { storage = Some 0; runtime = flash_base; size = size }
-    ∷ map (own_load at) (filter (λ (load : Load). in_sram load.runtime load.size) loads)
+own_loads size at loads = load_in_place size ∷ copied_loads at loads
 
 -- the first word of a relative entry: the signed offset of its storage from the LOAD_MAP item at
 -- this offset, and 0 for a clear entry

@@ -14,15 +14,16 @@ ghost use Rattle.image_pack.specs.declared.spec.SealSpec.{SealSpec};
 ghost use Rattle.image_pack.specs.Faults.{IsSealFault, IsSealed, block_offset};
 ghost use Rattle.image_pack.specs.Filling.{whole_sectors, whole_words};
 ghost use Rattle.image_pack.specs.declared.parts.Parts.{Parts};
-ghost use Rattle.image_pack.specs.Sealing.{digest_text, own_loads, parts_in, relinked, sealed_text};
+ghost use Rattle.image_pack.specs.Sealing.{digest_text, own_loads, parts_in, relinked, sealed_text, sram_loads};
 ghost use Rattle.image_pack.specs.Within.{IsWithin};
 ghost use Rattle.load_map.specs.declared.load.Load.{Load};
+ghost use Rattle.load_map.specs.Stored.{AreStoredIn};
 ghost use Rattle.block_codec.specs.Words.{word_bytes};
 ghost use Rattle.image_check.specs.declared.why.Why.{Why};
 ghost use Rattle.image_pack.specs.declared.spec.SealError.TheVariants.{Unsealable};
 ghost use Rattle.image_pack.specs.Faults.{IsRightSpec, IsSealable};
 ghost use Rattle.image_pack.specs.ReadBack.{IsHalves, IsReadBack, MeetsRollback, SaysSpec};
-ghost use Rattle.image_pack.specs.Starts.{StartsAs};
+ghost use Rattle.image_pack.specs.Starts.{StartsAs, StartsBy};
 ghost use Rattle.image_pack.specs.Unsealable.{IsUnsealable, KeepsRules};
 ghost use Rattle.block_codec.specs.declared.definition.EntryPoint.{EntryPoint};
 ghost use Rattle.pico_board.specs.declared.boot.Cpu.{Cpu};
@@ -50,11 +51,13 @@ pub fn a_sealed_image_is_valid_in_a_flash()
 
 /// In each window of a flash that has a sealed image with 0xff behind it, that is read back as the
 /// spec asks: its definition is the new block, has the spec's version, rollback version, rows and
-/// trial bit, and keeps the ENTRY_POINT of the binary's definition, or else its VECTOR_TABLE; the
-/// covered bytes begin with all bytes before the new block; and their SHA-256 is the value of the
-/// HASH_VALUE item. The record of the image there says what the spec asks for, and is not below its
-/// rows for exactly those OTPs that meet the spec's rollback rule. Where the binary's definition
-/// has an ENTRY_POINT, the image starts as that says.
+/// trial bit, and keeps the ENTRY_POINT of the binary's definition, or else its VECTOR_TABLE; its
+/// first load is all bytes before the new block, and the others are those of the binary that go
+/// into SRAM; the covered bytes begin with all bytes before the new block; and their SHA-256 is the
+/// value of the HASH_VALUE item. The record of the image there says what the spec asks for, and is not below its
+/// rows for exactly those OTPs that meet the spec's rollback rule. The image starts as the binary's
+/// definition says: by its ENTRY_POINT, and where it has none, for Arm by the vector table that its
+/// VECTOR_TABLE names, or else the one at the window's start, with the sealed image's loads.
 pub fn a_sealed_image_is_read_back()
     ensures image { (binary : List ℕ) (spec : SealSpec) → IsSealed binary spec
         → IsHalves spec.version → (f : List ℕ) → AreErased f
@@ -69,6 +72,29 @@ pub fn a_sealed_image_is_read_back()
         → IsHalves spec.version → (own : KeepsRules spec.cpu (whole_sectors binary))
         (e : EntryPoint) → own.image.def.entry_point ≡ Some e
         → (w : Window) → StartsAs e (moved_to w sealed.started) }
+    ensures start { (binary : List ℕ) (spec : SealSpec) (sealed : IsSealed binary spec)
+        → IsHalves spec.version → (own : KeepsRules spec.cpu (whole_sectors binary))
+        (f : List ℕ) → AreErased f
+        → flash_base + length (whole_sectors (sealed_text binary spec) ++ f) ≤ SRAM_START
+        → (back : IsReadBack binary spec (whole_sectors (sealed_text binary spec) ++ f))
+        (w : Window) → StartsBy spec.cpu own.image.def
+        (whole_sectors (sealed_text binary spec) ++ f) back.loads (moved_to w sealed.started) }
+{}
+
+/// Where the loads of the binary's own image are stored in the binary, filled to whole words, those
+/// that a sealed image takes over are the same, and it stores nothing past its end. The new block
+/// stands behind the binary, within the sealed image.
+pub fn a_sealed_image_stores_nothing_past_its_end()
+    ensures stored { (binary : List ℕ) (spec : SealSpec) (bytes : List ℕ)
+        (back : IsReadBack binary spec bytes) (own : KeepsRules spec.cpu (whole_sectors binary))
+        → AreStoredIn (block_offset binary) own.loads
+        → AreStoredIn (length (sealed_text binary spec)) back.loads }
+    ensures same { (binary : List ℕ) (spec : SealSpec) (bytes : List ℕ)
+        (back : IsReadBack binary spec bytes) (own : KeepsRules spec.cpu (whole_sectors binary))
+        → AreStoredIn (block_offset binary) own.loads → back.copied ≡ sram_loads own.loads }
+    ensures behind { (binary : List ℕ) → length binary ≤ block_offset binary }
+    ensures within { (binary : List ℕ) (spec : SealSpec)
+        → block_offset binary ≤ length (sealed_text binary spec) }
 {}
 
 /// A binary cannot be sealed for a reason exactly where that is the answer of the first of the

@@ -1,4 +1,4 @@
-use Rattle.image_pack.proofs.ReadBackLemmas.{is-read-back, meets-exactly, says-record, starts-as}
+use Rattle.image_pack.proofs.ReadBackLemmas.{is-read-back, meets-exactly, says-record, starts-as, starts-by}
 use Rattle.image_pack.proofs.laws.a_sealed_image_is_read_back.Goals as goal
 
 pub returns-clause-image : goal.returns-clause-image
@@ -13,3 +13,7 @@ returns-clause-not_below c = λ binary spec sealed halves otp. meets-exactly bin
 
 pub returns-clause-entry : goal.returns-clause-entry
 returns-clause-entry c = λ binary spec sealed halves own e has w. starts-as binary spec sealed halves own e has w
+
+pub returns-clause-start : goal.returns-clause-start
+returns-clause-start c = λ binary spec sealed halves own f erased below back w.
+    starts-by binary spec sealed halves f erased below own back w

@@ -16,13 +16,18 @@ use Rattle.load_map.proofs.SoundLoadLemmas.{ok_unless-Ok}
 use Rattle.image_pack.specs.Sealing.{entry_words, place_word}
 use Rattle.image_pack.proofs.SealedPartLemmas.{difference_fits}
 
--- a load of an entry of a map at this offset can be read back in a window of n bytes
+-- a storage of an entry of a map at this offset can be read back in a window of n bytes
+abbrev pub IsStorageReadable : ℕ → ℕ → Option ℕ → ℕ → Type 0
+IsStorageReadable at n None size = Unit {0}
+IsStorageReadable at n (Some x) size = (x ≢ at) × (x + size ≤ n) × (x ≤ 2 ^ 30)
+
+-- and so can the load
 abbrev pub IsReadable : ℕ → ℕ → Load → Type 0
-IsReadable at n load = (x : ℕ) × (load.storage ≡ Some x) × (x ≢ at) × (x + load.size ≤ n) × (x ≤ 2 ^ 30)
+IsReadable at n load = IsStorageReadable at n load.storage load.size
 
 module _ (base n : ℕ) (in_place : Bool) (b : BlockView) (item : Item) (at : ℕ)
     (stands : b.at + 4 * item.first ≡ at) (near : at ≤ 2 ^ 30) where
-  -- one entry
+  -- one entry with a storage
   module _ (words : List ℕ) (k x size : ℕ) (other : x ≢ at) (room : x + size ≤ n) (small : x ≤ 2 ^ 30)
       (place : slice_index words k ≡ place_word at (Some x)) (extent : slice_index words (k + 2) ≡ size) where
     back : cast_signed w32 (slice_index words k) ≡ pos x -ℤ pos at
@@ -51,20 +56,22 @@ module _ (base n : ℕ) (in_place : Bool) (b : BlockView) (item : Item) (at : �
         ∙ ap (λ t. option_map (stored_at (entry_at words k) size) (if t then Some x else None))
         (le-leb (x + size) n room)
 
-  load_is : (storage : Option ℕ) (x runtime size : ℕ) → storage ≡ Some x
-      → ◌≡◌ {A = Load} (record { storage = Some x; runtime = runtime; size = size })
-      (record { storage = storage; runtime = runtime; size = size })
-  load_is storage x runtime size is =
-      ap (λ (o : Option ℕ). record { storage = o; runtime = runtime; size = size }) (sym is)
-
-  entry-back : (load : Load) → IsReadable at n load → (words : List ℕ) (k : ℕ)
-      → slice_index words k ≡ place_word at load.storage → slice_index words (k + 1) ≡ load.runtime
-      → slice_index words (k + 2) ≡ load.size
-      → load_of (setting_of base in_place n b item) false (entry_at words k) ≡ Some load
-  entry-back load is words k place runtime size =
-      one-back words k is.0 load.size is.2 is.3 is.4 (place ∙ ap (place_word at) is.1) size
-      ∙ ap (λ m. Some (record { storage = Some (is.0); runtime = m; size = load.size })) runtime
-      ∙ ap (λ (o : Load). Some o) (load_is load.storage is.0 load.runtime load.size is.1)
+  -- one entry, also a clear one
+  stored-back : (storage : Option ℕ) (runtime size : ℕ) → IsStorageReadable at n storage size
+      → (words : List ℕ) (k : ℕ) → slice_index words k ≡ place_word at storage
+      → slice_index words (k + 1) ≡ runtime → slice_index words (k + 2) ≡ size
+      → load_of (setting_of base in_place n b item) false (entry_at words k)
+      ≡ Some (record { storage = storage; runtime = runtime; size = size })
+  stored-back None runtime size is words k place there extent =
+      ap (λ t. if t == 0
+      then Some (record { storage = None; runtime = slice_index words (k + 1); size = slice_index words (k + 2) })
+      else option_map (stored_at (entry_at words k) (slice_index words (k + 2)))
+      (offset_within n (pos (b.at + 4 * item.first) +ℤ cast_signed w32 t) (slice_index words (k + 2)))) place
+      ∙ ap (λ m. Some (record { storage = None; runtime = m; size = slice_index words (k + 2) })) there
+      ∙ ap (λ m. Some (record { storage = None; runtime = runtime; size = m })) extent
+  stored-back (Some x) runtime size is words k place there extent =
+      one-back words k x size is.0 is.1 is.2 place extent
+      ∙ ap (λ m. Some (record { storage = Some x; runtime = m; size = size })) there
 
   -- the words of the entries stand from place k on
   abbrev StandFrom : List ℕ → ℕ → List Load → Type 0
@@ -77,7 +84,8 @@ module _ (base n : ℕ) (in_place : Bool) (b : BlockView) (item : Item) (at : �
   entries-back [] all words k there = refl
   entries-back (load ∷ own) all words k there =
       let zero_more : k + 0 ≡ k = omega arith in
-      let one = entry-back load all.0 words k
+      let one : load_of (setting_of base in_place n b item) false (entry_at words k) ≡ Some load =
+      stored-back load.storage load.runtime load.size all.0 words k
       (ap (slice_index words) (sym zero_more) ∙ there 0 (omega arith)) (there 1 (omega arith))
       (there 2 (omega arith)) in
       let rest = entries-back own all.1 words (k + 3)
