@@ -1,8 +1,9 @@
 -- A binary and specs that stand as worked examples. This project's own.
-use Rattle.std.specs.Prelude.{ℕ, Bool, List, [], ◌∷◌, ◌++◌, Option, replicate, pos}
+use Rattle.std.specs.Prelude.{ℕ, Bool, false, List, [], ◌∷◌, ◌++◌, Option, None, replicate, pos}
 use Rattle.pico_board.specs.declared.boot.Cpu.{Cpu}
 use Rattle.block_codec.specs.Blocks.{BlockView, frame}
 use Rattle.block_codec.specs.Words.{bytes_of}
+use Rattle.image_def.specs.declared.started.Started.{Started}
 use Rattle.load_map.specs.declared.load.Load.{Load}
 use Rattle.image_pack.specs.declared.parts.Parts.{Parts}
 use Rattle.image_pack.specs.declared.spec.SealSpec.{SealSpec}
@@ -44,3 +45,18 @@ one_item at = record { at = at; items = 0x10210142 ∷ []; link = pos 0 }
 -- a block of these item words that stands at 0x40
 abbrev pub block_at_40 : List ℕ → BlockView
 block_at_40 items = record { at = 0x40; items = items; link = pos 0 }
+
+-- a record of an image that starts with this PC, SP and limit
+abbrev pub started_at : ℕ → ℕ → ℕ → Started
+started_at pc sp limit = record {
+  window = record { start = 0; len = 4096 };
+  block = 8;
+  image_at = 12;
+  pc = pc;
+  sp = sp;
+  limit = limit;
+  version = record { major = 0; minor = 0 };
+  rollback = None;
+  rows = record { items = [] };
+  trial = false;
+}

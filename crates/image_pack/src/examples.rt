@@ -4,10 +4,13 @@ ghost use Rattle.std.specs.Prelude.{◌≡◌, [], ◌∷◌, ◌++◌, true, fa
 ghost use Rattle.pico_board.specs.declared.boot.Cpu.TheVariants.{Arm, Riscv};
 ghost use Rattle.block_codec.specs.Blocks.{frame};
 ghost use Rattle.block_codec.specs.Words.{bytes_of};
-ghost use Rattle.image_pack.specs.Examples.{block_at_40, four_bytes, least_image, one_item, parts_at, spec_of};
+ghost use Rattle.image_def.specs.Examples.{arm_block, arm_def, full_block, full_def};
+ghost use Rattle.image_check.specs.Examples.{def_with, table_bytes};
+ghost use Rattle.image_pack.specs.Examples.{block_at_40, four_bytes, least_image, one_item, parts_at, spec_of, started_at};
 ghost use Rattle.image_pack.specs.Filling.{whole_sectors, whole_words};
-ghost use Rattle.image_pack.specs.ReadBack.{IsHalves};
-ghost use Rattle.image_pack.specs.Sealing.{copied_words, entry_words, front_items, link_offset_of, offset_of, own_loads, parts_of, sealed_text};
+ghost use Rattle.image_pack.specs.ReadBack.{IsHalves, map_place};
+ghost use Rattle.image_pack.specs.Starts.{StartsBy};
+ghost use Rattle.image_pack.specs.Sealing.{copied_loads, copied_words, entry_words, front_items, link_offset_of, offset_of, own_loads, parts_of, sealed_text};
 ghost use Rattle.image_pack.specs.Within.{IsWithin};
 
 /// The least image for Arm, sealed with version 1.9: its block links to the new one, and that back
@@ -46,6 +49,10 @@ pub fn the_loads_of_a_new_block()
     ensures at_the_item { own_loads 0x128 0x138 (four_bytes (Some 0x138) 0x20000000 ∷ [])
         ≡ record { storage = Some 0; runtime = 0x10000000; size = 0x128 }
         ∷ four_bytes None 0x20000000 ∷ [] }
+    ensures beside_the_item { copied_loads 0x138 (four_bytes (Some 0x137) 0x20000000
+        ∷ four_bytes (Some 0x139) 0x20000000 ∷ [])
+        ≡ four_bytes (Some 0x137) 0x20000000 ∷ four_bytes (Some 0x139) 0x20000000 ∷ [] }
+    ensures below_sram { copied_loads 0x138 (four_bytes (Some 0x100) 0x1fffffff ∷ []) ≡ [] }
     ensures words { entry_words 0x138 (four_bytes (Some 0x100) 0x20000000)
         ≡ 0xffffffc8 ∷ 0x20000000 ∷ 4 ∷ [] }
     ensures clear { entry_words 0x138 (four_bytes None 0x20000000)
@@ -109,4 +116,31 @@ pub fn bytes_are_filled()
     ensures whole { whole_words (1 ∷ 2 ∷ 3 ∷ 4 ∷ []) ≡ 1 ∷ 2 ∷ 3 ∷ 4 ∷ [] }
     ensures sector { whole_sectors (7 ∷ []) ≡ 7 ∷ replicate 4095 255 }
     ensures sectors { length (whole_sectors (replicate 4097 7)) ≡ 8192 }
+{}
+
+/// A LOAD_MAP item stands at its first word in the block, whose start is that of the block in the
+/// window. An image without one has its place at 0.
+#[tactic(auto, unfolding(block_codec::specs::Items::size_of))]
+pub fn places_of_load_maps()
+    ensures eleventh_word { map_place (record { block = full_block; def = full_def }) ≡ 44 }
+    ensures none { map_place (record { block = arm_block []; def = arm_def }) ≡ 0 }
+{}
+
+/// Without an ENTRY_POINT an image for Arm starts by the vector table at the window's start, or by
+/// the one that its VECTOR_TABLE names; an image for RISC-V starts at the window's start.
+pub fn starts_without_an_entry_point()
+    ensures first { StartsBy Arm (def_with None None []) table_bytes []
+        (started_at 0x10000201 0x20082000 0) }
+    ensures named { StartsBy Arm (def_with (Some 0x10000004) None [])
+        (9 ∷ 9 ∷ 9 ∷ 9 ∷ table_bytes) [] (started_at 0x10000201 0x20082000 0) }
+    ensures not_named { ¬ (StartsBy Arm (def_with None None []) (9 ∷ 9 ∷ 9 ∷ 9 ∷ table_bytes) []
+        (started_at 0x10000201 0x20082000 0)) }
+    ensures other_pc { ¬ (StartsBy Arm (def_with None None []) table_bytes []
+        (started_at 0x10000200 0x20082000 0)) }
+    ensures other_sp { ¬ (StartsBy Arm (def_with None None []) table_bytes []
+        (started_at 0x10000201 0x20081ffc 0)) }
+    ensures riscv { StartsBy Riscv (def_with None None []) table_bytes []
+        (started_at 0x10000000 0x20082000 0) }
+    ensures not_by_table { ¬ (StartsBy Riscv (def_with None None []) table_bytes []
+        (started_at 0x10000201 0x20082000 0)) }
 {}

@@ -54,10 +54,11 @@ pub fn a_sealed_image_is_valid_in_a_flash()
 /// trial bit, and keeps the ENTRY_POINT of the binary's definition, or else its VECTOR_TABLE; its
 /// first load is all bytes before the new block, and the others are those of the binary that go
 /// into SRAM; the covered bytes begin with all bytes before the new block; and their SHA-256 is the
-/// value of the HASH_VALUE item. The record of the image there says what the spec asks for, and is not below its
-/// rows for exactly those OTPs that meet the spec's rollback rule. The image starts as the binary's
-/// definition says: by its ENTRY_POINT, and where it has none, for Arm by the vector table that its
-/// VECTOR_TABLE names, or else the one at the window's start, with the sealed image's loads.
+/// value of the HASH_VALUE item. The record of the image there says what the spec asks for, and is
+/// not below its rows for exactly those OTPs that meet the spec's rollback rule. The image starts
+/// as the binary's definition says: by its ENTRY_POINT, and where it has none, for Arm by the
+/// vector table that its VECTOR_TABLE names, or else the one at the window's start, with the sealed
+/// image's loads.
 pub fn a_sealed_image_is_read_back()
     ensures image { (binary : List ℕ) (spec : SealSpec) → IsSealed binary spec
         → IsHalves spec.version → (f : List ℕ) → AreErased f
