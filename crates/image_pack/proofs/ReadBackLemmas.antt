@@ -107,19 +107,24 @@ sectors-more : (n m : ℕ) → n ≤ m → round_up 4096 n ≤ round_up 4096 m
 sectors-more n m le = omega (arith, le)
 
 -- a window has one definition, with one list of loads
-one-loads : (cpu : Cpu) (bytes : List ℕ) (loop other : List BlockView) (image another : Defined)
+one-ok : {A F : Type 0} (r : Result A F) (x y : A) → r ≡ Ok x → r ≡ Ok y → x ≡ y
+one-ok r x y a b = cc
+
+pub one-image : (cpu : Cpu) (bytes : List ℕ) (loop other : List BlockView) (image another : Defined)
+    → IsDefined cpu bytes loop image → IsDefined cpu bytes other another → image ≡ another
+one-image cpu bytes loop other image another one two =
+    one-ok (defined_in cpu bytes) image another (defined-ok cpu bytes loop image one)
+    (defined-ok cpu bytes other another two)
+
+pub one-loads : (cpu : Cpu) (bytes : List ℕ) (loop other : List BlockView) (image another : Defined)
     (loads more : List Load) → IsDefined cpu bytes loop image → IsDefined cpu bytes other another
     → map_loads in_flash (length bytes) image.block image.def ≡ Ok loads
     → map_loads in_flash (length bytes) another.block another.def ≡ Ok more → loads ≡ more
 one-loads cpu bytes loop other image another loads more one two mapped again =
-    let same : image ≡ another =
-    one-ok (defined_in cpu bytes) image another (defined-ok cpu bytes loop image one)
-    (defined-ok cpu bytes other another two) in
     one-ok (map_loads in_flash (length bytes) another.block another.def) loads more
-    (subst (λ (i : Defined). map_loads in_flash (length bytes) i.block i.def ≡ Ok loads) same mapped) again
-  where
-    one-ok : {A F : Type 0} (r : Result A F) (x y : A) → r ≡ Ok x → r ≡ Ok y → x ≡ y
-    one-ok r x y a b = cc
+    (subst (λ (i : Defined). map_loads in_flash (length bytes) i.block i.def ≡ Ok loads)
+    (one-image cpu bytes loop other image another one two) mapped)
+    again
 
 -- where a start comes from, by a definition that keeps another's
 source-kept : (base : ℕ) (bytes : List ℕ) (cpu : Cpu) (def mine : Def) (loads : List Load) (o : Option EntryPoint)

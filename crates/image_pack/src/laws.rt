@@ -4,11 +4,15 @@ ghost use Rattle.std.specs.Prelude.{◌≡◌, ◌⊎◌, ◌↔◌, ℕ, ◌+�
 ghost use Rattle.pico_board.specs.declared.window.TheConstants.{MOST_FLASH_BYTES};
 ghost use Rattle.pico_board.specs.declared.window.Window.{Window};
 ghost use Rattle.pico_board.specs.Content.{Content, flash_base, window_bytes};
+ghost use Rattle.block_codec.specs.Blocks.{BlockView};
 ghost use Rattle.block_codec.specs.Erased.{AreErased};
 ghost use Rattle.load_map.specs.declared.addresses.TheConstants.{SRAM_START};
 ghost use Rattle.image_check.specs.Changes.{moved_to};
 ghost use Rattle.image_check.specs.NotBelow.{NotBelow};
-ghost use Rattle.image_check.specs.Valid.{Valid};
+ghost use Rattle.image_check.specs.declared.examining.Defined.{Defined};
+ghost use Rattle.image_check.specs.Addressing.{in_flash};
+ghost use Rattle.image_check.specs.Rules.{map_loads};
+ghost use Rattle.image_check.specs.Valid.{IsDefined, Valid};
 ghost use Rattle.image_pack.specs.declared.spec.SealError.{SealError};
 ghost use Rattle.image_pack.specs.declared.spec.SealSpec.{SealSpec};
 ghost use Rattle.image_pack.specs.Faults.{IsSealFault, IsSealed, block_offset};
@@ -58,7 +62,7 @@ pub fn a_sealed_image_is_valid_in_a_flash()
 /// not below its rows for exactly those OTPs that meet the spec's rollback rule. The image starts
 /// as the binary's definition says: by its ENTRY_POINT, and where it has none, for Arm by the
 /// vector table that its VECTOR_TABLE names, or else the one at the window's start, with the sealed
-/// image's loads.
+/// image's loads. The window has no other definition, and that has no other loads.
 pub fn a_sealed_image_is_read_back()
     ensures image { (binary : List ℕ) (spec : SealSpec) → IsSealed binary spec
         → IsHalves spec.version → (f : List ℕ) → AreErased f
@@ -80,6 +84,11 @@ pub fn a_sealed_image_is_read_back()
         → (back : IsReadBack binary spec (whole_sectors (sealed_text binary spec) ++ f))
         (w : Window) → StartsBy spec.cpu own.image.def
         (whole_sectors (sealed_text binary spec) ++ f) back.loads (moved_to w sealed.started) }
+    ensures only { (binary : List ℕ) (spec : SealSpec) (bytes : List ℕ)
+        (back : IsReadBack binary spec bytes) (loop : List BlockView) (image : Defined)
+        (loads : List Load) → IsDefined spec.cpu bytes loop image
+        → map_loads in_flash (length bytes) image.block image.def ≡ Ok loads
+        → (image ≡ back.image) × (loads ≡ back.loads) }
 {}
 
 /// Where the loads of the binary's own image are stored in the binary, filled to whole words, those

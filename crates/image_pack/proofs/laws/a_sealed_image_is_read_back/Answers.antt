@@ -1,4 +1,4 @@
-use Rattle.image_pack.proofs.ReadBackLemmas.{is-read-back, meets-exactly, says-record, starts-as, starts-by}
+use Rattle.image_pack.proofs.ReadBackLemmas.{is-read-back, meets-exactly, one-image, one-loads, says-record, starts-as, starts-by}
 use Rattle.image_pack.proofs.laws.a_sealed_image_is_read_back.Goals as goal
 
 pub returns-clause-image : goal.returns-clause-image
@@ -17,3 +17,9 @@ returns-clause-entry c = λ binary spec sealed halves own e has w. starts-as bin
 pub returns-clause-start : goal.returns-clause-start
 returns-clause-start c = λ binary spec sealed halves own f erased below back w.
     starts-by binary spec sealed halves f erased below own back w
+
+pub returns-clause-only : goal.returns-clause-only
+returns-clause-only c = λ binary spec bytes back loop image loads defined mapped. (
+  one-image spec.cpu bytes loop back.loop image back.image defined back.defined,
+  one-loads spec.cpu bytes loop back.loop image back.image loads back.loads defined back.defined mapped back.map,
+)
