@@ -1,0 +1,193 @@
+-- Lines and comments have no line feed.
+use Rattle.std.proofs.Common.{◌≡◌, ℕ, zero, suc, ◌+◌, ◌-◌, ◌/◌, ◌%◌, ◌^◌, ◌<◌, ◌≤◌, ◌==◌, Bool, true, false, cond, List, [], ◌∷◌, ◌++◌, length, replicate, refl, sym, ap, ◌∙◌, arith, append-nil, inl, inr, decimal}
+use Rattle.std.specs.Prelude.{Result, Ok, Err, IfSome, if◌then◌else◌, ◌&&◌, ◌||◌, codes, drop, slice_index}
+use Rattle.std.specs.Fmt.{digits, digits_onto, digit_glyph, padded_integral, char_count, format_spec}
+use Rattle.std.proofs.lemmas.Bool.{cases_eq, cases_lt, eq-eqb, ne_eqb, lt-ltb, le-ltb}
+use Rattle.byteorder.specs.Endian.{big_bytes}
+use Rattle.hex.specs.Hex.{IsBytes, encode_lower}
+use Rattle.pico_board.specs.declared.boot.BootKind.{BootKind}
+use Rattle.pico_board.specs.declared.boot.BootKind.TheVariants.{Normal, Bootsel, Update}
+use Rattle.boot_script.specs.Events.{Happening, End, Command, Uf2, Cut, PowerOn, Reset, Buy}
+use Rattle.script_text.specs.Lines.{IsEvent, hex_word, line_of, payload_text, reset_text}
+use Rattle.byteorder.specs.Endian.{little_number}
+use Rattle.picoboot_cmd.specs.declared.cmd.Cmd.{Cmd}
+use Rattle.picoboot_cmd.specs.declared.cmd.CmdFault.TheVariants as cmd_fault
+use Rattle.picoboot_cmd.specs.declared.kinds.TheConstants.{EXCLUSIVE, ERASE, READ, WRITE, EXIT_XIP, ENTER_XIP, MAGIC, REBOOT, OTP_READ, OTP_WRITE}
+use Rattle.picoboot_cmd.specs.Arguments.{address, size, reboot_flags, reboot_p0, reboot_p1, first_row, row_count, ecc}
+use Rattle.picoboot_cmd.specs.Commands.{fields_of}
+use Rattle.info_reply.specs.declared.kinds.TheConstants.{INFO, INFO_SIZE, TABLE, TARGET, DEVICE, PARTITION}
+use Rattle.uf2_place.specs.declared.block.Uf2.{Uf2 as Block}
+use Rattle.uf2_place.specs.declared.block.Uf2Fault.{Uf2Fault}
+use Rattle.uf2_place.specs.declared.block.Uf2Fault.TheVariants.{Magic, Payload, Alignment, Number}
+use Rattle.uf2_place.specs.Blocks.{uf2_of}
+use Rattle.script_text.specs.Comments.{action_text, command_text, hex_byte, hex_row, info_text, note_of, read_command_text, read_uf2_text, reboot_text, rows_text, span_text, uf2_text}
+use Rattle.script_text.specs.Listing.{comment_text}
+use Rattle.script_text.proofs.MarkLemmas.{free-append, is_free, is_other}
+use Rattle.script_text.proofs.WordLemmas.{big-small, free-encode, one-byte}
+
+glyph-high : (d : ℕ) → 48 ≤ digit_glyph false d
+glyph-high d = elim (cases_lt d 10) [
+  | inl low ↦ rw (lt-ltb d 10 low) (omega arith)
+  | inr high ↦ rw (le-ltb d 10 high) (omega arith)
+]
+
+glyph-other : (d : ℕ) → is_other 10 (digit_glyph false d) ≡ true
+glyph-other d = let high = glyph-high d in rw (ne_eqb (digit_glyph false d) 10 (omega arith)) refl
+
+free-if : (b : Bool) (x y : List ℕ) → is_free 10 x ≡ true → is_free 10 y ≡ true
+    → is_free 10 (if b then x else y) ≡ true
+free-if true x y first second = first
+free-if false x y first second = second
+
+free-glyph : (d : ℕ) (acc : List ℕ) → is_free 10 acc ≡ true → is_free 10 (digit_glyph false d ∷ acc) ≡ true
+free-glyph d acc free = rw (glyph-other d) free
+
+onto-free : (fuel base n : ℕ) (acc : List ℕ) → is_free 10 acc ≡ true
+    → is_free 10 (digits_onto fuel base false n acc) ≡ true
+onto-free zero base n acc free = free
+onto-free (suc fuel) base n acc free =
+    let more = free-glyph (n % base) acc free in
+    free-if (n / base == 0) (digit_glyph false (n % base) ∷ acc)
+    (digits_onto fuel base false (n / base) (digit_glyph false (n % base) ∷ acc)) more
+    (onto-free fuel base (n / base) (digit_glyph false (n % base) ∷ acc) more)
+
+digits_fuel : (base n : ℕ) → digits base false n ≡ digits_onto 64 base false n []
+unfolding digits
+digits_fuel base n = refl
+
+digits-free : (base n : ℕ) → is_free 10 (digits base false n) ≡ true
+digits-free base n = ap (λ ds. is_free 10 ds) (digits_fuel base n) ∙ onto-free 64 base n [] refl
+
+free-decimal : (n : ℕ) → is_free 10 (decimal n) ≡ true
+free-decimal n = digits-free 10 n
+
+free-zeros : (k : ℕ) → is_free 10 (replicate k 48) ≡ true
+free-zeros zero = refl
+free-zeros (suc k) = free-zeros k
+
+-- padding as `{:03x}` does it
+padded-filled : (width : ℕ) (ds : List ℕ)
+    → padded_integral (format_spec 32 0 4 width (2 ^ 64 - 1)) false [] ds ≡ replicate (width - length ds) 48 ++ ds
+unfolding padded_integral char_count
+padded-filled width ds =
+    let zeros : width - length ds - 0 - 0 ≡ width - length ds = omega arith in
+    rw (zeros, append-nil ds) refl
+
+free-padded : (width : ℕ) (ds : List ℕ) → is_free 10 ds ≡ true
+    → is_free 10 (padded_integral (format_spec 32 0 4 width (2 ^ 64 - 1)) false [] ds) ≡ true
+free-padded width ds free =
+    ap (λ t. is_free 10 t) (padded-filled width ds)
+    ∙ free-append 10 (replicate (width - length ds) 48) ds (free-zeros (width - length ds)) free
+
+free-word : (n : ℕ) → is_free 10 (hex_word n) ≡ true
+unfolding hex_word
+free-word n = free-encode (big_bytes 4 n) (big-small 4 n)
+
+-- ---- lines
+
+free-payload : (payload : List ℕ) → IsBytes payload → is_free 10 (payload_text payload) ≡ true
+free-payload [] are = refl
+free-payload (b ∷ payload) are = free-encode (b ∷ payload) are
+
+free-reset : (kind : BootKind) → is_free 10 (reset_text kind) ≡ true
+free-reset Normal = refl
+free-reset Bootsel = refl
+free-reset (Update base) = free-word base
+
+pub free-line : (e : Happening) → IsEvent e → is_free 10 (line_of e) ≡ true
+free-line End event = refl
+free-line (Command command payload) event =
+    free-append 10 (encode_lower command) (payload_text payload) (free-encode command event.bytes.0)
+    (free-payload payload event.bytes.1)
+free-line (Uf2 block) event = free-encode block event.bytes
+free-line (Cut left false pattern) event = free-append 10 (decimal left) (codes " before") (free-decimal left) refl
+free-line (Cut left true pattern) event =
+    free-append 10 (decimal left) (codes " within " ++ encode_lower pattern) (free-decimal left)
+    (free-encode pattern event.bytes)
+free-line PowerOn event = refl
+free-line (Reset kind) event = free-reset kind
+free-line Buy event = refl
+
+-- ---- comments
+
+-- a byte as two digits: past 255 the first of them is none, and no line feed
+free-byte : (n : ℕ) → n < 256 → is_free 10 (hex_byte n) ≡ true
+free-byte n small = free-encode (n ∷ []) (one-byte n small)
+
+free-span : (start size : ℕ) → is_free 10 (span_text start size) ≡ true
+free-span start size =
+    free-append 10 (hex_word start) (codes "+" ++ hex_word size) (free-word start) (free-word size)
+
+free-row : (n : ℕ) → is_free 10 (hex_row n) ≡ true
+free-row n = free-padded 3 (digits 16 false n) (digits-free 16 n)
+
+free-rows : (cmd : Cmd) → is_free 10 (rows_text cmd) ≡ true
+free-rows cmd =
+    free-append 10 (hex_row (first_row cmd)) _ (free-row (first_row cmd))
+    (free-append 10 (decimal (row_count cmd)) _ (free-decimal (row_count cmd)) (free-decimal (ecc cmd)))
+
+free-reboot : (cmd : Cmd) → is_free 10 (reboot_text cmd) ≡ true
+free-reboot cmd =
+    free-if (reboot_flags cmd == 0 || reboot_flags cmd == 0x100) _ _ refl
+    (free-if (reboot_flags cmd == 2 || reboot_flags cmd == 0x102) _ _ refl
+    (free-if (reboot_flags cmd == 4 || reboot_flags cmd == 0x104) _ _ (free-word (reboot_p0 cmd))
+    (free-if (reboot_flags cmd == 3 || reboot_flags cmd == 0x103) _ _ (free-span (reboot_p0 cmd) (reboot_p1 cmd))
+    (free-word (reboot_flags cmd)))))
+
+free-info : (kind argument : ℕ) → is_free 10 (info_text kind argument) ≡ true
+free-info kind argument =
+    free-if (kind == TABLE) _ _ refl
+    (free-if (kind == TARGET) _ _ (free-word argument)
+    (free-if (kind == DEVICE) _ _ refl
+    (free-if (kind == PARTITION) _ _ (free-decimal argument) (free-decimal kind))))
+
+free-action : (cmd : Cmd) → cmd.id < 256 → is_free 10 (action_text cmd) ≡ true
+free-action cmd small =
+    free-if (cmd.id == EXCLUSIVE && cmd.arg_size == 1) _ _ (free-decimal (slice_index cmd.args 0))
+    (free-if (cmd.id == ERASE && cmd.arg_size == 8) _ _ (free-span (address cmd) (size cmd))
+    (free-if (cmd.id == READ && cmd.arg_size == 8) _ _ (free-span (address cmd) (size cmd))
+    (free-if (cmd.id == WRITE && cmd.arg_size == 8) _ _ (free-span (address cmd) (size cmd))
+    (free-if (cmd.id == EXIT_XIP && cmd.arg_size == 0) _ _ refl
+    (free-if (cmd.id == ENTER_XIP && cmd.arg_size == 0) _ _ refl
+    (free-if (cmd.id == REBOOT && cmd.arg_size == 16) _ _ (free-reboot cmd)
+    (free-if (cmd.id == OTP_READ && cmd.arg_size == 5) _ _ (free-rows cmd)
+    (free-if (cmd.id == OTP_WRITE && cmd.arg_size == 5) _ _ (free-rows cmd)
+    (free-if (cmd.id == INFO && cmd.arg_size == INFO_SIZE) _ _
+    (free-info (slice_index cmd.args 0) (little_number 4 (drop 4 cmd.args)))
+    (free-byte cmd.id small))))))))))
+
+free-command : (command : List ℕ) → IsBytes command → is_free 10 (command_text command) ≡ true
+unfolding command_text
+free-command command are = by_magic (little_number 4 command == MAGIC)
+  where
+    by_magic : (t : Bool) → is_free 10 (read_command_text (if t then Ok (fields_of command) else Err cmd_fault.Magic)) ≡ true
+    by_magic true =
+        free-append 10 (action_text (fields_of command)) (codes " token=" ++ hex_word (fields_of command).token)
+        (free-action (fields_of command) (are 8)) (free-word (fields_of command).token)
+    by_magic false = refl
+
+free-block : (r : Result Block Uf2Fault) → is_free 10 (read_uf2_text r) ≡ true
+free-block (Ok block) =
+    free-append 10 (decimal block.number) _ (free-decimal block.number)
+    (free-append 10 (decimal block.count) _ (free-decimal block.count)
+    (free-append 10 (hex_word block.address) _ (free-word block.address) (free-word block.family)))
+free-block (Err Magic) = refl
+free-block (Err Payload) = refl
+free-block (Err Alignment) = refl
+free-block (Err Number) = refl
+
+free-uf2 : (block : List ℕ) → is_free 10 (uf2_text block) ≡ true
+unfolding uf2_text
+free-uf2 block = free-block (uf2_of block)
+
+pub free-comment : (n : ℕ) (note : List ℕ) → is_free 10 note ≡ true → is_free 10 (comment_text n note) ≡ true
+free-comment n note free = free-append 10 (decimal n) (codes " " ++ note) (free-decimal n) free
+
+pub free-note : (e : Happening) → IsEvent e → IfSome (note_of e) (λ note. is_free 10 note ≡ true)
+free-note End event = tt
+free-note (Command command payload) event = free-command command event.bytes.0
+free-note (Uf2 block) event = free-uf2 block
+free-note (Cut left within pattern) event = tt
+free-note PowerOn event = tt
+free-note (Reset kind) event = tt
+free-note Buy event = tt
