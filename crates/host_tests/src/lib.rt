@@ -13,3 +13,5 @@ mod infos;
 mod scripts;
 #[cfg(test)]
 mod tables;
+#[cfg(test)]
+mod texts;

@@ -66,7 +66,7 @@ free-zeros zero = refl
 free-zeros (suc k) = free-zeros k
 
 -- padding as `{:03x}` does it
-padded-filled : (width : ℕ) (ds : List ℕ)
+pub padded-filled : (width : ℕ) (ds : List ℕ)
     → padded_integral (format_spec 32 0 4 width (2 ^ 64 - 1)) false [] ds ≡ replicate (width - length ds) 48 ++ ds
 unfolding padded_integral char_count
 padded-filled width ds =

@@ -10,5 +10,6 @@ pub mod OptionLemmas
 pub mod ProgressLemmas
 pub mod ReadLemmas
 pub mod RecordLemmas
+pub mod SizeLemmas
 pub mod TextLemmas
 pub mod WordLemmas

@@ -1,13 +1,16 @@
 -- The script of a text that was read.
-use Rattle.std.proofs.Common.{◌≡◌, ℕ, ◌+◌, ◌^◌, ◌<◌, List, [], ◌∷◌, ◌++◌, length, refl, sym, ap, ◌∙◌, arith, append-nil}
+use Rattle.std.proofs.Common.{◌≡◌, ℕ, ◌+◌, ◌^◌, ◌<◌, List, [], ◌∷◌, ◌++◌, length, refl, sym, ap, ◌∙◌, subst, arith, append-nil, ◌≤◌, inl, inr}
 use Rattle.std.specs.Prelude.{Result, Ok, Err}
-use Rattle.std.specs.List.{flat_map}
+use Rattle.std.specs.List.{AllByRecursion, flat_map}
 use Rattle.boot_script.specs.Events.{Happening, End}
 use Rattle.boot_script.specs.Written.{written}
+use Rattle.boot_script.specs.Scripts.{IsInside, events}
+use Rattle.boot_script.proofs.FollowingLemmas.{whole-script}
 use Rattle.script_text.specs.declared.script.TextError.{TextError}
+use Rattle.script_text.specs.declared.script.TheConstants.{SCRIPT_LIMIT}
 use Rattle.script_text.specs.declared.script.TextScript.{TextScript}
 use Rattle.script_text.specs.Reading.{Adds, lines_of, read_behind, read_lines, script_of, text_events}
-use Rattle.script_text.specs.Meaning.{IsFault, IsScriptOf}
+use Rattle.script_text.specs.Meaning.{AreRecords, IsFault, IsScriptOf}
 use Rattle.script_text.proofs.MeaningLemmas.{text-fails, text-means}
 
 -- nothing was added to a script
@@ -33,3 +36,21 @@ whole-text a b c text es empty small first read last = record {
       ∙ ap (λ bs. bs ++ written End) (first.bytes ∙ ap (λ bs. bs ++ flat_map written es) empty.bytes);
   records = omega (arith, first.records, last.records, empty.records);
 }
+
+records-inside : (lines : List (List ℕ)) (es : List Happening) → AreRecords lines es
+    → AllByRecursion IsInside es
+records-inside [] es none = subst (λ (xs : List Happening). AllByRecursion IsInside xs) (sym none) tt
+records-inside (line ∷ lines) es (inl (passed, records)) = records-inside lines es records
+records-inside (line ∷ lines) es (inr (e, others, record_is, inside, all, records)) =
+    subst (λ (xs : List Happening). AllByRecursion IsInside xs) (sym all)
+    (record { well = record_is.event.well; more = inside }, records-inside lines others records)
+
+-- what is read of a text is a script with these events
+pub script-read : (text : List ℕ) (s : TextScript) (script : IsScriptOf text s)
+    → events s.bytes.items ≡ Ok script.es
+script-read text s script =
+    ap events (script.bytes ∙ ap (λ bs. flat_map written script.es ++ bs) (sym (append-nil (written End))))
+    ∙ whole-script script.es [] (records-inside script.text_is.front script.es script.text_is.records)
+
+pub script-short : (text : List ℕ) (s : TextScript) → IsScriptOf text s → length s.bytes.items ≤ SCRIPT_LIMIT
+script-short text s script = omega (arith, ap length script.bytes, script.text_is.within.short)

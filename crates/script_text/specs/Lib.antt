@@ -6,3 +6,4 @@ pub mod Records
 pub mod Reading
 pub mod Meaning
 pub mod Putting
+pub mod Examples

@@ -48,3 +48,9 @@ pub fn comments_are_put_in()
     ensures { (lines : List (List ℕ)) (es : List Happening) → AllByRecursion IsRecordLine lines
         → text_events (spelled lines) ≡ Ok es → listed es ≡ with_comments 0 lines es }
 {}
+
+/// The text of events within a script's limits is no longer than a text may be.
+pub fn listed_texts_are_short()
+    ensures { (es : List Happening) → AllByRecursion IsInside es → AllByRecursion HasBytes es
+        → IsWithin es → length (listed es) ≤ TEXT_LIMIT }
+{}

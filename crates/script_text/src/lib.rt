@@ -4,6 +4,7 @@
 #![tactic(auto)]
 
 mod comments;
+pub mod examples;
 pub mod laws;
 mod lines;
 mod listing;

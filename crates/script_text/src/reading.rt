@@ -2,7 +2,8 @@
 
 ghost use Rattle.std.specs.Prelude.{◌≡◌, ◌≢◌, ◌+◌, ◌^◌, ◌<◌, ◌≤◌, ℕ, List, [], ◌∷◌, Result, Err, IfErr, IfOk, Ok, OnOk, false, length, true};
 ghost use Rattle.boot_script.specs.Events.{End, Happening, event_from};
-ghost use Rattle.script_text.specs.declared.script.TheConstants.{TEXT_LIMIT};
+ghost use Rattle.boot_script.specs.Scripts.{events};
+ghost use Rattle.script_text.specs.declared.script.TheConstants.{SCRIPT_LIMIT, TEXT_LIMIT};
 ghost use Rattle.script_text.specs.declared.script.TextError.{TextError};
 ghost use Rattle.script_text.specs.Meaning.{IsFault, IsScriptOf};
 ghost use Rattle.script_text.specs.Reading.{Adds, HasPattern, HasRoom, IsAdded, add_event, lines_of, read_behind, with_events};
@@ -115,6 +116,9 @@ fn add_end(alloc: Global, script: &mut TextScript) -> Result<(), AllocError>
 pub fn read_text(alloc: Global, text: &[u8]) -> Result<TextScript, TextError>
     requires { length text.now ≤ TEXT_LIMIT }
     ensures ok { IfOk result (IsScriptOf text.now) }
+    ensures events { IfOk result (λ script.
+        (es : List Happening) × (events script.bytes.items ≡ Ok es)) }
+    ensures short { IfOk result (λ script. length script.bytes.items ≤ SCRIPT_LIMIT) }
     ensures err { IfErr result (λ fault. fault ≢ TextError.Memory → IsFault text.now fault) }
 {
     let mut script = TextScript {

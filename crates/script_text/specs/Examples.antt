@@ -1,0 +1,42 @@
+-- What the worked examples speak of. This project's own.
+use Rattle.std.specs.Prelude.{ℕ, ◌+◌, List, [], ◌∷◌, ◌++◌, replicate, Result, Ok, length}
+use Rattle.byteorder.specs.Endian.{little_bytes}
+use Rattle.picoboot_cmd.specs.Commands as commands
+use Rattle.picoboot_cmd.specs.Examples.{command}
+use Rattle.info_reply.specs.declared.kinds.TheConstants.{INFO}
+use Rattle.uf2_place.specs.declared.block.TheConstants.{SECOND, END}
+use Rattle.boot_script.specs.Events.{Happening, Buy}
+use Rattle.boot_script.specs.Written.{written}
+use Rattle.script_text.specs.declared.script.TextError.{TextError}
+use Rattle.script_text.specs.Comments.{command_text, uf2_text}
+use Rattle.script_text.specs.Reading.{add_event}
+
+-- the comment of a command with token 1
+abbrev pub note : ℕ → ℕ → List ℕ → List ℕ
+note id arg_size args = command_text (commands.written (command id arg_size 0 args))
+
+-- the comment of an info command
+abbrev pub info_note : ℕ → ℕ → List ℕ
+info_note kind argument = note INFO 16 (kind ∷ 0 ∷ 0 ∷ 0 ∷ (little_bytes 4 argument ++ replicate 8 0))
+
+-- the comment of a reboot
+abbrev pub reboot_note : ℕ → List ℕ
+reboot_note flags =
+    note 0x0a 16 (little_bytes 4 flags ++ (little_bytes 4 0 ++ (little_bytes 4 0x20000000 ++ little_bytes 4 0x1c)))
+
+-- the comment of a UF2 block with a page of zeros
+abbrev pub block_note : ℕ → ℕ → ℕ → ℕ → ℕ → List ℕ
+block_note magic payload address number count = uf2_text (
+    little_bytes 4 magic
+    ++ (little_bytes 4 SECOND
+    ++ (little_bytes 4 0x2000
+    ++ (little_bytes 4 address
+    ++ (little_bytes 4 payload
+    ++ (little_bytes 4 number
+    ++ (little_bytes 4 count ++ (little_bytes 4 0xe48bff59 ++ (replicate 476 0 ++ little_bytes 4 END))))))))
+    )
+
+-- what is read of a buy, which has one byte, behind so many records with so many bytes, where no
+-- line follows
+abbrev pub buy_behind : ℕ → ℕ → Result (List Happening) TextError
+buy_behind count size = add_event count size Buy (Ok [])
