@@ -1,17 +1,16 @@
 -- A text of events is read as these events, and a text with a fault has no other.
-use Rattle.std.proofs.Common.{◌≡◌, ℕ, suc, ◌+◌, ◌^◌, ◌<◌, ◌≤◌, Bool, true, false, List, [], ◌∷◌, ◌++◌, length, Option, Some, None, refl, sym, ap, subst, ◌∙◌, arith, append_assoc, append-nil, length-append, inl, inr, ◌⊎◌}
+use Rattle.std.proofs.Common.{◌≡◌, ℕ, ◌+◌, ◌^◌, ◌<◌, ◌≤◌, Bool, true, false, List, [], ◌∷◌, ◌++◌, length, Option, Some, None, refl, sym, ap, subst, ◌∙◌, arith, append-nil, length-append, inl, inr}
 use Rattle.std.specs.Prelude.{Result, Ok, Err, nat_lt}
 use Rattle.std.specs.List.{AllByRecursion, flat_map}
 use Rattle.std.proofs.lemmas.Bool.{lt-ltb, le-leb, le-ltb, lt-leb}
 use Rattle.boot_script.specs.Events.{Happening, End, Command, Uf2, Cut, PowerOn, Reset, Buy}
 use Rattle.boot_script.specs.Written.{written}
-use Rattle.boot_script.specs.Scripts.{is_end}
 use Rattle.script_text.specs.declared.script.TextError.{TextError}
 use Rattle.script_text.specs.declared.script.TextError.TheVariants.{Line, TooMany, TooLong, Memory}
 use Rattle.script_text.specs.declared.script.TheConstants.{MOST_RECORDS, SCRIPT_LIMIT}
-use Rattle.script_text.specs.Lines.{IsEvent, IsRecord, line_of}
+use Rattle.script_text.specs.Lines.{IsRecord, line_of}
 use Rattle.script_text.specs.Records.{record_in}
-use Rattle.script_text.specs.Reading.{add_event, is_passed, lines_of, read_lines, script_of, text_events, with_events}
+use Rattle.script_text.specs.Reading.{add_event, is_passed, lines_of, read_lines, text_events, with_events}
 use Rattle.script_text.specs.Meaning.{AreRecords, EndsAt, IsFault, IsLineFault, IsPassed, IsText, IsWithin}
 use Rattle.script_text.proofs.ReadLemmas.{read-passed, read-wrong, read-end, read-event, with-more, with-none}
 use Rattle.script_text.proofs.RecordLemmas.{record-of}

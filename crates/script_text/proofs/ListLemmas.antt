@@ -1,9 +1,8 @@
 -- The text of a script so far, event by event.
-use Rattle.std.proofs.Common.{◌≡◌, ℕ, ◌+◌, ◌≤◌, true, false, List, [], ◌∷◌, ◌++◌, length, refl, sym, ap, ◌∙◌, arith, append_assoc}
+use Rattle.std.proofs.Common.{◌≡◌, ℕ, ◌+◌, true, false, List, [], ◌∷◌, ◌++◌, refl, sym, ap, ◌∙◌, append_assoc}
 use Rattle.std.specs.Prelude.{Result, Ok, Err}
 use Rattle.boot_script.specs.declared.event.ScriptFault.{ScriptFault}
 use Rattle.boot_script.specs.Events.{Happening, End}
-use Rattle.boot_script.specs.Written.{written}
 use Rattle.boot_script.specs.Reading.{event_at}
 use Rattle.boot_script.specs.Scripts.{behind, events, events_from, is_end}
 use Rattle.boot_script.proofs.SpelledLemmas.{read-at, fault-at}

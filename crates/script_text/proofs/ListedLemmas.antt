@@ -1,5 +1,5 @@
 -- The text of events is read back, and a text of records has its comments put in.
-use Rattle.std.proofs.Common.{◌≡◌, ℕ, zero, suc, ◌+◌, ◌^◌, ◌<◌, ◌≤◌, ◌==◌, Bool, true, false, List, [], ◌∷◌, ◌++◌, length, Option, Some, None, refl, sym, ap, subst, ◌∙◌, arith, append_assoc, append-nil, length-append, inl, inr}
+use Rattle.std.proofs.Common.{◌≡◌, ℕ, zero, suc, ◌+◌, ◌<◌, ◌≤◌, Bool, true, false, List, [], ◌∷◌, ◌++◌, length, Option, Some, None, refl, sym, ap, subst, ◌∙◌, arith, append_assoc, length-append}
 use Rattle.std.specs.Prelude.{Result, Ok, Err, IfSome, if◌then◌else◌, nat_le, nat_lt}
 use Rattle.std.specs.List.{AllByRecursion, flat_map}
 use Rattle.std.proofs.lemmas.Bool.{and_parts}
@@ -11,10 +11,10 @@ use Rattle.boot_script.specs.Scripts.{IsInside, is_end}
 use Rattle.script_text.specs.declared.script.TextError.{TextError}
 use Rattle.script_text.specs.declared.script.TextError.TheVariants.{TooMany, TooLong}
 use Rattle.script_text.specs.declared.script.TheConstants.{MOST_RECORDS, SCRIPT_LIMIT}
-use Rattle.script_text.specs.Lines.{HasBytes, IsEvent, IsRecord, line_of}
+use Rattle.script_text.specs.Lines.{HasBytes, IsEvent, line_of}
 use Rattle.script_text.specs.Comments.{note_of}
-use Rattle.script_text.specs.Listing.{comment_line, comment_of, comment_text, event_lines, fed, listed, listed_from}
-use Rattle.script_text.specs.Reading.{add_event, in_first, is_passed, lines_of, read_lines, script_of, text_events, with_events}
+use Rattle.script_text.specs.Listing.{comment_line, comment_of, comment_text, fed, listed, listed_from}
+use Rattle.script_text.specs.Reading.{add_event, lines_of, read_lines, text_events, with_events}
 use Rattle.script_text.specs.Meaning.{IsWithin}
 use Rattle.script_text.specs.Putting.{IsRecordLine, spelled, with_comments}
 use Rattle.script_text.proofs.MarkLemmas.{is_free, is_other, other-ne}

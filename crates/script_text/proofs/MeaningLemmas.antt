@@ -1,8 +1,8 @@
 -- What is read of lines is what they mean, and their fault is the first.
-use Rattle.std.proofs.Common.{◌≡◌, ℕ, suc, ◌+◌, ◌^◌, ◌<◌, ◌≤◌, ◌==◌, Bool, true, false, List, [], ◌∷◌, ◌++◌, length, Option, Some, None, refl, sym, ap, subst, ◌∙◌, arith, append_assoc, append-nil, length-append, inl, inr, ◌⊎◌}
+use Rattle.std.proofs.Common.{◌≡◌, ℕ, suc, ◌+◌, ◌^◌, ◌<◌, ◌≤◌, Bool, true, false, List, [], ◌∷◌, ◌++◌, length, Option, Some, None, refl, sym, ap, subst, ◌∙◌, arith, length-append, inl, inr}
 use Rattle.std.specs.Prelude.{Result, Ok, Err, if◌then◌else◌, nat_le, nat_lt}
 use Rattle.std.specs.List.{AllByRecursion, flat_map}
-use Rattle.std.proofs.lemmas.Bool.{cases_eq, cases_lt, eqb-true, leb-true, ltb-true, lt-ltb, le-leb, le-ltb, leb-false, ltb-false, lt-leb, eq-eqb, ne_eqb}
+use Rattle.std.proofs.lemmas.Bool.{cases_eq, cases_lt, eqb-true, lt-ltb, le-leb, le-ltb, lt-leb, eq-eqb, ne_eqb}
 use Rattle.std.proofs.lemmas.Grind.{flat_map-append}
 use Rattle.boot_script.specs.Events.{Happening, End}
 use Rattle.boot_script.specs.Written.{written}
@@ -10,9 +10,9 @@ use Rattle.boot_script.specs.Scripts.{is_end}
 use Rattle.script_text.specs.declared.script.TextError.{TextError}
 use Rattle.script_text.specs.declared.script.TextError.TheVariants.{Line, TooMany, TooLong, Memory}
 use Rattle.script_text.specs.declared.script.TheConstants.{MOST_RECORDS, SCRIPT_LIMIT}
-use Rattle.script_text.specs.Lines.{IsEvent, IsRecord, line_of}
+use Rattle.script_text.specs.Lines.{IsRecord}
 use Rattle.script_text.specs.Records.{record_in}
-use Rattle.script_text.specs.Reading.{add_event, add_record, in_first, is_passed, lines_of, read_lines, script_of, text_events, with_events}
+use Rattle.script_text.specs.Reading.{add_event, in_first, is_passed, lines_of, read_lines, script_of, text_events, with_events}
 use Rattle.script_text.specs.Meaning.{AreRecords, EndsAt, IsFault, IsLineFault, IsPassed, IsText, IsWithin}
 use Rattle.script_text.proofs.ReadLemmas.{read-passed, read-wrong, read-end, read-event}
 use Rattle.script_text.proofs.RecordLemmas.{record-back, record-of}

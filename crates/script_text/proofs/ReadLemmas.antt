@@ -1,6 +1,6 @@
 -- What is read of lines, line by line.
-use Rattle.std.proofs.Common.{◌≡◌, ℕ, ◌+◌, ◌<◌, ◌≤◌, Bool, true, false, List, [], ◌∷◌, ◌++◌, length, Option, Some, None, refl, sym, ap, ◌∙◌, arith, append_assoc, append-nil, inl, inr}
-use Rattle.std.specs.Prelude.{Result, Ok, Err, if◌then◌else◌, ◌==◌}
+use Rattle.std.proofs.Common.{◌≡◌, ℕ, ◌+◌, true, false, List, [], ◌∷◌, ◌++◌, length, Option, Some, None, refl, ap, append_assoc, inl, inr}
+use Rattle.std.specs.Prelude.{Result, Ok, Err}
 use Rattle.std.proofs.lemmas.Bool.{cases_eq, eq-eqb, ne_eqb}
 use Rattle.boot_script.specs.Events.{Happening}
 use Rattle.boot_script.specs.Written.{written}
@@ -9,7 +9,7 @@ use Rattle.script_text.specs.declared.script.TextError.{TextError}
 use Rattle.script_text.specs.declared.script.TextError.TheVariants.{Line}
 use Rattle.script_text.specs.Words.{before_mark, behind_mark}
 use Rattle.script_text.specs.Records.{record_in}
-use Rattle.script_text.specs.Reading.{add_event, in_first, is_passed, lines_of, read_lines, with_events}
+use Rattle.script_text.specs.Reading.{add_event, is_passed, lines_of, read_lines, with_events}
 
 pub with-none : (r : Result (List Happening) TextError) → with_events [] r ≡ r
 with-none (Ok es) = refl

@@ -1,15 +1,15 @@
 -- The record of a line is read back, and a record that is read spells its line.
-use Rattle.std.proofs.Common.{◌≡◌, ℕ, zero, suc, ◌+◌, ◌-◌, ◌*◌, ◌^◌, ◌<◌, ◌≤◌, ◌==◌, Bool, true, false, List, [], ◌∷◌, ◌++◌, length, take, drop, get_or, Option, Some, None, refl, sym, ap, subst, ◌∙◌, arith, append-nil, append_assoc, length-append, inl, inr, decimal}
-use Rattle.std.specs.Prelude.{Result, Ok, Err, IfSome, if◌then◌else◌, ◌&&◌, nat_le, nat_lt, codes, bytes_eq, option_and_then, option_map}
-use Rattle.std.proofs.lemmas.Bool.{and_parts, cases_eq, cases_lt, eqb-true, le-ltb, leb-true, ltb-true, lt-ltb, le-leb}
+use Rattle.std.proofs.Common.{◌≡◌, ℕ, ◌+◌, ◌*◌, ◌^◌, ◌<◌, ◌≤◌, ◌==◌, true, false, List, [], ◌∷◌, ◌++◌, length, take, drop, Option, Some, None, refl, sym, ap, subst, ◌∙◌, arith, length-append, decimal}
+use Rattle.std.specs.Prelude.{IfSome, if◌then◌else◌, ◌&&◌, nat_le, nat_lt, codes, bytes_eq, option_and_then, option_map}
+use Rattle.std.proofs.lemmas.Bool.{and_parts, eqb-true, le-ltb, leb-true, le-leb}
 use Rattle.std.proofs.lemmas.List.{take-append-drop}
 use Rattle.std.proofs.Math.Seq.{take-append_seam, drop-append_seam}
 use Rattle.pico_board.specs.declared.boot.BootKind.{BootKind}
 use Rattle.pico_board.specs.declared.boot.BootKind.TheVariants.{Normal, Bootsel, Update}
 use Rattle.hex.specs.Hex.{IsBytes, encode_lower, lower_digits}
 use Rattle.hex.proofs.HexLemmas.{length-encode_with}
-use Rattle.boot_script.specs.Events.{Happening, End, Command, Uf2, Cut, PowerOn, Reset, Buy, IsWellFormed, base_of}
-use Rattle.script_text.specs.Lines.{IsEvent, IsRecord, HasBytes, hex_word, line_of, payload_text, reset_text}
+use Rattle.boot_script.specs.Events.{Happening, End, Command, Uf2, Cut, PowerOn, Reset, Buy, base_of}
+use Rattle.script_text.specs.Lines.{IsEvent, IsRecord, line_of, payload_text, reset_text}
 use Rattle.script_text.specs.Words.{array_in, before_mark, behind_mark, behind_word, bytes_in, number_in, word_in}
 use Rattle.script_text.specs.Records.{command_in, command_of, cut_in, cut_of, kind_in, or_others, part_in, payload_in, record_in, some_payload, within_in, word_record}
 use Rattle.script_text.specs.Reading.{HasPattern}

@@ -1,9 +1,9 @@
 -- How long the text of a script is.
-use Rattle.std.proofs.Common.{◌≡◌, ℕ, zero, suc, ◌+◌, ◌-◌, ◌*◌, ◌/◌, ◌%◌, ◌^◌, ◌<◌, ◌≤◌, ◌==◌, Bool, true, false, List, [], ◌∷◌, ◌++◌, length, replicate, get_or, refl, sym, ap, ◌∙◌, arith, append-nil, length-append, inl, inr, decimal}
-use Rattle.std.specs.Prelude.{Result, Ok, Err, Option, Some, None, IfSome, if◌then◌else◌, ◌&&◌, ◌||◌, codes, drop, slice_index}
+use Rattle.std.proofs.Common.{◌≡◌, ℕ, zero, suc, ◌+◌, ◌-◌, ◌*◌, ◌/◌, ◌%◌, ◌^◌, ◌<◌, ◌≤◌, ◌==◌, Bool, true, false, List, [], ◌∷◌, ◌++◌, length, replicate, refl, ap, arith, length-append, decimal}
+use Rattle.std.specs.Prelude.{Ok, Err, Option, Some, None, IfSome, if◌then◌else◌, ◌&&◌, ◌||◌, codes, drop, slice_index}
 use Rattle.std.specs.List.{AllByRecursion, flat_map}
 use Rattle.std.specs.Fmt.{digits, digits_onto, digit_glyph}
-use Rattle.std.proofs.lemmas.Bool.{cases_eq, cases_lt, eq-eqb, ne_eqb}
+use Rattle.std.proofs.lemmas.Bool.{eq-eqb}
 use Rattle.std.proofs.lemmas.Fmt.{length-decimal-le}
 use Rattle.byteorder.specs.Endian.{big_bytes, little_bytes, little_number}
 use Rattle.byteorder.specs.Numbers.{length-bytes_high_first, little_from-lt}
@@ -18,16 +18,14 @@ use Rattle.picoboot_cmd.specs.Arguments.{address, size, reboot_flags, reboot_p0,
 use Rattle.picoboot_cmd.specs.Commands.{fields_of}
 use Rattle.info_reply.specs.declared.kinds.TheConstants.{INFO, INFO_SIZE, TABLE, TARGET, DEVICE, PARTITION}
 use Rattle.uf2_place.specs.declared.block.Uf2.{Uf2 as Block}
-use Rattle.uf2_place.specs.declared.block.Uf2Fault.{Uf2Fault}
 use Rattle.uf2_place.specs.declared.block.Uf2Fault.TheVariants.{Magic, Payload, Alignment, Number}
-use Rattle.uf2_place.specs.declared.block.TheConstants.{MOST_BLOCKS, PAYLOAD}
 use Rattle.uf2_place.specs.Blocks.{has_magic, is_number, uf2_of, word_at}
 use Rattle.uf2_place.specs.Blocks as blocks
 use Rattle.boot_script.specs.Events.{Happening, End, Command, Uf2, Cut, PowerOn, Reset, Buy}
 use Rattle.boot_script.specs.Written.{written}
-use Rattle.boot_script.specs.Scripts.{IsInside, is_end}
+use Rattle.boot_script.specs.Scripts.{IsInside}
 use Rattle.boot_script.proofs.NumberLemmas.{bytes-drop}
-use Rattle.script_text.specs.declared.script.TheConstants.{MOST_RECORDS, SCRIPT_LIMIT, TEXT_LIMIT}
+use Rattle.script_text.specs.declared.script.TheConstants.{MOST_RECORDS, TEXT_LIMIT}
 use Rattle.script_text.specs.Lines.{HasBytes, IsEvent, hex_word, line_of, payload_text, reset_text}
 use Rattle.script_text.specs.Comments.{action_text, command_text, hex_byte, hex_row, info_text, note_of, read_command_text, read_uf2_text, reboot_text, rows_text, span_text, uf2_text}
 use Rattle.script_text.specs.Listing.{comment_line, comment_of, comment_text, event_lines, fed, listed, listed_from}

@@ -1,6 +1,6 @@
 -- The script of a text that was read.
-use Rattle.std.proofs.Common.{◌≡◌, ℕ, ◌+◌, ◌^◌, ◌<◌, List, [], ◌∷◌, ◌++◌, length, refl, sym, ap, ◌∙◌, subst, arith, append-nil, ◌≤◌, inl, inr}
-use Rattle.std.specs.Prelude.{Result, Ok, Err}
+use Rattle.std.proofs.Common.{◌≡◌, ℕ, ◌^◌, ◌<◌, List, [], ◌∷◌, ◌++◌, length, sym, ap, ◌∙◌, subst, arith, append-nil, ◌≤◌, inl, inr}
+use Rattle.std.specs.Prelude.{Ok, Err}
 use Rattle.std.specs.List.{AllByRecursion, flat_map}
 use Rattle.boot_script.specs.Events.{Happening, End}
 use Rattle.boot_script.specs.Written.{written}
@@ -9,7 +9,7 @@ use Rattle.boot_script.proofs.FollowingLemmas.{whole-script}
 use Rattle.script_text.specs.declared.script.TextError.{TextError}
 use Rattle.script_text.specs.declared.script.TheConstants.{SCRIPT_LIMIT}
 use Rattle.script_text.specs.declared.script.TextScript.{TextScript}
-use Rattle.script_text.specs.Reading.{Adds, lines_of, read_behind, read_lines, script_of, text_events}
+use Rattle.script_text.specs.Reading.{Adds, lines_of, read_behind, read_lines, text_events}
 use Rattle.script_text.specs.Meaning.{AreRecords, IsFault, IsScriptOf}
 use Rattle.script_text.proofs.MeaningLemmas.{text-fails, text-means}
 

@@ -1,12 +1,11 @@
 -- What the worked examples speak of. This project's own.
-use Rattle.std.specs.Prelude.{ℕ, ◌+◌, List, [], ◌∷◌, ◌++◌, replicate, Result, Ok, length}
+use Rattle.std.specs.Prelude.{ℕ, List, [], ◌∷◌, ◌++◌, replicate, Result, Ok}
 use Rattle.byteorder.specs.Endian.{little_bytes}
 use Rattle.picoboot_cmd.specs.Commands as commands
 use Rattle.picoboot_cmd.specs.Examples.{command}
 use Rattle.info_reply.specs.declared.kinds.TheConstants.{INFO}
 use Rattle.uf2_place.specs.declared.block.TheConstants.{SECOND, END}
 use Rattle.boot_script.specs.Events.{Happening, Buy}
-use Rattle.boot_script.specs.Written.{written}
 use Rattle.script_text.specs.declared.script.TextError.{TextError}
 use Rattle.script_text.specs.Comments.{command_text, uf2_text}
 use Rattle.script_text.specs.Reading.{add_event}

@@ -1,5 +1,5 @@
 -- The line of a record in the text form of a script. This project's own.
-use Rattle.std.specs.Prelude.{ℕ, ◌≡◌, ◌^◌, ◌<◌, ◌≤◌, true, false, List, [], ◌∷◌, ◌++◌, length, codes, decimal}
+use Rattle.std.specs.Prelude.{ℕ, ◌≡◌, true, false, List, [], ◌∷◌, ◌++◌, codes, decimal}
 use Rattle.byteorder.specs.Endian.{big_bytes}
 use Rattle.hex.specs.Hex.{IsBytes, encode_lower}
 use Rattle.pico_board.specs.declared.boot.BootKind.{BootKind}

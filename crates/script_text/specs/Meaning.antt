@@ -1,5 +1,5 @@
 -- When a text is the text of events, and what its first fault is. This project's own.
-use Rattle.std.specs.Prelude.{ℕ, ◌≡◌, ◌⊎◌, ◌+◌, ◌<◌, ◌≤◌, true, false, List, [], ◌∷◌, ◌++◌, length}
+use Rattle.std.specs.Prelude.{ℕ, ◌≡◌, ◌⊎◌, ◌+◌, ◌<◌, ◌≤◌, false, List, [], ◌∷◌, ◌++◌, length}
 use Rattle.boot_script.specs.Events.{Happening, End}
 use Rattle.boot_script.specs.Scripts.{is_end}
 use Rattle.script_text.specs.declared.script.TextError.{TextError}

@@ -1,5 +1,5 @@
 -- A text of records alone, and its comments. This project's own.
-use Rattle.std.specs.Prelude.{ℕ, ◌≡◌, ◌+◌, false, List, [], ◌∷◌, ◌++◌}
+use Rattle.std.specs.Prelude.{ℕ, ◌≡◌, ◌+◌, false, List, ◌∷◌, ◌++◌}
 use Rattle.std.specs.List.{flat_map}
 use Rattle.boot_script.specs.Events.{Happening, End}
 use Rattle.boot_script.specs.Scripts.{is_end}

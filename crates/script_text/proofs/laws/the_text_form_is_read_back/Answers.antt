@@ -1,6 +1,5 @@
 use Rattle.std.proofs.Common.{suc, ◌-◌, length, subst}
 use Rattle.hex.specs.Hex.{IsBytes}
-use Rattle.boot_script.specs.Scripts.{events}
 use Rattle.boot_script.proofs.FollowingLemmas.{script-spelled}
 use Rattle.boot_script.proofs.SpelledLemmas.{are-bytes}
 use Rattle.script_text.proofs.ListedLemmas.{read-back, script-bytes}

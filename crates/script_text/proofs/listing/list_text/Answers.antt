@@ -1,7 +1,7 @@
-use Rattle.std.proofs.Common.{◌≤◌, arith, sym, ◌∙◌}
+use Rattle.std.proofs.Common.{arith, sym, ◌∙◌}
 use Rattle.std.specs.Prelude.{string_bytes}
 use Rattle.boot_script.specs.Events.{event_from}
-use Rattle.script_text.proofs.ListLemmas.{listed-first, listed-more, listed-end, listed-fault}
+use Rattle.script_text.proofs.ListLemmas.{listed-first, listed-more, listed-end}
 use Rattle.script_text.proofs.listing.list_text.Goals as goal
 
 pub loop-number-init : goal.loop-number-init

@@ -1,5 +1,5 @@
 use Rattle.std.proofs.Common.{◌≡◌, Some, subst, sym}
-use Rattle.boot_script.specs.Events.{Happening, event_from}
+use Rattle.boot_script.specs.Events.{Happening}
 use Rattle.script_text.specs.Records.{record_from, record_in}
 use Rattle.script_text.specs.Reading.{HasPattern}
 use Rattle.script_text.proofs.RecordLemmas.{record-pattern}

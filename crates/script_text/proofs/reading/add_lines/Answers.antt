@@ -1,6 +1,6 @@
-use Rattle.std.proofs.Common.{◌≡◌, ◌+◌, ◌<◌, ◌≤◌, Some, None, arith, sym, ap, ◌∙◌}
+use Rattle.std.proofs.Common.{◌≡◌, ◌+◌, Some, None, arith}
 use Rattle.script_text.specs.Words.{behind_mark}
-use Rattle.script_text.proofs.ProgressLemmas.{so_far-end, so_far-fault, so_far-first, so_far-last, so_far-more}
+use Rattle.script_text.proofs.ProgressLemmas.{so_far-end, so_far-fault, so_far-last, so_far-more}
 use Rattle.script_text.proofs.reading.add_lines.Goals as goal
 
 pub returns-in-Ok-true-clause-ok : goal.returns-in-Ok-true-clause-ok

@@ -1,4 +1,4 @@
-use Rattle.std.proofs.Common.{◌≡◌, arith, refl}
+use Rattle.std.proofs.Common.{arith, refl}
 use Rattle.script_text.specs.declared.script.TextScript.{TextScript}
 use Rattle.script_text.specs.Meaning.{IsScriptOf}
 use Rattle.script_text.proofs.TextLemmas.{IsEmpty, script-read, script-short, whole-fault, whole-text}

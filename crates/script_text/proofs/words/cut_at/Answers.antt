@@ -1,4 +1,4 @@
-use Rattle.std.proofs.Common.{◌≡◌, ◌+◌, Some, None, sym, ap, ◌∙◌}
+use Rattle.std.proofs.Common.{◌+◌, Some, sym, ap, ◌∙◌}
 use Rattle.std.proofs.lemmas.List.{take_rest}
 use Rattle.script_text.proofs.MarkLemmas.{mark-none, mark-some}
 use Rattle.script_text.proofs.words.cut_at.Goals as goal
