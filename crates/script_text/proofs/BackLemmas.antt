@@ -98,7 +98,8 @@ text-read text es is = ends-read (lines_of text) is.front es is.ends is.records 
 
 -- ---- faults
 
-short-at : (front rest : List (List ℕ)) (line : List ℕ) → AllByRecursion (λ l. length l < 2 ^ 32) (front ++ (line ∷ rest))
+short-at : (front rest : List (List ℕ)) (line : List ℕ)
+    → AllByRecursion (λ l. length l < 2 ^ 32) (front ++ (line ∷ rest))
     → length line < 2 ^ 32
 short-at [] rest line short = short.0
 short-at (l ∷ front) rest line short = short-at front rest line short.1

@@ -79,7 +79,8 @@ short-decimal n small = elim (cases_lt 0 n) [
 number-of : (text : List ℕ) (n : ℕ) → IsShort text → IsValue 0 text n → n < 2 ^ 32 → IsNumber text n
 number-of text n short value small = record {
   small = small;
-  is = sym (ap decimal value.is ∙ decimal-digits_value own text value.digits short.some short.lead (omega (arith, value.is, small)));
+  is = sym (ap decimal value.is
+      ∙ decimal-digits_value own text value.digits short.some short.lead (omega (arith, value.is, small)));
 }
 
 pub number-spelled : (text : List ℕ) → IfSome (number_in text) (IsNumber text)

@@ -160,7 +160,8 @@ free-command : (command : List ℕ) → IsBytes command → is_free 10 (command_
 unfolding command_text
 free-command command are = by_magic (little_number 4 command == MAGIC)
   where
-    by_magic : (t : Bool) → is_free 10 (read_command_text (if t then Ok (fields_of command) else Err cmd_fault.Magic)) ≡ true
+    by_magic : (t : Bool)
+        → is_free 10 (read_command_text (if t then Ok (fields_of command) else Err cmd_fault.Magic)) ≡ true
     by_magic true =
         free-append 10 (action_text (fields_of command)) (codes " token=" ++ hex_word (fields_of command).token)
         (free-action (fields_of command) (are 8)) (free-word (fields_of command).token)

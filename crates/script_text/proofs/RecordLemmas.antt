@@ -257,7 +257,8 @@ command-parts : (front rest : List ℕ) → length front ≡ 64
     → command_in (front ++ rest) ≡ command_of (array_in 32 front) (payload_in rest)
 command-parts front rest long =
     let enough = le-ltb (length (front ++ rest)) 64 (omega (arith, length-append front rest)) in
-    ap (λ t. if t then None else command_of (array_in 32 (take 64 (front ++ rest))) (payload_in (drop 64 (front ++ rest)))) enough
+    ap (λ t. if t then None
+    else command_of (array_in 32 (take 64 (front ++ rest))) (payload_in (drop 64 (front ++ rest)))) enough
     ∙ ap (λ t. command_of (array_in 32 t) (payload_in (drop 64 (front ++ rest)))) (front-take 64 front rest long)
     ∙ ap (λ t. command_of (array_in 32 front) (payload_in t)) (front-drop 64 front rest long)
 

@@ -65,7 +65,12 @@ size-row : (n : ℕ) → n < 65536 → length (hex_row n) ≤ 6
 size-row n small =
     let ds = digits 16 false n in
     let few : length ds ≤ 4 = omega (arith, ap length (digits_fuel n), size-onto 64 3 n [] (omega arith)) in
-    omega (arith, ap length (padded-filled 3 ds), length-append (replicate (3 - length ds) 48) ds, size-zeros (3 - length ds))
+    omega (
+      arith,
+      ap length (padded-filled 3 ds),
+      length-append (replicate (3 - length ds) 48) ds,
+      size-zeros (3 - length ds),
+    )
 
 size-decimal : (k n : ℕ) → 0 < k → n < 10 ^ k → n < 2 ^ 64 → length (decimal n) ≤ k
 size-decimal k n some small most = length-decimal-le k n some small most

@@ -16,12 +16,14 @@ note id arg_size args = command_text (commands.written (command id arg_size 0 ar
 
 -- the comment of an info command
 abbrev pub info_note : ℕ → ℕ → List ℕ
-info_note kind argument = note INFO 16 (kind ∷ 0 ∷ 0 ∷ 0 ∷ (little_bytes 4 argument ++ replicate 8 0))
+info_note kind argument =
+    note INFO 16 (kind ∷ 0 ∷ 0 ∷ 0 ∷ (little_bytes 4 argument ++ replicate 8 0))
 
 -- the comment of a reboot
 abbrev pub reboot_note : ℕ → List ℕ
 reboot_note flags =
-    note 0x0a 16 (little_bytes 4 flags ++ (little_bytes 4 0 ++ (little_bytes 4 0x20000000 ++ little_bytes 4 0x1c)))
+    note 0x0a 16 (little_bytes 4 flags
+    ++ (little_bytes 4 0 ++ (little_bytes 4 0x20000000 ++ little_bytes 4 0x1c)))
 
 -- the comment of a UF2 block with a page of zeros
 abbrev pub block_note : ℕ → ℕ → ℕ → ℕ → ℕ → List ℕ
@@ -32,7 +34,8 @@ block_note magic payload address number count = uf2_text (
     ++ (little_bytes 4 address
     ++ (little_bytes 4 payload
     ++ (little_bytes 4 number
-    ++ (little_bytes 4 count ++ (little_bytes 4 0xe48bff59 ++ (replicate 476 0 ++ little_bytes 4 END))))))))
+    ++ (little_bytes 4 count
+    ++ (little_bytes 4 0xe48bff59 ++ (replicate 476 0 ++ little_bytes 4 END))))))))
     )
 
 -- what is read of a buy, which has one byte, behind so many records with so many bytes, where no

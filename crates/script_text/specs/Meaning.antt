@@ -40,9 +40,9 @@ pub record IsText (text : List ℕ) (es : List Happening) : Type 0 where
   pub records : AreRecords front es
   pub within : IsWithin es
 
--- the fault of a line with this number, behind records with these events: it is neither passed over
--- nor a record; or it is a record other than the end, and there are too many before it; or otherwise
--- with it and the end the script is too long
+-- the fault of a line with this number, behind records with these events: it is neither passed
+-- over nor a record; or it is a record other than the end, and there are too many before it; or
+-- otherwise with it and the end the script is too long
 abbrev pub IsLineFault : ℕ → List Happening → List ℕ → TextError → Type 0
 IsLineFault n es line (Line number) =
     (number ≡ n) × (IsPassed line → ⊥) × ((e : Happening) → IsRecord line e → ⊥)

@@ -17,5 +17,6 @@ spelled lines = flat_map fed lines ++ fed (line_of End)
 -- the same with the comment of each line's event above it, where it has one; events are numbered
 -- from a first number on
 abbrev pub with_comments : ℕ → List (List ℕ) → List Happening → List ℕ
-with_comments n (line ∷ lines) (e ∷ es) = comment_of n e ++ (fed line ++ with_comments (n + 1) lines es)
+with_comments n (line ∷ lines) (e ∷ es) =
+    comment_of n e ++ (fed line ++ with_comments (n + 1) lines es)
 with_comments n _ _ = fed (line_of End)

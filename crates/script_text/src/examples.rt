@@ -156,7 +156,8 @@ pub fn payloads()
     ensures none { record_in (codes "command 00000000000000000000000000000000"
         ++ codes "00000000000000000000000000000000") ≡ Some (Command (replicate 32 0) []) }
     ensures one { record_in (codes "command 00000000000000000000000000000000"
-        ++ codes "00000000000000000000000000000000 5a") ≡ Some (Command (replicate 32 0) (0x5a ∷ [])) }
+        ++ codes "00000000000000000000000000000000 5a")
+        ≡ Some (Command (replicate 32 0) (0x5a ∷ [])) }
     ensures dash { record_in (codes "command 00000000000000000000000000000000"
         ++ codes "00000000000000000000000000000000 -") ≡ None }
     ensures odd { record_in (codes "command 00000000000000000000000000000000"
