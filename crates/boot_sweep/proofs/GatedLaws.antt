@@ -49,7 +49,7 @@ same-content : (f o g p : List ℕ) → f ≡ g → o ≡ p
 same-content f o g p e h = cc
 
 -- two contents are the same or not
-decide-content : (c d : Content) → (c ≡ d) ⊎ (c ≢ d)
+pub decide-content : (c d : Content) → (c ≡ d) ⊎ (c ≢ d)
 decide-content c d = go (bytes_eq c.flash d.flash) (bytes_eq c.otp d.otp) refl refl
   where
     not : (xs ys : List ℕ) → bytes_eq xs ys ≡ false → xs ≢ ys
@@ -63,7 +63,7 @@ decide-content c d = go (bytes_eq c.flash d.flash) (bytes_eq c.otp d.otp) refl r
     go true false e f = inr (λ is. not c.otp d.otp f (ap (λ (x : Content). x.otp) is))
 
 -- the first bytes of a range are all 0xff, or one of them is another
-decide-blank : (bytes : List ℕ) (start count : ℕ)
+pub decide-blank : (bytes : List ℕ) (start count : ℕ)
     → ((i : ℕ) → i < count → slice_index bytes (start + i) ≡ 255)
     ⊎ ((i : ℕ) × (i < count) × (slice_index bytes (start + i) ≢ 255))
 decide-blank bytes start zero = inl (λ i lt. absurd (omega (arith, lt)))

@@ -12,3 +12,34 @@ mod CutBetweenLemmas
 mod CutBehindLemmas
 mod CutWithinLemmas
 mod OutsideLaws
+mod RedoneLemmas
+mod RecorderLemmas
+mod MarkLemmas
+mod ServedLemmas
+mod SessionLemmas
+mod PoolLemmas
+mod PageLemmas
+mod SlotLemmas
+mod ResultLemmas
+mod LineLemmas
+mod VerdictLemmas
+mod KnownLemmas
+mod GateLemmas
+mod RefusalLemmas
+mod ChanceLemmas
+mod CountLemmas
+mod RefusalLaws
+pub mod RefusalCaseLemmas
+mod FirmLemmas
+mod TextLemmas
+mod ReasonLemmas
+mod StepBoundLemmas
+mod StrayLemmas
+mod PageRoomLemmas
+mod LikeBlockLemmas
+mod FirmLaws
+mod BeforeLineLaws
+mod ScriptLemmas
+pub mod SweptLemmas
+mod SweepLemmas
+pub mod OnlySweepLemmas

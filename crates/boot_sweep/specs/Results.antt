@@ -19,6 +19,8 @@ use Rattle.boot_rules.specs.Choosing.{boot_units_in}
 use Rattle.boot_rules.specs.Chosen.{Chosen, Home}
 use Rattle.boot_rules.specs.Tables.{table_in}
 use Rattle.boot_machine.specs.Luck.{Lucky}
+use Rattle.boot_sweep.specs.declared.results.CutResult.{CutResult}
+use Rattle.boot_sweep.specs.declared.results.CutResult.TheVariants.{Former, Finished, Chance}
 
 -- the decision is no start of an image in the window
 abbrev pub StartsElsewhere : Window → Decision → Type 0
@@ -71,3 +73,15 @@ pub record ConfinedSession (c : Content) (w : Window) (cpu : Cpu) (steps : List 
 abbrev pub IsInNoUnit : Content → Cpu → Window → Type 0
 IsInNoUnit c cpu w = (k : ℕ) (u : SlotUnit) (x : Window)
     → slice_get (boot_units_in c cpu) k ≡ Some u → IsMember u x → x ≢ w
+
+-- a normal boot on d decides as one on c
+abbrev pub IsFormer : Content → Content → Cpu → Type 0
+IsFormer c d cpu = (e : Decision) × Chosen c cpu Normal e × Chosen d cpu Normal e
+
+-- CutResult: what a normal boot on d makes of a session that leads from c to z. It decides as
+-- before; or otherwise it makes the start that it makes after the whole session, of an image with
+-- the same bytes; or neither.
+abbrev pub IsCutResult : Content → Content → Content → Cpu → CutResult → Type 0
+IsCutResult c z d cpu Former = IsFormer c d cpu
+IsCutResult c z d cpu Finished = (IsFormer c d cpu → ⊥) × StartsFinished z d cpu
+IsCutResult c z d cpu Chance = (IsFormer c d cpu → ⊥) × (StartsFinished z d cpu → ⊥)

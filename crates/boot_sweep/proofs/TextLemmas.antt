@@ -1,0 +1,126 @@
+-- The text of a sweep, from what the code keeps.
+use Rattle.std.proofs.Common.{◌≡◌, ◌≢◌, ℕ, ◌+◌, ◌<◌, ◌≤◌, Bool, true, false, All, List, [], ◌∷◌, ◌++◌, length, Option, Some, None, refl, sym, ap, ◌∙◌, subst, arith}
+use Rattle.std.specs.Prelude.{IsTrue}
+use Rattle.std.specs.List.{AllByRecursion, flat_map}
+use Rattle.std.proofs.lemmas.Bool.{ltb-false}
+use Rattle.std.proofs.lemmas.List.Elements.{All-from_recursion}
+use Rattle.pico_board.specs.declared.Step.{Step}
+use Rattle.pico_board.specs.declared.boot.Cpu.{Cpu}
+use Rattle.pico_board.specs.declared.boot.BootKind.TheVariants.{Normal}
+use Rattle.pico_board.specs.declared.mem_board.MemBoard.{MemBoard}
+use Rattle.pico_board.specs.Board.{State}
+use Rattle.pico_board.specs.MemBoard.{new_state, state_of}
+use Rattle.pico_board.proofs.CuttingLemmas.{length-after_all}
+use Rattle.pico_board.specs.declared.window.Window.{Window}
+use Rattle.pico_board.specs.Content.{Content, IsContent}
+use Rattle.pico_board.specs.Steps.{IsStepIn, after_all}
+use Rattle.boot_rules.specs.declared.decision.Decision.{Decision}
+use Rattle.boot_rules.specs.Choosing.{decision_in}
+use Rattle.boot_sweep.specs.declared.recorder.Recorder.{Recorder}
+use Rattle.boot_sweep.specs.declared.results.CutResult.{CutResult}
+use Rattle.boot_sweep.specs.Comparing.{result_by, result_of}
+use Rattle.boot_sweep.specs.Recordings.{IsRecorderOf}
+use Rattle.boot_sweep.specs.Refusals.{kept_steps, outside_from, refusal, step_limit}
+use Rattle.boot_sweep.specs.Scripts.{content_of, script_events, script_session}
+use Rattle.boot_sweep.specs.Sessions.{session}
+use Rattle.boot_sweep.specs.Slots.{session_slot}
+use Rattle.boot_sweep.specs.Sweeps.{end_text, line_text, lines_from, sweep_text}
+use Rattle.boot_sweep.proofs.ChanceLemmas.{gated-confined, slot-inside, steps-in}
+use Rattle.boot_sweep.proofs.ReasonLemmas.{reason-of}
+use Rattle.boot_sweep.proofs.RefusalLemmas.{kept-all, no-reason, sweepable}
+use Rattle.boot_sweep.proofs.SlotLemmas.{slot-found}
+
+abbrev text_by : Content → List ℕ → List Step → Cpu → Decision → Decision → Content → List ℕ
+text_by c pattern steps cpu former finished z =
+    flat_map line_text (lines_from (λ d. result_by former finished cpu d z) pattern 0 c steps)
+    ++ end_text (length steps) (result_by former finished cpu z z)
+
+pub text-whole : (c z : Content) (former finished : Decision) (cpu : Cpu) (pattern : List ℕ) (steps : List Step)
+    → former ≡ decision_in c cpu Normal → finished ≡ decision_in z cpu Normal → z ≡ after_all c steps
+    → flat_map line_text (lines_from (λ d. result_by former finished cpu d z) pattern 0 c steps)
+    ++ end_text (length steps) (result_by former finished cpu z z) ≡ sweep_text c cpu pattern steps
+unfolding sweep_text
+text-whole c z former finished cpu pattern steps one two is =
+    ap (λ f. text_by c pattern steps cpu f finished z) one
+    ∙ (ap (λ f. text_by c pattern steps cpu (decision_in c cpu Normal) f z) two
+    ∙ ap (λ y. text_by c pattern steps cpu (decision_in c cpu Normal) (decision_in y cpu Normal) y) is)
+
+some-none : (k : ℕ) → Some k ≡ None → ⊥
+some-none k e = cc
+
+ranges-of : (c : Content) (cpu : Cpu) (steps : List Step) → IsContent c → refusal c cpu steps ≡ None
+    → AllByRecursion (IsStepIn (length c.flash)) steps
+ranges-of c cpu [] right none = tt
+ranges-of c cpu (step ∷ steps) right none = go (session_slot c cpu (step ∷ steps)) refl
+  where
+    go : (o : Option Window) → session_slot c cpu (step ∷ steps) ≡ o
+        → AllByRecursion (IsStepIn (length c.flash)) (step ∷ steps)
+    go None is =
+        absurd (some-none 0 (sym (ap (λ o. outside_from 0 o (step ∷ steps)) is)
+        ∙ (no-reason c cpu (step ∷ steps) none).inside))
+    go (Some w) is =
+        let slot = slot-found c cpu (step ∷ steps) w is in
+        steps-in w (length c.flash) (step ∷ steps) (slot-inside c cpu (step ∷ steps) w right slot)
+        (gated-confined w (step ∷ steps) (sweepable c cpu (step ∷ steps) w right none slot).gated)
+
+-- the recorder of a session that is swept has all of its steps, and each of them is in range
+pub recorded-steps : (r : Recorder MemBoard) (c : Content) (cpu : Cpu) (steps : List Step) → IsContent c
+    → IsRecorderOf r c cpu steps → refusal c cpu steps ≡ None
+    → (r.steps.items ≡ steps) × All (IsStepIn (length c.flash)) r.steps.items × (length r.steps.items ≤ step_limit)
+recorded-steps r c cpu steps right is none =
+    let few = ltb-false step_limit (length steps) (no-reason c cpu steps none).few in
+    let same = is.recorded.kept ∙ kept-all steps few in (
+      same,
+      subst (λ xs. All (IsStepIn (length c.flash)) xs) (sym same)
+          (All-from_recursion (IsStepIn (length c.flash)) steps (ranges-of c cpu steps right none)),
+      subst (λ xs. length xs ≤ step_limit) (sym same) few,
+    )
+
+-- a session of one recorder is refused or not, whichever of its lists is judged
+pub none-too : (r : Recorder MemBoard) (c : Content) (cpu : Cpu) (first steps : List Step)
+    → IsRecorderOf r c cpu first → refusal c cpu first ≡ None → IsRecorderOf r c cpu steps → refusal c cpu steps ≡ None
+none-too r c cpu first steps one none is = reason-of r c cpu steps is ∙ (sym (reason-of r c cpu first one) ∙ none)
+
+-- the board after the session, as the lines want it
+pub ends-power : (r : Recorder MemBoard) (c : Content) (cpu : Cpu) (steps : List Step) (z : MemBoard) → z ≡ r.bench
+    → IsRecorderOf r c cpu steps → IsTrue (state_of z).powered
+ends-power r c cpu steps z same is = subst (λ b. IsTrue (state_of b).powered) (sym same) is.ready.power
+
+pub ends-long : (r : Recorder MemBoard) (c : Content) (cpu : Cpu) (steps : List Step) (z : MemBoard) → z ≡ r.bench
+    → IsRecorderOf r c cpu steps → length (state_of z).content.flash ≡ length c.flash
+ends-long r c cpu steps z same is =
+    ap (λ b. length (state_of b).content.flash) same
+    ∙ (ap (λ (x : Content). length x.flash) is.content ∙ length-after_all c steps)
+
+-- the lines of the recorder's steps and the end line are the text of the sweep
+pub text-spelled : (r : Recorder MemBoard) (c : Content) (cpu : Cpu) (steps : List Step) (z : MemBoard)
+    (former finished : Decision) (d : Content) (pattern front whole : List ℕ) (end_ : CutResult) → IsContent c
+    → IsRecorderOf r c cpu steps → refusal c cpu steps ≡ None → z ≡ r.bench → former ≡ decision_in c cpu Normal
+    → finished ≡ decision_in (state_of r.bench).content cpu Normal
+    → front ≡ flat_map line_text (lines_from (λ d. result_by former finished cpu d (state_of z).content) pattern 0 c r.steps.items)
+    → d ≡ after_all c r.steps.items → end_ ≡ result_by former finished cpu d (state_of z).content
+    → whole ≡ front ++ end_text (length r.steps.items) end_ → whole ≡ sweep_text c cpu pattern steps
+text-spelled r c cpu steps z former finished d pattern front whole end_ right is none same one two first left last all =
+    let y = (state_of z).content in
+    let at : y ≡ after_all c steps = ap (λ b. (state_of b).content) same ∙ is.content in
+    let kept = (recorded-steps r c cpu steps right is none).0 in
+    all
+    ∙ (ap (λ xs. xs ++ end_text (length r.steps.items) end_) first
+    ∙ (ap (λ x. flat_map line_text (lines_from (λ d. result_by former finished cpu d y) pattern 0 c r.steps.items)
+    ++ end_text (length r.steps.items) x) (last ∙ ap (λ x. result_by former finished cpu x y) left)
+    ∙ (ap (λ xs. flat_map line_text (lines_from (λ d. result_by former finished cpu d y) pattern 0 c xs)
+    ++ end_text (length xs) (result_by former finished cpu (after_all c xs) y)) kept
+    ∙ (ap (λ x. flat_map line_text (lines_from (λ d. result_by former finished cpu d y) pattern 0 c steps)
+    ++ end_text (length steps) (result_by former finished cpu x y)) (sym at)
+    ∙ text-whole c y former finished cpu pattern steps one
+    (two ∙ ap (λ b. decision_in (state_of b).content cpu Normal) (sym same)) at))))
+
+-- the recorder of a script's session, for another board with the same content
+pub recorder-of : (r : Recorder MemBoard) (one two : MemBoard) (flash otp : List ℕ) (cpu : Cpu) (script : List ℕ)
+    → state_of one ≡ new_state flash otp → state_of two ≡ new_state flash otp
+    → IsRecorderOf r (state_of one).content cpu (session (state_of one).content cpu (script_events script))
+    → IsRecorderOf r (state_of two).content cpu (script_session (content_of flash otp) cpu script)
+unfolding script_session
+recorder-of r one two flash otp cpu script first second is =
+    subst (λ (s : State). IsRecorderOf r s.content cpu (session (content_of flash otp) cpu (script_events script))) (sym second)
+    (subst (λ (s : State). IsRecorderOf r s.content cpu (session s.content cpu (script_events script))) first is)

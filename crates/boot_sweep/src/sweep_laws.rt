@@ -1,0 +1,78 @@
+//! Laws on what a sweep says, each the contract of a function that does nothing.
+
+ghost use Rattle.std.specs.Prelude.{◌≡◌, ◌↔◌, ℕ, ◌<◌, ◌≤◌, ◌*◌, ◌+◌, max, All, Contains, List, None, Some, length, slice_get, true, count_by};
+ghost use Rattle.pico_board.specs.Content.{Content, IsContent};
+ghost use Rattle.pico_board.specs.Cuts.{IsPattern};
+ghost use Rattle.pico_board.specs.Sessions.{IsGated, Unfinished};
+ghost use Rattle.pico_board.specs.Steps.{after_all};
+ghost use Rattle.pico_board.specs.declared.Step.{Step};
+ghost use Rattle.pico_board.specs.declared.boot.Cpu.{Cpu};
+ghost use Rattle.pico_board.specs.declared.window.Window.{Window};
+ghost use Rattle.boot_machine.specs.Luck.{Lucky};
+ghost use Rattle.boot_sweep.specs.declared.error.SweepError.{SweepError};
+ghost use Rattle.boot_sweep.specs.declared.results.CutResult.{CutResult};
+ghost use Rattle.boot_sweep.specs.declared.results.CutResult.TheVariants.{Chance};
+ghost use Rattle.boot_sweep.specs.Comparing.{result_of};
+ghost use Rattle.boot_sweep.specs.Refusals.{IsRefused, refusal};
+ghost use Rattle.boot_sweep.specs.Results.{IsCutResult};
+ghost use Rattle.boot_sweep.specs.Slots.{IsSlot, session_slot};
+ghost use Rattle.boot_sweep.specs.Swept.{IsSweep};
+ghost use Rattle.boot_sweep.specs.Sweeps.{Line, cut_of, is_chance, sweep_lines, sweep_text};
+
+/// The slot of a session is the member of a pair in which its first step lies, and there is one
+/// such member at most.
+pub fn slots_are_found()
+    ensures { (c : Content) (cpu : Cpu) (steps : List Step) (w : Window) → IsContent c
+        → (session_slot c cpu steps ≡ Some w) ↔ IsSlot c cpu steps w }
+{}
+
+/// A session is refused exactly for the reason that holds of it, and for one at most.
+pub fn refusals_are_judged()
+    ensures { (c : Content) (cpu : Cpu) (steps : List Step) (e : SweepError) → IsContent c
+        → (refusal c cpu steps ≡ Some e) ↔ IsRefused c cpu steps e }
+{}
+
+/// The result of a cut is exactly one: that of the function that compares.
+pub fn results_are_judged()
+    ensures { (c z d : Content) (cpu : Cpu) (r : CutResult)
+        → IsCutResult c z d cpu r ↔ (r ≡ result_of c z d cpu) }
+{}
+
+/// Each line of a sweep has the result of its cut, and there are two for each step.
+pub fn lines_have_their_results()
+    ensures result { (c : Content) (cpu : Cpu) (pattern : List ℕ) (steps : List Step) (line : Line)
+        → Contains (sweep_lines c cpu pattern steps) line
+        → (slice_get steps line.number ≡ Some line.step)
+        × IsCutResult c (after_all c steps) (cut_of c pattern steps line) cpu line.result }
+    ensures count { (c : Content) (cpu : Cpu) (pattern : List ℕ) (steps : List Step)
+        → length (sweep_lines c cpu pattern steps) ≡ 2 * length steps }
+{}
+
+/// Of a session that is not refused, a line says `chance` only where its cut leaves an unfinished
+/// content that is not lucky; and at most 32 lines say it: with j programs of the slot's first
+/// sector at its end 2j, or one where there are none.
+pub fn chance_is_bad_luck()
+    ensures luck { (c : Content) (cpu : Cpu) (pattern : List ℕ) (steps : List Step) (line : Line)
+        (w : Window)
+        → IsContent c → IsPattern true pattern → All (λ b. b < 256) pattern
+        → refusal c cpu steps ≡ None → IsSlot c cpu steps w
+        → Contains (sweep_lines c cpu pattern steps) line → line.result ≡ Chance
+        → Unfinished c steps w (cut_of c pattern steps line)
+        × (Lucky c (after_all c steps) (cut_of c pattern steps line) w cpu → ⊥) }
+    ensures few { (c : Content) (cpu : Cpu) (pattern : List ℕ) (steps : List Step)
+        → IsContent c → IsPattern true pattern → All (λ b. b < 256) pattern
+        → refusal c cpu steps ≡ None
+        → count_by is_chance (sweep_lines c cpu pattern steps) ≤ 32 }
+    ensures programs { (c : Content) (cpu : Cpu) (pattern : List ℕ) (steps : List Step)
+        (w : Window) (s : ℕ) (elsewhere last : List Step)
+        → IsContent c → IsPattern true pattern → All (λ b. b < 256) pattern
+        → refusal c cpu steps ≡ None → IsSlot c cpu steps w → IsGated steps w s elsewhere last
+        → count_by is_chance (sweep_lines c cpu pattern steps) ≤ max 1 (2 * length last) }
+{}
+
+/// The text of a sweep says, in the rules' words, what a normal boot makes of each cut.
+pub fn sweeps_are_told()
+    ensures { (c : Content) (cpu : Cpu) (pattern : List ℕ) (steps : List Step) → IsContent c
+        → All (λ b. b < 256) pattern → refusal c cpu steps ≡ None
+        → IsSweep c cpu pattern steps (sweep_text c cpu pattern steps) }
+{}
