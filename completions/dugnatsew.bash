@@ -4,7 +4,7 @@ _dugnatsew() {
     local word=${COMP_WORDS[COMP_CWORD]} words=""
     COMPREPLY=()
     case $(_dugnatsew_form "${COMP_WORDS[1]}" "$COMP_CWORD") in
-        COMMAND) words="boot info data replay seal table uf2 plan gen --help --version" ;;
+        COMMAND) words="boot info data replay sweep seal elf firm table uf2 plan copy list script gen --help --version" ;;
         CPU) words="arm riscv" ;;
         KIND) words="normal bootsel update=0x" ;;
         FAMILY) words="rp2040 absolute data rp2350-arm-s rp2350-riscv rp2350-arm-ns" ;;
@@ -29,8 +29,11 @@ _dugnatsew_form() {
         boot | data) forms+=(FILE FILE CPU KIND) ;;
         info) forms+=(FILE FILE CPU) ;;
         replay) forms+=(FILE FILE CPU FILE FILE FILE) ;;
-        seal) forms+=(FILE FILE FILE) ;;
-        table) forms+=(FILE FILE) ;;
+        sweep) forms+=(FILE FILE CPU FILE FILE) ;;
+        seal | elf) forms+=(FILE FILE FILE) ;;
+        firm) forms+=(FILE CPU) ;;
+        table | copy | script) forms+=(FILE FILE) ;;
+        list) forms+=(FILE) ;;
         uf2) forms+=(FILE FAMILY FILE) ;;
         plan) forms+=(FILE FILE CPU FILE FILE) ;;
     esac

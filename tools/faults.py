@@ -31,6 +31,10 @@ window={}+{}|block={} pc={} sp={} limit={}|version={}.{}
 start {} {} {} rollback={} trial={}|image {} ok {} rollback={}|data {}|end state={}
 table slot={} {} partitions={}|table bytes=4096 partitions={}
 input {}: {}|image {} fault={}
+#|{} {}{}{}|{} token={}|{}+{}|before|buy|command|command bad-magic|copy blocks={}|cut|device
+enter-xip|erase|exclusive|exit-xip|firm no|firm yes|flags={}|kind={}|normal|otp-read|otp-write
+partition={}|power|program|raise|ram={}|read|reboot|row={} count={} ecc={}|script records={}|table
+target={}|uf2 number={} count={} address={} family={}|update={}|write
 """
 
 

@@ -12,7 +12,7 @@ use Rattle.boot_rules.proofs.DecisionLemmas.{decision-chosen, chosen-decision}
 use Rattle.run_course.specs.declared.status.Status.TheVariants.{Input as Refused, Bootsel}
 use Rattle.run_course.specs.Outcomes.{AreOfBytes, Outcome, Answers, found, outcome_found}
 use Rattle.run_course.proofs.ReadLemmas.{found-long}
-use Rattle.run_words.specs.Commands.{Command, Boot, Info, OwnedData, Replay, Seal, Table, Usage, Release, Uf2, Plan, Gen}
+use Rattle.run_words.specs.Commands.{Command, Boot, Info, OwnedData, Replay, Sweep, Seal, Elf, Firm, Table, Usage, Release, Uf2, Plan, Copy, ListScript, WriteScript, Gen}
 use Rattle.run_words.specs.Usages.{usage_text, release_line}
 use Rattle.run_forms.specs.declared.forms.Form.TheVariants.{Flash, Otp}
 use Rattle.run_forms.specs.Forms.{HasForm, content_of}
@@ -23,6 +23,11 @@ use Rattle.run_forms.proofs.WorkLemmas.{work-obeys, work-only, work-refused, non
 use Rattle.board_work.specs.Rules.{decided_status}
 use Rattle.board_work.proofs.BoardWorkLemmas.{boot-works, info-works, data-works}
 use Rattle.script_work.proofs.ReplayRuleLemmas.{replay-works}
+use Rattle.sweep_work.proofs.FirmRuleLemmas.{firm-works}
+use Rattle.sweep_work.proofs.SweepRuleLemmas.{sweep-works}
+use Rattle.text_work.proofs.CopyRuleLemmas.{copy-works}
+use Rattle.text_work.proofs.TextRuleLemmas.{list-works, write-works}
+use Rattle.tool_work.proofs.ElfLemmas.{elf-works}
 use Rattle.tool_work.proofs.SealCaseLemmas.{seal-works, table-works}
 use Rattle.tool_work.proofs.ToolLemmas.{uf2-works, plan-works, gen-works}
 use Rattle.boot_run.specs.Commands.{inputs_of, work_of, command_outcome, outcome_on, IsRefused, NeedsBytes, IsRefusedWork, IsRight, Tells, Obeys, FallsOn}
@@ -34,10 +39,16 @@ works (Boot flash otp cpu kind) = boot-works flash otp cpu kind
 works (Info flash otp cpu) = info-works flash otp cpu
 works (OwnedData flash otp cpu kind) = data-works flash otp cpu kind
 works (Replay flash otp cpu script out_flash out_otp) = replay-works flash otp script out_flash out_otp cpu
+works (Sweep flash otp cpu script pattern) = sweep-works flash otp script pattern cpu
 works (Seal binary spec out) = seal-works binary spec out
+works (Elf elf spec out) = elf-works elf spec out
+works (Firm image cpu) = firm-works image cpu
 works (Table json out) = table-works json out
 works (Uf2 image family out) = uf2-works image out family
 works (Plan flash otp cpu image out) = plan-works flash otp image out cpu
+works (Copy uf2 out) = copy-works uf2 out
+works (ListScript script) = list-works script
+works (WriteScript text out) = write-works text out
 works (Gen n) = gen-works n
 works Usage =
     none-works (λ read. ⊤) (Answers false usage_text []) (Tells usage_text) refl (λ o right. right) (λ h. cc)
@@ -71,10 +82,16 @@ bytes-serve (Boot flash otp cpu kind) read small = tt
 bytes-serve (Info flash otp cpu) read small = tt
 bytes-serve (OwnedData flash otp cpu kind) read small = tt
 bytes-serve (Replay flash otp cpu script out_flash out_otp) read small = small
+bytes-serve (Sweep flash otp cpu script pattern) read small = small
 bytes-serve (Seal binary spec out) read small = tt
+bytes-serve (Elf elf spec out) read small = small
+bytes-serve (Firm image cpu) read small = tt
 bytes-serve (Table json out) read small = tt
 bytes-serve (Uf2 image family out) read small = tt
 bytes-serve (Plan flash otp cpu image out) read small = tt
+bytes-serve (Copy uf2 out) read small = tt
+bytes-serve (ListScript script) read small = tt
+bytes-serve (WriteScript text out) read small = tt
 bytes-serve (Gen n) read small = tt
 bytes-serve Usage read small = tt
 bytes-serve Release read small = tt

@@ -4,13 +4,18 @@
 use Rattle.std.specs.Prelude.{ℕ, false, List, [], Option, Some, None, ◌≡◌, ⊤}
 use Rattle.pico_board.specs.Files.{File}
 use Rattle.run_course.specs.Outcomes.{Input, Outcome, Work, Answers, not_understood, found, outcome_found, AreOfBytes}
-use Rattle.run_words.specs.Commands.{Command, Boot, Info, OwnedData, Replay, Seal, Table, Usage, Release, Uf2, Plan, Gen}
+use Rattle.run_words.specs.Commands.{Command, Boot, Info, OwnedData, Replay, Sweep, Seal, Elf, Firm, Table, Usage, Release, Uf2, Plan, Copy, ListScript, WriteScript, Gen}
 use Rattle.run_words.specs.Usages.{usage_text, release_line}
 use Rattle.run_forms.specs.Forms.{content_of, HasForm}
 use Rattle.run_forms.specs.Jsons.{spec_read, table_read}
-use Rattle.run_forms.specs.Inputs.{InputFile, readings, flash_and_otp, flash_otp_script, flash_otp_image, binary_and_spec, one_json, image_alone, of_one, of_two, of_three, outcome_by}
+use Rattle.run_forms.specs.Inputs.{InputFile, readings, flash_and_otp, flash_otp_script, flash_otp_script_pattern, flash_otp_image, binary_and_spec, elf_and_spec, one_json, image_alone, uf2_alone, script_alone, text_alone, of_one, of_two, of_three, of_four, outcome_by}
 use Rattle.board_work.specs.Works.{boot_work, info_work, data_work}
 use Rattle.script_work.specs.Works.{replay_work}
+use Rattle.sweep_work.specs.FirmWorks.{firm_work}
+use Rattle.text_work.specs.Copies.{copy_work}
+use Rattle.text_work.specs.TextWorks.{list_work, write_work}
+use Rattle.sweep_work.specs.SweepWorks.{sweep_work}
+use Rattle.tool_work.specs.Elfs.{elf_work, IsElfOf, IsElfRefused}
 use Rattle.tool_work.specs.Tools.{seal_work, table_work}
 use Rattle.tool_work.specs.ToolWorks.{uf2_work, plan_work, gen_work}
 use Rattle.pico_board.specs.declared.boot.Cpu.{Cpu}
@@ -24,9 +29,11 @@ use Rattle.run_course.specs.declared.status.Status.{Status}
 use Rattle.run_course.specs.declared.status.Status.TheVariants.{Done}
 use Rattle.run_texts.specs.Texts.{decision_line}
 use Rattle.run_forms.specs.declared.forms.Form.TheVariants.{Flash, Otp}
-use Rattle.run_forms.specs.Rules.{OfOne, OfTwo, OfThree, IsRefusedFor, IsWorked}
+use Rattle.run_forms.specs.Rules.{OfOne, OfTwo, OfThree, OfFour, IsRefusedFor, IsWorked}
 use Rattle.board_work.specs.Rules.{decided_status, IsBootOf, IsInfoOf, IsDataOf}
 use Rattle.script_work.specs.Rules.{IsReplayOf}
+use Rattle.text_work.specs.Rules.{IsCopyOf, IsListOf, IsTextRefused, IsWrittenOf}
+use Rattle.sweep_work.specs.Rules.{IsFirmOf, IsFirmRefused, IsSweepOf, IsSweepRefused}
 use Rattle.tool_work.specs.Seals.{IsUnsealed}
 use Rattle.tool_work.specs.SealRules.{IsSealedOf, IsTableOf}
 use Rattle.tool_work.specs.ToolRules.{IsUf2Refused, IsUf2Of, IsPlanRefused, IsPlanOf, IsGenOf}
@@ -37,10 +44,17 @@ inputs_of (Boot flash otp cpu kind) = flash_and_otp flash otp
 inputs_of (Info flash otp cpu) = flash_and_otp flash otp
 inputs_of (OwnedData flash otp cpu kind) = flash_and_otp flash otp
 inputs_of (Replay flash otp cpu script out_flash out_otp) = flash_otp_script flash otp script
+inputs_of (Sweep flash otp cpu script pattern) =
+    flash_otp_script_pattern flash otp script pattern
 inputs_of (Seal binary spec out) = binary_and_spec binary spec
+inputs_of (Elf elf spec out) = elf_and_spec elf spec
+inputs_of (Firm image cpu) = image_alone image
 inputs_of (Table json out) = one_json json
 inputs_of (Uf2 image family out) = image_alone image
 inputs_of (Plan flash otp cpu image out) = flash_otp_image flash otp image
+inputs_of (Copy uf2 out) = uf2_alone uf2
+inputs_of (ListScript script) = script_alone script
+inputs_of (WriteScript text out) = text_alone text
 inputs_of (Gen n) = []
 inputs_of Usage = []
 inputs_of Release = []
@@ -52,11 +66,18 @@ work_of (Info flash otp cpu) = of_two (λ f g. info_work (content_of f g) cpu)
 work_of (OwnedData flash otp cpu kind) = of_two (λ f g. data_work (content_of f g) cpu kind)
 work_of (Replay flash otp cpu script out_flash out_otp) =
     of_three (λ f g s. replay_work (content_of f g) cpu s out_flash out_otp)
+work_of (Sweep flash otp cpu script pattern) =
+    of_four (λ f g s p. sweep_work (content_of f g) cpu script s p)
 work_of (Seal binary spec out) = of_two (λ b s. seal_work binary spec out b (spec_read s))
+work_of (Elf elf spec out) = of_two (λ e s. elf_work elf spec out e (spec_read s))
+work_of (Firm image cpu) = of_one (λ i. firm_work image i cpu)
 work_of (Table json out) = of_one (λ j. table_work out (table_read j))
 work_of (Uf2 image family out) = of_one (uf2_work image family out)
 work_of (Plan flash otp cpu image out) =
     of_three (λ f g i. plan_work (content_of f g) cpu image out i)
+work_of (Copy uf2 out) = of_one (copy_work out)
+work_of (ListScript script) = of_one list_work
+work_of (WriteScript text out) = of_one (write_work text out)
 work_of (Gen n) = λ read. gen_work n
 work_of Usage = λ read. Answers false usage_text []
 work_of Release = λ read. Answers false release_line []
@@ -81,10 +102,18 @@ outcome_on command files = outcome_found (outcome_in command) (found files (inpu
 
 -- the work of a command refuses the input of this name with this fault
 abbrev pub IsRefusedWork : Command → List (List ℕ) → List ℕ → List ℕ → Type 0
+IsRefusedWork (Sweep flash otp cpu script pattern) read name fault =
+    OfFour (λ f g s p. IsSweepRefused script (content_of f g) cpu s name fault) read
 IsRefusedWork (Seal binary spec out) read name fault =
     OfTwo (λ b s. IsUnsealed binary spec b s name fault) read
+IsRefusedWork (Elf elf spec out) read name fault =
+    OfTwo (λ e s. IsElfRefused elf spec e s name fault) read
+IsRefusedWork (Firm image cpu) read name fault =
+    OfOne (λ i. IsFirmRefused image i cpu name fault) read
 IsRefusedWork (Uf2 image family out) read name fault =
     OfOne (λ i. IsUf2Refused image i name fault) read
+IsRefusedWork (WriteScript text out) read name fault =
+    OfOne (λ t. IsTextRefused text t name fault) read
 IsRefusedWork (Plan flash otp cpu image out) read name fault =
     OfThree (λ f g i. IsPlanRefused (content_of f g) cpu image i name fault) read
 IsRefusedWork _ read name fault = ⊥
@@ -106,11 +135,18 @@ IsRight (OwnedData flash otp cpu kind) read o =
     OfTwo (λ f g. IsDataOf (content_of f g) cpu kind o) read
 IsRight (Replay flash otp cpu script out_flash out_otp) read o =
     OfThree (λ f g s. IsReplayOf (content_of f g) cpu s out_flash out_otp o) read
+IsRight (Sweep flash otp cpu script pattern) read o =
+    OfFour (λ f g s p. IsSweepOf (content_of f g) cpu s p o) read
 IsRight (Seal binary spec out) read o = OfTwo (λ b s. IsSealedOf out b s o) read
+IsRight (Elf elf spec out) read o = OfTwo (λ e s. IsElfOf out e s o) read
+IsRight (Firm image cpu) read o = OfOne (λ i. IsFirmOf i cpu o) read
 IsRight (Table json out) read o = OfOne (λ j. IsTableOf out j o) read
 IsRight (Uf2 image family out) read o = OfOne (λ i. IsUf2Of i family out o) read
 IsRight (Plan flash otp cpu image out) read o =
     OfThree (λ f g i. IsPlanOf (content_of f g) cpu i out o) read
+IsRight (Copy uf2 out) read o = OfOne (λ u. IsCopyOf u out o) read
+IsRight (ListScript script) read o = OfOne (λ s. IsListOf s o) read
+IsRight (WriteScript text out) read o = OfOne (λ t. IsWrittenOf t out o) read
 IsRight (Gen n) read o = IsGenOf n o
 IsRight Usage read o = Tells usage_text o
 IsRight Release read o = Tells release_line o
@@ -122,10 +158,12 @@ abbrev pub Obeys : Command → List (List ℕ) → Outcome → Type 0
 Obeys command read o =
     IsWorked (inputs_of command) (IsRefusedWork command read) (IsRight command read) read o
 
--- a replay asks that its inputs are of bytes, since power that is lost in an erase leaves bytes;
--- the other commands ask nothing of theirs
+-- a replay and a sweep ask that their inputs are of bytes, since power that is lost in an erase
+-- leaves bytes, and the packing of an ELF file, since its entry is a word; the other commands ask nothing
 abbrev pub NeedsBytes : Command → List (List ℕ) → Type 0
 NeedsBytes (Replay flash otp cpu script out_flash out_otp) read = AreOfBytes read
+NeedsBytes (Sweep flash otp cpu script pattern) read = AreOfBytes read
+NeedsBytes (Elf elf spec out) read = AreOfBytes read
 NeedsBytes command read = ⊤
 
 -- a run named a decision: it ended with its status, and put its line

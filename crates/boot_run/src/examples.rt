@@ -4,7 +4,7 @@
 ghost use Rattle.std.specs.Prelude.{◌≡◌, [], ◌∷◌, codes, Some, None};
 ghost use Rattle.pico_board.specs.declared.boot.Cpu.TheVariants.{Arm};
 ghost use Rattle.pico_board.specs.declared.boot.BootKind.TheVariants.{Normal};
-ghost use Rattle.run_words.specs.Commands.{Table, Boot, Info, OwnedData, Replay, Seal, Uf2, Plan};
+ghost use Rattle.run_words.specs.Commands.{Table, Boot, Info, OwnedData, Replay, Seal, Elf, Uf2, Plan};
 ghost use Rattle.boot_run.specs.Commands.{command_outcome, outcome_on};
 ghost use Rattle.run_course.specs.Outcomes.{refused, unread, not_understood};
 

@@ -11,13 +11,17 @@ ghost use Rattle.boot_run.specs.Commands.{command_outcome, inputs_of, work_of};
 use board_work::{boot, data, info};
 use run_course::{Answer, told};
 use run_forms::{
-    Form, FormWord, binary_and_spec, board_files, first_fault, flash_and_otp, flash_otp_image,
-    flash_otp_script, image_alone, image_files, lone_file, one_json, script_files, seal_files,
+    Form, FormWord, binary_and_spec, board_files, elf_and_spec, elf_files, first_fault,
+    flash_and_otp, flash_otp_image, flash_otp_script, flash_otp_script_pattern, image_alone,
+    image_files, lone_file, one_json, script_alone, script_files, seal_files, sweep_files,
+    text_alone, uf2_alone,
 };
 use run_words::{CommandWords, release_line, usage_text};
 use script_work::replay;
 use std::alloc::{AllocError, Global};
-use tool_work::{made_flash, plan_image, seal_binary, table, uf2};
+use sweep_work::{firm_image, sweep_script};
+use text_work::{copy_uf2, list_script, write_script};
+use tool_work::{made_flash, pack_elf, plan_image, seal_binary, table, uf2};
 
 /// The inputs of a command, in word order.
 pub fn inputs<'a>(
@@ -37,7 +41,16 @@ pub fn inputs<'a>(
             script,
             ..
         } => flash_otp_script(alloc, flash, otp, script),
+        CommandWords::Sweep {
+            flash,
+            otp,
+            script,
+            pattern,
+            ..
+        } => flash_otp_script_pattern(alloc, flash, otp, script, pattern),
         CommandWords::Seal { binary, spec, .. } => binary_and_spec(alloc, binary, spec),
+        CommandWords::Elf { elf, spec, .. } => elf_and_spec(alloc, elf, spec),
+        CommandWords::Firm { image, .. } => image_alone(alloc, image),
         CommandWords::Table { json, .. } => one_json(alloc, json),
         CommandWords::Uf2 { image, .. } => image_alone(alloc, image),
         CommandWords::Plan {
@@ -46,6 +59,9 @@ pub fn inputs<'a>(
             image,
             ..
         } => flash_otp_image(alloc, flash, otp, image),
+        CommandWords::Copy { uf2, .. } => uf2_alone(alloc, uf2),
+        CommandWords::ListScript { script } => script_alone(alloc, script),
+        CommandWords::WriteScript { text, .. } => text_alone(alloc, text),
         CommandWords::Gen { .. } => Ok(Vec::new(alloc)),
         CommandWords::Usage => Ok(Vec::new(alloc)),
         CommandWords::Release => Ok(Vec::new(alloc)),
@@ -85,9 +101,21 @@ fn work<'a>(
             let (flash, otp, script) = script_files(files);
             replay(alloc, flash, &otp, *cpu, &script, out_flash, out_otp)
         }
+        CommandWords::Sweep { cpu, script, .. } => {
+            let (flash, otp, events, pattern) = sweep_files(files);
+            sweep_script(alloc, flash, &otp, *cpu, script, &events, &pattern)
+        }
         CommandWords::Seal { binary, spec, out } => {
             let (bytes, text) = seal_files(files);
             seal_binary(alloc, binary, spec, out, &bytes, &text)
+        }
+        CommandWords::Elf { elf, spec, out } => {
+            let (bytes, text) = elf_files(files);
+            pack_elf(alloc, elf, spec, out, &bytes, &text)
+        }
+        CommandWords::Firm { image, cpu } => {
+            let bytes = lone_file(files, Form::Image);
+            firm_image(alloc, image, bytes, *cpu)
         }
         CommandWords::Table { out, .. } => {
             let text = lone_file(files, Form::Json);
@@ -105,6 +133,18 @@ fn work<'a>(
         } => {
             let (flash, otp, bytes) = image_files(files);
             plan_image(alloc, flash, &otp, *cpu, image, out, &bytes)
+        }
+        CommandWords::Copy { out, .. } => {
+            let bytes = lone_file(files, Form::Uf2);
+            copy_uf2(alloc, &bytes, out)
+        }
+        CommandWords::ListScript { .. } => {
+            let bytes = lone_file(files, Form::Script);
+            list_script(alloc, &bytes)
+        }
+        CommandWords::WriteScript { text, out } => {
+            let bytes = lone_file(files, Form::Text);
+            write_script(alloc, text, &bytes, out)
         }
         CommandWords::Gen { n } => made_flash(alloc, *n),
         CommandWords::Usage => Ok(told(alloc, usage_text(alloc)?)),

@@ -101,6 +101,32 @@ pub const SEALED: [u32; 27] = [
     0xab12_3579,
 ];
 
+/// The header of an executable ELF file for the Arm cores with one program header behind it: a
+/// segment of 0x128 bytes at 84 of the file, for the physical address 0x10000000.
+const ELF_HEAD: [u32; 21] = [
+    0x464c_457f,
+    0x0001_0101,
+    0,
+    0,
+    0x0028_0002, // executable, Arm
+    1,
+    0x1000_0201, // the entry
+    52, // the program headers
+    0,
+    0,
+    0x0020_0034, // the sizes of the header and of a program header
+    1, // one of them
+    0,
+    1, // a segment that is loaded
+    84,
+    0x1000_0000,
+    0x1000_0000,
+    0x128,
+    0x128,
+    5,
+    4,
+];
+
 /// A flash file with these words at these offsets, in ascending order, of so many bytes, of which
 /// the others are 0xff. It fails only where memory is out.
 pub fn flash(alloc: Global, parts: &[(usize, &[u32])], size: usize) -> Result<Vec<u8>, AllocError>
@@ -126,4 +152,16 @@ pub fn words(alloc: Global, texts: &[&str]) -> Result<Vec<String>, AllocError>
         words.push(String::from_str(alloc, text)?)?;
     }
     Ok(words)
+}
+
+/// An ELF file for the Arm cores of one segment, the least image, at 0x10000000. It fails only where
+/// memory is out.
+pub fn elf_file(alloc: Global) -> Result<Vec<u8>, AllocError> {
+    let mut bytes = Vec::new(alloc);
+    for word in ELF_HEAD {
+        bytes.extend_from_slice(&word.to_le_bytes())?;
+    }
+    let image = flash(alloc, &[(0, &VECTORS), (0x114, &ARM)], 0x128)?;
+    bytes.extend_from_slice(&image)?;
+    Ok(bytes)
 }

@@ -1,11 +1,12 @@
 -- Every content is that of two files.
-use Rattle.std.proofs.Common.{ℕ, ◌≡◌, ◌-◌, ◌*◌, ◌%◌, ◌^◌, ◌<◌, ◌≤◌, List, [], ◌++◌, length, replicate, All, refl, sym, ◌∙◌, ap, subst, arith}
-use Rattle.std.proofs.lemmas.List.{append-nil}
-use Rattle.std.proofs.lemmas.List.Elements.{recursion_from_All}
-use Rattle.pico_board.specs.Content.{Content, IsContent}
+use Rattle.std.proofs.Common.{ℕ, ◌≡◌, ◌+◌, ◌-◌, ◌*◌, ◌/◌, ◌%◌, ◌^◌, ◌<◌, ◌≤◌, max, List, [], ◌++◌, length, replicate, All, refl, sym, ◌∙◌, ap, subst, arith}
+use Rattle.std.proofs.lemmas.List.{append-nil, length-append, length-replicate}
+use Rattle.std.proofs.lemmas.List.Elements.{All-append, All-replicate, recursion_from_All}
+use Rattle.pico_board.specs.Content.{Content, IsContent, IsFlashLength}
 use Rattle.block_codec.specs.Words.{bytes_of, words_of, AreWords}
-use Rattle.block_codec.proofs.WordLemmas.{words_of-append, length-bytes_of}
+use Rattle.block_codec.proofs.WordLemmas.{words_of-append, length-bytes_of, length-words_of}
 use Rattle.image_pack.specs.Faults.{zero_otp}
+use Rattle.run_course.specs.Outcomes.{AreBytes}
 use Rattle.run_forms.specs.declared.forms.Form.TheVariants.{Flash, Otp}
 use Rattle.run_forms.specs.Forms.{HasForm, rows_of, filled_length, filled, otp_of, content_of}
 
@@ -51,3 +52,43 @@ given c is =
           (flash-back c.flash is.flash_length.whole least)
           ∙ ap (λ otp. record { flash = c.flash; otp = otp }) (otp-back c.otp is.otp_rows is.otp_length),
     )
+
+-- the flash that a file gives has whole sectors, and its OTP has all rows
+pub filled-long : (flash : List ℕ) → length (filled flash) ≡ max (length flash) (filled_length (length flash))
+unfolding filled
+filled-long flash =
+    length-append flash (replicate (filled_length (length flash) - length flash) 255)
+    ∙ (ap (λ n. length flash + n) (length-replicate (filled_length (length flash) - length flash) 255) ∙ omega arith)
+
+otp-long : (otp : List ℕ) → length otp ≤ 16384 → length (otp_of otp) ≡ 4096
+unfolding otp_of
+otp-long otp few =
+    let n = length-words_of otp in
+    length-append (rows_of otp) (replicate (4096 - length (rows_of otp)) 0)
+    ∙ (ap (λ n. length (rows_of otp) + n) (length-replicate (4096 - length (rows_of otp)) 0) ∙ omega arith)
+
+otp-narrow : (otp : List ℕ) → All (λ row. row < 2 ^ 24) (rows_of otp) → All (λ row. row < 2 ^ 24) (otp_of otp)
+unfolding otp_of
+otp-narrow otp narrow =
+    All-append (λ row. row < 2 ^ 24) (rows_of otp) (replicate (4096 - length (rows_of otp)) 0) narrow
+    (All-replicate (λ row. row < 2 ^ 24) (4096 - length (rows_of otp)) 0 (omega arith))
+
+-- a flash that is filled is of bytes
+pub filled-bytes : (flash : List ℕ) → AreBytes flash → AreBytes (filled flash)
+unfolding filled
+filled-bytes flash small =
+    All-append (λ b. b < 256) flash (replicate (filled_length (length flash) - length flash) 255) small
+    (All-replicate (λ b. b < 256) (filled_length (length flash) - length flash) 255 (omega arith))
+
+filled-whole : (flash : List ℕ) → length flash ≤ 16777216 → IsFlashLength (length (filled flash))
+filled-whole flash few =
+    let long = filled-long flash in record { whole = omega arith; least = omega arith; most = omega arith }
+
+-- files of bytes that have their forms give a content
+pub formed-content : (f g : List ℕ) → HasForm Flash f → HasForm Otp g → AreBytes f → IsContent (content_of f g)
+formed-content f g flash otp small = record {
+  flash_length = filled-whole f flash.1;
+  flash_bytes = filled-bytes f small;
+  otp_length = otp-long g otp.0;
+  otp_rows = otp-narrow g otp.2;
+}

@@ -4,9 +4,9 @@ use Rattle.std.proofs.lemmas.Bool.{ltb-true, ltb-false, lt-ltb, le-ltb, eqb-true
 use Rattle.std.proofs.lemmas.List.Elements.{All-cons, All-head, All-tail}
 use Rattle.pico_board.specs.Rows.{IsFirstWide}
 use Rattle.run_forms.specs.declared.forms.Form.{Form}
-use Rattle.run_forms.specs.declared.forms.Form.TheVariants.{Flash, Otp, Script, Binary, Spec, Json, Image}
+use Rattle.run_forms.specs.declared.forms.Form.TheVariants.{Flash, Otp, Script, Pattern, Binary, Spec, Json, Image, Elf, Uf2, Text}
 use Rattle.run_texts.specs.Texts.{hex_row}
-use Rattle.run_forms.specs.Forms.{limit_of, rows_of, HasForm, IsOwnFault, IsFault, wide_from, otp_fault, own_fault, form_fault}
+use Rattle.run_forms.specs.Forms.{limit_of, rows_of, HasForm, IsWhole, uf2_fault, IsOwnFault, IsFault, wide_from, otp_fault, own_fault, form_fault}
 use Rattle.run_forms.specs.declared.forms.TheConstants.{RECORD_LIMIT}
 use Rattle.run_forms.proofs.JsonLemmas.{spec-gives, table-gives, spec-formed, spec-faulty, spec-exact, spec-apart, table-formed, table-faulty, table-exact, table-apart}
 use Rattle.image_pack.specs.declared.spec.SealSpec.{SealSpec}
@@ -115,6 +115,34 @@ otp-faulty bytes fault h = go (length bytes % 4 == 0) refl h
     go true is e = rows (eqb-true (length bytes % 4) 0 is) (wide_from 0 (rows_of bytes)) refl e
     go false is e = let text : fault ≡ codes "otp-length" = cc in inl (eqb-false (length bytes % 4) 0 is, text)
 
+-- a UF2 file that is not too long has its form exactly where it has no fault
+uf2-formed : (bytes : List ℕ) → uf2_fault bytes ≡ None → IsWhole bytes
+uf2-formed [] h = cc
+uf2-formed (b ∷ bytes) h = (λ (e : (b ∷ bytes) ≡ []). cc, go (length (b ∷ bytes) % 512 == 0) refl h)
+  where
+    go : (t : Bool) → (length (b ∷ bytes) % 512 == 0) ≡ t → cond t None (Some (codes "uf2-length")) ≡ None
+        → length (b ∷ bytes) % 512 ≡ 0
+    go true is e = eqb-true (length (b ∷ bytes) % 512) 0 is
+    go false is e = cc
+
+uf2-faulty : (bytes fault : List ℕ) → uf2_fault bytes ≡ Some fault → IsOwnFault Uf2 bytes fault
+uf2-faulty [] fault h = let text : fault ≡ codes "uf2-length" = cc in (λ whole. whole.0 refl, text)
+uf2-faulty (b ∷ bytes) fault h = go (length (b ∷ bytes) % 512 == 0) refl h
+  where
+    go : (t : Bool) → (length (b ∷ bytes) % 512 == 0) ≡ t
+        → cond t None (Some (codes "uf2-length")) ≡ Some fault → IsOwnFault Uf2 (b ∷ bytes) fault
+    go true is e = cc
+    go false is e =
+        let text : fault ≡ codes "uf2-length" = cc in
+        (λ whole. eqb-false (length (b ∷ bytes) % 512) 0 is whole.1, text)
+
+uf2-exact : (bytes fault : List ℕ) → IsOwnFault Uf2 bytes fault → uf2_fault bytes ≡ Some fault
+uf2-exact bytes fault own = go (uf2_fault bytes) refl
+  where
+    go : (o : Option (List ℕ)) → uf2_fault bytes ≡ o → uf2_fault bytes ≡ Some fault
+    go None is = absurd (own.0 (uf2-formed bytes is))
+    go (Some text) is = is ∙ ap Some ((uf2-faulty bytes text is).1 ∙ sym own.1)
+
 -- the same of a file of either form
 own-formed : (form : Form) (bytes : List ℕ) → length bytes ≤ limit_of form → own_fault form bytes ≡ None
     → HasForm form bytes
@@ -122,20 +150,30 @@ own-formed Flash [] few h = cc
 own-formed Flash (b ∷ bytes) few h = (λ (e : (b ∷ bytes) ≡ []). cc, few)
 own-formed Otp bytes few h = let o = otp-formed bytes h in (few, o.0, o.1)
 own-formed Script bytes few h = (few, script-formed RECORD_LIMIT bytes 0 h)
+own-formed Pattern [] few h = cc
+own-formed Pattern (b ∷ bytes) few h = (λ (e : (b ∷ bytes) ≡ []). cc, few)
 own-formed Binary bytes few h = few
 own-formed Spec bytes few h = (few, spec-formed bytes h)
 own-formed Json bytes few h = (few, table-formed bytes h)
 own-formed Image bytes few h = few
+own-formed Elf bytes few h = few
+own-formed Uf2 bytes few h = (few, uf2-formed bytes h)
+own-formed Text bytes few h = few
 
 own-faulty : (form : Form) (bytes fault : List ℕ) → own_fault form bytes ≡ Some fault → IsOwnFault form bytes fault
 own-faulty Flash [] fault h = let text : fault ≡ codes "empty" = cc in (refl, text)
 own-faulty Flash (b ∷ bytes) fault h = cc
 own-faulty Otp bytes fault h = otp-faulty bytes fault h
 own-faulty Script bytes fault h = script-faulty RECORD_LIMIT bytes 0 fault h
+own-faulty Pattern [] fault h = let text : fault ≡ codes "pattern-length" = cc in (refl, text)
+own-faulty Pattern (b ∷ bytes) fault h = cc
 own-faulty Binary bytes fault h = cc
 own-faulty Spec bytes fault h = spec-faulty bytes fault h
 own-faulty Json bytes fault h = table-faulty bytes fault h
 own-faulty Image bytes fault h = cc
+own-faulty Elf bytes fault h = cc
+own-faulty Uf2 bytes fault h = uf2-faulty bytes fault h
+own-faulty Text bytes fault h = cc
 
 -- a file without a fault has its form
 pub formed : (form : Form) (bytes : List ℕ) → form_fault form bytes ≡ None → HasForm form bytes
@@ -165,6 +203,8 @@ form-apart Otp bytes fault form (inr (few, inr (whole, row, wide, text))) =
     let small = form.2 row (0) wide.inside in let large = wide.wide in omega arith
 form-apart Script bytes fault form (inl large) = let few = form.0 in let many = large.0 in omega arith
 form-apart Script bytes fault form (inr (few, own)) = script-apart RECORD_LIMIT bytes 0 fault form.1 own
+form-apart Pattern bytes fault form (inl large) = let few = form.1 in let many = large.0 in omega arith
+form-apart Pattern bytes fault form (inr (few, own)) = form.0 own.0
 form-apart Binary bytes fault form (inl large) = let many = large.0 in omega (arith, form)
 form-apart Binary bytes fault form (inr (few, own)) = own
 form-apart Spec bytes fault form (inl large) = let few = form.0 in let many = large.0 in omega arith
@@ -172,7 +212,13 @@ form-apart Spec bytes fault form (inr (few, own)) = spec-apart bytes fault form.
 form-apart Json bytes fault form (inl large) = let few = form.0 in let many = large.0 in omega arith
 form-apart Json bytes fault form (inr (few, own)) = table-apart bytes fault form.1.0 form.1.1 own
 form-apart Image bytes fault form (inl large) = let few = form in let many = large.0 in omega arith
+form-apart Elf bytes fault form (inl large) = let few = form in let many = large.0 in omega arith
+form-apart Uf2 bytes fault form (inl large) = let few = form.0 in let many = large.0 in omega arith
+form-apart Text bytes fault form (inl large) = let few = form in let many = large.0 in omega arith
 form-apart Image bytes fault form (inr (few, own)) = own
+form-apart Uf2 bytes fault form (inr (few, own)) = own.0 form.1
+form-apart Text bytes fault form (inr (few, own)) = own
+form-apart Elf bytes fault form (inr (few, own)) = own
 
 -- a fault that the rules name is the one that is found
 otp-exact : (bytes fault : List ℕ) → IsOwnFault Otp bytes fault → otp_fault bytes ≡ Some fault
@@ -192,10 +238,15 @@ own-exact Flash [] fault own = ap Some (sym own.1)
 own-exact Flash (b ∷ bytes) fault own = let e : (b ∷ bytes) ≡ [] = own.0 in cc
 own-exact Otp bytes fault own = otp-exact bytes fault own
 own-exact Script bytes fault own = script-exact RECORD_LIMIT bytes 0 fault own
+own-exact Pattern [] fault own = ap Some (sym own.1)
+own-exact Pattern (b ∷ bytes) fault own = let e : (b ∷ bytes) ≡ [] = own.0 in cc
 own-exact Binary bytes fault own = absurd own
 own-exact Spec bytes fault own = spec-exact bytes fault own
 own-exact Json bytes fault own = table-exact bytes fault own
 own-exact Image bytes fault own = absurd own
+own-exact Elf bytes fault own = absurd own
+own-exact Uf2 bytes fault own = uf2-exact bytes fault own
+own-exact Text bytes fault own = absurd own
 
 pub fault-exact : (form : Form) (bytes fault : List ℕ) → IsFault form bytes fault → form_fault form bytes ≡ Some fault
 fault-exact form bytes fault (inl large) =

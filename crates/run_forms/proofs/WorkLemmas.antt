@@ -5,8 +5,8 @@ use Rattle.run_course.specs.declared.status.Status.{Status}
 use Rattle.run_course.specs.declared.status.Status.TheVariants.{Input as Refused}
 use Rattle.run_course.specs.Outcomes.{Outcome, Work, refused, worked}
 use Rattle.run_forms.specs.Forms.{HasForm}
-use Rattle.run_forms.specs.Inputs.{InputFile, of_one, of_two, of_three, first_fault, unless_refused, outcome_by}
-use Rattle.run_forms.specs.Rules.{AreFormed, OfOne, OfTwo, OfThree, IsRefusedFor, IsWorked, IsDone, WorksBy}
+use Rattle.run_forms.specs.Inputs.{InputFile, of_one, of_two, of_three, of_four, first_fault, unless_refused, outcome_by}
+use Rattle.run_forms.specs.Rules.{AreFormed, OfOne, OfTwo, OfThree, OfFour, IsRefusedFor, IsWorked, IsDone, WorksBy}
 use Rattle.run_forms.proofs.InputLemmas.{Judged, all_formed, one_faulty, judged-first, formed-none, first-apart, first-exact}
 
 -- an outcome is its status, its text and its files
@@ -78,7 +78,7 @@ module _ (inputs : List InputFile) (Needs : List (List ℕ) → Type 0) (work : 
       let j = judged-first inputs read long in
       (refused-then read (first_fault inputs read) j, then-refused read (first_fault inputs read) j)
 
--- works on one input, on two and on three
+-- works on one input, on two, on three and on four
 pub one-works : (i : InputFile) (Needs : List (List ℕ) → Type 0) (work : List ℕ → Work)
     (Refuses : List ℕ → List ℕ → List ℕ → Type 0) (Right : List ℕ → Outcome → Type 0)
     → ((a : List ℕ) → HasForm i.form a → Needs (a ∷ []) → IsDone (Refuses a) (Right a) (worked (work a)))
@@ -221,6 +221,66 @@ three-works i j k Needs work Refuses Right done only refuses exact = record {
     go_exact (a ∷ b ∷ []) name fault all h = absurd h
     go_exact (a ∷ b ∷ c ∷ []) name fault all h = exact a b c name fault all.0 all.1.0 all.1.1.0 h
     go_exact (a ∷ b ∷ c ∷ d ∷ read) name fault all h = absurd h
+
+pub four-works : (i j k l : InputFile) (Needs : List (List ℕ) → Type 0)
+    (work : List ℕ → List ℕ → List ℕ → List ℕ → Work)
+    (Refuses : List ℕ → List ℕ → List ℕ → List ℕ → List ℕ → List ℕ → Type 0)
+    (Right : List ℕ → List ℕ → List ℕ → List ℕ → Outcome → Type 0)
+    → ((a b c d : List ℕ) → HasForm i.form a → HasForm j.form b → HasForm k.form c → HasForm l.form d
+    → Needs (a ∷ b ∷ c ∷ d ∷ []) → IsDone (Refuses a b c d) (Right a b c d) (worked (work a b c d)))
+    → ((a b c d : List ℕ) (o : Outcome) → HasForm i.form a → HasForm j.form b → HasForm k.form c → HasForm l.form d
+    → Right a b c d o → o ≡ worked (work a b c d))
+    → ((a b c d : List ℕ) → HasForm i.form a → HasForm j.form b → HasForm k.form c → HasForm l.form d
+    → (worked (work a b c d)).status ≡ Refused → (name : List ℕ) × (fault : List ℕ) × Refuses a b c d name fault)
+    → ((a b c d name fault : List ℕ) → HasForm i.form a → HasForm j.form b → HasForm k.form c → HasForm l.form d
+    → Refuses a b c d name fault → worked (work a b c d) ≡ refused name fault)
+    → WorksBy (i ∷ j ∷ k ∷ l ∷ []) Needs (of_four work)
+    (λ read name fault. OfFour (λ a b c d. Refuses a b c d name fault) read)
+    (λ read o. OfFour (λ a b c d. Right a b c d o) read)
+four-works i j k l Needs work Refuses Right done only refuses exact = record {
+  done = go_done;
+  only = go_only;
+  refuses = go_refuses;
+  exact = go_exact;
+}
+  where
+    go_done : (read : List (List ℕ)) → AreFormed (i ∷ j ∷ k ∷ l ∷ []) read → Needs read
+        → IsDone (λ name fault. OfFour (λ a b c d. Refuses a b c d name fault) read)
+        (λ o. OfFour (λ a b c d. Right a b c d o) read) (worked (of_four work read))
+    go_done [] all need = absurd all
+    go_done (a ∷ []) all need = absurd all.1
+    go_done (a ∷ b ∷ []) all need = absurd all.1.1
+    go_done (a ∷ b ∷ c ∷ []) all need = absurd all.1.1.1
+    go_done (a ∷ b ∷ c ∷ d ∷ []) all need = done a b c d all.0 all.1.0 all.1.1.0 all.1.1.1.0 need
+    go_done (a ∷ b ∷ c ∷ d ∷ e ∷ read) all need = absurd all.1.1.1.1
+
+    go_only : (read : List (List ℕ)) (o : Outcome) → AreFormed (i ∷ j ∷ k ∷ l ∷ []) read
+        → OfFour (λ a b c d. Right a b c d o) read → o ≡ worked (of_four work read)
+    go_only [] o all right = absurd right
+    go_only (a ∷ []) o all right = absurd right
+    go_only (a ∷ b ∷ []) o all right = absurd right
+    go_only (a ∷ b ∷ c ∷ []) o all right = absurd right
+    go_only (a ∷ b ∷ c ∷ d ∷ []) o all right = only a b c d o all.0 all.1.0 all.1.1.0 all.1.1.1.0 right
+    go_only (a ∷ b ∷ c ∷ d ∷ e ∷ read) o all right = absurd right
+
+    go_refuses : (read : List (List ℕ)) → AreFormed (i ∷ j ∷ k ∷ l ∷ []) read
+        → (worked (of_four work read)).status ≡ Refused
+        → (name : List ℕ) × (fault : List ℕ) × OfFour (λ a b c d. Refuses a b c d name fault) read
+    go_refuses [] all h = absurd all
+    go_refuses (a ∷ []) all h = absurd all.1
+    go_refuses (a ∷ b ∷ []) all h = absurd all.1.1
+    go_refuses (a ∷ b ∷ c ∷ []) all h = absurd all.1.1.1
+    go_refuses (a ∷ b ∷ c ∷ d ∷ []) all h = refuses a b c d all.0 all.1.0 all.1.1.0 all.1.1.1.0 h
+    go_refuses (a ∷ b ∷ c ∷ d ∷ e ∷ read) all h = absurd all.1.1.1.1
+
+    go_exact : (read : List (List ℕ)) (name fault : List ℕ) → AreFormed (i ∷ j ∷ k ∷ l ∷ []) read
+        → OfFour (λ a b c d. Refuses a b c d name fault) read → worked (of_four work read) ≡ refused name fault
+    go_exact [] name fault all h = absurd h
+    go_exact (a ∷ []) name fault all h = absurd h
+    go_exact (a ∷ b ∷ []) name fault all h = absurd h
+    go_exact (a ∷ b ∷ c ∷ []) name fault all h = absurd h
+    go_exact (a ∷ b ∷ c ∷ d ∷ []) name fault all h = exact a b c d name fault all.0 all.1.0 all.1.1.0 all.1.1.1.0 h
+    go_exact (a ∷ b ∷ c ∷ d ∷ e ∷ read) name fault all h = absurd h
 
 -- a work on no input, which refuses nothing
 pub none-works : (Needs : List (List ℕ) → Type 0) (work : Work) (Right : Outcome → Type 0)

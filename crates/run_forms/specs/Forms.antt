@@ -10,8 +10,8 @@ use Rattle.boot_script.specs.Events.{Happening, End}
 use Rattle.boot_script.specs.Reading.{event_at}
 use Rattle.boot_script.specs.Scripts.{is_end, events}
 use Rattle.run_forms.specs.declared.forms.Form.{Form}
-use Rattle.run_forms.specs.declared.forms.Form.TheVariants.{Flash, Otp, Script, Binary, Spec, Json, Image}
-use Rattle.run_forms.specs.declared.forms.TheConstants.{FLASH_LIMIT, OTP_LIMIT, SCRIPT_LIMIT, RECORD_LIMIT, BINARY_LIMIT, JSON_LIMIT, IMAGE_LIMIT}
+use Rattle.run_forms.specs.declared.forms.Form.TheVariants.{Flash, Otp, Script, Pattern, Binary, Spec, Json, Image, Elf, Uf2, Text}
+use Rattle.run_forms.specs.declared.forms.TheConstants.{FLASH_LIMIT, OTP_LIMIT, SCRIPT_LIMIT, RECORD_LIMIT, PATTERN_LIMIT, BINARY_LIMIT, JSON_LIMIT, IMAGE_LIMIT, ELF_LIMIT, UF2_LIMIT, TEXT_LIMIT}
 use Rattle.image_pack.specs.declared.spec.SealSpec.{SealSpec}
 use Rattle.part_table.specs.declared.table.Table.{Table}
 use Rattle.run_texts.specs.Texts.{hex_row}
@@ -28,10 +28,14 @@ abbrev pub limit_of : Form → ℕ
 limit_of Flash = FLASH_LIMIT
 limit_of Otp = OTP_LIMIT
 limit_of Script = SCRIPT_LIMIT
+limit_of Pattern = PATTERN_LIMIT
 limit_of Binary = BINARY_LIMIT
 limit_of Spec = JSON_LIMIT
 limit_of Json = JSON_LIMIT
 limit_of Image = IMAGE_LIMIT
+limit_of Elf = ELF_LIMIT
+limit_of Uf2 = UF2_LIMIT
+limit_of Text = TEXT_LIMIT
 
 -- the rows of an OTP file: each word of four bytes is one, the lowest byte first
 abbrev pub rows_of : List ℕ → List ℕ
@@ -69,18 +73,27 @@ pub record IsEndless (most : ℕ) (bytes : List ℕ) (at : ℕ) : Type 0 where
   pub many : length happened ≡ most
   pub before : AreRecords bytes at happened last
 
+-- the bytes are whole blocks of 512 bytes, and at least one
+abbrev pub IsWhole : List ℕ → Type 0
+IsWhole bytes = (bytes ≢ []) × (length bytes % 512 ≡ 0)
+
 -- a file has its form: a flash file is not empty, an OTP file is of whole rows of 24 bits, a script
--- has an end among its first records, with no fault before it, a JSON text gives a spec or a table,
--- and none of them is too long; of a binary and an image nothing else is asked
+-- has an end among its first records, with no fault before it, a pattern is not empty, a JSON text
+-- gives a spec or a table, a UF2 file is one of whole blocks, and none of them is too long; of a
+-- binary, an image, an ELF file and the text of a script nothing else is asked
 abbrev pub HasForm : Form → List ℕ → Type 0
 HasForm Flash bytes = (bytes ≢ []) × (length bytes ≤ FLASH_LIMIT)
 HasForm Otp bytes =
     (length bytes ≤ OTP_LIMIT) × (length bytes % 4 ≡ 0) × All (λ row. row < 2 ^ 24) (rows_of bytes)
 HasForm Script bytes = (length bytes ≤ SCRIPT_LIMIT) × IsEnded RECORD_LIMIT bytes 0
+HasForm Pattern bytes = (bytes ≢ []) × (length bytes ≤ PATTERN_LIMIT)
 HasForm Binary bytes = length bytes ≤ BINARY_LIMIT
 HasForm Spec bytes = (length bytes ≤ JSON_LIMIT) × ((spec : SealSpec) × IsSpecText bytes spec)
 HasForm Json bytes = (length bytes ≤ JSON_LIMIT) × ((table : Table) × IsTableText bytes table)
 HasForm Image bytes = length bytes ≤ IMAGE_LIMIT
+HasForm Elf bytes = length bytes ≤ ELF_LIMIT
+HasForm Uf2 bytes = (length bytes ≤ UF2_LIMIT) × IsWhole bytes
+HasForm Text bytes = length bytes ≤ TEXT_LIMIT
 
 -- a file is too long, and this is its fault
 abbrev pub IsTooLarge : Form → List ℕ → List ℕ → Type 0
@@ -88,8 +101,9 @@ IsTooLarge form bytes fault = (limit_of form < length bytes) × (fault ≡ codes
 
 -- the fault of a file that is not too long: a flash file is empty; an OTP file has a part of a row
 -- at its end, or has a row of more bits, of which the least is named; a script has a fault among
--- its first records, or these have neither a fault nor an end; a JSON text has the first fault by
--- the rules of a spec or a table; a binary and an image have none
+-- its first records, or these have neither a fault nor an end; a pattern is empty; a JSON text has
+-- the first fault by the rules of a spec or a table; a UF2 file is not of whole blocks; a binary, an
+-- image, an ELF file and a text have none
 abbrev pub IsOwnFault : Form → List ℕ → List ℕ → Type 0
 IsOwnFault Flash bytes fault = (bytes ≡ []) × (fault ≡ codes "empty")
 IsOwnFault Otp bytes fault =
@@ -99,10 +113,14 @@ IsOwnFault Otp bytes fault =
 IsOwnFault Script bytes text =
     ((fault : ScriptFault) × IsUnread RECORD_LIMIT bytes 0 fault × (text ≡ script_text fault))
     ⊎ (IsEndless RECORD_LIMIT bytes 0 × (text ≡ codes "script too-many"))
+IsOwnFault Pattern bytes fault = (bytes ≡ []) × (fault ≡ codes "pattern-length")
 IsOwnFault Binary bytes fault = ⊥
 IsOwnFault Spec bytes fault = IsTextFault IsSpecFault bytes fault
 IsOwnFault Json bytes fault = IsTextFault IsTableFault bytes fault
 IsOwnFault Image bytes fault = ⊥
+IsOwnFault Elf bytes fault = ⊥
+IsOwnFault Uf2 bytes fault = (IsWhole bytes → ⊥) × (fault ≡ codes "uf2-length")
+IsOwnFault Text bytes fault = ⊥
 
 -- why a file does not have its form: that it is too long comes first
 abbrev pub IsFault : Form → List ℕ → List ℕ → Type 0
@@ -142,16 +160,27 @@ events_read (Err fault) = []
 abbrev pub script_events : List ℕ → List Happening
 script_events bytes = events_read (events bytes)
 
+-- the fault of a UF2 file that is not too long, as a function
+abbrev pub uf2_fault : List ℕ → Option (List ℕ)
+uf2_fault [] = Some (codes "uf2-length")
+uf2_fault (b ∷ bytes) =
+    if length (b ∷ bytes) % 512 == 0 then None else Some (codes "uf2-length")
+
 -- the fault of a file of each form that is not too long
 abbrev pub own_fault : Form → List ℕ → Option (List ℕ)
 own_fault Flash [] = Some (codes "empty")
 own_fault Flash (b ∷ bytes) = None
 own_fault Otp bytes = otp_fault bytes
 own_fault Script bytes = script_fault RECORD_LIMIT bytes 0
+own_fault Pattern [] = Some (codes "pattern-length")
+own_fault Pattern (b ∷ bytes) = None
 own_fault Binary bytes = None
 own_fault Spec bytes = read_fault (spec_read bytes)
 own_fault Json bytes = read_fault (table_read bytes)
 own_fault Image bytes = None
+own_fault Elf bytes = None
+own_fault Uf2 bytes = uf2_fault bytes
+own_fault Text bytes = None
 
 -- the fault of a file
 abbrev pub form_fault : Form → List ℕ → Option (List ℕ)

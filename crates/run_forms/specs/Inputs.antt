@@ -3,7 +3,7 @@ use Rattle.std.specs.Prelude.{ℕ, false, List, [], ◌∷◌, map, Option, Some
 use Rattle.std.specs.Option.{option_or}
 use Rattle.run_course.specs.Outcomes.{Input, Outcome, Work, Answers, refused, worked}
 use Rattle.run_forms.specs.declared.forms.Form.{Form}
-use Rattle.run_forms.specs.declared.forms.Form.TheVariants.{Flash, Otp, Script, Binary, Spec, Json, Image}
+use Rattle.run_forms.specs.declared.forms.Form.TheVariants.{Flash, Otp, Script, Pattern, Binary, Spec, Json, Image, Elf, Uf2, Text}
 use Rattle.run_forms.specs.Forms.{limit_of, form_fault}
 
 -- an input of a command: its name and its form
@@ -29,6 +29,12 @@ flash_otp_script flash otp script =
     record { name = flash; form = Flash } ∷ record { name = otp; form = Otp }
     ∷ record { name = script; form = Script } ∷ []
 
+-- these and a pattern
+abbrev pub flash_otp_script_pattern : List ℕ → List ℕ → List ℕ → List ℕ → List InputFile
+flash_otp_script_pattern flash otp script pattern =
+    record { name = flash; form = Flash } ∷ record { name = otp; form = Otp }
+    ∷ record { name = script; form = Script } ∷ record { name = pattern; form = Pattern } ∷ []
+
 -- a flash file, an OTP file and an image
 abbrev pub flash_otp_image : List ℕ → List ℕ → List ℕ → List InputFile
 flash_otp_image flash otp image =
@@ -40,6 +46,10 @@ abbrev pub binary_and_spec : List ℕ → List ℕ → List InputFile
 binary_and_spec binary spec =
     record { name = binary; form = Binary } ∷ record { name = spec; form = Spec } ∷ []
 
+-- an ELF file and a spec
+abbrev pub elf_and_spec : List ℕ → List ℕ → List InputFile
+elf_and_spec elf spec = record { name = elf; form = Elf } ∷ record { name = spec; form = Spec } ∷ []
+
 -- a table's text
 abbrev pub one_json : List ℕ → List InputFile
 one_json json = record { name = json; form = Json } ∷ []
@@ -48,11 +58,21 @@ one_json json = record { name = json; form = Json } ∷ []
 abbrev pub image_alone : List ℕ → List InputFile
 image_alone image = record { name = image; form = Image } ∷ []
 
+-- a UF2 file, a script and the text of one
+abbrev pub uf2_alone : List ℕ → List InputFile
+uf2_alone uf2 = record { name = uf2; form = Uf2 } ∷ []
+
+abbrev pub script_alone : List ℕ → List InputFile
+script_alone script = record { name = script; form = Script } ∷ []
+
+abbrev pub text_alone : List ℕ → List InputFile
+text_alone text = record { name = text; form = Text } ∷ []
+
 -- nothing, which is what a work comes to on another number of inputs than it has
 abbrev pub nothing : Work
 nothing = Answers false [] []
 
--- a work on the bytes of one input, of two and of three
+-- a work on the bytes of one input, of two, of three and of four
 abbrev pub of_one : (List ℕ → Work) → List (List ℕ) → Work
 of_one work (a ∷ []) = work a
 of_one work _ = nothing
@@ -64,6 +84,10 @@ of_two work _ = nothing
 abbrev pub of_three : (List ℕ → List ℕ → List ℕ → Work) → List (List ℕ) → Work
 of_three work (a ∷ b ∷ c ∷ []) = work a b c
 of_three work _ = nothing
+
+abbrev pub of_four : (List ℕ → List ℕ → List ℕ → List ℕ → Work) → List (List ℕ) → Work
+of_four work (a ∷ b ∷ c ∷ d ∷ []) = work a b c d
+of_four work _ = nothing
 
 -- an input whose bytes do not have its form, with their fault
 abbrev pub named_fault : InputFile → List ℕ → Option Outcome

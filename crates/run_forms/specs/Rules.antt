@@ -25,7 +25,7 @@ IsFirstFault (input ∷ inputs) (bytes ∷ read) name fault =
     ⊎ (HasForm input.form bytes × IsFirstFault inputs read name fault)
 IsFirstFault _ _ name fault = ⊥
 
--- a fact of the bytes of one input, of two and of three; of another number it is none
+-- a fact of the bytes of one input, of two, of three and of four; of another number it is none
 abbrev pub OfOne : (List ℕ → Type 0) → List (List ℕ) → Type 0
 OfOne P (a ∷ []) = P a
 OfOne P _ = ⊥
@@ -37,6 +37,10 @@ OfTwo P _ = ⊥
 abbrev pub OfThree : (List ℕ → List ℕ → List ℕ → Type 0) → List (List ℕ) → Type 0
 OfThree P (a ∷ b ∷ c ∷ []) = P a b c
 OfThree P _ = ⊥
+
+abbrev pub OfFour : (List ℕ → List ℕ → List ℕ → List ℕ → Type 0) → List (List ℕ) → Type 0
+OfFour P (a ∷ b ∷ c ∷ d ∷ []) = P a b c d
+OfFour P _ = ⊥
 
 -- the input of this name is refused with this fault: it is the first that breaks its form, or all
 -- have their forms and the work refuses it

@@ -1,9 +1,9 @@
 //! Worked examples of the definitions, proved by computing: each is the `ensures` of a function
 //! that does nothing.
 
-ghost use Rattle.std.specs.Prelude.{◌≡◌, [], ◌∷◌, codes, slice_get, Some, None};
+ghost use Rattle.std.specs.Prelude.{◌≡◌, ◌*◌, [], ◌∷◌, codes, replicate, slice_get, Some, None};
 ghost use Rattle.part_table.specs.declared.table.TableFault.TheVariants.{Overlap, BadItem, Permissions, Range, Link, Hash};
-ghost use Rattle.run_forms.specs.declared.forms.Form.TheVariants.{Flash, Otp, Script, Binary, Spec, Json, Image};
+ghost use Rattle.run_forms.specs.declared.forms.Form.TheVariants.{Flash, Otp, Script, Pattern, Binary, Spec, Json, Image, Elf, Uf2, Text};
 ghost use Rattle.run_forms.specs.declared.forms.TheConstants.{RECORD_LIMIT};
 ghost use Rattle.boot_script.specs.Events.{PowerOn, Buy};
 ghost use Rattle.run_forms.specs.Forms.{limit_of, form_fault, script_fault, script_events, filled, filled_length, rows_of};
@@ -46,6 +46,24 @@ pub fn forms_of_scripts()
     ensures events { script_events (4 ∷ 6 ∷ 0 ∷ 4 ∷ []) ≡ PowerOn ∷ Buy ∷ [] }
 {}
 
+/// A UF2 file has whole blocks, and at least one; the text of a script has a bound alone.
+pub fn forms_of_bridges()
+    ensures uf2_limit { limit_of Uf2 ≡ 65537 * 512 }
+    ensures text_limit { limit_of Text ≡ 201326592 }
+    ensures no_block { form_fault Uf2 [] ≡ Some (codes "uf2-length") }
+    ensures part { form_fault Uf2 (replicate 511 0) ≡ Some (codes "uf2-length") }
+    ensures block { form_fault Uf2 (replicate 512 0) ≡ None }
+    ensures more { form_fault Uf2 (replicate 513 0) ≡ Some (codes "uf2-length") }
+    ensures no_text { form_fault Text [] ≡ None }
+{}
+
+/// A pattern has at least one byte.
+pub fn forms_of_patterns()
+    ensures limit { limit_of Pattern ≡ 4096 }
+    ensures empty { form_fault Pattern [] ≡ Some (codes "pattern-length") }
+    ensures one { form_fault Pattern (0 ∷ []) ≡ None }
+{}
+
 /// The length of the flash that a file gives: whole sectors, and at least two.
 pub fn filled_lengths()
     ensures one { filled_length 1 ≡ 8192 }
@@ -60,6 +78,7 @@ pub fn limits_of_tools()
     ensures binary { limit_of Binary ≡ 16777216 }
     ensures spec { limit_of Spec ≡ 65536 }
     ensures json { limit_of Json ≡ 65536 }
+    ensures elf { limit_of Elf ≡ 67108864 }
 {}
 
 /// The texts of the faults of a JSON text.
@@ -100,6 +119,7 @@ pub fn forms_of_images()
     ensures limit { limit_of Image ≡ 16777216 }
     ensures empty { form_fault Image [] ≡ None }
     ensures one { form_fault Image (0 ∷ []) ≡ None }
+    ensures empty_elf { form_fault Elf [] ≡ None }
 {}
 
 /// A flash file is filled with 0xff.

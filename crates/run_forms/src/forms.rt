@@ -29,11 +29,23 @@ pub const IMAGE_LIMIT: u32 = 16_777_216;
 /// The greatest number of records of a script, with its end.
 pub const RECORD_LIMIT: u32 = 524_288;
 
+/// The greatest pattern of a cut, in bytes.
+pub const PATTERN_LIMIT: u32 = 4096;
+
 /// The greatest binary, in bytes.
 pub const BINARY_LIMIT: u32 = 16_777_216;
 
 /// The greatest JSON text, in bytes.
 pub const JSON_LIMIT: u32 = 65_536;
+
+/// The greatest ELF file, in bytes.
+pub const ELF_LIMIT: u32 = 67_108_864;
+
+/// The greatest UF2 file, in bytes: 65,537 blocks.
+pub const UF2_LIMIT: u32 = 33_554_944;
+
+/// The greatest text of a script, in bytes, which no listed script passes.
+pub const TEXT_LIMIT: u32 = 201_326_592;
 
 /// The form of an input file.
 #[derive(Clone, Copy, PartialEq, Eq, Debug)]
@@ -44,6 +56,8 @@ pub enum Form {
     Otp,
     /// The records of a script, up to its end.
     Script,
+    /// The bytes that a cut within a step leaves.
+    Pattern,
     /// Any bytes, of which an image is made.
     Binary,
     /// The JSON text of the spec of a sealed image.
@@ -52,6 +66,12 @@ pub enum Form {
     Json,
     /// The bytes of an image.
     Image,
+    /// An ELF file, of which an image is made.
+    Elf,
+    /// The blocks of a UF2 file.
+    Uf2,
+    /// The text of a script.
+    Text,
 }
 
 impl Form {
@@ -63,9 +83,13 @@ impl Form {
             Form::Flash => FLASH_LIMIT,
             Form::Otp => OTP_LIMIT,
             Form::Script => SCRIPT_LIMIT,
+            Form::Pattern => PATTERN_LIMIT,
             Form::Binary => BINARY_LIMIT,
             Form::Spec | Form::Json => JSON_LIMIT,
             Form::Image => IMAGE_LIMIT,
+            Form::Elf => ELF_LIMIT,
+            Form::Uf2 => UF2_LIMIT,
+            Form::Text => TEXT_LIMIT,
         }
     }
 }
@@ -160,10 +184,16 @@ fn own_fault(alloc: Global, form: Form, file: &[u8]) -> Result<Option<String>, A
         Form::Flash => Ok(None),
         Form::Otp => otp_fault(alloc, file),
         Form::Script => script_fault(alloc, file),
+        Form::Pattern if file.is_empty() => Ok(Some(String::from_str(alloc, "pattern-length")?)),
+        Form::Pattern => Ok(None),
         Form::Binary => Ok(None),
         Form::Spec => spec_fault(alloc, file),
         Form::Json => table_fault(alloc, file),
-        Form::Image => Ok(None),
+        Form::Uf2 if file.is_empty() || file.len() % 512 != 0 => {
+            Ok(Some(String::from_str(alloc, "uf2-length")?))
+        }
+        Form::Uf2 => Ok(None),
+        Form::Image | Form::Elf | Form::Text => Ok(None),
     }
 }
 

@@ -4,7 +4,7 @@
 ghost use Rattle.std.specs.Prelude.{◌≡◌, ◌∷◌, [], IfOk, length, map, option_map};
 ghost use Rattle.run_course.specs.Views.{input_from, outcome_from, bytes_of};
 ghost use Rattle.run_forms.specs.declared.forms.Form.{Form};
-ghost use Rattle.run_forms.specs.declared.forms.Form.TheVariants.{Flash, Otp, Script, Binary, Spec, Image};
+ghost use Rattle.run_forms.specs.declared.forms.Form.TheVariants.{Flash, Otp, Script, Pattern, Binary, Spec, Image, Elf};
 ghost use Rattle.run_forms.specs.Forms.{HasForm};
 ghost use Rattle.run_forms.specs.Inputs.{to_read, readings, first_fault};
 ghost use Rattle.run_forms.specs.Rules.{HaveForms};
@@ -102,6 +102,20 @@ fn three(files: Vec<Vec<u8>>) -> (Vec<u8>, Vec<u8>, Vec<u8>)
     (first, second, third)
 }
 
+/// The files of four inputs.
+fn four(files: Vec<Vec<u8>>) -> (Vec<u8>, Vec<u8>, Vec<u8>, Vec<u8>)
+    requires { length files.items ≡ 4 }
+    ensures { bytes_of files.items
+        ≡ (result.0.items ∷ result.1.items ∷ result.2.items ∷ result.3.items ∷ []) }
+{
+    let mut files = files.into_iter();
+    let first = files.next().unwrap();
+    let second = files.next().unwrap();
+    let third = files.next().unwrap();
+    let fourth = files.next().unwrap();
+    (first, second, third, fourth)
+}
+
 /// A flash file and an OTP file, which have their forms.
 pub fn board_files(files: Vec<Vec<u8>>) -> (Vec<u8>, Vec<u8>)
     requires { HaveForms (Flash ∷ Otp ∷ []) (bytes_of files.items) }
@@ -124,6 +138,19 @@ pub fn script_files(files: Vec<Vec<u8>>) -> (Vec<u8>, Vec<u8>, Vec<u8>)
     three(files)
 }
 
+/// A flash file, an OTP file, a script and a pattern, which have their forms.
+pub fn sweep_files(files: Vec<Vec<u8>>) -> (Vec<u8>, Vec<u8>, Vec<u8>, Vec<u8>)
+    requires { HaveForms (Flash ∷ Otp ∷ Script ∷ Pattern ∷ []) (bytes_of files.items) }
+    ensures files { bytes_of files.items
+        ≡ (result.0.items ∷ result.1.items ∷ result.2.items ∷ result.3.items ∷ []) }
+    ensures flash { HasForm Flash result.0.items }
+    ensures otp { HasForm Otp result.1.items }
+    ensures script { HasForm Script result.2.items }
+    ensures pattern { HasForm Pattern result.3.items }
+{
+    four(files)
+}
+
 /// A flash file, an OTP file and an image, which have their forms.
 pub fn image_files(files: Vec<Vec<u8>>) -> (Vec<u8>, Vec<u8>, Vec<u8>)
     requires { HaveForms (Flash ∷ Otp ∷ Image ∷ []) (bytes_of files.items) }
@@ -141,6 +168,16 @@ pub fn seal_files(files: Vec<Vec<u8>>) -> (Vec<u8>, Vec<u8>)
     requires { HaveForms (Binary ∷ Spec ∷ []) (bytes_of files.items) }
     ensures files { bytes_of files.items ≡ (result.0.items ∷ result.1.items ∷ []) }
     ensures binary { HasForm Binary result.0.items }
+    ensures spec { HasForm Spec result.1.items }
+{
+    two(files)
+}
+
+/// An ELF file and a spec, which have their forms.
+pub fn elf_files(files: Vec<Vec<u8>>) -> (Vec<u8>, Vec<u8>)
+    requires { HaveForms (Elf ∷ Spec ∷ []) (bytes_of files.items) }
+    ensures files { bytes_of files.items ≡ (result.0.items ∷ result.1.items ∷ []) }
+    ensures elf { HasForm Elf result.0.items }
     ensures spec { HasForm Spec result.1.items }
 {
     two(files)

@@ -11,13 +11,15 @@ pub mod laws;
 mod shapes;
 
 pub use forms::{
-    BINARY_LIMIT, FLASH_LIMIT, Form, IMAGE_LIMIT, JSON_LIMIT, OTP_LIMIT, RECORD_LIMIT,
-    SCRIPT_LIMIT, board_of, is_end,
+    BINARY_LIMIT, ELF_LIMIT, FLASH_LIMIT, Form, IMAGE_LIMIT, JSON_LIMIT, OTP_LIMIT, PATTERN_LIMIT,
+    RECORD_LIMIT, SCRIPT_LIMIT, TEXT_LIMIT, UF2_LIMIT, board_of, is_end,
 };
 pub use inputs::{
-    FormWord, board_files, first_fault, image_files, lone_file, readings, script_files, seal_files,
+    FormWord, board_files, elf_files, first_fault, image_files, lone_file, readings, script_files,
+    seal_files, sweep_files,
 };
 pub use json::{spec_in, table_in};
 pub use shapes::{
-    binary_and_spec, flash_and_otp, flash_otp_image, flash_otp_script, image_alone, one_json,
+    binary_and_spec, elf_and_spec, flash_and_otp, flash_otp_image, flash_otp_script,
+    flash_otp_script_pattern, image_alone, one_json, script_alone, text_alone, uf2_alone,
 };

@@ -1,7 +1,7 @@
 //! The inputs of commands, by their names.
 
 ghost use Rattle.std.specs.Prelude.{◌≡◌, IfOk, map};
-ghost use Rattle.run_forms.specs.Inputs.{flash_and_otp, flash_otp_script, flash_otp_image, binary_and_spec, one_json, image_alone};
+ghost use Rattle.run_forms.specs.Inputs.{flash_and_otp, flash_otp_script, flash_otp_script_pattern, flash_otp_image, binary_and_spec, elf_and_spec, one_json, image_alone, uf2_alone, script_alone, text_alone};
 ghost use Rattle.run_forms.specs.Views.{input_file_from};
 
 use crate::forms::Form;
@@ -56,6 +56,38 @@ pub fn binary_and_spec<'a>(
     Ok(vec![in alloc; input(binary, Form::Binary), input(spec, Form::Spec)]?)
 }
 
+/// A flash file, an OTP file, a script and a pattern as inputs. It fails only where memory is out.
+pub fn flash_otp_script_pattern<'a>(
+    alloc: Global,
+    flash: &'a str,
+    otp: &'a str,
+    script: &'a str,
+    pattern: &'a str,
+) -> Result<Vec<FormWord<'a>>, AllocError>
+    ensures { IfOk result (λ inputs. map input_file_from inputs.items
+        ≡ flash_otp_script_pattern flash.entry.now otp.entry.now script.entry.now
+        pattern.entry.now) }
+{
+    Ok(vec![in alloc;
+        input(flash, Form::Flash),
+        input(otp, Form::Otp),
+        input(script, Form::Script),
+        input(pattern, Form::Pattern),
+    ]?)
+}
+
+/// An ELF file and a spec as inputs. It fails only where memory is out.
+pub fn elf_and_spec<'a>(
+    alloc: Global,
+    elf: &'a str,
+    spec: &'a str,
+) -> Result<Vec<FormWord<'a>>, AllocError>
+    ensures { IfOk result (λ inputs. map input_file_from inputs.items
+        ≡ elf_and_spec elf.entry.now spec.entry.now) }
+{
+    Ok(vec![in alloc; input(elf, Form::Elf), input(spec, Form::Spec)]?)
+}
+
 /// A table's text as an input. It fails only where memory is out.
 pub fn one_json<'a>(alloc: Global, json: &'a str) -> Result<Vec<FormWord<'a>>, AllocError>
     ensures { IfOk result (λ inputs. map input_file_from inputs.items ≡ one_json json.entry.now) }
@@ -86,4 +118,26 @@ pub fn flash_otp_image<'a>(
         input(otp, Form::Otp),
         input(image, Form::Image),
     ]?)
+}
+
+/// A UF2 file as an input. It fails only where memory is out.
+pub fn uf2_alone<'a>(alloc: Global, uf2: &'a str) -> Result<Vec<FormWord<'a>>, AllocError>
+    ensures { IfOk result (λ inputs. map input_file_from inputs.items ≡ uf2_alone uf2.entry.now) }
+{
+    Ok(vec![in alloc; input(uf2, Form::Uf2)]?)
+}
+
+/// A script as an input. It fails only where memory is out.
+pub fn script_alone<'a>(alloc: Global, script: &'a str) -> Result<Vec<FormWord<'a>>, AllocError>
+    ensures { IfOk result
+        (λ inputs. map input_file_from inputs.items ≡ script_alone script.entry.now) }
+{
+    Ok(vec![in alloc; input(script, Form::Script)]?)
+}
+
+/// The text of a script as an input. It fails only where memory is out.
+pub fn text_alone<'a>(alloc: Global, text: &'a str) -> Result<Vec<FormWord<'a>>, AllocError>
+    ensures { IfOk result (λ inputs. map input_file_from inputs.items ≡ text_alone text.entry.now) }
+{
+    Ok(vec![in alloc; input(text, Form::Text)]?)
 }

@@ -4,3 +4,7 @@
 
 #[cfg(test)]
 mod replays;
+#[cfg(test)]
+mod sweeps;
+#[cfg(test)]
+mod texts;

@@ -2,25 +2,31 @@
 
 use boot_run::{Status, run};
 use pico_board::{MemSink, MemStore};
-use run_fixtures::{ARM_1_0, PAIR, VECTORS, flash, words};
+use run_fixtures::{ARM_1_0, PAIR, VECTORS, elf_file, flash, words};
 use std::alloc::Global;
 use std::test::Fail;
 
 /// The words of each command that reads a file or writes one, its reads, and its writes.
-const COMMANDS: [(&[&str], u64, u64); 9] = [
+const COMMANDS: [(&[&str], u64, u64); 15] = [
     (&["boot", "f", "o", "arm", "normal"], 2, 0),
     (&["info", "f", "o", "arm"], 2, 0),
     (&["data", "f", "o", "arm", "normal"], 2, 0),
     (&["replay", "f", "o", "arm", "s", "a", "b"], 3, 2),
+    (&["sweep", "f", "o", "arm", "s", "t"], 4, 0),
     (&["seal", "i", "p", "a"], 2, 1),
+    (&["elf", "e", "p", "a"], 2, 1),
+    (&["firm", "i", "arm"], 1, 0),
     (&["table", "t", "a"], 1, 1),
     (&["uf2", "i", "rp2350-arm-s", "a"], 1, 1),
     (&["plan", "f", "o", "arm", "i", "a"], 3, 1),
+    (&["copy", "u", "a"], 1, 1),
+    (&["list", "s"], 1, 0),
+    (&["script", "x", "a"], 1, 1),
     (&["gen", "7"], 0, 0),
 ];
 
-/// A store of a flash, an OTP, a script, an image, a spec and a table, whose listed read and write
-/// fail.
+/// A store of a flash, an OTP, a script, an image, an ELF file, a spec, a table, a UF2 file and a
+/// text, whose listed read and write fail.
 fn store(alloc: Global, bad_read: u64, bad_write: u64) -> Result<MemStore, Fail> {
     let parts: [(usize, &[u32]); 3] = [(0, &PAIR), (0x2000, &VECTORS), (0x2100, &ARM_1_0)];
     let image: [(usize, &[u32]); 2] = [(0, &VECTORS), (0x100, &ARM_1_0)];
@@ -36,7 +42,13 @@ fn store(alloc: Global, bad_read: u64, bad_write: u64) -> Result<MemStore, Fail>
         (String::from_str(alloc, "o")?, Vec::new(alloc)),
         (String::from_str(alloc, "s")?, vec![in alloc; 4_u8, 0]?),
         (String::from_str(alloc, "i")?, flash(alloc, &image, 0x11c)?),
+        (String::from_str(alloc, "e")?, elf_file(alloc)?),
         (String::from_str(alloc, "p")?, Vec::from_slice(alloc, spec)?),
+        (String::from_str(alloc, "u")?, flash(alloc, &[], 512)?),
+        (
+            String::from_str(alloc, "x")?,
+            Vec::from_slice(alloc, b"power\n".as_slice())?
+        ),
         (
             String::from_str(alloc, "t")?,
             Vec::from_slice(alloc, table)?

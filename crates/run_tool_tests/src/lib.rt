@@ -4,6 +4,8 @@
 #![tactic(auto)]
 
 #[cfg(test)]
+mod elfs;
+#[cfg(test)]
 mod images;
 #[cfg(test)]
 mod tables;

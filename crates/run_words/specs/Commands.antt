@@ -16,10 +16,16 @@ pub data Command : Type 0 where
   Info : (flash otp : List ℕ) → (cpu : Cpu) → Command
   OwnedData : (flash otp : List ℕ) → (cpu : Cpu) → (kind : BootKind) → Command
   Replay : (flash otp : List ℕ) → (cpu : Cpu) → (script out_flash out_otp : List ℕ) → Command
+  Sweep : (flash otp : List ℕ) → (cpu : Cpu) → (script pattern : List ℕ) → Command
   Seal : (binary spec out : List ℕ) → Command
+  Elf : (elf spec out : List ℕ) → Command
+  Firm : (image : List ℕ) → (cpu : Cpu) → Command
   Table : (json out : List ℕ) → Command
   Uf2 : (image : List ℕ) → (family : ℕ) → (out : List ℕ) → Command
   Plan : (flash otp : List ℕ) → (cpu : Cpu) → (image out : List ℕ) → Command
+  Copy : (uf2 out : List ℕ) → Command
+  ListScript : (script : List ℕ) → Command
+  WriteScript : (text out : List ℕ) → Command
   Gen : (n : ℕ) → Command
   Usage : Command
   Release : Command
@@ -66,15 +72,30 @@ one_word name =
     else if bytes_eq name (codes "--version") then Some Release
     else None
 
+-- the name of a command on a number
+abbrev pub gen_words : List ℕ → Option ℕ → Option Command
+gen_words name None = None
+gen_words name (Some n) = if bytes_eq name (codes "gen") then Some (Gen n) else None
+
 -- the name of a command and one word
-abbrev pub two_words : List ℕ → Option ℕ → Option Command
-two_words name None = None
-two_words name (Some n) = if bytes_eq name (codes "gen") then Some (Gen n) else None
+abbrev pub two_words : List ℕ → List ℕ → Option Command
+two_words name word =
+    if bytes_eq name (codes "list") then Some (ListScript word)
+    else gen_words name (number_of word)
+
+-- the name of a command on an image and a processor
+abbrev pub firm_words : List ℕ → List ℕ → Option Cpu → Option Command
+firm_words name image None = None
+firm_words name image (Some cpu) =
+    if bytes_eq name (codes "firm") then Some (Firm image cpu) else None
 
 -- the name of a command and two words
 abbrev pub three_words : List ℕ → List ℕ → List ℕ → Option Command
 three_words name first second =
-    if bytes_eq name (codes "table") then Some (Table first second) else None
+    if bytes_eq name (codes "table") then Some (Table first second)
+    else if bytes_eq name (codes "copy") then Some (Copy first second)
+    else if bytes_eq name (codes "script") then Some (WriteScript first second)
+    else firm_words name first (cpu_of second)
 
 -- the name of a command on a flash, an OTP and a processor
 abbrev pub board_words : List ℕ → List ℕ → List ℕ → Option Cpu → Option Command
@@ -92,6 +113,7 @@ uf2_words name image (Some family) out =
 abbrev pub four_words : List ℕ → List ℕ → List ℕ → List ℕ → Option Command
 four_words name first second third =
     if bytes_eq name (codes "seal") then Some (Seal first second third)
+    else if bytes_eq name (codes "elf") then Some (Elf first second third)
     else option_or (board_words name first second (cpu_of third))
     (uf2_words name first (family_of second) third)
 
@@ -106,9 +128,11 @@ five_words name flash otp (Some cpu) (Some kind) =
 
 -- the name of a command and five words
 abbrev pub six_words : List ℕ → List ℕ → List ℕ → Option Cpu → List ℕ → List ℕ → Option Command
-six_words name flash otp None image out = None
-six_words name flash otp (Some cpu) image out =
-    if bytes_eq name (codes "plan") then Some (Plan flash otp cpu image out) else None
+six_words name flash otp None first second = None
+six_words name flash otp (Some cpu) first second =
+    if bytes_eq name (codes "plan") then Some (Plan flash otp cpu first second)
+    else if bytes_eq name (codes "sweep") then Some (Sweep flash otp cpu first second)
+    else None
 
 -- the name of a command and six words
 abbrev pub seven_words : List ℕ → List ℕ → List ℕ → Option Cpu → List ℕ → List ℕ → List ℕ
@@ -121,13 +145,13 @@ seven_words name flash otp (Some cpu) script out_flash out_otp =
 -- the command that the words are; other words are none
 abbrev pub command_of : List (List ℕ) → Option Command
 command_of (name ∷ []) = one_word name
-command_of (name ∷ number ∷ []) = two_words name (number_of number)
+command_of (name ∷ word ∷ []) = two_words name word
 command_of (name ∷ first ∷ second ∷ []) = three_words name first second
 command_of (name ∷ first ∷ second ∷ third ∷ []) = four_words name first second third
 command_of (name ∷ flash ∷ otp ∷ cpu ∷ kind ∷ []) =
     five_words name flash otp (cpu_of cpu) (kind_of kind)
-command_of (name ∷ flash ∷ otp ∷ cpu ∷ image ∷ out ∷ []) =
-    six_words name flash otp (cpu_of cpu) image out
+command_of (name ∷ flash ∷ otp ∷ cpu ∷ first ∷ second ∷ []) =
+    six_words name flash otp (cpu_of cpu) first second
 command_of (name ∷ flash ∷ otp ∷ cpu ∷ script ∷ out_flash ∷ out_otp ∷ []) =
     seven_words name flash otp (cpu_of cpu) script out_flash out_otp
 command_of _ = None
@@ -143,11 +167,18 @@ command_from (words.Info flash otp cpu) = Info flash.now otp.now cpu
 command_from (words.OwnedData flash otp cpu kind) = OwnedData flash.now otp.now cpu kind
 command_from (words.Replay flash otp cpu script out_flash out_otp) =
     Replay flash.now otp.now cpu script.now out_flash.now out_otp.now
+command_from (words.Sweep flash otp cpu script pattern) =
+    Sweep flash.now otp.now cpu script.now pattern.now
 command_from (words.Seal binary spec out) = Seal binary.now spec.now out.now
+command_from (words.Elf elf spec out) = Elf elf.now spec.now out.now
+command_from (words.Firm image cpu) = Firm image.now cpu
 command_from (words.Table json out) = Table json.now out.now
 command_from (words.Uf2 image family out) = Uf2 image.now family out.now
 command_from (words.Plan flash otp cpu image out) =
     Plan flash.now otp.now cpu image.now out.now
+command_from (words.Copy uf2 out) = Copy uf2.now out.now
+command_from (words.ListScript script) = ListScript script.now
+command_from (words.WriteScript text out) = WriteScript text.now out.now
 command_from (words.Gen n) = Gen n
 command_from words.Usage = Usage
 command_from words.Release = Release

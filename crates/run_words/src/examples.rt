@@ -4,7 +4,7 @@
 ghost use Rattle.std.specs.Prelude.{◌≡◌, [], ◌∷◌, codes, Some, None};
 ghost use Rattle.pico_board.specs.declared.boot.Cpu.TheVariants.{Arm, Riscv};
 ghost use Rattle.pico_board.specs.declared.boot.BootKind.TheVariants.{Normal, Bootsel as AskBootsel, Update};
-ghost use Rattle.run_words.specs.Commands.{Table, command_of, kind_of, Boot, Info, OwnedData, Replay, Usage, Release, Seal, Uf2, Plan, Gen};
+ghost use Rattle.run_words.specs.Commands.{Table, command_of, kind_of, Boot, Info, OwnedData, Replay, Usage, Release, Sweep, Seal, Elf, Firm, Uf2, Plan, Copy, ListScript, WriteScript, Gen};
 ghost use Rattle.run_words.specs.Usages.{release_line};
 ghost use Rattle.run_words.specs.Values.{family_of, number_of};
 
@@ -79,6 +79,9 @@ pub fn words_of_sealings()
         ≡ Some (Seal (codes "b") (codes "s") (codes "a")) }
     ensures table { command_of (codes "table" ∷ codes "t" ∷ codes "a" ∷ [])
         ≡ Some (Table (codes "t") (codes "a")) }
+    ensures elf { command_of (codes "elf" ∷ codes "e" ∷ codes "s" ∷ codes "a" ∷ [])
+        ≡ Some (Elf (codes "e") (codes "s") (codes "a")) }
+    ensures elf_of_three { command_of (codes "elf" ∷ codes "e" ∷ codes "s" ∷ []) ≡ None }
     ensures seal_of_three { command_of (codes "seal" ∷ codes "b" ∷ codes "s" ∷ []) ≡ None }
     ensures table_of_four { command_of
         (codes "table" ∷ codes "t" ∷ codes "a" ∷ codes "arm" ∷ []) ≡ None }
@@ -95,6 +98,16 @@ pub fn words_of_tools()
     ensures plan { command_of
         (codes "plan" ∷ codes "f" ∷ codes "o" ∷ codes "riscv" ∷ codes "i" ∷ codes "a" ∷ [])
         ≡ Some (Plan (codes "f") (codes "o") Riscv (codes "i") (codes "a")) }
+    ensures sweep { command_of
+        (codes "sweep" ∷ codes "f" ∷ codes "o" ∷ codes "arm" ∷ codes "s" ∷ codes "p" ∷ [])
+        ≡ Some (Sweep (codes "f") (codes "o") Arm (codes "s") (codes "p")) }
+    ensures firm { command_of (codes "firm" ∷ codes "i" ∷ codes "riscv" ∷ [])
+        ≡ Some (Firm (codes "i") Riscv) }
+    ensures copy { command_of (codes "copy" ∷ codes "u" ∷ codes "a" ∷ [])
+        ≡ Some (Copy (codes "u") (codes "a")) }
+    ensures list { command_of (codes "list" ∷ codes "7" ∷ []) ≡ Some (ListScript (codes "7")) }
+    ensures script { command_of (codes "script" ∷ codes "t" ∷ codes "a" ∷ [])
+        ≡ Some (WriteScript (codes "t") (codes "a")) }
     ensures made { command_of (codes "gen" ∷ codes "007" ∷ []) ≡ Some (Gen 7) }
 {}
 
@@ -104,10 +117,19 @@ pub fn other_words_of_tools()
     ensures three { command_of (codes "uf2" ∷ codes "i" ∷ codes "data" ∷ []) ≡ None }
     ensures cpu { command_of
         (codes "plan" ∷ codes "f" ∷ codes "o" ∷ codes "x86" ∷ codes "i" ∷ codes "a" ∷ []) ≡ None }
+    ensures firm_cpu { command_of (codes "firm" ∷ codes "i" ∷ codes "x86" ∷ []) ≡ None }
+    ensures firm_alone { command_of (codes "firm" ∷ codes "i" ∷ []) ≡ None }
+    ensures sweep_cpu { command_of
+        (codes "sweep" ∷ codes "f" ∷ codes "o" ∷ codes "x86" ∷ codes "s" ∷ codes "p" ∷ []) ≡ None }
+    ensures sweep_of_five { command_of
+        (codes "sweep" ∷ codes "f" ∷ codes "o" ∷ codes "arm" ∷ codes "s" ∷ []) ≡ None }
     ensures five { command_of
         (codes "plan" ∷ codes "f" ∷ codes "o" ∷ codes "arm" ∷ codes "i" ∷ []) ≡ None }
     ensures name { command_of
         (codes "boot" ∷ codes "f" ∷ codes "o" ∷ codes "arm" ∷ codes "i" ∷ codes "a" ∷ []) ≡ None }
+    ensures copy_alone { command_of (codes "copy" ∷ codes "u" ∷ []) ≡ None }
+    ensures list_of_two { command_of (codes "list" ∷ codes "s" ∷ codes "a" ∷ []) ≡ None }
+    ensures script_alone { command_of (codes "script" ∷ codes "t" ∷ []) ≡ None }
     ensures number { command_of (codes "gen" ∷ codes "x" ∷ []) ≡ None }
     ensures two { command_of (codes "uf2" ∷ codes "7" ∷ []) ≡ None }
 {}

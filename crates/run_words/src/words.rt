@@ -1,7 +1,7 @@
 //! The words that are a command.
 
 ghost use Rattle.std.specs.Prelude.{◌≡◌, ◌≢◌, ◌<◌, ◌≤◌, length, IfSome, option_map, map, string_bytes};
-ghost use Rattle.run_words.specs.Commands.{command_of, cpu_of, kind_of, hex_digit, hex_value, update_base, one_word, three_words, board_words, four_words, five_words, seven_words, two_words, uf2_words, six_words, command_from};
+ghost use Rattle.run_words.specs.Commands.{command_of, cpu_of, kind_of, hex_digit, hex_value, update_base, one_word, firm_words, three_words, board_words, four_words, five_words, seven_words, gen_words, two_words, uf2_words, six_words, command_from};
 ghost use Rattle.run_words.specs.Values.{family_of, number_of};
 
 use crate::values::{family_word, number_word};
@@ -39,11 +39,30 @@ pub enum CommandWords<'a> {
         out_flash: &'a str,
         out_otp: &'a str,
     },
+    /// What a normal boot makes of each loss of power in a script's session.
+    Sweep {
+        flash: &'a str,
+        otp: &'a str,
+        cpu: Cpu,
+        script: &'a str,
+        pattern: &'a str,
+    },
     /// The sealed image of a binary.
     Seal {
         binary: &'a str,
         spec: &'a str,
         out: &'a str,
+    },
+    /// The sealed image of an ELF file.
+    Elf {
+        elf: &'a str,
+        spec: &'a str,
+        out: &'a str,
+    },
+    /// Whether an image is firm.
+    Firm {
+        image: &'a str,
+        cpu: Cpu,
     },
     /// The partition table of a text.
     Table {
@@ -62,6 +81,20 @@ pub enum CommandWords<'a> {
         otp: &'a str,
         cpu: Cpu,
         image: &'a str,
+        out: &'a str,
+    },
+    /// The script of a host that copies a UF2 file to the board's drive.
+    Copy {
+        uf2: &'a str,
+        out: &'a str,
+    },
+    /// A script as text.
+    ListScript {
+        script: &'a str,
+    },
+    /// The script of a text.
+    WriteScript {
+        text: &'a str,
         out: &'a str,
     },
     /// The flash of a number.
@@ -152,13 +185,37 @@ fn one_word(name: &str) -> Option<CommandWords<'static>>
     }
 }
 
-/// The command of two words.
-fn two_words(name: &str, number: &str) -> Option<CommandWords<'static>>
-    ensures { option_map command_from result ≡ two_words name.now (number_of number.now) }
+/// The command of a number.
+fn gen_words(name: &str, number: &str) -> Option<CommandWords<'static>>
+    ensures { option_map command_from result ≡ gen_words name.now (number_of number.now) }
 {
     let n = number_word(number)?;
     if name == "gen" {
         Some(CommandWords::Gen { n })
+    } else {
+        None
+    }
+}
+
+/// The command of two words.
+fn two_words<'a>(name: &str, word: &'a str) -> Option<CommandWords<'a>>
+    ensures { option_map command_from result ≡ two_words name.now word.entry.now }
+{
+    if name == "list" {
+        Some(CommandWords::ListScript { script: word })
+    } else {
+        gen_words(name, word)
+    }
+}
+
+/// The command of an image and a processor.
+fn firm_words<'a>(name: &str, image: &'a str, cpu: &str) -> Option<CommandWords<'a>>
+    ensures { option_map command_from result
+        ≡ firm_words name.now image.entry.now (cpu_of cpu.now) }
+{
+    let cpu = cpu_word(cpu)?;
+    if name == "firm" {
+        Some(CommandWords::Firm { image, cpu })
     } else {
         None
     }
@@ -174,8 +231,18 @@ fn three_words<'a>(name: &str, first: &'a str, second: &'a str) -> Option<Comman
             json: first,
             out: second,
         })
+    } else if name == "copy" {
+        Some(CommandWords::Copy {
+            uf2: first,
+            out: second,
+        })
+    } else if name == "script" {
+        Some(CommandWords::WriteScript {
+            text: first,
+            out: second,
+        })
     } else {
-        None
+        firm_words(name, first, second)
     }
 }
 
@@ -218,6 +285,12 @@ fn four_words<'a>(
     if name == "seal" {
         Some(CommandWords::Seal {
             binary: first,
+            spec: second,
+            out: third,
+        })
+    } else if name == "elf" {
+        Some(CommandWords::Elf {
+            elf: first,
             spec: second,
             out: third,
         })
@@ -267,12 +340,12 @@ fn six_words<'a>(
     flash: &'a str,
     otp: &'a str,
     cpu: &str,
-    image: &'a str,
-    out: &'a str,
+    first: &'a str,
+    second: &'a str,
 ) -> Option<CommandWords<'a>>
     ensures { option_map command_from result
-        ≡ six_words name.now flash.entry.now otp.entry.now (cpu_of cpu.now) image.entry.now
-        out.entry.now }
+        ≡ six_words name.now flash.entry.now otp.entry.now (cpu_of cpu.now) first.entry.now
+        second.entry.now }
 {
     let cpu = cpu_word(cpu)?;
     if name == "plan" {
@@ -280,8 +353,16 @@ fn six_words<'a>(
             flash,
             otp,
             cpu,
-            image,
-            out,
+            image: first,
+            out: second,
+        })
+    } else if name == "sweep" {
+        Some(CommandWords::Sweep {
+            flash,
+            otp,
+            cpu,
+            script: first,
+            pattern: second,
         })
     } else {
         None
@@ -328,7 +409,7 @@ fn six_or_more(words: &[String]) -> Option<CommandWords<'_>>
     ensures { option_map command_from result ≡ command_of (map string_bytes words.entry.now) }
 {
     match words {
-        [name, flash, otp, cpu, image, out] => six_words(name, flash, otp, cpu, image, out),
+        [name, flash, otp, cpu, first, second] => six_words(name, flash, otp, cpu, first, second),
         [name, flash, otp, cpu, script, out_flash, out_otp] => {
             seven_words(name, flash, otp, cpu, script, out_flash, out_otp)
         }
@@ -356,7 +437,7 @@ pub fn command(words: &[String]) -> Option<CommandWords<'_>>
 {
     match words {
         [name] => one_word(name),
-        [name, number] => two_words(name, number),
+        [name, word] => two_words(name, word),
         _ => three_or_more(words),
     }
 }

@@ -5,4 +5,4 @@ mod WordFieldLemmas
 mod SaysLemmas
 mod FewFaultLemmas
 mod WholeLemmas
-mod SpecLemmas
+pub mod SpecLemmas

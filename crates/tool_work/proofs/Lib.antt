@@ -1,3 +1,4 @@
 pub mod ToolLemmas
 mod SealLemmas
 pub mod SealCaseLemmas
+pub mod ElfLemmas

@@ -3,3 +3,4 @@ pub mod Tools
 pub mod ToolWorks
 pub mod SealRules
 pub mod ToolRules
+pub mod Elfs

@@ -9,6 +9,8 @@ ghost use Rattle.run_course.specs.Outcomes.{refused, worked};
 ghost use Rattle.run_texts.specs.Examples.{small_window};
 ghost use Rattle.image_pack.specs.declared.spec.SealError.TheVariants.{BadSpec, Unsealable, TooLarge as SealedTooLarge, BlockTooLong, NotBootable, Displaced};
 ghost use Rattle.image_pack.specs.declared.spec.SpecField.TheVariants.{Rollback, Rows};
+ghost use Rattle.elf_pack.specs.declared.fault.ElfFault.TheVariants.{NotElf, FileType, Processor, Headers, Segment, Empty, TooMany, Mixed, Overlap, Seal};
+ghost use Rattle.tool_work.specs.Elfs.{elf_blamed, elf_text};
 ghost use Rattle.tool_work.specs.Seals.{blamed, seal_text, sealed_line};
 ghost use Rattle.tool_work.specs.Tools.{table_line};
 ghost use Rattle.tool_work.specs.ToolWorks.{executable_family, gen_line, plan_line, target_work, uf2_line, window_work};
@@ -58,4 +60,21 @@ pub fn refusals_of_images()
 pub fn executables()
     ensures arm { executable_family Arm ≡ 0xe48bff59 }
     ensures riscv { executable_family Riscv ≡ 0xe48bff5a }
+{}
+
+/// Why an ELF file has no sealed image, and the inputs that this is told of.
+pub fn elf_texts()
+    ensures not_elf { elf_text NotElf ≡ codes "elf not-elf" }
+    ensures file_type { elf_text FileType ≡ codes "elf type" }
+    ensures processor { elf_text Processor ≡ codes "elf processor" }
+    ensures headers { elf_text Headers ≡ codes "elf headers" }
+    ensures segment { elf_text (Segment 3) ≡ codes "elf segment 3" }
+    ensures empty { elf_text Empty ≡ codes "elf empty" }
+    ensures too_many { elf_text (TooMany 30) ≡ codes "elf too-many 30" }
+    ensures mixed { elf_text (Mixed 2) ≡ codes "elf mixed 2" }
+    ensures overlap { elf_text (Overlap 0 1) ≡ codes "elf overlap 0 1" }
+    ensures sealing { elf_text (Seal Displaced) ≡ codes "displaced" }
+    ensures of_spec { elf_blamed (codes "e") (codes "s") (Seal (BadSpec Rows)) ≡ codes "s" }
+    ensures of_sealing { elf_blamed (codes "e") (codes "s") (Seal Displaced) ≡ codes "e" }
+    ensures of_file { elf_blamed (codes "e") (codes "s") NotElf ≡ codes "e" }
 {}

@@ -6,12 +6,14 @@ ghost use Rattle.part_table.specs.Written.{written_size};
 ghost use Rattle.image_pack.specs.declared.spec.SealError.{SealError};
 ghost use Rattle.image_pack.specs.declared.spec.SealSpec.{SealSpec};
 ghost use Rattle.image_pack.specs.Faults.{IsSealFault, IsSealed};
+ghost use Rattle.run_course.specs.Outcomes.{AreOfBytes};
+ghost use Rattle.tool_work.specs.Elfs.{elf_work, IsElfOf, IsElfRefused};
 ghost use Rattle.tool_work.specs.Seals.{seal_error, IsUnsealed};
 ghost use Rattle.tool_work.specs.Tools.{table_file, seal_work, table_work};
 ghost use Rattle.pico_board.specs.declared.boot.Cpu.{Cpu};
 ghost use Rattle.run_forms.specs.Forms.{content_of};
 ghost use Rattle.run_forms.specs.Jsons.{spec_read, table_read};
-ghost use Rattle.run_forms.specs.Inputs.{binary_and_spec, one_json, image_alone, flash_otp_image, of_one, of_two, of_three};
+ghost use Rattle.run_forms.specs.Inputs.{binary_and_spec, elf_and_spec, one_json, image_alone, flash_otp_image, of_one, of_two, of_three};
 ghost use Rattle.run_forms.specs.Rules.{OfOne, OfTwo, OfThree, WorksBy};
 ghost use Rattle.tool_work.specs.SealRules.{IsSealedOf, IsTableOf};
 ghost use Rattle.tool_work.specs.ToolWorks.{uf2_work, plan_work, gen_work};
@@ -38,6 +40,10 @@ pub fn works_are_right()
         (of_two (λ b s. seal_work binary spec out b (spec_read s)))
         (λ read name fault. OfTwo (λ b s. IsUnsealed binary spec b s name fault) read)
         (λ read o. OfTwo (λ b s. IsSealedOf out b s o) read) }
+    ensures elf { (elf spec out : List ℕ) → WorksBy (elf_and_spec elf spec) AreOfBytes
+        (of_two (λ e s. elf_work elf spec out e (spec_read s)))
+        (λ read name fault. OfTwo (λ e s. IsElfRefused elf spec e s name fault) read)
+        (λ read o. OfTwo (λ e s. IsElfOf out e s o) read) }
     ensures table { (json out : List ℕ) → WorksBy (one_json json) (λ read. ⊤)
         (of_one (λ j. table_work out (table_read j))) (λ read name fault. ⊥)
         (λ read o. OfOne (λ j. IsTableOf out j o) read) }

@@ -1,6 +1,7 @@
 //! The work of the commands that make images, tables, UF2 files, plans and flashes.
 #![tactic(auto)]
 
+mod elfs;
 pub mod examples;
 mod generating;
 pub mod laws;
@@ -8,6 +9,7 @@ mod planning;
 mod tools;
 mod uf2_files;
 
+pub use elfs::pack_elf;
 pub use generating::made_flash;
 pub use planning::plan_image;
 pub use tools::{seal_binary, table};

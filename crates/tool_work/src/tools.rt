@@ -91,7 +91,7 @@ fn field_text(field: SpecField) -> &'static str
 }
 
 /// Why a binary is not sealed.
-fn seal_text(alloc: Global, error: SealError) -> Result<String, AllocError>
+pub fn seal_text(alloc: Global, error: SealError) -> Result<String, AllocError>
     ensures { IfOk result (λ t. string_bytes t ≡ seal_text error) }
 {
     match error {
@@ -106,7 +106,7 @@ fn seal_text(alloc: Global, error: SealError) -> Result<String, AllocError>
 }
 
 /// The input that an error is told of.
-fn blamed<'a>(binary: &'a str, spec: &'a str, error: SealError) -> &'a str
+pub fn blamed<'a>(binary: &'a str, spec: &'a str, error: SealError) -> &'a str
     ensures { result.now ≡ blamed binary.now spec.now error }
 {
     match error {
@@ -121,7 +121,7 @@ fn blamed<'a>(binary: &'a str, spec: &'a str, error: SealError) -> &'a str
 }
 
 /// The line of a sealed image.
-fn sealed_line(alloc: Global, size: usize, block: u32) -> Result<String, AllocError>
+pub fn sealed_line(alloc: Global, size: usize, block: u32) -> Result<String, AllocError>
     ensures { IfOk result (λ t. string_bytes t ≡ sealed_line size block) }
 {
     format!(in alloc; "sealed bytes={size} block=0x{block:08x}\n")

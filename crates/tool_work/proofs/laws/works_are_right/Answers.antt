@@ -1,9 +1,13 @@
 use Rattle.tool_work.proofs.SealCaseLemmas.{seal-works, table-works}
+use Rattle.tool_work.proofs.ElfLemmas.{elf-works}
 use Rattle.tool_work.proofs.ToolLemmas.{uf2-works, plan-works, gen-works}
 use Rattle.tool_work.proofs.laws.works_are_right.Goals as goal
 
 pub returns-clause-seal : goal.returns-clause-seal
 returns-clause-seal c = seal-works
+
+pub returns-clause-elf : goal.returns-clause-elf
+returns-clause-elf c = elf-works
 
 pub returns-clause-table : goal.returns-clause-table
 returns-clause-table c = table-works

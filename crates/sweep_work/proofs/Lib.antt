@@ -1,0 +1,3 @@
+mod FirmnessLemmas
+pub mod SweepRuleLemmas
+pub mod FirmRuleLemmas

@@ -1,0 +1,4 @@
+pub mod SweepWorks
+pub mod Firmness
+pub mod FirmWorks
+pub mod Rules

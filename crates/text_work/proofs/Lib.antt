@@ -1,0 +1,4 @@
+mod LoneLemmas
+pub mod TextRuleLemmas
+mod BlockLemmas
+pub mod CopyRuleLemmas

@@ -1,0 +1,3 @@
+pub mod TextWorks
+pub mod Copies
+pub mod Rules
