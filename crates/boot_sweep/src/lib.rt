@@ -24,8 +24,6 @@ pub mod session_examples;
 mod slots;
 pub mod sweep_laws;
 mod sweeping;
-#[cfg(test)]
-mod tests;
 
 pub use error::SweepError;
 pub use firmness::firm;

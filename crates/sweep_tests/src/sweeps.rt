@@ -1,10 +1,10 @@
 //! What no clause says: that sweeps of sessions that were worked out by hand succeed.
 
-ghost use Rattle.std.specs.Prelude.{IfOk};
+ghost use Rattle.std.specs.Prelude.{◌<◌, IfOk};
 ghost use Rattle.pico_board.specs.Content.{IsContent};
 ghost use Rattle.boot_sweep.specs.Scripts.{content_of};
 
-use super::*;
+use boot_sweep::{SweepError, is_script, sweep};
 use image_plan::plan;
 use pico_board::{Cpu, MemBoard, Window};
 use picoboot_cmd::{Cmd, write_cmd};
@@ -99,7 +99,10 @@ fn plan_of(alloc: Global, image: &[u8]) -> Result<Vec<u8>, Fail> {
 }
 
 /// Appends the command that erases sectors.
-fn push_erase(script: &mut Vec<u8>, sector: u32, count: u32) -> Result<(), Fail> {
+fn push_erase(script: &mut Vec<u8>, sector: u32, count: u32) -> Result<(), Fail>
+    requires sector { sector < 65536 }
+    requires few { count < 65536 }
+{
     let mut args = [0; 16];
     args[..4].copy_from_slice(&(0x1000_0000 + 4096 * sector).to_le_bytes());
     args[4..8].copy_from_slice(&(4096 * count).to_le_bytes());
@@ -138,6 +141,7 @@ fn swept(
 ) -> Result<Result<(), SweepError>, Fail> {
     let (flash, otp) = parts_of(alloc, flash, slot_size)?;
     let mut pool = SectorPool::make(alloc, 4)?;
+    assert!(rt; pool.free() >= 4);
     assert!(rt; is_script(script));
     assert!(rt; !pattern.is_empty() && pattern.len() <= 4096);
     Ok(sweep(
@@ -184,6 +188,7 @@ fn an_unsealed_image_may_start_in_part(rt: HostRuntime) -> Result<(), Fail> {
     let alloc = rt.alloc();
     let parts: [(usize, &[u32]); 2] = [(0, &VECTORS), (0x100, &ARM_1_1)];
     let mut image = filled(alloc, &parts, 4096)?;
+    assert_eq!(rt; image.len(), 4096);
     image[0xfff] = 0;
     let script = plan_of(alloc, &image)?;
     let mut out = Vec::new(alloc);
