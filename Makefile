@@ -4,6 +4,8 @@
 # make readme     runs each session of the documents with the newer of the two programs, and compares the manual page, the
 #                 completions and the page of faults with the program; needs bash, and tries zsh and mandoc where they are
 # make faults     compares the page of faults with the program's code; needs no program
+# make real       links small firmware with the toolchains that are there, and takes it from its ELF file to a swept update;
+#                 installs nothing, and says which of Debian's packages it uses
 # make install    puts the proved program, its manual page, its completions and two pages of docs/ below PREFIX; make it first
 # make uninstall  takes them away again
 # make bench      proves, builds for processors of x86-64-v3, and then times the program beside `openssl dgst -sha256` on flashes of 16 MiB
@@ -19,7 +21,7 @@ PROVED = crates/boot_cli/out/boot_cli
 UNPROVED = out/dugnatsew
 SESSIONS = README.md docs/MODEL.md
 
-.PHONY: all demo test readme faults install uninstall bench
+.PHONY: all demo test readme faults real install uninstall bench
 
 all:
 	cd crates/boot_cli && rt run -- boot data/flash data/otp arm normal
@@ -39,6 +41,12 @@ readme: faults
 
 faults:
 	@python3 tools/faults.py
+
+real:
+	@program=$$(ls -t $(PROVED) $(UNPROVED) 2> /dev/null | head -n 1); \
+	if [ -z "$$program" ]; then echo 'There is no program: "make demo" builds one, and "make" a proved one.' >&2; exit 1; fi; \
+	echo "With $$program, and of Debian's packages gcc-arm-none-eabi, gcc-riscv64-unknown-elf, clang and lld:"; \
+	python3 real/real.py "$$program"
 
 install:
 	@test -x $(PROVED) || { echo 'There is no proved program: "make" builds it.' >&2; exit 1; }
