@@ -104,8 +104,8 @@ fn each_failing_call_ends_its_command(rt: HostRuntime) -> Result<(), Fail> {
 #[test]
 fn a_name_that_the_store_lacks_is_a_read_fault(rt: HostRuntime) -> Result<(), Fail> {
     for texts in [
-        ["boot", "x", "o", "arm", "normal"],
-        ["boot", "f", "x", "arm", "normal"],
+        ["boot", "y", "o", "arm", "normal"],
+        ["boot", "f", "y", "arm", "normal"],
     ] {
         let end = ended(rt.alloc(), &texts, (9, 9, 9))?;
         assert_eq!(rt; end, (Status::ReadFault, false, false, false));
