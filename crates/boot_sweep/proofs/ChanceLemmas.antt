@@ -1,30 +1,27 @@
 -- A line says chance only where its cut leaves an unfinished content that is not lucky.
-use Rattle.std.proofs.Common.{◌≡◌, ◌≢◌, ◌⊎◌, inl, inr, ℕ, zero, suc, ◌+◌, ◌*◌, ◌<◌, ◌≤◌, Bool, true, false, List, [], ◌∷◌, All, length, take, slice_get, slice_index, Option, Some, None, refl, sym, ap, ◌∙◌, subst, arith}
+use Rattle.std.proofs.Common.{◌≡◌, inl, inr, ℕ, zero, suc, ◌+◌, ◌<◌, ◌≤◌, List, [], ◌∷◌, All, length, take, slice_get, Some, None, sym, ◌∙◌, subst, arith}
 use Rattle.std.specs.List.{AllByRecursion}
-use Rattle.std.proofs.lemmas.Option.{same_Some}
 use Rattle.pico_board.specs.declared.Step.{Step}
 use Rattle.pico_board.specs.declared.boot.Cpu.{Cpu}
 use Rattle.pico_board.specs.declared.boot.BootKind.TheVariants.{Normal}
 use Rattle.pico_board.specs.declared.window.Window.{Window}
 use Rattle.pico_board.specs.Content.{Content, IsContent}
-use Rattle.pico_board.specs.Cuts.{IsPattern, cut_with}
+use Rattle.pico_board.specs.Cuts.{cut_with}
 use Rattle.pico_board.specs.Sessions.{Confined, Gated, IsConfined, Unfinished}
 use Rattle.pico_board.proofs.CuttingLemmas.{CutOf-from, IsContent-after_all}
 use Rattle.pico_board.proofs.TornStepLemmas.{Torn-cut_by}
 use Rattle.pico_board.specs.declared.step.Step.TheVariants.{Erase, Program, Raise}
 use Rattle.pico_board.specs.Steps.{CutOf, IsCutAt, IsStepIn, after_all}
 use Rattle.boot_rules.specs.Choosing.{decision_in}
-use Rattle.boot_rules.specs.Chosen.{Chosen}
 use Rattle.boot_rules.proofs.DecisionLemmas.{decision-chosen}
 use Rattle.boot_machine.specs.Luck.{Lucky}
-use Rattle.boot_sweep.specs.declared.results.CutResult.{CutResult}
-use Rattle.boot_sweep.specs.declared.results.CutResult.TheVariants.{Former, Finished, Chance}
+use Rattle.boot_sweep.specs.declared.results.CutResult.TheVariants.{Chance}
 use Rattle.boot_sweep.specs.Comparing.{result_of}
 use Rattle.boot_sweep.specs.Refusals.{refusal}
-use Rattle.boot_sweep.specs.Results.{IsCutResult, StartsFinished}
+use Rattle.boot_sweep.specs.Results.{IsCutResult}
 use Rattle.boot_sweep.specs.Slots.{IsSlot}
-use Rattle.boot_sweep.specs.Sweeps.{Line, cut_of, sweep_lines}
-use Rattle.boot_sweep.proofs.GatedLaws.{decide-blank, decide-content, gated-decision}
+use Rattle.boot_sweep.specs.Sweeps.{Line, cut_of}
+use Rattle.boot_sweep.proofs.GatedLaws.{decide-blank, gated-decision}
 use Rattle.boot_sweep.proofs.NeighbourLemmas.{placed}
 use Rattle.boot_sweep.proofs.RefusalLemmas.{IsSweepable, sweepable}
 use Rattle.boot_sweep.proofs.ResultLemmas.{judged-exactly}

@@ -1,5 +1,5 @@
 -- At most two lines for each of the final programs say chance, or one where there are none.
-use Rattle.std.proofs.Common.{◌≡◌, ◌≢◌, ◌⊎◌, inl, inr, ℕ, zero, suc, ◌+◌, ◌*◌, ◌<◌, ◌≤◌, max, Bool, true, false, cond, List, [], ◌∷◌, ◌++◌, All, length, take, slice_get, Option, Some, None, refl, sym, ap, ◌∙◌, subst, arith}
+use Rattle.std.proofs.Common.{◌≡◌, inl, inr, ℕ, suc, ◌+◌, ◌*◌, ◌<◌, ◌≤◌, max, Bool, true, false, cond, List, [], ◌∷◌, ◌++◌, All, length, take, slice_get, Option, Some, None, refl, sym, ap, ◌∙◌, subst, arith}
 use Rattle.std.specs.Prelude.{◌==◌, nat_le, if◌then◌else◌, count_by}
 use Rattle.std.specs.List.{AllByRecursion}
 use Rattle.std.proofs.lemmas.Bool.{eqb-false, eqb-true, leb-true}
@@ -11,7 +11,7 @@ use Rattle.pico_board.specs.declared.window.Window.{Window}
 use Rattle.pico_board.specs.Content.{Content, IsContent}
 use Rattle.pico_board.specs.Sessions.{Gated, IsGated, Unfinished}
 use Rattle.pico_board.specs.Cuts.{torn_by}
-use Rattle.pico_board.specs.Steps.{IsCutAt, after, after_all}
+use Rattle.pico_board.specs.Steps.{after, after_all}
 use Rattle.pico_board.proofs.GateLemmas.{sixteen}
 use Rattle.pico_board.proofs.SettledCutLemmas.{cut_before_final, cut_elsewhere}
 use Rattle.boot_sweep.specs.declared.results.CutResult.{CutResult}

@@ -1,20 +1,19 @@
 -- A cut of a gated session that writes a firm image leaves no image by chance.
-use Rattle.std.proofs.Common.{◌≡◌, ◌≢◌, ◌⊎◌, inl, inr, ℕ, zero, suc, ◌+◌, ◌-◌, ◌*◌, ◌%◌, ◌<◌, ◌≤◌, Bool, true, false, List, [], ◌∷◌, ◌++◌, length, take, drop, slice_index, get_or, Option, Some, None, Result, Ok, Err, refl, sym, ap, ◌∙◌, subst, arith, append_assoc, length-drop}
+use Rattle.std.proofs.Common.{◌≡◌, inl, inr, ℕ, zero, suc, ◌+◌, ◌-◌, ◌*◌, ◌<◌, ◌≤◌, true, false, List, [], ◌∷◌, ◌++◌, length, take, drop, slice_index, get_or, Option, Some, None, Result, Ok, refl, sym, ap, ◌∙◌, subst, arith, append_assoc, length-drop}
 use Rattle.std.specs.Prelude.{Contains, IfSome, IsSome, slice_get, slice_range}
-use Rattle.std.specs.List.{AllByRecursion, flat_map}
+use Rattle.std.specs.List.{flat_map}
 use Rattle.std.proofs.lemmas.Bool.{cases_lt}
-use Rattle.std.proofs.lemmas.List.{drop-drop, ext_get_or, get_or-drop, get_or_append_left, get_or_past}
+use Rattle.std.proofs.lemmas.List.{ext_get_or, get_or-drop, get_or_append_left, get_or_past}
 use Rattle.std.proofs.lemmas.List.Edits.{get_or-between, length-between}
-use Rattle.std.proofs.lemmas.Option.{none-some, same_Some}
+use Rattle.std.proofs.lemmas.Option.{none-some}
 use Rattle.sha2.specs.Sha256.{sha256}
 use Rattle.pico_board.specs.declared.Step.{Step}
 use Rattle.pico_board.specs.declared.boot.Cpu.{Cpu}
 use Rattle.pico_board.specs.declared.window.Window.{Window}
 use Rattle.pico_board.specs.Content.{Content, IsContent, window_bytes}
-use Rattle.pico_board.specs.Sessions.{Confined, Gated, IsClosing, IsConfined, IsGated, SameButSector, Unfinished}
+use Rattle.pico_board.specs.Sessions.{Confined, Gated, IsClosing, IsGated, SameButSector, Unfinished}
 use Rattle.pico_board.specs.declared.step.Step.TheVariants.{Erase}
-use Rattle.pico_board.specs.Steps.{CutOf, IsCutAt, after, after_all}
-use Rattle.pico_board.proofs.ConfinementLemmas.{confined-CutOf, confined-after_all}
+use Rattle.pico_board.specs.Steps.{IsCutAt, after, after_all}
 use Rattle.pico_board.proofs.CuttingLemmas.{CutOf-from, length-after_all}
 use Rattle.pico_board.proofs.PhaseLemmas.{IsBlank-erase, IsBlank-kept, IsClosing-from, blank_elsewhere, elsewhere-CutOf, first_inside}
 use Rattle.pico_board.proofs.StepLemmas.{CutOf-append_cases, after_all-append}
@@ -34,17 +33,16 @@ use Rattle.image_def.specs.Suits.{does_suit}
 use Rattle.image_def.specs.declared.started.Started.{Started}
 use Rattle.load_map.specs.Covered.{covered, covered_digest, covered_load, covered_piece, masked_words}
 use Rattle.load_map.specs.declared.load.Load.{Load}
-use Rattle.load_map.specs.declared.load.MapFault.{MapFault}
 use Rattle.image_check.specs.Addressing.{in_flash}
 use Rattle.image_check.specs.Rules.{map_loads}
 use Rattle.image_check.specs.SameImage.{Holds}
-use Rattle.image_check.specs.Valid.{IsLastWith, IsSound, Valid}
+use Rattle.image_check.specs.Valid.{IsLastWith, IsSound}
 use Rattle.image_check.specs.declared.examining.Defined.{Defined}
 use Rattle.boot_rules.specs.Chosen.{Home}
 use Rattle.boot_rules.specs.Tables.{table_in}
 use Rattle.boot_rules.specs.declared.tables.Found.{Found}
 use Rattle.boot_machine.specs.Luck.{HasNoImage, Lucky}
-use Rattle.boot_sweep.specs.Firms.{Firm, HasOwnDigests, IsFirm, IsStray, LoadsFront, Stray, covered_by}
+use Rattle.boot_sweep.specs.Firms.{Firm, HasOwnDigests, IsFirm, LoadsFront, Stray, covered_by}
 use Rattle.boot_sweep.proofs.ChanceLemmas.{gated-confined}
 use Rattle.boot_sweep.proofs.ConfinedLaws.{confined-table}
 use Rattle.boot_sweep.proofs.LikeBlockLemmas.{both-from, decide-headers, decide-words, last-pair, same-suit}

@@ -1,14 +1,14 @@
 -- The steps are gated exactly where the judge of single steps finds none that may not follow.
-use Rattle.std.proofs.Common.{◌≡◌, ◌≢◌, ◌⊎◌, inl, inr, ℕ, zero, suc, ◌+◌, ◌*◌, ◌/◌, ◌<◌, ◌≤◌, Bool, true, false, List, [], ◌∷◌, ◌++◌, length, take, Option, Some, None, refl, sym, ap, ◌∙◌, subst, arith, append_assoc, append-nil}
-use Rattle.std.specs.Prelude.{◌==◌, ◌&&◌, ◌||◌, not, nat_eq, if◌then◌else◌}
+use Rattle.std.proofs.Common.{◌≡◌, ◌≢◌, ◌⊎◌, inl, inr, ℕ, suc, ◌+◌, ◌*◌, ◌/◌, ◌<◌, ◌≤◌, Bool, true, false, List, [], ◌∷◌, ◌++◌, length, take, Some, None, refl, sym, ap, ◌∙◌, subst, arith, append_assoc, append-nil}
+use Rattle.std.specs.Prelude.{◌==◌, ◌||◌, not, nat_eq, if◌then◌else◌}
 use Rattle.std.specs.List.{AllByRecursion, IsDistinct, list_any}
-use Rattle.std.proofs.lemmas.Bool.{and_from, and_parts, cases_eq, cases_lt, eqb-true, eqb-false}
+use Rattle.std.proofs.lemmas.Bool.{and_parts, cases_lt, eqb-true, eqb-false}
 use Rattle.pico_board.specs.declared.Step.{Step}
 use Rattle.pico_board.specs.declared.step.Step.TheVariants.{Erase, Program, Raise}
 use Rattle.pico_board.specs.declared.window.Window.{Window}
-use Rattle.pico_board.specs.Sessions.{Confined, Gated, IsElsewhere, IsGated, IsProgramIn, pages_of}
-use Rattle.pico_board.proofs.GateLemmas.{Gated-left, IsDistinct-first, IsDistinct-none, IsDistinct-rest}
-use Rattle.boot_sweep.specs.Refusals.{IsFirstUngated, begins_gated, has_none, may_follow, pages_behind, ungated_behind, ungated_in}
+use Rattle.pico_board.specs.Sessions.{Confined, Gated, IsElsewhere, IsProgramIn, pages_of}
+use Rattle.pico_board.proofs.GateLemmas.{IsDistinct-first, IsDistinct-none, IsDistinct-rest}
+use Rattle.boot_sweep.specs.Refusals.{begins_gated, has_none, may_follow, pages_behind, ungated_behind, ungated_in}
 use Rattle.boot_sweep.proofs.PageLemmas.{distinct-behind}
 
 -- steps elsewhere, and then programs of different pages of sector s

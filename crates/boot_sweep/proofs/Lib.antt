@@ -32,6 +32,7 @@ mod RefusalLaws
 pub mod RefusalCaseLemmas
 mod FirmLemmas
 mod TextLemmas
+mod ToldLemmas
 mod ReasonLemmas
 mod StepBoundLemmas
 mod StrayLemmas

@@ -1,17 +1,15 @@
 -- Blocks with the same headers suit a processor alike, so loops of such blocks have their definitions at one place.
-use Rattle.std.proofs.Common.{◌≡◌, ◌≢◌, ◌⊎◌, inl, inr, ℕ, zero, suc, ◌+◌, ◌-◌, ◌*◌, ◌≤◌, Bool, true, false, List, [], ◌∷◌, ◌++◌, length, Option, Some, None, refl, sym, ap, ◌∙◌, subst, arith}
+use Rattle.std.proofs.Common.{◌≡◌, ◌≢◌, ◌⊎◌, inl, inr, ℕ, zero, suc, ◌+◌, ◌-◌, ◌*◌, Bool, true, false, List, [], ◌∷◌, ◌++◌, length, Option, Some, None, refl, sym, ap, ◌∙◌, subst, arith}
 use Rattle.std.specs.Prelude.{ℤ, pos, negsuc, ◌==◌, ◌&&◌, nat_le, if◌then◌else◌, find, option_map, slice_get}
 use Rattle.std.specs.List.{AllByRecursion}
 use Rattle.std.specs.Option.{option_map_or, option_or}
 use Rattle.std.proofs.lemmas.Bool.{cases_eq}
-use Rattle.std.proofs.lemmas.Option.{same_Some}
 use Rattle.std.proofs.lemmas.Slice.Eq.{bytes_eq-Decides}
 use Rattle.std.specs.Str.{bytes_eq}
 use Rattle.pico_board.specs.declared.boot.Cpu.{Cpu}
-use Rattle.block_codec.specs.declared.items.Item.{Item}
 use Rattle.block_codec.specs.declared.kinds.TheConstants.{IMAGE_TYPE}
 use Rattle.block_codec.specs.Blocks.{BlockView, block_size}
-use Rattle.block_codec.specs.Items.{headers_from, headers_of, high_byte, item_at, items_from, items_of, low_byte, size_of, type_byte}
+use Rattle.block_codec.specs.Items.{headers_from, headers_of, high_byte, item_at, items_from, low_byte, size_of, type_byte}
 use Rattle.block_codec.specs.Kinds.{first_spelling, is_of_kind}
 use Rattle.block_codec.specs.Pages.{HasHeadersOf}
 use Rattle.image_def.specs.declared.images.TheConstants.{MOST_BLOCK_BYTES}

@@ -1,5 +1,5 @@
 -- Only one text is that of a sweep in the rules' words.
-use Rattle.std.proofs.Common.{◌≡◌, ℕ, zero, suc, ◌+◌, ◌*◌, Bool, true, false, List, [], ◌∷◌, ◌++◌, length, take, Option, Some, None, refl, sym, ap, ◌∙◌, arith}
+use Rattle.std.proofs.Common.{◌≡◌, ℕ, suc, ◌+◌, ◌*◌, Bool, true, false, List, [], ◌∷◌, ◌++◌, length, take, Some, refl, ap, ◌∙◌, arith}
 use Rattle.std.specs.Prelude.{slice_get}
 use Rattle.std.specs.List.{flat_map}
 use Rattle.std.proofs.lemmas.Option.{same_Some}
@@ -9,7 +9,7 @@ use Rattle.pico_board.specs.Content.{Content}
 use Rattle.pico_board.specs.Steps.{after, after_all}
 use Rattle.boot_sweep.specs.declared.results.CutResult.{CutResult}
 use Rattle.boot_sweep.specs.Comparing.{result_of}
-use Rattle.boot_sweep.specs.Sweeps.{Line, cut_in, cut_of, end_text, line_of, line_text, lines_from, sweep_lines, sweep_text}
+use Rattle.boot_sweep.specs.Sweeps.{Line, cut_of, end_text, line_of, line_text, lines_from, sweep_lines, sweep_text}
 use Rattle.boot_sweep.specs.Swept.{HasLineAt, IsLineOf, IsSweep}
 use Rattle.boot_sweep.proofs.ResultLemmas.{judged-exactly}
 

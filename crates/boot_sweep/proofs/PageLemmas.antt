@@ -1,10 +1,9 @@
 -- Different pages of a sector are at most sixteen.
-use Rattle.std.proofs.Common.{◌≡◌, ℕ, ◌+◌, ◌-◌, ◌*◌, ◌/◌, ◌<◌, ◌≤◌, Bool, true, false, List, [], ◌∷◌, ◌++◌, length, refl, sym, ◌∙◌, ap, arith}
+use Rattle.std.proofs.Common.{◌≡◌, ℕ, ◌/◌, Bool, true, false, List, [], ◌∷◌, ◌++◌, refl, sym, ◌∙◌, ap, arith}
 use Rattle.std.specs.Prelude.{◌==◌, ◌||◌, not, nat_eq, if◌then◌else◌}
-use Rattle.std.specs.List.{AllByRecursion, IsDistinct, list_any, range_with_len}
-use Rattle.std.specs.Set.{is_member}
+use Rattle.std.specs.List.{AllByRecursion, IsDistinct, list_any}
 use Rattle.pico_board.specs.declared.Step.{Step}
-use Rattle.pico_board.specs.declared.step.Step.TheVariants.{Erase, Program, Raise}
+use Rattle.pico_board.specs.declared.step.Step.TheVariants.{Program}
 use Rattle.pico_board.proofs.GateLemmas.{IsDistinct-first, IsDistinct-more, IsDistinct-none, IsDistinct-rest}
 use Rattle.boot_sweep.specs.Gating.{ArePages}
 use Rattle.boot_sweep.specs.Refusals.{has_none, may_follow}

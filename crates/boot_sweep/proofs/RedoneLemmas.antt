@@ -1,6 +1,5 @@
 -- A step that is done where it was torn leaves what it leaves where it was not.
 use Rattle.std.proofs.Common.{◌≡◌, ℕ, ◌+◌, ◌-◌, ◌*◌, ◌<◌, length, drop, get_or, Bool, true, false, List, [], ◌∷◌, ◌++◌, refl, sym, ap, ◌∙◌, arith}
-use Rattle.std.specs.List.{flat_map}
 use Rattle.std.specs.Prelude.{◌&&◌, if◌then◌else◌, nat_le, nat_lt, bit_and, bit_or, bit_xor, slice_index, slice_set}
 use Rattle.std.proofs.lemmas.Nat.Bits.{bit_at_and, bit_at_or, same_from_bits}
 use Rattle.std.proofs.lemmas.List.{append_assoc, drop_more, get_or-set_same, set-set}
@@ -10,7 +9,8 @@ use Rattle.pico_board.specs.Cuts.{pattern_at, pattern_row, torn_by}
 use Rattle.pico_board.specs.declared.step.Step.TheVariants.{Erase, Program, Raise}
 use Rattle.pico_board.specs.Steps.{IsStepIn, after, after_all, changed_from}
 use Rattle.boot_sweep.specs.declared.results.CutResult.{CutResult}
-use Rattle.boot_sweep.specs.Sweeps.{line_of, line_text, lines_from, step_lines_text}
+use Rattle.boot_sweep.specs.declared.results.StepResults.{StepResults}
+use Rattle.boot_sweep.specs.StepResults.{results_from, step_results}
 
 one-again : (b : Bool) (f g : ℕ → ℕ → ℕ) (i x : ℕ) → ((i x : ℕ) → f i (g i x) ≡ f i x)
     → (if b then f i (if b then g i x else x) else (if b then g i x else x)) ≡ (if b then f i x else x)
@@ -75,32 +75,22 @@ redone pattern c (Raise r b) right inside =
     let low = inside.0 in
     redone-raise pattern c r b (omega (arith, low, long))
 
--- the lines of a step and those of the rest
-lines-more : (judge : Content → CutResult) (pattern : List ℕ) (k : ℕ) (b : Content) (step : Step) (steps : List Step)
-    (old new : List ℕ) → new ≡ old ++ step_lines_text judge b pattern k step
-    → new ++ flat_map line_text (lines_from judge pattern (k + 1) (after b step) steps)
-    ≡ old ++ flat_map line_text (lines_from judge pattern k b (step ∷ steps))
-lines-more judge pattern k b step steps old new is =
-    let first = line_text (line_of judge b pattern k step false) in
-    let second = line_text (line_of judge b pattern k step true) in
-    let rest = flat_map line_text (lines_from judge pattern (k + 1) (after b step) steps) in
-    ap (λ xs. xs ++ rest) is ∙ (append_assoc old (first ++ second) rest
-    ∙ ap (λ xs. old ++ xs) (append_assoc first second rest))
-
 -- one step more
 module _ (k : ℕ) (b next : Content) (other : Step) (steps : List Step) (within : k < length steps)
     (done : next ≡ after b (get_or steps k other)) where
   here : drop k steps ≡ get_or steps k other ∷ drop (k + 1) steps
   here = drop_more steps k other within
 
-  pub lines-next : (judge : Content → CutResult) (pattern : List ℕ) (old new total : List ℕ)
-      → new ≡ old ++ step_lines_text judge b pattern k (get_or steps k other)
-      → old ++ flat_map line_text (lines_from judge pattern k b (drop k steps)) ≡ total
-      → new ++ flat_map line_text (lines_from judge pattern (k + 1) next (drop (k + 1) steps)) ≡ total
-  lines-next judge pattern old new total more all =
-      ap (λ d. new ++ flat_map line_text (lines_from judge pattern (k + 1) d (drop (k + 1) steps))) done
-      ∙ (lines-more judge pattern k b (get_or steps k other) (drop (k + 1) steps) old new more
-      ∙ (ap (λ xs. old ++ flat_map line_text (lines_from judge pattern k b xs)) (sym here) ∙ all))
+  pub results-next : (judge : Content → CutResult) (pattern : List ℕ) (old new total : List StepResults)
+      → new ≡ old ++ step_results judge b pattern (get_or steps k other) ∷ []
+      → old ++ results_from judge pattern b (drop k steps) ≡ total
+      → new ++ results_from judge pattern next (drop (k + 1) steps) ≡ total
+  results-next judge pattern old new total more all =
+      let rest : List StepResults = results_from judge pattern (after b (get_or steps k other)) (drop (k + 1) steps) in
+      ap (λ d. new ++ results_from judge pattern d (drop (k + 1) steps)) done
+      ∙ (ap (λ xs. xs ++ rest) more
+      ∙ (append_assoc old (step_results judge b pattern (get_or steps k other) ∷ []) rest
+      ∙ (ap (λ xs. old ++ results_from judge pattern b xs) (sym here) ∙ all)))
 
   pub rest-next : (end : Content) → after_all b (drop k steps) ≡ end → after_all next (drop (k + 1) steps) ≡ end
   rest-next end all =

@@ -1,20 +1,15 @@
 -- A session is refused exactly for the reason that holds of it.
-use Rattle.std.proofs.Common.{◌≡◌, ◌≢◌, ◌⊎◌, inl, inr, ℕ, zero, suc, ◌+◌, ◌-◌, ◌^◌, ◌<◌, ◌≤◌, min, Bool, true, false, List, [], ◌∷◌, length, take, slice_get, Option, Some, None, refl, sym, ap, ◌∙◌, subst, arith}
-use Rattle.std.specs.Prelude.{◌↔◌, ◌&&◌, ◌==◌, drop, is_none, is_some, nat_lt, option_map, if◌then◌else◌}
-use Rattle.std.specs.Option.{option_or}
-use Rattle.std.proofs.lemmas.Bool.{and_from, and_parts, cases_eq, cases_lt, eqb-true, ltb-false, ltb-true, lt-ltb, le-ltb}
-use Rattle.std.proofs.lemmas.List.{length-take, take-append-drop, take-take}
+use Rattle.std.proofs.Common.{◌≡◌, inl, inr, ℕ, zero, suc, ◌+◌, Bool, true, false, List, [], ◌∷◌, take, Option, Some, None, refl, sym, ap, ◌∙◌, subst, arith}
+use Rattle.std.specs.Prelude.{drop, if◌then◌else◌}
+use Rattle.std.proofs.lemmas.Bool.{cases_eq, cases_lt}
+use Rattle.std.proofs.lemmas.List.{take-append-drop, take-take}
 use Rattle.std.proofs.lemmas.Option.{same_Some}
 use Rattle.pico_board.specs.declared.Step.{Step}
-use Rattle.pico_board.specs.declared.boot.Cpu.{Cpu}
-use Rattle.pico_board.specs.declared.boot.BootKind.TheVariants.{Normal}
 use Rattle.pico_board.specs.declared.window.Window.{Window}
-use Rattle.pico_board.specs.Content.{Content, IsContent}
 use Rattle.pico_board.specs.Sessions.{Confined, Gated, IsConfined}
-use Rattle.pico_board.specs.Steps.{after_all}
 use Rattle.pico_board.proofs.GateLemmas.{Gated-left}
-use Rattle.boot_sweep.specs.Refusals.{IsFirstOutside, IsFirstUngated, kept_steps, outside_from, step_limit, ungated_in}
-use Rattle.boot_sweep.specs.Slots.{IsSlot, is_confined}
+use Rattle.boot_sweep.specs.Refusals.{IsFirstOutside, IsFirstUngated, outside_from, ungated_in}
+use Rattle.boot_sweep.specs.Slots.{is_confined}
 use Rattle.boot_sweep.proofs.GateLemmas.{first-ungated, gated-none, none-gated}
 use Rattle.boot_sweep.proofs.SlotLemmas.{confined-is, is-confined}
 

@@ -1,24 +1,23 @@
 -- Why a session is not swept, and what is known of one that is.
-use Rattle.std.proofs.Common.{◌≡◌, ◌≢◌, ◌⊎◌, inl, inr, ℕ, zero, suc, ◌+◌, ◌<◌, ◌≤◌, Bool, true, false, List, [], ◌∷◌, length, take, slice_get, Option, Some, None, refl, sym, ap, ◌∙◌, subst, arith}
+use Rattle.std.proofs.Common.{◌≡◌, ℕ, ◌+◌, ◌≤◌, Bool, true, false, List, [], ◌∷◌, length, Option, Some, None, refl, sym, ap, ◌∙◌, arith}
 use Rattle.std.specs.Prelude.{◌&&◌, ◌==◌, is_none, is_some, nat_lt, option_map, if◌then◌else◌}
 use Rattle.std.specs.Option.{option_or}
-use Rattle.std.proofs.lemmas.Bool.{and_parts, eqb-true, ltb-false}
+use Rattle.std.proofs.lemmas.Bool.{ltb-false}
 use Rattle.std.proofs.lemmas.List.{take_all}
 use Rattle.pico_board.specs.declared.Step.{Step}
 use Rattle.pico_board.specs.declared.boot.Cpu.{Cpu}
 use Rattle.pico_board.specs.declared.boot.BootKind.TheVariants.{Normal}
 use Rattle.pico_board.specs.declared.window.Window.{Window}
 use Rattle.pico_board.specs.Content.{Content, IsContent}
-use Rattle.pico_board.specs.Sessions.{Confined, Gated, IsConfined}
+use Rattle.pico_board.specs.Sessions.{Confined, Gated}
 use Rattle.pico_board.specs.Steps.{after_all}
-use Rattle.slot_choice.specs.declared.choice.Choice.{Choice}
 use Rattle.boot_rules.specs.declared.decision.Decision.{Decision}
 use Rattle.boot_rules.specs.declared.decision.Decision.TheVariants.{Start, Bootsel}
 use Rattle.boot_rules.specs.declared.tables.Found.{Found}
 use Rattle.boot_rules.specs.Choosing.{decision_in}
 use Rattle.boot_rules.specs.Tables.{table_in}
 use Rattle.boot_sweep.specs.declared.error.SweepError.{SweepError}
-use Rattle.boot_sweep.specs.Refusals.{IsFirstOutside, gains_table, is_start_in, kept_steps, outside_from, refusal, starts_in_slot, step_limit, ungated, where_}
+use Rattle.boot_sweep.specs.Refusals.{gains_table, is_start_in, kept_steps, outside_from, refusal, starts_in_slot, step_limit, ungated, where_}
 use Rattle.boot_sweep.specs.Results.{StartsElsewhere}
 use Rattle.boot_sweep.specs.Slots.{IsSlot, is_confined, session_slot}
 use Rattle.boot_sweep.proofs.GateLemmas.{none-gated}

@@ -8,7 +8,7 @@ use Rattle.boot_script.specs.Scripts.{behind, events_from, is_end}
 use Rattle.boot_script.proofs.SpelledLemmas.{read-at}
 use Rattle.boot_script.proofs.FollowingLemmas.{end-events, next-events}
 use Rattle.boot_sweep.specs.Scripts.{IsScript}
-use Rattle.boot_sweep.proofs.SessionLemmas.{Remains, remains-first, remains-more, remains-no_fault}
+use Rattle.boot_sweep.proofs.SessionLemmas.{Remains, remains-first, remains-more}
 
 -- the first n records of a script, none of them its end, were read up to an offset
 pub record IsReadTo (script : List ℕ) (at n : ℕ) : Type 0 where

@@ -1,7 +1,7 @@
 -- What serving a host does to a board of which no cut is armed.
-use Rattle.std.proofs.Common.{◌≡◌, ◌≢◌, ℕ, ◌+◌, Bool, true, false, List, [], ◌∷◌, ◌++◌, length, Option, Some, None, refl, sym, ap, ◌∙◌, subst, arith, append_assoc, append-nil}
-use Rattle.std.specs.Prelude.{◌↔◌, ◌&&◌, IsTrue, is_none}
-use Rattle.std.specs.Bool.{OnTrue, OnFalse}
+use Rattle.std.proofs.Common.{◌≡◌, ℕ, Bool, true, List, [], ◌∷◌, ◌++◌, Option, Some, None, refl, sym, ap, ◌∙◌, subst, append_assoc, append-nil}
+use Rattle.std.specs.Prelude.{◌&&◌, IsTrue, is_none}
+use Rattle.std.specs.Bool.{OnTrue}
 use Rattle.pico_board.specs.declared.Step.{Step}
 use Rattle.pico_board.specs.declared.boot.BootKind.{BootKind}
 use Rattle.pico_board.specs.Board.{State as BoardState, DoesAll, HasCutOutcome, AreCutAsArmed}
@@ -12,8 +12,8 @@ use Rattle.pico_board.proofs.StepLemmas.{after_all-append}
 use Rattle.boot_script.specs.Events.{Happening}
 use Rattle.boot_machine.specs.declared.parts.Parts.{Parts}
 use Rattle.boot_machine.specs.Machines.{Host, Place, Off, InBootsel, Running, FromFlash, FromRam}
-use Rattle.boot_machine.specs.Serving.{Served, before_boot, served}
-use Rattle.boot_machine.specs.Standing.{IsHost, IsServed, StandsAt, is_bootsel}
+use Rattle.boot_machine.specs.Serving.{served}
+use Rattle.boot_machine.specs.Standing.{IsServed, StandsAt, is_bootsel}
 use Rattle.boot_sweep.specs.Playing.{GoesOnWith, HasServed, IsServedOn}
 
 -- without an armed cut all steps complete

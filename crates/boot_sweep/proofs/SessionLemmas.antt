@@ -1,5 +1,5 @@
 -- The events of a script are served one after another.
-use Rattle.std.proofs.Common.{◌≡◌, ◌≢◌, ℕ, suc, ◌+◌, ◌<◌, ◌≤◌, Bool, true, false, List, [], ◌∷◌, ◌++◌, length, Option, Some, None, Ok, Err, refl, sym, ap, ◌∙◌, subst, arith, append_assoc, append-nil}
+use Rattle.std.proofs.Common.{◌≡◌, ℕ, suc, ◌+◌, ◌<◌, Bool, true, false, List, [], ◌∷◌, ◌++◌, length, Option, Some, None, Ok, Err, refl, sym, ap, ◌∙◌, subst, arith, append_assoc, append-nil}
 use Rattle.std.specs.Prelude.{Result, IsTrue, if◌then◌else◌}
 use Rattle.pico_board.specs.declared.Step.{Step}
 use Rattle.pico_board.specs.declared.boot.Cpu.{Cpu}
@@ -8,14 +8,14 @@ use Rattle.pico_board.specs.Board.{State as BoardState}
 use Rattle.pico_board.specs.Content.{Content}
 use Rattle.pico_board.specs.Steps.{after_all}
 use Rattle.boot_script.specs.declared.event.ScriptFault.{ScriptFault}
-use Rattle.boot_script.specs.Events.{Happening, End, Command, Uf2, Cut, PowerOn, Reset, Buy}
+use Rattle.boot_script.specs.Events.{Happening}
 use Rattle.boot_script.specs.Reading.{event_at}
 use Rattle.boot_script.specs.Scripts.{behind, events_from, is_end}
 use Rattle.boot_script.proofs.SpelledLemmas.{read-at, fault-at}
 use Rattle.boot_script.proofs.FollowingLemmas.{next-events, end-events, fault-events}
 use Rattle.boot_machine.specs.declared.parts.Parts.{Parts}
 use Rattle.boot_machine.specs.Machines.{Host, Place, Off, InBootsel, Running}
-use Rattle.boot_machine.specs.Serving.{Served, is_hosted, served}
+use Rattle.boot_machine.specs.Serving.{is_hosted, served}
 use Rattle.boot_machine.specs.Standing.{IsHost}
 use Rattle.boot_sweep.specs.Playing.{GoesOn, GoesOnWith, HasServed, IsServedOn}
 use Rattle.boot_sweep.specs.Scripts.{IsScript, script_events, events_read}

@@ -1,6 +1,6 @@
 -- The slot of a session is the one member of a pair in which its first step lies.
-use Rattle.std.proofs.Common.{◌≡◌, ◌≢◌, ◌⊎◌, inl, inr, ℕ, zero, suc, ◌+◌, ◌*◌, ◌<◌, ◌≤◌, Bool, true, false, List, [], ◌∷◌, length, slice_get, Option, Some, None, refl, sym, ap, ◌∙◌, subst, arith}
-use Rattle.std.specs.Prelude.{◌↔◌, ◌&&◌, if◌then◌else◌}
+use Rattle.std.proofs.Common.{◌≡◌, inl, inr, ℕ, zero, suc, Bool, true, false, List, [], ◌∷◌, slice_get, Option, Some, None, refl, sym, ap, ◌∙◌, subst, arith}
+use Rattle.std.specs.Prelude.{if◌then◌else◌}
 use Rattle.std.specs.Option.{option_or}
 use Rattle.std.proofs.lemmas.Bool.{and_from, and_parts, le-leb, leb-true}
 use Rattle.std.proofs.lemmas.Option.{same_Some}
@@ -9,13 +9,12 @@ use Rattle.pico_board.specs.declared.step.Step.TheVariants.{Erase, Program, Rais
 use Rattle.pico_board.specs.declared.boot.Cpu.{Cpu}
 use Rattle.pico_board.specs.declared.window.Window.{Window}
 use Rattle.pico_board.specs.Content.{AreApart, Content, IsContent}
-use Rattle.pico_board.specs.Sessions.{Confined, IsConfined}
+use Rattle.pico_board.specs.Sessions.{IsConfined}
 use Rattle.slot_choice.specs.declared.unit.Member.{Member}
 use Rattle.slot_choice.specs.declared.unit.Member.TheVariants.{A, B}
 use Rattle.slot_choice.specs.declared.unit.SlotUnit.{SlotUnit}
 use Rattle.slot_choice.specs.Units.{member_window}
 use Rattle.boot_rules.specs.Choosing.{boot_units_in, other_of}
-use Rattle.boot_rules.specs.Chosen.{Home}
 use Rattle.boot_sweep.specs.Slots.{IsSlot, is_confined, session_slot, slot_among, slot_in_unit}
 use Rattle.boot_sweep.proofs.NeighbourLemmas.{here-or-apart}
 

@@ -1,7 +1,7 @@
 -- A script within its limits does fewer than 2^32 - 1 steps: an event does at most as many as a
 -- flash has sectors, and one for each of its bytes.
-use Rattle.std.proofs.Common.{◌≡◌, ◌≢◌, ◌⊎◌, inl, inr, ℕ, zero, suc, ◌+◌, ◌-◌, ◌*◌, ◌/◌, ◌^◌, ◌<◌, ◌≤◌, Bool, true, false, cond, List, [], ◌∷◌, ◌++◌, length, drop, All, Option, Some, None, Ok, Err, refl, sym, ap, ◌∙◌, subst, arith, length-append, length-drop}
-use Rattle.std.specs.Prelude.{Result, ◌&&◌, ◌==◌, if◌then◌else◌, is_some, nat_le}
+use Rattle.std.proofs.Common.{◌≡◌, inl, inr, ℕ, zero, suc, ◌+◌, ◌-◌, ◌*◌, ◌/◌, ◌^◌, ◌<◌, ◌≤◌, Bool, true, false, cond, List, [], ◌∷◌, ◌++◌, length, drop, Option, Some, None, Ok, Err, refl, sym, ap, ◌∙◌, subst, arith, length-append, length-drop}
+use Rattle.std.specs.Prelude.{Result, ◌==◌, if◌then◌else◌, is_some, nat_le}
 use Rattle.std.specs.Int.{bytes_low_first}
 use Rattle.std.specs.List.{flat_map, list_any, range_with_len}
 use Rattle.std.proofs.lemmas.Bool.{and_parts, cases_eq, eqb-true, leb-true}
@@ -9,7 +9,6 @@ use Rattle.std.proofs.lemmas.Bool.Decides.{nat_tests}
 use Rattle.std.proofs.lemmas.List.Concat.{flat_map-cons}
 use Rattle.std.proofs.lemmas.List.FromFn.{length-range_with_len}
 use Rattle.pico_board.specs.declared.Step.{Step}
-use Rattle.pico_board.specs.declared.step.Step.TheVariants.{Erase, Program, Raise}
 use Rattle.pico_board.specs.declared.boot.Cpu.{Cpu}
 use Rattle.pico_board.specs.declared.boot.BootKind.{BootKind}
 use Rattle.pico_board.specs.declared.window.Window.{Window}
@@ -32,7 +31,7 @@ use Rattle.picoboot_cmd.specs.Commands.{command_in}
 use Rattle.picoboot_cmd.specs.Pages.{programs_of}
 use Rattle.picoboot_cmd.specs.Rows.{raises}
 use Rattle.picoboot_cmd.specs.Sectors.{erases}
-use Rattle.picoboot_cmd.specs.Served.{command_of, steps_of}
+use Rattle.picoboot_cmd.specs.Served.{steps_of}
 use Rattle.picoboot_cmd.specs.declared.cmd.CmdFault.{CmdFault}
 use Rattle.ram_start.specs.Serving.{is_ram_command}
 use Rattle.uf2_place.specs.declared.block.Uf2Fault.{Uf2Fault}
@@ -45,7 +44,7 @@ use Rattle.boot_script.specs.Scripts.{events}
 use Rattle.boot_script.proofs.NumberLemmas.{AreBytes}
 use Rattle.boot_script.proofs.FollowingLemmas.{script-spelled}
 use Rattle.boot_machine.specs.Machines.{Host, Place, Off, InBootsel, Running}
-use Rattle.boot_machine.specs.Serving.{Served, block_served, blocks_of, command_served, is_hosted, places, ruling_on, served, serves, serves_host, serves_info, serves_ram, table_of, taken_in, uf2_served}
+use Rattle.boot_machine.specs.Serving.{Served, block_served, blocks_of, command_served, is_hosted, ruling_on, served, serves_host, serves_info, serves_ram, table_of, taken_in, uf2_served}
 use Rattle.boot_sweep.specs.Scripts.{IsScript, events_read, script_events}
 use Rattle.boot_sweep.specs.Sessions.{entered_host, going_on, session, session_from}
 

@@ -1,22 +1,21 @@
 -- What is left between the programs of a gated list has no stray block.
-use Rattle.std.proofs.Common.{◌≡◌, ◌≢◌, ◌⊎◌, inl, inr, ℕ, ◌+◌, ◌-◌, ◌*◌, ◌/◌, ◌<◌, ◌≤◌, All, List, [], ◌∷◌, ◌++◌, length, slice_index, get_or, refl, sym, ap, ◌∙◌, subst, arith}
+use Rattle.std.proofs.Common.{◌≡◌, inl, inr, ℕ, ◌+◌, ◌*◌, ◌<◌, ◌≤◌, List, [], ◌∷◌, ◌++◌, length, slice_index, sym, ap, ◌∙◌, subst, arith}
 use Rattle.std.specs.List.{AllByRecursion}
 use Rattle.std.proofs.lemmas.Bool.{cases_lt}
 use Rattle.std.proofs.lemmas.List.{get_or_past}
 use Rattle.std.proofs.lemmas.List.Edits.{length-between}
-use Rattle.block_codec.specs.Blocks.{BlockAt, BlockView}
 use Rattle.block_codec.specs.Pages.{IsBlankPage as IsBlankPageOf, IsPartlyWritten, IsSamePage as IsSamePageOf}
 use Rattle.block_codec.proofs.PageLemmas.{block_written}
 use Rattle.pico_board.specs.declared.Step.{Step}
 use Rattle.pico_board.specs.declared.window.Window.{Window}
 use Rattle.pico_board.specs.Content.{Content, IsContent, window_bytes}
-use Rattle.pico_board.specs.Sessions.{Gated, IsBlank, IsBlankPage, IsConfined, IsGated, IsPageOf, IsPartial, IsSamePage, Unfinished}
+use Rattle.pico_board.specs.Sessions.{Gated, IsBlankPage, IsConfined, IsPageOf, IsPartial, IsSamePage, Unfinished}
 use Rattle.pico_board.specs.Steps.{after_all}
 use Rattle.pico_board.specs.ViewedWindows.{IsViewed-window}
 use Rattle.pico_board.proofs.CuttingLemmas.{IsContent-after_all, length-after_all}
 use Rattle.pico_board.proofs.PhaseLemmas.{prefix_phase}
 use Rattle.pico_board.proofs.RangeLemmas.{get_or-window_bytes}
-use Rattle.boot_sweep.specs.Firms.{IsStray, Stray}
+use Rattle.boot_sweep.specs.Firms.{Stray}
 use Rattle.boot_sweep.proofs.ChanceLemmas.{gated-confined, steps-in}
 
 module _ (z d : Content) (w : Window) (s : ℕ) (first : 4096 * s ≡ w.start) (part : IsPartial z s d)

@@ -1,5 +1,5 @@
 -- What the text of a sweep and its refusals say, of the call's answer.
-use Rattle.std.proofs.Common.{◌≡◌, ◌≢◌, ◌⊎◌, inl, inr, ℕ, ◌<◌, List, ◌++◌, All, Option, Some, None, Ok, Err, refl, sym, ap, ◌∙◌, subst}
+use Rattle.std.proofs.Common.{◌≡◌, ◌≢◌, ◌⊎◌, inl, inr, ℕ, ◌<◌, List, ◌++◌, All, Some, None, Ok, Err, refl, sym, ◌∙◌, subst}
 use Rattle.std.specs.Prelude.{OnOk, Result}
 use Rattle.pico_board.specs.declared.Step.{Step}
 use Rattle.pico_board.specs.declared.boot.Cpu.{Cpu}

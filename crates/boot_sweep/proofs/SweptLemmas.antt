@@ -1,16 +1,15 @@
 -- The text of a sweep is right in the rules' words.
-use Rattle.std.proofs.Common.{◌≡◌, ℕ, zero, suc, ◌+◌, ◌*◌, ◌<◌, Bool, true, false, List, [], ◌∷◌, ◌++◌, All, length, take, Option, Some, None, refl, sym, ap, ◌∙◌, subst, arith}
-use Rattle.std.specs.Prelude.{Contains, slice_get}
+use Rattle.std.proofs.Common.{◌≡◌, ℕ, zero, suc, ◌+◌, ◌*◌, ◌<◌, Bool, true, false, List, [], ◌∷◌, All, take, Some, None, refl, ap, ◌∙◌, arith}
+use Rattle.std.specs.Prelude.{slice_get}
 use Rattle.std.proofs.lemmas.Option.{same_Some}
 use Rattle.pico_board.specs.declared.Step.{Step}
 use Rattle.pico_board.specs.declared.boot.Cpu.{Cpu}
-use Rattle.pico_board.specs.declared.window.Window.{Window}
 use Rattle.pico_board.specs.Content.{Content, IsContent}
 use Rattle.pico_board.specs.Steps.{after, after_all}
 use Rattle.boot_sweep.specs.declared.results.CutResult.{CutResult}
 use Rattle.boot_sweep.specs.Comparing.{result_of}
 use Rattle.boot_sweep.specs.Refusals.{refusal}
-use Rattle.boot_sweep.specs.Sweeps.{Line, cut_in, line_of, lines_from, sweep_lines, sweep_text}
+use Rattle.boot_sweep.specs.Sweeps.{cut_in, line_of, lines_from, sweep_lines, sweep_text}
 use Rattle.boot_sweep.specs.Swept.{HasLineAt, IsLineOf, IsSweep}
 use Rattle.boot_sweep.proofs.ChanceLemmas.{line-luck}
 use Rattle.boot_sweep.proofs.CountLemmas.{few-chances}

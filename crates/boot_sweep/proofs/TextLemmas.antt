@@ -1,7 +1,7 @@
 -- The text of a sweep, from what the code keeps.
-use Rattle.std.proofs.Common.{◌≡◌, ◌≢◌, ℕ, ◌+◌, ◌<◌, ◌≤◌, Bool, true, false, All, List, [], ◌∷◌, ◌++◌, length, Option, Some, None, refl, sym, ap, ◌∙◌, subst, arith}
+use Rattle.std.proofs.Common.{◌≡◌, ℕ, ◌≤◌, All, List, [], ◌∷◌, length, Option, Some, None, refl, sym, ap, ◌∙◌, subst}
 use Rattle.std.specs.Prelude.{IsTrue}
-use Rattle.std.specs.List.{AllByRecursion, flat_map}
+use Rattle.std.specs.List.{AllByRecursion}
 use Rattle.std.proofs.lemmas.Bool.{ltb-false}
 use Rattle.std.proofs.lemmas.List.Elements.{All-from_recursion}
 use Rattle.pico_board.specs.declared.Step.{Step}
@@ -18,32 +18,28 @@ use Rattle.boot_rules.specs.declared.decision.Decision.{Decision}
 use Rattle.boot_rules.specs.Choosing.{decision_in}
 use Rattle.boot_sweep.specs.declared.recorder.Recorder.{Recorder}
 use Rattle.boot_sweep.specs.declared.results.CutResult.{CutResult}
-use Rattle.boot_sweep.specs.Comparing.{result_by, result_of}
+use Rattle.boot_sweep.specs.Comparing.{result_by}
 use Rattle.boot_sweep.specs.Recordings.{IsRecorderOf}
-use Rattle.boot_sweep.specs.Refusals.{kept_steps, outside_from, refusal, step_limit}
+use Rattle.boot_sweep.specs.Refusals.{outside_from, refusal, step_limit}
 use Rattle.boot_sweep.specs.Scripts.{content_of, script_events, script_session}
 use Rattle.boot_sweep.specs.Sessions.{session}
 use Rattle.boot_sweep.specs.Slots.{session_slot}
-use Rattle.boot_sweep.specs.Sweeps.{end_text, line_text, lines_from, sweep_text}
+use Rattle.boot_sweep.specs.declared.results.StepResults.{StepResults}
+use Rattle.boot_sweep.specs.declared.results.SweepResults.{SweepResults}
+use Rattle.boot_sweep.specs.StepResults.{HasResults, IsResultsOf, results_from, sweep_results}
 use Rattle.boot_sweep.proofs.ChanceLemmas.{gated-confined, slot-inside, steps-in}
 use Rattle.boot_sweep.proofs.ReasonLemmas.{reason-of}
 use Rattle.boot_sweep.proofs.RefusalLemmas.{kept-all, no-reason, sweepable}
 use Rattle.boot_sweep.proofs.SlotLemmas.{slot-found}
 
-abbrev text_by : Content → List ℕ → List Step → Cpu → Decision → Decision → Content → List ℕ
-text_by c pattern steps cpu former finished z =
-    flat_map line_text (lines_from (λ d. result_by former finished cpu d z) pattern 0 c steps)
-    ++ end_text (length steps) (result_by former finished cpu z z)
-
-pub text-whole : (c z : Content) (former finished : Decision) (cpu : Cpu) (pattern : List ℕ) (steps : List Step)
+-- the results by the decisions that were made before and after the session are those of the sweep
+results-whole : (c z : Content) (former finished : Decision) (cpu : Cpu) (pattern : List ℕ) (steps : List Step)
     → former ≡ decision_in c cpu Normal → finished ≡ decision_in z cpu Normal → z ≡ after_all c steps
-    → flat_map line_text (lines_from (λ d. result_by former finished cpu d z) pattern 0 c steps)
-    ++ end_text (length steps) (result_by former finished cpu z z) ≡ sweep_text c cpu pattern steps
-unfolding sweep_text
-text-whole c z former finished cpu pattern steps one two is =
-    ap (λ f. text_by c pattern steps cpu f finished z) one
-    ∙ (ap (λ f. text_by c pattern steps cpu (decision_in c cpu Normal) f z) two
-    ∙ ap (λ y. text_by c pattern steps cpu (decision_in c cpu Normal) (decision_in y cpu Normal) y) is)
+    → results_from (λ d. result_by former finished cpu d z) pattern c steps ≡ sweep_results c cpu pattern steps
+results-whole c z former finished cpu pattern steps one two is =
+    ap (λ f. results_from (λ d. result_by f finished cpu d z) pattern c steps) one
+    ∙ (ap (λ f. results_from (λ d. result_by (decision_in c cpu Normal) f cpu d z) pattern c steps) two
+    ∙ ap (λ y. results_from (λ d. result_by (decision_in c cpu Normal) (decision_in y cpu Normal) cpu d y) pattern c steps) is)
 
 some-none : (k : ℕ) → Some k ≡ None → ⊥
 some-none k e = cc
@@ -92,28 +88,37 @@ ends-long r c cpu steps z same is =
     ap (λ b. length (state_of b).content.flash) same
     ∙ (ap (λ (x : Content). length x.flash) is.content ∙ length-after_all c steps)
 
--- the lines of the recorder's steps and the end line are the text of the sweep
-pub text-spelled : (r : Recorder MemBoard) (c : Content) (cpu : Cpu) (steps : List Step) (z : MemBoard)
-    (former finished : Decision) (d : Content) (pattern front whole : List ℕ) (end_ : CutResult) → IsContent c
-    → IsRecorderOf r c cpu steps → refusal c cpu steps ≡ None → z ≡ r.bench → former ≡ decision_in c cpu Normal
-    → finished ≡ decision_in (state_of r.bench).content cpu Normal
-    → front ≡ flat_map line_text (lines_from (λ d. result_by former finished cpu d (state_of z).content) pattern 0 c r.steps.items)
+-- the results of the recorder's steps and of all of them are those of the sweep
+pub results-told : (r : Recorder MemBoard) (c : Content) (cpu : Cpu) (steps : List Step) (z : MemBoard)
+    (former finished : Decision) (d : Content) (pattern : List ℕ) (cuts : List StepResults) (end_ : CutResult)
+    → IsContent c → IsRecorderOf r c cpu steps → refusal c cpu steps ≡ None → z ≡ r.bench
+    → former ≡ decision_in c cpu Normal → finished ≡ decision_in (state_of r.bench).content cpu Normal
+    → cuts ≡ results_from (λ d. result_by former finished cpu d (state_of z).content) pattern c r.steps.items
     → d ≡ after_all c r.steps.items → end_ ≡ result_by former finished cpu d (state_of z).content
-    → whole ≡ front ++ end_text (length r.steps.items) end_ → whole ≡ sweep_text c cpu pattern steps
-text-spelled r c cpu steps z former finished d pattern front whole end_ right is none same one two first left last all =
+    → HasResults c cpu pattern steps cuts end_
+results-told r c cpu steps z former finished d pattern cuts end_ right is none same one two first left last =
     let y = (state_of z).content in
     let at : y ≡ after_all c steps = ap (λ b. (state_of b).content) same ∙ is.content in
     let kept = (recorded-steps r c cpu steps right is none).0 in
-    all
-    ∙ (ap (λ xs. xs ++ end_text (length r.steps.items) end_) first
-    ∙ (ap (λ x. flat_map line_text (lines_from (λ d. result_by former finished cpu d y) pattern 0 c r.steps.items)
-    ++ end_text (length r.steps.items) x) (last ∙ ap (λ x. result_by former finished cpu x y) left)
-    ∙ (ap (λ xs. flat_map line_text (lines_from (λ d. result_by former finished cpu d y) pattern 0 c xs)
-    ++ end_text (length xs) (result_by former finished cpu (after_all c xs) y)) kept
-    ∙ (ap (λ x. flat_map line_text (lines_from (λ d. result_by former finished cpu d y) pattern 0 c steps)
-    ++ end_text (length steps) (result_by former finished cpu x y)) (sym at)
-    ∙ text-whole c y former finished cpu pattern steps one
-    (two ∙ ap (λ b. decision_in (state_of b).content cpu Normal) (sym same)) at))))
+    let there : finished ≡ decision_in y cpu Normal = two ∙ ap (λ b. decision_in (state_of b).content cpu Normal) (sym same) in
+    let z = after_all c steps in record {
+      cuts_are = first ∙ (ap (λ xs. results_from (λ d. result_by former finished cpu d y) pattern c xs) kept
+          ∙ results-whole c y former finished cpu pattern steps one there at);
+      whole = last ∙ (ap (λ x. result_by former finished cpu x y) (left ∙ ap (after_all c) kept)
+          ∙ (ap (λ f. result_by f finished cpu z y) one
+          ∙ (ap (λ f. result_by (decision_in c cpu Normal) f cpu z y) there
+          ∙ ap (λ x. result_by (decision_in c cpu Normal) (decision_in x cpu Normal) cpu z x) at)));
+    }
+
+-- what the recorder kept and these results are what a sweep finds
+pub is-found : (r : Recorder MemBoard) (c : Content) (cpu : Cpu) (pattern : List ℕ) (steps : List Step)
+    (found : SweepResults) → IsContent c → IsRecorderOf r c cpu steps → refusal c cpu steps ≡ None
+    → found.steps.items ≡ r.steps.items → HasResults c cpu pattern steps found.cuts.items found.end
+    → IsResultsOf c cpu pattern steps found
+is-found r c cpu pattern steps found right is none same results = record {
+  steps_are = same ∙ (recorded-steps r c cpu steps right is none).0;
+  results = results;
+}
 
 -- the recorder of a script's session, for another board with the same content
 pub recorder-of : (r : Recorder MemBoard) (one two : MemBoard) (flash otp : List ℕ) (cpu : Cpu) (script : List ℕ)

@@ -10,6 +10,7 @@ pub mod Scripts
 pub mod Sessions
 pub mod Slots
 pub mod Standing
+pub mod StepResults
 pub mod Sweeps
 pub mod Swept
 pub mod Verdicts

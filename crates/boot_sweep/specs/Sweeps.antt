@@ -84,12 +84,6 @@ abbrev pub end_text : ℕ → CutResult → List ℕ
 end_text n result =
     codes "end " ++ (decimal n ++ (codes " " ++ (result_text result ++ 10 ∷ [])))
 
--- the two lines of a step of this number on the content b
-abbrev pub step_lines_text : (Content → CutResult) → Content → List ℕ → ℕ → Step → List ℕ
-step_lines_text judge b pattern k step =
-    line_text (line_of judge b pattern k step false)
-    ++ line_text (line_of judge b pattern k step true)
-
 -- the text of a sweep of these steps on the content c
 unfoldable pub sweep_text : Content → Cpu → List ℕ → List Step → List ℕ
 sweep_text c cpu pattern steps =

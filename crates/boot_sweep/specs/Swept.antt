@@ -1,5 +1,5 @@
 -- What a sweep says, in the rules' words. This project's own.
-use Rattle.std.specs.Prelude.{◌≡◌, ℕ, ◌+◌, ◌*◌, ◌≤◌, Bool, true, false, Contains, List, ◌++◌, length, slice_get, take, count_by, Some}
+use Rattle.std.specs.Prelude.{◌≡◌, ℕ, ◌+◌, ◌*◌, ◌≤◌, Bool, true, false, Contains, List, ◌++◌, length, slice_get, count_by, Some}
 use Rattle.std.specs.List.{flat_map}
 use Rattle.pico_board.specs.declared.Step.{Step}
 use Rattle.pico_board.specs.declared.boot.Cpu.{Cpu}

@@ -28,5 +28,5 @@ mod sweeping;
 pub use error::SweepError;
 pub use firmness::firm;
 pub use judging::is_script;
-pub use results::CutResult;
-pub use script::{sweep, swept_text};
+pub use results::{CutResult, StepResults, SweepResults};
+pub use script::{sweep, swept, swept_text};

@@ -1,9 +1,11 @@
 //! The lines of a sweep.
 
-ghost use Rattle.std.specs.Prelude.{◌≡◌, ◌++◌, IfOk, OnOk, string_bytes};
-ghost use Rattle.boot_sweep.specs.Sweeps.{Line, end_text, line_text, part_text, result_text, step_text};
+ghost use Rattle.std.specs.Prelude.{◌≡◌, ◌++◌, IfOk, OnOk, false, length, string_bytes, true};
+ghost use Rattle.std.specs.List.{flat_map};
+ghost use Rattle.boot_sweep.specs.StepResults.{told_line, told_lines};
+ghost use Rattle.boot_sweep.specs.Sweeps.{end_text, line_text, part_text, result_text, step_text};
 
-use crate::results::CutResult;
+use crate::results::{CutResult, StepResults, SweepResults};
 use pico_board::Step;
 use std::alloc::{AllocError, Global};
 
@@ -46,20 +48,16 @@ fn step_words(alloc: Global, step: &Step) -> Result<String, AllocError>
 }
 
 /// Appends the line of a cut.
-pub fn push_line(
+fn push_line(
     alloc: Global,
     text: &mut String,
-    number: u32,
+    number: usize,
     step: &Step,
     within: bool,
     outcome: CutResult,
 ) -> Result<(), AllocError>
-    ensures { OnOk result (string_bytes text.new ≡ string_bytes text.old ++ line_text (record {
-      number = number;
-      step = step.now;
-      within = within;
-      result = outcome;
-    })) }
+    ensures { OnOk result (string_bytes text.new
+        ≡ string_bytes text.old ++ line_text (told_line number step.now within outcome)) }
 {
     let step = step_words(alloc, step)?;
     let part = part_word(within);
@@ -68,8 +66,24 @@ pub fn push_line(
     text.push_str(&line)
 }
 
+/// Appends the two lines of a step.
+fn push_lines(
+    alloc: Global,
+    text: &mut String,
+    number: usize,
+    step: &Step,
+    cut: &StepResults,
+) -> Result<(), AllocError>
+    ensures { OnOk result (string_bytes text.new ≡ string_bytes text.old
+        ++ (line_text (told_line number step.now false cut.now.before)
+        ++ line_text (told_line number step.now true cut.now.within))) }
+{
+    push_line(alloc, text, number, step, false, cut.before)?;
+    push_line(alloc, text, number, step, true, cut.within)
+}
+
 /// Appends the end line.
-pub fn push_end(
+fn push_end(
     alloc: Global,
     text: &mut String,
     count: usize,
@@ -81,4 +95,19 @@ pub fn push_end(
     let word = result_word(outcome);
     let line = format!(in alloc; "end {count} {word}\n")?;
     text.push_str(&line)
+}
+
+/// The lines of what a sweep found, and the end line.
+pub fn results_text(alloc: Global, found: &SweepResults) -> Result<String, AllocError>
+    requires same { length found.now.cuts.items ≡ length found.now.steps.items }
+    ensures { IfOk result (λ t. string_bytes t
+        ≡ flat_map line_text (told_lines 0 found.now.steps.items found.now.cuts.items)
+        ++ end_text (length found.now.steps.items) found.now.end) }
+{
+    let mut text = String::new(alloc);
+    for (number, cut) in found.cuts.iter().enumerate() {
+        push_lines(alloc, &mut text, number, &found.steps[number], cut)?;
+    }
+    push_end(alloc, &mut text, found.steps.len(), found.end)?;
+    Ok(text)
 }

@@ -12,7 +12,7 @@ ghost use Rattle.boot_rules.specs.Chosen.{Chosen};
 use crate::comparing::is_same_decision;
 use boot_rules::{Decision, decide};
 use image_check::same_content;
-use pico_board::{Board, BootKind, Cpu, FlashView};
+use pico_board::{Board, BootKind, Cpu, FlashView, Step};
 use sector_pool::SectorPool;
 
 /// What a normal boot makes of a content that a cut of a session left.
@@ -24,6 +24,26 @@ pub enum CutResult {
     Finished,
     /// Neither.
     Chance,
+}
+
+/// What a normal boot makes of a loss of power in a step of a session.
+#[derive(Clone, Copy, Debug, PartialEq, Eq)]
+pub struct StepResults {
+    /// Before the step.
+    pub before: CutResult,
+    /// Within it, where the loss leaves what the pattern says.
+    pub within: CutResult,
+}
+
+/// What a sweep finds.
+#[derive(Drop)]
+pub struct SweepResults {
+    /// The steps of the session.
+    pub steps: Vec<Step>,
+    /// The results of each step, in their order.
+    pub cuts: Vec<StepResults>,
+    /// The result of the whole session.
+    pub end: CutResult,
 }
 
 /// Which decision a normal boot makes.

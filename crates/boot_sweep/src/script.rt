@@ -15,16 +15,17 @@ ghost use Rattle.boot_sweep.specs.Recordings.{IsRecorderOf};
 ghost use Rattle.boot_sweep.specs.Refusals.{IsRefused, IsSwept, is_start_in, refusal, starts_in_slot};
 ghost use Rattle.boot_sweep.specs.Scripts.{IsScript, content_of, script_session};
 ghost use Rattle.boot_sweep.specs.Standing.{IsUnarmed};
+ghost use Rattle.boot_sweep.specs.StepResults.{HasResults, IsResultsOf};
 ghost use Rattle.boot_sweep.specs.Swept.{IsSweep};
 ghost use Rattle.boot_sweep.specs.Sweeps.{sweep_text};
 
 use crate::error::SweepError;
 use crate::gating::ungated;
-use crate::lines::push_end;
+use crate::lines::results_text;
 use crate::recorder::{Recorder, STEP_LIMIT};
-use crate::results::{Ends, result_on};
+use crate::results::{CutResult, Ends, StepResults, SweepResults, result_on};
 use crate::session::session_on;
-use crate::sweeping::sweep_lines;
+use crate::sweeping::results_of;
 use boot_rules::{Decision, decide, find_table};
 use pico_board::{Board, BootKind, Cpu, MemBoard, Window};
 use sector_pool::SectorPool;
@@ -106,25 +107,25 @@ fn refusal<B: Board>(
     None
 }
 
-/// The text of the sweep of a recorded session, on a board before it.
-fn text_of(
+/// The results of the recorded session's steps and of the whole session, on a board before it.
+fn judged(
     alloc: Global,
     board: MemBoard,
     pool: &mut SectorPool,
     cpu: Cpu,
     recorder: &Recorder<MemBoard>,
     pattern: &[u8],
-) -> Result<String, SweepError>
+) -> Result<(Vec<StepResults>, CutResult), SweepError>
     requires ready { IsUnarmed (state_of board) }
     requires recorded { (steps : List Done)
         × IsRecorderOf recorder.now (state_of board).content cpu steps }
     requires pattern { IsPattern true pattern.now }
     requires free { HasFree pool.old }
-    ensures swept { (steps : List Done)
+    ensures judged { (steps : List Done)
         → IsRecorderOf recorder.now (state_of board).content cpu steps
         → IsSwept (refusal (state_of board).content cpu steps) result
-        × IfOk result (λ t. string_bytes t
-        ≡ sweep_text (state_of board).content cpu pattern.now steps) }
+        × IfOk result (λ found. HasResults (state_of board).content cpu pattern.now steps
+        found.0.items found.1) }
     ensures kept { KeepsOut pool.old pool.new }
 {
     let former = decide(&board, pool, cpu, BootKind::Normal);
@@ -138,21 +139,21 @@ fn text_of(
         finished,
         board: &recorder.bench,
     };
-    match whole_text(alloc, board, pool, &ends, recorder, pattern) {
-        Ok(text) => Ok(text),
+    match all_results(alloc, board, pool, &ends, recorder, pattern) {
+        Ok(found) => Ok(found),
         Err(_) => Err(SweepError::Memory),
     }
 }
 
-/// The lines of the recorded session's steps, and the end line.
-fn whole_text(
+/// The results of the recorded session, which is swept.
+fn all_results(
     alloc: Global,
     board: MemBoard,
     pool: &mut SectorPool,
     ends: &Ends<'_, MemBoard>,
     recorder: &Recorder<MemBoard>,
     pattern: &[u8],
-) -> Result<String, AllocError>
+) -> Result<(Vec<StepResults>, CutResult), AllocError>
     requires ready { IsUnarmed (state_of board) }
     requires same { ends.now.board.now ≡ recorder.now.bench }
     requires recorded { (steps : List Done)
@@ -164,17 +165,53 @@ fn whole_text(
         ≡ decision_in (state_of recorder.now.bench).content ends.now.cpu Normal }
     requires pattern { IsPattern true pattern.now }
     requires free { HasFree pool.old }
-    ensures text { (steps : List Done)
+    ensures found { (steps : List Done)
         → IsRecorderOf recorder.now (state_of board).content ends.now.cpu steps
-        → IfOk result (λ t. string_bytes t
-        ≡ sweep_text (state_of board).content ends.now.cpu pattern.now steps) }
+        → IfOk result (λ found. HasResults (state_of board).content ends.now.cpu pattern.now steps
+        found.0.items found.1) }
     ensures kept { KeepsOut pool.old pool.new }
 {
     let mut board = board;
-    let mut text = sweep_lines(alloc, &mut board, pool, ends, &recorder.steps, pattern)?;
+    let cuts = results_of(alloc, &mut board, pool, ends, &recorder.steps, pattern)?;
     let end = result_on(&board, pool, ends);
-    push_end(alloc, &mut text, recorder.steps.len(), end)?;
-    Ok(text)
+    Ok((cuts, end))
+}
+
+/// Sweeps the session of a script: its steps, what a normal boot makes of a loss of power before
+/// each and within it, and of the whole session. [`sweep`] writes a line for each of these, and
+/// refuses the same sessions. The pool keeps what is out. (This project's own.)
+pub fn swept(
+    alloc: Global,
+    flash: &Vec<u8>,
+    otp: &Vec<u32>,
+    pool: &mut SectorPool,
+    cpu: Cpu,
+    script: &[u8],
+    pattern: &[u8],
+) -> Result<SweepResults, SweepError>
+    requires content { IsContent (content_of flash.now.items otp.now.items) }
+    requires script { IsScript script.now }
+    requires pattern { IsPattern true pattern.now }
+    requires free { HasFree pool.old }
+    ensures swept { IsSwept (refusal (content_of flash.now.items otp.now.items) cpu
+        (script_session (content_of flash.now.items otp.now.items) cpu script.now)) result }
+    ensures found { IfOk result (IsResultsOf (content_of flash.now.items otp.now.items) cpu
+        pattern.now (script_session (content_of flash.now.items otp.now.items) cpu script.now)) }
+    ensures kept { KeepsOut pool.old pool.new }
+{
+    let recorder = match session_on(alloc, board_of(alloc, flash, otp)?, cpu, script) {
+        Ok(recorder) => recorder,
+        Err(_) => return Err(SweepError::Memory),
+    };
+    let board = board_of(alloc, flash, otp)?;
+    match judged(alloc, board, pool, cpu, &recorder, pattern) {
+        Ok((cuts, end)) => Ok(SweepResults {
+            steps: recorder.steps,
+            cuts,
+            end,
+        }),
+        Err(reason) => Err(reason),
+    }
 }
 
 /// The text of the sweep of a script's session, which [`sweep`] appends to bytes. It is refused as
@@ -199,12 +236,14 @@ pub fn swept_text(
         (script_session (content_of flash.now.items otp.now.items) cpu script.now)) }
     ensures kept { KeepsOut pool.old pool.new }
 {
-    let recorder = match session_on(alloc, board_of(alloc, flash, otp)?, cpu, script) {
-        Ok(recorder) => recorder,
-        Err(_) => return Err(SweepError::Memory),
+    let found = match swept(alloc, flash, otp, pool, cpu, script, pattern) {
+        Ok(found) => found,
+        Err(reason) => return Err(reason),
     };
-    let board = board_of(alloc, flash, otp)?;
-    text_of(alloc, board, pool, cpu, &recorder, pattern)
+    match results_text(alloc, &found) {
+        Ok(text) => Ok(text),
+        Err(_) => Err(SweepError::Memory),
+    }
 }
 
 /// Appends the text of the sweep of a script's session.

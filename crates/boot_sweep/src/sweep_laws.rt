@@ -11,11 +11,13 @@ ghost use Rattle.pico_board.specs.declared.window.Window.{Window};
 ghost use Rattle.boot_machine.specs.Luck.{Lucky};
 ghost use Rattle.boot_sweep.specs.declared.error.SweepError.{SweepError};
 ghost use Rattle.boot_sweep.specs.declared.results.CutResult.{CutResult};
+ghost use Rattle.boot_sweep.specs.declared.results.StepResults.{StepResults};
 ghost use Rattle.boot_sweep.specs.declared.results.CutResult.TheVariants.{Chance};
 ghost use Rattle.boot_sweep.specs.Comparing.{result_of};
 ghost use Rattle.boot_sweep.specs.Refusals.{IsRefused, refusal};
 ghost use Rattle.boot_sweep.specs.Results.{IsCutResult};
 ghost use Rattle.boot_sweep.specs.Slots.{IsSlot, session_slot};
+ghost use Rattle.boot_sweep.specs.StepResults.{HasCutResults, sweep_results, told_lines};
 ghost use Rattle.boot_sweep.specs.Swept.{IsSweep};
 ghost use Rattle.boot_sweep.specs.Sweeps.{Line, cut_of, is_chance, sweep_lines, sweep_text};
 
@@ -46,6 +48,21 @@ pub fn lines_have_their_results()
         × IsCutResult c (after_all c steps) (cut_of c pattern steps line) cpu line.result }
     ensures count { (c : Content) (cpu : Cpu) (pattern : List ℕ) (steps : List Step)
         → length (sweep_lines c cpu pattern steps) ≡ 2 * length steps }
+{}
+
+/// What a sweep finds is what its lines say: for each step, in their order, the results of the loss
+/// of power before it and within it.
+pub fn results_are_those_of_the_cuts()
+    ensures told { (c : Content) (cpu : Cpu) (pattern : List ℕ) (steps : List Step)
+        → told_lines 0 steps (sweep_results c cpu pattern steps)
+        ≡ sweep_lines c cpu pattern steps }
+    ensures count { (c : Content) (cpu : Cpu) (pattern : List ℕ) (steps : List Step)
+        → length (sweep_results c cpu pattern steps) ≡ length steps }
+    ensures each { (c : Content) (cpu : Cpu) (pattern : List ℕ) (steps : List Step) (j : ℕ)
+        (step : Step)
+        → slice_get steps j ≡ Some step → (found : StepResults)
+        × (slice_get (sweep_results c cpu pattern steps) j ≡ Some found)
+        × HasCutResults c cpu pattern steps j step found }
 {}
 
 /// Of a session that is not refused, a line says `chance` only where its cut leaves an unfinished

@@ -1,4 +1,4 @@
-use Rattle.std.proofs.Common.{refl, ◌<◌, ◌≤◌, ap, arith, length, subst, sym}
+use Rattle.std.proofs.Common.{ap, arith, subst, sym}
 use Rattle.boot_sweep.specs.Gating.{ArePages}
 use Rattle.boot_sweep.specs.Refusals.{step_limit, ungated_behind}
 use Rattle.boot_sweep.proofs.PageLemmas.{pages-none}

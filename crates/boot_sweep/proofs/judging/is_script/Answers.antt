@@ -1,5 +1,4 @@
-use Rattle.std.proofs.Common.{◌+◌, ◌<◌, ◌^◌, length, sym, ◌∙◌, arith, refl}
-use Rattle.std.specs.Prelude.{true, false, Ok, Err}
+use Rattle.std.proofs.Common.{sym, ◌∙◌, arith, refl}
 use Rattle.boot_script.specs.Events.{event_from}
 use Rattle.boot_sweep.proofs.ScriptLemmas.{may-be-first, may-be-more, no-more, read-end, read-more, read-none}
 use Rattle.boot_sweep.proofs.SessionLemmas.{remains-no_fault}

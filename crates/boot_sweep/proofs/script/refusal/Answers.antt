@@ -1,4 +1,4 @@
-use Rattle.std.proofs.Common.{◌<◌, ◌≤◌, Some, None, true, false, refl, sym, ap, ◌∙◌, subst, length, arith}
+use Rattle.std.proofs.Common.{◌≤◌, Some, None, true, false, refl, sym, ap, ◌∙◌, subst, length, arith}
 use Rattle.std.specs.Prelude.{is_none, is_some}
 use Rattle.boot_rules.specs.Tables.{table_in}
 use Rattle.pico_board.specs.MemBoard.{state_of}

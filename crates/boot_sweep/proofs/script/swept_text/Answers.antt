@@ -1,25 +1,18 @@
-use Rattle.std.proofs.Common.{◌≡◌, subst}
-use Rattle.std.specs.Prelude.{IfOk, string_bytes}
-use Rattle.pico_board.specs.Board.{State}
-use Rattle.boot_sweep.specs.Refusals.{IsSwept, refusal}
+use Rattle.std.proofs.Common.{◌∙◌}
 use Rattle.boot_sweep.specs.Scripts.{content_of, script_session}
-use Rattle.boot_sweep.specs.Sweeps.{sweep_text}
-use Rattle.boot_sweep.proofs.TextLemmas.{recorder-of}
+use Rattle.boot_sweep.proofs.ToldLemmas.{as-many-cuts, text-of-results}
 use Rattle.boot_sweep.proofs.script.swept_text.Goals as goal
 
-pub returns-clause-swept : goal.returns-clause-swept
-returns-clause-swept c =
-    let steps = script_session (content_of c.args.flash.now.items c.args.otp.now.items) c.args.cpu c.args.script.now in
-    subst (λ (s : State). IsSwept (refusal s.content c.args.cpu steps) c.text_of.result) c.in_ok-board.ensures.made
-    (c.text_of.ensures.swept steps (recorder-of c.in-Ok.recorder c.in_ok-board_of.field-0 c.in_ok-board.board
-    c.args.flash.now.items c.args.otp.now.items c.args.cpu c.args.script.now c.in_ok-board_of.ensures.made
-    c.in_ok-board.ensures.made c.in-Ok.ensures)).0
+pub results_text-requires : goal.results_text-requires
+results_text-requires c =
+    let start = content_of c.args.flash.now.items c.args.otp.now.items in record {
+      same = as-many-cuts start c.args.cpu c.args.pattern.now (script_session start c.args.cpu c.args.script.now)
+          c.in-Ok.found c.in-Ok.ensures.found;
+    }
 
-pub returns-clause-text : goal.returns-clause-text
-returns-clause-text c =
-    let steps = script_session (content_of c.args.flash.now.items c.args.otp.now.items) c.args.cpu c.args.script.now in
-    subst (λ (s : State). IfOk c.text_of.result
-    (λ t. string_bytes t ≡ sweep_text s.content c.args.cpu c.args.pattern.now steps)) c.in_ok-board.ensures.made
-    (c.text_of.ensures.swept steps (recorder-of c.in-Ok.recorder c.in_ok-board_of.field-0 c.in_ok-board.board
-    c.args.flash.now.items c.args.otp.now.items c.args.cpu c.args.script.now c.in_ok-board_of.ensures.made
-    c.in_ok-board.ensures.made c.in-Ok.ensures)).1
+pub returns-in-Ok-results_text-clause-text : goal.returns-in-Ok-results_text-clause-text
+returns-in-Ok-results_text-clause-text c =
+    let start = content_of c.args.flash.now.items c.args.otp.now.items in
+    c.in-Ok-results_text.ensures
+    ∙ text-of-results start c.args.cpu c.args.pattern.now (script_session start c.args.cpu c.args.script.now)
+    c.in-Ok.found c.in-Ok.ensures.found

@@ -1,5 +1,4 @@
-use Rattle.std.proofs.Common.{◌+◌, ◌<◌, length, sym, ◌∙◌, arith}
-use Rattle.std.specs.Prelude.{Ok}
+use Rattle.std.proofs.Common.{sym, ◌∙◌, arith}
 use Rattle.boot_script.specs.Events.{event_from}
 use Rattle.boot_sweep.proofs.SessionLemmas.{plays-first, plays-follow, plays-stop, remains-end, remains-no_fault}
 use Rattle.boot_sweep.proofs.session.play.Goals as goal

@@ -1,5 +1,4 @@
-use Rattle.std.proofs.Common.{◌<◌, ap, arith, ◌∙◌}
-use Rattle.boot_machine.specs.Machines.{Host}
+use Rattle.std.proofs.Common.{ap, arith, ◌∙◌}
 use Rattle.pico_board.specs.MemBoard.{state_of}
 use Rattle.boot_sweep.specs.Scripts.{script_events}
 use Rattle.boot_sweep.specs.Sessions.{entered_host}

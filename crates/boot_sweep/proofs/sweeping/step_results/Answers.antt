@@ -4,32 +4,33 @@ use Rattle.pico_board.specs.Steps.{after}
 use Rattle.boot_sweep.specs.Verdicts.{Knows}
 use Rattle.boot_sweep.proofs.KnownLemmas.{known-done, known-torn}
 use Rattle.boot_sweep.proofs.RedoneLemmas.{redone}
-use Rattle.boot_sweep.proofs.sweeping.push_step.Goals as goal
+use Rattle.boot_sweep.proofs.sweeping.step_results.Goals as goal
 
-pub push_cut-requires-2-clause-known : goal.push_cut-requires-2-clause-known
-push_cut-requires-2-clause-known g c =
+pub result_beside-within-requires-clause-known : goal.result_beside-within-requires-clause-known
+result_beside-within-requires-clause-known g c =
     let ends = c.args.ends.now in
     let x = c.requires.known.0 in
-    let first = c.push_cut.ensures.known x c.requires.known.1 in (
+    let first = c.result_beside-before.ensures.known x c.requires.known.1 in (
       x,
-      subst (λ d. Knows x ends.cpu ends.former ends.finished c.args.slot c.push_cut.new.last d)
+      subst (λ d. Knows x ends.cpu ends.former ends.finished c.args.slot c.result_beside-before.new.last d)
           (sym c.tear.ensures.torn)
-          (known-torn x ends.cpu ends.former ends.finished c.args.pattern.now c.args.slot c.push_cut.new.last
+          (known-torn x ends.cpu ends.former ends.finished c.args.pattern.now c.args.slot c.result_beside-before.new.last
           (state_of c.args.board.now).content c.args.step.now c.requires.slot first),
     )
 
 pub returns-clause-known : goal.returns-clause-known
 returns-clause-known g c = λ x known.
     let ends = c.args.ends.now in
-    let first = c.push_cut.ensures.known x known in
+    let first = c.result_beside-before.ensures.known x known in
     let torn =
-    subst (λ d. Knows x ends.cpu ends.former ends.finished c.args.slot c.push_cut.new.last d) (sym c.tear.ensures.torn)
-    (known-torn x ends.cpu ends.former ends.finished c.args.pattern.now c.args.slot c.push_cut.new.last
+    subst (λ d. Knows x ends.cpu ends.former ends.finished c.args.slot c.result_beside-before.new.last d)
+    (sym c.tear.ensures.torn)
+    (known-torn x ends.cpu ends.former ends.finished c.args.pattern.now c.args.slot c.result_beside-before.new.last
     (state_of c.args.board.now).content c.args.step.now c.requires.slot first) in
-    let second = c.push_cut-2.ensures.known x torn in
-    subst (λ d. Knows x ends.cpu ends.former ends.finished c.args.slot c.push_cut-2.new.last d)
+    let second = c.result_beside-within.ensures.known x torn in
+    subst (λ d. Knows x ends.cpu ends.former ends.finished c.args.slot c.result_beside-within.new.last d)
     (sym c.complete.ensures.done)
-    (known-done x ends.cpu ends.former ends.finished c.args.slot c.push_cut-2.new.last
+    (known-done x ends.cpu ends.former ends.finished c.args.slot c.result_beside-within.new.last
     (state_of c.tear.new.board).content c.args.step.now c.requires.slot second)
 
 pub returns-clause-done : goal.returns-clause-done
