@@ -20,7 +20,7 @@ mod SessionLemmas
 mod PoolLemmas
 mod PageLemmas
 mod SlotLemmas
-mod ResultLemmas
+pub mod ResultLemmas
 mod LineLemmas
 mod VerdictLemmas
 mod KnownLemmas

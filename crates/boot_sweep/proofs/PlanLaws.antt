@@ -79,7 +79,7 @@ module _ (known : Known) (c : Content) (cpu : Cpu) (w : Window) (right : IsConte
     abbrev write : List Happening
     write = event c cpu (write_cmd 2 (256 * (16 * s)) (length image)) image ∷ reboot
 
-    abbrev short_list : List Happening
+    abbrev pub short_list : List Happening
     short_list = PowerOn ∷ Reset Bootsel ∷ event c cpu (erase_cmd 1 (4096 * s) (4096 * 1)) [] ∷ write
 
     abbrev pages : List Step
@@ -91,7 +91,7 @@ module _ (known : Known) (c : Content) (cpu : Cpu) (w : Window) (right : IsConte
         programs-confined w ((length image + 255) / 256) (16 * s) image (omega (arith, starts))
         (omega (arith, starts, least, few))
 
-    short-done : slot.may ≡ true → session c cpu short_list ≡ Erase s ∷ pages
+    pub short-done : slot.may ≡ true → session c cpu short_list ≡ Erase s ∷ pages
     short-done is_so =
         let least = slot.placed.some in
         let middle = after_all c (erases s 1) in
@@ -105,7 +105,7 @@ module _ (known : Known) (c : Content) (cpu : Cpu) (w : Window) (right : IsConte
         ∙ ap (λ xs. pages ++ xs) (reboot-event c cpu known (after_all middle pages) 3 w.start (omega arith))
         ∙ append-nil pages)
 
-    short-barred : slot.may ≡ false → session c cpu short_list ≡ []
+    pub short-barred : slot.may ≡ false → session c cpu short_list ≡ []
     short-barred never =
         let least = slot.placed.some in
         let page : 256 * (16 * s) / 4096 ≡ s = omega arith in
@@ -142,7 +142,7 @@ module _ (known : Known) (c : Content) (cpu : Cpu) (w : Window) (right : IsConte
         PowerOn ∷ Reset Bootsel ∷ sent (erase_cmd 1 a 4096) [] ∷ sent (write_cmd 2 b (length image)) image
         ∷ sent (update_cmd 3 w.start) [] ∷ []
 
-    short-is : sent_short w.start w.start ≡ short_list
+    pub short-is : sent_short w.start w.start ≡ short_list
     unfolding sent
     short-is =
         let page : w.start ≡ 256 * (16 * s) = omega (arith, starts) in
@@ -172,7 +172,7 @@ module _ (known : Known) (c : Content) (cpu : Cpu) (w : Window) (right : IsConte
     abbrev erase_rest : List Happening
     erase_rest = event c cpu (erase_cmd 2 (4096 * (s + 1)) (4096 * k)) [] ∷ write_rest
 
-    abbrev long_list : List Happening
+    abbrev pub long_list : List Happening
     long_list = PowerOn ∷ Reset Bootsel ∷ event c cpu (erase_cmd 1 (4096 * s) (4096 * 1)) [] ∷ erase_rest
 
     abbrev others : List Step
@@ -204,7 +204,7 @@ module _ (known : Known) (c : Content) (cpu : Cpu) (w : Window) (right : IsConte
         programs-confined w ((length first + 255) / 256) (16 * s) first (omega (arith, starts))
         (omega (arith, starts, least, full))
 
-    long-done : slot.may ≡ true
+    pub long-done : slot.may ≡ true
         → session c cpu long_list ≡ Erase s ∷ ((erases (s + 1) k ++ others) ++ pages')
     long-done is_so =
         let whole = slot.placed.whole in
@@ -235,7 +235,7 @@ module _ (known : Known) (c : Content) (cpu : Cpu) (w : Window) (right : IsConte
         ∙ append-nil pages'))
         ∙ sym (append_assoc (erases (s + 1) k) others pages'))
 
-    long-barred : slot.may ≡ false → session c cpu long_list ≡ []
+    pub long-barred : slot.may ≡ false → session c cpu long_list ≡ []
     long-barred never =
         let whole = slot.placed.whole in
         let least = slot.placed.some in
@@ -286,7 +286,7 @@ module _ (known : Known) (c : Content) (cpu : Cpu) (w : Window) (right : IsConte
         ∷ sent (write_cmd 3 d (length rest)) rest ∷ sent (write_cmd 4 e n) first
         ∷ sent (update_cmd 5 w.start) [] ∷ []
 
-    long-is : sent_long w.start (w.start + 4096) (w.start + 4096) w.start 4096 ≡ long_list
+    pub long-is : sent_long w.start (w.start + 4096) (w.start + 4096) w.start 4096 ≡ long_list
     unfolding sent
     long-is =
         let page : w.start ≡ 256 * (16 * s) = omega (arith, starts) in
