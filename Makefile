@@ -47,8 +47,8 @@ real:
 	if [ -z "$$program" ]; then echo 'There is no program: "make demo" builds one, and "make" a proved one.' >&2; exit 1; fi; \
 	echo "With $$program, and of Debian's packages gcc-arm-none-eabi, gcc-riscv64-unknown-elf, clang and lld:"; \
 	python3 real/real.py "$$program" && \
-	if command -v arm-none-eabi-gcc > /dev/null; then python3 tools/sessions.py "$$program" docs/ELF.md; \
-	else echo "docs/ELF.md is not run: there is no arm-none-eabi-gcc"; fi
+	if command -v arm-none-eabi-gcc > /dev/null; then python3 tools/sessions.py --needing arm-none-eabi-gcc "$$program" README.md; \
+	else echo "The README's walk from a toolchain to an update is not run: there is no arm-none-eabi-gcc"; fi
 
 install:
 	@test -x $(PROVED) || { echo 'There is no proved program: "make" builds it.' >&2; exit 1; }

@@ -1,7 +1,7 @@
 #!/usr/bin/env python3
 """Runs the sessions of a document, and compares every line that it shows.
 
-    sessions.py PROGRAM DOCUMENT..
+    sessions.py [--needing TOOL] PROGRAM DOCUMENT..
 
 A session stands in a block that is indented by four spaces. A line of it that begins with `$ ` is a
 command, the lines behind that begin with `> ` belong to the command, and the lines up to the next
@@ -9,10 +9,15 @@ command are what it prints, standard error included. The commands of a document 
 a new folder, in which the program is called `dugnatsew`; each has to end with status 0, so that
 another status is shown by `; echo $?`. The last line is `N commands as shown, M not`, and the
 status is 0 where M is 0.
+
+A line `<!-- needs TOOL -->` says that the commands up to the next heading of its section's level
+need that tool. They run for themselves, where it is installed, and are skipped with a word where it
+is not. With `--needing TOOL` the commands that need it are the only ones that run.
 """
 
 import os
 import re
+import shutil
 import subprocess
 import sys
 import tempfile
@@ -33,10 +38,26 @@ class Command:
         return "\n".join(self.lines)
 
 
-def blocks(lines):
-    """The indented blocks, each a list of line numbers and lines without their indent."""
-    block, blank = [], []
+def parts_of(lines):
+    """The parts of a document, each with the tool that it needs, or None, and its numbered lines."""
+    plain, parts, level, depth = [], [], 0, None
     for number, line in enumerate(lines, 1):
+        heading = re.match(r"(#+) ", line)
+        if heading:
+            level = len(heading.group(1))
+            depth = None if depth is None or level <= depth else depth
+        needs = re.match(r"<!-- needs (\S+) -->$", line)
+        if needs:
+            depth = level
+            parts.append((needs.group(1), []))
+        (plain if depth is None else parts[-1][1]).append((number, line))
+    return [(None, plain), *parts]
+
+
+def blocks(lines):
+    """The indented blocks of numbered lines, each without its indent."""
+    block, blank = [], []
+    for number, line in lines:
         if line.startswith(INDENT):
             block += [(it, "") for it in blank] + [(number, line[len(INDENT):])]
             blank = []
@@ -108,10 +129,8 @@ def difference(command, lines, status):
     return f"its status is {status}" if status != "0" else None
 
 
-def check(document, program):
-    """The number of commands of a document that ran as shown, and of those that did not."""
-    with open(document, encoding="utf-8") as file:
-        lines = file.read().split("\n")
+def compare(document, lines, program):
+    """The number of commands in lines of a document that ran as shown, and of those that did not."""
     commands = [it for block in blocks(lines) for it in commands_of(block)]
     with tempfile.TemporaryDirectory() as folder:
         shown = run(commands, program, folder)
@@ -124,12 +143,32 @@ def check(document, program):
     return len(commands) - wrong, wrong
 
 
+def check(document, program, needing):
+    """The same of a document, or where a tool is named of the parts that need it."""
+    with open(document, encoding="utf-8") as file:
+        lines = file.read().split("\n")
+    right = wrong = 0
+    for tool, part in parts_of(lines):
+        if needing and tool != needing:
+            continue
+        if tool and not shutil.which(tool):
+            print(f"{document}:{part[0][0]}: these commands are not run: there is no {tool}")
+            continue
+        good, bad = compare(document, part, program)
+        right, wrong = right + good, wrong + bad
+    return right, wrong
+
+
 def main():
-    if len(sys.argv) < 3:
+    words = sys.argv[1:]
+    needing = None
+    if words[:1] == ["--needing"] and len(words) > 1:
+        needing, words = words[1], words[2:]
+    if len(words) < 2:
         sys.exit(__doc__)
     right = wrong = 0
-    for document in sys.argv[2:]:
-        good, bad = check(document, sys.argv[1])
+    for document in words[1:]:
+        good, bad = check(document, words[0], needing)
         right, wrong = right + good, wrong + bad
     print(f"{right} commands as shown, {wrong} not")
     sys.exit(0 if right and not wrong else 1)
