@@ -1,0 +1,11 @@
+mod ByteLemmas
+mod TurnLemmas
+mod LeftLemmas
+mod WindowLemmas
+mod FileLemmas
+mod ServedBlockLemmas
+mod CopyLemmas
+mod DownloadLemmas
+mod SameTargetLemmas
+mod DoneAgainLemmas
+mod UpdateLemmas
