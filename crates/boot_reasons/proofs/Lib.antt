@@ -1,0 +1,6 @@
+pub mod SlotLemmas
+pub mod TableReasonLemmas
+pub mod TookLemmas
+pub mod LookLemmas
+pub mod ReasonLemmas
+pub mod FirstLemmas

@@ -1,0 +1,6 @@
+pub mod Slots
+pub mod SlotRules
+pub mod Looks
+pub mod LookRules
+pub mod Reasons
+pub mod Rules

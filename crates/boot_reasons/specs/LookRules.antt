@@ -1,0 +1,108 @@
+-- What a boot sees in its boot units, and which image it takes in which for what reason, in the
+-- words of the rules (RP2350 Datasheet, chapter 5, "A/B versions" and "Flash update boot"; this
+-- project's own where the datasheet is open, and the reasons as a whole).
+use Rattle.std.specs.Prelude.{◌≡◌, ◌⊎◌, ℕ, Bool, true, List, [], ◌∷◌, length, Option, Some, None, IsSome, IsTrue, Result, Ok, Err}
+use Rattle.pico_board.specs.declared.boot.Cpu.{Cpu}
+use Rattle.pico_board.specs.declared.window.Window.{Window}
+use Rattle.pico_board.specs.Content.{Content}
+use Rattle.image_def.specs.declared.started.Started.{Started}
+use Rattle.image_check.specs.declared.why.Why.{Why}
+use Rattle.image_check.specs.Valid.{Valid}
+use Rattle.image_check.specs.WhyNot.{WhyNot}
+use Rattle.slot_choice.specs.declared.unit.Member.{Member}
+use Rattle.slot_choice.specs.declared.unit.Member.TheVariants.{A, B}
+use Rattle.slot_choice.specs.declared.unit.SlotUnit.{SlotUnit}
+use Rattle.slot_choice.specs.Units.{member_window}
+use Rattle.slot_choice.specs.Versions.{is_below}
+use Rattle.boot_rules.specs.Choosing.{other_of}
+use Rattle.boot_rules.specs.Chosen.{is_member, IsBetter}
+use Rattle.boot_reasons.specs.declared.looks.Look.{Look}
+use Rattle.boot_reasons.specs.declared.looks.Took.{Took}
+use Rattle.boot_reasons.specs.declared.looks.UnitReason.{UnitReason}
+use Rattle.boot_reasons.specs.declared.looks.UnitReason.TheVariants.{Updated, Only, Version, Tie}
+
+-- s is the image of member m of a unit, and it counts: it is valid with trial allowed exactly in
+-- the updated member
+pub record CountsIn (c : Content) (cpu : Cpu) (u : SlotUnit) (updated : Option Member) (m : Member)
+    (s : Started) : Type 0 where
+  pub window : Window
+  pub stands : member_window m u ≡ Some window
+  pub valid : Valid c window cpu (is_member updated m) s
+
+-- Has m s: s is the image of member m, and it counts. The reasons for taking the image s of member
+-- m: it is the updated member; no other image counts; both count and its version is greater; both
+-- count, the versions are equal, and it is A
+abbrev pub IsUpdatedOne : Option Member → Member → Type 0
+IsUpdatedOne updated m = IsTrue (is_member updated m)
+
+abbrev pub IsOnlyOne : (Member → Started → Type 0) → Member → Type 0
+IsOnlyOne Has m = (t : Started) → Has (other_of m) t → ⊥
+
+abbrev pub IsGreaterOne : (Member → Started → Type 0) → Member → Started → Type 0
+IsGreaterOne Has m s =
+    (t : Started) × Has (other_of m) t × (is_below t.version s.version ≡ true)
+
+abbrev pub IsFirstOfEqual : (Member → Started → Type 0) → Member → Started → Type 0
+IsFirstOfEqual Has m s =
+    (t : Started) × Has (other_of m) t × (t.version ≡ s.version) × (m ≡ A)
+
+-- the reason is the first of these that holds
+abbrev pub IsReason : (Member → Started → Type 0) → Option Member → Member → Started → UnitReason
+    → Type 0
+IsReason Has updated m s Updated = IsUpdatedOne updated m
+IsReason Has updated m s Only = (IsUpdatedOne updated m → ⊥) × IsOnlyOne Has m
+IsReason Has updated m s Version =
+    (IsUpdatedOne updated m → ⊥) × (IsOnlyOne Has m → ⊥) × IsGreaterOne Has m s
+IsReason Has updated m s Tie =
+    (IsUpdatedOne updated m → ⊥) × (IsOnlyOne Has m → ⊥) × (IsGreaterOne Has m s → ⊥)
+    × IsFirstOfEqual Has m s
+
+-- the image s of a member counts, and it is taken: it is the updated member's, or the other one's
+-- is neither the updated member's nor a better one
+pub record IsTaken (Has : Member → Started → Type 0) (updated : Option Member) (m : Member)
+    (s : Started) : Type 0 where
+  pub counts : Has m s
+  pub best : IsUpdatedOne updated m
+      ⊎ ((t : Started) → Has (other_of m) t
+      → (IsUpdatedOne updated (other_of m) → ⊥) × IsBetter m s.version t.version)
+
+-- of the images that count this one is taken, which stands in a window of the unit, for its reason;
+-- or none counts
+abbrev pub IsTook : (Member → Started → Type 0) → SlotUnit → Option Member → Option Took → Type 0
+IsTook Has u updated None = (m : Member) (s : Started) → Has m s → ⊥
+IsTook Has u updated (Some taken) =
+    (s : Started) × IsTaken Has updated taken.member s
+    × (member_window taken.member u ≡ Some taken.window)
+    × IsReason Has updated taken.member s taken.because
+
+-- the image of a window is valid, with trial allowed or not, or this rule is the first that fails
+abbrev pub IsImageTold : Content → Cpu → Window → Bool → Result Started Why → Type 0
+IsImageTold c cpu w trial (Ok s) = Valid c w cpu trial s
+IsImageTold c cpu w trial (Err why) = WhyNot c w cpu trial why
+
+-- the second member's image, where there is a second member
+abbrev pub IsSecondTold : Content → Cpu → Option Member → Option Window
+    → Option (Result Started Why) → Type 0
+IsSecondTold c cpu updated None image = image ≡ None
+IsSecondTold c cpu updated (Some w) None = ⊥
+IsSecondTold c cpu updated (Some w) (Some image) =
+    IsImageTold c cpu w (is_member updated B) image
+
+-- a look at a unit tells the image of each member, with trial allowed exactly in the updated one,
+-- and which of those that count is taken
+pub record IsLook (c : Content) (cpu : Cpu) (u : SlotUnit) (updated : Option Member)
+    (look : Look) : Type 0 where
+  pub unit : look.unit ≡ u
+  pub first : IsImageTold c cpu u.a (is_member updated A) look.first
+  pub second : IsSecondTold c cpu updated u.b look.second
+  pub taken : IsTook (CountsIn c cpu u updated) u updated look.taken
+
+-- the units are looked at in this order, the updated member being one of the first of them, up to
+-- the first that takes an image; so many further ones are not reached
+abbrev pub AreLooks : Content → Cpu → List SlotUnit → Option Member → List Look → ℕ → Type 0
+AreLooks c cpu [] updated looks unreached = (looks ≡ []) × (unreached ≡ 0)
+AreLooks c cpu (u ∷ us) updated [] unreached = ⊥
+AreLooks c cpu (u ∷ us) updated (look ∷ rest) unreached =
+    IsLook c cpu u updated look
+    × ((IsSome look.taken × (rest ≡ []) × (unreached ≡ length us))
+    ⊎ ((look.taken ≡ None) × AreLooks c cpu us None rest unreached))

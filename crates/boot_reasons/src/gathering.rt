@@ -1,0 +1,170 @@
+//! The reasons of a boot, gathered.
+
+ghost use Rattle.std.specs.Prelude.{◌≡◌, ◌-◌, ◌≤◌, ◌/◌, All, IfSome, IsTrue, length, option_map};
+ghost use Rattle.otp_roll.specs.Flags.{slot_size};
+ghost use Rattle.part_table.specs.Sound.{IsSoundTable};
+ghost use Rattle.sector_pool.specs.Keeping.{KeepsOut};
+ghost use Rattle.sector_pool.specs.Pool.{HasFree};
+ghost use Rattle.slot_choice.specs.Units.{units};
+ghost use Rattle.boot_rules.specs.Choosing.{decision_of, order_of};
+ghost use Rattle.boot_rules.specs.Tables.{table_in};
+ghost use Rattle.boot_rules.specs.Picking.{AreInside};
+ghost use Rattle.boot_reasons.specs.Looks.{first_choice, looks_of};
+ghost use Rattle.boot_reasons.specs.Reasons.{does_look, looked_decision, looks_in, order_in, reasons_in, results_in, unreached_in};
+ghost use Rattle.boot_reasons.specs.Rules.{IsExplained};
+
+use crate::looking::{first_choice, looks_at};
+use crate::looks::Look;
+use crate::reasons::Reasons;
+use crate::tables::{slot_answer, taken_table, told_table};
+use arrayvec::ArrayVec;
+use boot_rules::{Decision, Fall};
+use otp_roll::{flash_off, required, slot_size};
+use part_table::Table;
+use pico_board::{Board, BootKind, Cpu};
+use sector_pool::SectorPool;
+use slot_choice::{Choice, Member, SlotUnit, boot_units, update_first};
+
+/// Whether a boot looks at units.
+fn does_look(kind: BootKind, off: bool) -> bool
+    ensures { result ≡ does_look kind off }
+{
+    match kind {
+        BootKind::Bootsel => false,
+        BootKind::Normal | BootKind::Update(_) => !off,
+    }
+}
+
+/// Brings the units into the order in which a boot of this kind looks at them, and names the
+/// updated member of the first one.
+fn order_of(units: &mut ArrayVec<SlotUnit, 15>, kind: BootKind) -> Option<Member>
+    ensures { order_of kind units.old.items ≡ record { units = units.new.items; updated = result } }
+{
+    match kind {
+        BootKind::Update(base) => update_first(units, base),
+        BootKind::Normal => None,
+        BootKind::Bootsel => None,
+    }
+}
+
+/// The looks of a boot at its units, and how many units are not reached.
+#[derive(Drop)]
+struct Looked {
+    looks: ArrayVec<Look, 15>,
+    unreached: u32,
+}
+
+/// The looks at boot units, which a boot of this kind brings into their order.
+fn looks_in_order<B: Board>(
+    board: &B,
+    pool: &mut SectorPool,
+    units: ArrayVec<SlotUnit, 15>,
+    cpu: Cpu,
+    kind: BootKind,
+) -> Looked
+    requires power { IsTrue (B.state board.now).powered }
+    requires free { HasFree pool.old }
+    requires inside { All (AreInside (length (B.state board.now).content.flash)) units.items }
+    ensures looks { result.looks.items ≡ looks_of (results_in (B.state board.now).content cpu)
+        (order_of kind units.items).units (order_of kind units.items).updated }
+    ensures unreached { result.unreached
+        ≡ length (order_of kind units.items).units - length result.looks.items }
+    ensures kept { KeepsOut pool.old pool.new }
+{
+    let mut ordered = units;
+    let updated = order_of(&mut ordered, kind);
+    let looks = looks_at(board, pool, ordered.as_slice(), updated, cpu);
+    let unreached = (ordered.len() - looks.len()) as u32;
+    Looked { looks, unreached }
+}
+
+/// The looks of a boot of this kind, by the table of the flash.
+fn looked_in<B: Board>(
+    board: &B,
+    pool: &mut SectorPool,
+    table: Option<&Table>,
+    cpu: Cpu,
+    kind: BootKind,
+) -> Looked
+    requires power { IsTrue (B.state board.now).powered }
+    requires free { HasFree pool.old }
+    requires table { option_map (λ t. t.now) table
+        ≡ option_map (λ found. found.table) (table_in (B.state board.now).content) }
+    ensures looks { result.looks.items ≡ looks_in (B.state board.now).content cpu kind }
+    ensures unreached { result.unreached ≡ unreached_in (B.state board.now).content cpu kind }
+    ensures kept { KeepsOut pool.old pool.new }
+{
+    if !does_look(kind, flash_off(board)) {
+        return Looked {
+            looks: ArrayVec::new(),
+            unreached: 0,
+        };
+    }
+    let units = boot_units(table, board.flash_len(), slot_size(board), cpu);
+    looks_in_order(board, pool, units, cpu, kind)
+}
+
+/// The decision of a choice.
+fn decision_of(choice: Option<Choice>) -> Decision
+    ensures { result ≡ decision_of choice }
+{
+    match choice {
+        Some(choice) => Decision::Start(choice),
+        None => Decision::Bootsel(Fall::NoImage),
+    }
+}
+
+/// The decision by the choice of the first look that takes an image.
+fn looked_decision(kind: BootKind, off: bool, choice: Option<Choice>) -> Decision
+    ensures { result ≡ looked_decision kind off choice }
+{
+    match kind {
+        BootKind::Bootsel => Decision::Bootsel(Fall::Requested),
+        BootKind::Normal | BootKind::Update(_) => {
+            if off {
+                Decision::Bootsel(Fall::FlashOff)
+            } else {
+                decision_of(choice)
+            }
+        }
+    }
+}
+
+/// The reasons of a boot by what its slots have.
+fn reasons_of<B: Board>(board: &B, pool: &mut SectorPool, cpu: Cpu, kind: BootKind) -> Reasons
+    requires power { IsTrue (B.state board.now).powered }
+    requires free { HasFree pool.old }
+    ensures exact { result ≡ reasons_in (B.state board.now).content cpu kind }
+    ensures kept { KeepsOut pool.old pool.new }
+{
+    let first = slot_answer(board, 0);
+    let second = slot_answer(board, 1);
+    let table = told_table(&first, &second);
+    let looked = looked_in(board, pool, taken_table(table, &first, &second), cpu, kind);
+    let off = flash_off(board);
+    Reasons {
+        decision: looked_decision(kind, off, first_choice(looked.looks.as_slice())),
+        required: required(board),
+        off,
+        size: slot_size(board),
+        first,
+        second,
+        table,
+        looks: looked.looks,
+        unreached: looked.unreached,
+    }
+}
+
+/// Why a boot decides as it does. Each slot is read once, and each member of a unit is judged once:
+/// the decision is that of the first look that takes an image, and nothing is judged twice for it.
+/// It takes no memory, and the pool keeps what is out. (RP2350 Datasheet, chapter 5, Bootrom; the
+/// reasons are this project's own.)
+pub fn gather<B: Board>(board: &B, pool: &mut SectorPool, cpu: Cpu, kind: BootKind) -> Reasons
+    requires power { IsTrue (B.state board.now).powered }
+    requires lease { HasFree pool.old }
+    ensures explained { IsExplained (B.state board.now).content cpu kind result }
+    ensures function { result ≡ reasons_in (B.state board.now).content cpu kind }
+    ensures pool { KeepsOut pool.old pool.new }
+{
+    reasons_of(board, pool, cpu, kind)
+}

@@ -1,0 +1,22 @@
+//! Why a boot decides as it does: what each table slot has or lacks, whose table is that of the
+//! flash, which boot units are looked at in which order, which image each member has or which rule
+//! it fails first, and by which rule an image is taken.
+//!
+//! `specs/Slots` and `specs/Looks` have the reasons as functions, `specs/SlotRules`,
+//! `specs/LookRules` and `specs/Rules` in the words of the rules. The laws say that these are the
+//! same, and that the first unit that takes an image takes that of the decision.
+#![tactic(auto)]
+
+mod gathering;
+pub mod laws;
+mod looking;
+mod looks;
+mod reasons;
+mod slots;
+mod tables;
+
+pub use gathering::gather;
+pub use looks::{Look, Took, UnitReason};
+pub use reasons::Reasons;
+pub use slots::{SlotFault, TableReason, ToldTable};
+pub use tables::{slot_answer, taken_table, told_table};

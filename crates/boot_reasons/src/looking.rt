@@ -1,0 +1,289 @@
+//! Looks at boot units.
+
+ghost use Rattle.std.specs.Prelude.{◌≡◌, ◌≤◌, All, IfSome, IsTrue, None, Some, length, option_map};
+ghost use Rattle.std.specs.Result.{result_ok};
+ghost use Rattle.sector_pool.specs.Keeping.{KeepsOut};
+ghost use Rattle.sector_pool.specs.Pool.{HasFree};
+ghost use Rattle.boot_rules.specs.Chosen.{is_member};
+ghost use Rattle.boot_rules.specs.Choosing.{choice_of, other_of};
+ghost use Rattle.boot_rules.specs.Picking.{AreInside, IsInside};
+ghost use Rattle.slot_choice.specs.Units.{member_window};
+ghost use Rattle.boot_reasons.specs.Looks.{better_took, counted, first_choice, is_update, look_at, look_choice, looks_of, second_image, seen_image, took, took_of};
+ghost use Rattle.boot_reasons.specs.Reasons.{results_in};
+
+use crate::looks::{Look, Took, UnitReason};
+use arrayvec::ArrayVec;
+use block_codec::copy_rows;
+use image_check::{Started, Why, check};
+use pico_board::{Board, Cpu, Window};
+use sector_pool::SectorPool;
+use slot_choice::{Choice, Member, SlotUnit, is_below};
+
+/// Whether a member is the updated one.
+fn is_member(updated: Option<Member>, member: Member) -> bool
+    ensures { result ≡ is_member updated member }
+{
+    match (updated, member) {
+        (Some(Member::A), Member::A) | (Some(Member::B), Member::B) => true,
+        (Some(Member::A), Member::B) | (Some(Member::B), Member::A) | (None, _) => false,
+    }
+}
+
+/// A member's image is taken.
+fn took(member: Member, because: UnitReason, image: &Started) -> Option<Took>
+    ensures { result ≡ took member because image.now }
+{
+    Some(Took {
+        member,
+        window: image.window,
+        because,
+    })
+}
+
+/// Which of two images that count is taken, and why, where neither is the updated member's.
+fn better_pair(first: &Started, second: &Started) -> Option<Took>
+    ensures { result ≡ better_took (Some first.now) (Some second.now) }
+{
+    if is_below(first.version, second.version) {
+        return took(Member::B, UnitReason::Version, second);
+    }
+    if is_below(second.version, first.version) {
+        return took(Member::A, UnitReason::Version, first);
+    }
+    took(Member::A, UnitReason::Tie, first)
+}
+
+/// Which image is taken of those of two members that count, and why, where none is the updated
+/// member's.
+fn better_took(first: Option<&Started>, second: Option<&Started>) -> Option<Took>
+    ensures { result
+        ≡ better_took (option_map (λ s. s.now) first.entry) (option_map (λ s. s.now) second.entry) }
+{
+    match (first, second) {
+        (Some(first), Some(second)) => better_pair(first, second),
+        (Some(first), None) => took(Member::A, UnitReason::Only, first),
+        (None, Some(second)) => took(Member::B, UnitReason::Only, second),
+        (None, None) => None,
+    }
+}
+
+/// Which image is taken of those of two members that count, and why.
+fn took_of(
+    updated: Option<Member>,
+    first: Option<&Started>,
+    second: Option<&Started>,
+) -> Option<Took>
+    ensures { result ≡ took_of updated (option_map (λ s. s.now) first.entry)
+        (option_map (λ s. s.now) second.entry) }
+{
+    match updated {
+        None => better_took(first, second),
+        Some(Member::A) => match first {
+            Some(image) => took(Member::A, UnitReason::Updated, image),
+            None => better_took(first, second),
+        },
+        Some(Member::B) => match second {
+            Some(image) => took(Member::B, UnitReason::Updated, image),
+            None => better_took(first, second),
+        },
+    }
+}
+
+/// The image of a second member, or why it has none, where there is a second member.
+fn second_image<B: Board>(
+    board: &B,
+    pool: &mut SectorPool,
+    window: Option<Window>,
+    cpu: Cpu,
+    trial_ok: bool,
+) -> Option<Result<Started, Why>>
+    requires power { IsTrue (B.state board.now).powered }
+    requires free { HasFree pool.old }
+    requires inside { IfSome window (IsInside (length (B.state board.now).content.flash)) }
+    ensures exact { result ≡ option_map
+        (λ w. results_in (B.state board.now).content cpu w trial_ok) window }
+    ensures kept { KeepsOut pool.old pool.new }
+{
+    match window {
+        Some(window) => Some(check(board, pool, window, cpu, trial_ok)),
+        None => None,
+    }
+}
+
+/// The image of a second member, where it counts.
+fn counted(image: &Option<Result<Started, Why>>) -> Option<&Started>
+    ensures { option_map (λ s. s.now) result ≡ counted image.now }
+{
+    match image {
+        Some(Ok(image)) => Some(image),
+        Some(Err(_)) | None => None,
+    }
+}
+
+/// The image of a first member, where it counts.
+fn counted_first(image: &Result<Started, Why>) -> Option<&Started>
+    ensures { option_map (λ s. s.now) result ≡ result_ok image.now }
+{
+    match image {
+        Ok(image) => Some(image),
+        Err(_) => None,
+    }
+}
+
+/// A look at a unit: each member's image is judged once, with a trial image allowed exactly in the
+/// updated member.
+fn look_at<B: Board>(
+    board: &B,
+    pool: &mut SectorPool,
+    unit: &SlotUnit,
+    updated: Option<Member>,
+    cpu: Cpu,
+) -> Look
+    requires power { IsTrue (B.state board.now).powered }
+    requires free { HasFree pool.old }
+    requires inside { AreInside (length (B.state board.now).content.flash) unit.now }
+    ensures exact { result
+        ≡ look_at (results_in (B.state board.now).content cpu) unit.now updated }
+    ensures kept { KeepsOut pool.old pool.new }
+{
+    let first = check(board, pool, unit.a, cpu, is_member(updated, Member::A));
+    let second = second_image(board, pool, unit.b, cpu, is_member(updated, Member::B));
+    let taken = took_of(updated, counted_first(&first), counted(&second));
+    Look {
+        unit: *unit,
+        first,
+        second,
+        taken,
+    }
+}
+
+/// The looks at units, in their order, up to the first that takes an image.
+pub(crate) fn looks_at<B: Board>(
+    board: &B,
+    pool: &mut SectorPool,
+    units: &[SlotUnit],
+    updated: Option<Member>,
+    cpu: Cpu,
+) -> ArrayVec<Look, 15>
+    requires power { IsTrue (B.state board.now).powered }
+    requires free { HasFree pool.old }
+    requires few { length units.now ≤ 15 }
+    requires inside { All (AreInside (length (B.state board.now).content.flash)) units.now }
+    ensures exact { result.items
+        ≡ looks_of (results_in (B.state board.now).content cpu) units.now updated }
+    ensures some { length result.items ≤ length units.now }
+    ensures kept { KeepsOut pool.old pool.new }
+{
+    let mut looks = ArrayVec::new();
+    let mut member = updated;
+    for unit in units {
+        let look = look_at(board, pool, unit, member, cpu);
+        let takes = look.taken.is_some();
+        looks.push(look);
+        if takes {
+            return looks;
+        }
+        member = None;
+    }
+    looks
+}
+
+/// The record of an image once more.
+fn copy_image(image: &Started) -> Started
+    ensures { result ≡ image.now }
+{
+    Started {
+        window: image.window,
+        block: image.block,
+        image_at: image.image_at,
+        pc: image.pc,
+        sp: image.sp,
+        limit: image.limit,
+        version: image.version,
+        rollback: image.rollback,
+        rows: copy_rows(&image.rows),
+        trial: image.trial,
+    }
+}
+
+/// The other member of a pair.
+fn other_of(member: Member) -> Member
+    ensures { result ≡ other_of member }
+{
+    match member {
+        Member::A => Member::B,
+        Member::B => Member::A,
+    }
+}
+
+/// The window of a member of a unit.
+fn member_window(unit: &SlotUnit, member: Member) -> Option<Window>
+    ensures { result ≡ member_window member unit.now }
+{
+    match member {
+        Member::A => Some(unit.a),
+        Member::B => unit.b,
+    }
+}
+
+/// The choice of a member's image.
+fn choice_of(unit: &SlotUnit, member: Member, updated: bool, image: &Started) -> Choice
+    ensures { result ≡ choice_of unit.now member updated image.now }
+{
+    Choice {
+        image: copy_image(image),
+        member,
+        other: member_window(unit, other_of(member)),
+        updated,
+    }
+}
+
+/// Whether a member's image is taken as the updated one.
+fn is_update(because: UnitReason) -> bool
+    ensures { result ≡ is_update because }
+{
+    match because {
+        UnitReason::Updated => true,
+        UnitReason::Only | UnitReason::Version | UnitReason::Tie => false,
+    }
+}
+
+/// The member's image by a look.
+fn seen_image(look: &Look, member: Member) -> Option<&Started>
+    ensures { option_map (λ s. s.now) result ≡ seen_image look.now member }
+{
+    match member {
+        Member::A => counted_first(&look.first),
+        Member::B => counted(&look.second),
+    }
+}
+
+/// The choice of a look, if it takes an image.
+fn look_choice(look: &Look) -> Option<Choice>
+    ensures { result ≡ look_choice look.now }
+{
+    match look.taken {
+        Some(taken) => match seen_image(look, taken.member) {
+            Some(image) => Some(choice_of(
+                &look.unit,
+                taken.member,
+                is_update(taken.because),
+                image,
+            )),
+            None => None,
+        },
+        None => None,
+    }
+}
+
+/// The choice of the first look that has one.
+pub(crate) fn first_choice(looks: &[Look]) -> Option<Choice>
+    ensures { result ≡ first_choice looks.now }
+{
+    for look in looks {
+        if let Some(choice) = look_choice(look) {
+            return Some(choice);
+        }
+    }
+    None
+}
