@@ -1,12 +1,11 @@
 -- The outcome of an ELF file is right by the rules, and no other is.
-use Rattle.std.proofs.Common.{◌≡◌, ◌≢◌, ◌⊎◌, ℕ, ◌<◌, get_or, List, [], ◌∷◌, length, Option, Some, None, Result, Ok, Err, option_map, refl, sym, ◌∙◌, ap, subst, inl, inr, arith}
+use Rattle.std.proofs.Common.{◌≡◌, ◌≢◌, ◌⊎◌, ℕ, ◌<◌, get_or, List, length, Option, Some, None, Ok, option_map, refl, sym, ◌∙◌, ap, subst, inl, inr, arith}
 use Rattle.std.specs.Option.{option_or}
 use Rattle.std.proofs.lemmas.Bool.{cases_lt}
 use Rattle.std.proofs.lemmas.List.{get_or_past}
 use Rattle.image_pack.specs.declared.spec.SealError.{SealError}
 use Rattle.image_pack.specs.declared.spec.SealSpec.{SealSpec}
-use Rattle.image_pack.specs.Faults.{IsSealed, IsSealFault, block_offset}
-use Rattle.image_pack.specs.ReadBack.{IsHalves}
+use Rattle.image_pack.specs.Faults.{IsSealed, block_offset}
 use Rattle.image_pack.specs.Sealing.{sealed_text}
 use Rattle.table_json.proofs.SpecLemmas.{spec_halves}
 use Rattle.elf_pack.specs.declared.fault.ElfFault.{ElfFault}
@@ -29,6 +28,7 @@ use Rattle.run_forms.proofs.JsonLemmas.{spec-gives}
 use Rattle.run_forms.proofs.WorkLemmas.{same-outcome, two-works}
 use Rattle.tool_work.specs.Seals.{seal_error, sealed_line}
 use Rattle.tool_work.specs.Elfs.{IsElfOf, IsElfRefused, elf_blamed, elf_text, elf_work, image_fault, packed_work}
+use Rattle.tool_work.proofs.AloneLemmas.{starts-alone}
 use Rattle.tool_work.proofs.SealLemmas.{IsJudged, is_sealed, has_fault, seal-judged, fault-first, sealed-none}
 
 -- the first fault is one by the rules, or there is none and the file has a binary that is sealed
@@ -164,6 +164,7 @@ module _ (elf spec out e s : List ℕ) where
             binary = has;
             sealed = sealed;
             whole = whole-of e s form.1.0 small form.1.1 has sealed;
+            starts = starts-alone (elf_binary form.1.0.cpu e) form.1.0 sealed (spec_halves form.1.1.value form.1.0 form.1.1.gives);
             status = ap (λ (o : Outcome). o.status) same;
             text = ap (λ (o : Outcome). o.text) same;
             files = ap (λ (o : Outcome). o.files) same;

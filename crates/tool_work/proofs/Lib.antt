@@ -1,3 +1,4 @@
+mod AloneLemmas
 pub mod ToolLemmas
 mod SealLemmas
 pub mod SealCaseLemmas

@@ -1,6 +1,14 @@
 -- The work of `elf`: the sealed image of an ELF file, or why there is none. This project's own.
-use Rattle.std.specs.Prelude.{◌≡◌, ℕ, false, List, ◌++◌, length, Option, Some, None, option_map, Result, Ok, Err, codes, decimal}
+use Rattle.std.specs.Prelude.{◌≡◌, ℕ, false, List, [], ◌++◌, length, Option, Some, None, option_map, Result, Ok, Err, codes, decimal}
 use Rattle.std.specs.Option.{option_or}
+use Rattle.pico_board.specs.declared.boot.Cpu.{Cpu}
+use Rattle.pico_board.specs.declared.boot.BootKind.TheVariants.{Normal}
+use Rattle.image_def.specs.declared.started.Started.{Started}
+use Rattle.image_check.specs.Changes.{moved_to}
+use Rattle.slot_choice.specs.declared.choice.Choice.{Choice}
+use Rattle.boot_rules.specs.declared.decision.Decision.TheVariants.{Start}
+use Rattle.boot_rules.specs.Chosen.{Chosen}
+use Rattle.boot_rules.specs.Tables.{table_in}
 use Rattle.image_pack.specs.declared.spec.SealSpec.{SealSpec}
 use Rattle.image_pack.specs.Faults.{IsSealed, block_offset}
 use Rattle.image_pack.specs.Sealing.{sealed_text}
@@ -13,6 +21,7 @@ use Rattle.elf_pack.specs.Judging.{elf_fault}
 use Rattle.elf_pack.specs.Whole.{IsElfWhole}
 use Rattle.run_course.specs.declared.status.Status.TheVariants.{Done}
 use Rattle.run_course.specs.Outcomes.{Outcome, Work, Answers, Refuses, one_file}
+use Rattle.run_forms.specs.Forms.{content_of, filled}
 use Rattle.run_forms.specs.Jsons.{IsSpecText}
 use Rattle.tool_work.specs.Seals.{blamed, seal_error, seal_text, sealed_line}
 use Rattle.tool_work.specs.Tools.{no_work}
@@ -55,14 +64,26 @@ abbrev pub elf_work : List ℕ → List ℕ → List ℕ → List ℕ → Result
 elf_work elf spec out e (Ok asked) = packed_work elf spec out e asked (image_fault e asked)
 elf_work elf spec out e (Err fault) = no_work
 
+-- a normal boot of a board whose flash is this file, filled with 0xff, and whose OTP is of zeros
+-- starts the image s, in the whole flash
+pub record StartsAlone (file : List ℕ) (cpu : Cpu) (s : Started) : Type 0 where
+  pub choice : Choice
+  pub chosen : Chosen (content_of file []) cpu Normal (Start choice)
+  pub image : choice.image ≡ moved_to (record { start = 0; len = length (filled file) }) s
+
 -- `elf`: the ELF file is packed by the spec that the text gives; its sealed image is whole, that is
--- it starts and gives the bytes of the file's segments; the outcome tells the image and writes it
+-- it is valid where it stands and gives the bytes of the file's segments; written to a flash of its
+-- own it starts by a normal boot, where it is no trial and has no partition table in its bytes; the
+-- outcome tells the image and writes it
 pub record IsElfOf (out e s : List ℕ) (o : Outcome) : Type 0 where
   pub asked : SealSpec
   pub says : IsSpecText s asked
   pub binary : HasBinary asked.cpu e
   pub sealed : IsSealed (elf_binary asked.cpu e) asked
   pub whole : IsElfWhole e asked
+  pub starts : asked.trial ≡ false
+      → table_in (content_of (sealed_text (elf_binary asked.cpu e) asked) []) ≡ None
+      → StartsAlone (sealed_text (elf_binary asked.cpu e) asked) asked.cpu sealed.started
   pub status : o.status ≡ Done
   pub text : o.text ≡ sealed_line (length (sealed_text (elf_binary asked.cpu e) asked))
       (block_offset (elf_binary asked.cpu e))
