@@ -11,6 +11,11 @@ whole process.
 
 `replay` plays a script of 65,536 UF2 blocks, which fill an erased flash of 16 MiB, beside `cat`,
 which reads the same files and writes as much. The most memory that a run of it had is told too.
+
+`sweep` judges each cut of a plan that writes a sealed image of 64 KiB, of 1 MiB and of 8 MiB to the
+second of two slots of 8 MiB, of which the first holds an older image of the same length. It stands
+beside `boot` of that flash; a second sweep, of the plan without the programs of the slot's first
+sector and less the time of one without steps, tells what a line costs that judges no new image.
 """
 
 import hashlib
@@ -35,10 +40,16 @@ START, END = 0xFFFFDED3, 0xAB123579
 SECURE_ARM = 0x10210142  # IMAGE_TYPE: an executable for the Arm cores
 STACK, CODE = 0x20082000, 0x10000201  # the vector table: SP and PC
 FIRST_BLOCK = 0x114
+VERSION = 0x10000  # 1.0; the low half is the minor one
 FLASH_START = 0x10000000
 PAGE = 256
 UF2_START, UF2_SECOND, UF2_END = 0x0A324655, 0x9E5D5157, 0x0AB16F30
 ABSOLUTE = 0xE48BFF57
+SLOT = 8 * MIB
+SLOT_SIZE_ROW = 0x55
+SLOT_SIZE = 11  # of 4096 * 2^11 bytes
+WRITE = 0x05  # the id of a command that writes
+SWEEP_RUNS = 3
 SEALED_WORDS = 22  # of a sealing block
 HASHED_WORDS = 10  # of it, before the digest
 
@@ -47,7 +58,7 @@ def words(*values):
     return struct.pack(f"<{len(values)}I", *(value & 0xFFFFFFFF for value in values))
 
 
-def sealed(size, seed):
+def sealed(size, seed, version=VERSION):
     """An image of so many bytes, of which the last are the block that seals the others."""
     body = bytearray(random.Random(seed).randbytes(size - 4 * SEALED_WORDS))
     at = len(body)
@@ -56,7 +67,7 @@ def sealed(size, seed):
     load_map = at + 16  # the place of the LOAD_MAP item
     head = words(
         START, SECURE_ARM,
-        0x248, 0x10000,  # VERSION 1.0
+        0x248, version,
         0x1000406, -load_map, FLASH_START, at,  # LOAD_MAP: one entry, all before the block
         0x1000247, HASHED_WORDS,  # HASH_DEF: SHA-256
     )
@@ -95,10 +106,24 @@ def partitioned():
     return flash
 
 
-def least(command, wanted):
+def without_first_sector(plan):
+    """A plan's script up to the first write to the slot's first sector, which it writes last, and its end."""
+    at = 0
+    while plan[at] != 0:
+        if plan[at] == 1:
+            command, size = plan[at + 1:at + 33], struct.unpack_from("<I", plan, at + 33)[0]
+            if command[8] == WRITE and struct.unpack_from("<I", command, 16)[0] == FLASH_START + SLOT:
+                return plan[:at] + b"\0"
+            at += 37 + size
+        else:
+            at += {4: 1, 5: 6}[plan[at]]
+    sys.exit("the plan does not write the slot's first sector")
+
+
+def least(command, wanted, runs=RUNS):
     """The least time of a command in seconds, where each run's output has the wanted lines."""
     best = None
-    for _ in range(RUNS):
+    for _ in range(runs):
         begun = time.perf_counter()
         done = subprocess.run(command, stdout=subprocess.PIPE, check=True)
         taken = time.perf_counter() - begun
@@ -116,6 +141,35 @@ def memory(command):
 
 def row(name, program, openssl):
     print(f"{name}: {1000 * program:.1f} ms, openssl {1000 * openssl:.1f} ms, ratio {program / openssl:.2f}")
+
+
+def sweeps(program, folder, size, name):
+    """Tells of the sweep of a plan for an image of so many bytes beside `boot` of the same flash."""
+    paths = {it: os.path.join(folder, it) for it in ("flash", "otp", "image", "plan", "part", "none", "pattern")}
+    otp = bytearray(4 * SLOT_SIZE_ROW + 4)
+    otp[4 * SLOT_SIZE_ROW] = SLOT_SIZE
+    files = (("flash", sealed(size, 1).ljust(FLASH, b"\xff")), ("otp", otp), ("none", b"\0"), ("pattern", b"\0"),
+             ("image", sealed(size, 2, VERSION + 1)))
+    for it, data in files:
+        with open(paths[it], "wb") as file:
+            file.write(data)
+    board = [paths["flash"], paths["otp"], "arm"]
+    subprocess.run([program, "plan", *board, paths["image"], paths["plan"]], stdout=subprocess.DEVNULL, check=True)
+    with open(paths["plan"], "rb") as plan, open(paths["part"], "wb") as part:
+        part.write(without_first_sector(plan.read()))
+    boot = least([program, "boot", *board, "normal"], lambda lines: lines[0].startswith("start window=0x00000000+"))
+
+    def swept(script, steps, result, runs):
+        return least([program, "sweep", *board, paths[script], paths["pattern"]],
+                     lambda lines: len(lines) == 2 * steps + 1 and lines[-1] == f"end {steps} {result}", runs)
+
+    steps = size // SECTOR + size // PAGE
+    whole = swept("plan", steps, "finished", SWEEP_RUNS)
+    part = swept("part", steps - SECTOR // PAGE, "former", RUNS)
+    line = (part - swept("none", 0, "former", RUNS)) / (2 * (steps - SECTOR // PAGE))
+    most = memory([program, "sweep", *board, paths["plan"], paths["pattern"]])
+    print(f"sweep of a plan of {name}, {2 * steps:,} lines: {whole:.2f} s, boot {1000 * boot:.1f} ms, "
+          f"ratio {whole / boot:.1f}, {1e6 * line:.1f} us a line before the last pages, {most:.0f} MiB at most")
 
 
 def main(arguments):
@@ -147,6 +201,8 @@ def main(arguments):
         copy = least(["sh", "-c", 'cat "$0" "$1" "$2" > /dev/null; cat "$0" > "$3"; cat "$1" > "$4"',
                       paths["erased"], paths["otp"], paths["script"], out_flash, out_otp], lambda lines: not lines)
         print(f"replay of 65,536 blocks: {replay:.2f} s, cat {copy:.2f} s, {memory(command):.0f} MiB at most")
+        for size, name in ((64 << 10, "64 KiB"), (MIB, "1 MiB"), (SLOT, "8 MiB")):
+            sweeps(program, folder, size, name)
 
 
 if __name__ == "__main__":
