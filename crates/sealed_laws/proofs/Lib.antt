@@ -1,0 +1,6 @@
+mod HomeSlotLemmas
+mod PlanSessionLemmas
+mod SealedByteLemmas
+mod SealedFirmLemmas
+mod PlanFirmLemmas
+mod ExampleLemmas
