@@ -90,8 +90,8 @@ module _ (w : Window) (s : ℕ) (starts : w.start ≡ 4096 * s) (image : List �
   last-none : (x i n : ℕ) → (x < i) ⊎ (i + n ≤ x) → last_for w (16 * s + x) (blocks i n) ≡ None
   last-none x i zero out = refl
   last-none x i (suc n) out =
-      ap (λ o. option_or o (if page_in w (file_block image family i) == 16 * s + x then Some (page_of image i) else None))
-      (last-none x (i + 1) n (next out))
+      ap (λ o. option_or o (if page_in w (file_block image family i) == 16 * s + x then Some (page_of image i)
+      else None)) (last-none x (i + 1) n (next out))
       ∙ ap (λ t. if t then Some (page_of image i) else None)
       (ne_eqb (page_in w (file_block image family i)) (16 * s + x) (other out))
     where

@@ -174,7 +174,8 @@ module _ (c : Content) (cpu : Cpu) (w : Window) (right : IsContent c) (home : Ho
         let unit : deciding_unit t u ≡ home.unit = decides family u (load-is t n z family u at.1) pair inside in
         let same : taken d cpu (deciding_unit t u) ≡ taken c cpu (deciding_unit t u) =
         ap (taken d cpu) unit ∙ same-taken ∙ ap (taken c cpu) (sym unit) in
-        ap (λ o. aimed_at d (option_map (λ f. f.table) o) (length d.flash) (slot_size d.otp (length d.flash)) family) table
+        ap (λ o. aimed_at d (option_map (λ f. f.table) o) (length d.flash) (slot_size d.otp (length d.flash)) family)
+        table
         ∙ ap (λ o. aimed_at d t (length d.flash) (slot_size o (length d.flash)) family) rows
         ∙ ap (λ k. aimed_at d t k (slot_size c.otp k) family) long
         ∙ ap (option_map (λ (x : SlotUnit). unit_target d t cpu family x x.b)) at.1

@@ -73,8 +73,8 @@ pub record IsCutDownload (c : Content) (cpu : Cpu) (family : ℕ) (target : Targ
   pub luck : Unfinished c (copied_session c cpu family image) target.window d
       → Lucky c (after_all c (copied_session c cpu family image)) d target.window cpu
 
--- the decision of a normal boot on c is a start in the other member of the pair, and that on the cut
--- content d is the same
+-- the decision of a normal boot on c is a start in the other member of the pair, and that on the
+-- cut content d is the same
 pub record IsLostUpdate (c : Content) (cpu : Cpu) (family : ℕ) (target : Target)
     (image : List ℕ) (choice : Choice) (d : Content) : Type 0 where
   pub lost : IsCutDownload c cpu family target image d

@@ -16,8 +16,8 @@ use boot_sweep::session_examples::a_cut_between_two_pages;
 pub fn an_update_that_lost_its_supply()
     ensures download { IsDownload (beside_former bare) Arm 0xe48bff59 second_slot two_pages }
     ensures steps { copied_session (beside_former bare) Arm 0xe48bff59 two_pages ≡ plain_steps }
-    ensures lost { IsLostUpdate (beside_former bare) Arm 0xe48bff59 second_slot two_pages former_start
-        (beside_former (begins_with vector_page)) }
+    ensures lost { IsLostUpdate (beside_former bare) Arm 0xe48bff59 second_slot two_pages
+        former_start (beside_former (begins_with vector_page)) }
 {
     a_cut_between_two_pages();
 }

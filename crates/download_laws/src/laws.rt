@@ -40,7 +40,8 @@ pub fn copied_download()
         → window_bytes (after_all c (copied_session c cpu family image)) target.window
         ≡ downloaded image (window_bytes c target.window) }
     ensures script { (out file : List ℕ)
-        → copy_work out file ≡ Answers false (copy_line (length (blocks_in (length file / 512) file)))
+        → copy_work out file
+        ≡ Answers false (copy_line (length (blocks_in (length file / 512) file)))
         (one_file out (copied_script file)) }
     ensures read { (c : Content) (cpu : Cpu) (family : ℕ) (target : Target) (image : List ℕ)
         → IsDownload c cpu family target image
