@@ -1,12 +1,11 @@
 -- A sealed image of a binary of at least a sector is firm, where its first sector has no block
 -- beside its loop.
-use Rattle.std.proofs.Common.{◌≡◌, ℕ, ◌+◌, ◌-◌, ◌*◌, ◌/◌, ◌%◌, ◌<◌, ◌≤◌, min, true, List, ◌∷◌, ◌++◌, length, drop, refl, sym, ap, ◌∙◌, subst, arith, length-drop, length-take}
+use Rattle.std.proofs.Common.{◌≡◌, ℕ, ◌+◌, ◌-◌, ◌%◌, ◌≤◌, true, List, ◌∷◌, ◌++◌, length, drop, refl, sym, ap, ◌∙◌, subst, arith, length-drop, length-take}
 use Rattle.std.specs.Prelude.{Contains, IsSome}
 use Rattle.pico_board.specs.declared.window.Window.{Window}
-use Rattle.pico_board.specs.Content.{Content, IsContent, flash_base, window_bytes}
-use Rattle.block_codec.specs.Blocks.{BlockAt, BlockView}
+use Rattle.pico_board.specs.Content.{Content, IsContent, window_bytes}
+use Rattle.block_codec.specs.Blocks.{BlockView}
 use Rattle.block_codec.specs.Erased.{AreErased}
-use Rattle.load_map.specs.declared.addresses.TheConstants.{SRAM_START}
 use Rattle.load_map.specs.declared.load.Load.{Load}
 use Rattle.load_map.specs.Stored.{AreStoredIn}
 use Rattle.image_check.specs.declared.examining.Defined.{Defined}
@@ -16,7 +15,7 @@ use Rattle.image_check.specs.NotBelow.{NotBelow}
 use Rattle.image_check.specs.Valid.{IsValidImage}
 use Rattle.image_pack.specs.declared.spec.SealSpec.{SealSpec}
 use Rattle.image_pack.specs.Faults.{IsSealed, block_offset}
-use Rattle.image_pack.specs.Filling.{round_up, whole_sectors}
+use Rattle.image_pack.specs.Filling.{whole_sectors}
 use Rattle.image_pack.specs.ReadBack.{IsHalves}
 use Rattle.image_pack.specs.Sealing.{load_in_place, sealed_text}
 use Rattle.image_pack.specs.Unsealable.{KeepsRules}

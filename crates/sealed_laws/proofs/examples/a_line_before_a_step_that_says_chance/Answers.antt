@@ -1,4 +1,4 @@
-use Rattle.std.proofs.Common.{◌≡◌, ℕ, List, false, refl, sym, ap, ◌∙◌, subst}
+use Rattle.std.proofs.Common.{◌≡◌, false, sym, ap, ◌∙◌}
 use Rattle.std.proofs.Math.Dec.{lit<}
 use Rattle.pico_board.specs.declared.Step.TheVariants.{Program}
 use Rattle.pico_board.specs.declared.boot.Cpu.TheVariants.{Arm}

@@ -1,6 +1,6 @@
-use Rattle.std.proofs.Common.{◌≡◌, ℕ, List, refl, sym, ap, ◌∙◌, subst, arith, length}
+use Rattle.std.proofs.Common.{◌≡◌, refl, ap, subst, arith, length}
 use Rattle.std.proofs.Math.Dec.{lit<}
-use Rattle.block_codec.specs.Blocks.{BlockAt, BlockView}
+use Rattle.block_codec.specs.Blocks.{BlockView}
 use Rattle.block_codec.specs.Items.{size_of}
 use Rattle.block_codec.proofs.AtLemmas.{BlockAt-unique, no_block_at_erased}
 use Rattle.pico_board.specs.Content.{window_bytes}

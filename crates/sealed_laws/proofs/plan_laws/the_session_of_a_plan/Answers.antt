@@ -1,4 +1,4 @@
-use Rattle.std.proofs.Common.{◌+◌, ◌/◌, refl, sym, ap}
+use Rattle.std.proofs.Common.{◌+◌, ◌/◌, ap}
 use Rattle.part_table.specs.declared.table.Right.TheVariants.{BootWrite}
 use Rattle.part_table.specs.Rights.{allowed_by}
 use Rattle.pico_board.proofs.ContentLemmas.{byte_at}
