@@ -33,7 +33,7 @@ use Rattle.boot_rules.specs.Targets.{target_of, unit_target}
 use Rattle.boot_rules.proofs.TargetLemmas.{target-apart}
 use Rattle.boot_machine.specs.Luck.{Lucky}
 use Rattle.boot_machine.proofs.LeftImageLemmas.{units-same}
-use Rattle.boot_sweep.specs.Results.{StartsElsewhere, StartsFinished}
+use Rattle.boot_sweep.specs.Results.{CutSession, StartsElsewhere, StartsFinished}
 use Rattle.boot_sweep.proofs.ConfinedLaws.{table-stays}
 use Rattle.boot_sweep.proofs.GatedLaws.{blank-table, decide-blank, decide-content, gated-decision}
 use Rattle.boot_sweep.proofs.NeighbourLemmas as near
@@ -110,21 +110,23 @@ module _ (c : Content) (cpu : Cpu) (family : ℕ) (target : Target) (image : Lis
   right : IsContent c
   right = lost.download.right
 
+  -- it is a gated session in which power is lost, under all premises of the law on those
+  pub cut-session : (e : Decision) → Chosen c cpu Normal e → CutSession c w cpu steps d e
+  cut-session e former = record {
+    right = right;
+    home = lost.home;
+    gated = gated;
+    cut = lost.cut;
+    former = former;
+    elsewhere = never-running c cpu family target image e lost.download former;
+    table = lost.table;
+    luck = lost.luck;
+  }
+
   -- the next normal boot
   pub cut-decision : (e : Decision) → Chosen c cpu Normal e
       → Chosen d cpu Normal e ⊎ StartsFinished (after_all c steps) d cpu
-  cut-decision e former =
-      gated-decision c w cpu steps d e
-      (record {
-        right = right;
-        home = lost.home;
-        gated = gated;
-        cut = lost.cut;
-        former = former;
-        elsewhere = never-running c cpu family target image e lost.download former;
-        table = lost.table;
-        luck = lost.luck;
-      })
+  cut-decision e former = gated-decision c w cpu steps d e (cut-session e former)
 
   same-but : SameButWindow w c d
   same-but = confined-CutOf c w steps d (gated-confined steps w gated) lost.cut

@@ -17,7 +17,7 @@ ghost use Rattle.boot_rules.specs.declared.decision.Decision.{Decision};
 ghost use Rattle.boot_rules.specs.Chosen.{Chosen, Home};
 ghost use Rattle.boot_rules.specs.Starts.{table_of_content};
 ghost use Rattle.boot_rules.specs.Targets.{target_of};
-ghost use Rattle.boot_sweep.specs.Results.{StartsFinished};
+ghost use Rattle.boot_sweep.specs.Results.{CutSession, StartsFinished};
 ghost use Rattle.run_course.specs.Outcomes.{Answers, one_file};
 ghost use Rattle.text_work.specs.Copies.{blocks_in, copy_events, copy_line, copy_work};
 ghost use Rattle.download_laws.specs.Copied.{AreLostUpdates, IsCutDownload, IsDownload, IsLostUpdate, copied_script, copied_session, downloaded, last_of};
@@ -49,12 +49,16 @@ pub fn copied_download()
         ≡ Ok (copy_events (map written (file_blocks image family))) }
 {}
 
-/// Where power is lost in such a session into a member of a boot unit's pair, the next normal boot
-/// decides as before, or it makes the start that it makes after the whole session, of an image with
-/// the same bytes. That the former answer is no image in the window is no premise, since a target
-/// never runs.
+/// Where power is lost in such a session into a member of a boot unit's pair, all premises of the
+/// law on gated sessions hold: that the former answer is no image in the window is none here, since
+/// a target never runs. So the next normal boot decides as before, or it makes the start that it
+/// makes after the whole session, of an image with the same bytes.
 pub fn copied_cut()
-    ensures { (c : Content) (cpu : Cpu) (family : ℕ) (target : Target) (image : List ℕ)
+    ensures session { (c : Content) (cpu : Cpu) (family : ℕ) (target : Target) (image : List ℕ)
+        (d : Content) (e : Decision)
+        → IsCutDownload c cpu family target image d → Chosen c cpu Normal e
+        → CutSession c target.window cpu (copied_session c cpu family image) d e }
+    ensures decision { (c : Content) (cpu : Cpu) (family : ℕ) (target : Target) (image : List ℕ)
         (d : Content) (e : Decision)
         → IsCutDownload c cpu family target image d → Chosen c cpu Normal e
         → Chosen d cpu Normal e
