@@ -4,3 +4,6 @@ mod SealedByteLemmas
 mod SealedFirmLemmas
 mod PlanFirmLemmas
 mod ExampleLemmas
+mod FirmExampleLemmas
+mod FirmDigestLemmas
+mod FirmImageLemmas

@@ -45,7 +45,8 @@ module _ (binary : List ℕ) (spec : SealSpec) (sealed : IsSealed binary spec) (
   kept-bytes : AreBytes (back.kept binary spec sealed)
   unfolding relinked
   kept-bytes =
-      both (take at words) (word_bytes (length words - last) ++ drop (at + 4) words) (AreBytes-take at words words-bytes)
+      both (take at words) (word_bytes (length words - last) ++ drop (at + 4) words)
+      (AreBytes-take at words words-bytes)
       (AreBytes-word_bytes (length words - last) (drop (at + 4) words) (AreBytes-drop (at + 4) words words-bytes))
 
   pub text-bytes : AreBytes (sealed_text binary spec)

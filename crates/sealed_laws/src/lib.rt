@@ -6,5 +6,6 @@
 #![tactic(auto)]
 
 pub mod examples;
+pub mod firm_examples;
 pub mod firm_laws;
 pub mod plan_laws;

@@ -44,4 +44,5 @@ never is =
 pub returns-clause-other_version : goal.returns-clause-other_version
 returns-clause-other_version c = λ stray.
     let e = lone-block stray.0.at stray.0 stray.1.low stray.1.stands in
-    never (subst (IsStray (beside_small (arm_slot 0x00010009)) (beside_small (arm_slot 0x0001000a)) small_slot) e stray.1)
+    never
+    (subst (IsStray (beside_small (arm_slot 0x00010009)) (beside_small (arm_slot 0x0001000a)) small_slot) e stray.1)

@@ -1,0 +1,73 @@
+-- Worked images alone in a window of 8 KiB, each of which lacks one of the conditions of a firm
+-- image. This project's own; the digests were reckoned by another implementation.
+use Rattle.std.specs.Prelude.{ℕ, ◌+◌, false, List, [], ◌∷◌, ◌++◌, None}
+use Rattle.pico_board.specs.declared.window.Window.{Window}
+use Rattle.image_def.specs.declared.started.Started.{Started}
+use Rattle.boot_rules.specs.Examples.{framed, region}
+
+abbrev pub whole : Window
+whole = record { start = 0; len = 0x2000 }
+
+-- the start of an Arm image without a version, whose definition stands at this offset
+abbrev pub start_at : ℕ → Started
+start_at at = record {
+  window = whole;
+  block = at;
+  image_at = at + 4;
+  pc = 0x10000201;
+  sp = 0x20082000;
+  limit = 0;
+  version = record { major = 0; minor = 0 };
+  rollback = None;
+  rows = record { items = [] };
+  trial = false;
+}
+
+-- a vector table in a page of 256 bytes
+abbrev pub vectors : List ℕ
+vectors = region 0x100 (0x20082000 ∷ 0x10000201 ∷ [])
+
+-- a vector table, a block at 0x100 that links to one at 0x1000, and there a block with these items
+-- that links back
+abbrev pub two_blocks : List ℕ → List ℕ
+two_blocks items =
+    vectors ++ (region 0xf00 (framed (0x10210142 ∷ []) 0xf00)
+    ++ region 0x1000 (framed items 0xfffff100))
+
+-- without a HASH_VALUE: a load map that stores the first sector
+abbrev pub undigested_items : List ℕ
+undigested_items = 0x10210142 ∷ 0x01000406 ∷ 0xffffeff8 ∷ 0x10000000 ∷ 0x1000 ∷ []
+
+abbrev pub undigested : List ℕ
+undigested = two_blocks undigested_items
+
+-- without a load map: a digest of the first four words of its block
+abbrev pub unmapped_items : List ℕ
+unmapped_items =
+    0x10210142 ∷ 0x01000247 ∷ 0x00000004 ∷ 0x0000094b
+    ∷ 0x37eb49aa ∷ 0xea5343e8 ∷ 0x0d4a581d ∷ 0xf4f07a93
+    ∷ 0x84764554 ∷ 0xab6af94f ∷ 0x9e0bb5e1 ∷ 0x9f01d02c ∷ []
+
+abbrev pub unmapped : List ℕ
+unmapped = two_blocks unmapped_items
+
+-- with its definition in the first sector: a load map that stores all before that, and a digest
+abbrev pub early_items : List ℕ
+early_items =
+    0x10210142 ∷ 0x01000406 ∷ 0xfffffef8 ∷ 0x10000000 ∷ 0x100 ∷ 0x01000247 ∷ 0x00000008 ∷ 0x0000094b
+    ∷ 0xca75ad1e ∷ 0xba2f4c4b ∷ 0x6592d957 ∷ 0xa87c8c8d
+    ∷ 0x02e48e14 ∷ 0xf6c33273 ∷ 0x9138d6b4 ∷ 0xb0f42660 ∷ []
+
+abbrev pub early : List ℕ
+early = vectors ++ region 0x1f00 (framed early_items 0)
+
+-- with all conditions: a load map that stores the first sector, and a digest
+abbrev pub firm_items : List ℕ
+firm_items =
+    0x10210142 ∷ 0x01000406 ∷ 0xffffeff8 ∷ 0x10000000 ∷ 0x1000 ∷ 0x01000247 ∷ 0x00000008
+    ∷ 0x0000094b
+    ∷ 0xc7e8429f ∷ 0x4e0c2a52 ∷ 0xd806bdcd ∷ 0xacfab719
+    ∷ 0x85d1ab2c ∷ 0xc25a4974 ∷ 0x5aafa26b ∷ 0xfe4685b8 ∷ []
+
+abbrev pub firm : List ℕ
+firm = two_blocks firm_items

@@ -1,0 +1,43 @@
+//! Worked images that lack one of the conditions of a firm image and have the others, by computing:
+//! each is the `ensures` of a function that does nothing.
+
+ghost use Rattle.std.specs.Prelude.{◌≡◌, IsSome, None, []};
+ghost use Rattle.pico_board.specs.declared.boot.Cpu.TheVariants.{Arm};
+ghost use Rattle.image_check.specs.SameImage.{Holds};
+ghost use Rattle.boot_sweep.specs.Firms.{HasNoOtherBlock, IsFirm, LoadsFront};
+ghost use Rattle.sealed_laws.specs.Examples.{early, firm, start_at, undigested, unmapped};
+
+/// An image without a HASH_VALUE is not firm, though its definition stands behind the first sector,
+/// its load map stores all before that, and the first sector has no other block.
+pub fn an_image_without_a_digest()
+    ensures { (held : Holds Arm undigested (start_at 0x1000))
+        × (held.image.def.digest ≡ None)
+        × LoadsFront 0x1000 held.sound.loads
+        × HasNoOtherBlock undigested held.sound.loop
+        × (IsFirm Arm undigested (start_at 0x1000) → ⊥) }
+{}
+
+/// An image without a load map is not firm, though its definition stands behind the first sector
+/// and has a digest, and the first sector has no other block.
+pub fn an_image_without_a_load_map()
+    ensures { (held : Holds Arm unmapped (start_at 0x1000))
+        × IsSome held.image.def.digest
+        × (held.sound.loads ≡ [])
+        × HasNoOtherBlock unmapped held.sound.loop
+        × (IsFirm Arm unmapped (start_at 0x1000) → ⊥) }
+{}
+
+/// An image whose definition stands in the first sector is not firm, though it has a digest, its
+/// load map stores all before it, and the first sector has no other block.
+pub fn an_image_with_an_early_definition()
+    ensures { (held : Holds Arm early (start_at 0x100))
+        × IsSome held.image.def.digest
+        × LoadsFront 0x100 held.sound.loads
+        × HasNoOtherBlock early held.sound.loop
+        × (IsFirm Arm early (start_at 0x100) → ⊥) }
+{}
+
+/// An image with all of these is firm.
+pub fn a_firm_image()
+    ensures { IsFirm Arm firm (start_at 0x1000) }
+{}
