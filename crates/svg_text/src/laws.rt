@@ -1,0 +1,25 @@
+//! Laws of pictures, each the contract of a function that does nothing.
+
+ghost use Rattle.std.specs.Prelude.{◌≡◌, ℕ, List, length, map, true};
+ghost use Rattle.std.specs.List.{flat_map};
+ghost use Rattle.svg_text.specs.declared.class.Class.{Class};
+ghost use Rattle.svg_text.specs.Marks.{Picture, class_text, escaped, picture_text};
+ghost use Rattle.svg_text.specs.Reading.{is_free, marks_in, times, words_of};
+
+/// Whatever the words of a picture are, the marks of a class that stand in its bytes are those of
+/// its data, in their order, each with its words; and the class, written as in `class="span"`,
+/// stands in its bytes as often as there are such marks, and nowhere else.
+pub fn marks_are_those_of_the_data()
+    ensures words { (class : Class) (p : Picture)
+        → marks_in class (picture_text p) ≡ map escaped (flat_map (words_of class) p.marks) }
+    ensures count { (class : Class) (p : Picture)
+        → times (class_text class) (picture_text p)
+        ≡ length (flat_map (words_of class) p.marks) }
+{}
+
+/// A text as it stands in a file has neither `<` nor `>` nor a quote.
+pub fn texts_have_no_tag()
+    ensures less { (text : List ℕ) → is_free 60 (escaped text) ≡ true }
+    ensures more { (text : List ℕ) → is_free 62 (escaped text) ≡ true }
+    ensures quote { (text : List ℕ) → is_free 34 (escaped text) ≡ true }
+{}

@@ -1,0 +1,49 @@
+//! Places and colours of marks.
+
+ghost use Rattle.std.specs.Prelude.{◌≡◌};
+ghost use Rattle.svg_text.specs.Marks.{colour_word};
+
+/// Where a rectangle lies: in points of the picture, or within a strip in units of it.
+#[derive(Clone, Copy, Debug, PartialEq, Eq)]
+pub struct Area {
+    /// How far its left side is from the left.
+    pub x: usize,
+    /// How far its upper side is from the top.
+    pub y: usize,
+    /// How wide it is.
+    pub width: usize,
+    /// How high it is.
+    pub height: usize,
+}
+
+/// A colour. Those who see red and green alike tell them apart, and so does who sees none: no two
+/// that stand for something in one row are equally light.
+#[derive(Clone, Copy, Debug, PartialEq, Eq)]
+pub enum Colour {
+    /// A frame round rectangles.
+    Ink,
+    /// A light grey.
+    Grey,
+    /// A dark blue.
+    Blue,
+    /// An orange.
+    Orange,
+    /// A dark grey.
+    Slate,
+    /// A light blue.
+    Sky,
+}
+
+/// The six digits of a colour.
+pub fn colour_word(colour: Colour) -> &'static str
+    ensures { result.now ≡ colour_word colour }
+{
+    match colour {
+        Colour::Ink => "1a1a1a",
+        Colour::Grey => "d0d0d0",
+        Colour::Blue => "00509e",
+        Colour::Orange => "e98a15",
+        Colour::Slate => "505050",
+        Colour::Sky => "9ed0f5",
+    }
+}
