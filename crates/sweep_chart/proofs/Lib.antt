@@ -1,0 +1,3 @@
+pub mod RunLemmas
+pub mod RunLawLemmas
+pub mod CountLemmas
