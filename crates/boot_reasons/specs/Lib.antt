@@ -4,3 +4,4 @@ pub mod Looks
 pub mod LookRules
 pub mod Reasons
 pub mod Rules
+pub mod Examples

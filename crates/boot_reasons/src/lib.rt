@@ -7,6 +7,7 @@
 //! same, and that the first unit that takes an image takes that of the decision.
 #![tactic(auto)]
 
+pub mod examples;
 mod gathering;
 pub mod laws;
 mod looking;

@@ -1,0 +1,40 @@
+-- Tables and images of the worked examples. This project's own.
+use Rattle.std.specs.Prelude.{ℕ, Bool, false, [], None}
+use Rattle.pico_board.specs.declared.window.Window.{Window}
+use Rattle.block_codec.specs.declared.versions.Version.{Version}
+use Rattle.image_def.specs.declared.started.Started.{Started}
+use Rattle.part_table.specs.declared.table.Table.{Table}
+
+abbrev pub example_version : ℕ → ℕ → Version
+example_version major minor = record { major = major; minor = minor }
+
+-- a table of this version without partitions
+abbrev pub example_table : ℕ → ℕ → Bool → Table
+example_table major minor singleton = record {
+  version = example_version major minor;
+  singleton = singleton;
+  unpartitioned = 0;
+  parts = record { items = [] };
+}
+
+-- the windows of A and B
+abbrev pub first_window : Window
+first_window = record { start = 0x2000; len = 0x2000 }
+
+abbrev pub second_window : Window
+second_window = record { start = 0x4000; len = 0x2000 }
+
+-- an image of this version in a window
+abbrev pub example_image : Window → ℕ → ℕ → Started
+example_image w major minor = record {
+  window = w;
+  block = 0x100;
+  image_at = 0x104;
+  pc = 0x10000201;
+  sp = 0x20082000;
+  limit = 0;
+  version = example_version major minor;
+  rollback = None;
+  rows = record { items = [] };
+  trial = false;
+}
