@@ -1,0 +1,3 @@
+mod UnreachedLemmas
+mod SoundPartLemmas
+pub mod ReasonWorkLemmas

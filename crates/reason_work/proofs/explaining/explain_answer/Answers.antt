@@ -1,0 +1,25 @@
+use Rattle.std.proofs.Common.{◌∙◌, ap, length, ◌/◌, List, [], ℕ, map}
+use Rattle.boot_reasons.specs.Reasons.{reasons_in, table_of_reasons}
+use Rattle.pico_board.specs.Files.{File}
+use Rattle.run_course.specs.declared.status.Status.TheVariants.{Done}
+use Rattle.run_course.specs.Outcomes.{Outcome}
+use Rattle.run_course.specs.Views.{file_from}
+use Rattle.reason_work.specs.Texts.{explain_text}
+use Rattle.reason_work.proofs.SoundPartLemmas.{sound-parts, sound-reasons}
+use Rattle.reason_work.proofs.explaining.explain_answer.Goals as goal
+
+pub explain_text-requires : goal.explain_text-requires
+explain_text-requires g c =
+    let content = (g.B.Board.state c.args.board.now).content in
+    sound-parts (length content.flash / 4096) (table_of_reasons c.gather-reasons.result)
+    (sound-reasons content c.args.cpu c.args.kind c.gather-reasons.result c.gather-reasons.ensures.function)
+
+pub returns : goal.returns
+returns g c =
+    ap (λ t. record { status = Done; text = t; files = map file_from c.new.result.items })
+    (c.in_ok-text.ensures ∙ ap explain_text c.gather-reasons.ensures.function)
+    ∙ ap (λ xs. record {
+      status = Done;
+      text = explain_text (reasons_in (g.B.Board.state c.args.board.now).content c.args.cpu c.args.kind);
+      files = map file_from xs;
+    }) c.new.ensures.items

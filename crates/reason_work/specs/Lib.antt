@@ -1,0 +1,5 @@
+pub mod Partitions
+pub mod Texts
+pub mod Works
+pub mod Rules
+pub mod Examples
