@@ -35,6 +35,11 @@ input {}: {}|image {} fault={}
 enter-xip|erase|exclusive|exit-xip|firm no|firm yes|flags={}|kind={}|normal|otp-read|otp-write
 partition={}|power|program|raise|ram={}|read|reboot|row={} count={} ecc={}|script records={}|table
 target={}|uf2 number={} count={} address={} family={}|update={}|write
+{} because={}|{} name={} id={} families={}|{} trial={}|{}{}{}{}|\\\\x{}|a={}|absolute|alone|arm|both|only
+otp rollback-required={} flash-off={} slot-size={}|owner={}|pair|r|rights={} link={} ignored={} reboot={}
+riscv|rp2040|rp2350-arm-ns|rp2350-arm-s|rp2350-riscv|rw|secure={},nonsecure={},bootloader={}|singleton
+slot|slot {} fault={}|slots|table {} partitions={} singleton={}|table slot={} because={}|tie|unit
+unit {} not-reached|unit {} takes|updated|version|w|whole
 """
 
 

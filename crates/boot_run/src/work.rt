@@ -9,6 +9,7 @@ ghost use Rattle.run_forms.specs.Views.{input_file_from};
 ghost use Rattle.boot_run.specs.Commands.{command_outcome, inputs_of, work_of};
 
 use board_work::{boot, data, info};
+use reason_work::explain;
 use run_course::{Answer, told};
 use run_forms::{
     Form, FormWord, binary_and_spec, board_files, elf_and_spec, elf_files, first_fault,
@@ -35,6 +36,7 @@ pub fn inputs<'a>(
         CommandWords::Boot { flash, otp, .. } => flash_and_otp(alloc, flash, otp),
         CommandWords::Info { flash, otp, .. } => flash_and_otp(alloc, flash, otp),
         CommandWords::OwnedData { flash, otp, .. } => flash_and_otp(alloc, flash, otp),
+        CommandWords::Explain { flash, otp, .. } => flash_and_otp(alloc, flash, otp),
         CommandWords::Replay {
             flash,
             otp,
@@ -91,6 +93,10 @@ fn work<'a>(
         CommandWords::OwnedData { cpu, kind, .. } => {
             let (flash, otp) = board_files(files);
             data(alloc, flash, &otp, *cpu, *kind)
+        }
+        CommandWords::Explain { cpu, kind, .. } => {
+            let (flash, otp) = board_files(files);
+            explain(alloc, flash, &otp, *cpu, *kind)
         }
         CommandWords::Replay {
             cpu,

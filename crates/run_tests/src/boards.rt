@@ -202,8 +202,24 @@ const BOOTS: [Case; 12] = [
     ),
 ];
 
-/// What windows have, and the data of an owner.
-const WINDOWS: [Case; 8] = [
+/// What windows have, why a boot decides so, and the data of an owner.
+const WINDOWS: [Case; 9] = [
+    (
+        &["explain", "f", "o", "arm", "normal"],
+        MINIMAL,
+        NO_ROW,
+        Status::Done,
+        "start window=0x00000000+0x00002000 block=0x00000114 pc=0x10000201 sp=0x20082000 \
+         limit=0x00000000 version=0.0 rollback=none trial=no
+otp rollback-required=no flash-off=no slot-size=0x00001000
+slot 0 fault=no-table
+slot 1 fault=no-block
+table none
+unit 0 whole
+image window=0x00000000+0x00002000 ok version=0.0 rollback=none trial=no
+unit 0 takes window=0x00000000+0x00002000 because=only
+",
+    ),
     (
         &["info", "f", "o", "arm"],
         TWO_VERSIONS,

@@ -10,6 +10,7 @@ use std::test::Fail;
 const USAGE: &str = "boot FLASH OTP CPU KIND  which image a boot starts, or why it falls to BOOTSEL
 info FLASH OTP CPU       the partition table, and the image in each window or why there is none
 data FLASH OTP CPU KIND  the same as boot, and the windows of the data that the image owns
+explain FLASH OTP CPU KIND  why a boot decides so: each table, partition, unit and image
 replay FLASH OTP CPU SCRIPT OUTFLASH OUTOTP  what each event of a script does, and what it leaves
 sweep FLASH OTP CPU SCRIPT PATTERN  what a boot makes of each loss of power in a script's session
 seal BIN SPEC OUT        the sealed image of a binary: with a version, a load map and a digest

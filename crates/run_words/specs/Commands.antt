@@ -15,6 +15,7 @@ pub data Command : Type 0 where
   Boot : (flash otp : List ℕ) → (cpu : Cpu) → (kind : BootKind) → Command
   Info : (flash otp : List ℕ) → (cpu : Cpu) → Command
   OwnedData : (flash otp : List ℕ) → (cpu : Cpu) → (kind : BootKind) → Command
+  Explain : (flash otp : List ℕ) → (cpu : Cpu) → (kind : BootKind) → Command
   Replay : (flash otp : List ℕ) → (cpu : Cpu) → (script out_flash out_otp : List ℕ) → Command
   Sweep : (flash otp : List ℕ) → (cpu : Cpu) → (script pattern : List ℕ) → Command
   Seal : (binary spec out : List ℕ) → Command
@@ -124,6 +125,7 @@ five_words name flash otp (Some cpu) None = None
 five_words name flash otp (Some cpu) (Some kind) =
     if bytes_eq name (codes "boot") then Some (Boot flash otp cpu kind)
     else if bytes_eq name (codes "data") then Some (OwnedData flash otp cpu kind)
+    else if bytes_eq name (codes "explain") then Some (Explain flash otp cpu kind)
     else None
 
 -- the name of a command and five words
@@ -165,6 +167,7 @@ abbrev pub command_from : CommandWords → Command
 command_from (words.Boot flash otp cpu kind) = Boot flash.now otp.now cpu kind
 command_from (words.Info flash otp cpu) = Info flash.now otp.now cpu
 command_from (words.OwnedData flash otp cpu kind) = OwnedData flash.now otp.now cpu kind
+command_from (words.Explain flash otp cpu kind) = Explain flash.now otp.now cpu kind
 command_from (words.Replay flash otp cpu script out_flash out_otp) =
     Replay flash.now otp.now cpu script.now out_flash.now out_otp.now
 command_from (words.Sweep flash otp cpu script pattern) =

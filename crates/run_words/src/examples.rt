@@ -4,7 +4,7 @@
 ghost use Rattle.std.specs.Prelude.{◌≡◌, [], ◌∷◌, codes, Some, None};
 ghost use Rattle.pico_board.specs.declared.boot.Cpu.TheVariants.{Arm, Riscv};
 ghost use Rattle.pico_board.specs.declared.boot.BootKind.TheVariants.{Normal, Bootsel as AskBootsel, Update};
-ghost use Rattle.run_words.specs.Commands.{Table, command_of, kind_of, Boot, Info, OwnedData, Replay, Usage, Release, Sweep, Seal, Elf, Firm, Uf2, Plan, Copy, ListScript, WriteScript, Gen};
+ghost use Rattle.run_words.specs.Commands.{Table, command_of, kind_of, Boot, Info, OwnedData, Explain, Replay, Usage, Release, Sweep, Seal, Elf, Firm, Uf2, Plan, Copy, ListScript, WriteScript, Gen};
 ghost use Rattle.run_words.specs.Usages.{release_line};
 ghost use Rattle.run_words.specs.Values.{family_of, number_of};
 
@@ -21,6 +21,9 @@ pub fn words_of_commands()
     ensures data { command_of
         (codes "data" ∷ codes "f" ∷ codes "o" ∷ codes "arm" ∷ codes "normal" ∷ [])
         ≡ Some (OwnedData (codes "f") (codes "o") Arm Normal) }
+    ensures explain { command_of
+        (codes "explain" ∷ codes "f" ∷ codes "o" ∷ codes "riscv" ∷ codes "bootsel" ∷ [])
+        ≡ Some (Explain (codes "f") (codes "o") Riscv AskBootsel) }
     ensures replay { command_of
         (codes "replay" ∷ codes "f" ∷ codes "o" ∷ codes "riscv" ∷ codes "s" ∷ codes "a"
         ∷ codes "b" ∷ []) ≡ Some

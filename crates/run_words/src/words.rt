@@ -30,6 +30,13 @@ pub enum CommandWords<'a> {
         cpu: Cpu,
         kind: BootKind,
     },
+    /// Why a boot decides as it does.
+    Explain {
+        flash: &'a str,
+        otp: &'a str,
+        cpu: Cpu,
+        kind: BootKind,
+    },
     /// What a script does to a machine.
     Replay {
         flash: &'a str,
@@ -324,6 +331,13 @@ fn five_words<'a>(
         })
     } else if name == "data" {
         Some(CommandWords::OwnedData {
+            flash,
+            otp,
+            cpu,
+            kind,
+        })
+    } else if name == "explain" {
+        Some(CommandWords::Explain {
             flash,
             otp,
             cpu,
