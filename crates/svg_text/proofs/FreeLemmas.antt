@@ -86,15 +86,18 @@ module _ (mark : ℕ) (amp : is_free mark (codes "&amp;") ≡ true) (less : is_f
           → is_free mark (if t then codes "&quot;" else b ∷ []) ≡ true
       fourth true a l m q = quote
       fourth false a l m q = rw (named b a l m q) refl
+
       third : (t : Bool) → (b == 38) ≡ false → (b == 60) ≡ false → (b == 62) ≡ t
           → is_free mark (if t then codes "&gt;" else if b == 34 then codes "&quot;" else b ∷ []) ≡ true
       third true a l m = more
       third false a l m = fourth (b == 34) a l m refl
+
       second : (t : Bool) → (b == 38) ≡ false → (b == 60) ≡ t
           → is_free mark (if t then codes "&lt;" else if b == 62 then codes "&gt;"
           else if b == 34 then codes "&quot;" else b ∷ []) ≡ true
       second true a l = less
       second false a l = third (b == 62) a l refl
+
       first : (t : Bool) → (b == 38) ≡ t
           → is_free mark (if t then codes "&amp;" else if b == 60 then codes "&lt;"
           else if b == 62 then codes "&gt;" else if b == 34 then codes "&quot;" else b ∷ []) ≡ true

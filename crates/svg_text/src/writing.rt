@@ -32,12 +32,7 @@ fn push_escaped(out: &mut Vec<u8>, text: &str) -> Result<(), AllocError>
 }
 
 /// Appends a text between a front and a back.
-fn push_between(
-    out: &mut Vec<u8>,
-    front: &str,
-    text: &str,
-    back: &str,
-) -> Result<(), AllocError>
+fn push_between(out: &mut Vec<u8>, front: &str, text: &str, back: &str) -> Result<(), AllocError>
     ensures { OnOk result (out.new.items
         ≡ out.old.items ++ (front.now ++ (escaped text.now ++ back.now))) }
 {
@@ -51,7 +46,12 @@ fn push_between(
 fn area_text(alloc: Global, area: Area) -> Result<String, AllocError>
     ensures { IfOk result (λ t. string_bytes t ≡ area_text area) }
 {
-    let Area { x, y, width, height } = area;
+    let Area {
+        x,
+        y,
+        width,
+        height,
+    } = area;
     format!(in alloc; " x=\"{x}\" y=\"{y}\" width=\"{width}\" height=\"{height}\"")
 }
 
@@ -164,7 +164,9 @@ pub fn open_strip(
     ensures { OnOk result (out.new.items ≡ out.old.items ++ mark_text (Strip area units)) }
 {
     let area = area_text(alloc, area)?;
-    let front = format!(in alloc; "<svg{area} viewBox=\"0 0 {units} 1\" preserveAspectRatio=\"none\">\n")?;
+    let front = format!(in alloc;
+        "<svg{area} viewBox=\"0 0 {units} 1\" preserveAspectRatio=\"none\">\n"
+    )?;
     out.extend_from_slice(front.as_bytes())
 }
 
@@ -181,7 +183,9 @@ pub fn close_strip(out: &mut Vec<u8>) -> Result<(), AllocError>
 fn open_text(alloc: Global, height: usize) -> Result<String, AllocError>
     ensures { IfOk result (λ t. string_bytes t ≡ open_text height) }
 {
-    format!(in alloc; "<svg xmlns=\"http://www.w3.org/2000/svg\" version=\"1.1\" width=\"960\" height=\"{height}\" viewBox=\"0 0 960 {height}\" font-family=\"monospace\" font-size=\"14\" fill=\"#1a1a1a\">\n<title>")
+    format!(in alloc;
+        "<svg xmlns=\"http://www.w3.org/2000/svg\" version=\"1.1\" width=\"960\" height=\"{height}\" viewBox=\"0 0 960 {height}\" font-family=\"monospace\" font-size=\"14\" fill=\"#1a1a1a\">\n<title>"
+    )
 }
 
 /// The end of what a picture shows, and its white ground.
@@ -208,12 +212,7 @@ fn push_title(
 
 /// Appends what a picture of this height shows, and its ground.
 #[tactic(auto, unfolding(crate::specs::Marks::desc_text))]
-fn push_desc(
-    alloc: Global,
-    out: &mut Vec<u8>,
-    height: usize,
-    desc: &str,
-) -> Result<(), AllocError>
+fn push_desc(alloc: Global, out: &mut Vec<u8>, height: usize, desc: &str) -> Result<(), AllocError>
     ensures { OnOk result (out.new.items ≡ out.old.items ++ desc_text height desc.now) }
 {
     let ground = ground_text(alloc, height)?;
