@@ -168,10 +168,13 @@ runs-are-from all first k (class ∷ next ∷ classes) is inside low held_ =
   where
     long : k + length (class ∷ next ∷ classes) ≡ length all
     long = long-drop all k (class ∷ next ∷ classes) is inside
+
     here : slice_get all k ≡ Some class
     here = at-drop all k class (next ∷ classes) is
+
     rest : drop (k + 1) all ≡ (next ∷ classes)
     rest = next-drop all k class (next ∷ classes) is
+
     go : (t : Bool) → not (is_class class next) ≡ t
         → AreRunsFrom all (k + 1) (runs_from (k + 1) (k + 1) (next ∷ classes))
         → (Holds all first (k + 1) (next ∷ classes) → AreRunsFrom all first (runs_from first (k + 1) (next ∷ classes)))

@@ -42,7 +42,12 @@ pub fn run_area(run: Run) -> Area
     ensures { result ≡ run_area run }
 {
     let end = run.last as usize + 1;
-    area_at(run.first as usize, 0, end.saturating_sub(run.first as usize), 1)
+    area_at(
+        run.first as usize,
+        0,
+        end.saturating_sub(run.first as usize),
+        1,
+    )
 }
 
 /// The first and the last step of a run.
@@ -70,7 +75,14 @@ fn push_bar(alloc: Global, out: &mut Vec<u8>, part: &str, run: Run) -> Result<()
     ensures { OnOk result (out.new.items ≡ out.old.items ++ mark_text (bar part.now run)) }
 {
     let title = run_title(alloc, part, run)?;
-    push_rect(alloc, out, run.class, run_area(run), colour_of(run.class), &title)
+    push_rect(
+        alloc,
+        out,
+        run.class,
+        run_area(run),
+        colour_of(run.class),
+        &title,
+    )
 }
 
 /// Appends the rectangles of runs of results.

@@ -85,7 +85,14 @@ fn push_kind_bar(
     ensures { OnOk result (out.new.items ≡ out.old.items ++ mark_text (kind_bar steps.now run)) }
 {
     let title = kind_title(alloc, steps, run)?;
-    push_rect(alloc, out, run.class, run_area(run), colour_of(run.class), &title)
+    push_rect(
+        alloc,
+        out,
+        run.class,
+        run_area(run),
+        colour_of(run.class),
+        &title,
+    )
 }
 
 /// Appends the rectangles of runs of kinds.

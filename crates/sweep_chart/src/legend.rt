@@ -24,8 +24,20 @@ pub fn push_end_row(
     let word = class_word(class);
     let title = format!(in alloc; "end {word}")?;
     push_label(alloc, out, 24, top + 17, "end")?;
-    push_plain(alloc, out, area_at(119, top.saturating_sub(1), 26, 26), Colour::Ink)?;
-    push_rect(alloc, out, class, area_at(120, top, 24, 24), colour_of(class), &title)?;
+    push_plain(
+        alloc,
+        out,
+        area_at(119, top.saturating_sub(1), 26, 26),
+        Colour::Ink,
+    )?;
+    push_rect(
+        alloc,
+        out,
+        class,
+        area_at(120, top, 24, 24),
+        colour_of(class),
+        &title,
+    )?;
     push_label(alloc, out, 156, top + 17, word)
 }
 

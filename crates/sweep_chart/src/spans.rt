@@ -38,12 +38,7 @@ fn push_span(
 }
 
 /// Appends the names of chance runs.
-fn push_spans(
-    alloc: Global,
-    out: &mut Vec<u8>,
-    top: usize,
-    runs: &[Run],
-) -> Result<(), AllocError>
+fn push_spans(alloc: Global, out: &mut Vec<u8>, top: usize, runs: &[Run]) -> Result<(), AllocError>
     requires top { top ≤ 2 ^ 32 }
     requires few { length runs.now ≤ 262144 }
     ensures { OnOk result (out.new.items
