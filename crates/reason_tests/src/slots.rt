@@ -2,6 +2,8 @@
 
 use crate::telling::{Parts, compare};
 use pico_board::BootKind;
+use std::alloc::Global;
+use std::process::Abort;
 use std::test::Fail;
 
 /// The lines of an erased flash of 262,144 bytes around those of its slots.
@@ -105,6 +107,29 @@ const WRONG_HASH: [u32; 21] = [
 const OPEN: [u32; 5] = [0xffff_ded3, 0x1021_0142, 0x0000_01ff, 8, 0xab12_3579];
 
 /// Each fault of a slot, in slot 0.
+/// Compares the explanation of a flash whose first slot has no table for this reason, and of which
+/// the whole holds no image for this one.
+fn compare_fault(
+    rt: &impl Abort,
+    alloc: Global,
+    parts: Parts,
+    slot: &str,
+    fault: &str,
+) -> Result<(), Fail> {
+    let image = format!(in alloc; "image window=0x00000000+0x00040000 fault={fault}")?;
+    let lines = [
+        "bootsel no-image",
+        OTP,
+        slot,
+        NO_BLOCK,
+        "table none",
+        "unit 0 whole",
+        image.as_str(),
+        "unit 0 takes none",
+    ];
+    compare(rt, alloc, slot, parts, BootKind::Normal, &lines)
+}
+
 #[test]
 fn slots_without_a_table(rt: HostRuntime) -> Result<(), Fail> {
     let alloc = rt.alloc();
@@ -146,24 +171,7 @@ fn slots_without_a_table(rt: HostRuntime) -> Result<(), Fail> {
         ),
     ];
     for (parts, slot, fault) in cases {
-        let image = format!(in alloc; "image window=0x00000000+0x00040000 fault={fault}")?;
-        compare(
-            &rt,
-            alloc,
-            slot,
-            parts,
-            BootKind::Normal,
-            &[
-                "bootsel no-image",
-                OTP,
-                slot,
-                NO_BLOCK,
-                "table none",
-                "unit 0 whole",
-                image.as_str(),
-                "unit 0 takes none",
-            ],
-        )?;
+        compare_fault(&rt, alloc, parts, slot, fault)?;
     }
     Ok(())
 }
