@@ -19,7 +19,7 @@ CODE = "crates/*/src/**/*.rt"
 # The names of JSON members, which the texts of their faults have.
 FIELDS = "crates/table_json/src/fault.rt"
 # Crates and files that put no text by themselves: what they have in quotes is read, or is tested.
-NO_CRATE = re.compile(r"crates/(boot_cli|table_json|\w+_tests)/")
+NO_CRATE = re.compile(r"crates/(boot_cli|table_json|svg_text|\w+_tests)/")
 NO_FILE = re.compile(r"(^|[/_])(tests?|examples|laws|usage|words|values)(/|\.rt$)")
 
 # Texts that tell no fault.
@@ -40,6 +40,7 @@ otp rollback-required={} flash-off={} slot-size={}|owner={}|pair|r|rights={} lin
 riscv|rp2040|rp2350-arm-ns|rp2350-arm-s|rp2350-riscv|rw|secure={},nonsecure={},bootloader={}|singleton
 slot|slot {} fault={}|slots|table {} partitions={} singleton={}|table slot={} because={}|tie|unit
 unit {} not-reached|unit {} takes|updated|version|w|whole
+{} {} to {}|{} to {}|chart steps={} former={} finished={} chance={}|steps|steps 0 to {}|within
 """
 
 

@@ -4,7 +4,7 @@
 use Rattle.std.specs.Prelude.{ℕ, false, List, [], Option, Some, None, ◌≡◌, ⊤}
 use Rattle.pico_board.specs.Files.{File}
 use Rattle.run_course.specs.Outcomes.{Input, Outcome, Work, Answers, not_understood, found, outcome_found, AreOfBytes}
-use Rattle.run_words.specs.Commands.{Command, Boot, Info, OwnedData, Explain, Replay, Sweep, Seal, Elf, Firm, Table, Usage, Release, Uf2, Plan, Copy, ListScript, WriteScript, Gen}
+use Rattle.run_words.specs.Commands.{Command, Boot, Info, OwnedData, Explain, Replay, Sweep, Chart, Seal, Elf, Firm, Table, Usage, Release, Uf2, Plan, Copy, ListScript, WriteScript, Gen}
 use Rattle.run_words.specs.Usages.{usage_text, release_line}
 use Rattle.run_forms.specs.Forms.{content_of, HasForm}
 use Rattle.run_forms.specs.Jsons.{spec_read, table_read}
@@ -12,6 +12,7 @@ use Rattle.run_forms.specs.Inputs.{InputFile, readings, flash_and_otp, flash_otp
 use Rattle.board_work.specs.Works.{boot_work, info_work, data_work}
 use Rattle.reason_work.specs.Works.{explain_work}
 use Rattle.script_work.specs.Works.{replay_work}
+use Rattle.picture_work.specs.ChartWorks.{chart_work}
 use Rattle.sweep_work.specs.FirmWorks.{firm_work}
 use Rattle.text_work.specs.Copies.{copy_work}
 use Rattle.text_work.specs.TextWorks.{list_work, write_work}
@@ -35,6 +36,7 @@ use Rattle.board_work.specs.Rules.{decided_status, IsBootOf, IsInfoOf, IsDataOf}
 use Rattle.reason_work.specs.Rules.{IsExplainOf}
 use Rattle.script_work.specs.Rules.{IsReplayOf}
 use Rattle.text_work.specs.Rules.{IsCopyOf, IsListOf, IsTextRefused, IsWrittenOf}
+use Rattle.picture_work.specs.Rules.{IsChartOf}
 use Rattle.sweep_work.specs.Rules.{IsFirmOf, IsFirmRefused, IsSweepOf, IsSweepRefused}
 use Rattle.tool_work.specs.Seals.{IsUnsealed}
 use Rattle.tool_work.specs.SealRules.{IsSealedOf, IsTableOf}
@@ -48,6 +50,8 @@ inputs_of (OwnedData flash otp cpu kind) = flash_and_otp flash otp
 inputs_of (Explain flash otp cpu kind) = flash_and_otp flash otp
 inputs_of (Replay flash otp cpu script out_flash out_otp) = flash_otp_script flash otp script
 inputs_of (Sweep flash otp cpu script pattern) =
+    flash_otp_script_pattern flash otp script pattern
+inputs_of (Chart flash otp cpu script pattern out) =
     flash_otp_script_pattern flash otp script pattern
 inputs_of (Seal binary spec out) = binary_and_spec binary spec
 inputs_of (Elf elf spec out) = elf_and_spec elf spec
@@ -73,6 +77,8 @@ work_of (Replay flash otp cpu script out_flash out_otp) =
     of_three (λ f g s. replay_work (content_of f g) cpu s out_flash out_otp)
 work_of (Sweep flash otp cpu script pattern) =
     of_four (λ f g s p. sweep_work (content_of f g) cpu script s p)
+work_of (Chart flash otp cpu script pattern out) =
+    of_four (λ f g s p. chart_work (content_of f g) cpu script out s p)
 work_of (Seal binary spec out) = of_two (λ b s. seal_work binary spec out b (spec_read s))
 work_of (Elf elf spec out) = of_two (λ e s. elf_work elf spec out e (spec_read s))
 work_of (Firm image cpu) = of_one (λ i. firm_work image i cpu)
@@ -109,6 +115,8 @@ outcome_on command files = outcome_found (outcome_in command) (found files (inpu
 abbrev pub IsRefusedWork : Command → List (List ℕ) → List ℕ → List ℕ → Type 0
 IsRefusedWork (Sweep flash otp cpu script pattern) read name fault =
     OfFour (λ f g s p. IsSweepRefused script (content_of f g) cpu s name fault) read
+IsRefusedWork (Chart flash otp cpu script pattern out) read name fault =
+    OfFour (λ f g s p. IsSweepRefused script (content_of f g) cpu s name fault) read
 IsRefusedWork (Seal binary spec out) read name fault =
     OfTwo (λ b s. IsUnsealed binary spec b s name fault) read
 IsRefusedWork (Elf elf spec out) read name fault =
@@ -144,6 +152,8 @@ IsRight (Replay flash otp cpu script out_flash out_otp) read o =
     OfThree (λ f g s. IsReplayOf (content_of f g) cpu s out_flash out_otp o) read
 IsRight (Sweep flash otp cpu script pattern) read o =
     OfFour (λ f g s p. IsSweepOf (content_of f g) cpu s p o) read
+IsRight (Chart flash otp cpu script pattern out) read o =
+    OfFour (λ f g s p. IsChartOf (content_of f g) cpu out s p o) read
 IsRight (Seal binary spec out) read o = OfTwo (λ b s. IsSealedOf out b s o) read
 IsRight (Elf elf spec out) read o = OfTwo (λ e s. IsElfOf out e s o) read
 IsRight (Firm image cpu) read o = OfOne (λ i. IsFirmOf i cpu o) read
@@ -165,11 +175,12 @@ abbrev pub Obeys : Command → List (List ℕ) → Outcome → Type 0
 Obeys command read o =
     IsWorked (inputs_of command) (IsRefusedWork command read) (IsRight command read) read o
 
--- a replay and a sweep ask that their inputs are of bytes, since power that is lost in an erase
+-- a replay, a sweep and its picture ask that their inputs are of bytes, since power that is lost in an erase
 -- leaves bytes, and the packing of an ELF file, since its entry is a word; the other commands ask nothing
 abbrev pub NeedsBytes : Command → List (List ℕ) → Type 0
 NeedsBytes (Replay flash otp cpu script out_flash out_otp) read = AreOfBytes read
 NeedsBytes (Sweep flash otp cpu script pattern) read = AreOfBytes read
+NeedsBytes (Chart flash otp cpu script pattern out) read = AreOfBytes read
 NeedsBytes (Elf elf spec out) read = AreOfBytes read
 NeedsBytes command read = ⊤
 

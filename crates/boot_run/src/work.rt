@@ -9,6 +9,7 @@ ghost use Rattle.run_forms.specs.Views.{input_file_from};
 ghost use Rattle.boot_run.specs.Commands.{command_outcome, inputs_of, work_of};
 
 use board_work::{boot, data, info};
+use picture_work::chart_script;
 use reason_work::explain;
 use run_course::{Answer, told};
 use run_forms::{
@@ -44,6 +45,13 @@ pub fn inputs<'a>(
             ..
         } => flash_otp_script(alloc, flash, otp, script),
         CommandWords::Sweep {
+            flash,
+            otp,
+            script,
+            pattern,
+            ..
+        } => flash_otp_script_pattern(alloc, flash, otp, script, pattern),
+        CommandWords::Chart {
             flash,
             otp,
             script,
@@ -110,6 +118,15 @@ fn work<'a>(
         CommandWords::Sweep { cpu, script, .. } => {
             let (flash, otp, events, pattern) = sweep_files(files);
             sweep_script(alloc, flash, &otp, *cpu, script, &events, &pattern)
+        }
+        CommandWords::Chart {
+            cpu,
+            script,
+            out,
+            ..
+        } => {
+            let (flash, otp, events, pattern) = sweep_files(files);
+            chart_script(alloc, flash, &otp, *cpu, script, &events, &pattern, out)
         }
         CommandWords::Seal { binary, spec, out } => {
             let (bytes, text) = seal_files(files);

@@ -13,6 +13,7 @@ data FLASH OTP CPU KIND  the same as boot, and the windows of the data that the 
 explain FLASH OTP CPU KIND  why a boot decides so: each table, partition, unit and image
 replay FLASH OTP CPU SCRIPT OUTFLASH OUTOTP  what each event of a script does, and what it leaves
 sweep FLASH OTP CPU SCRIPT PATTERN  what a boot makes of each loss of power in a script's session
+chart FLASH OTP CPU SCRIPT PATTERN OUT  the same as a picture: a file in SVG
 seal BIN SPEC OUT        the sealed image of a binary: with a version, a load map and a digest
 elf ELF SPEC OUT         the sealed image of an ELF file, as a linker writes it
 firm IMAGE CPU           whether an image is firm: cut between pages it starts whole or not at all
@@ -44,7 +45,7 @@ TEXT    a file of at most 201326592 bytes: one record a line, as list writes the
 FAMILY  rp2040, absolute, data, rp2350-arm-s, rp2350-riscv or rp2350-arm-ns
 N       a number below 4294967296, of 1 to 10 decimal digits
 OUT     a file to write: the sealed image; the first sector of a flash with the table; the UF2 file,
-        in blocks of 512 bytes; or the script
+        in blocks of 512 bytes; the script; or the picture
 
 Status 0 means that the text is whole, 1 that the words are no command, 2 that an input is refused,
 3 that the boot falls to BOOTSEL, 4 that a file could not be read, 5 that a file could not be

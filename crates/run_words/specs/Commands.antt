@@ -18,6 +18,7 @@ pub data Command : Type 0 where
   Explain : (flash otp : List ℕ) → (cpu : Cpu) → (kind : BootKind) → Command
   Replay : (flash otp : List ℕ) → (cpu : Cpu) → (script out_flash out_otp : List ℕ) → Command
   Sweep : (flash otp : List ℕ) → (cpu : Cpu) → (script pattern : List ℕ) → Command
+  Chart : (flash otp : List ℕ) → (cpu : Cpu) → (script pattern out : List ℕ) → Command
   Seal : (binary spec out : List ℕ) → Command
   Elf : (elf spec out : List ℕ) → Command
   Firm : (image : List ℕ) → (cpu : Cpu) → Command
@@ -139,9 +140,10 @@ six_words name flash otp (Some cpu) first second =
 -- the name of a command and six words
 abbrev pub seven_words : List ℕ → List ℕ → List ℕ → Option Cpu → List ℕ → List ℕ → List ℕ
     → Option Command
-seven_words name flash otp None script out_flash out_otp = None
-seven_words name flash otp (Some cpu) script out_flash out_otp =
-    if bytes_eq name (codes "replay") then Some (Replay flash otp cpu script out_flash out_otp)
+seven_words name flash otp None script second third = None
+seven_words name flash otp (Some cpu) script second third =
+    if bytes_eq name (codes "replay") then Some (Replay flash otp cpu script second third)
+    else if bytes_eq name (codes "chart") then Some (Chart flash otp cpu script second third)
     else None
 
 -- the command that the words are; other words are none
@@ -154,8 +156,8 @@ command_of (name ∷ flash ∷ otp ∷ cpu ∷ kind ∷ []) =
     five_words name flash otp (cpu_of cpu) (kind_of kind)
 command_of (name ∷ flash ∷ otp ∷ cpu ∷ first ∷ second ∷ []) =
     six_words name flash otp (cpu_of cpu) first second
-command_of (name ∷ flash ∷ otp ∷ cpu ∷ script ∷ out_flash ∷ out_otp ∷ []) =
-    seven_words name flash otp (cpu_of cpu) script out_flash out_otp
+command_of (name ∷ flash ∷ otp ∷ cpu ∷ script ∷ second ∷ third ∷ []) =
+    seven_words name flash otp (cpu_of cpu) script second third
 command_of _ = None
 
 -- the command of a run's words
@@ -172,6 +174,8 @@ command_from (words.Replay flash otp cpu script out_flash out_otp) =
     Replay flash.now otp.now cpu script.now out_flash.now out_otp.now
 command_from (words.Sweep flash otp cpu script pattern) =
     Sweep flash.now otp.now cpu script.now pattern.now
+command_from (words.Chart flash otp cpu script pattern out) =
+    Chart flash.now otp.now cpu script.now pattern.now out.now
 command_from (words.Seal binary spec out) = Seal binary.now spec.now out.now
 command_from (words.Elf elf spec out) = Elf elf.now spec.now out.now
 command_from (words.Firm image cpu) = Firm image.now cpu

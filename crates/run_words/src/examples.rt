@@ -4,7 +4,7 @@
 ghost use Rattle.std.specs.Prelude.{◌≡◌, [], ◌∷◌, codes, Some, None};
 ghost use Rattle.pico_board.specs.declared.boot.Cpu.TheVariants.{Arm, Riscv};
 ghost use Rattle.pico_board.specs.declared.boot.BootKind.TheVariants.{Normal, Bootsel as AskBootsel, Update};
-ghost use Rattle.run_words.specs.Commands.{Table, command_of, kind_of, Boot, Info, OwnedData, Explain, Replay, Usage, Release, Sweep, Seal, Elf, Firm, Uf2, Plan, Copy, ListScript, WriteScript, Gen};
+ghost use Rattle.run_words.specs.Commands.{Table, command_of, kind_of, Boot, Info, OwnedData, Explain, Replay, Usage, Release, Sweep, Chart, Seal, Elf, Firm, Uf2, Plan, Copy, ListScript, WriteScript, Gen};
 ghost use Rattle.run_words.specs.Usages.{release_line};
 ghost use Rattle.run_words.specs.Values.{family_of, number_of};
 
@@ -28,6 +28,10 @@ pub fn words_of_commands()
         (codes "replay" ∷ codes "f" ∷ codes "o" ∷ codes "riscv" ∷ codes "s" ∷ codes "a"
         ∷ codes "b" ∷ []) ≡ Some
         (Replay (codes "f") (codes "o") Riscv (codes "s") (codes "a") (codes "b")) }
+    ensures chart { command_of
+        (codes "chart" ∷ codes "f" ∷ codes "o" ∷ codes "arm" ∷ codes "s" ∷ codes "p"
+        ∷ codes "a" ∷ []) ≡ Some
+        (Chart (codes "f") (codes "o") Arm (codes "s") (codes "p") (codes "a")) }
     ensures help { command_of (codes "--help" ∷ []) ≡ Some Usage }
     ensures release { command_of (codes "--version" ∷ []) ≡ Some Release }
 {}

@@ -54,6 +54,15 @@ pub enum CommandWords<'a> {
         script: &'a str,
         pattern: &'a str,
     },
+    /// A picture of a sweep.
+    Chart {
+        flash: &'a str,
+        otp: &'a str,
+        cpu: Cpu,
+        script: &'a str,
+        pattern: &'a str,
+        out: &'a str,
+    },
     /// The sealed image of a binary.
     Seal {
         binary: &'a str,
@@ -390,12 +399,12 @@ fn seven_words<'a>(
     otp: &'a str,
     cpu: &str,
     script: &'a str,
-    out_flash: &'a str,
-    out_otp: &'a str,
+    second: &'a str,
+    third: &'a str,
 ) -> Option<CommandWords<'a>>
     ensures { option_map command_from result
         ≡ seven_words name.now flash.entry.now otp.entry.now (cpu_of cpu.now) script.entry.now
-        out_flash.entry.now out_otp.entry.now }
+        second.entry.now third.entry.now }
 {
     let cpu = cpu_word(cpu)?;
     if name == "replay" {
@@ -404,8 +413,17 @@ fn seven_words<'a>(
             otp,
             cpu,
             script,
-            out_flash,
-            out_otp,
+            out_flash: second,
+            out_otp: third,
+        })
+    } else if name == "chart" {
+        Some(CommandWords::Chart {
+            flash,
+            otp,
+            cpu,
+            script,
+            pattern: second,
+            out: third,
         })
     } else {
         None
@@ -424,8 +442,8 @@ fn six_or_more(words: &[String]) -> Option<CommandWords<'_>>
 {
     match words {
         [name, flash, otp, cpu, first, second] => six_words(name, flash, otp, cpu, first, second),
-        [name, flash, otp, cpu, script, out_flash, out_otp] => {
-            seven_words(name, flash, otp, cpu, script, out_flash, out_otp)
+        [name, flash, otp, cpu, script, second, third] => {
+            seven_words(name, flash, otp, cpu, script, second, third)
         }
         _ => None,
     }

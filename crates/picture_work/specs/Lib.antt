@@ -1,0 +1,2 @@
+pub mod ChartWorks
+pub mod Rules
