@@ -6,6 +6,7 @@
 # make faults     compares the page of faults with the program's code; needs no program
 # make real       links small firmware with the toolchains that are there, and takes it from its ELF file to a swept update;
 #                 installs nothing, and says which of Debian's packages it uses
+# make pictures   draws sweeps, compares the README's with docs/chart.svg, and renders them where Chromium is there, into out/pictures
 # make install    puts the proved program, its manual page, its completions and two pages of docs/ below PREFIX; make it first
 # make uninstall  takes them away again
 # make bench      proves, builds for processors of x86-64-v3, and then times the program beside `openssl dgst -sha256` on flashes of 16 MiB
@@ -21,7 +22,7 @@ PROVED = crates/boot_cli/out/boot_cli
 UNPROVED = out/dugnatsew
 SESSIONS = README.md docs/MODEL.md
 
-.PHONY: all demo test readme faults real install uninstall bench
+.PHONY: all demo test readme faults real pictures install uninstall bench
 
 all:
 	cd crates/boot_cli && rt run -- boot data/flash data/otp arm normal
@@ -49,6 +50,12 @@ real:
 	python3 real/real.py "$$program" && \
 	if command -v arm-none-eabi-gcc > /dev/null; then python3 tools/sessions.py --needing arm-none-eabi-gcc "$$program" README.md; \
 	else echo "The README's walk from a toolchain to an update is not run: there is no arm-none-eabi-gcc"; fi
+
+pictures:
+	@program=$$(ls -t $(PROVED) $(UNPROVED) 2> /dev/null | head -n 1); \
+	if [ -z "$$program" ]; then echo 'There is no program: "make demo" builds one, and "make" a proved one.' >&2; exit 1; fi; \
+	echo "With $$program:"; \
+	python3 tools/pictures.py "$$program" out/pictures
 
 install:
 	@test -x $(PROVED) || { echo 'There is no proved program: "make" builds it.' >&2; exit 1; }

@@ -1,0 +1,128 @@
+#!/usr/bin/env python3
+"""Draws sweeps by `chart`, and looks at the pictures with the tools that are there.
+
+    pictures.py PROGRAM FOLDER
+
+Run it at the top of the repository. The first picture is the one that the README shows, and has to
+be docs/chart.svg. The others are of a session without steps, of one whose every cut leaves the former
+image, and of a plan of a thousand steps. Each is read by `xmllint --noout`, and rendered by headless
+Chromium at 960 and at 1920 pixels into FOLDER; a tool that is not there is told and skipped. The last
+line is `N pictures drawn, M wrong`, and the status is 0 where M is 0.
+"""
+
+import os
+import shutil
+import struct
+import subprocess
+import sys
+
+IMAGE = struct.pack("<7I", 0x20082000, 0x10000201, 0xFFFFDED3, 0x10210142, 0x000001FF, 0, 0xAB123579)
+TABLE = """{"version":[1,0],
+ "unpartitioned":{"families":["absolute"],
+                  "permissions":{"secure":"rw","nonsecure":"rw","bootloader":"rw"}},
+ "partitions":[
+   {"first":2,"last":%d,"families":["rp2350-arm-s"],
+    "permissions":{"secure":"rw","nonsecure":"rw","bootloader":"rw"}},
+   {"first":%d,"last":%d,"families":["rp2350-arm-s"],"link":["a",0],
+    "permissions":{"secure":"rw","nonsecure":"rw","bootloader":"rw"}}]}"""
+SECTOR = 4096
+LONG = 256 * 1024 - 512  # a binary: sealed it has 1023 pages in 64 sectors
+WIDTHS = (960, 1920)
+BROWSERS = ("chromium", "chromium-browser", "google-chrome")
+
+
+class Maker:
+    """Runs the program in a folder, and counts the pictures."""
+
+    def __init__(self, program, folder):
+        self.program = os.path.abspath(program)
+        self.folder = folder
+        self.drawn = self.wrong = 0
+        self.browser = next(filter(shutil.which, BROWSERS), None)
+
+    def path(self, name):
+        return os.path.join(self.folder, name)
+
+    def write(self, name, data):
+        with open(self.path(name), "wb") as file:
+            file.write(data)
+
+    def read(self, name):
+        with open(self.path(name), "rb") as file:
+            return file.read()
+
+    def run(self, *words):
+        done = subprocess.run([self.program, *words], cwd=self.folder, capture_output=True, check=False)
+        if done.returncode:
+            sys.exit(f"{' '.join(words)}: status {done.returncode}: {done.stdout.decode()}")
+        return done.stdout.decode().strip()
+
+    def board(self, sectors, first):
+        """A flash with a table of one pair of so many sectors each, and an image in A."""
+        last = 1 + sectors
+        self.write("table.json", (TABLE % (last, last + 1, last + sectors)).encode())
+        self.run("table", "table.json", "table.bin")
+        front = self.read("table.bin").ljust(2 * SECTOR, b"\xff") + first
+        self.write("flash", front.ljust((2 + 2 * sectors) * SECTOR, b"\xff"))
+        self.write("otp", b"")
+        self.write("pattern", b"\xa5")
+
+    def sealed(self, binary, minor):
+        self.write("spec", b'{"processor":"arm","version":[1,%d]}' % minor)
+        self.write("binary", binary)
+        self.run("seal", "binary", "spec", "image")
+        return self.read("image")
+
+    def plan(self, image):
+        self.write("image", image)
+        self.run("plan", "flash", "otp", "arm", "image", "script")
+
+    def fail(self, text):
+        self.wrong += 1
+        print(text)
+
+    def chart(self, name, wanted):
+        """Draws the sweep of the script, which has to be told so, and looks at the picture."""
+        told = self.run("chart", "flash", "otp", "arm", "script", "pattern", name)
+        self.drawn += 1
+        if told != wanted:
+            self.fail(f"{name}: {told}\n  wanted {wanted}")
+        if shutil.which("xmllint") and subprocess.run(["xmllint", "--noout", self.path(name)], check=False).returncode:
+            self.fail(f"{name}: xmllint does not read it")
+        for width in WIDTHS if self.browser else ():
+            shot = os.path.abspath(self.path(name.replace(".svg", f"-{width}.png")))
+            subprocess.run([self.browser, "--headless", "--no-sandbox", "--disable-gpu", f"--screenshot={shot}",
+                            f"--window-size={width},400", "file://" + os.path.abspath(self.path(name))],
+                           capture_output=True, check=False)
+            if not os.path.exists(shot):
+                self.fail(f"{name}: {self.browser} has rendered nothing at {width} pixels")
+
+
+def main():
+    if len(sys.argv) != 3:
+        sys.exit(__doc__.strip())
+    os.makedirs(sys.argv[2], exist_ok=True)
+    make = Maker(sys.argv[1], sys.argv[2])
+    if not shutil.which("xmllint"):
+        print("the pictures are not read by xmllint: it is not there")
+    if not make.browser:
+        print("the pictures are not rendered: there is no Chromium")
+    make.board(30, b"")
+    make.plan(IMAGE + b"\xff" * 484 + b"code")
+    make.chart("chart.svg", "chart steps=4 former=4 finished=0 chance=4")
+    with open("docs/chart.svg", "rb") as file:
+        if file.read() != make.read("chart.svg"):
+            make.fail("docs/chart.svg is not what the program draws")
+    make.write("script", b"\0")
+    make.chart("none.svg", "chart steps=0 former=0 finished=0 chance=0")
+    make.board(64, make.sealed(IMAGE, 9))
+    make.plan(make.sealed(IMAGE, 8))
+    make.chart("former.svg", "chart steps=2 former=4 finished=0 chance=0")
+    # All but the first page of the first sector is 0xff, so behind that page's program the image is whole.
+    make.plan(make.sealed(IMAGE.ljust(LONG, b"\xff"), 10))
+    make.chart("long.svg", "chart steps=1087 former=2144 finished=30 chance=0")
+    print(f"{make.drawn} pictures drawn, {make.wrong} wrong")
+    sys.exit(1 if make.wrong else 0)
+
+
+main()
