@@ -7,3 +7,4 @@ mod ExampleLemmas
 mod FirmExampleLemmas
 mod FirmDigestLemmas
 mod FirmImageLemmas
+mod FirmFlashLemmas

@@ -3,7 +3,8 @@
 use Rattle.std.specs.Prelude.{ℕ, ◌+◌, false, List, [], ◌∷◌, ◌++◌, None}
 use Rattle.pico_board.specs.declared.window.Window.{Window}
 use Rattle.image_def.specs.declared.started.Started.{Started}
-use Rattle.boot_rules.specs.Examples.{framed, region}
+use Rattle.pico_board.specs.Content.{Content}
+use Rattle.boot_rules.specs.Examples.{framed, region, rows_with}
 
 abbrev pub whole : Window
 whole = record { start = 0; len = 0x2000 }
@@ -71,3 +72,7 @@ firm_items =
 
 abbrev pub firm : List ℕ
 firm = two_blocks firm_items
+
+-- that image alone in a flash of 8 KiB, with this row of boot flags
+abbrev pub alone_on : ℕ → Content
+alone_on flags = record { flash = firm; otp = rows_with flags 0 }

@@ -2,10 +2,11 @@
 //! each is the `ensures` of a function that does nothing.
 
 ghost use Rattle.std.specs.Prelude.{◌≡◌, IsSome, None, []};
+ghost use Rattle.pico_board.specs.Content.{window_bytes};
 ghost use Rattle.pico_board.specs.declared.boot.Cpu.TheVariants.{Arm};
 ghost use Rattle.image_check.specs.SameImage.{Holds};
-ghost use Rattle.boot_sweep.specs.Firms.{HasNoOtherBlock, IsFirm, LoadsFront};
-ghost use Rattle.sealed_laws.specs.Examples.{early, firm, start_at, undigested, unmapped};
+ghost use Rattle.boot_sweep.specs.Firms.{Firm, HasNoOtherBlock, IsFirm, LoadsFront};
+ghost use Rattle.sealed_laws.specs.Examples.{alone_on, early, firm, start_at, undigested, unmapped, whole};
 
 /// An image without a HASH_VALUE is not firm, though its definition stands behind the first sector,
 /// its load map stores all before that, and the first sector has no other block.
@@ -40,4 +41,12 @@ pub fn an_image_with_an_early_definition()
 /// An image with all of these is firm.
 pub fn a_firm_image()
     ensures { IsFirm Arm firm (start_at 0x1000) }
+{}
+
+/// Alone in a flash it is firm. Where the OTP requires rollback versions, which it has none of, it
+/// is not, though it has all of these there: it is not valid.
+pub fn a_firm_image_on_two_flashes()
+    ensures firm { Firm (alone_on 0) whole Arm (start_at 0x1000) }
+    ensures required { IsFirm Arm (window_bytes (alone_on 1) whole) (start_at 0x1000)
+        × (Firm (alone_on 1) whole Arm (start_at 0x1000) → ⊥) }
 {}
