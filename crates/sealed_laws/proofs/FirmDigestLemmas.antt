@@ -1,8 +1,8 @@
 -- The digest of the worked firm image, eight blocks at a time.
-use Rattle.std.proofs.Common.{◌≡◌, ℕ, zero, suc, ◌+◌, ◌*◌, ◌/◌, List, [], ◌∷◌, ◌++◌, drop, take, length, refl, sym, ap, ◌∙◌, arith, Some}
+use Rattle.std.proofs.Common.{◌≡◌, ℕ, zero, suc, ◌+◌, ◌*◌, ◌/◌, List, [], ◌∷◌, drop, take, length, refl, sym, ap, ◌∙◌, arith}
 use Rattle.std.proofs.lemmas.List.{drop-drop}
 use Rattle.sha2.specs.Sha256.{compress, digest_bytes, first_words, hash_after, initial_hash_256, padded_message, rounds, schedule, sha256}
-use Rattle.block_codec.specs.Blocks.{BlockView, frame}
+use Rattle.block_codec.specs.Blocks.{frame}
 use Rattle.block_codec.specs.Words.{word_bytes}
 use Rattle.load_map.specs.Covered.{covered}
 use Rattle.sealed_laws.specs.Examples.{firm, firm_items}
@@ -19,6 +19,12 @@ hash-from h p n (suc k) =
     ∙ ap (λ x. compress x (take 64 (drop ((n + k) * 64) p))) (hash-from h p n k)
     ∙ ap (λ x. compress (hash_after (hash_after h p n) (drop (n * 64) p) k) (take 64 x))
     (ap (λ m. drop m p) place ∙ sym (drop-drop (k * 64) (n * 64) p))
+
+-- from the hash value of the first n blocks to that of the first n + k
+pub hash-on : (p : List ℕ) (n k : ℕ) (h t : List ℕ) → hash_after initial_hash_256 p n ≡ h
+    → hash_after h (drop (n * 64) p) k ≡ t → hash_after initial_hash_256 p (n + k) ≡ t
+hash-on p n k h t before next =
+    hash-from initial_hash_256 p n k ∙ ap (λ x. hash_after x (drop (n * 64) p) k) before ∙ next
 
 abbrev message : List ℕ
 message = padded_message (covered firm (front_load 0x1000 ∷ []) (back_block firm_items) 8 1)
@@ -94,48 +100,31 @@ unfolding hash_after
 none = refl
 
 first : hash_after initial_hash_256 message 8 ≡ state1
-first =
-    hash-from initial_hash_256 message 0 8 ∙ ap (λ h. hash_after h (drop 0 message) 8) none ∙ group0
+first = hash-on message 0 8 state0 state1 none group0
 
 upto2 : hash_after initial_hash_256 message 16 ≡ state2
-upto2 =
-    hash-from initial_hash_256 message 8 8
-    ∙ ap (λ h. hash_after h (drop 512 message) 8) first ∙ group1
+upto2 = hash-on message 8 8 state1 state2 first group1
 
 upto3 : hash_after initial_hash_256 message 24 ≡ state3
-upto3 =
-    hash-from initial_hash_256 message 16 8
-    ∙ ap (λ h. hash_after h (drop 1024 message) 8) upto2 ∙ group2
+upto3 = hash-on message 16 8 state2 state3 upto2 group2
 
 upto4 : hash_after initial_hash_256 message 32 ≡ state4
-upto4 =
-    hash-from initial_hash_256 message 24 8
-    ∙ ap (λ h. hash_after h (drop 1536 message) 8) upto3 ∙ group3
+upto4 = hash-on message 24 8 state3 state4 upto3 group3
 
 upto5 : hash_after initial_hash_256 message 40 ≡ state5
-upto5 =
-    hash-from initial_hash_256 message 32 8
-    ∙ ap (λ h. hash_after h (drop 2048 message) 8) upto4 ∙ group4
+upto5 = hash-on message 32 8 state4 state5 upto4 group4
 
 upto6 : hash_after initial_hash_256 message 48 ≡ state6
-upto6 =
-    hash-from initial_hash_256 message 40 8
-    ∙ ap (λ h. hash_after h (drop 2560 message) 8) upto5 ∙ group5
+upto6 = hash-on message 40 8 state5 state6 upto5 group5
 
 upto7 : hash_after initial_hash_256 message 56 ≡ state7
-upto7 =
-    hash-from initial_hash_256 message 48 8
-    ∙ ap (λ h. hash_after h (drop 3072 message) 8) upto6 ∙ group6
+upto7 = hash-on message 48 8 state6 state7 upto6 group6
 
 upto8 : hash_after initial_hash_256 message 64 ≡ state8
-upto8 =
-    hash-from initial_hash_256 message 56 8
-    ∙ ap (λ h. hash_after h (drop 3584 message) 8) upto7 ∙ group7
+upto8 = hash-on message 56 8 state7 state8 upto7 group7
 
 upto9 : hash_after initial_hash_256 message 65 ≡ state9
-upto9 =
-    hash-from initial_hash_256 message 64 1
-    ∙ ap (λ h. hash_after h (drop 4096 message) 1) upto8 ∙ group8
+upto9 = hash-on message 64 1 state8 state9 upto8 group8
 
 abbrev pub firm_digest : List ℕ
 firm_digest =

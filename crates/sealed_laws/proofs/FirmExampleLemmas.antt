@@ -1,6 +1,5 @@
 -- Worked images that are not firm, by computing.
-use Rattle.std.proofs.Common.{◌≡◌, ◌⊎◌, inl, inr, ℕ, ◌+◌, ◌*◌, ◌%◌, ◌<◌, ◌≤◌, List, [], ◌∷◌, ◌++◌, drop, length, Option, None, Some, Ok, refl, sym, ap, ◌∙◌, subst, arith, pos, negsuc}
-use Rattle.std.specs.Prelude.{Contains, slice_get}
+use Rattle.std.proofs.Common.{◌≡◌, inl, inr, ℕ, ◌<◌, List, [], ◌∷◌, drop, length, Option, None, Some, Ok, refl, sym, subst, arith, pos, negsuc}
 use Rattle.std.proofs.Math.Dec.{lit<, lit≤}
 use Rattle.std.proofs.lemmas.Bool.{cases_lt}
 use Rattle.std.proofs.lemmas.Option.{same_Some}
@@ -14,7 +13,7 @@ use Rattle.block_codec.specs.Items.{size_of}
 use Rattle.block_codec.specs.Reading.{block_at, front_block, item_words}
 use Rattle.block_codec.specs.Words.{word_bytes, word_of}
 use Rattle.block_codec.proofs.AtLemmas.{BlockAt-unique}
-use Rattle.block_loop.specs.Loop.{IsLoop, block_from, first_block, follow, loop_of}
+use Rattle.block_loop.specs.Loop.{block_from, first_block, follow, loop_of}
 use Rattle.block_loop.proofs.ChainLemmas.{first_block-found, first_from-none}
 use Rattle.block_loop.proofs.SameLoopLemmas.{IsLoop-from_answer}
 use Rattle.image_def.specs.Definition.{def_of}

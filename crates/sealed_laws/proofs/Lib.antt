@@ -8,3 +8,5 @@ mod FirmExampleLemmas
 mod FirmDigestLemmas
 mod FirmImageLemmas
 mod FirmFlashLemmas
+mod CrowdedDigestLemmas
+mod CrowdedImageLemmas

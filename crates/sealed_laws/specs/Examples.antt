@@ -73,6 +73,21 @@ firm_items =
 abbrev pub firm : List ℕ
 firm = two_blocks firm_items
 
--- that image alone in a flash of 8 KiB, with this row of boot flags
+-- with one more block in the first sector, which no link leads to: for the rest as the firm one,
+-- with a digest of its own
+abbrev pub crowded_items : List ℕ
+crowded_items =
+    0x10210142 ∷ 0x01000406 ∷ 0xffffeff8 ∷ 0x10000000 ∷ 0x1000 ∷ 0x01000247 ∷ 0x00000008
+    ∷ 0x0000094b
+    ∷ 0x6d6c2fbe ∷ 0x209ac52e ∷ 0x77549ca9 ∷ 0x2d649791
+    ∷ 0x79afabf2 ∷ 0x4249271d ∷ 0xe68a8aab ∷ 0xe0635419 ∷ []
+
+abbrev pub crowded : List ℕ
+crowded =
+    vectors ++ (region 0x100 (framed (0x10210142 ∷ []) 0xf00)
+    ++ (region 0xe00 (framed (0x10210142 ∷ []) 0)
+    ++ region 0x1000 (framed crowded_items 0xfffff100)))
+
+-- the firm image alone in a flash of 8 KiB, with this row of boot flags
 abbrev pub alone_on : ℕ → Content
 alone_on flags = record { flash = firm; otp = rows_with flags 0 }
