@@ -10,3 +10,5 @@ mod FirmImageLemmas
 mod FirmFlashLemmas
 mod CrowdedDigestLemmas
 mod CrowdedImageLemmas
+mod ClippedDigestLemmas
+mod ClippedImageLemmas

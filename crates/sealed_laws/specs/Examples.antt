@@ -88,6 +88,17 @@ crowded =
     ++ (region 0xe00 (framed (0x10210142 ∷ []) 0)
     ++ region 0x1000 (framed crowded_items 0xfffff100)))
 
+-- with a load map that stores all of the first sector but its last byte: for the rest as the firm
+-- one, with a digest of its own
+abbrev pub clipped_items : List ℕ
+clipped_items =
+    0x10210142 ∷ 0x01000406 ∷ 0xffffeff8 ∷ 0x10000000 ∷ 0xfff ∷ 0x01000247 ∷ 0x00000008 ∷ 0x0000094b
+    ∷ 0x0421f8f6 ∷ 0xe2ccffb4 ∷ 0xaa6c4b32 ∷ 0x374ee1ba
+    ∷ 0x73b1d360 ∷ 0x6411ff5d ∷ 0x9d23d2fb ∷ 0xa85ebf20 ∷ []
+
+abbrev pub clipped : List ℕ
+clipped = two_blocks clipped_items
+
 -- the firm image alone in a flash of 8 KiB, with this row of boot flags
 abbrev pub alone_on : ℕ → Content
 alone_on flags = record { flash = firm; otp = rows_with flags 0 }

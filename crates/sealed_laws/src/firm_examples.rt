@@ -6,7 +6,7 @@ ghost use Rattle.pico_board.specs.Content.{window_bytes};
 ghost use Rattle.pico_board.specs.declared.boot.Cpu.TheVariants.{Arm};
 ghost use Rattle.image_check.specs.SameImage.{Holds};
 ghost use Rattle.boot_sweep.specs.Firms.{Firm, HasNoOtherBlock, IsFirm, LoadsFront};
-ghost use Rattle.sealed_laws.specs.Examples.{alone_on, crowded, early, firm, start_at, undigested, unmapped, whole};
+ghost use Rattle.sealed_laws.specs.Examples.{alone_on, clipped, crowded, early, firm, start_at, undigested, unmapped, whole};
 
 /// An image without a HASH_VALUE is not firm, though its definition stands behind the first sector,
 /// its load map stores all before that, and the first sector has no other block.
@@ -36,6 +36,17 @@ pub fn an_image_with_an_early_definition()
         × LoadsFront 0x100 held.sound.loads
         × HasNoOtherBlock early held.sound.loop
         × (IsFirm Arm early (start_at 0x100) → ⊥) }
+{}
+
+/// An image whose load map stores all but the last byte before its definition is not firm, though
+/// its definition stands behind the first sector and has a digest, and the first sector has no
+/// other block.
+pub fn an_image_whose_map_leaves_a_byte_out()
+    ensures { (held : Holds Arm clipped (start_at 0x1000))
+        × IsSome held.image.def.digest
+        × LoadsFront 0xfff held.sound.loads
+        × HasNoOtherBlock clipped held.sound.loop
+        × (IsFirm Arm clipped (start_at 0x1000) → ⊥) }
 {}
 
 /// An image with one more block in the first sector, which is none of its loop, is not firm, though
