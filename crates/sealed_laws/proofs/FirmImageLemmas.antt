@@ -1,5 +1,5 @@
 -- The worked firm image, by computing.
-use Rattle.std.proofs.Common.{◌≡◌, ◌⊎◌, inl, inr, ℕ, ◌+◌, ◌*◌, List, [], ◌∷◌, length, None, Some, Ok, refl, sym, arith, pos}
+use Rattle.std.proofs.Common.{◌≡◌, inl, [], ◌∷◌, length, Some, Ok, refl, sym}
 use Rattle.std.proofs.Math.Dec.{lit<, lit≤}
 use Rattle.pico_board.specs.declared.boot.Cpu.TheVariants.{Arm}
 use Rattle.pico_board.specs.Content.{flash_base}

@@ -1,4 +1,4 @@
-use Rattle.std.proofs.Common.{◌≡◌, refl, arith}
+use Rattle.std.proofs.Common.{refl, arith}
 use Rattle.pico_board.specs.declared.boot.Cpu.TheVariants.{Arm}
 use Rattle.boot_sweep.specs.Firms.{IsFirm}
 use Rattle.sealed_laws.specs.Examples.{early, start_at}

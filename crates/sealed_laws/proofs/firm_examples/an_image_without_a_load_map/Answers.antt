@@ -1,4 +1,4 @@
-use Rattle.std.proofs.Common.{◌≡◌, [], refl, subst}
+use Rattle.std.proofs.Common.{refl, subst}
 use Rattle.pico_board.specs.declared.boot.Cpu.TheVariants.{Arm}
 use Rattle.image_pack.proofs.ReadBackLemmas.{one-loads}
 use Rattle.boot_sweep.specs.Firms.{IsFirm, LoadsFront}
