@@ -92,6 +92,10 @@ undigested_image = record { block = back_block undigested_items; def = def_with 
 abbrev pub front_load : ℕ → Load
 front_load size = record { storage = Some 0; runtime = 0x10000000; size = size }
 
+-- of the first bytes of SRAM
+abbrev pub clear_load : Load
+clear_load = record { storage = None; runtime = 0x20000000; size = 0x1000 }
+
 pub undigested-loop : loop_of undigested ≡ Ok (front_block_ ∷ back_block undigested_items ∷ [])
 unfolding loop_of follow block_from block_at front_block item_words frame size_of word_of word_bytes
 undigested-loop = refl

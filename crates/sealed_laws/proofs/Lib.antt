@@ -12,3 +12,5 @@ mod CrowdedDigestLemmas
 mod CrowdedImageLemmas
 mod ClippedDigestLemmas
 mod ClippedImageLemmas
+mod ClearedDigestLemmas
+mod ClearedImageLemmas

@@ -99,6 +99,18 @@ clipped_items =
 abbrev pub clipped : List ℕ
 clipped = two_blocks clipped_items
 
+-- with a load map that clears 4096 bytes of SRAM before it stores the first sector: for the rest as
+-- the firm one, with a digest of its own
+abbrev pub cleared_items : List ℕ
+cleared_items =
+    0x10210142 ∷ 0x02000706 ∷ 0 ∷ 0x20000000 ∷ 0x1000 ∷ 0xffffeff8 ∷ 0x10000000 ∷ 0x1000
+    ∷ 0x01000247 ∷ 0x0000000b ∷ 0x0000094b
+    ∷ 0xa1f4d197 ∷ 0x407de663 ∷ 0xa4c804aa ∷ 0xe236e5f9
+    ∷ 0x2cc31fbc ∷ 0x5a42e281 ∷ 0x905ad4e8 ∷ 0x9fbf77c5 ∷ []
+
+abbrev pub cleared : List ℕ
+cleared = two_blocks cleared_items
+
 -- the firm image alone in a flash of 8 KiB, with this row of boot flags
 abbrev pub alone_on : ℕ → Content
 alone_on flags = record { flash = firm; otp = rows_with flags 0 }

@@ -1,12 +1,12 @@
 //! Worked images that lack one of the conditions of a firm image and have the others, by computing:
 //! each is the `ensures` of a function that does nothing.
 
-ghost use Rattle.std.specs.Prelude.{◌≡◌, IsSome, None, []};
+ghost use Rattle.std.specs.Prelude.{◌≡◌, IsSome, None, [], drop};
 ghost use Rattle.pico_board.specs.Content.{window_bytes};
 ghost use Rattle.pico_board.specs.declared.boot.Cpu.TheVariants.{Arm};
 ghost use Rattle.image_check.specs.SameImage.{Holds};
 ghost use Rattle.boot_sweep.specs.Firms.{Firm, HasNoOtherBlock, IsFirm, LoadsFront};
-ghost use Rattle.sealed_laws.specs.Examples.{alone_on, clipped, crowded, early, firm, start_at, undigested, unmapped, whole};
+ghost use Rattle.sealed_laws.specs.Examples.{alone_on, cleared, clipped, crowded, early, firm, start_at, undigested, unmapped, whole};
 
 /// An image without a HASH_VALUE is not firm, though its definition stands behind the first sector,
 /// its load map stores all before that, and the first sector has no other block.
@@ -47,6 +47,17 @@ pub fn an_image_whose_map_leaves_a_byte_out()
         × LoadsFront 0xfff held.sound.loads
         × HasNoOtherBlock clipped held.sound.loop
         × (IsFirm Arm clipped (start_at 0x1000) → ⊥) }
+{}
+
+/// An image whose load map stores all before its definition in its second entry is not firm, though
+/// its definition stands behind the first sector and has a digest, and the first sector has no
+/// other block.
+pub fn an_image_whose_map_begins_with_another_entry()
+    ensures { (held : Holds Arm cleared (start_at 0x1000))
+        × IsSome held.image.def.digest
+        × LoadsFront 0x1000 (drop 1 held.sound.loads)
+        × HasNoOtherBlock cleared held.sound.loop
+        × (IsFirm Arm cleared (start_at 0x1000) → ⊥) }
 {}
 
 /// An image with one more block in the first sector, which is none of its loop, is not firm, though
