@@ -14,8 +14,9 @@ which reads the same files and writes as much. The most memory that a run of it 
 
 `sweep` judges each cut of a plan that writes a sealed image of 64 KiB, of 1 MiB and of 8 MiB to the
 second of two slots of 8 MiB, of which the first holds an older image of the same length. It stands
-beside `boot` of that flash; a second sweep, of the plan without the programs of the slot's first
-sector and less the time of one without steps, tells what a line costs that judges no new image.
+beside `boot` of that flash; two further sweeps, of the plan's steps up to the first program and up to
+the first one of the slot's first sector, tell by their difference what a line costs that judges no new
+image.
 """
 
 import hashlib
@@ -50,6 +51,7 @@ SLOT_SIZE_ROW = 0x55
 SLOT_SIZE = 11  # of 4096 * 2^11 bytes
 WRITE = 0x05  # the id of a command that writes
 SWEEP_RUNS = 3
+LINE_RUNS = 15
 SEALED_WORDS = 22  # of a sealing block
 HASHED_WORDS = 10  # of it, before the digest
 
@@ -106,18 +108,19 @@ def partitioned():
     return flash
 
 
-def without_first_sector(plan):
-    """A plan's script up to the first write to the slot's first sector, which it writes last, and its end."""
+def front_of(plan, to_first_sector):
+    """A plan's script up to its first write, or up to that to the slot's first sector, which comes last, and its end."""
     at = 0
     while plan[at] != 0:
         if plan[at] == 1:
             command, size = plan[at + 1:at + 33], struct.unpack_from("<I", plan, at + 33)[0]
-            if command[8] == WRITE and struct.unpack_from("<I", command, 16)[0] == FLASH_START + SLOT:
+            is_first = struct.unpack_from("<I", command, 16)[0] == FLASH_START + SLOT
+            if command[8] == WRITE and (is_first or not to_first_sector):
                 return plan[:at] + b"\0"
             at += 37 + size
         else:
             at += {4: 1, 5: 6}[plan[at]]
-    sys.exit("the plan does not write the slot's first sector")
+    sys.exit("the plan has no such write")
 
 
 def least(command, wanted, runs=RUNS):
@@ -145,28 +148,32 @@ def row(name, program, openssl):
 
 def sweeps(program, folder, size, name):
     """Tells of the sweep of a plan for an image of so many bytes beside `boot` of the same flash."""
-    paths = {it: os.path.join(folder, it) for it in ("flash", "otp", "image", "plan", "part", "none", "pattern")}
+    paths = {it: os.path.join(folder, it) for it in ("flash", "otp", "image", "plan", "part", "erases", "pattern")}
     otp = bytearray(4 * SLOT_SIZE_ROW + 4)
     otp[4 * SLOT_SIZE_ROW] = SLOT_SIZE
-    files = (("flash", sealed(size, 1).ljust(FLASH, b"\xff")), ("otp", otp), ("none", b"\0"), ("pattern", b"\0"),
+    files = (("flash", sealed(size, 1).ljust(FLASH, b"\xff")), ("otp", otp), ("pattern", b"\0"),
              ("image", sealed(size, 2, VERSION + 1)))
     for it, data in files:
         with open(paths[it], "wb") as file:
             file.write(data)
     board = [paths["flash"], paths["otp"], "arm"]
     subprocess.run([program, "plan", *board, paths["image"], paths["plan"]], stdout=subprocess.DEVNULL, check=True)
-    with open(paths["plan"], "rb") as plan, open(paths["part"], "wb") as part:
-        part.write(without_first_sector(plan.read()))
+    with open(paths["plan"], "rb") as file:
+        plan = file.read()
+    for it, to_first_sector in (("part", True), ("erases", False)):
+        with open(paths[it], "wb") as file:
+            file.write(front_of(plan, to_first_sector))
     boot = least([program, "boot", *board, "normal"], lambda lines: lines[0].startswith("start window=0x00000000+"))
 
     def swept(script, steps, result, runs):
         return least([program, "sweep", *board, paths[script], paths["pattern"]],
                      lambda lines: len(lines) == 2 * steps + 1 and lines[-1] == f"end {steps} {result}", runs)
 
-    steps = size // SECTOR + size // PAGE
+    erases, programs = size // SECTOR, (size - SECTOR) // PAGE
+    steps = erases + size // PAGE
     whole = swept("plan", steps, "finished", SWEEP_RUNS)
-    part = swept("part", steps - SECTOR // PAGE, "former", RUNS)
-    line = (part - swept("none", 0, "former", RUNS)) / (2 * (steps - SECTOR // PAGE))
+    part = swept("part", erases + programs, "former", LINE_RUNS)
+    line = (part - swept("erases", erases, "former", LINE_RUNS)) / (2 * programs)
     most = memory([program, "sweep", *board, paths["plan"], paths["pattern"]])
     print(f"sweep of a plan of {name}, {2 * steps:,} lines: {whole:.2f} s, boot {1000 * boot:.1f} ms, "
           f"ratio {whole / boot:.1f}, {1e6 * line:.1f} us a line before the last pages, {most:.0f} MiB at most")
