@@ -144,8 +144,8 @@ module _ {B : Type 0} (state : B → BoardState) (history : B → List Step → 
   stands-board p board Off is = is
   stands-board p board (InBootsel host) is =
       record { state = is.state; found = is.found; placing = is.placing; ram = is.ram }
-  stands-board p board (Running (FromFlash choice)) is = record { state = is.state; slot = is.slot }
-  stands-board p board (Running (FromRam image)) is = record { state = is.state; slot = is.slot }
+  stands-board p board (Running (FromFlash choice)) is = record { state = is.state; membership = is.membership }
+  stands-board p board (Running (FromRam image)) is = record { state = is.state; membership = is.membership }
 
   armed-decides : (armed : Option (Option Cut)) (c : Content) (cut : Cut)
       → Decides (option_map (λ former. Some cut) armed) c [] true c (option_map (λ former. Some cut) armed)
@@ -197,7 +197,7 @@ module _ {B : Type 0} (state : B → BoardState) (history : B → List Step → 
     idle = steady.idle;
     found = λ on f is. subst (λ c. IsSoundTable f.table (length c.flash / 4096)) same (steady.found on f is);
     held = λ choice run. subst (λ c. IsHeld c old.cpu choice) same
-        (steady.held choice (record { state = run.state; slot = run.slot }));
+        (steady.held choice (record { state = run.state; membership = run.membership }));
   }
     where
       same : (state old.board).content ≡ (state board).content

@@ -6,6 +6,7 @@ use Rattle.std.specs.Option.{ForSome}
 use Rattle.std.specs.Prelude.{◌≤◌, ◌<◌, ◌^◌}
 use Rattle.std.proofs.Common.{arith}
 use Rattle.std.specs.Set.{is_member}
+use Rattle.pico_board.specs.declared.window.TheConstants.{MOST_FLASH_BYTES}
 use Rattle.pico_board.specs.declared.Step.{Step}
 use Rattle.pico_board.specs.declared.boot.Cpu.{Cpu}
 use Rattle.pico_board.specs.declared.boot.BootKind.{BootKind}
@@ -312,7 +313,7 @@ same-ruling s table found given cpu d pool placing b same is carries =
     ∙ ap (λ t. ruling_on (length s.content.flash) t (target_of s.content t cpu b.family) placing b) same
 
 -- a target in a flash starts within it
-starts-in : (n : ℕ) (t : Target) → n ≤ 16777216 → IsTargetIn n t → t.window.start < 2 ^ 24
+starts-in : (n : ℕ) (t : Target) → n ≤ MOST_FLASH_BYTES → IsTargetIn n t → t.window.start < 2 ^ 24
 starts-in n t most at = let some = at.whole.some in let inside = at.inside in omega (arith, some, inside, most)
 
 done-answer : (t : Target) (blocks : List Uf2) (answer : Result Accepted PlaceFault) (x : Bool)
@@ -336,7 +337,7 @@ pub done-in : {B : Type 0} (state : B → State) (history : B → List Step → 
     (table : Option Table) (given : Option Target) (placing : Option Placing) (b : Uf2) (d e : Kept)
     (pool after : Pool) (Unchanged : Type 0) (answer : Result Accepted PlaceFault) (r q : Ruling)
     → rules s table given d b ≡ r → r ≡ q → IsMeant placing q
-    → length s.content.flash ≤ 16777216
+    → length s.content.flash ≤ MOST_FLASH_BYTES
     → ForSome given (IsTargetIn (length s.content.flash))
     → ForSome d.current (λ c. IsTargetIn (length s.content.flash) c.target)
     → Carries d pool placing

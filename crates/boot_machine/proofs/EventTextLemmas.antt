@@ -59,7 +59,7 @@ use Rattle.boot_machine.specs.Boots.{Effect}
 use Rattle.boot_machine.specs.Machines.{Host, Machine, Place, Off, InBootsel, Running, FromFlash, FromRam}
 use Rattle.boot_machine.specs.Moves.{Moves, effect, effect_in}
 use Rattle.boot_machine.specs.Ranges.{AreInRange, HasBytes, HasSram}
-use Rattle.boot_machine.specs.Serving.{Served, asked_target, block_served, blocks_of, command_served, device_of, followed_by, host_result, info_reply, info_status, info_words, ram_text, ruling_on, serves_host, serves_ram, served, slot_of, table_of, taken_in, uf2_served}
+use Rattle.boot_machine.specs.Serving.{Served, asked_target, block_served, blocks_of, command_served, device_of, followed_by, host_result, info_reply, info_status, info_words, ram_text, ruling_on, serves_host, serves_ram, served, table_slot_of, table_of, taken_in, uf2_served}
 use Rattle.boot_machine.proofs.InfoLemmas.{few-asked, few-refused, status-asked, status-refused}
 use Rattle.boot_machine.proofs.RamRunLemmas.{either}
 use Rattle.boot_machine.proofs.ReplyLemmas.{slice-few}
@@ -287,11 +287,11 @@ module _ (c : Content) (cpu : Cpu) (found : Option Found) (cmd : Cmd) (payload :
   info-small : info_status c cpu found cmd payload < 2 ^ 32
   unfolding info_status
   info-small =
-      small (info_checks (device_of c cpu) (slot_of found) (table_of found)
+      small (info_checks (device_of c cpu) (table_slot_of found) (table_of found)
       (asked_target c (table_of found) cpu (ask_in cmd)) cmd payload)
       (omega arith, (omega arith, (omega arith, by (ask_in cmd))))
     where
-      by : (o : Option Ask) → AreSmall (checks_of_reply (device_of c cpu) (slot_of found) (table_of found)
+      by : (o : Option Ask) → AreSmall (checks_of_reply (device_of c cpu) (table_slot_of found) (table_of found)
           (asked_target c (table_of found) cpu (ask_in cmd)) o cmd)
       by None = tt
       by (Some ask) = (omega arith, (omega arith, tt))

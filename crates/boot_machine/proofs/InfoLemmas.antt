@@ -16,7 +16,7 @@ use Rattle.info_reply.specs.Asks.{ask_in, asked, reply_checks}
 use Rattle.info_reply.specs.Statuses.{checks_of_reply}
 use Rattle.info_reply.proofs.AskingLemmas.{asks, err-parts, ok-parts, refused}
 use Rattle.boot_rules.specs.declared.tables.Found.{Found}
-use Rattle.boot_machine.specs.Serving.{asked_target, device_of, info_reply, info_status, info_words, slot_of, table_of}
+use Rattle.boot_machine.specs.Serving.{asked_target, device_of, info_reply, info_status, info_words, table_slot_of, table_of}
 
 module _ (c : Content) (cpu : Cpu) (found : Option Found) (cmd : Cmd) (payload : List ℕ) where
   abbrev size : Bool
@@ -38,20 +38,20 @@ module _ (c : Content) (cpu : Cpu) (found : Option Found) (cmd : Cmd) (payload :
       let moved = ap (λ o. first_failing (reply_checks (table_of found) ask
       (info_words c cpu found o) cmd)) (ask-in ask is) in
       same ∙ whole ∙ sym
-      (asks size transfer (ask_in cmd) (λ o. checks_of_reply (device_of c cpu) (slot_of found) (table_of found)
+      (asks size transfer (ask_in cmd) (λ o. checks_of_reply (device_of c cpu) (table_slot_of found) (table_of found)
       target o cmd) ask is)
     where
       whole : first_failing (reply_checks (table_of found) ask (info_words c cpu found (Some ask)) cmd)
-          ≡ first_failing (checks_of_reply (device_of c cpu) (slot_of found) (table_of found)
+          ≡ first_failing (checks_of_reply (device_of c cpu) (table_slot_of found) (table_of found)
           (asked_target c (table_of found) cpu (ask_in cmd)) (Some ask) cmd)
-      whole = ap (λ o. first_failing (checks_of_reply (device_of c cpu) (slot_of found) (table_of found)
+      whole = ap (λ o. first_failing (checks_of_reply (device_of c cpu) (table_slot_of found) (table_of found)
           (asked_target c (table_of found) cpu o) (Some ask) cmd)) (sym (ask-in ask is))
 
   -- and that of a refused one is the first of its checks
   pub status-refused : (status : ℕ) → asked cmd payload ≡ Err status → status ≡ info_status c cpu found cmd payload
   unfolding info_status
   status-refused status is =
-      sym (refused size transfer (ask_in cmd) (λ o. checks_of_reply (device_of c cpu) (slot_of found) (table_of found)
+      sym (refused size transfer (ask_in cmd) (λ o. checks_of_reply (device_of c cpu) (table_slot_of found) (table_of found)
       (asked_target c (table_of found) cpu (ask_in cmd)) o cmd) status is)
 
   -- the reply of what is asked for

@@ -53,7 +53,7 @@ module _ {B : Type 0} where
     ram = p.ram;
     cpu = p.cpu;
     state = p.state;
-    slot = p.slot;
+    membership = p.membership;
     found = p.found;
   }
 

@@ -15,7 +15,7 @@ use Rattle.boot_machine.specs.declared.parts.Parts.{Parts}
 use Rattle.boot_machine.specs.declared.state.State.TheVariants.{Off, Bootsel, Running}
 use Rattle.boot_machine.specs.Machines.{Host, Placing}
 use Rattle.boot_machine.specs.Serving.{line_only, with_ram}
-use Rattle.boot_machine.specs.Standing.{Carries, HasRoom, IsHost, IsLeft, IsRamStart, IsServed, IsSteady, is_bootsel, is_on, slot_of}
+use Rattle.boot_machine.specs.Standing.{Carries, HasRoom, IsHost, IsLeft, IsRamStart, IsServed, IsSteady, is_bootsel, is_on, membership_of}
 use Rattle.boot_machine.proofs.CarriedLemmas.{carried}
 use Rattle.boot_machine.proofs.RoomLemmas.{room-kept}
 
@@ -35,7 +35,7 @@ module _ {B : Type 0} where
     ram = ram;
     cpu = p.cpu;
     state = p.state;
-    slot = p.slot;
+    membership = p.membership;
     found = p.found;
   }
 
@@ -48,7 +48,7 @@ module _ {B : Type 0} where
     ram = p.ram;
     cpu = p.cpu;
     state = p.state;
-    slot = p.slot;
+    membership = p.membership;
     found = p.found;
   }
 
@@ -140,7 +140,7 @@ module _ {B : Type 0} where
       carries = (None, start.none);
       idle = λ off. start.none;
       found = λ on. let no : false ≡ true = ap is_bootsel (sym start.runs.state) ∙ on in cc no;
-      held = λ choice run. let no : None ≡ Some (slot_of choice) = sym start.runs.slot ∙ run.slot in cc no;
+      held = λ choice run. let no : None ≡ Some (membership_of choice) = sym start.runs.membership ∙ run.membership in cc no;
     }
 
     module _ (history : B → List Step → Type 0) where

@@ -61,9 +61,9 @@ abbrev pub table_of : Option Found → Option Table
 table_of found = option_map (λ (f : Found). f.table) found
 
 -- the slot of the table that was found, 0 where there is none
-abbrev pub slot_of : Option Found → ℕ
-slot_of None = 0
-slot_of (Some f) = f.slot
+abbrev pub table_slot_of : Option Found → ℕ
+table_slot_of None = 0
+table_slot_of (Some f) = f.slot
 
 -- the host with other bytes in the SRAM
 abbrev pub with_ram : Host → List ℕ → Host
@@ -93,13 +93,13 @@ asked_target c t cpu (Some (asks.Partition i)) = None
 abbrev pub info_words : Content → Cpu → Option Found → Option Ask → List ℕ
 info_words c cpu found None = []
 info_words c cpu found (Some ask) =
-    info_of (device_of c cpu) (slot_of found) (table_of found)
+    info_of (device_of c cpu) (table_slot_of found) (table_of found)
     (asked_target c (table_of found) cpu (Some ask)) ask
 
 -- an info command: its status and its reply
 unfoldable pub info_status : Content → Cpu → Option Found → Cmd → List ℕ → ℕ
 info_status c cpu found cmd payload =
-    first_failing (info_checks (device_of c cpu) (slot_of found) (table_of found)
+    first_failing (info_checks (device_of c cpu) (table_slot_of found) (table_of found)
     (asked_target c (table_of found) cpu (ask_in cmd)) cmd payload)
 
 unfoldable pub info_reply : ℕ → Content → Cpu → Option Found → Cmd → List ℕ

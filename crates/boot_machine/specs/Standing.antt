@@ -24,7 +24,7 @@ use Rattle.boot_rules.specs.declared.tables.Found.{Found}
 use Rattle.boot_script.specs.Events.{Happening}
 use Rattle.boot_machine.specs.declared.state.State.{State}
 use Rattle.boot_machine.specs.declared.state.State.TheVariants as states
-use Rattle.boot_machine.specs.declared.state.Slot.{Slot}
+use Rattle.boot_machine.specs.declared.state.Membership.{Membership}
 use Rattle.boot_machine.specs.declared.parts.Parts.{Parts}
 use Rattle.boot_machine.specs.Machines.{Machine, Host, Placing, Place, Off, InBootsel, Running, FromFlash, FromRam}
 use Rattle.ram_start.specs.Sram.{zero_ram}
@@ -67,8 +67,8 @@ is_running states.Bootsel = false
 is_running (states.Running image) = true
 
 -- where a choice stands in its unit
-abbrev pub slot_of : Choice → Slot
-slot_of choice =
+abbrev pub membership_of : Choice → Membership
+membership_of choice =
     record { member = choice.member; other = choice.other; updated = choice.updated }
 
 -- the download stands for the placing, or there is none
@@ -85,14 +85,14 @@ module _ {B : Type 0} where
     pub ram : host.ram ≡ p.ram
 
   -- the parts of a machine that runs an image
-  pub record IsRunning (p : Parts B) (image : Started) (from : Option Slot) : Type 0 where
+  pub record IsRunning (p : Parts B) (image : Started) (from : Option Membership) : Type 0 where
     pub state : p.state ≡ states.Running image
-    pub slot : p.slot ≡ from
+    pub membership : p.membership ≡ from
 
   abbrev pub StandsAt : Parts B → Place → Type 0
   StandsAt p Off = p.state ≡ states.Off
   StandsAt p (InBootsel host) = IsHost p host
-  StandsAt p (Running (FromFlash choice)) = IsRunning p choice.image (Some (slot_of choice))
+  StandsAt p (Running (FromFlash choice)) = IsRunning p choice.image (Some (membership_of choice))
   StandsAt p (Running (FromRam image)) = IsRunning p image None
 
   -- the parts as they are once this choice runs
@@ -104,7 +104,7 @@ module _ {B : Type 0} where
     ram = p.ram;
     cpu = p.cpu;
     state = states.Running choice.image;
-    slot = Some (slot_of choice);
+    membership = Some (membership_of choice);
     found = p.found;
   }
 
@@ -117,7 +117,7 @@ module _ {B : Type 0} where
     ram = zero_ram;
     cpu = p.cpu;
     state = states.Bootsel;
-    slot = None;
+    membership = None;
     found = found;
   }
 
@@ -130,7 +130,7 @@ module _ {B : Type 0} where
     ram = p.ram;
     cpu = p.cpu;
     state = states.Off;
-    slot = p.slot;
+    membership = p.membership;
     found = p.found;
   }
 
@@ -143,7 +143,7 @@ module _ {B : Type 0} where
     ram = p.ram;
     cpu = p.cpu;
     state = p.state;
-    slot = p.slot;
+    membership = p.membership;
     found = p.found;
   }
 
@@ -188,7 +188,7 @@ module _ {B : Type 0} where
       pub idle : is_bootsel p.state ≡ false → p.download.current ≡ None
       pub found : is_bootsel p.state ≡ true → ForSome p.found
           (λ f. IsSoundTable f.table (length (state p.board).content.flash / 4096))
-      pub held : (choice : Choice) → IsRunning p choice.image (Some (slot_of choice))
+      pub held : (choice : Choice) → IsRunning p choice.image (Some (membership_of choice))
           → IsHeld (state p.board).content p.cpu choice
 
     module _ (history : B → List Step → Type 0) where

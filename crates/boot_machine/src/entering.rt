@@ -9,7 +9,7 @@ ghost use Rattle.boot_machine.specs.Standing.{Comes, HasRoom, IsDropped, IsLeft,
 
 use crate::booting::boot;
 use crate::parts::Parts;
-use crate::state::{Slot, State};
+use crate::state::{Membership, State};
 use arrayvec::ArrayString;
 use boot_lines::set_text;
 use boot_rules::{Choice, find_table};
@@ -19,7 +19,7 @@ use pico_board::{Board, BootKind, PowerLost};
 pub fn run<B: Board>(parts: &mut Parts<B>, choice: Choice)
     ensures { parts.new ≡ running parts.old choice }
 {
-    parts.slot = Some(Slot {
+    parts.membership = Some(Membership {
         member: choice.member,
         other: choice.other,
         updated: choice.updated,
@@ -34,7 +34,7 @@ pub fn enter_bootsel<B: Board>(parts: &mut Parts<B>)
 {
     parts.found = find_table(&parts.board);
     parts.ram.clear();
-    parts.slot = None;
+    parts.membership = None;
     parts.state = State::Bootsel;
 }
 

@@ -2,7 +2,7 @@
 
 ghost use Rattle.std.specs.Prelude.{◌≡◌, ◌/◌, ◌<◌, None, Option, Some};
 ghost use Rattle.std.specs.Option.{option_map};
-ghost use Rattle.boot_machine.specs.Serving.{slot_of, table_of};
+ghost use Rattle.boot_machine.specs.Serving.{table_slot_of, table_of};
 
 use boot_rules::Found;
 use part_table::Table;
@@ -18,8 +18,8 @@ pub fn table_of(found: &Option<Found>) -> Option<&Table>
 }
 
 /// The slot of the table that was found, 0 where there is none.
-pub fn slot_of(found: &Option<Found>) -> u32
-    ensures { result ≡ slot_of found.now }
+pub fn table_slot_of(found: &Option<Found>) -> u32
+    ensures { result ≡ table_slot_of found.now }
 {
     match found {
         Some(found) => found.slot,

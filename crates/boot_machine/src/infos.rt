@@ -11,9 +11,9 @@ ghost use Rattle.info_reply.specs.declared.kinds.TheConstants.{INFO as INFO_ID};
 ghost use Rattle.picoboot_cmd.specs.Checks.{first_failing};
 ghost use Rattle.block_codec.specs.Words.{bytes_of};
 ghost use Rattle.info_reply.specs.Asks.{reply_checks};
-ghost use Rattle.boot_machine.specs.Serving.{info_words, asked_target, device_of, info_reply, info_status, info_text, slot_of, table_of};
+ghost use Rattle.boot_machine.specs.Serving.{info_words, asked_target, device_of, info_reply, info_status, info_text, table_slot_of, table_of};
 
-use crate::found::{slot_of, table_of};
+use crate::found::{table_slot_of, table_of};
 use arrayvec::ArrayString;
 use boot_lines::set_answer;
 use boot_rules::{Found, Target, target};
@@ -91,7 +91,7 @@ fn put_info<B: Board>(
         cmd,
         &ask,
         &device,
-        slot_of(found),
+        table_slot_of(found),
         table,
         target.as_ref(),
         reply,

@@ -56,7 +56,7 @@ impl<B: Bench> Machine<B> {
                 ram,
                 cpu,
                 state: State::Off,
-                slot: None,
+                membership: None,
                 found: None,
             },
         }
@@ -80,7 +80,7 @@ impl<B: Bench> Machine<B> {
             ram,
             cpu,
             state: State::Off,
-            slot: None,
+            membership: None,
             found: None,
         };
         enter_bootsel(&mut parts);

@@ -1,6 +1,6 @@
 //! The parts of a machine.
 
-use crate::state::{Slot, State};
+use crate::state::{Membership, State};
 use boot_rules::Found;
 use pico_board::{Board, Cpu};
 use ram_start::Ram;
@@ -23,7 +23,7 @@ pub struct Parts<B: Board> {
     /// What the machine is doing.
     pub state: State,
     /// Where the running image stands, where it was started from flash.
-    pub slot: Option<Slot>,
+    pub membership: Option<Membership>,
     /// The partition table that was found when BOOTSEL was entered.
     pub found: Option<Found>,
 }

@@ -7,7 +7,7 @@ ghost use Rattle.boot_machine.specs.Boots.{booted, decided_place, decided_steps,
 ghost use Rattle.boot_machine.specs.Machines.{FromFlash, FromRam, Host, InBootsel, Machine, Off, Program, Running};
 ghost use Rattle.boot_machine.specs.Moves.{armed_for, effect, effect_in, stays};
 ghost use Rattle.boot_machine.specs.Examples.{running};
-ghost use Rattle.boot_machine.specs.Serving.{is_hosted, slot_of};
+ghost use Rattle.boot_machine.specs.Serving.{is_hosted, table_slot_of};
 ghost use Rattle.boot_machine.specs.Standing.{is_bootsel, is_on, is_running};
 ghost use Rattle.boot_machine.specs.declared.state.State.TheVariants.{Bootsel as Serves, Off as Unpowered, Running as Runs};
 ghost use Rattle.boot_rules.specs.Choosing.{decision_in};
@@ -140,6 +140,6 @@ pub fn events_of_a_host()
 
 /// The slot of the table that was found is told, and 0 where there is none.
 pub fn slots_of_tables()
-    ensures found { slot_of (Some (found_in 1 guarded_table)) ≡ 1 }
-    ensures none { slot_of None ≡ 0 }
+    ensures found { table_slot_of (Some (found_in 1 guarded_table)) ≡ 1 }
+    ensures none { table_slot_of None ≡ 0 }
 {}

@@ -61,7 +61,7 @@ fn run_ram<B: Board>(parts: &mut Parts<B>, image: Started)
     ensures { IsRamStart parts.old image parts.new }
 {
     drop_download(parts);
-    parts.slot = None;
+    parts.membership = None;
     parts.state = State::Running(image);
 }
 

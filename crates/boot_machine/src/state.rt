@@ -17,7 +17,7 @@ pub enum State {
 
 /// Where an image that was started from flash stands in its unit.
 #[derive(Clone, Copy, PartialEq, Eq, Debug)]
-pub struct Slot {
+pub struct Membership {
     /// The member, A where the unit is no pair.
     pub member: Member,
     /// The window of the other member, where the unit is a pair.

@@ -8,7 +8,7 @@ ghost use Rattle.boot_machine.specs.Serving.{is_hosted};
 ghost use Rattle.boot_script.specs.Events.{Happening, IsWritable, event_from};
 ghost use Rattle.boot_machine.specs.Machines.{FromFlash, Machine};
 ghost use Rattle.boot_machine.specs.Moves.{bought, buy_effect, reset};
-ghost use Rattle.boot_machine.specs.Standing.{Advances, Comes, HasRoom, IsHeld, IsRunning, IsStep, IsSteady, Stands, is_running, powerless, slot_of};
+ghost use Rattle.boot_machine.specs.Standing.{Advances, Comes, HasRoom, IsHeld, IsRunning, IsStep, IsSteady, Stands, is_running, powerless, membership_of};
 ghost use Rattle.boot_machine.specs.declared.state.State.TheVariants.{Off as POWERLESS, Bootsel as SERVING};
 
 use crate::entering::{boot_into, lose, run};
@@ -118,22 +118,22 @@ fn buy_choice<B: Board>(parts: &mut Parts<B>, choice: Choice, line: &mut ArraySt
 
 /// Takes the choice that runs out of the parts, where an image from flash runs.
 fn take_choice<B: Board>(parts: &mut Parts<B>) -> Option<Choice>
-    ensures taken { (choice : Choice) → IsRunning parts.old choice.image (Some (slot_of choice))
+    ensures taken { (choice : Choice) → IsRunning parts.old choice.image (Some (membership_of choice))
         → result ≡ Some choice }
-    ensures some { IfSome result (λ choice. IsRunning parts.old choice.image (Some (slot_of choice))
+    ensures some { IfSome result (λ choice. IsRunning parts.old choice.image (Some (membership_of choice))
         × (parts.new ≡ powerless parts.old)) }
     ensures none { result ≡ None → parts.new ≡ parts.old }
 {
-    let slot = match parts.slot {
-        Some(slot) => slot,
+    let membership = match parts.membership {
+        Some(membership) => membership,
         None => return None,
     };
     match mem::replace(&mut parts.state, State::Off) {
         State::Running(image) => Some(Choice {
             image,
-            member: slot.member,
-            other: slot.other,
-            updated: slot.updated,
+            member: membership.member,
+            other: membership.other,
+            updated: membership.updated,
         }),
         other => {
             parts.state = other;

@@ -17,7 +17,7 @@ returns-in-Ok-None-clause-steady g c =
       ram = mid.ram;
       cpu = mid.cpu;
       state = mid.state;
-      slot = mid.slot;
+      membership = mid.membership;
       found = mid.found;
     } in
     steady-entered g.B.Board.state parts c.enter_bootsel.new.parts c.enter_bootsel.ensures

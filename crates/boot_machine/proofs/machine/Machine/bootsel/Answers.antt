@@ -14,7 +14,7 @@ invariant_of-result g c =
       ram = c.args.ram;
       cpu = c.args.cpu;
       state = Off;
-      slot = None;
+      membership = None;
       found = None;
     } in
     steady-entered g.B.Board.state parts _ c.enter_bootsel.ensures c.requires.power c.requires.none
