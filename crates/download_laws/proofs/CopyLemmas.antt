@@ -4,6 +4,7 @@ use Rattle.std.specs.Prelude.{not}
 use Rattle.std.specs.List.{AllByRecursion, flat_map}
 use Rattle.std.proofs.Math.Seq.{drop-append_seam, take-append_seam}
 use Rattle.std.proofs.lemmas.Bool.Decides.{nat_tests}
+use Rattle.pico_board.specs.declared.window.TheConstants.{MOST_FLASH_BYTES}
 use Rattle.pico_board.specs.declared.boot.BootKind.TheVariants.{Bootsel}
 use Rattle.pico_board.specs.declared.boot.Cpu.{Cpu}
 use Rattle.pico_board.specs.Content.{Content}
@@ -88,7 +89,7 @@ module _ (c : Content) (cpu : Cpu) (family : ℕ) (target : Target) (image : Lis
   whole : HasWholeSectors target.window
   whole = record { start = stands.starts; len = stands.whole; some = stands.some }
 
-  few : length image ≤ 16777216
+  few : length image ≤ MOST_FLASH_BYTES
   few =
       let inside = stands.inside in
       let most = is.right.flash_length.most in

@@ -3,6 +3,7 @@ use Rattle.std.proofs.Common.{◌≡◌, ◌≢◌, ℕ, ◌+◌, ◌*◌, ◌/�
 use Rattle.std.specs.Prelude.{if◌then◌else◌}
 use Rattle.std.specs.List.{AllByRecursion}
 use Rattle.std.proofs.lemmas.Bool.Decides.{nat_tests}
+use Rattle.pico_board.specs.declared.window.TheConstants.{MOST_FLASH_BYTES}
 use Rattle.pico_board.specs.declared.Step.{Step}
 use Rattle.pico_board.specs.declared.Window.{Window}
 use Rattle.pico_board.specs.declared.boot.Cpu.{Cpu}
@@ -77,7 +78,7 @@ module _ (c : Content) (cpu : Cpu) (family : ℕ) (target : Target) (image : Lis
   whole : HasWholeSectors w
   whole = record { start = stands.starts; len = stands.whole; some = stands.some }
 
-  few : length image ≤ 16777216
+  few : length image ≤ MOST_FLASH_BYTES
   few =
       let inside = stands.inside in
       let most = is.right.flash_length.most in

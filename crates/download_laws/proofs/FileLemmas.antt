@@ -2,6 +2,7 @@
 use Rattle.std.proofs.Common.{◌≡◌, ℕ, zero, suc, ◌+◌, ◌^◌, ◌<◌, ◌≤◌, nat_eq, List, ◌∷◌, length, map, refl, sym, ap, subst, arith}
 use Rattle.std.specs.List.{AllByRecursion, IsDistinct, range_with_len}
 use Rattle.std.proofs.lemmas.List.FromFn.{length-map-range_with_len}
+use Rattle.pico_board.specs.declared.window.TheConstants.{MOST_FLASH_BYTES}
 use Rattle.part_table.specs.declared.Target.{Target}
 use Rattle.uf2_place.specs.declared.block.Uf2.{Uf2}
 use Rattle.uf2_place.specs.Files.{file_block, file_blocks, page_count}
@@ -21,7 +22,7 @@ numbers : (image : List ℕ) (family a n : ℕ)
 numbers image family a zero = refl
 numbers image family a (suc n) = ap (λ ns. a ∷ ns) (numbers image family (a + 1) n)
 
-module _ (image : List ℕ) (family : ℕ) (few : length image ≤ 16777216) (low : family < 2 ^ 32) where
+module _ (image : List ℕ) (family : ℕ) (few : length image ≤ MOST_FLASH_BYTES) (low : family < 2 ^ 32) where
   abbrev pub count : ℕ
   count = page_count (length image)
 

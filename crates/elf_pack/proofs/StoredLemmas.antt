@@ -4,6 +4,7 @@ use Rattle.std.specs.List.{AllByRecursion, flat_map}
 use Rattle.std.proofs.lemmas.List.{get_or-append-add, get_or_append_left, length-replicate, take_all, take_at}
 use Rattle.std.proofs.lemmas.List.Edits.{get_or-between, length-between}
 use Rattle.std.proofs.lemmas.Option.{none-some, same_Some}
+use Rattle.pico_board.specs.declared.window.TheConstants.{MOST_FLASH_BYTES}
 use Rattle.pico_board.specs.declared.boot.Cpu.{Cpu}
 use Rattle.block_codec.specs.Blocks.{BlockAt, BlockView, IsBlock, block_size, frame}
 use Rattle.block_codec.specs.Words.{AreWords, bytes_of}
@@ -152,7 +153,7 @@ block-padded cpu entry xs few items written filled one two three =
     (omega (arith, block_long cpu entry xs few, few))
 
 entries-words : (at : ℕ) (xs : List Segment) → AllByRecursion IsInSram xs
-    → at + 532484 * length xs ≤ 16777216 → AreWords (flat_map (entry_words 20) (loads_from at xs))
+    → at + 532484 * length xs ≤ MOST_FLASH_BYTES → AreWords (flat_map (entry_words 20) (loads_from at xs))
 entries-words at [] sram room = tt
 entries-words at (s ∷ xs) sram room = (
   place_small 20 (Some at) (omega arith) (omega (arith, room)),

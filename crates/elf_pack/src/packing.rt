@@ -1,6 +1,7 @@
 //! ELF files to binaries and to sealed images.
 
 ghost use Rattle.std.specs.Prelude.{◌≡◌, ◌≤◌, ◌++◌, ◌⊎◌, IfErr, IfOk, IsErrOf, None, OnErr, OnOk, Some, length};
+ghost use Rattle.pico_board.specs.declared.window.TheConstants.{MOST_FLASH_BYTES};
 ghost use Rattle.image_pack.specs.Faults.{IsSealed, block_offset};
 ghost use Rattle.image_pack.specs.ReadBack.{IsHalves};
 ghost use Rattle.image_pack.specs.Sealing.{sealed_text};
@@ -57,7 +58,7 @@ fn binary_of(alloc: Global, elf: &[u8], cpu: Cpu, found: &[Segment]) -> Result<V
     requires found { found.now ≡ segments elf.now }
     requires right { HasBinary cpu elf.now }
     ensures value { IfOk result (λ binary. binary.items ≡ elf_binary cpu elf.now) }
-    ensures small { IfOk result (λ binary. length binary.items ≤ 16777216) }
+    ensures small { IfOk result (λ binary. length binary.items ≤ MOST_FLASH_BYTES) }
 {
     if are_in_flash(found) {
         flash_binary(alloc, elf, found)
@@ -69,7 +70,7 @@ fn binary_of(alloc: Global, elf: &[u8], cpu: Cpu, found: &[Segment]) -> Result<V
 /// The binary of a file, or its first fault.
 fn made_binary(alloc: Global, elf: &[u8], cpu: Cpu) -> Result<Vec<u8>, ElfFault>
     ensures value { IfOk result (λ binary. binary.items ≡ elf_binary cpu elf.now) }
-    ensures small { IfOk result (λ binary. length binary.items ≤ 16777216) }
+    ensures small { IfOk result (λ binary. length binary.items ≤ MOST_FLASH_BYTES) }
     ensures right { OnOk result (HasBinary cpu elf.now) }
     ensures fault { IfErr result
         (λ e. IsElfFault cpu elf.now e ⊎ (e ≡ ElfFault.Memory)) }
@@ -87,7 +88,7 @@ fn made_binary(alloc: Global, elf: &[u8], cpu: Cpu) -> Result<Vec<u8>, ElfFault>
 /// The same, with each fault told exactly where its condition holds.
 fn whole_binary(alloc: Global, elf: &[u8], cpu: Cpu) -> Result<Vec<u8>, ElfFault>
     ensures value { IfOk result (λ binary. binary.items ≡ elf_binary cpu elf.now) }
-    ensures small { IfOk result (λ binary. length binary.items ≤ 16777216) }
+    ensures small { IfOk result (λ binary. length binary.items ≤ MOST_FLASH_BYTES) }
     ensures right { OnOk result (HasBinary cpu elf.now) }
     ensures fault { IfErr result
         (λ e. IsElfFault cpu elf.now e ⊎ (e ≡ ElfFault.Memory)) }

@@ -2,6 +2,7 @@
 
 ghost use Rattle.std.specs.Prelude.{◌≡◌, ◌+◌, ◌-◌, ◌≤◌, ◌++◌, IfOk, length, take, drop, replicate, []};
 ghost use Rattle.std.specs.List.{AllByRecursion};
+ghost use Rattle.pico_board.specs.declared.window.TheConstants.{MOST_FLASH_BYTES};
 ghost use Rattle.pico_board.specs.Content.{flash_base};
 ghost use Rattle.elf_pack.specs.Binaries.{FitsIn, flash_binary, flash_bytes, greatest_end};
 ghost use Rattle.elf_pack.specs.Faults.{IsInFlash};
@@ -67,7 +68,7 @@ pub(crate) fn flash_binary(
     requires in_flash { AllByRecursion IsInFlash segments.now }
     requires inside { AllByRecursion (λ s. s.offset + s.size ≤ length elf.now) segments.now }
     ensures value { IfOk result (λ bytes. bytes.items ≡ flash_binary elf.now segments.now) }
-    ensures small { IfOk result (λ bytes. length bytes.items ≤ 16777216) }
+    ensures small { IfOk result (λ bytes. length bytes.items ≤ MOST_FLASH_BYTES) }
 {
     let count = (greatest_end(segments) - FLASH_BASE) as usize;
     let mut bytes = erased(alloc, count)?;

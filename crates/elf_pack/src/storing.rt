@@ -2,6 +2,7 @@
 
 ghost use Rattle.std.specs.Prelude.{◌≡◌, ◌+◌, ◌*◌, ◌≤◌, ◌++◌, IfOk, OnOk, length, pos};
 ghost use Rattle.std.specs.List.{AllByRecursion, flat_map};
+ghost use Rattle.pico_board.specs.declared.window.TheConstants.{MOST_FLASH_BYTES};
 ghost use Rattle.block_codec.specs.Blocks.{frame};
 ghost use Rattle.block_codec.specs.Words.{bytes_of};
 ghost use Rattle.image_pack.specs.Filling.{padded, round_up, whole_words};
@@ -70,7 +71,7 @@ fn front_words(cpu: Cpu, entry: u32) -> Words
 /// Appends the load map entries of segments that are stored from this offset on.
 fn put_entries(words: &mut Words, at: u32, segments: &[Segment])
     requires room { length words.old.items + 3 * length segments.now ≤ 92 }
-    requires place { at + 532484 * length segments.now ≤ 16777216 }
+    requires place { at + 532484 * length segments.now ≤ MOST_FLASH_BYTES }
     requires in_sram { AllByRecursion IsInSram segments.now }
     ensures { words.new.items
         ≡ words.old.items ++ flat_map (entry_words 20) (loads_from at segments.now) }
@@ -134,7 +135,7 @@ fn sram_block(
 fn put_segment(bytes: &mut Vec<u8>, elf: &[u8], segment: &Segment) -> Result<(), AllocError>
     requires inside { segment.now.offset + segment.now.size ≤ length elf.now }
     requires in_sram { IsInSram segment.now }
-    requires small { length bytes.old.items ≤ 16777216 }
+    requires small { length bytes.old.items ≤ MOST_FLASH_BYTES }
     ensures items { OnOk result (bytes.new.items
         ≡ bytes.old.items ++ whole_words (segment_bytes elf.now segment.now)) }
     ensures len { OnOk result (length bytes.new.items ≤ length bytes.old.items + 532484) }
@@ -160,7 +161,7 @@ pub(crate) fn sram_binary(
     requires in_sram { AllByRecursion IsInSram segments.now }
     requires inside { AllByRecursion (λ s. s.offset + s.size ≤ length elf.now) segments.now }
     ensures value { IfOk result (λ bytes. bytes.items ≡ sram_binary cpu elf.now segments.now) }
-    ensures small { IfOk result (λ bytes. length bytes.items ≤ 16777216) }
+    ensures small { IfOk result (λ bytes. length bytes.items ≤ MOST_FLASH_BYTES) }
 {
     let mut bytes = sram_block(alloc, cpu, entry, segments)?;
     for segment in segments {

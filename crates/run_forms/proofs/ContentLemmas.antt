@@ -2,6 +2,7 @@
 use Rattle.std.proofs.Common.{ℕ, ◌≡◌, ◌+◌, ◌-◌, ◌*◌, ◌/◌, ◌%◌, ◌^◌, ◌<◌, ◌≤◌, max, List, [], ◌++◌, length, replicate, All, refl, sym, ◌∙◌, ap, subst, arith}
 use Rattle.std.proofs.lemmas.List.{append-nil, length-append, length-replicate}
 use Rattle.std.proofs.lemmas.List.Elements.{All-append, All-replicate, recursion_from_All}
+use Rattle.pico_board.specs.declared.window.TheConstants.{MOST_FLASH_BYTES}
 use Rattle.pico_board.specs.Content.{Content, IsContent, IsFlashLength}
 use Rattle.block_codec.specs.Words.{bytes_of, words_of, AreWords}
 use Rattle.block_codec.proofs.WordLemmas.{words_of-append, length-bytes_of, length-words_of}
@@ -80,7 +81,7 @@ filled-bytes flash small =
     All-append (λ b. b < 256) flash (replicate (filled_length (length flash) - length flash) 255) small
     (All-replicate (λ b. b < 256) (filled_length (length flash) - length flash) 255 (omega arith))
 
-filled-whole : (flash : List ℕ) → length flash ≤ 16777216 → IsFlashLength (length (filled flash))
+filled-whole : (flash : List ℕ) → length flash ≤ MOST_FLASH_BYTES → IsFlashLength (length (filled flash))
 filled-whole flash few =
     let long = filled-long flash in record { whole = omega arith; least = omega arith; most = omega arith }
 

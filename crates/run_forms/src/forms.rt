@@ -1,6 +1,7 @@
 //! The forms of input files, and the board that two of them give.
 
 ghost use Rattle.std.specs.Prelude.{◌≡◌, ◌+◌, ◌-◌, ◌*◌, ◌/◌, ◌≤◌, ◌++◌, replicate, length, slice_index, IfOk, OnOk, option_map, string_bytes};
+ghost use Rattle.pico_board.specs.declared.window.TheConstants.{MOST_FLASH_BYTES};
 ghost use Rattle.pico_board.specs.Content.{IsFlashLength};
 ghost use Rattle.pico_board.specs.MemBoard.{state_of, new_state};
 ghost use Rattle.boot_script.specs.Events.{event_from};
@@ -209,7 +210,7 @@ pub fn form_fault(alloc: Global, form: Form, file: &[u8]) -> Result<Option<Strin
 
 /// The length of the flash that a file of this many bytes gives.
 fn whole_sectors(length: usize) -> usize
-    requires { length ≤ 16777216 }
+    requires { length ≤ MOST_FLASH_BYTES }
     ensures value { result ≡ filled_length length }
     ensures room { length ≤ result }
     ensures flash { IsFlashLength result }
@@ -221,7 +222,7 @@ fn whole_sectors(length: usize) -> usize
 /// out.
 #[tactic(auto, unfolding(crate::specs::Forms::filled))]
 fn fill(flash: &mut Vec<u8>) -> Result<(), AllocError>
-    requires { length flash.old.items ≤ 16777216 }
+    requires { length flash.old.items ≤ MOST_FLASH_BYTES }
     ensures filled { OnOk result (flash.new.items ≡ filled flash.old.items) }
     ensures whole { OnOk result (IsFlashLength (length flash.new.items)) }
 {

@@ -1,6 +1,7 @@
 -- What a plan writes of an image is valid in its slot, and a sealed image is firm there.
 use Rattle.std.proofs.Common.{◌≡◌, ℕ, ◌+◌, ◌/◌, ◌%◌, ◌<◌, ◌≤◌, Bool, true, false, List, [], ◌∷◌, All, length, Some, Ok, refl, sym, ◌∙◌, subst, arith}
 use Rattle.std.proofs.lemmas.List.Elements.{All-from_get_or}
+use Rattle.pico_board.specs.declared.window.TheConstants.{MOST_FLASH_BYTES}
 use Rattle.pico_board.specs.declared.Step.{Step}
 use Rattle.pico_board.specs.declared.boot.Cpu.{Cpu}
 use Rattle.pico_board.specs.declared.window.Window.{Window}
@@ -78,7 +79,7 @@ module _ (says : KnownSession) (c : Content) (by : Cpu) (w : Window) (image : Li
   pub whole : w.len % 4096 ≡ 0
   whole = slot.placed.whole
 
-  pub most : w.len ≤ 16777216
+  pub most : w.len ≤ MOST_FLASH_BYTES
   most = let all = right.flash_length.most in omega (arith, inside, all)
 
   pub was : length (window_bytes c w) ≡ w.len

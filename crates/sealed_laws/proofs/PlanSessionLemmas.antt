@@ -2,6 +2,7 @@
 use Rattle.std.proofs.Common.{◌≡◌, ◌⊎◌, inl, inr, ℕ, ◌+◌, ◌*◌, ◌/◌, ◌%◌, ◌<◌, ◌≤◌, Bool, true, false, List, [], ◌∷◌, ◌++◌, length, take, get_or, Result, Ok, refl, sym, ap, ◌∙◌, arith}
 use Rattle.std.proofs.lemmas.Bool.{cases_lt}
 use Rattle.std.proofs.lemmas.List.{drop_all, take_all}
+use Rattle.pico_board.specs.declared.window.TheConstants.{MOST_FLASH_BYTES}
 use Rattle.pico_board.specs.declared.Step.{Step}
 use Rattle.pico_board.specs.declared.Step.TheVariants.{Erase}
 use Rattle.pico_board.specs.declared.boot.Cpu.{Cpu}
@@ -54,7 +55,7 @@ module _ (known : Known) (says : KnownEvents) (c : Content) (cpu : Cpu) (w : Win
       let whole = right.flash_length.whole in
       omega (arith, in_sectors, whole)
 
-  low : w.start + w.len ≤ 16777216
+  low : w.start + w.len ≤ MOST_FLASH_BYTES
   low = let most = right.flash_length.most in omega (arith, inside, most)
 
   pub starts : w.start ≡ 4096 * (w.start / 4096)
@@ -63,7 +64,7 @@ module _ (known : Known) (says : KnownEvents) (c : Content) (cpu : Cpu) (w : Win
   pub whole : w.len % 4096 ≡ 0
   whole = slot.placed.whole
 
-  pub most : w.len ≤ 16777216
+  pub most : w.len ≤ MOST_FLASH_BYTES
   most = omega (arith, low)
 
   pub gated : Gated (session c cpu es) w

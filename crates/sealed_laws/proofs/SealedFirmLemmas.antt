@@ -2,6 +2,7 @@
 -- beside its loop.
 use Rattle.std.proofs.Common.{◌≡◌, ℕ, ◌+◌, ◌-◌, ◌%◌, ◌≤◌, true, List, ◌∷◌, ◌++◌, length, drop, refl, sym, ap, ◌∙◌, subst, arith, length-drop, length-take}
 use Rattle.std.specs.Prelude.{Contains, IsSome}
+use Rattle.pico_board.specs.declared.window.TheConstants.{MOST_FLASH_BYTES}
 use Rattle.pico_board.specs.declared.window.Window.{Window}
 use Rattle.pico_board.specs.Content.{Content, IsContent, window_bytes}
 use Rattle.block_codec.specs.Blocks.{BlockView}
@@ -69,7 +70,7 @@ module _ (binary : List ℕ) (spec : SealSpec) (sealed : IsSealed binary spec) (
       }
 
   -- and where a plan wrote it
-  module _ (w : Window) (old : List ℕ) (whole : w.len % 4096 ≡ 0) (most : w.len ≤ 16777216)
+  module _ (w : Window) (old : List ℕ) (whole : w.len % 4096 ≡ 0) (most : w.len ≤ MOST_FLASH_BYTES)
       (room : length (sealed_text binary spec) ≤ w.len) (was : length old ≡ w.len)
       (own : KeepsRules spec.cpu (whole_sectors binary)) (stored : AreStoredIn (block_offset binary) own.loads) where
     abbrev text : List ℕ
@@ -96,7 +97,7 @@ module _ (binary : List ℕ) (spec : SealSpec) (sealed : IsSealed binary spec) (
         → Firm c w spec.cpu (moved_to w sealed.started)
     firm-planned c is fits =
         let both = firm-planned-bytes c.otp fits in record {
-          valid = subst (λ bytes. IsValidImage in_flash w spec.cpu true c.otp bytes (moved_to w sealed.started)) (sym is)
-              both.0;
+          valid = subst (λ bytes. IsValidImage in_flash w spec.cpu true c.otp bytes (moved_to w sealed.started))
+              (sym is) both.0;
           firm = subst (λ bytes. IsFirm spec.cpu bytes (moved_to w sealed.started)) (sym is) both.1;
         }

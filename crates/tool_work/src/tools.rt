@@ -1,6 +1,7 @@
 //! The answers of the commands that make images and tables.
 
 ghost use Rattle.std.specs.Prelude.{◌≡◌, ◌≤◌, ◌++◌, codes, length, None, Some, Ok, Err, All, IfOk, IfErr, OnOk, string_bytes};
+ghost use Rattle.pico_board.specs.declared.window.TheConstants.{MOST_FLASH_BYTES};
 ghost use Rattle.part_table.specs.Written.{AgreesWithFlags, written, written_size};
 ghost use Rattle.image_pack.specs.Faults.{block_offset};
 ghost use Rattle.image_pack.specs.Sealing.{sealed_text};
@@ -133,7 +134,7 @@ fn sealed(
     binary: &[u8],
     spec: &SealSpec,
 ) -> Result<Result<(Vec<u8>, u32), SealError>, AllocError>
-    requires { length binary.now ≤ 16777216 }
+    requires { length binary.now ≤ MOST_FLASH_BYTES }
     ensures image { IfOk result (λ done. IfOk done (λ image. image.0.items
         ≡ sealed_text binary.now spec.now)) }
     ensures block { IfOk result (λ done. IfOk done (λ image. image.1 ≡ block_offset binary.now)) }

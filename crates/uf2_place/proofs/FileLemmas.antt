@@ -8,6 +8,7 @@ use Rattle.std.specs.List.{flat_map, range_with_len}
 use Rattle.std.proofs.lemmas.List.{take_min, length-drop, drop-replicate, append_assoc, append-nil, length-append, length-replicate, length-take}
 use Rattle.std.proofs.lemmas.List.Concat.{flat_map-append, flat_map-cons}
 use Rattle.std.proofs.lemmas.List.FromFn.{map-range_with_len_more, length-map-range_with_len, get_or-map-range_with_len}
+use Rattle.pico_board.specs.declared.window.TheConstants.{MOST_FLASH_BYTES}
 use Rattle.uf2_place.specs.declared.block.Uf2.{Uf2}
 use Rattle.uf2_place.specs.Files.{IsKept, page_count, file_block, file_bytes}
 
@@ -85,7 +86,7 @@ filled-size part n short =
     omega (arith, length-append part (replicate (n - length part) 255), length-replicate {A = ℕ} (n - length part) 255)
 
 -- the blocks of a file are ones that are read
-pub file_block-is : (image : List ℕ) (family i : ℕ) → length image ≤ 16777216 → family < 2 ^ 32
+pub file_block-is : (image : List ℕ) (family i : ℕ) → length image ≤ MOST_FLASH_BYTES → family < 2 ^ 32
     → i < page_count (length image) → IsUf2 (file_block image family i)
 file_block-is image family i few low inside = record {
   flags = omega arith;
@@ -99,7 +100,7 @@ file_block-is image family i few low inside = record {
       (omega (arith, length-take (256 * i + 256 - 256 * i) (drop (256 * i) image)));
 }
 
-pub file-piece : (image : List ℕ) (family i : ℕ) → length image ≤ 16777216 → family < 2 ^ 32
+pub file-piece : (image : List ℕ) (family i : ℕ) → length image ≤ MOST_FLASH_BYTES → family < 2 ^ 32
     → i < page_count (length image)
     → slice_range (file_bytes image family) (512 * i) (512 * i + 512) ≡ written (file_block image family i)
 file-piece image family i few low inside =

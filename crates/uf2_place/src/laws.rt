@@ -3,6 +3,7 @@
 ghost use Rattle.std.specs.Prelude.{◌≡◌, ◌≢◌, ◌↔◌, ℕ, ◌+◌, ◌*◌, ◌^◌, ◌<◌, ◌≤◌, ◌++◌, true, false, nat_eq, Contains, Err, Ok, None, Option, Some, List, length, slice_get, slice_range, take};
 ghost use Rattle.std.specs.List.{AllByRecursion};
 ghost use Rattle.std.specs.Set.{is_member};
+ghost use Rattle.pico_board.specs.declared.window.TheConstants.{MOST_FLASH_BYTES};
 ghost use Rattle.pico_board.specs.Sessions.{Gated};
 ghost use Rattle.sector_pool.specs.Pool.{Pool};
 ghost use Rattle.part_table.specs.Rights.{allowed_by};
@@ -44,7 +45,7 @@ pub fn what_a_block_is_read_of()
 
 /// Each block of the file of an image is read back.
 pub fn files_are_read()
-    ensures { (image : List ℕ) (family i : ℕ) → length image ≤ 16777216 → family < 2 ^ 32
+    ensures { (image : List ℕ) (family i : ℕ) → length image ≤ MOST_FLASH_BYTES → family < 2 ^ 32
         → i < page_count (length image)
         → uf2_of (slice_range (file_bytes image family) (512 * i) (512 * i + 512))
         ≡ Ok (file_block image family i) }

@@ -1,6 +1,7 @@
 //! The UF2 file of an image.
 
 ghost use Rattle.std.specs.Prelude.{◌≡◌, ◌↔◌, ℕ, ◌+◌, ◌*◌, ◌<◌, ◌≤◌, Ok, Err, OnErr, OnOk, ◌++◌, drop, length};
+ghost use Rattle.pico_board.specs.declared.window.TheConstants.{MOST_FLASH_BYTES};
 ghost use Rattle.uf2_place.specs.Blocks.{number_bytes, place_bytes, word_bytes, written};
 ghost use Rattle.uf2_place.specs.Files.{IsKept, file_block, file_bytes, page_count, page_of};
 ghost use Rattle.uf2_place.specs.declared.block.Uf2WriteFault.TheVariants.{Empty, TooLarge};
@@ -21,7 +22,7 @@ pub fn write_uf2(
 ) -> Result<(), Uf2WriteFault>
     ensures ok { OnOk result (out.new.items ≡ out.old.items ++ file_bytes image.now family) }
     ensures empty { (result ≡ Err Empty) ↔ (length image.now ≡ 0) }
-    ensures too_large { (result ≡ Err TooLarge) ↔ (16777216 < length image.now) }
+    ensures too_large { (result ≡ Err TooLarge) ↔ (MOST_FLASH_BYTES < length image.now) }
     ensures err { OnErr result (out.new.items ≡ out.old.items) }
 {
     if image.is_empty() {
@@ -42,7 +43,7 @@ pub fn write_uf2(
 
 /// Appends the blocks of an image.
 fn append_blocks(image: &[u8], family: u32, out: &mut Vec<u8>) -> Result<(), AllocError>
-    requires few { length image.now ≤ 16777216 }
+    requires few { length image.now ≤ MOST_FLASH_BYTES }
     ensures ok { OnOk result (out.new.items ≡ out.old.items ++ file_bytes image.now family) }
     ensures err { OnErr result (IsKept out.old.items out.new.items) }
 {
@@ -55,7 +56,7 @@ fn append_blocks(image: &[u8], family: u32, out: &mut Vec<u8>) -> Result<(), All
 
 /// Block number `number` of the file of an image.
 fn file_block(image: &[u8], family: u32, count: u32, number: u32) -> Uf2
-    requires few { length image.now ≤ 16777216 }
+    requires few { length image.now ≤ MOST_FLASH_BYTES }
     requires count { count ≡ page_count (length image.now) }
     requires inside { number < count }
     ensures { result ≡ file_block image.now family number }

@@ -6,6 +6,7 @@ use Rattle.std.proofs.lemmas.Bool.{cases_lt}
 use Rattle.std.proofs.lemmas.Bool.Decides.{nat_tests}
 use Rattle.std.proofs.lemmas.List.Elements.{All-contains, All-from_recursion}
 use Rattle.std.proofs.lemmas.Option.{none-some, same_Some}
+use Rattle.pico_board.specs.declared.window.TheConstants.{MOST_FLASH_BYTES}
 use Rattle.pico_board.specs.declared.boot.Cpu.{Cpu}
 use Rattle.pico_board.specs.declared.boot.Cpu.TheVariants.{Arm, Riscv}
 use Rattle.pico_board.specs.Content.{flash_base}
@@ -50,7 +51,7 @@ agree one two n loads long same stored = record {
       (All-from_recursion (λ (l : Load). IsStoredIn n l.storage l.size) loads stored) has) at.1 at.3);
 }
 
-module _ (one two : List ℕ) (n : ℕ) (long : length two ≡ length one) (few : length one ≤ 16777216)
+module _ (one two : List ℕ) (n : ℕ) (long : length two ≡ length one) (few : length one ≤ MOST_FLASH_BYTES)
     (erased : IsErasedFrom one n (length one)) (same : (i : ℕ) → i < n → slice_index two i ≡ slice_index one i)
     (loads : List Load) (stored : AreStoredIn n loads) where
   -- a byte at an address of the erased part, or behind it up to eight bytes, is 0xff or is not given

@@ -1,6 +1,7 @@
 -- An image that is valid in a window with 0xff behind it is valid with other bytes there.
 use Rattle.std.proofs.Common.{◌≡◌, ℕ, ◌+◌, ◌<◌, ◌≤◌, Bool, List, length, IfSome, Ok, refl, sym, subst, arith}
 use Rattle.std.specs.Prelude.{slice_index}
+use Rattle.pico_board.specs.declared.window.TheConstants.{MOST_FLASH_BYTES}
 use Rattle.pico_board.specs.declared.boot.Cpu.{Cpu}
 use Rattle.pico_board.specs.declared.window.Window.{Window}
 use Rattle.block_codec.specs.declared.definition.EntryPoint.{EntryPoint}
@@ -20,7 +21,7 @@ use Rattle.written_image.specs.Written.{HasNoLowBlockPast}
 use Rattle.written_image.proofs.KeptBlockLemmas.{ends-before, kept-loop}
 use Rattle.written_image.proofs.KeptEntryLemmas.{agree, kept-entry}
 
-module _ (one two : List ℕ) (n : ℕ) (long : length two ≡ length one) (few : length one ≤ 16777216)
+module _ (one two : List ℕ) (n : ℕ) (long : length two ≡ length one) (few : length one ≤ MOST_FLASH_BYTES)
     (erased : IsErasedFrom one n (length one)) (same : (i : ℕ) → i < n → slice_index two i ≡ slice_index one i)
     (low : HasNoLowBlockPast n two) where
   -- the blocks of the first window end before its erased part

@@ -1,6 +1,7 @@
 -- An image that is valid in a window filled with 0xff after its end is valid in planned bytes.
 use Rattle.std.proofs.Common.{◌≡◌, ℕ, ◌+◌, ◌-◌, ◌%◌, ◌<◌, ◌≤◌, Bool, List, length, replicate, get_or, refl, sym, ◌∙◌, arith}
 use Rattle.std.proofs.lemmas.List.{get_or-append_right, get_or_append_left}
+use Rattle.pico_board.specs.declared.window.TheConstants.{MOST_FLASH_BYTES}
 use Rattle.pico_board.specs.declared.boot.Cpu.{Cpu}
 use Rattle.pico_board.specs.declared.window.Window.{Window}
 use Rattle.block_codec.specs.Blocks.{BlockAt, BlockView, block_size}
@@ -19,7 +20,8 @@ use Rattle.written_image.proofs.PlannedLemmas.{erased-byte, length-padded, lengt
 pub padded-same : (n : ℕ) (xs : List ℕ) (i : ℕ) → i < length xs → get_or (padded n xs) i 0 ≡ get_or xs i 0
 padded-same n xs i lt = get_or_append_left xs (replicate (n - length xs) 255) 0 i lt
 
-pub padded-erased : (n : ℕ) (xs : List ℕ) → length xs ≤ n → IsErasedFrom (padded n xs) (length xs) (length (padded n xs))
+pub padded-erased : (n : ℕ) (xs : List ℕ) → length xs ≤ n
+    → IsErasedFrom (padded n xs) (length xs) (length (padded n xs))
 padded-erased n xs room i from to =
     let long = length-padded n xs room in
     get_or-append_right xs (replicate (n - length xs) 255) (length xs) i 0 refl from
@@ -28,7 +30,7 @@ padded-erased n xs room i from to =
 last-sector : (n len : ℕ) → n ≤ len → len % 4096 ≡ 0 → round_up 4096 n ≤ len
 last-sector n len room whole = omega (arith, room, whole)
 
-module _ (w : Window) (image old : List ℕ) (whole : w.len % 4096 ≡ 0) (most : w.len ≤ 16777216)
+module _ (w : Window) (image old : List ℕ) (whole : w.len % 4096 ≡ 0) (most : w.len ≤ MOST_FLASH_BYTES)
     (room : length image ≤ w.len) (was : length old ≡ w.len)
     (none : HasNoLowBlockPast (round_up 4096 (length image)) (planned image old)) where
   pub long : length (planned image old) ≡ length (padded w.len image)
@@ -38,7 +40,7 @@ module _ (w : Window) (image old : List ℕ) (whole : w.len % 4096 ≡ 0) (most 
       let reach = last-sector (length image) w.len room whole in
       length-planned image old (omega (arith, written, reach, was)) ∙ was ∙ sym one
 
-  pub few : length (padded w.len image) ≤ 16777216
+  pub few : length (padded w.len image) ≤ MOST_FLASH_BYTES
   few = let one = length-padded w.len image room in omega (arith, one, most)
 
   pub same-front : (i : ℕ) → i < length image → get_or (planned image old) i 0 ≡ get_or (padded w.len image) i 0

@@ -2,6 +2,7 @@
 use Rattle.std.proofs.Common.{◌≡◌, ℕ, ◌+◌, ◌-◌, ◌%◌, ◌<◌, ◌≤◌, Bool, true, List, ◌∷◌, ◌++◌, length, replicate, refl, sym, ap, ◌∙◌, subst, arith, append_assoc}
 use Rattle.std.specs.Prelude.{IsSome, Option}
 use Rattle.std.proofs.lemmas.List.{replicate-append-replicate}
+use Rattle.pico_board.specs.declared.window.TheConstants.{MOST_FLASH_BYTES}
 use Rattle.pico_board.specs.declared.window.Window.{Window}
 use Rattle.pico_board.specs.Content.{flash_base}
 use Rattle.block_codec.specs.Blocks.{BlockAt, BlockView}
@@ -152,7 +153,7 @@ module _ (binary : List ℕ) (spec : SealSpec) (sealed : IsSealed binary spec) w
 
   -- and in a window that it is filled to with 0xff
   pub sealed-padded : IsHalves spec.version → (w : Window) (otp : List ℕ) → NotBelow otp sealed.started
-      → w.len % 4096 ≡ 0 → w.len ≤ 16777216 → length (sealed_text binary spec) ≤ w.len
+      → w.len % 4096 ≡ 0 → w.len ≤ MOST_FLASH_BYTES → length (sealed_text binary spec) ≤ w.len
       → IsSealedIn w otp (padded w.len (sealed_text binary spec))
   sealed-padded halves w otp fits whole most room =
       let text = sealed_text binary spec in
@@ -168,7 +169,7 @@ module _ (binary : List ℕ) (spec : SealSpec) (sealed : IsSealed binary spec) w
   pub sealed-stored : IsHalves spec.version → (w : Window) (trial : Bool) (otp : List ℕ) (s : Started)
       (v : IsValidImage in_flash w spec.cpu trial otp (padded w.len (sealed_text binary spec)) s)
       (own : KeepsRules spec.cpu (whole_sectors binary)) → AreStoredIn (block_offset binary) own.loads
-      → w.len % 4096 ≡ 0 → w.len ≤ 16777216 → length (sealed_text binary spec) ≤ w.len
+      → w.len % 4096 ≡ 0 → w.len ≤ MOST_FLASH_BYTES → length (sealed_text binary spec) ≤ w.len
       → AreStoredIn (length (sealed_text binary spec)) v.sound.loads
   sealed-stored halves w trial otp s v own stored whole most room =
       let text = sealed_text binary spec in
@@ -184,7 +185,7 @@ module _ (binary : List ℕ) (spec : SealSpec) (sealed : IsSealed binary spec) w
 
   -- so it is valid where a plan wrote it
   pub sealed-planned : IsHalves spec.version → (w : Window) (otp old : List ℕ) → NotBelow otp sealed.started
-      → w.len % 4096 ≡ 0 → w.len ≤ 16777216 → length (sealed_text binary spec) ≤ w.len → length old ≡ w.len
+      → w.len % 4096 ≡ 0 → w.len ≤ MOST_FLASH_BYTES → length (sealed_text binary spec) ≤ w.len → length old ≡ w.len
       → HasNoLowBlockPast (round_up 4096 (length (sealed_text binary spec))) (planned (sealed_text binary spec) old)
       → (own : KeepsRules spec.cpu (whole_sectors binary)) → AreStoredIn (block_offset binary) own.loads
       → IsValidImage in_flash w spec.cpu true otp (planned (sealed_text binary spec) old) (moved_to w sealed.started)

@@ -10,8 +10,8 @@ returns k =
       bytes = k.the_session_of_a_plan.ensures.bytes;
       rows = k.the_session_of_a_plan.ensures.rows;
     } in
-    λ binary spec sealed own c pattern w es line found halves bytes long lone stored right small table meets room is none
-    slot digests has before.
+    λ binary spec sealed own c pattern w es line found halves bytes long lone stored right small table meets room is
+    none slot digests has before.
     k.no_cut_before_a_step_is_chance.ensures c spec.cpu pattern (session c spec.cpu es) line w
     (moved_to w sealed.started) found right small table none slot
     (swept-firm says binary spec sealed own c w es found halves bytes long lone stored right table meets room is slot)

@@ -4,8 +4,8 @@ use Rattle.written_image.proofs.laws.a_planned_sealed_image_is_valid.Goals as go
 
 pub returns-clause-valid : goal.returns-clause-valid
 returns-clause-valid c = λ binary spec sealed own w otp old halves meets stored whole most room was none.
-    sealed-planned binary spec sealed halves w otp old ((meets-exactly binary spec sealed halves otp).1 meets) whole most
-    room was none own stored
+    sealed-planned binary spec sealed halves w otp old ((meets-exactly binary spec sealed halves otp).1 meets) whole
+    most room was none own stored
 
 pub returns-clause-stored : goal.returns-clause-stored
 returns-clause-stored c = λ binary spec sealed own w trial otp s v halves stored whole most room.
