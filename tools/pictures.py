@@ -1,13 +1,16 @@
 #!/usr/bin/env python3
-"""Draws sweeps by `chart`, and looks at the pictures with the tools that are there.
+"""Draws sweeps by `chart` and flashes by `map`, and looks at the pictures with the tools that are there.
 
     pictures.py PROGRAM FOLDER
 
-Run it at the top of the repository. The first picture is the one that the README shows, and has to
-be docs/chart.svg. The others are of a session without steps, of one whose every cut leaves the former
-image, and of a plan of a thousand steps. Each is read by `xmllint --noout`, and rendered by headless
-Chromium at 960 and at 1920 pixels into FOLDER; a tool that is not there is told and skipped. The last
-line is `N pictures drawn, M wrong`, and the status is 0 where M is 0.
+Run it at the top of the repository. The first picture of each command is the one that the README shows,
+and has to be docs/chart.svg and docs/map.svg. The other sweeps are of a session without steps, of one
+whose every cut leaves the former image, of a plan of a thousand steps, and of the longest session that
+is swept, whose last sixteen steps turn the answer each time. The other flashes have one window, two
+slots without a table, fifteen partitions with gaps between them, and names of 127 bytes. Each is read by
+`xmllint --noout`, and rendered by headless Chromium at 960 and at 1920 pixels into FOLDER; a tool that
+is not there is told and skipped. The last line is `N pictures drawn, M wrong`, and the status is 0
+where M is 0.
 """
 
 import os
@@ -26,9 +29,36 @@ TABLE = """{"version":[1,0],
    {"first":%d,"last":%d,"families":["rp2350-arm-s"],"link":["a",0],
     "permissions":{"secure":"rw","nonsecure":"rw","bootloader":"rw"}}]}"""
 SECTOR = 4096
+PAGE = 256
+MOST_STEPS = 262144
+ERASE, WRITE = 0x03, 0x05
+# a version and an entry beside the type of an image for Arm, and a block that defines no image
+ENTERED = struct.pack("<10I", 0xFFFFDED3, 0x10210142, 0x248, 0x1000A, 0x344, 0x10000201, 0x20082000, 0x6FF, 0, 0xAB123579)
+UNDEFINED = struct.pack("<6I", 0xFFFFDED3, 0x248, 0x1000A, 0x2FF, 0, 0xAB123579)
 LONG = 256 * 1024 - 512  # a binary: sealed it has 1023 pages in 64 sectors
 WIDTHS = (960, 1920)
 BROWSERS = ("chromium", "chromium-browser", "google-chrome")
+
+
+def command(number, at, size, payload=b""):
+    """A line of a script's text: a command on so many bytes of the flash."""
+    words = struct.pack("<IIBBHIIIII", 0x431FD10B, 1, number, 8, 0, len(payload), 0x10000000 + at, size, 0, 0)
+    return f"command {words.hex()} {payload.hex()}".rstrip()
+
+
+def longest(start, sectors):
+    """The text of the longest session that is swept, on a slot of so many sectors: erases over and over,
+    and then the pages of the first sector, the last one first. So the first block in it is a new one
+    after each page, in turn one that defines an image and one that defines none."""
+    rest = sectors - 1
+    whole, part = divmod(MOST_STEPS - 1 - SECTOR // PAGE, rest)
+    lines = ["power", "reset bootsel", command(ERASE, start, SECTOR)]
+    lines += [command(ERASE, start + SECTOR, rest * SECTOR)] * whole
+    lines += [command(ERASE, start + SECTOR, part * SECTOR)] * (part > 0)
+    for page in reversed(range(SECTOR // PAGE)):
+        block = UNDEFINED if page % 2 else ENTERED
+        lines.append(command(WRITE, start + page * PAGE, PAGE, block.ljust(PAGE, b"\xff")))
+    return "\n".join([*lines, "end", ""]).encode()
 
 
 class Maker:
@@ -121,6 +151,13 @@ def main():
     # All but the first page of the first sector is 0xff, so behind that page's program the image is whole.
     make.plan(make.sealed(IMAGE.ljust(LONG, b"\xff"), 10))
     make.chart("long.svg", "chart steps=1087 former=2144 finished=30 chance=0")
+    half = 2047  # sectors: two slots of them and the two table slots fill 16 MiB
+    make.board(half, make.sealed(IMAGE, 9))
+    make.write("text", longest((2 + half) * SECTOR, half))
+    make.run("script", "text", "script")
+    # Behind the program of an even page, an image starts that is neither: not behind page 2, whose block
+    # stands where the entry is, and not behind page 0, which finishes the image.
+    make.chart("longest.svg", f"chart steps={MOST_STEPS} former={2 * MOST_STEPS - 12} finished=0 chance=12")
     print(f"{make.drawn} pictures drawn, {make.wrong} wrong")
     sys.exit(1 if make.wrong else 0)
 
