@@ -29,7 +29,8 @@ use Rattle.boot_reasons.specs.Reasons.{results_in}
 use Rattle.boot_reasons.proofs.TookLemmas.{Tells, took-right, took-only}
 
 -- the image of a window
-pub image-told : (c : Content) (cpu : Cpu) (w : Window) (trial : Bool) → IsImageTold c cpu w trial (image_at c w cpu trial)
+pub image-told : (c : Content) (cpu : Cpu) (w : Window) (trial : Bool)
+    → IsImageTold c cpu w trial (image_at c w cpu trial)
 image-told c cpu w trial = go (image_at c w cpu trial) refl
   where
     go : (r : Result Started Why) → image_at c w cpu trial ≡ r → IsImageTold c cpu w trial r
@@ -257,7 +258,8 @@ pub looks-only : (c : Content) (cpu : Cpu) (us : List SlotUnit) (updated : Optio
     → (ls ≡ looks_of (results_in c cpu) us updated) × (n ≡ length us - length (looks_of (results_in c cpu) us updated))
 looks-only c cpu [] updated ls n is = (is.0, is.1)
 looks-only c cpu (u ∷ us) updated [] n is = absurd is
-looks-only c cpu (u ∷ us) updated (l ∷ ls) n is = go (looks-only c cpu us None ls n) (look-only c cpu u updated l is.0) is.1
+looks-only c cpu (u ∷ us) updated (l ∷ ls) n is =
+    go (looks-only c cpu us None ls n) (look-only c cpu u updated l is.0) is.1
   where
     look : Look
     look = look_at (results_in c cpu) u updated

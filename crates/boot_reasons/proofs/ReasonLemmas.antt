@@ -62,7 +62,8 @@ unreached_where c cpu kind does =
     length (order_where does kind c cpu).units - length (looks_where c cpu kind does)
 
 -- what the units tell is right by the rules
-units-right : (c : Content) (cpu : Cpu) (kind : BootKind) → AreUnitsTold c cpu kind (looks_in c cpu kind) (unreached_in c cpu kind)
+units-right : (c : Content) (cpu : Cpu) (kind : BootKind)
+    → AreUnitsTold c cpu kind (looks_in c cpu kind) (unreached_in c cpu kind)
 units-right c cpu kind = go (does_look kind (flash_off c.otp)) refl
   where
     go : (does : Bool) → does_look kind (flash_off c.otp) ≡ does
@@ -132,8 +133,8 @@ same-reasons : (a b : Reasons) → a.decision ≡ b.decision → a.required ≡ 
 same-reasons a b e1 e2 e3 e4 e5 e6 e7 e8 e9 = joined _ _ _ _ _ _ _ _ _ _ _ _ _ _ _ _ _ _ e1 e2 e3 e4 e5 e6 e7 e8 e9
   where
     joined : (d d' : Decision) (q q' o o' : Bool) (s s' : ℕ) (f f' g g' : Result Table SlotFault)
-        (t t' : Option ToldTable) (l l' : ArrayVec Look) (n n' : ℕ) → d ≡ d' → q ≡ q' → o ≡ o' → s ≡ s' → f ≡ f' → g ≡ g'
-        → t ≡ t' → l ≡ l' → n ≡ n'
+        (t t' : Option ToldTable) (l l' : ArrayVec Look) (n n' : ℕ)
+        → d ≡ d' → q ≡ q' → o ≡ o' → s ≡ s' → f ≡ f' → g ≡ g' → t ≡ t' → l ≡ l' → n ≡ n'
         → (let x : Reasons = record {
           decision = d;
           required = q;

@@ -35,7 +35,8 @@ found_by singleton lower t u =
     else Some (record { slot = 1; table = u })
 
 -- the table that is told is the one that is found
-taken-by : (singleton lower higher : Bool) (t u : Table) → taken_table (told_by singleton lower higher) (Some t) (Some u)
+taken-by : (singleton lower higher : Bool) (t u : Table)
+    → taken_table (told_by singleton lower higher) (Some t) (Some u)
     ≡ option_map (λ (f : Found). f.table) (found_by singleton lower t u)
 taken-by true lower higher t u = refl
 taken-by false true higher t u = refl
@@ -50,7 +51,8 @@ taken-found (Some t) None = refl
 taken-found (Some t) (Some u) =
     taken-by t.singleton (is_below t.version u.version) (is_below u.version t.version) t u
 
-pub taken-in : (c : Content) → taken_table (told_table (result_ok (slot_answer_in c 0)) (result_ok (slot_answer_in c 1)))
+pub taken-in : (c : Content)
+    → taken_table (told_table (result_ok (slot_answer_in c 0)) (result_ok (slot_answer_in c 1)))
     (result_ok (slot_answer_in c 0)) (result_ok (slot_answer_in c 1))
     ≡ option_map (λ (f : Found). f.table) (table_in c)
 taken-in c = taken-found (result_ok (slot_answer_in c 0)) (result_ok (slot_answer_in c 1))
@@ -204,5 +206,6 @@ pub taken-from : (c : Content) (a b : Result Table SlotFault) (k : Option ToldTa
 taken-from c a b k ea eb ek =
     ap (λ x. taken_table x (result_ok a) (result_ok b)) (told-from c a b k ea eb ek)
     ∙ (ap (λ (x : Result Table SlotFault). taken_table (told_table_in c) (result_ok x) (result_ok b)) ea
-    ∙ (ap (λ (x : Result Table SlotFault). taken_table (told_table_in c) (result_ok (slot_answer_in c 0)) (result_ok x)) eb
+    ∙ (ap (λ (x : Result Table SlotFault).
+        taken_table (told_table_in c) (result_ok (slot_answer_in c 0)) (result_ok x)) eb
     ∙ taken-in c))

@@ -67,7 +67,8 @@ look_at images u updated =
 
 -- units are looked at in their order, up to the first that takes an image; a member of the first
 -- unit may be the updated one
-abbrev pub looks_of : (Window → Bool → Result Started Why) → List SlotUnit → Option Member → List Look
+abbrev pub looks_of : (Window → Bool → Result Started Why) → List SlotUnit → Option Member
+    → List Look
 looks_of images [] updated = []
 looks_of images (u ∷ us) updated =
     look_at images u updated

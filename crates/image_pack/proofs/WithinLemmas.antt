@@ -78,7 +78,8 @@ round_up-most n le = omega (arith, le)
 pub round_up-least : (n : ℕ) → n ≤ round_up 4 n
 round_up-least n = omega arith
 
-pub length-whole_sectors : (binary : List ℕ) → length binary ≤ MOST_FLASH_BYTES → length (whole_sectors binary) ≤ MOST_FLASH_BYTES
+pub length-whole_sectors : (binary : List ℕ) → length binary ≤ MOST_FLASH_BYTES
+    → length (whole_sectors binary) ≤ MOST_FLASH_BYTES
 length-whole_sectors binary le =
     let long = length-append binary (replicate (round_up 4096 (length binary) - length binary) 255) in
     let fill = length-replicate {A = ℕ} (round_up 4096 (length binary) - length binary) 255 in

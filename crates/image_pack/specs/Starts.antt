@@ -23,8 +23,8 @@ pub record StartsAs (e : EntryPoint) (s : Started) : Type 0 where
 
 -- an image starts as a definition says, with these loads in a window with these bytes: PC, SP and
 -- limit are those of its ENTRY_POINT; where it has none, for Arm PC and SP are the words of the
--- vector table that its VECTOR_TABLE names, or else of the one at the window's start, and for RISC-V
--- the image starts at the window's start
+-- vector table that its VECTOR_TABLE names, or else of the one at the window's start, and for
+-- RISC-V the image starts at the window's start
 pub record StartsBy (cpu : Cpu) (def : Def) (bytes : List ℕ) (loads : List Load)
     (s : Started) : Type 0 where
   pub source : Source

@@ -22,7 +22,7 @@ fn joined(alloc: Global, lines: &[&str]) -> Result<String, Fail> {
 }
 
 /// Compares the whole text of an explanation with lines; its status is 0, and it writes no file.
-pub fn compare(
+pub(crate) fn compare(
     rt: &impl Abort,
     alloc: Global,
     name: &str,

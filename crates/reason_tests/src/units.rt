@@ -15,10 +15,12 @@ const NO_BLOCK: &str = "slot 1 fault=no-block";
 const ONLY: &str = "table slot=0 because=only";
 
 const PART_0: &str =
-    "partition 0 window=0x00002000+0x0001e000 name=none id=none families=rp2350-arm-s rights=secure=rw,nonsecure=rw,bootloader=rw link=none ignored=none reboot=yes";
+    "partition 0 window=0x00002000+0x0001e000 name=none id=none families=rp2350-arm-s \
+     rights=secure=rw,nonsecure=rw,bootloader=rw link=none ignored=none reboot=yes";
 
 const PART_1: &str =
-    "partition 1 window=0x00020000+0x0001e000 name=none id=none families=rp2350-arm-s rights=secure=rw,nonsecure=rw,bootloader=rw link=a=0 ignored=none reboot=yes";
+    "partition 1 window=0x00020000+0x0001e000 name=none id=none families=rp2350-arm-s \
+     rights=secure=rw,nonsecure=rw,bootloader=rw link=a=0 ignored=none reboot=yes";
 
 const TIE: Parts = (
     &[
@@ -75,7 +77,8 @@ fn two_images_count(rt: HostRuntime) -> Result<(), Fail> {
         TIE,
         BootKind::Normal,
         &[
-            "start window=0x00002000+0x0001e000 block=0x00000100 pc=0x10000201 sp=0x20082000 limit=0x00000000 version=1.9 rollback=none trial=no",
+            "start window=0x00002000+0x0001e000 block=0x00000100 pc=0x10000201 sp=0x20082000 \
+             limit=0x00000000 version=1.9 rollback=none trial=no",
             OTP,
             PAIR_SLOT,
             NO_BLOCK,
@@ -95,7 +98,8 @@ fn two_images_count(rt: HostRuntime) -> Result<(), Fail> {
         GREATER_B,
         BootKind::Normal,
         &[
-            "start window=0x00020000+0x0001e000 block=0x00000100 pc=0x10000201 sp=0x20082000 limit=0x00000000 version=1.10 rollback=none trial=no",
+            "start window=0x00020000+0x0001e000 block=0x00000100 pc=0x10000201 sp=0x20082000 \
+             limit=0x00000000 version=1.10 rollback=none trial=no",
             OTP,
             PAIR_SLOT,
             NO_BLOCK,
@@ -115,7 +119,8 @@ fn two_images_count(rt: HostRuntime) -> Result<(), Fail> {
         GREATER_A,
         BootKind::Normal,
         &[
-            "start window=0x00002000+0x0001e000 block=0x00000100 pc=0x10000201 sp=0x20082000 limit=0x00000000 version=1.10 rollback=none trial=no",
+            "start window=0x00002000+0x0001e000 block=0x00000100 pc=0x10000201 sp=0x20082000 \
+             limit=0x00000000 version=1.10 rollback=none trial=no",
             OTP,
             PAIR_SLOT,
             NO_BLOCK,
@@ -141,7 +146,8 @@ fn a_trial_counts_where_it_is_updated(rt: HostRuntime) -> Result<(), Fail> {
         WITH_TRIAL,
         BootKind::Normal,
         &[
-            "start window=0x00002000+0x0001e000 block=0x00000100 pc=0x10000201 sp=0x20082000 limit=0x00000000 version=1.9 rollback=none trial=no",
+            "start window=0x00002000+0x0001e000 block=0x00000100 pc=0x10000201 sp=0x20082000 \
+             limit=0x00000000 version=1.9 rollback=none trial=no",
             OTP,
             PAIR_SLOT,
             NO_BLOCK,
@@ -161,7 +167,8 @@ fn a_trial_counts_where_it_is_updated(rt: HostRuntime) -> Result<(), Fail> {
         WITH_TRIAL,
         BootKind::Update(0x1002_0000),
         &[
-            "start window=0x00020000+0x0001e000 block=0x00000100 pc=0x10000201 sp=0x20082000 limit=0x00000000 version=1.1 rollback=none trial=yes",
+            "start window=0x00020000+0x0001e000 block=0x00000100 pc=0x10000201 sp=0x20082000 \
+             limit=0x00000000 version=1.1 rollback=none trial=yes",
             OTP,
             PAIR_SLOT,
             NO_BLOCK,
@@ -204,13 +211,16 @@ const TWO_UNITS: Parts = (
 );
 
 const LONE_0: &str =
-    "partition 0 window=0x00006000+0x00002000 name=none id=none families=rp2350-arm-s rights=secure=rw,nonsecure=rw,bootloader=rw link=none ignored=none reboot=yes";
+    "partition 0 window=0x00006000+0x00002000 name=none id=none families=rp2350-arm-s \
+     rights=secure=rw,nonsecure=rw,bootloader=rw link=none ignored=none reboot=yes";
 
 const FIRST_1: &str =
-    "partition 1 window=0x00002000+0x00002000 name=none id=none families=rp2350-arm-s rights=secure=rw,nonsecure=rw,bootloader=rw link=none ignored=none reboot=yes";
+    "partition 1 window=0x00002000+0x00002000 name=none id=none families=rp2350-arm-s \
+     rights=secure=rw,nonsecure=rw,bootloader=rw link=none ignored=none reboot=yes";
 
 const SECOND_2: &str =
-    "partition 2 window=0x00004000+0x00002000 name=none id=none families=rp2350-arm-s rights=secure=rw,nonsecure=rw,bootloader=rw link=a=1 ignored=none reboot=yes";
+    "partition 2 window=0x00004000+0x00002000 name=none id=none families=rp2350-arm-s \
+     rights=secure=rw,nonsecure=rw,bootloader=rw link=a=1 ignored=none reboot=yes";
 
 /// What follows the unit that takes an image is not reached, and an updated member's unit comes
 /// first.
@@ -224,7 +234,8 @@ fn later_units_are_not_reached(rt: HostRuntime) -> Result<(), Fail> {
         TWO_UNITS,
         BootKind::Normal,
         &[
-            "start window=0x00006000+0x00002000 block=0x00000100 pc=0x10000201 sp=0x20082000 limit=0x00000000 version=1.0 rollback=none trial=no",
+            "start window=0x00006000+0x00002000 block=0x00000100 pc=0x10000201 sp=0x20082000 \
+             limit=0x00000000 version=1.0 rollback=none trial=no",
             OTP,
             "slot 0 table version=0.0 partitions=3 singleton=no",
             NO_BLOCK,
@@ -245,7 +256,8 @@ fn later_units_are_not_reached(rt: HostRuntime) -> Result<(), Fail> {
         TWO_UNITS,
         BootKind::Update(0x1000_2000),
         &[
-            "start window=0x00004000+0x00002000 block=0x00000100 pc=0x10000201 sp=0x20082000 limit=0x00000000 version=1.0 rollback=none trial=no",
+            "start window=0x00004000+0x00002000 block=0x00000100 pc=0x10000201 sp=0x20082000 \
+             limit=0x00000000 version=1.0 rollback=none trial=no",
             OTP,
             "slot 0 table version=0.0 partitions=3 singleton=no",
             NO_BLOCK,
@@ -311,7 +323,8 @@ fn the_whole_flash_is_a_unit(rt: HostRuntime) -> Result<(), Fail> {
         MINIMAL,
         BootKind::Normal,
         &[
-            "start window=0x00000000+0x00002000 block=0x00000114 pc=0x10000201 sp=0x20082000 limit=0x00000000 version=0.0 rollback=none trial=no",
+            "start window=0x00000000+0x00002000 block=0x00000114 pc=0x10000201 sp=0x20082000 \
+             limit=0x00000000 version=0.0 rollback=none trial=no",
             OTP,
             "slot 0 fault=no-table",
             NO_BLOCK,

@@ -102,8 +102,8 @@ IsTooLarge form bytes fault = (limit_of form < length bytes) × (fault ≡ codes
 -- the fault of a file that is not too long: a flash file is empty; an OTP file has a part of a row
 -- at its end, or has a row of more bits, of which the least is named; a script has a fault among
 -- its first records, or these have neither a fault nor an end; a pattern is empty; a JSON text has
--- the first fault by the rules of a spec or a table; a UF2 file is not of whole blocks; a binary, an
--- image, an ELF file and a text have none
+-- the first fault by the rules of a spec or a table; a UF2 file is not of whole blocks; a binary,
+-- an image, an ELF file and a text have none
 abbrev pub IsOwnFault : Form → List ℕ → List ℕ → Type 0
 IsOwnFault Flash bytes fault = (bytes ≡ []) × (fault ≡ codes "empty")
 IsOwnFault Otp bytes fault =

@@ -47,7 +47,8 @@ is_alone bytes (Err fault) = false
 -- the definition has a digest, and its load map begins with all before it
 abbrev pub is_covered : List ℕ → ℕ → Result Defined Why → Bool
 is_covered bytes e (Ok image) =
-    is_some image.def.digest && has_front e (map_answer in_flash (length bytes) image.block image.def)
+    is_some image.def.digest
+    && has_front e (map_answer in_flash (length bytes) image.block image.def)
 is_covered bytes e (Err why) = false
 
 -- an image that a window with these bytes holds is firm

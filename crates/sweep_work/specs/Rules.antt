@@ -19,7 +19,8 @@ use Rattle.sweep_work.specs.FirmWorks.{image_alone, whole_window, firm_line}
 use Rattle.sweep_work.specs.SweepWorks.{sweep_fault}
 
 -- `sweep`: the session of the script on a content is refused for no reason; the outcome tells two
--- lines for each of its steps, each with the result of its cut, and the end line, and writes nothing
+-- lines for each of its steps, each with the result of its cut, and the end line, and writes
+-- nothing
 pub record IsSweepOf (c : Content) (cpu : Cpu) (script pattern : List ℕ) (o : Outcome)
     : Type 0 where
   pub right : IsContent c

@@ -16,7 +16,7 @@ pub const LEAST_SEALED: [u8; 32] = [
 pub const BLOCK: [u32; 5] = [0xffff_ded3, 0x1021_0142, 0x0000_01ff, 0, 0xab12_3579];
 
 /// A spec for Arm of version 1.minor without rows.
-pub fn spec(minor: u16) -> SealSpec {
+pub(crate) fn spec(minor: u16) -> SealSpec {
     SealSpec {
         cpu: Cpu::Arm,
         version: Version { major: 1, minor },
@@ -27,7 +27,7 @@ pub fn spec(minor: u16) -> SealSpec {
 }
 
 /// The SHA-256 of these bytes.
-pub fn sha256(bytes: &[u8]) -> [u8; 32] {
+pub(crate) fn sha256(bytes: &[u8]) -> [u8; 32] {
     let mut hasher = Sha256::new();
     hasher.update(bytes);
     hasher.finalize()

@@ -40,9 +40,9 @@ unfolding otp_of zero_otp
 otp-zero = refl
 
 -- the row of a place in an OTP of zeros
-zero-row : (row : ℕ) → row < 4096 → get_or zero_otp row 0 ≡ 0
+otp-row : (row : ℕ) → row < 4096 → get_or zero_otp row 0 ≡ 0
 unfolding zero_otp
-zero-row row low = get_or-replicate 4096 row 0 0 low
+otp-row row low = get_or-replicate 4096 row 0 0 low
 
 lt-zero : (i : ℕ) → i < 0 → ⊥
 lt-zero i low = omega (arith, low)
@@ -51,11 +51,11 @@ none-some : (w : Window) → None ≡ Some w → ⊥
 none-some w is = cc
 
 off-not : flash_off zero_otp ≡ false
-off-not = let row = zero-row 0x48 (omega arith) in cc
+off-not = let row = otp-row 0x48 (omega arith) in cc
 
 small-slots : (n : ℕ) → slot_size zero_otp n ≡ 4096
 small-slots n =
-    ap (λ row. slot_size_of (row % 16) n) (zero-row 0x55 (omega arith)) ∙ go (nat_le (2 * (4096 * 2 ^ 0)) n)
+    ap (λ row. slot_size_of (row % 16) n) (otp-row 0x55 (omega arith)) ∙ go (nat_le (2 * (4096 * 2 ^ 0)) n)
   where
     go : (b : Bool) → (if nat_le 0 11 && b then 4096 * 2 ^ 0 else 4096) ≡ 4096
     go true = refl
@@ -110,16 +110,18 @@ module _ (binary : List ℕ) (spec : SealSpec) (sealed : IsSealed binary spec) (
 
   valid : Valid c window spec.cpu true (moved_to window sealed.started)
   valid =
-      let here = subst (λ otp. IsValidImage in_flash (whole_window file) spec.cpu true otp (whole_sectors file) sealed.started)
+      let here = subst
+      (λ otp. IsValidImage in_flash (whole_window file) spec.cpu true otp (whole_sectors file) sealed.started)
       (sym otp-zero) sealed.boots in
       subst (λ ys. IsValidImage in_flash window spec.cpu true c.otp ys (moved_to window sealed.started))
       (sym (all-bytes ∙ same-flash))
-      (longer-valid in_flash spec.cpu (whole_sectors file) behind (AreErased-replicate _) below (whole_window file) window
-      true c.otp sealed.started here)
+      (longer-valid in_flash spec.cpu (whole_sectors file) behind (AreErased-replicate _) below (whole_window file)
+      window true c.otp sealed.started here)
 
   plain : spec.trial ≡ false → Valid c window spec.cpu false (moved_to window sealed.started)
   plain off =
-      let parts = valid-parts window spec.cpu true c.otp (window_bytes c window) (moved_to window sealed.started) valid in
+      let parts =
+      valid-parts window spec.cpu true c.otp (window_bytes c window) (moved_to window sealed.started) valid in
       let trial : sealed.started.trial ≡ spec.trial = (says-record binary spec sealed halves window).trial in
       parts-valid window spec.cpu false c.otp (window_bytes c window) (moved_to window sealed.started) parts.0 parts.1
       (λ is. let e : false ≡ true = sym off ∙ (sym trial ∙ is) in cc) parts.3
@@ -149,7 +151,8 @@ module _ (binary : List ℕ) (spec : SealSpec) (sealed : IsSealed binary spec) (
         updated = refl;
       } in record {
         choice = choice;
-        chosen = subst (λ b. MatchBool b (Start choice ≡ Bootsel FlashOff) (ChosenFrom c spec.cpu (order_of Normal (boot_units_in c spec.cpu)) (Start choice)))
+        chosen = subst (λ b. MatchBool b (Start choice ≡ Bootsel FlashOff)
+            (ChosenFrom c spec.cpu (order_of Normal (boot_units_in c spec.cpu)) (Start choice)))
             (sym (ap flash_off otp-zero ∙ off-not)) (start (boot_units_in c spec.cpu) one);
         image = refl;
       }

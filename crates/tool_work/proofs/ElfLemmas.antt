@@ -164,7 +164,8 @@ module _ (elf spec out e s : List ℕ) where
             binary = has;
             sealed = sealed;
             whole = whole-of e s form.1.0 small form.1.1 has sealed;
-            starts = starts-alone (elf_binary form.1.0.cpu e) form.1.0 sealed (spec_halves form.1.1.value form.1.0 form.1.1.gives);
+            starts = starts-alone (elf_binary form.1.0.cpu e) form.1.0 sealed
+                (spec_halves form.1.1.value form.1.0 form.1.1.gives);
             status = ap (λ (o : Outcome). o.status) same;
             text = ap (λ (o : Outcome). o.text) same;
             files = ap (λ (o : Outcome). o.files) same;
