@@ -51,7 +51,8 @@ module _ (c : Content) (cpu : Cpu) (found : Option Found) (cmd : Cmd) (payload :
   pub status-refused : (status : ℕ) → asked cmd payload ≡ Err status → status ≡ info_status c cpu found cmd payload
   unfolding info_status
   status-refused status is =
-      sym (refused size transfer (ask_in cmd) (λ o. checks_of_reply (device_of c cpu) (table_slot_of found) (table_of found)
+      sym (refused size transfer (ask_in cmd) (λ o.
+      checks_of_reply (device_of c cpu) (table_slot_of found) (table_of found)
       (asked_target c (table_of found) cpu (ask_in cmd)) o cmd) status is)
 
   -- the reply of what is asked for

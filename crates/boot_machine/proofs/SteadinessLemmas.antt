@@ -140,7 +140,8 @@ module _ {B : Type 0} where
       carries = (None, start.none);
       idle = λ off. start.none;
       found = λ on. let no : false ≡ true = ap is_bootsel (sym start.runs.state) ∙ on in cc no;
-      held = λ choice run. let no : None ≡ Some (membership_of choice) = sym start.runs.membership ∙ run.membership in cc no;
+      held = λ choice run.
+          let no : None ≡ Some (membership_of choice) = sym start.runs.membership ∙ run.membership in cc no;
     }
 
     module _ (history : B → List Step → Type 0) where

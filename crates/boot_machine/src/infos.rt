@@ -13,7 +13,7 @@ ghost use Rattle.block_codec.specs.Words.{bytes_of};
 ghost use Rattle.info_reply.specs.Asks.{reply_checks};
 ghost use Rattle.boot_machine.specs.Serving.{info_words, asked_target, device_of, info_reply, info_status, info_text, table_slot_of, table_of};
 
-use crate::found::{table_slot_of, table_of};
+use crate::found::{table_of, table_slot_of};
 use arrayvec::ArrayString;
 use boot_lines::set_answer;
 use boot_rules::{Found, Target, target};

@@ -118,9 +118,11 @@ fn buy_choice<B: Board>(parts: &mut Parts<B>, choice: Choice, line: &mut ArraySt
 
 /// Takes the choice that runs out of the parts, where an image from flash runs.
 fn take_choice<B: Board>(parts: &mut Parts<B>) -> Option<Choice>
-    ensures taken { (choice : Choice) → IsRunning parts.old choice.image (Some (membership_of choice))
+    ensures taken { (choice : Choice)
+        → IsRunning parts.old choice.image (Some (membership_of choice))
         → result ≡ Some choice }
-    ensures some { IfSome result (λ choice. IsRunning parts.old choice.image (Some (membership_of choice))
+    ensures some { IfSome result (λ choice.
+        IsRunning parts.old choice.image (Some (membership_of choice))
         × (parts.new ≡ powerless parts.old)) }
     ensures none { result ≡ None → parts.new ≡ parts.old }
 {

@@ -17,10 +17,10 @@ stream (suc n) x = next_of x / 2 ^ 24 ∷ stream n (next_of x)
 
 -- the vector bytes of the least image, its stack pointer and its first code address, and its block
 -- of one IMAGE_TYPE item for Arm with link 0
-unfoldable pub least_bytes : List ℕ
-least_bytes =
+unfoldable pub least_text : List ℕ
+least_text =
     bytes_of (0x20082000 ∷ 0x10000201 ∷ []) ++ bytes_of (frame (0x10210142 ∷ []) (pos 0))
 
 -- a binary of 200,000 bytes: the least image, and then the stream of a seed
 unfoldable pub binary_of : ℕ → List ℕ
-binary_of seed = least_bytes ++ stream 199972 seed
+binary_of seed = least_text ++ stream 199972 seed

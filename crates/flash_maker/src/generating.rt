@@ -7,7 +7,7 @@ ghost use Rattle.pico_board.specs.declared.window.TheConstants.{MOST_FLASH_BYTES
 ghost use Rattle.part_table.specs.Written.{AgreesWithFlags, written, written_size};
 ghost use Rattle.image_pack.specs.Filling.{padded};
 ghost use Rattle.flash_maker.specs.Flashes.{generated, made_image, made_spec, made_table, plain_part};
-ghost use Rattle.flash_maker.specs.Streams.{binary_of, least_bytes, next_of, stream};
+ghost use Rattle.flash_maker.specs.Streams.{binary_of, least_text, next_of, stream};
 
 use arrayvec::ArrayVec;
 use block_codec::{BlockError, Version, write_block};
@@ -63,9 +63,9 @@ fn put_block(alloc: Global, out: &mut Vec<u8>) -> Result<(), AllocError>
 }
 
 /// Appends the least image for Arm: its vector bytes and its block.
-#[tactic(auto, unfolding(crate::specs::Streams::least_bytes, block_codec::specs::Words::word_bytes))]
+#[tactic(auto, unfolding(crate::specs::Streams::least_text, block_codec::specs::Words::word_bytes))]
 fn put_least(alloc: Global, out: &mut Vec<u8>) -> Result<(), AllocError>
-    ensures items { OnOk result (out.new.items ≡ out.old.items ++ least_bytes) }
+    ensures items { OnOk result (out.new.items ≡ out.old.items ++ least_text) }
     ensures len { OnOk result (length out.new.items ≡ length out.old.items + 28) }
 {
     out.extend_from_slice(&0x2008_2000u32.to_le_bytes())?;

@@ -40,9 +40,9 @@ unfolding otp_of zero_otp
 otp-zero = refl
 
 -- the row of a place in an OTP of zeros
-otp-row : (row : ℕ) → row < 4096 → get_or zero_otp row 0 ≡ 0
+otp-row : (at : ℕ) → at < 4096 → get_or zero_otp at 0 ≡ 0
 unfolding zero_otp
-otp-row row low = get_or-replicate 4096 row 0 0 low
+otp-row at low = get_or-replicate 4096 at 0 0 low
 
 lt-zero : (i : ℕ) → i < 0 → ⊥
 lt-zero i low = omega (arith, low)
