@@ -13,3 +13,4 @@ pub mod RuleLemmas
 pub mod AnswerLemmas
 pub mod TwiceLemmas
 pub mod BadItemLemmas
+pub mod GreatestLemmas

@@ -1,6 +1,6 @@
 -- Worked examples of tables, with their answers reckoned by hand from the rules. This project's
 -- own.
-use Rattle.std.specs.Prelude.{drop, ℕ, ◌+◌, ◌*◌, true, false, List, [], ◌∷◌, ◌++◌, pos, Option, None, Some, Result}
+use Rattle.std.specs.Prelude.{drop, ℕ, ◌+◌, ◌*◌, true, false, List, [], ◌∷◌, ◌++◌, pos, replicate, Option, None, Some, Result}
 use Rattle.arrayvec.specs.ArrayVec.{ArrayVec}
 use Rattle.block_codec.specs.Blocks.{BlockView}
 use Rattle.part_table.specs.declared.partition.Partition.{Partition}
@@ -137,6 +137,44 @@ partition_with flag_word number extra text = record {
   families = record { items = extra };
   name = text;
 }
+
+-- the same with a name of these bytes, and without an id or extra families
+abbrev pub named_partition_of : ℕ → List ℕ → Partition
+named_partition_of flag_word bytes = partition_with flag_word None [] (Some (record { items = bytes }))
+
+-- the name of the greatest length, each byte of which is the greatest one
+abbrev pub longest_name : ArrayVec ℕ
+longest_name = record { items = replicate 127 255 }
+
+-- the partition of the greatest words, id, families and name
+abbrev pub widest_partition : Partition
+widest_partition = record {
+  location = 0xffffffff;
+  flags = 0xffffffff;
+  id = Some 0xffffffffffffffff;
+  families = record { items = 0xffffffff ∷ 0xffffffff ∷ 0xffffffff ∷ [] };
+  name = Some longest_name;
+}
+
+-- the table of this version, this unpartitioned word and that partition
+abbrev pub versioned_table : ℕ → ℕ → ℕ → Table
+versioned_table high low word = record {
+  version = record { major = high; minor = low };
+  singleton = true;
+  unpartitioned = word;
+  parts = record { items = widest_partition ∷ [] };
+}
+
+-- the table of that partition, of 39 words, two partitions of 34 words with the longest name, and
+-- one more of these with these extra families; with the one word before the partitions, the header
+-- and 17 words around them it is written in 160 words where there is no extra family
+abbrev pub long_table : ℕ → List ℕ → Table
+long_table flag_word extra =
+    table_with
+    (widest_partition
+    ∷ named_partition_of 0x1000 longest_name.items
+    ∷ named_partition_of 0x1000 longest_name.items
+    ∷ partition_with flag_word None extra (Some longest_name) ∷ [])
 
 -- a pair of images, sectors 2 to 9 and 10 to 17, and a pair of data, sectors 18 to 25 and 26 to 33,
 -- whose A has the first image partition as its owner

@@ -1,7 +1,7 @@
 //! Worked examples of the definitions, proved by computing: each is the `ensures` of a function
 //! that does nothing.
 
-ghost use Rattle.std.specs.Prelude.{◌≡◌, ◌++◌, ◌+◌, ◌^◌, ℕ, [], ◌∷◌, length, true, false, Some, None, Ok, Err};
+ghost use Rattle.std.specs.Prelude.{◌≡◌, ◌++◌, ◌+◌, ◌^◌, ℕ, [], ◌∷◌, length, replicate, true, false, Some, None, Ok, Err};
 ghost use Rattle.block_codec.specs.Reading.{block_at};
 ghost use Rattle.block_codec.specs.Words.{bytes_of};
 ghost use Rattle.pico_board.specs.declared.boot.Cpu.TheVariants.{Arm, Riscv};
@@ -9,7 +9,7 @@ ghost use Rattle.pico_board.specs.Content.{Content};
 ghost use Rattle.pico_board.specs.Examples.{window_at};
 ghost use Rattle.part_table.specs.declared.table.Right.TheVariants.{BootRead, BootWrite};
 ghost use Rattle.part_table.specs.declared.table.TableFault.TheVariants.{BadItem, Permissions, Range, Overlap, Link, Hash};
-ghost use Rattle.part_table.specs.Examples.{block_with, table_in_64, table_with, sectors, plain_partition, partition_with, eight_words, guarded_table, unread_table, named_items, named_partition, named_table, owned_items, owned_table, pair_and, pair_hashed, pair_items, pair_misdigested, pair_misdigested_last, pair_table, pair_version, one_part, two_parts, placed_parts, linked_parts, linked_table};
+ghost use Rattle.part_table.specs.Examples.{block_with, table_in_64, table_with, sectors, plain_partition, partition_with, eight_words, guarded_table, long_table, unread_table, named_items, named_partition, named_partition_of, named_table, versioned_table, widest_partition, owned_items, owned_table, pair_and, pair_hashed, pair_items, pair_misdigested, pair_misdigested_last, pair_table, pair_version, one_part, two_parts, placed_parts, linked_parts, linked_table};
 ghost use Rattle.part_table.specs.Families.{accepts, accepts_absolute, rp2040_family, absolute_family, arm_s_family, data_family, riscv_family, arm_ns_family};
 ghost use Rattle.part_table.specs.Fields.{first_sector, last_sector, permissions_of, has_id, link_type, link_value, family_count, is_ignored, has_name, is_staying};
 ghost use Rattle.part_table.specs.Links.{owner_of, pair_of};
@@ -17,7 +17,7 @@ ghost use Rattle.part_table.specs.Partitions.{part_at, partition_of, partition_w
 ghost use Rattle.part_table.specs.Rights.{allowed, allowed_by};
 ghost use Rattle.part_table.specs.TableOf.{has_table, table_of};
 ghost use Rattle.part_table.specs.Windows.{IsPlacedIn, partition_window};
-ghost use Rattle.part_table.specs.Written.{hashed_items, table_item, written_items, written_size};
+ghost use Rattle.part_table.specs.Written.{IsReadable, IsReadableTable, IsWritable, IsWritableTable, hashed_items, table_item, written_items, written_size};
 
 /// The block of a pair stands in its bytes and is read as its table, in a flash of 64 sectors whose
 /// first two hold the table slots.
@@ -37,7 +37,8 @@ pub fn pair_is_read()
     ensures absolute { accepts_absolute pair_table ≡ true }
 {}
 
-/// Each field of a location word and of a flag word, with all its bits and with all others.
+/// Each field of a location word and of a flag word, with all its bits and with all others. A bit
+/// above a word is none of the permissions.
 pub fn fields_are_read()
     ensures first { first_sector (plain_partition 0x00001fff 0) ≡ 8191 }
     ensures not_first { first_sector (plain_partition 0xffffe000 0) ≡ 0 }
@@ -45,6 +46,7 @@ pub fn fields_are_read()
     ensures not_last { last_sector (plain_partition 0xfc001fff 0) ≡ 0 }
     ensures permissions { permissions_of 0xfc000000 ≡ 63 }
     ensures no_permissions { permissions_of 0x03ffffff ≡ 0 }
+    ensures above_a_word { permissions_of 0x100000000 ≡ 0 }
     ensures id { has_id 0x00000001 ≡ true }
     ensures no_id { has_id 0xfffffffe ≡ false }
     ensures kind { link_type (plain_partition 0 0x00000006) ≡ 3 }
@@ -159,6 +161,39 @@ pub fn tables_are_written()
         ≡ 0x81000a0a ∷ 0 ∷ 0xfc006002 ∷ 0xfc001101 ∷ 0x44332211 ∷ 0x88776655 ∷ 0x11111111
         ∷ 0xe48bff5a
         ∷ 0x63626104 ∷ 0x00000064 ∷ [] }
+{}
+
+/// The greatest words, id, families, bytes and length of a name that can be written for a
+/// partition, and beside each the next one; and a partition whose flag word tells nothing of its
+/// id, its families or its name, or tells of them where there are none.
+pub fn partitions_that_can_be_written()
+    ensures greatest { IsWritable widest_partition }
+    ensures location { ¬ (IsWritable (plain_partition (2 ^ 32) 0)) }
+    ensures flags { ¬ (IsWritable (plain_partition 0 (2 ^ 32))) }
+    ensures id { ¬ (IsWritable (partition_with 1 (Some (2 ^ 64)) [] None)) }
+    ensures families { ¬ (IsWritable (partition_with 0x80 None (2 ^ 32 ∷ []) None)) }
+    ensures byte { ¬ (IsReadable (named_partition_of 0x1000 (256 ∷ []))) }
+    ensures long { ¬ (IsReadable (named_partition_of 0x1000 (replicate 128 0))) }
+    ensures untold_id { ¬ (IsReadable (partition_with 0 (Some 0) [] None)) }
+    ensures untold_family { ¬ (IsReadable (partition_with 0 None (0 ∷ []) None)) }
+    ensures untold_name { ¬ (IsReadable (named_partition_of 0 [])) }
+    ensures no_id { ¬ (IsReadable (plain_partition 0 1)) }
+    ensures no_family { ¬ (IsReadable (plain_partition 0 0x80)) }
+    ensures no_name { ¬ (IsReadable (plain_partition 0 0x1000)) }
+{}
+
+/// The greatest version, unpartitioned word, number of partitions and size of a block that can be
+/// written for a table, and beside each the next one.
+pub fn tables_that_can_be_written()
+    ensures greatest { IsWritableTable (versioned_table 65535 65535 0xffffffff) }
+    ensures major { ¬ (IsWritableTable (versioned_table 65536 0 0)) }
+    ensures minor { ¬ (IsWritableTable (versioned_table 0 65536 0)) }
+    ensures unpartitioned { ¬ (IsWritableTable (versioned_table 0 0 (2 ^ 32))) }
+    ensures most { IsReadableTable (table_with (replicate 15 (plain_partition 0 0))) }
+    ensures more { ¬ (IsReadableTable (table_with (replicate 16 (plain_partition 0 0)))) }
+    ensures full { IsReadableTable (long_table 0x1000 []) }
+    ensures fuller { ¬ (IsReadableTable (long_table 0x1080 (0 ∷ []))) }
+    ensures full_size { written_size (long_table 0x1000 []) ≡ 640 }
 {}
 
 /// Items that stand twice, have a wrong size, or are not filled exactly.
