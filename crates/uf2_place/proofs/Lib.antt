@@ -6,8 +6,10 @@ pub mod FollowingLemmas
 pub mod GatingLemmas
 pub mod GrowingLemmas
 pub mod HeldPageLemmas
+pub mod OtherFamilyLemmas
 pub mod ReadBackLemmas
 pub mod RuledLemmas
 pub mod RulingLaws
 pub mod SetBitLemmas
 pub mod ReadOfLemmas
+pub mod RepeatedLemmas

@@ -10,7 +10,7 @@ use Rattle.uf2_place.specs.declared.block.TheConstants.{START, SECOND, END, PAYL
 use Rattle.uf2_place.specs.Blocks.{is_number, uf2_of, word_at}
 
 -- a word is read of four bytes
-front-word : (m : ℕ) (xs : List ℕ) → little_number 4 (take (suc (suc (suc (suc m)))) xs) ≡ little_number 4 xs
+pub front-word : (m : ℕ) (xs : List ℕ) → little_number 4 (take (suc (suc (suc (suc m)))) xs) ≡ little_number 4 xs
 front-word m [] = refl
 front-word m (a ∷ []) = refl
 front-word m (a ∷ b ∷ []) = refl
@@ -18,18 +18,18 @@ front-word m (a ∷ b ∷ c ∷ []) = refl
 front-word m (a ∷ b ∷ c ∷ d ∷ xs) = refl
 
 module _ (n : ℕ) (one other : List ℕ) (front : take n one ≡ take n other) where
-  same-part : (at m : ℕ) → at + m ≡ n → take m (drop at one) ≡ take m (drop at other)
+  pub same-part : (at m : ℕ) → at + m ≡ n → take m (drop at one) ≡ take m (drop at other)
   same-part at m e =
       sym (drop-take at m one) ∙ ap (λ k. drop at (take k one)) e ∙ ap (drop at) front
       ∙ sym (ap (λ k. drop at (take k other)) e) ∙ drop-take at m other
 
-  same-word : (at m : ℕ) → at + suc (suc (suc (suc m))) ≡ n → word_at one at ≡ word_at other at
+  pub same-word : (at m : ℕ) → at + suc (suc (suc (suc m))) ≡ n → word_at one at ≡ word_at other at
   same-word at m e =
       sym (front-word m (drop at one)) ∙ ap (little_number 4) (same-part at (suc (suc (suc (suc m)))) e)
       ∙ front-word m (drop at other)
 
 -- the answer by the words of the bytes and their page
-abbrev answer : ℕ → ℕ → ℕ → ℕ → ℕ → ℕ → ℕ → ℕ → ℕ → List ℕ → Result Uf2 Uf2Fault
+abbrev pub answer : ℕ → ℕ → ℕ → ℕ → ℕ → ℕ → ℕ → ℕ → ℕ → List ℕ → Result Uf2 Uf2Fault
 answer start second flags address payload number count family end page =
     if not (start == START && (second == SECOND && end == END)) then Err Magic
     else if not (payload == PAYLOAD) then Err Payload

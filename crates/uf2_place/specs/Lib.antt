@@ -5,6 +5,7 @@ pub mod Examples
 pub mod Faults
 pub mod Files
 pub mod Marks
+pub mod OtherFamilies
 pub mod Placement
 pub mod Progress
 pub mod Rulings

@@ -1,17 +1,18 @@
 //! Worked examples of the definitions: the bytes of a block, both sides of each bound, and the
 //! steps of downloads.
 
-ghost use Rattle.std.specs.Prelude.{◌≡◌, ℕ, ◌++◌, Err, None, Ok, Some, List, [], ◌∷◌, drop, false, length, replicate, true};
+ghost use Rattle.std.specs.Prelude.{◌≡◌, ℕ, ◌++◌, Err, None, Ok, Some, List, [], ◌∷◌, drop, false, length, replicate, take, true};
 ghost use Rattle.pico_board.specs.declared.Step.TheVariants.{Erase, Program};
 ghost use Rattle.part_table.specs.Examples.{guarded_table, pair_table};
 ghost use Rattle.uf2_place.specs.declared.answer.Accepted.TheVariants.{Again, Skipped};
 ghost use Rattle.uf2_place.specs.declared.answer.PlaceFault.TheVariants.{NoTarget, NotPermitted, Outside};
 ghost use Rattle.uf2_place.specs.declared.answer.Ruling.TheVariants.{Answered, Begins, Continues};
 ghost use Rattle.uf2_place.specs.declared.block.Uf2Fault.TheVariants.{Alignment, Magic, Number, Payload};
-ghost use Rattle.uf2_place.specs.Blocks.{is_number, uf2_of, written};
+ghost use Rattle.uf2_place.specs.Blocks.{is_number, uf2_of, word_bytes, written};
 ghost use Rattle.uf2_place.specs.Downloads.{IsTargetIn};
 ghost use Rattle.uf2_place.specs.Examples.{absolute_block, arm_block, arm_download, block_bytes, first_slot, flagged, slot};
 ghost use Rattle.uf2_place.specs.Files.{file_block, filled, page_count};
+ghost use Rattle.uf2_place.specs.OtherFamilies.{with_family};
 ghost use Rattle.uf2_place.specs.Placement.{HasWholeSectors, is_whole, placed};
 ghost use Rattle.uf2_place.specs.Rulings.{is_of, is_skipped, is_within, ruling, wanted};
 
@@ -180,4 +181,46 @@ pub fn the_least_window()
 pub fn targets_in_a_flash()
     ensures at_its_end { IsTargetIn 0x3e000 (slot true) }
     ensures past { ¬ (IsTargetIn 0x3dfff (slot true)) }
+{}
+
+/// The word at 28 is the family, whatever it is: a block is read of each, and a fault stays.
+pub fn blocks_of_other_families()
+    ensures riscv { uf2_of (take 28 (block_bytes 256 0x10000200 1 3)
+        ++ (word_bytes 0xe48bff5a ++ drop 32 (block_bytes 256 0x10000200 1 3)))
+        ≡ Ok (with_family (arm_block 1 0x10000200 (replicate 256 0)) 0xe48bff5a) }
+    ensures unnamed { uf2_of (take 28 (block_bytes 256 0x10000200 1 3)
+        ++ (word_bytes 0 ++ drop 32 (block_bytes 256 0x10000200 1 3)))
+        ≡ Ok (with_family (arm_block 1 0x10000200 (replicate 256 0)) 0) }
+    ensures fault { uf2_of (take 28 (block_bytes 256 0x10000280 1 3)
+        ++ (word_bytes 0xe48bff5a ++ drop 32 (block_bytes 256 0x10000280 1 3)))
+        ≡ Err Alignment }
+    ensures written { (page : List ℕ)
+        → take 28 (written (with_family (arm_block 1 0x10000200 page) 0xe48bff5a))
+        ++ drop 32 (written (with_family (arm_block 1 0x10000200 page) 0xe48bff5a))
+        ≡ take 28 (written (arm_block 1 0x10000200 page))
+        ++ drop 32 (written (arm_block 1 0x10000200 page)) }
+{}
+
+/// Block 0 of a download of rp2350-arm-s is taken. It comes again as a block of another family:
+/// that block begins a download where a target is given, and is refused where none is.
+pub fn rulings_on_another_family()
+    ensures same { ruling 0x40000 (Some pair_table) (Some first_slot) (1 ∷ [])
+        (Some (arm_download true)) (arm_block 0 0x10000000 []) ≡ Answered (Ok Again) }
+    ensures other { ruling 0x40000 (Some pair_table) (Some first_slot) (1 ∷ [])
+        (Some (arm_download true)) (with_family (arm_block 0 0x10000000 []) 0xe48bff5a)
+        ≡ Begins first_slot }
+    ensures no_target { ruling 0x40000 (Some pair_table) None (1 ∷ [])
+        (Some (arm_download true)) (with_family (arm_block 0 0x10000000 []) 0xe48bff5a)
+        ≡ Answered (Err NoTarget) }
+    ensures next { ruling 0x40000 (Some pair_table) (Some first_slot) (1 ∷ [])
+        (Some (arm_download true)) (arm_block 1 0x10000100 []) ≡ Continues (slot true) }
+    ensures next_of_another { ruling 0x40000 (Some pair_table) (Some first_slot) (1 ∷ [])
+        (Some (arm_download true)) (with_family (arm_block 1 0x10000100 []) 0xe48bff5a)
+        ≡ Begins first_slot }
+    ensures outside { ruling 0x40000 (Some pair_table) (Some (slot true)) [] None
+        (arm_block 0 0x10040000 []) ≡ Answered (Err Outside) }
+    ensures absolute { ruling 0x40000 (Some pair_table) (Some (slot true)) [] None
+        (with_family (arm_block 0 0x10040000 []) 0xe48bff57) ≡ Answered (Ok Skipped) }
+    ensures absolute_inside { ruling 0x40000 (Some pair_table) (Some first_slot) [] None
+        (with_family (arm_block 0 0x10000000 []) 0xe48bff57) ≡ Begins first_slot }
 {}

@@ -1,11 +1,12 @@
 //! Laws of UF2 blocks and of downloads.
 
-ghost use Rattle.std.specs.Prelude.{◌≡◌, ◌≢◌, ◌↔◌, ℕ, ◌+◌, ◌*◌, ◌^◌, ◌<◌, ◌≤◌, ◌++◌, true, false, nat_eq, Contains, Err, Ok, None, Option, Some, List, length, slice_get, slice_range, take};
+ghost use Rattle.std.specs.Prelude.{◌≡◌, ◌≢◌, ◌↔◌, ℕ, ◌+◌, ◌*◌, ◌^◌, ◌<◌, ◌≤◌, ◌++◌, true, false, nat_eq, Contains, Err, Ok, None, Option, Some, List, [], length, map, slice_get, slice_range, take};
 ghost use Rattle.std.specs.List.{AllByRecursion};
 ghost use Rattle.std.specs.Set.{is_member};
 ghost use Rattle.pico_board.specs.declared.window.TheConstants.{MOST_FLASH_BYTES};
 ghost use Rattle.pico_board.specs.Sessions.{Gated};
 ghost use Rattle.sector_pool.specs.Pool.{Pool};
+ghost use Rattle.part_table.specs.Families.{absolute_family};
 ghost use Rattle.part_table.specs.Rights.{allowed_by};
 ghost use Rattle.part_table.specs.declared.Right.TheVariants.{BootWrite};
 ghost use Rattle.part_table.specs.declared.Table.{Table};
@@ -17,13 +18,14 @@ ghost use Rattle.uf2_place.specs.declared.block.Uf2.{Uf2};
 ghost use Rattle.uf2_place.specs.declared.block.Uf2Fault.{Uf2Fault};
 ghost use Rattle.uf2_place.specs.declared.current.Current.{Current};
 ghost use Rattle.uf2_place.specs.Accepting.{Kept, StandsFor};
-ghost use Rattle.uf2_place.specs.Blocks.{IsUf2, uf2_of, written};
+ghost use Rattle.uf2_place.specs.Blocks.{IsUf2, uf2_of, word_at, written};
 ghost use Rattle.uf2_place.specs.Downloads.{lease_of};
 ghost use Rattle.uf2_place.specs.Faults.{IsUf2Fault};
 ghost use Rattle.uf2_place.specs.Files.{file_block, file_bytes, page_count};
 ghost use Rattle.uf2_place.specs.Marks.{is_marked};
+ghost use Rattle.uf2_place.specs.OtherFamilies.{SameButFamily, with_family};
 ghost use Rattle.uf2_place.specs.Placement.{AreBlocks, IsInside, grown, is_whole, numbers_of, placed, sector_in};
-ghost use Rattle.uf2_place.specs.Rulings.{GoesTo, continues, is_skipped, ruling, wanted};
+ghost use Rattle.uf2_place.specs.Rulings.{GoesTo, continues, is_skipped, is_within, ruling, wanted};
 
 /// What is written of a block has 512 bytes and is read back as that block.
 pub fn written_blocks_are_read()
@@ -125,4 +127,54 @@ pub fn gated_downloads_hold_a_lease()
         → (k : ℕ) × (lease_of d.current ≡ Some k) × (slice_get pool.out k ≡ Some true) }
     ensures other { (d : Kept) (pool : Pool) (t : Target) (blocks : List Uf2)
         → StandsFor d pool t blocks → t.gated ≡ false → lease_of d.current ≡ None }
+{}
+
+/// The family is the word at 28, and no fault looks at it: bytes that differ in it alone have the
+/// same fault, or are read as blocks that differ in their family alone. So do the files of one
+/// image for two families.
+pub fn the_family_is_no_fault()
+    ensures read { (one other : List ℕ) (b : Uf2) → SameButFamily one other → uf2_of one ≡ Ok b
+        → uf2_of other ≡ Ok (with_family b (word_at other 28)) }
+    ensures fault { (one other : List ℕ) (fault : Uf2Fault) → SameButFamily one other
+        → uf2_of one ≡ Err fault → uf2_of other ≡ Err fault }
+    ensures files { (image : List ℕ) (one other i : ℕ)
+        → file_block image other i ≡ with_family (file_block image one i) other }
+{}
+
+/// A block of a download that comes again is answered `Again`. One that differs from it in its
+/// family alone is none of that download, and is ruled on as where none is current.
+pub fn another_family_is_another_download()
+    ensures again { (n : ℕ) (table : Option Table) (given : Option Target) (d : Kept)
+        (pool : Pool) (t : Target) (blocks : List Uf2) (a : Uf2)
+        → StandsFor d pool t blocks → Contains blocks a → is_skipped n a ≡ false
+        → ruling n table given d.marks.numbers d.current a ≡ Answered (Ok Again) }
+    ensures other { (n : ℕ) (table : Option Table) (given : Option Target) (d : Kept)
+        (pool : Pool) (t : Target) (blocks : List Uf2) (a : Uf2) (family : ℕ)
+        → StandsFor d pool t blocks → Contains blocks a → family ≢ a.family
+        → ruling n table given d.marks.numbers d.current (with_family a family)
+        ≡ ruling n table given [] None (with_family a family) }
+{}
+
+/// Where no download is current, the family of a block decides which target is asked for, and
+/// nothing else: into a given target blocks of all families go alike, but that those of the
+/// absolute family are skipped where their page is not wholly in the flash. So are the steps of
+/// a list of blocks those of the same blocks of another family.
+pub fn what_the_family_decides()
+    ensures wanted { (n : ℕ) (b : Uf2) (family : ℕ)
+        → is_skipped n (with_family b family) ≡ false
+        → wanted n None (with_family b family) ≡ Some family }
+    ensures inside { (n : ℕ) (table : Option Table) (given : Option Target) (taken : List ℕ)
+        (b : Uf2) (family : ℕ) → is_within n b ≡ true
+        → ruling n table given taken None (with_family b family)
+        ≡ ruling n table given taken None b }
+    ensures others { (n : ℕ) (table : Option Table) (given : Option Target) (taken : List ℕ)
+        (b : Uf2) (family : ℕ) → b.family ≢ absolute_family → family ≢ absolute_family
+        → ruling n table given taken None (with_family b family)
+        ≡ ruling n table given taken None b }
+    ensures absolute { (n : ℕ) (table : Option Table) (given : Option Target) (taken : List ℕ)
+        (b : Uf2) → is_within n b ≡ false
+        → ruling n table given taken None (with_family b absolute_family)
+        ≡ Answered (Ok Skipped) }
+    ensures steps { (t : Target) (blocks : List Uf2) (family : ℕ)
+        → placed t (map (λ b. with_family b family) blocks) ≡ placed t blocks }
 {}
