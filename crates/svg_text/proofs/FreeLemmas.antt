@@ -5,7 +5,7 @@ use Rattle.std.specs.List.{flat_map, list_all}
 use Rattle.std.specs.Fmt.{digits, digits_onto, digit_glyph}
 use Rattle.std.proofs.lemmas.Bool.{and_parts, cases_eq, cases_lt, eq-eqb, ne_eqb, lt-ltb, le-ltb}
 use Rattle.svg_text.specs.declared.mark.Colour.{Colour}
-use Rattle.svg_text.specs.declared.mark.Colour.TheVariants.{Ink, Grey, Blue, Orange, Slate, Sky}
+use Rattle.svg_text.specs.declared.mark.Colour.TheVariants.{Ink, Grey, Blue, Orange, Slate, Sky, White}
 use Rattle.svg_text.specs.Marks.{colour_word, escaped, escaped_byte}
 use Rattle.svg_text.specs.Reading.{is_free, is_other}
 
@@ -65,6 +65,7 @@ colour-c Blue = refl
 colour-c Orange = refl
 colour-c Slate = refl
 colour-c Sky = refl
+colour-c White = refl
 
 pub colour-end : (colour : Colour) → is_free 62 (colour_word colour) ≡ true
 colour-end Ink = refl
@@ -73,6 +74,7 @@ colour-end Blue = refl
 colour-end Orange = refl
 colour-end Slate = refl
 colour-end Sky = refl
+colour-end White = refl
 
 module _ (mark : ℕ) (amp : is_free mark (codes "&amp;") ≡ true) (less : is_free mark (codes "&lt;") ≡ true)
     (more : is_free mark (codes "&gt;") ≡ true) (quote : is_free mark (codes "&quot;") ≡ true) where
@@ -112,18 +114,22 @@ not-true : (t : Bool) → t ≡ false → (if t then false else true) ≡ true
 not-true true h = cc h
 not-true false h = refl
 
--- a text in a file has no tag's begin, no tag's end and no quote
+-- a byte of a text in a file has no tag's begin, no tag's end and no quote
+pub byte-less : (b : ℕ) → is_free 60 (escaped_byte b) ≡ true
+byte-less = free-byte 60 refl refl refl refl (λ b a l m q. not-true (b == 60) l)
+
+pub byte-more : (b : ℕ) → is_free 62 (escaped_byte b) ≡ true
+byte-more = free-byte 62 refl refl refl refl (λ b a l m q. not-true (b == 62) m)
+
+pub byte-quote : (b : ℕ) → is_free 34 (escaped_byte b) ≡ true
+byte-quote = free-byte 34 refl refl refl refl (λ b a l m q. not-true (b == 34) q)
+
+-- nor has a text
 pub escaped-less : (text : List ℕ) → is_free 60 (escaped text) ≡ true
-escaped-less =
-    free-text 60 refl refl refl refl
-    (free-byte 60 refl refl refl refl (λ b a l m q. not-true (b == 60) l))
+escaped-less = free-text 60 refl refl refl refl byte-less
 
 pub escaped-more : (text : List ℕ) → is_free 62 (escaped text) ≡ true
-escaped-more =
-    free-text 62 refl refl refl refl
-    (free-byte 62 refl refl refl refl (λ b a l m q. not-true (b == 62) m))
+escaped-more = free-text 62 refl refl refl refl byte-more
 
 pub escaped-quote : (text : List ℕ) → is_free 34 (escaped text) ≡ true
-escaped-quote =
-    free-text 34 refl refl refl refl
-    (free-byte 34 refl refl refl refl (λ b a l m q. not-true (b == 34) q))
+escaped-quote = free-text 34 refl refl refl refl byte-quote

@@ -1,15 +1,12 @@
--- The marks of a class that stand in the bytes of a picture are those of its data.
-use Rattle.std.proofs.Common.{◌≡◌, ℕ, ◌+◌, ◌==◌, Bool, true, false, List, [], ◌∷◌, ◌++◌, length, map, refl, sym, ap, ◌∙◌, arith, append_assoc, inl, inr, decimal}
+-- What stands in bytes that begin no class, and what is found at a class.
+use Rattle.std.proofs.Common.{◌≡◌, ℕ, ◌+◌, ◌==◌, Bool, true, false, List, [], ◌∷◌, ◌++◌, refl, sym, ap, ◌∙◌, arith, append_assoc, inl, inr}
 use Rattle.std.specs.Prelude.{if◌then◌else◌, ◌&&◌, codes}
-use Rattle.std.specs.List.{flat_map, list_all}
 use Rattle.std.proofs.lemmas.Bool.{and_parts, cases_eq, eq-eqb, ne_eqb}
 use Rattle.svg_text.specs.declared.class.Class.{Class}
-use Rattle.svg_text.specs.declared.class.Class.TheVariants.{Former, Finished, Chance, Span, Erase, Program, Raise, Legend}
-use Rattle.svg_text.specs.declared.mark.Area.{Area}
-use Rattle.svg_text.specs.declared.mark.Colour.{Colour}
-use Rattle.svg_text.specs.Marks.{Mark, Plain, Rect, Label, Caption, Strip, StripEnd, Picture, area_text, class_text, class_word, colour_word, escaped, fill_text, front_text, mark_text, picture_text, place_text}
-use Rattle.svg_text.specs.Reading.{before, begins, behind, is_class, is_free, is_other, marks_by, marks_in, one_more, same_words, times, untitled, words_behind, words_by, words_of}
-use Rattle.svg_text.proofs.FreeLemmas.{colour-c, colour-end, escaped-less, escaped-quote, free-append, free-decimal, other-ne}
+use Rattle.svg_text.specs.declared.class.Class.TheVariants.{Former, Finished, Chance, Span, Erase, Program, Raise, Legend, Window, Row, Join, Starts}
+use Rattle.svg_text.specs.Marks.{class_text, class_word}
+use Rattle.svg_text.specs.Reading.{begins, behind, is_class, is_free, is_other, marks_by, marks_in, same_words, words_behind}
+use Rattle.svg_text.proofs.FreeLemmas.{other-ne}
 
 -- the other way round
 pub ne-swap : (a b : ℕ) → (b == a) ≡ false → (a == b) ≡ false
@@ -25,13 +22,6 @@ behind-free mark (x ∷ xs) ys free =
     let parts = and_parts (is_other mark x) (is_free mark xs) free in
     rw (other-ne mark x parts.0) (behind-free mark xs ys parts.1)
 
-pub before-free : (mark : ℕ) (xs ys : List ℕ) → is_free mark xs ≡ true
-    → before mark (xs ++ (mark ∷ ys)) ≡ xs
-before-free mark [] ys free = rw (eq-eqb mark mark refl) refl
-before-free mark (x ∷ xs) ys free =
-    let parts = and_parts (is_other mark x) (is_free mark xs) free in
-    rw (other-ne mark x parts.0) (ap (λ zs. x ∷ zs) (before-free mark xs ys parts.1))
-
 -- bytes without a `c` begin no class
 pub skip : (class : Class) (xs ys : List ℕ) → is_free 99 xs ≡ true → marks_in class (xs ++ ys) ≡ marks_in class ys
 unfolding class_text
@@ -40,27 +30,48 @@ skip class (x ∷ xs) ys free =
     let parts = and_parts (is_other 99 x) (is_free 99 xs) free in
     rw (ne-swap 99 x (other-ne 99 x parts.0)) (skip class xs ys parts.1)
 
--- a word with a quote and no tag's begin does not stand in bytes without a quote before a tag
-begins-none : (word xs ys : List ℕ) → is_free 60 word ≡ true → is_free 34 word ≡ false → is_free 34 xs ≡ true
-    → begins word (xs ++ (60 ∷ ys)) ≡ false
-begins-none [] xs ys free quote none = cc
-begins-none (w ∷ word) [] ys free quote none =
-    let parts = and_parts (is_other 60 w) (is_free 60 word) free in rw (other-ne 60 w parts.0) refl
-begins-none (w ∷ word) (x ∷ xs) ys free quote none =
+-- no quote stands before the next tag, and there is one
+abbrev pub calm : List ℕ → Bool
+calm [] = false
+calm (b ∷ bytes) = if b == 60 then true else if b == 34 then false else calm bytes
+
+-- a word with a quote and no tag's begin does not begin such bytes
+calm-none : (word bytes : List ℕ) → is_free 60 word ≡ true → is_free 34 word ≡ false → calm bytes ≡ true
+    → begins word bytes ≡ false
+calm-none [] bytes free quote is = cc
+calm-none (w ∷ word) [] free quote is = cc
+calm-none (w ∷ word) (b ∷ bytes) free quote is =
     let parts = and_parts (is_other 60 w) (is_free 60 word) free in
-    let rest = and_parts (is_other 34 x) (is_free 34 xs) none in
-    elim (cases_eq w 34) [
-      | inl e ↦
-          let other : (34 == x) ≡ false = ne-swap 34 x (other-ne 34 x rest.0) in
-          rw (e, other) refl
-      | inr ne ↦
-          let more : is_free 34 word ≡ false = rw (ne_eqb w 34 ne) at quote in
-          rw (begins-none word xs ys parts.1 more rest.1) (and-false (w == x))
+    elim (cases_eq b 60) [
+      | inl e ↦ rw (e, other-ne 60 w parts.0) refl
+      | inr no_tag ↦ elim (cases_eq b 34) [
+        | inl e ↦ let no : false ≡ true = rw (ne_eqb b 60 no_tag, eq-eqb b 34 e) at is in cc
+        | inr no_quote ↦
+            let rest : calm bytes ≡ true = rw (ne_eqb b 60 no_tag, ne_eqb b 34 no_quote) at is in
+            elim (cases_eq w 34) [
+              | inl e ↦
+                  let other : (34 == b) ≡ false = ne-swap 34 b (ne_eqb b 34 no_quote) in
+                  rw (e, other) refl
+              | inr ne ↦
+                  let more : is_free 34 word ≡ false = rw (ne_eqb w 34 ne) at quote in
+                  rw (calm-none word bytes parts.1 more rest) (and-false (w == b))
+            ]
+      ]
     ]
   where
     and-false : (b : Bool) → (b && false) ≡ false
     and-false true = refl
     and-false false = refl
+
+pub calm-free : (xs ys : List ℕ) → is_free 34 xs ≡ true → calm ys ≡ true → calm (xs ++ ys) ≡ true
+calm-free [] ys free is = is
+calm-free (x ∷ xs) ys free is =
+    let parts = and_parts (is_other 34 x) (is_free 34 xs) free in
+    rw (other-ne 34 x parts.0, calm-free xs ys parts.1 is) (either (x == 60))
+  where
+    either : (t : Bool) → (if t then true else if false then false else true) ≡ true
+    either true = refl
+    either false = refl
 
 class-60 : (class : Class) → is_free 60 (class_text class) ≡ true
 unfolding class_text
@@ -72,19 +83,28 @@ class-60 Erase = refl
 class-60 Program = refl
 class-60 Raise = refl
 class-60 Legend = refl
+class-60 Window = refl
+class-60 Row = refl
+class-60 Join = refl
+class-60 Starts = refl
 
 class-34 : (class : Class) → is_free 34 (class_text class) ≡ false
 unfolding class_text
 class-34 class = refl
 
--- a text begins no class
+-- bytes without a quote, and such bytes behind them, begin no class
+pub skip-free : (class : Class) (xs ys : List ℕ) → is_free 34 xs ≡ true → calm ys ≡ true
+    → marks_in class (xs ++ ys) ≡ marks_in class ys
+skip-free class [] ys free is = refl
+skip-free class (x ∷ xs) ys free is =
+    let parts = and_parts (is_other 34 x) (is_free 34 xs) free in
+    rw (calm-none (class_text class) (x ∷ xs ++ ys) (class-60 class) (class-34 class) (calm-free (x ∷ xs) ys free is))
+    (skip-free class xs ys parts.1 is)
+
+-- a text before a tag begins no class
 pub skip-text : (class : Class) (text rest : List ℕ) → is_free 34 text ≡ true
     → marks_in class (text ++ (60 ∷ rest)) ≡ marks_in class (60 ∷ rest)
-skip-text class [] rest none = refl
-skip-text class (x ∷ text) rest none =
-    let parts = and_parts (is_other 34 x) (is_free 34 text) none in
-    rw (begins-none (class_text class) (x ∷ text) rest (class-60 class) (class-34 class) none)
-    (skip-text class text rest parts.1)
+skip-text class text rest free = skip-free class text (60 ∷ rest) free refl
 
 -- a class begins with another exactly where they are the same
 begins-word : (xs ys rest : List ℕ) → is_free 34 xs ≡ true → is_free 34 ys ≡ true
@@ -110,6 +130,10 @@ word-34 Erase = refl
 word-34 Program = refl
 word-34 Raise = refl
 word-34 Legend = refl
+word-34 Window = refl
+word-34 Row = refl
+word-34 Join = refl
+word-34 Starts = refl
 
 -- the rest of a class has no words
 by-class : (own : Class) (t : Bool) (rest : List ℕ) (found : List (List ℕ))
@@ -123,40 +147,36 @@ by-class Erase true rest found = refl
 by-class Program true rest found = refl
 by-class Raise true rest found = refl
 by-class Legend true rest found = refl
+by-class Window true rest found = refl
+by-class Row true rest found = refl
+by-class Join true rest found = refl
+by-class Starts true rest found = refl
+
+-- nor does it begin a class
+rest-class : (class own : Class) (rest : List ℕ)
+    → marks_in class (codes "lass=\"" ++ (class_word own ++ (34 ∷ rest))) ≡ marks_in class rest
+unfolding class_text
+rest-class class Former rest = refl
+rest-class class Finished rest = refl
+rest-class class Chance rest = refl
+rest-class class Span rest = refl
+rest-class class Erase rest = refl
+rest-class class Program rest = refl
+rest-class class Raise rest = refl
+rest-class class Legend rest = refl
+rest-class class Window rest = refl
+rest-class class Row rest = refl
+rest-class class Join rest = refl
+rest-class class Starts rest = refl
 
 -- the mark of a class is one of this class exactly where they are the same
 pub at-class : (class own : Class) (rest : List ℕ)
     → marks_in class (class_text own ++ rest) ≡ marks_by (is_class class own) rest (marks_in class rest)
 unfolding class_text
-at-class class Former rest =
-    ap (λ t. marks_by t (codes "lass=\"" ++ (class_word Former ++ (34 ∷ rest))) (marks_in class rest))
-    (begins-word (class_word class) (class_word Former) rest (word-34 class) refl)
-    ∙ by-class Former (is_class class Former) rest (marks_in class rest)
-at-class class Finished rest =
-    ap (λ t. marks_by t (codes "lass=\"" ++ (class_word Finished ++ (34 ∷ rest))) (marks_in class rest))
-    (begins-word (class_word class) (class_word Finished) rest (word-34 class) refl)
-    ∙ by-class Finished (is_class class Finished) rest (marks_in class rest)
-at-class class Chance rest =
-    ap (λ t. marks_by t (codes "lass=\"" ++ (class_word Chance ++ (34 ∷ rest))) (marks_in class rest))
-    (begins-word (class_word class) (class_word Chance) rest (word-34 class) refl)
-    ∙ by-class Chance (is_class class Chance) rest (marks_in class rest)
-at-class class Span rest =
-    ap (λ t. marks_by t (codes "lass=\"" ++ (class_word Span ++ (34 ∷ rest))) (marks_in class rest))
-    (begins-word (class_word class) (class_word Span) rest (word-34 class) refl)
-    ∙ by-class Span (is_class class Span) rest (marks_in class rest)
-at-class class Erase rest =
-    ap (λ t. marks_by t (codes "lass=\"" ++ (class_word Erase ++ (34 ∷ rest))) (marks_in class rest))
-    (begins-word (class_word class) (class_word Erase) rest (word-34 class) refl)
-    ∙ by-class Erase (is_class class Erase) rest (marks_in class rest)
-at-class class Program rest =
-    ap (λ t. marks_by t (codes "lass=\"" ++ (class_word Program ++ (34 ∷ rest))) (marks_in class rest))
-    (begins-word (class_word class) (class_word Program) rest (word-34 class) refl)
-    ∙ by-class Program (is_class class Program) rest (marks_in class rest)
-at-class class Raise rest =
-    ap (λ t. marks_by t (codes "lass=\"" ++ (class_word Raise ++ (34 ∷ rest))) (marks_in class rest))
-    (begins-word (class_word class) (class_word Raise) rest (word-34 class) refl)
-    ∙ by-class Raise (is_class class Raise) rest (marks_in class rest)
-at-class class Legend rest =
-    ap (λ t. marks_by t (codes "lass=\"" ++ (class_word Legend ++ (34 ∷ rest))) (marks_in class rest))
-    (begins-word (class_word class) (class_word Legend) rest (word-34 class) refl)
-    ∙ by-class Legend (is_class class Legend) rest (marks_in class rest)
+at-class class own rest =
+    let behind_c : List ℕ = codes "lass=\"" ++ (class_word own ++ (34 ∷ rest)) in
+    ap (λ z. marks_in class (codes "class=\"" ++ z)) (append_assoc (class_word own) (codes "\"") rest)
+    ∙ (ap (λ t. marks_by t behind_c (marks_in class behind_c))
+    (begins-word (class_word class) (class_word own) rest (word-34 class) (word-34 own))
+    ∙ (ap (λ found. marks_by (is_class class own) behind_c found) (rest-class class own rest)
+    ∙ by-class own (is_class class own) rest (marks_in class rest)))

@@ -2,15 +2,17 @@
 use Rattle.std.proofs.Common.{◌≡◌, ℕ, ◌+◌, ◌≤◌, Bool, true, false, List, [], ◌∷◌, ◌++◌, length, map, refl, sym, ap, ◌∙◌, arith, append_assoc, append-nil, decimal}
 use Rattle.std.specs.Prelude.{codes}
 use Rattle.std.specs.List.{flat_map}
-use Rattle.std.proofs.lemmas.Bool.{and_parts, cases_eq}
 use Rattle.std.proofs.lemmas.List.{length-map, map-append}
 use Rattle.svg_text.specs.declared.class.Class.{Class}
+use Rattle.svg_text.specs.declared.class.Class.TheVariants.{Starts}
 use Rattle.svg_text.specs.declared.mark.Area.{Area}
 use Rattle.svg_text.specs.declared.mark.Colour.{Colour}
-use Rattle.svg_text.specs.Marks.{Mark, Plain, Rect, Label, Caption, Strip, StripEnd, Picture, area_text, class_text, colour_word, desc_text, escaped, fill_text, front_text, ground_text, mark_text, open_text, picture_text, place_text, title_text}
-use Rattle.svg_text.specs.Reading.{before, begins, behind, is_class, is_free, is_other, marks_by, marks_in, one_more, times, untitled, untitled_by, words_behind, words_by, words_of}
-use Rattle.svg_text.proofs.FreeLemmas.{colour-c, colour-end, escaped-less, escaped-quote, free-append, free-decimal, other-ne}
-use Rattle.svg_text.proofs.MarkLemmas.{at-class, before-free, behind-free, ne-swap, skip, skip-text}
+use Rattle.svg_text.specs.declared.mark.Ends.{Ends}
+use Rattle.svg_text.specs.Marks.{Mark, Plain, Rect, Label, Caption, Strip, Column, StripEnd, Line, Lines, Picture, area_text, class_text, colour_word, desc_text, ends_text, escaped, escaped_byte, fill_text, front_text, ground_text, line_words, lines_from, mark_text, open_text, picture_text, place_text, starts_text, stroke_text, title_text}
+use Rattle.svg_text.specs.Reading.{Words, behind, is_class, is_free, marks_by, marks_in, one_more, begins, starts_by, times, words_behind, words_by, words_from, words_of}
+use Rattle.svg_text.proofs.FreeLemmas.{colour-c, colour-end, escaped-quote, free-append, free-decimal}
+use Rattle.svg_text.proofs.MarkLemmas.{at-class, behind-free, calm, skip, skip-text}
+use Rattle.svg_text.proofs.WordLemmas.{all-words, ended, line-words, lines-rest, text-words, title-words}
 
 -- attributes have no mark above the digits that their names lack
 module _ (mark : ℕ) (high : 58 ≤ mark) where
@@ -45,23 +47,43 @@ fill-end : (colour : Colour) → is_free 62 (fill_text colour) ≡ true
 unfolding fill_text
 fill-end colour = free-append 62 (colour_word colour) (codes "\"") (colour-end colour) refl
 
--- words have no title's tag in front of them
-untitled-text : (words rest : List ℕ)
-    → untitled (escaped words ++ (codes "</text>\n" ++ rest)) ≡ escaped words ++ (codes "</text>\n" ++ rest)
-untitled-text words rest = go (escaped words) (escaped-less words)
-  where
-    go : (xs : List ℕ) → is_free 60 xs ≡ true
-        → untitled (xs ++ (codes "</text>\n" ++ rest)) ≡ xs ++ (codes "</text>\n" ++ rest)
-    go [] free = refl
-    go (x ∷ xs) free =
-        let parts = and_parts (is_other 60 x) (is_free 60 xs) free in
-        rw (ne-swap 60 x (other-ne 60 x parts.0)) refl
+ends-c : (ends : Ends) → is_free 99 (ends_text ends) ≡ true
+unfolding ends_text
+ends-c ends =
+    number 99 (omega arith) ends.x1 _ (number 99 (omega arith) ends.y1 _ (number 99 (omega arith) ends.x2 _
+    (number 99 (omega arith) ends.y2 _ refl)))
+
+ends-end : (ends : Ends) → is_free 62 (ends_text ends) ≡ true
+unfolding ends_text
+ends-end ends =
+    number 62 (omega arith) ends.x1 _ (number 62 (omega arith) ends.y1 _ (number 62 (omega arith) ends.x2 _
+    (number 62 (omega arith) ends.y2 _ refl)))
+
+stroke-c : (colour : Colour) → is_free 99 (stroke_text colour) ≡ true
+unfolding stroke_text
+stroke-c colour = free-append 99 (colour_word colour) (codes "\"") (colour-c colour) refl
+
+stroke-end : (colour : Colour) → is_free 62 (stroke_text colour) ≡ true
+unfolding stroke_text
+stroke-end colour = free-append 62 (colour_word colour) (codes "\"") (colour-end colour) refl
 
 -- what a mark adds, where its words are found
 found-by : (t : Bool) (words rest : List ℕ) (found : List (List ℕ)) → words_behind rest ≡ escaped words
     → marks_by t rest found ≡ map escaped (words_by t words) ++ found
 found-by true words rest found is = ap (λ w. w ∷ found) is
 found-by false words rest found is = refl
+
+-- the word that is read at a class of its own
+starts-word : (rest : List ℕ)
+    → words_behind (codes " font-weight=\"bold\">starts</tspan>" ++ rest) ≡ escaped (codes "starts")
+unfolding escaped_byte
+starts-word rest = ap (λ z. codes "starts" ++ z) (ended rest)
+
+-- no quote stands behind words in lines before a tag
+tail-calm : (starts : Bool) (rest : List ℕ) → calm (starts_text starts ++ (codes "</text>\n" ++ rest)) ≡ true
+unfolding starts_text
+tail-calm true rest = refl
+tail-calm false rest = refl
 
 module _ (class : Class) where
   -- the front of a tag begins no class
@@ -77,6 +99,18 @@ module _ (class : Class) where
   unfolding class_text
   end-rect rest = refl
 
+  tag-line : (rest : List ℕ) → marks_in class (codes "<line" ++ rest) ≡ marks_in class rest
+  unfolding class_text
+  tag-line rest = refl
+
+  end-line : (rest : List ℕ) → marks_in class (codes "</title></line>\n" ++ rest) ≡ marks_in class rest
+  unfolding class_text
+  end-line rest = refl
+
+  front-lines : (rest : List ℕ) → marks_in class (codes " xml:space=\"preserve\">" ++ rest) ≡ marks_in class rest
+  unfolding class_text
+  front-lines rest = refl
+
   end-text : (rest : List ℕ) → marks_in class (codes "</text>\n" ++ rest) ≡ marks_in class rest
   unfolding class_text
   end-text rest = refl
@@ -85,6 +119,11 @@ module _ (class : Class) where
       → marks_in class (codes " 1\" preserveAspectRatio=\"none\">\n" ++ rest) ≡ marks_in class rest
   unfolding class_text
   end-strip rest = refl
+
+  end-column : (rest : List ℕ)
+      → marks_in class (codes "\" preserveAspectRatio=\"none\">\n" ++ rest) ≡ marks_in class rest
+  unfolding class_text
+  end-column rest = refl
 
   end-mark : (rest : List ℕ) → marks_in class (mark_text StripEnd ++ rest) ≡ marks_in class rest
   unfolding class_text mark_text
@@ -128,9 +167,9 @@ module _ (class : Class) where
       → words_behind (titled area colour title rest) ≡ escaped title
   unfolding titled
   titled-words area colour title rest =
-      ap (λ z. before 60 (untitled z)) (behind-free 62 (area_text area) _ (area-end area)
+      ap (λ z. words_from (Words 0) z) (behind-free 62 (area_text area) _ (area-end area)
       ∙ behind-free 62 (fill_text colour) _ (fill-end colour))
-      ∙ before-free 60 (escaped title) _ (escaped-less title)
+      ∙ title-words title rest
 
   titled-rest : (area : Area) (colour : Colour) (title rest : List ℕ)
       → marks_in class (titled area colour title rest) ≡ marks_in class rest
@@ -162,9 +201,8 @@ module _ (class : Class) where
   worded-words : (x y : ℕ) (words rest : List ℕ) → words_behind (worded x y words rest) ≡ escaped words
   unfolding worded
   worded-words x y words rest =
-      ap (λ z. before 60 (untitled z)) (behind-free 62 (place_text x y) _ (place-end x y))
-      ∙ ap (λ z. before 60 z) (untitled-text words _)
-      ∙ before-free 60 (escaped words) _ (escaped-less words)
+      ap (λ z. words_from (Words 0) z) (behind-free 62 (place_text x y) _ (place-end x y))
+      ∙ text-words words rest
 
   worded-rest : (x y : ℕ) (words rest : List ℕ)
       → marks_in class (worded x y words rest) ≡ marks_in class rest
@@ -203,6 +241,104 @@ module _ (class : Class) where
       ∙ skip class (codes " viewBox=\"0 0 ") _ refl
       ∙ skip class (decimal units) _ (free-decimal 99 (omega arith) units) ∙ end-strip rest
 
+  column : (area : Area) (units : ℕ) (rest : List ℕ)
+      → marks_in class (mark_text (Column area units) ++ rest) ≡ marks_in class rest
+  unfolding mark_text
+  column area units rest =
+      ap (λ z. marks_in class (codes "<svg" ++ z)) (append_assoc (area_text area) _ rest
+      ∙ ap (λ z. area_text area ++ (codes " viewBox=\"0 0 1 " ++ z)) (append_assoc (decimal units) _ rest))
+      ∙ skip class (codes "<svg") _ refl ∙ skip class (area_text area) _ (area-c area)
+      ∙ skip class (codes " viewBox=\"0 0 1 ") _ refl
+      ∙ skip class (decimal units) _ (free-decimal 99 (omega arith) units) ∙ end-column rest
+
+  -- a title in a line
+  lined : Ends → Colour → List ℕ → List ℕ → List ℕ
+  lined ends colour title rest =
+      ends_text ends ++ (stroke_text colour ++ (codes "><title>" ++ (escaped title
+      ++ (codes "</title></line>\n" ++ rest))))
+
+  lined-words : (ends : Ends) (colour : Colour) (title rest : List ℕ)
+      → words_behind (lined ends colour title rest) ≡ escaped title
+  unfolding lined
+  lined-words ends colour title rest =
+      ap (λ z. words_from (Words 0) z) (behind-free 62 (ends_text ends) _ (ends-end ends)
+      ∙ behind-free 62 (stroke_text colour) _ (stroke-end colour))
+      ∙ line-words title rest
+
+  lined-rest : (ends : Ends) (colour : Colour) (title rest : List ℕ)
+      → marks_in class (lined ends colour title rest) ≡ marks_in class rest
+  unfolding lined
+  lined-rest ends colour title rest =
+      skip class (ends_text ends) _ (ends-c ends) ∙ skip class (stroke_text colour) _ (stroke-c colour)
+      ∙ skip class (codes "><title>") _ refl ∙ skip-text class (escaped title) _ (escaped-quote title)
+      ∙ end-line rest
+
+  line : (own : Class) (ends : Ends) (colour : Colour) (title rest : List ℕ)
+      → marks_in class (mark_text (Line own ends colour title) ++ rest)
+      ≡ map escaped (words_by (is_class class own) title) ++ marks_in class rest
+  unfolding lined mark_text
+  line own ends colour title rest =
+      ap (λ z. marks_in class (codes "<line " ++ z)) (append_assoc (class_text own) _ rest
+      ∙ ap (λ z. class_text own ++ z) (append_assoc (ends_text ends) _ rest
+      ∙ ap (λ z. ends_text ends ++ z) (append_assoc (stroke_text colour) _ rest
+      ∙ ap (λ z. stroke_text colour ++ (codes "><title>" ++ z)) (append_assoc (escaped title) _ rest))))
+      ∙ tag-line _ ∙ skip class (codes " ") _ refl ∙ at-class class own (lined ends colour title rest)
+      ∙ found-by (is_class class own) title _ _ (lined-words ends colour title rest)
+      ∙ ap (λ found. map escaped (words_by (is_class class own) title) ++ found)
+      (lined-rest ends colour title rest)
+
+  -- the word behind words in lines
+  starts-found : (starts : Bool) (rest : List ℕ)
+      → marks_in class (starts_text starts ++ (codes "</text>\n" ++ rest))
+      ≡ map escaped (starts_by class starts) ++ marks_in class rest
+  unfolding starts_text
+  starts-found false rest = end-text rest
+  starts-found true rest =
+      let tail : List ℕ = codes " font-weight=\"bold\">starts</tspan>" ++ (codes "</text>\n" ++ rest) in
+      ap (λ z. marks_in class (codes " <tspan " ++ z)) (append_assoc (class_text Starts) _ (codes "</text>\n" ++ rest))
+      ∙ (skip class (codes " <tspan ") _ refl ∙ (at-class class Starts tail
+      ∙ (found-by (is_class class Starts) (codes "starts") tail _ (starts-word (codes "</text>\n" ++ rest))
+      ∙ ap (λ found. map escaped (words_by (is_class class Starts) (codes "starts")) ++ found)
+      (skip class (codes " font-weight=\"bold\">starts</tspan>") _ refl ∙ end-text rest))))
+
+  -- words in lines, and what stands behind them
+  broken : ℕ → ℕ → List ℕ → Bool → List ℕ → List ℕ
+  broken x y words starts rest =
+      place_text x y ++ (codes " xml:space=\"preserve\">" ++ (lines_from x 0 words
+      ++ (starts_text starts ++ (codes "</text>\n" ++ rest))))
+
+  broken-words : (x y : ℕ) (words : List ℕ) (starts : Bool) (rest : List ℕ)
+      → words_behind (broken x y words starts rest) ≡ escaped (line_words words starts)
+  unfolding broken
+  broken-words x y words starts rest =
+      ap (λ z. words_from (Words 0) z) (behind-free 62 (place_text x y) _ (place-end x y))
+      ∙ all-words x words starts rest
+
+  broken-rest : (x y : ℕ) (words : List ℕ) (starts : Bool) (rest : List ℕ)
+      → marks_in class (broken x y words starts rest) ≡ map escaped (starts_by class starts) ++ marks_in class rest
+  unfolding broken
+  broken-rest x y words starts rest =
+      skip class (place_text x y) _ (place-c x y) ∙ front-lines _
+      ∙ lines-rest class x 0 words (starts_text starts ++ (codes "</text>\n" ++ rest)) (tail-calm starts rest)
+      ∙ starts-found starts rest
+
+  lines : (own : Class) (x y : ℕ) (words : List ℕ) (starts : Bool) (rest : List ℕ)
+      → marks_in class (mark_text (Lines own x y words starts) ++ rest)
+      ≡ map escaped (words_by (is_class class own) (line_words words starts) ++ starts_by class starts)
+      ++ marks_in class rest
+  unfolding broken mark_text
+  lines own x y words starts rest =
+      let found = words_by (is_class class own) (line_words words starts) in
+      ap (λ z. marks_in class (codes "<text " ++ z)) (append_assoc (class_text own) _ rest
+      ∙ ap (λ z. class_text own ++ z) (append_assoc (place_text x y) _ rest
+      ∙ ap (λ z. place_text x y ++ (codes " xml:space=\"preserve\">" ++ z)) (append_assoc (lines_from x 0 words) _ rest
+      ∙ ap (λ z. lines_from x 0 words ++ z) (append_assoc (starts_text starts) _ rest))))
+      ∙ tag-text _ ∙ skip class (codes " ") _ refl ∙ at-class class own (broken x y words starts rest)
+      ∙ found-by (is_class class own) (line_words words starts) _ _ (broken-words x y words starts rest)
+      ∙ ap (λ z. map escaped found ++ z) (broken-rest x y words starts rest)
+      ∙ sym (append_assoc (map escaped found) (map escaped (starts_by class starts)) (marks_in class rest))
+      ∙ ap (λ z. z ++ marks_in class rest) (sym (map-append escaped found (starts_by class starts)))
+
   mark-reads : (mark : Mark) (rest : List ℕ)
       → marks_in class (mark_text mark ++ rest) ≡ map escaped (words_of class mark) ++ marks_in class rest
   mark-reads (Plain area colour) rest = plain area colour rest
@@ -210,7 +346,10 @@ module _ (class : Class) where
   mark-reads (Label x y words) rest = label x y words rest
   mark-reads (Caption own x y words) rest = caption own x y words rest
   mark-reads (Strip area units) rest = strip area units rest
+  mark-reads (Column area units) rest = column area units rest
   mark-reads StripEnd rest = end-mark rest
+  mark-reads (Line own ends colour title) rest = line own ends colour title rest
+  mark-reads (Lines own x y words starts) rest = lines own x y words starts rest
 
   marks-read : (marks : List Mark) (rest : List ℕ)
       → marks_in class (flat_map mark_text marks ++ rest)
@@ -227,10 +366,11 @@ module _ (class : Class) where
   open-reads : (height : ℕ) (rest : List ℕ) → marks_in class (open_text height ++ rest) ≡ marks_in class rest
   unfolding open_text
   open-reads height rest =
-      ap (λ z. marks_in class (codes "<svg xmlns=\"http://www.w3.org/2000/svg\" version=\"1.1\" width=\"960\" height=\"" ++ z))
-      (append_assoc (decimal height) _ rest
+      ap (λ z. marks_in class (codes "<svg xmlns=\"http://www.w3.org/2000/svg\" version=\"1.1\" width=\"960\" height=\""
+      ++ z)) (append_assoc (decimal height) _ rest
       ∙ ap (λ z. decimal height ++ (codes "\" viewBox=\"0 0 960 " ++ z)) (append_assoc (decimal height) _ rest))
-      ∙ skip class (codes "<svg xmlns=\"http://www.w3.org/2000/svg\" version=\"1.1\" width=\"960\" height=\"") _ refl
+      ∙ skip class (codes "<svg xmlns=\"http://www.w3.org/2000/svg\" version=\"1.1\" width=\"960\" height=\"") _
+      refl
       ∙ skip class (decimal height) _ (free-decimal 99 (omega arith) height)
       ∙ skip class (codes "\" viewBox=\"0 0 960 ") _ refl
       ∙ skip class (decimal height) _ (free-decimal 99 (omega arith) height)

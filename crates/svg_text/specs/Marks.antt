@@ -1,13 +1,14 @@
 -- The marks of a picture, and their bytes in an SVG file: SVG 1.1, chapters 5 (structure), 9 (basic
 -- shapes) and 10 (text). Which marks there are, and the order of their attributes, is this
 -- project's own.
-use Rattle.std.specs.Prelude.{ℕ, Bool, if◌then◌else◌, ◌==◌, List, [], ◌∷◌, ◌++◌, codes, decimal}
+use Rattle.std.specs.Prelude.{ℕ, ◌+◌, ◌%◌, Bool, true, false, if◌then◌else◌, ◌==◌, ◌&&◌, nat_lt, List, [], ◌∷◌, ◌++◌, codes, decimal, length}
 use Rattle.std.specs.List.{flat_map}
 use Rattle.svg_text.specs.declared.class.Class.{Class}
-use Rattle.svg_text.specs.declared.class.Class.TheVariants.{Former, Finished, Chance, Span, Erase, Program, Raise, Legend}
+use Rattle.svg_text.specs.declared.class.Class.TheVariants.{Former, Finished, Chance, Span, Erase, Program, Raise, Legend, Window, Row, Join, Starts}
 use Rattle.svg_text.specs.declared.mark.Area.{Area}
+use Rattle.svg_text.specs.declared.mark.Ends.{Ends}
 use Rattle.svg_text.specs.declared.mark.Colour.{Colour}
-use Rattle.svg_text.specs.declared.mark.Colour.TheVariants.{Ink, Grey, Blue, Orange, Slate, Sky}
+use Rattle.svg_text.specs.declared.mark.Colour.TheVariants.{Ink, Grey, Blue, Orange, Slate, Sky, White}
 
 -- the word of a class
 abbrev pub class_word : Class → List ℕ
@@ -19,6 +20,10 @@ class_word Erase = codes "erase"
 class_word Program = codes "program"
 class_word Raise = codes "raise"
 class_word Legend = codes "legend"
+class_word Window = codes "window"
+class_word Row = codes "row"
+class_word Join = codes "join"
+class_word Starts = codes "starts"
 
 -- the six digits of a colour
 abbrev pub colour_word : Colour → List ℕ
@@ -28,6 +33,7 @@ colour_word Blue = codes "00509e"
 colour_word Orange = codes "e98a15"
 colour_word Slate = codes "505050"
 colour_word Sky = codes "9ed0f5"
+colour_word White = codes "ffffff"
 
 -- a byte of a text, as it stands in a file: `&`, `<`, `>` and the quote have names
 unfoldable pub escaped_byte : ℕ → List ℕ
@@ -53,8 +59,16 @@ pub data Mark : Type 0 where
   -- The marks up to the next end of a strip lie in this area, which is so many units wide, and one
   -- high.
   Strip : (area : Area) → (units : ℕ) → Mark
-  -- the end of a strip
+  -- The marks up to the next end of a strip lie in this area, which is so many units high, and one
+  -- wide.
+  Column : (area : Area) → (units : ℕ) → Mark
+  -- the end of a strip or a column
   StripEnd : Mark
+  -- a line that is counted, with a title in it
+  Line : (class : Class) → (ends : Ends) → (colour : Colour) → (title : List ℕ) → Mark
+  -- Words that are counted, in lines of 80; behind them, where this is asked for, a blank and the
+  -- word `starts`, which is counted too.
+  Lines : (class : Class) → (x y : ℕ) → (words : List ℕ) → (starts : Bool) → Mark
 
 -- where and how large, as attributes
 unfoldable pub area_text : Area → List ℕ
@@ -68,11 +82,63 @@ unfoldable pub place_text : ℕ → ℕ → List ℕ
 place_text x y =
     codes " x=\"" ++ (decimal x ++ (codes "\" y=\"" ++ (decimal y ++ codes "\"")))
 
+-- the two ends of a line, as attributes
+unfoldable pub ends_text : Ends → List ℕ
+ends_text ends =
+    codes " x1=\"" ++ (decimal ends.x1 ++ (codes "\" y1=\"" ++ (decimal ends.y1
+    ++ (codes "\" x2=\"" ++ (decimal ends.x2 ++ (codes "\" y2=\""
+    ++ (decimal ends.y2 ++ codes "\"")))))))
+
 unfoldable pub class_text : Class → List ℕ
 class_text class = codes "class=\"" ++ (class_word class ++ codes "\"")
 
 unfoldable pub fill_text : Colour → List ℕ
 fill_text colour = codes " fill=\"#" ++ (colour_word colour ++ codes "\"")
+
+unfoldable pub stroke_text : Colour → List ℕ
+stroke_text colour = codes " stroke=\"#" ++ (colour_word colour ++ codes "\"")
+
+-- How many bytes of words stand in a line; the word `starts` may stand behind them.
+abbrev pub line_length : ℕ
+line_length = 80
+
+-- how far the next line of words lies below a line
+abbrev pub line_height : ℕ
+line_height = 20
+
+abbrev pub text_if : Bool → List ℕ → List ℕ
+text_if true text = text
+text_if false text = []
+
+-- The first line of words stands in its element itself, each further one in an element of its own:
+-- its beginning, and its end before the byte of this number, if it has begun there.
+unfoldable pub line_text : ℕ → List ℕ
+line_text x = codes "<tspan x=\"" ++ (decimal x ++ codes "\" dy=\"20\">")
+
+unfoldable pub line_end : ℕ → List ℕ
+line_end i = text_if (nat_lt line_length i) (codes "</tspan>")
+
+-- a further line begins with the byte of this number
+abbrev pub is_broken : ℕ → Bool
+is_broken i = nat_lt 0 i && (i % line_length == 0)
+
+unfoldable pub break_text : ℕ → ℕ → List ℕ
+break_text x i = text_if (is_broken i) (line_end i ++ line_text x)
+
+-- the bytes of words from the byte of number i on, in lines that begin at x
+abbrev pub lines_from : ℕ → ℕ → List ℕ → List ℕ
+lines_from x i [] = line_end i
+lines_from x i (b ∷ words) = break_text x i ++ (escaped_byte b ++ lines_from x (i + 1) words)
+
+-- a blank and the word `starts`
+unfoldable pub starts_text : Bool → List ℕ
+starts_text starts =
+    text_if starts
+    (codes " <tspan " ++ (class_text Starts ++ codes " font-weight=\"bold\">starts</tspan>"))
+
+-- words, with these behind them or not
+abbrev pub line_words : List ℕ → Bool → List ℕ
+line_words words starts = words ++ text_if starts (codes " starts")
 
 -- the bytes of a mark
 unfoldable pub mark_text : Mark → List ℕ
@@ -89,7 +155,16 @@ mark_text (Caption class x y words) =
 mark_text (Strip area units) =
     codes "<svg" ++ (area_text area ++ (codes " viewBox=\"0 0 " ++ (decimal units
     ++ codes " 1\" preserveAspectRatio=\"none\">\n")))
+mark_text (Column area units) =
+    codes "<svg" ++ (area_text area ++ (codes " viewBox=\"0 0 1 " ++ (decimal units
+    ++ codes "\" preserveAspectRatio=\"none\">\n")))
 mark_text StripEnd = codes "</svg>\n"
+mark_text (Line class ends colour title) =
+    codes "<line " ++ (class_text class ++ (ends_text ends ++ (stroke_text colour
+    ++ (codes "><title>" ++ (escaped title ++ codes "</title></line>\n")))))
+mark_text (Lines class x y words starts) =
+    codes "<text " ++ (class_text class ++ (place_text x y ++ (codes " xml:space=\"preserve\">"
+    ++ (lines_from x 0 words ++ (starts_text starts ++ codes "</text>\n")))))
 
 -- how a picture of this height begins, up to its title
 unfoldable pub open_text : ℕ → List ℕ
@@ -101,7 +176,8 @@ open_text height =
 -- the end of what a picture shows, and its white ground
 unfoldable pub ground_text : ℕ → List ℕ
 ground_text height =
-    codes "</desc>\n<rect width=\"960\" height=\"" ++ (decimal height ++ codes "\" fill=\"#ffffff\"/>\n")
+    codes "</desc>\n<rect width=\"960\" height=\""
+    ++ (decimal height ++ codes "\" fill=\"#ffffff\"/>\n")
 
 -- the beginning of a picture of this height, and its title
 unfoldable pub title_text : ℕ → List ℕ → List ℕ

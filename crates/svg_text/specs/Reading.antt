@@ -1,8 +1,9 @@
 -- The marks of a class that stand in the bytes of a picture, with their words. This project's own.
-use Rattle.std.specs.Prelude.{ℕ, ◌+◌, Bool, true, false, ◌==◌, ◌&&◌, if◌then◌else◌, List, [], ◌∷◌, codes, drop}
+use Rattle.std.specs.Prelude.{◌+◌, Bool, true, false, ◌==◌, ◌&&◌, if◌then◌else◌, ℕ, zero, suc, List, [], ◌∷◌, ◌++◌, codes, map}
 use Rattle.std.specs.List.{list_all}
 use Rattle.svg_text.specs.declared.class.Class.{Class}
-use Rattle.svg_text.specs.Marks.{Mark, Plain, Rect, Label, Caption, Strip, StripEnd, class_text, class_word}
+use Rattle.svg_text.specs.declared.class.Class.TheVariants.{Starts}
+use Rattle.svg_text.specs.Marks.{Mark, Plain, Rect, Label, Caption, Strip, Column, StripEnd, Line, Lines, class_text, class_word, line_words}
 
 -- the bytes begin with these
 abbrev pub begins : List ℕ → List ℕ → Bool
@@ -29,27 +30,46 @@ abbrev pub behind : ℕ → List ℕ → List ℕ
 behind mark [] = []
 behind mark (b ∷ bytes) = behind_by (b == mark) bytes (behind mark bytes)
 
-abbrev pub before_by : Bool → ℕ → List ℕ → List ℕ
-before_by true b later = []
-before_by false b later = b ∷ later
+-- where a byte stands that is read behind the tag of a mark
+pub data Place : Type 0 where
+  -- in words, within so many further elements
+  Words : (depth : ℕ) → Place
+  -- behind the `<` of a tag that begins within so many elements
+  Begun : (depth : ℕ) → Place
+  -- in a tag, behind which one is within so many further elements
+  Tag : (depth : ℕ) → Place
+  -- behind the `<` of the tag that ends the mark
+  Ended : Place
 
--- the bytes before the first of this value
-abbrev pub before : ℕ → List ℕ → List ℕ
-before mark [] = []
-before mark (b ∷ bytes) = before_by (b == mark) b (before mark bytes)
+-- behind the `/` of a tag that ends an element
+abbrev pub closed : ℕ → Place
+closed zero = Ended
+closed (suc depth) = Tag depth
 
-abbrev pub untitled_by : Bool → List ℕ → List ℕ
-untitled_by true bytes = drop 7 bytes
-untitled_by false bytes = bytes
+-- the place behind a byte
+abbrev pub next_place : Place → ℕ → Place
+next_place (Words depth) b = if b == 60 then Begun depth else Words depth
+next_place (Begun depth) b = if b == 47 then closed depth else Tag (depth + 1)
+next_place (Tag depth) b = if b == 62 then Words depth else Tag depth
+next_place Ended b = Ended
 
--- the bytes without the tag of a title in front of them
-abbrev pub untitled : List ℕ → List ℕ
-untitled bytes = untitled_by (begins (codes "<title>") bytes) bytes
+-- a byte of words is kept
+abbrev pub kept : Place → ℕ → List ℕ → List ℕ
+kept (Words depth) b rest = if b == 60 then rest else b ∷ rest
+kept (Begun depth) b rest = rest
+kept (Tag depth) b rest = rest
+kept Ended b rest = rest
 
--- The words of a tag, from bytes within the tag on: what stands behind the tag, or in a title
--- there, up to the next tag. They are as they stand in the file.
+-- the bytes from a place on up to the tag that ends the mark, without the tags between them
+abbrev pub words_from : Place → List ℕ → List ℕ
+words_from place [] = []
+words_from place (b ∷ bytes) = kept place b (words_from (next_place place b) bytes)
+
+-- The words of a mark, from bytes within its tag on: what stands behind the tag up to the tag that
+-- ends its element, tags left out. No tag in a mark ends in `/>`. The words are as they stand in the
+-- file.
 abbrev pub words_behind : List ℕ → List ℕ
-words_behind bytes = before 60 (untitled (behind 62 bytes))
+words_behind bytes = words_from (Words 0) (behind 62 bytes)
 
 abbrev pub marks_by : Bool → List ℕ → List (List ℕ) → List (List ℕ)
 marks_by true bytes rest = words_behind bytes ∷ rest
@@ -75,14 +95,23 @@ abbrev pub words_by : Bool → List ℕ → List (List ℕ)
 words_by true words = words ∷ []
 words_by false words = []
 
--- the words of a mark, where it is counted under this class
+-- the word `starts`, where it stands behind words and is counted under this class
+abbrev pub starts_by : Class → Bool → List (List ℕ)
+starts_by class true = words_by (is_class class Starts) (codes "starts")
+starts_by class false = []
+
+-- the words of what is counted under this class in a mark
 abbrev pub words_of : Class → Mark → List (List ℕ)
 words_of class (Plain area colour) = []
 words_of class (Rect own area colour title) = words_by (is_class class own) title
 words_of class (Label x y words) = []
 words_of class (Caption own x y words) = words_by (is_class class own) words
 words_of class (Strip area units) = []
+words_of class (Column area units) = []
 words_of class StripEnd = []
+words_of class (Line own ends colour title) = words_by (is_class class own) title
+words_of class (Lines own x y words starts) =
+    words_by (is_class class own) (line_words words starts) ++ starts_by class starts
 
 -- no byte has this value
 abbrev pub is_other : ℕ → ℕ → Bool

@@ -23,6 +23,14 @@ pub enum Class {
     Raise,
     /// A count of the legend.
     Legend,
+    /// A window of a flash.
+    Window,
+    /// What is said of a window.
+    Row,
+    /// What joins a window and its row.
+    Join,
+    /// The word of a window that is started.
+    Starts,
 }
 
 /// The word of a class.
@@ -38,6 +46,10 @@ pub fn class_word(class: Class) -> &'static str
         Class::Program => "program",
         Class::Raise => "raise",
         Class::Legend => "legend",
+        Class::Window => "window",
+        Class::Row => "row",
+        Class::Join => "join",
+        Class::Starts => "starts",
     }
 }
 

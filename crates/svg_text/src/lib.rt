@@ -7,11 +7,14 @@
 mod class;
 pub mod examples;
 pub mod laws;
+mod lines;
 mod mark;
 mod writing;
 
 pub use class::{Class, class_word, is_class};
-pub use mark::{Area, Colour};
+pub use lines::{LINE_HEIGHT, LINE_LENGTH, push_lines};
+pub use mark::{Area, Colour, Ends};
 pub use writing::{
-    close_strip, open_strip, push_caption, push_end, push_front, push_label, push_plain, push_rect,
+    close_strip, open_column, open_strip, push_caption, push_end, push_front, push_label, push_line,
+    push_plain, push_rect,
 };

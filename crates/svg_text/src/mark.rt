@@ -16,6 +16,19 @@ pub struct Area {
     pub height: usize,
 }
 
+/// The two ends of a line, in points of the picture.
+#[derive(Clone, Copy, Debug, PartialEq, Eq)]
+pub struct Ends {
+    /// How far the first end is from the left.
+    pub x1: usize,
+    /// How far the first end is from the top.
+    pub y1: usize,
+    /// How far the second end is from the left.
+    pub x2: usize,
+    /// How far the second end is from the top.
+    pub y2: usize,
+}
+
 /// A colour. Those who see red and green alike tell them apart, and so does who sees none: no two
 /// that stand for something in one row are equally light.
 #[derive(Clone, Copy, Debug, PartialEq, Eq)]
@@ -32,6 +45,8 @@ pub enum Colour {
     Slate,
     /// A light blue.
     Sky,
+    /// The ground between a frame and rectangles.
+    White,
 }
 
 /// The six digits of a colour.
@@ -45,5 +60,6 @@ pub fn colour_word(colour: Colour) -> &'static str
         Colour::Orange => "e98a15",
         Colour::Slate => "505050",
         Colour::Sky => "9ed0f5",
+        Colour::White => "ffffff",
     }
 }

@@ -1,15 +1,15 @@
 //! Marks to bytes.
 
 ghost use Rattle.std.specs.Prelude.{◌≡◌, ◌++◌, IfOk, OnOk, codes, string_bytes};
-ghost use Rattle.svg_text.specs.Marks.{Caption, Label, Plain, Rect, Strip, StripEnd, area_text, class_text, desc_text, escaped, escaped_byte, fill_text, front_text, ground_text, mark_text, open_text, place_text, title_text};
+ghost use Rattle.svg_text.specs.Marks.{Caption, Column, Label, Line, Plain, Rect, Strip, StripEnd, area_text, class_text, desc_text, ends_text, escaped, escaped_byte, fill_text, front_text, ground_text, mark_text, open_text, place_text, stroke_text, title_text};
 
 use crate::class::{Class, class_word};
-use crate::mark::{Area, Colour, colour_word};
+use crate::mark::{Area, Colour, Ends, colour_word};
 use std::alloc::{AllocError, Global};
 
 /// Appends a byte of a text as it stands in a file.
 #[tactic(auto, unfolding(crate::specs::Marks::escaped_byte))]
-fn push_escaped_byte(out: &mut Vec<u8>, byte: u8) -> Result<(), AllocError>
+pub(crate) fn push_escaped_byte(out: &mut Vec<u8>, byte: u8) -> Result<(), AllocError>
     ensures { OnOk result (out.new.items ≡ out.old.items ++ escaped_byte byte) }
 {
     match byte {
@@ -57,7 +57,7 @@ fn area_text(alloc: Global, area: Area) -> Result<String, AllocError>
 
 /// A class, as an attribute.
 #[tactic(auto, unfolding(crate::specs::Marks::class_text))]
-fn class_text(alloc: Global, class: Class) -> Result<String, AllocError>
+pub(crate) fn class_text(alloc: Global, class: Class) -> Result<String, AllocError>
     ensures { IfOk result (λ t. string_bytes t ≡ class_text class) }
 {
     let class = class_word(class);
@@ -75,10 +75,28 @@ fn fill_text(alloc: Global, colour: Colour) -> Result<String, AllocError>
 
 /// Where words begin, as attributes.
 #[tactic(auto, unfolding(crate::specs::Marks::place_text))]
-fn place_text(alloc: Global, x: usize, y: usize) -> Result<String, AllocError>
+pub(crate) fn place_text(alloc: Global, x: usize, y: usize) -> Result<String, AllocError>
     ensures { IfOk result (λ t. string_bytes t ≡ place_text x y) }
 {
     format!(in alloc; " x=\"{x}\" y=\"{y}\"")
+}
+
+/// The two ends of a line, as attributes.
+#[tactic(auto, unfolding(crate::specs::Marks::ends_text))]
+fn ends_text(alloc: Global, ends: Ends) -> Result<String, AllocError>
+    ensures { IfOk result (λ t. string_bytes t ≡ ends_text ends) }
+{
+    let Ends { x1, y1, x2, y2 } = ends;
+    format!(in alloc; " x1=\"{x1}\" y1=\"{y1}\" x2=\"{x2}\" y2=\"{y2}\"")
+}
+
+/// The colour of a line, as an attribute.
+#[tactic(auto, unfolding(crate::specs::Marks::stroke_text))]
+fn stroke_text(alloc: Global, colour: Colour) -> Result<String, AllocError>
+    ensures { IfOk result (λ t. string_bytes t ≡ stroke_text colour) }
+{
+    let colour = colour_word(colour);
+    format!(in alloc; " stroke=\"#{colour}\"")
 }
 
 /// Appends a rectangle that is not counted.
@@ -115,6 +133,26 @@ pub fn push_rect(
     let fill = fill_text(alloc, colour)?;
     let front = format!(in alloc; "<rect {class}{area}{fill}><title>")?;
     push_between(out, &front, title, "</title></rect>\n")
+}
+
+/// Appends a line that is counted, with a title in it.
+#[tactic(auto, unfolding(crate::specs::Marks::mark_text))]
+pub fn push_line(
+    alloc: Global,
+    out: &mut Vec<u8>,
+    class: Class,
+    ends: Ends,
+    colour: Colour,
+    title: &str,
+) -> Result<(), AllocError>
+    ensures { OnOk result (out.new.items
+        ≡ out.old.items ++ mark_text (Line class ends colour title.now)) }
+{
+    let class = class_text(alloc, class)?;
+    let ends = ends_text(alloc, ends)?;
+    let stroke = stroke_text(alloc, colour)?;
+    let front = format!(in alloc; "<line {class}{ends}{stroke}><title>")?;
+    push_between(out, &front, title, "</title></line>\n")
 }
 
 /// Appends words that are not counted, which begin at this place.
@@ -170,7 +208,25 @@ pub fn open_strip(
     out.extend_from_slice(front.as_bytes())
 }
 
-/// Ends a strip.
+/// Begins a column: the marks up to its end lie in this area, which is so many units high, and one
+/// wide.
+#[tactic(auto, unfolding(crate::specs::Marks::mark_text))]
+pub fn open_column(
+    alloc: Global,
+    out: &mut Vec<u8>,
+    area: Area,
+    units: usize,
+) -> Result<(), AllocError>
+    ensures { OnOk result (out.new.items ≡ out.old.items ++ mark_text (Column area units)) }
+{
+    let area = area_text(alloc, area)?;
+    let front = format!(in alloc;
+        "<svg{area} viewBox=\"0 0 1 {units}\" preserveAspectRatio=\"none\">\n"
+    )?;
+    out.extend_from_slice(front.as_bytes())
+}
+
+/// Ends a strip or a column.
 #[tactic(auto, unfolding(crate::specs::Marks::mark_text))]
 pub fn close_strip(out: &mut Vec<u8>) -> Result<(), AllocError>
     ensures { OnOk result (out.new.items ≡ out.old.items ++ mark_text StripEnd) }
