@@ -2,3 +2,5 @@ pub mod FreeLemmas
 pub mod MarkLemmas
 pub mod WordLemmas
 pub mod PictureLemmas
+pub mod TextLemmas
+pub mod ClassLemmas

@@ -1,11 +1,11 @@
 -- What stands in bytes that begin no class, and what is found at a class.
-use Rattle.std.proofs.Common.{◌≡◌, ℕ, ◌+◌, ◌==◌, Bool, true, false, List, [], ◌∷◌, ◌++◌, refl, sym, ap, ◌∙◌, arith, append_assoc, inl, inr}
+use Rattle.std.proofs.Common.{◌≡◌, ℕ, ◌==◌, Bool, true, false, List, [], ◌∷◌, ◌++◌, refl, sym, ap, ◌∙◌, append_assoc, inl, inr}
 use Rattle.std.specs.Prelude.{if◌then◌else◌, ◌&&◌, codes}
 use Rattle.std.proofs.lemmas.Bool.{and_parts, cases_eq, eq-eqb, ne_eqb}
 use Rattle.svg_text.specs.declared.class.Class.{Class}
 use Rattle.svg_text.specs.declared.class.Class.TheVariants.{Former, Finished, Chance, Span, Erase, Program, Raise, Legend, Window, Row, Join, Starts}
 use Rattle.svg_text.specs.Marks.{class_text, class_word}
-use Rattle.svg_text.specs.Reading.{begins, behind, is_class, is_free, is_other, marks_by, marks_in, same_words, words_behind}
+use Rattle.svg_text.specs.Reading.{begins, behind, is_class, is_free, is_other, marks_by, marks_in, same_words}
 use Rattle.svg_text.proofs.FreeLemmas.{other-ne}
 
 -- the other way round

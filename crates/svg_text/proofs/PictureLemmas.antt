@@ -1,5 +1,5 @@
 -- The marks of a class that stand in the bytes of a picture are those of its data.
-use Rattle.std.proofs.Common.{◌≡◌, ℕ, ◌+◌, ◌≤◌, Bool, true, false, List, [], ◌∷◌, ◌++◌, length, map, refl, sym, ap, ◌∙◌, arith, append_assoc, append-nil, decimal}
+use Rattle.std.proofs.Common.{◌≡◌, ℕ, ◌≤◌, Bool, true, false, List, [], ◌∷◌, ◌++◌, length, map, refl, sym, ap, ◌∙◌, arith, append_assoc, append-nil, decimal}
 use Rattle.std.specs.Prelude.{codes}
 use Rattle.std.specs.List.{flat_map}
 use Rattle.std.proofs.lemmas.List.{length-map, map-append}
@@ -8,8 +8,8 @@ use Rattle.svg_text.specs.declared.class.Class.TheVariants.{Starts}
 use Rattle.svg_text.specs.declared.mark.Area.{Area}
 use Rattle.svg_text.specs.declared.mark.Colour.{Colour}
 use Rattle.svg_text.specs.declared.mark.Ends.{Ends}
-use Rattle.svg_text.specs.Marks.{Mark, Plain, Rect, Label, Caption, Strip, Column, StripEnd, Line, Lines, Picture, area_text, class_text, colour_word, desc_text, ends_text, escaped, escaped_byte, fill_text, front_text, ground_text, line_words, lines_from, mark_text, open_text, picture_text, place_text, starts_text, stroke_text, title_text}
-use Rattle.svg_text.specs.Reading.{Words, behind, is_class, is_free, marks_by, marks_in, one_more, begins, starts_by, times, words_behind, words_by, words_from, words_of}
+use Rattle.svg_text.specs.Marks.{Mark, Plain, Rect, Label, Caption, Strip, Column, StripEnd, Line, Lines, Picture, area_text, class_text, colour_word, desc_text, ends_text, escaped, escaped_byte, fill_text, ground_text, line_words, lines_from, mark_text, open_text, picture_text, place_text, starts_text, stroke_text, title_text}
+use Rattle.svg_text.specs.Reading.{Words, is_class, is_free, marks_by, marks_in, one_more, begins, starts_by, times, words_behind, words_by, words_from, words_of}
 use Rattle.svg_text.proofs.FreeLemmas.{colour-c, colour-end, escaped-quote, free-append, free-decimal}
 use Rattle.svg_text.proofs.MarkLemmas.{at-class, behind-free, calm, skip, skip-text}
 use Rattle.svg_text.proofs.WordLemmas.{all-words, ended, line-words, lines-rest, text-words, title-words}
@@ -331,7 +331,8 @@ module _ (class : Class) where
       let found = words_by (is_class class own) (line_words words starts) in
       ap (λ z. marks_in class (codes "<text " ++ z)) (append_assoc (class_text own) _ rest
       ∙ ap (λ z. class_text own ++ z) (append_assoc (place_text x y) _ rest
-      ∙ ap (λ z. place_text x y ++ (codes " xml:space=\"preserve\">" ++ z)) (append_assoc (lines_from x 0 words) _ rest
+      ∙ ap (λ z. place_text x y ++ (codes " xml:space=\"preserve\">" ++ z))
+      (append_assoc (lines_from x 0 words) _ rest
       ∙ ap (λ z. lines_from x 0 words ++ z) (append_assoc (starts_text starts) _ rest))))
       ∙ tag-text _ ∙ skip class (codes " ") _ refl ∙ at-class class own (broken x y words starts rest)
       ∙ found-by (is_class class own) (line_words words starts) _ _ (broken-words x y words starts rest)
@@ -379,7 +380,8 @@ module _ (class : Class) where
   ground-reads : (height : ℕ) (rest : List ℕ) → marks_in class (ground_text height ++ rest) ≡ marks_in class rest
   unfolding ground_text
   ground-reads height rest =
-      ap (λ z. marks_in class (codes "</desc>\n<rect width=\"960\" height=\"" ++ z)) (append_assoc (decimal height) _ rest)
+      ap (λ z. marks_in class (codes "</desc>\n<rect width=\"960\" height=\"" ++ z))
+      (append_assoc (decimal height) _ rest)
       ∙ end-desc _ ∙ skip class (decimal height) _ (free-decimal 99 (omega arith) height)
       ∙ skip class (codes "\" fill=\"#ffffff\"/>\n") rest refl
 

@@ -1,14 +1,12 @@
 -- The words of a mark that are read in its bytes.
-use Rattle.std.proofs.Common.{◌≡◌, ℕ, zero, suc, ◌+◌, ◌%◌, ◌<◌, ◌≤◌, ◌==◌, Bool, true, false, List, [], ◌∷◌, ◌++◌, refl, sym, ap, ◌∙◌, arith, append_assoc, append-nil, decimal, inl, inr}
-use Rattle.std.specs.Prelude.{if◌then◌else◌, ◌&&◌, codes, nat_lt}
-use Rattle.std.specs.List.{flat_map}
+use Rattle.std.proofs.Common.{◌≡◌, ℕ, ◌+◌, ◌%◌, ◌<◌, ◌≤◌, ◌==◌, Bool, true, false, List, [], ◌∷◌, ◌++◌, refl, sym, ap, ◌∙◌, arith, append_assoc, append-nil, decimal, inl, inr}
+use Rattle.std.specs.Prelude.{codes, nat_lt}
 use Rattle.std.proofs.lemmas.Bool.{and_parts, cases_eq, cases_lt, eqb-true, ltb-true, lt-ltb, le-ltb}
 use Rattle.std.proofs.lemmas.Grind.{flat_map-append}
 use Rattle.svg_text.specs.declared.class.Class.{Class}
-use Rattle.svg_text.specs.declared.class.Class.TheVariants.{Starts}
-use Rattle.svg_text.specs.Marks.{break_text, class_text, escaped, escaped_byte, is_broken, line_end, line_text, line_words, lines_from, starts_text, text_if}
-use Rattle.svg_text.specs.Reading.{Begun, Ended, Tag, Words, is_free, is_other, marks_in, starts_by, words_from}
-use Rattle.svg_text.proofs.FreeLemmas.{escaped-less, escaped-quote, byte-less, byte-quote, free-decimal, other-ne}
+use Rattle.svg_text.specs.Marks.{Lines, break_text, class_text, escaped, escaped_byte, is_broken, line_end, line_text, line_words, lines_from, mark_text, place_text, starts_text, text_if}
+use Rattle.svg_text.specs.Reading.{Ended, Tag, Words, is_free, is_other, marks_in, words_from}
+use Rattle.svg_text.proofs.FreeLemmas.{escaped-less, byte-less, byte-quote, free-decimal, other-ne}
 use Rattle.svg_text.proofs.MarkLemmas.{calm, calm-free, skip, skip-free}
 
 -- bytes without a tag's begin are words
@@ -124,7 +122,8 @@ lines-words x i (b ∷ words) rest =
 
 -- the word behind them, where it stands there
 starts-words : (starts : Bool) (rest : List ℕ)
-    → words_from (Words 0) (starts_text starts ++ (codes "</text>\n" ++ rest)) ≡ escaped (text_if starts (codes " starts"))
+    → words_from (Words 0) (starts_text starts ++ (codes "</text>\n" ++ rest))
+    ≡ escaped (text_if starts (codes " starts"))
 unfolding starts_text class_text escaped_byte
 starts-words true rest = ap (λ z. codes " starts" ++ z) (ended rest)
 starts-words false rest = ended rest
@@ -194,3 +193,15 @@ module _ (class : Class) where
       ∙ (ap (λ z. marks_in class z) (append_assoc (escaped_byte b) more rest)
       ∙ (skip-free class (escaped_byte b) (more ++ rest) (byte-quote b) (lines-calm x (i + 1) words rest is)
       ∙ lines-rest x (i + 1) words rest is)))
+
+-- a front, and what stands behind it, are a mark
+pub lines-mark : (class : Class) (x y : ℕ) (words : List ℕ) (starts : Bool) (front : List ℕ)
+    → front ≡ codes "<text " ++ (class_text class ++ (place_text x y ++ codes " xml:space=\"preserve\">"))
+    → front ++ (lines_from x 0 words ++ (starts_text starts ++ codes "</text>\n"))
+    ≡ mark_text (Lines class x y words starts)
+unfolding mark_text
+lines-mark class x y words starts front is =
+    let tail : List ℕ = lines_from x 0 words ++ (starts_text starts ++ codes "</text>\n") in
+    ap (λ z. z ++ tail) is
+    ∙ ap (λ z. codes "<text " ++ z) (append_assoc (class_text class) _ tail
+    ∙ ap (λ z. class_text class ++ z) (append_assoc (place_text x y) (codes " xml:space=\"preserve\">") tail))

@@ -1,2 +1,4 @@
 pub mod Marks
 pub mod Reading
+pub mod Texts
+pub mod Examples

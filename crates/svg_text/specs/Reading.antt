@@ -1,5 +1,5 @@
 -- The marks of a class that stand in the bytes of a picture, with their words. This project's own.
-use Rattle.std.specs.Prelude.{◌+◌, Bool, true, false, ◌==◌, ◌&&◌, if◌then◌else◌, ℕ, zero, suc, List, [], ◌∷◌, ◌++◌, codes, map}
+use Rattle.std.specs.Prelude.{◌+◌, Bool, true, false, ◌==◌, ◌&&◌, if◌then◌else◌, ℕ, zero, suc, List, [], ◌∷◌, ◌++◌, codes}
 use Rattle.std.specs.List.{list_all}
 use Rattle.svg_text.specs.declared.class.Class.{Class}
 use Rattle.svg_text.specs.declared.class.Class.TheVariants.{Starts}
@@ -66,8 +66,8 @@ words_from place [] = []
 words_from place (b ∷ bytes) = kept place b (words_from (next_place place b) bytes)
 
 -- The words of a mark, from bytes within its tag on: what stands behind the tag up to the tag that
--- ends its element, tags left out. No tag in a mark ends in `/>`. The words are as they stand in the
--- file.
+-- ends its element, tags left out. No tag in a mark ends in `/>`. The words are as they stand in
+-- the file.
 abbrev pub words_behind : List ℕ → List ℕ
 words_behind bytes = words_from (Words 0) (behind 62 bytes)
 

@@ -1,10 +1,11 @@
 //! Laws of pictures, each the contract of a function that does nothing.
 
 ghost use Rattle.std.specs.Prelude.{◌≡◌, ℕ, List, length, map, true};
-ghost use Rattle.std.specs.List.{flat_map};
+ghost use Rattle.std.specs.List.{flat_map, list_all};
 ghost use Rattle.svg_text.specs.declared.class.Class.{Class};
 ghost use Rattle.svg_text.specs.Marks.{Picture, class_text, escaped, picture_text};
 ghost use Rattle.svg_text.specs.Reading.{is_free, marks_in, times, words_of};
+ghost use Rattle.svg_text.specs.Texts.{HasTexts, is_written, unescaped};
 
 /// Whatever the words of a picture are, the marks of a class that stand in its bytes are those of
 /// its data, in their order, each with its words; and the class, written as in `class="span"`,
@@ -22,4 +23,20 @@ pub fn texts_have_no_tag()
     ensures less { (text : List ℕ) → is_free 60 (escaped text) ≡ true }
     ensures more { (text : List ℕ) → is_free 62 (escaped text) ≡ true }
     ensures quote { (text : List ℕ) → is_free 34 (escaped text) ≡ true }
+{}
+
+/// A text that stands in a file is read back, so no two texts stand there as the same bytes; and so
+/// are the words of the marks of a class.
+pub fn texts_are_read_back()
+    ensures text { (text : List ℕ) → unescaped (escaped text) ≡ text }
+    ensures same { (a b : List ℕ) → escaped a ≡ escaped b → a ≡ b }
+    ensures marks { (class : Class) (p : Picture)
+        → map unescaped (marks_in class (picture_text p))
+        ≡ flat_map (words_of class) p.marks }
+{}
+
+/// Where the words of a picture have bytes from the blank to the tilde alone, its bytes are such
+/// ones and line feeds.
+pub fn pictures_of_texts_are_ascii()
+    ensures { (p : Picture) → HasTexts p → list_all is_written (picture_text p) ≡ true }
 {}

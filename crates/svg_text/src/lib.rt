@@ -15,6 +15,6 @@ pub use class::{Class, class_word, is_class};
 pub use lines::{LINE_HEIGHT, LINE_LENGTH, push_lines};
 pub use mark::{Area, Colour, Ends};
 pub use writing::{
-    close_strip, open_column, open_strip, push_caption, push_end, push_front, push_label, push_line,
-    push_plain, push_rect,
+    close_strip, open_column, open_strip, push_caption, push_end, push_front, push_label,
+    push_line, push_plain, push_rect,
 };

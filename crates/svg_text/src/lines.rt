@@ -82,6 +82,24 @@ fn push_starts(alloc: Global, out: &mut Vec<u8>, starts: bool) -> Result<(), All
     Ok(())
 }
 
+/// Appends a front, words in lines, the word behind them, and the end of their element.
+fn push_content(
+    alloc: Global,
+    out: &mut Vec<u8>,
+    front: &str,
+    x: usize,
+    words: &str,
+    starts: bool,
+) -> Result<(), AllocError>
+    ensures { OnOk result (out.new.items ≡ out.old.items ++ (front.now
+        ++ (lines_from x 0 words.now ++ (starts_text starts ++ codes "</text>\n")))) }
+{
+    out.extend_from_slice(front.as_bytes())?;
+    push_words(alloc, out, x, words)?;
+    push_starts(alloc, out, starts)?;
+    out.extend_from_slice(b"</text>\n")
+}
+
 /// Appends words that are counted, in lines of 80 bytes, the first of which begins at this place;
 /// behind them, where this is asked for, a blank and the word `starts`, which is counted too.
 #[tactic(auto, unfolding(crate::specs::Marks::mark_text))]
@@ -100,8 +118,5 @@ pub fn push_lines(
     let class = class_text(alloc, class)?;
     let place = place_text(alloc, x, y)?;
     let front = format!(in alloc; "<text {class}{place} xml:space=\"preserve\">")?;
-    out.extend_from_slice(front.as_bytes())?;
-    push_words(alloc, out, x, words)?;
-    push_starts(alloc, out, starts)?;
-    out.extend_from_slice(b"</text>\n")
+    push_content(alloc, out, &front, x, words, starts)
 }

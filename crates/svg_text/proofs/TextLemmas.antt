@@ -1,0 +1,255 @@
+-- Texts are read back, and a picture of texts has ASCII alone.
+use Rattle.std.proofs.Common.{◌≡◌, ℕ, zero, suc, ◌+◌, ◌/◌, ◌%◌, ◌<◌, ◌==◌, Bool, true, false, List, [], ◌∷◌, ◌++◌, map, refl, sym, ap, ◌∙◌, arith, inl, inr, decimal}
+use Rattle.std.specs.Prelude.{if◌then◌else◌, ◌||◌, codes, nat_le, nat_lt}
+use Rattle.std.specs.List.{flat_map, list_all}
+use Rattle.std.specs.Fmt.{digits, digits_onto, digit_glyph}
+use Rattle.std.proofs.lemmas.Bool.{and_parts, cases_eq, lt-ltb, ne_eqb}
+use Rattle.std.proofs.lemmas.List.Folds.{list_all-append}
+use Rattle.svg_text.specs.declared.class.Class.{Class}
+use Rattle.svg_text.specs.declared.class.Class.TheVariants.{Former, Finished, Chance, Span, Erase, Program, Raise, Legend, Window, Row, Join, Starts}
+use Rattle.svg_text.specs.declared.mark.Area.{Area}
+use Rattle.svg_text.specs.declared.mark.Colour.{Colour}
+use Rattle.svg_text.specs.declared.mark.Colour.TheVariants.{Ink, Grey, Blue, Orange, Slate, Sky, White}
+use Rattle.svg_text.specs.declared.mark.Ends.{Ends}
+use Rattle.svg_text.specs.Marks.{Mark, Plain, Rect, Label, Caption, Strip, Column, StripEnd, Line, Lines, Picture, area_text, break_text, class_text, class_word, colour_word, desc_text, ends_text, escaped, escaped_byte, fill_text, front_text, ground_text, is_broken, line_end, line_text, lines_from, mark_text, open_text, picture_text, place_text, starts_text, stroke_text, text_if, title_text}
+use Rattle.svg_text.specs.Texts.{HasTexts, is_printed, is_text, is_written, texts_of, unescaped, unescaped_from}
+use Rattle.svg_text.proofs.MarkLemmas.{ne-swap}
+
+-- a byte is read back
+byte-read : (b : ℕ) (rest : List ℕ) → unescaped_from 0 (escaped_byte b ++ rest) ≡ b ∷ unescaped_from 0 rest
+unfolding escaped_byte
+byte-read b rest = elim (cases_eq b 38) [
+  | inl e ↦ rw e refl
+  | inr amp ↦ elim (cases_eq b 60) [
+    | inl e ↦ rw e refl
+    | inr less ↦ elim (cases_eq b 62) [
+      | inl e ↦ rw e refl
+      | inr more ↦ elim (cases_eq b 34) [
+        | inl e ↦ rw e refl
+        | inr quote ↦
+            let a = ne_eqb b 38 amp in
+            rw (a, ne_eqb b 60 less, ne_eqb b 62 more, ne_eqb b 34 quote, ne-swap 38 b a) refl
+      ]
+    ]
+  ]
+]
+
+pub text-read : (text : List ℕ) → unescaped (escaped text) ≡ text
+text-read [] = refl
+text-read (b ∷ text) = byte-read b (escaped text) ∙ ap (λ z. b ∷ z) (text-read text)
+
+pub same-text : (a b : List ℕ) → escaped a ≡ escaped b → a ≡ b
+same-text a b same = sym (text-read a) ∙ (ap unescaped same ∙ text-read b)
+
+pub texts-read : (texts : List (List ℕ)) → map unescaped (map escaped texts) ≡ texts
+texts-read [] = refl
+texts-read (text ∷ texts) = ap (λ z. z ∷ map unescaped (map escaped texts)) (text-read text)
+    ∙ ap (λ z. text ∷ z) (texts-read texts)
+
+-- bytes that a file may have
+abbrev AreWritten : List ℕ → Type 0
+AreWritten bytes = list_all is_written bytes ≡ true
+
+join : (xs ys : List ℕ) → AreWritten xs → AreWritten ys → AreWritten (xs ++ ys)
+join xs ys first second = list_all-append is_written xs ys ∙ rw (first, second) refl
+
+printed-written : (b : ℕ) → is_printed b ≡ true → is_written b ≡ true
+printed-written b is = go (b == 10) (is_printed b) is
+  where
+    go : (t p : Bool) → p ≡ true → (t || p) ≡ true
+    go true p is = refl
+    go false p is = is
+
+one : (b : ℕ) → is_printed b ≡ true → AreWritten (b ∷ [])
+one b is = rw (printed-written b is) refl
+
+byte-written : (b : ℕ) → is_printed b ≡ true → AreWritten (escaped_byte b)
+unfolding escaped_byte
+byte-written b is = first (b == 38) (b == 60) (b == 62) (b == 34)
+  where
+    first : (p q r s : Bool) → AreWritten (if p then codes "&amp;" else if q then codes "&lt;"
+        else if r then codes "&gt;" else if s then codes "&quot;" else b ∷ [])
+    first true q r s = refl
+    first false true r s = refl
+    first false false true s = refl
+    first false false false true = refl
+    first false false false false = one b is
+
+text-written : (text : List ℕ) → is_text text ≡ true → AreWritten (escaped text)
+text-written [] is = refl
+text-written (b ∷ text) is =
+    let parts = and_parts (is_printed b) (is_text text) is in
+    join (escaped_byte b) (escaped text) (byte-written b parts.0) (text-written text parts.1)
+
+glyph-printed : (n : ℕ) → is_printed (digit_glyph false (n % 10)) ≡ true
+glyph-printed n =
+    let low : n % 10 < 10 = omega arith in
+    let above : nat_le 32 (48 + n % 10) ≡ true = grind arith in
+    let below : nat_le (48 + n % 10) 126 ≡ true = grind arith in
+    rw (lt-ltb (n % 10) 10 low) (rw (above, below) refl)
+
+onto-written : (fuel n : ℕ) (acc : List ℕ) → AreWritten acc → AreWritten (digits_onto fuel 10 false n acc)
+onto-written zero n acc is = is
+onto-written (suc fuel) n acc is =
+    let more : AreWritten (digit_glyph false (n % 10) ∷ acc) =
+    rw (printed-written (digit_glyph false (n % 10)) (glyph-printed n)) is in
+    go (n / 10 == 0) more (onto-written fuel (n / 10) (digit_glyph false (n % 10) ∷ acc) more)
+  where
+    go : (t : Bool) → AreWritten (digit_glyph false (n % 10) ∷ acc)
+        → AreWritten (digits_onto fuel 10 false (n / 10) (digit_glyph false (n % 10) ∷ acc))
+        → AreWritten (if t then digit_glyph false (n % 10) ∷ acc
+        else digits_onto fuel 10 false (n / 10) (digit_glyph false (n % 10) ∷ acc))
+    go true first second = first
+    go false first second = second
+
+digits-fuel : (n : ℕ) → digits 10 false n ≡ digits_onto 64 10 false n []
+unfolding digits
+digits-fuel n = refl
+
+number : (n : ℕ) → AreWritten (decimal n)
+number n = ap (λ ds. list_all is_written ds) (digits-fuel n) ∙ onto-written 64 n [] refl
+
+word-written : (class : Class) → AreWritten (class_word class)
+word-written Former = refl
+word-written Finished = refl
+word-written Chance = refl
+word-written Span = refl
+word-written Erase = refl
+word-written Program = refl
+word-written Raise = refl
+word-written Legend = refl
+word-written Window = refl
+word-written Row = refl
+word-written Join = refl
+word-written Starts = refl
+
+colour-written : (colour : Colour) → AreWritten (colour_word colour)
+colour-written Ink = refl
+colour-written Grey = refl
+colour-written Blue = refl
+colour-written Orange = refl
+colour-written Slate = refl
+colour-written Sky = refl
+colour-written White = refl
+
+-- a number, and what stands behind it
+numbered : (n : ℕ) (rest : List ℕ) → AreWritten rest → AreWritten (decimal n ++ rest)
+numbered n rest is = join (decimal n) rest (number n) is
+
+area-written : (area : Area) → AreWritten (area_text area)
+unfolding area_text
+area-written area = numbered area.x _ (numbered area.y _ (numbered area.width _ (numbered area.height _ refl)))
+
+ends-written : (ends : Ends) → AreWritten (ends_text ends)
+unfolding ends_text
+ends-written ends = numbered ends.x1 _ (numbered ends.y1 _ (numbered ends.x2 _ (numbered ends.y2 _ refl)))
+
+place-written : (x y : ℕ) → AreWritten (place_text x y)
+unfolding place_text
+place-written x y = numbered x _ (numbered y _ refl)
+
+class-written : (class : Class) → AreWritten (class_text class)
+unfolding class_text
+class-written class = join (class_word class) (codes "\"") (word-written class) refl
+
+fill-written : (colour : Colour) → AreWritten (fill_text colour)
+unfolding fill_text
+fill-written colour = join (colour_word colour) (codes "\"") (colour-written colour) refl
+
+stroke-written : (colour : Colour) → AreWritten (stroke_text colour)
+unfolding stroke_text
+stroke-written colour = join (colour_word colour) (codes "\"") (colour-written colour) refl
+
+end-written : (i : ℕ) → AreWritten (line_end i)
+unfolding line_end
+end-written i = go (nat_lt 80 i)
+  where
+    go : (t : Bool) → AreWritten (text_if t (codes "</tspan>"))
+    go true = refl
+    go false = refl
+
+begin-written : (x : ℕ) → AreWritten (line_text x)
+unfolding line_text
+begin-written x = numbered x _ refl
+
+break-written : (x i : ℕ) → AreWritten (break_text x i)
+unfolding break_text
+break-written x i = go (is_broken i)
+  where
+    go : (t : Bool) → AreWritten (text_if t (line_end i ++ line_text x))
+    go true = join (line_end i) (line_text x) (end-written i) (begin-written x)
+    go false = refl
+
+lines-written : (x i : ℕ) (words : List ℕ) → is_text words ≡ true → AreWritten (lines_from x i words)
+lines-written x i [] is = end-written i
+lines-written x i (b ∷ words) is =
+    let parts = and_parts (is_printed b) (is_text words) is in
+    join (break_text x i) _ (break-written x i) (join (escaped_byte b) _ (byte-written b parts.0)
+    (lines-written x (i + 1) words parts.1))
+
+starts-written : (starts : Bool) → AreWritten (starts_text starts)
+unfolding starts_text class_text
+starts-written true = refl
+starts-written false = refl
+
+mark-written : (mark : Mark) → is_text (texts_of mark) ≡ true → AreWritten (mark_text mark)
+unfolding mark_text
+mark-written (Plain area colour) is =
+    join (area_text area) _ (area-written area) (join (fill_text colour) (codes "/>\n") (fill-written colour) refl)
+mark-written (Rect class area colour title) is =
+    join (class_text class) _ (class-written class) (join (area_text area) _ (area-written area)
+    (join (fill_text colour) _ (fill-written colour)
+    (join (escaped title) (codes "</title></rect>\n") (text-written title is) refl)))
+mark-written (Label x y words) is =
+    join (place_text x y) _ (place-written x y)
+    (join (escaped words) (codes "</text>\n") (text-written words is) refl)
+mark-written (Caption class x y words) is =
+    join (class_text class) _ (class-written class) (join (place_text x y) _ (place-written x y)
+    (join (escaped words) (codes "</text>\n") (text-written words is) refl))
+mark-written (Strip area units) is =
+    join (area_text area) _ (area-written area) (numbered units (codes " 1\" preserveAspectRatio=\"none\">\n") refl)
+mark-written (Column area units) is =
+    join (area_text area) _ (area-written area) (numbered units (codes "\" preserveAspectRatio=\"none\">\n") refl)
+mark-written StripEnd is = refl
+mark-written (Line class ends colour title) is =
+    join (class_text class) _ (class-written class) (join (ends_text ends) _ (ends-written ends)
+    (join (stroke_text colour) _ (stroke-written colour)
+    (join (escaped title) (codes "</title></line>\n") (text-written title is) refl)))
+mark-written (Lines class x y words starts) is =
+    join (class_text class) _ (class-written class) (join (place_text x y) _ (place-written x y)
+    (join (lines_from x 0 words) _ (lines-written x 0 words is)
+    (join (starts_text starts) (codes "</text>\n") (starts-written starts) refl)))
+
+marks-written : (marks : List Mark) → is_text (flat_map texts_of marks) ≡ true → AreWritten (flat_map mark_text marks)
+marks-written [] is = refl
+marks-written (mark ∷ marks) is =
+    let parts = and_parts (is_text (texts_of mark)) (is_text (flat_map texts_of marks))
+    (sym (list_all-append is_printed (texts_of mark) (flat_map texts_of marks)) ∙ is) in
+    join (mark_text mark) (flat_map mark_text marks) (mark-written mark parts.0) (marks-written marks parts.1)
+
+open-written : (height : ℕ) → AreWritten (open_text height)
+unfolding open_text
+open-written height = numbered height _ (numbered height _ refl)
+
+ground-written : (height : ℕ) → AreWritten (ground_text height)
+unfolding ground_text
+ground-written height = numbered height _ refl
+
+title-written : (height : ℕ) (title : List ℕ) → is_text title ≡ true → AreWritten (title_text height title)
+unfolding title_text
+title-written height title is =
+    join (open_text height) _ (open-written height)
+    (join (escaped title) (codes "</title>\n") (text-written title is) refl)
+
+desc-written : (height : ℕ) (desc : List ℕ) → is_text desc ≡ true → AreWritten (desc_text height desc)
+unfolding desc_text
+desc-written height desc is =
+    join (escaped desc) (ground_text height) (text-written desc is) (ground-written height)
+
+pub picture-written : (p : Picture) → HasTexts p → list_all is_written (picture_text p) ≡ true
+unfolding picture_text
+picture-written p has =
+    join (front_text p.height p.title p.desc) _
+    (join (title_text p.height p.title) (desc_text p.height p.desc) (title-written p.height p.title has.title)
+    (desc-written p.height p.desc has.desc))
+    (join (flat_map mark_text p.marks) (codes "</svg>\n") (marks-written p.marks has.words) refl)

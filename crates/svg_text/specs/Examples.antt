@@ -1,0 +1,6 @@
+-- Data for worked examples. This project's own.
+use Rattle.std.specs.Prelude.{ℕ, List, codes}
+
+-- a text of forty bytes
+abbrev pub forty : List ℕ
+forty = codes "0123456789012345678901234567890123456789"
