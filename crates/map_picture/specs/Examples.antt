@@ -3,21 +3,29 @@
 use Rattle.std.specs.Prelude.{[], ◌∷◌, List, codes, false, true}
 use Rattle.map_picture.specs.Maps.{Bar}
 
+abbrev pub started_slot : Bar
+started_slot = record {
+  window = record { start = 0; len = 4096 };
+  words = codes "0x10000000 to 0x10000fff slot 0 version=1.0 rollback=0 pair A with 1";
+  free = false;
+  starts = true;
+}
+
+abbrev pub unstarted_slot : Bar
+unstarted_slot = record {
+  window = record { start = 4096; len = 4096 };
+  words = codes "0x10001000 to 0x10001fff slot 1 fault=loop no-block pair B with 0";
+  free = false;
+  starts = false;
+}
+
+abbrev pub free_window : Bar
+free_window = record {
+  window = record { start = 8192; len = 8192 };
+  words = codes "0x10002000 to 0x10003fff free";
+  free = true;
+  starts = false;
+}
+
 abbrev pub three_windows : List Bar
-three_windows =
-    record {
-      window = record { start = 0; len = 4096 };
-      words = codes "0x10000000 to 0x10000fff slot 0 version=1.0 rollback=0 pair A with 1";
-      free = false;
-      starts = true;
-    } ∷ record {
-      window = record { start = 4096; len = 4096 };
-      words = codes "0x10001000 to 0x10001fff slot 1 fault=loop no-block pair B with 0";
-      free = false;
-      starts = false;
-    } ∷ record {
-      window = record { start = 8192; len = 8192 };
-      words = codes "0x10002000 to 0x10003fff free";
-      free = true;
-      starts = false;
-    } ∷ []
+three_windows = started_slot ∷ unstarted_slot ∷ free_window ∷ []

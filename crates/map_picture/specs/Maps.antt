@@ -1,6 +1,7 @@
 -- What the picture of a flash has. The picture is 960 wide. A column on its left is the flash from
--- its first byte, at the top, to its last. Words begin at 160 and are 14 high; a line of them has at
--- most 80 letters, and the word `starts` behind them, each of at most 9 points. This project's own.
+-- its first byte, at the top, to its last. Words begin at 160 and are 14 high; a line of them has
+-- at most 80 letters and the word `starts` behind them, each of at most 9 points. This project's
+-- own.
 use Rattle.std.specs.Prelude.{ℕ, ◌+◌, ◌-◌, ◌*◌, ◌/◌, ◌%◌, ◌^◌, ◌==◌, Bool, true, false, if◌then◌else◌, max, List, [], ◌∷◌, ◌++◌, length, map, codes, decimal, string_bytes}
 use Rattle.std.specs.Fmt.{digits, padded_integral, format_spec}
 use Rattle.pico_board.specs.declared.window.Window.{Window}
@@ -100,7 +101,8 @@ join_mark flash high top bar =
 unfoldable pub row_marks : ℕ → ℕ → ℕ → ℕ → Bar → List Mark
 row_marks flash high k top bar =
     join_mark flash high top bar
-    ∷ Plain (area_at 138 (top + 3) 14 14) Ink ∷ Plain (area_at 139 (top + 4) 12 12) (colour_of k bar)
+    ∷ Plain (area_at 138 (top + 3) 14 14) Ink
+    ∷ Plain (area_at 139 (top + 4) 12 12) (colour_of k bar)
     ∷ Lines classes.Row 160 (top + 15) bar.words bar.starts ∷ []
 
 abbrev pub rows_from : ℕ → ℕ → ℕ → ℕ → List Bar → List Mark
@@ -127,7 +129,8 @@ map_picture flash bars desc = record {
 -- the word of each window that a boot starts
 abbrev pub starts_words : List Bar → List (List ℕ)
 starts_words [] = []
-starts_words (bar ∷ bars) = if bar.starts then codes "starts" ∷ starts_words bars else starts_words bars
+starts_words (bar ∷ bars) =
+    if bar.starts then codes "starts" ∷ starts_words bars else starts_words bars
 
 -- the words of all marks of a class that a picture of these windows has, in their order
 abbrev pub counted : Class → List Bar → List (List ℕ)

@@ -3,8 +3,10 @@
 
 ghost use Rattle.std.specs.Prelude.{◌≡◌, [], ◌∷◌, codes, true};
 ghost use Rattle.svg_text.specs.declared.class.Class.TheVariants as classes;
-ghost use Rattle.map_picture.specs.Maps.{column_height, counted, line_count, map_words, middle, span_text};
-ghost use Rattle.map_picture.specs.Examples.{three_windows};
+ghost use Rattle.svg_text.specs.declared.mark.Colour.TheVariants.{Blue, Grey, Orange, Sky};
+ghost use Rattle.svg_text.specs.Marks.{Rect};
+ghost use Rattle.map_picture.specs.Maps.{colour_of, column_height, counted, line_count, map_words, middle, rows_height, window_mark};
+ghost use Rattle.map_picture.specs.Examples.{free_window, started_slot, three_windows, unstarted_slot};
 
 /// What is said of a flash of three windows, and what its picture has.
 pub fn a_flash_of_three_windows()
@@ -18,4 +20,27 @@ pub fn a_flash_of_three_windows()
     ensures starts { counted classes.Starts three_windows ≡ codes "starts" ∷ [] }
     ensures former { counted classes.Former three_windows ≡ [] }
     ensures column { column_height three_windows ≡ 400 }
+{}
+
+/// Rows are as high as their lines, and a column is at least 400 high and as high as the rows.
+pub fn heights()
+    ensures none { line_count 0 ≡ 1 }
+    ensures whole { line_count 80 ≡ 1 }
+    ensures two { line_count 81 ≡ 2 }
+    ensures third { line_count 161 ≡ 3 }
+    ensures rows { rows_height three_windows ≡ 84 }
+    ensures middle { middle 16384 400 (record { start = 8192; len = 8192 }) ≡ 300 }
+    ensures first { middle 16384 400 (record { start = 0; len = 4096 }) ≡ 50 }
+{}
+
+/// Windows in turn are dark and light; a free one and the one that starts have colours of their
+/// own.
+pub fn colours()
+    ensures dark { colour_of 0 unstarted_slot ≡ Blue }
+    ensures light { colour_of 1 unstarted_slot ≡ Sky }
+    ensures starts { colour_of 1 started_slot ≡ Orange }
+    ensures free { colour_of 0 free_window ≡ Grey }
+    ensures mark { window_mark 2 free_window
+        ≡ Rect classes.Window (record { x = 0; y = 8192; width = 1; height = 8192 }) Grey
+        (codes "0x10002000 to 0x10003fff free") }
 {}
