@@ -1,0 +1,5 @@
+pub mod Windows
+pub mod WindowRules
+pub mod Maps
+pub mod MapRules
+pub mod Examples
