@@ -1,0 +1,10 @@
+pub mod NextLemmas
+pub mod LaidLemmas
+pub mod WindowLemmas
+pub mod SharedLemmas
+pub mod OnlyLemmas
+pub mod PairLemmas
+pub mod RowLemmas
+pub mod MapLemmas
+pub mod SideLemmas
+pub mod StartLemmas

@@ -1,0 +1,192 @@
+-- The window that a normal boot starts, and the rows of slots and partitions.
+use Rattle.std.proofs.Common.{◌≡◌, ◌⊎◌, inl, inr, ℕ, zero, suc, ◌+◌, ◌*◌, ◌/◌, ◌%◌, ◌<◌, ◌≤◌, Bool, true, false, List, [], ◌∷◌, length, map, slice_get, Option, Some, None, refl, sym, ◌∙◌, ap, subst, arith}
+use Rattle.std.specs.Prelude.{nat_lt, if◌then◌else◌}
+use Rattle.std.specs.List.{AllByRecursion}
+use Rattle.std.proofs.lemmas.Option.{same_Some}
+use Rattle.pico_board.specs.declared.boot.Cpu.{Cpu}
+use Rattle.pico_board.specs.declared.boot.BootKind.TheVariants.{Normal}
+use Rattle.pico_board.specs.declared.window.Window.{Window}
+use Rattle.pico_board.specs.Content.{Content, IsContent}
+use Rattle.otp_roll.specs.Flags.{slot_size}
+use Rattle.part_table.specs.declared.table.Table.{Table}
+use Rattle.part_table.specs.Partitions.{part_at}
+use Rattle.part_table.specs.Windows.{IsPlaced, part_window}
+use Rattle.slot_choice.specs.declared.choice.Choice.{Choice}
+use Rattle.slot_choice.specs.declared.unit.Member.{Member}
+use Rattle.slot_choice.specs.declared.unit.Member.TheVariants.{A, B}
+use Rattle.slot_choice.specs.declared.unit.SlotUnit.{SlotUnit}
+use Rattle.slot_choice.specs.Units.{IsMember, member_window, slot_pair, tableless_unit, unit_of, units, whole_flash}
+use Rattle.slot_choice.proofs.PlaceLemmas.{IsBootUnit, boot_unit}
+use Rattle.slot_choice.proofs.UnitLemmas.{belongs_within, member_part}
+use Rattle.boot_rules.specs.declared.decision.Decision.{Decision}
+use Rattle.boot_rules.specs.declared.decision.Decision.TheVariants.{Start, Bootsel}
+use Rattle.boot_rules.specs.declared.decision.Fall.{Fall}
+use Rattle.boot_rules.specs.Chosen.{Chosen}
+use Rattle.boot_rules.specs.Starts.{table_of_content}
+use Rattle.boot_rules.specs.Tables.{slot_window}
+use Rattle.boot_rules.proofs.StartLemmas.{is-member, of-unit, start}
+use Rattle.flash_map.specs.declared.maps.FlashMap.{FlashMap}
+use Rattle.flash_map.specs.declared.maps.MapRow.{MapRow}
+use Rattle.flash_map.specs.declared.places.Place.{Place}
+use Rattle.flash_map.specs.declared.places.Place.TheVariants.{Slot, Partition as Part, Whole, Free}
+use Rattle.flash_map.specs.Windows.{has_slots, parts_of, window_end}
+use Rattle.flash_map.specs.WindowRules.{HasSector, IsWindowOf}
+use Rattle.flash_map.specs.MapRules.{DoesStart, IsMap, IsRow}
+use Rattle.flash_map.proofs.LaidLemmas.{first-in, sectors-of}
+use Rattle.flash_map.proofs.MapLemmas.{mappable}
+use Rattle.flash_map.proofs.SharedLemmas.{right-placed, shared}
+use Rattle.flash_map.proofs.SideLemmas.{Holds, find-sector, one-place}
+
+-- a window of the map is this one
+pub record IsOneOf (t : Option Table) (n z : ℕ) (w : Window) : Type 0 where
+  pub place : Place
+  pub right : IsWindowOf t n z place w
+
+slot-record : (z x : ℕ) → x ≡ 0 * z → (let w : Window = record { start = x; len = z } in w ≡ slot_window z 0)
+slot-record z x e = ap (λ s. let w : Window = record { start = s; len = z } in w) e
+
+slot-record-1 : (z x : ℕ) → x ≡ 1 * z → (let w : Window = record { start = x; len = z } in w ≡ slot_window z 1)
+slot-record-1 z x e = ap (λ s. let w : Window = record { start = s; len = z } in w) e
+
+only : (v : SlotUnit) (k : ℕ) (u : SlotUnit) → slice_get (v ∷ []) k ≡ Some u → v ≡ u
+only v zero u e = same_Some v u e
+only v (suc k) u e = cc
+
+tableless : (n z : ℕ) (large : Bool) → nat_lt 4096 z ≡ large → (m : Member) (w : Window)
+    → member_window m (if large then slot_pair z else whole_flash n) ≡ Some w → IsOneOf None n z w
+tableless n z true e A w at = record {
+  place = Slot 0;
+  right = (e, omega arith, sym (same_Some _ w at) ∙ slot-record z 0 (omega arith));
+}
+tableless n z true e B w at = record {
+  place = Slot 1;
+  right = (e, omega arith, sym (same_Some _ w at) ∙ slot-record-1 z z (omega arith));
+}
+tableless n z false e A w at = record { place = Whole; right = (e, sym (same_Some _ w at)) }
+tableless n z false e B w at = cc
+
+-- each member of a boot unit is a window of the map
+member-right : (t : Option Table) (n z : ℕ) (cpu : Cpu) (k : ℕ) (u : SlotUnit) → slice_get (units t n z cpu) k ≡ Some u
+    → (m : Member) (w : Window) → member_window m u ≡ Some w → IsOneOf t n z w
+member-right None n z cpu k u at m w stands =
+    tableless n z (nat_lt 4096 z) refl m w
+    (subst (λ v. member_window m v ≡ Some w) (sym (only (tableless_unit n z) k u at)) stands)
+member-right (Some t) n z cpu k u at m w stands =
+    let unit : (i : ℕ) × IsBootUnit t.parts.items cpu k u i = boot_unit t n z cpu k u at in
+    let part = member_part t.parts.items unit.0 w
+    (subst (λ v. IsMember v w) unit.1.unit (is-member m u w stands)) in
+    record {
+      place = Part part.0;
+      right = (belongs_within t.parts.items unit.0 part.0 unit.1.within part.1, part.2);
+    }
+
+-- the window that is started is one of the map
+pub started : (c : Content) (cpu : Cpu) (choice : Choice) → Chosen c cpu Normal (Start choice)
+    → IsOneOf (table_of_content c) (length c.flash) (slot_size c.otp (length c.flash)) choice.image.window
+started c cpu choice h =
+    let unit = of-unit c cpu Normal choice h in
+    member-right (table_of_content c) (length c.flash) (slot_size c.otp (length c.flash)) cpu unit.place
+    (start c cpu Normal choice h).unit unit.tried choice.member choice.image.window unit.stands
+
+all-row : {P : MapRow → Type 0} → (rs : List MapRow) (k : ℕ) (r : MapRow) → AllByRecursion P rs
+    → slice_get rs k ≡ Some r → P r
+all-row [] k r all e = cc
+all-row {P = P} (x ∷ rs) zero r all e = subst P (same_Some x r e) all.0
+all-row {P = P} (x ∷ rs) (suc k) r all e = all-row {P = P} rs k r all.1 e
+
+-- the row of a window
+pub record HasRow (m : FlashMap) (p : Place) (w : Window) : Type 0 where
+  pub at : ℕ
+  pub row : MapRow
+  pub listed : slice_get m.rows.items at ≡ Some row
+  pub place : row.place ≡ p
+  pub window : row.window ≡ w
+
+module _ (c : Content) (cpu : Cpu) (m : FlashMap) (right : IsContent c) (is : IsMap c cpu m) where
+  abbrev IsRight : Place → Window → Type 0
+  IsRight p w = IsWindowOf (table_of_content c) (length c.flash) (slot_size c.otp (length c.flash)) p w
+
+  pub row-at : (k : ℕ) (r : MapRow) → slice_get m.rows.items k ≡ Some r
+      → IsRow c cpu (table_of_content c) m.decision r
+  row-at k r e = all-row {P = IsRow c cpu (table_of_content c) m.decision} m.rows.items k r is.rows e
+
+  pub placed : (p : Place) (w : Window) → IsRight p w → IsPlaced w (length c.flash / 4096) 0
+  placed p w one =
+      right-placed (table_of_content c) (length c.flash) (slot_size c.otp (length c.flash)) (mappable c right) p w one
+
+  -- the first sector of a right window
+  has-first : (p : Place) (w : Window) → IsRight p w → HasSector w (w.start / 4096)
+  has-first p w one =
+      let at = placed p w one in
+      first-in w.start w.len at.starts at.some
+
+  -- each sector lies in one row
+  pub sector-row : (s : ℕ) → s < length c.flash / 4096 → Holds (λ (r : MapRow). r.window) m.rows.items s
+  sector-row s lt =
+      find-sector (λ (r : MapRow). r.window) (length c.flash) m.rows.items 0 s is.side_by_side (omega arith)
+      (below (length c.flash) s lt)
+    where
+      below : (n k : ℕ) → k < n / 4096 → 4096 * k < n
+      below n k less = omega arith
+
+  pub sector-once : (j k s : ℕ) (x y : MapRow) → slice_get m.rows.items j ≡ Some x → slice_get m.rows.items k ≡ Some y
+      → HasSector x.window s → HasSector y.window s → j ≡ k
+  sector-once j k s x y one two has also =
+      one-place (λ (r : MapRow). r.window) (length c.flash) m.rows.items 0 j k x y s is.side_by_side one two has also
+
+  -- each right window has its row, and one only
+  pub window-row : (p : Place) (w : Window) → IsRight p w → HasRow m p w
+  window-row p w one =
+      let s = w.start / 4096 in
+      let at = placed p w one in
+      let found = sector-row s (inside w.start w.len (length c.flash / 4096) at.some at.inside) in
+      let same = shared (table_of_content c) (length c.flash) (slot_size c.otp (length c.flash)) (mappable c right)
+      found.item.place p found.item.window w s (row-at found.place found.item found.at).window one found.has
+      (has-first p w one) in
+      record { at = found.place; row = found.item; listed = found.at; place = same.0; window = same.1 }
+    where
+      inside : (a b k : ℕ) → 4096 ≤ b → a + b ≤ 4096 * k → a / 4096 < k
+      inside a b k some le = omega arith
+
+  pub window-once : (j k : ℕ) (x y : MapRow) → slice_get m.rows.items j ≡ Some x → slice_get m.rows.items k ≡ Some y
+      → x.window ≡ y.window → j ≡ k
+  window-once j k x y one two same =
+      let has = has-first x.place x.window (row-at j x one).window in
+      sector-once j k (x.window.start / 4096) x y one two has
+      (subst (λ (w : Window). HasSector w (x.window.start / 4096)) same has)
+
+  -- two rows that start are one
+  pub start-once : (j k : ℕ) (x y : MapRow) → slice_get m.rows.items j ≡ Some x → slice_get m.rows.items k ≡ Some y
+      → x.starts ≡ true → y.starts ≡ true → j ≡ k
+  start-once j k x y one two x_starts y_starts =
+      window-once j k x y one two
+      (by m.decision ((row-at j x one).starts.0 x_starts) ((row-at k y two).starts.0 y_starts))
+    where
+      by : (d : Decision) → DoesStart d x.window → DoesStart d y.window → x.window ≡ y.window
+      by (Start choice) a b = sym a ∙ b
+      by (Bootsel fall) a b = absurd a
+
+  -- where an image starts, its row does
+  pub start-row : (choice : Choice) → m.decision ≡ Start choice
+      → (k : ℕ) × (r : MapRow) × (slice_get m.rows.items k ≡ Some r) × (r.starts ≡ true)
+      × (r.window ≡ choice.image.window)
+  start-row choice e =
+      let window = started c cpu choice (subst (λ (d : Decision). Chosen c cpu Normal d) e is.decision) in
+      let row = window-row window.place choice.image.window window.right in (
+        row.at,
+        row.row,
+        row.listed,
+        (row-at row.at row.row row.listed).starts.1
+            (subst (λ (d : Decision). DoesStart d row.row.window) (sym e) (sym row.window)),
+        row.window,
+      )
+
+  -- and where none starts, no row does
+  pub no-start : (fall : Fall) → m.decision ≡ Bootsel fall → (k : ℕ) (r : MapRow)
+      → slice_get m.rows.items k ≡ Some r → r.starts ≡ false
+  no-start fall e k r at = by r.starts refl
+    where
+      by : (b : Bool) → r.starts ≡ b → b ≡ false
+      by false s = refl
+      by true s =
+          absurd (subst (λ (d : Decision). DoesStart d r.window) e ((row-at k r at).starts.0 s))
