@@ -1,12 +1,14 @@
 -- What is written for a command is read as it again.
-use Rattle.std.proofs.Common.{◌≡◌, ℕ, ◌+◌, ◌^◌, ◌<◌, Bool, true, false, cond, List, [], Ok, Err, All, length, drop, get_or, sym, subst, ◌∙◌, arith, inl, inr, length-drop}
+use Rattle.std.proofs.Common.{◌≡◌, ℕ, zero, suc, ◌+◌, ◌^◌, ◌<◌, Bool, true, false, cond, List, [], ◌∷◌, ◌++◌, Ok, Err, All, length, drop, get_or, sym, subst, ◌∙◌, arith, inl, inr, length-drop}
 use Rattle.std.proofs.lemmas.Bool.{cases_lt}
 use Rattle.std.proofs.lemmas.List.{get_or_past, get_or-drop}
 use Rattle.std.specs.Prelude.{Result}
+use Rattle.byteorder.specs.Endian.{little_bytes}
 use Rattle.byteorder.specs.Numbers.{little_from-lt, little_number-reads_back}
 use Rattle.picoboot_cmd.specs.declared.cmd.Cmd.{Cmd}
 use Rattle.picoboot_cmd.specs.declared.cmd.CmdFault.{CmdFault}
 use Rattle.picoboot_cmd.specs.declared.cmd.CmdFault.TheVariants.{Magic}
+use Rattle.picoboot_cmd.specs.declared.kinds.TheConstants.{MAGIC}
 use Rattle.picoboot_cmd.specs.Commands.{IsCommand, command_in, fields_of, written}
 
 same_fields : (t u i a n m : ℕ) (args : List ℕ) → t ≡ u → n ≡ m
@@ -18,6 +20,36 @@ pub read-back : (cmd : Cmd) → cmd.token < 2 ^ 32 → cmd.transfer < 2 ^ 32 →
 read-back cmd token transfer =
     same_fields _ _ cmd.id cmd.arg_size _ _ cmd.args
     (little_number-reads_back 4 cmd.token [] token) (little_number-reads_back 4 cmd.transfer [] transfer)
+
+-- what is written has 32 bytes
+pub written-long : (cmd : Cmd) → length cmd.args ≡ 16 → length (written cmd) ≡ 32
+written-long cmd long = omega (arith, long)
+
+-- the four bytes of a word, and bytes behind them
+word_small : (w : ℕ) (rest : List ℕ) → All (λ b. b < 256) rest → All (λ b. b < 256) (little_bytes 4 w ++ rest)
+word_small w rest all zero d lt = omega arith
+word_small w rest all (suc zero) d lt = omega arith
+word_small w rest all (suc (suc zero)) d lt = omega arith
+word_small w rest all (suc (suc (suc zero))) d lt = omega arith
+word_small w rest all (suc (suc (suc (suc i)))) d lt = all i d (omega (arith, lt))
+
+-- four bytes, and bytes behind them
+four_small : (a b : ℕ) (rest : List ℕ) → a < 256 → b < 256 → All (λ x. x < 256) rest
+    → All (λ x. x < 256) (a ∷ b ∷ 0 ∷ 0 ∷ rest)
+four_small a b rest a_low b_low all zero d lt = a_low
+four_small a b rest a_low b_low all (suc zero) d lt = b_low
+four_small a b rest a_low b_low all (suc (suc zero)) d lt = omega arith
+four_small a b rest a_low b_low all (suc (suc (suc zero))) d lt = omega arith
+four_small a b rest a_low b_low all (suc (suc (suc (suc i)))) d lt = all i d (omega (arith, lt))
+
+-- what is written is bytes
+pub written-bytes : (cmd : Cmd) → cmd.id < 256 → cmd.arg_size < 256 → All (λ b. b < 256) cmd.args
+    → All (λ b. b < 256) (written cmd)
+written-bytes cmd id size args =
+    let last : List ℕ = little_bytes 4 cmd.transfer ++ cmd.args in
+    word_small MAGIC (little_bytes 4 cmd.token ++ (cmd.id ∷ cmd.arg_size ∷ 0 ∷ 0 ∷ last))
+    (word_small cmd.token (cmd.id ∷ cmd.arg_size ∷ 0 ∷ 0 ∷ last)
+    (four_small cmd.id cmd.arg_size last id size (word_small cmd.transfer cmd.args args)))
 
 -- the fields of a command that is read are in their ranges
 small : (bytes : List ℕ) → All (λ b. b < 256) bytes → (i : ℕ) → get_or bytes i 0 < 256

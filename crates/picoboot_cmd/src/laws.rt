@@ -22,10 +22,12 @@ ghost use Rattle.picoboot_cmd.specs.Sectors.{erases, range_allowed};
 ghost use Rattle.picoboot_cmd.specs.Served.{boot_by, command_of};
 ghost use Rattle.picoboot_cmd.specs.WellFormed.{IsErase, IsReboot, IsWrite};
 
-/// What is written for a command is read as it, what is read as a command has its fields in their
-/// ranges, and `Magic` comes exactly for another first word.
+/// What is written for a command is 32 bytes and is read as it, what is read as a command has its
+/// fields in their ranges, and `Magic` comes exactly for another first word.
 pub fn commands_are_read_back()
     ensures written { (cmd : Cmd) → IsCommand cmd → command_in (written cmd) ≡ Ok cmd }
+    ensures long { (cmd : Cmd) → IsCommand cmd → length (written cmd) ≡ 32 }
+    ensures bytes { (cmd : Cmd) → IsCommand cmd → All (λ b. b < 256) (written cmd) }
     ensures read { (bytes : List ℕ) (cmd : Cmd) → length bytes ≡ 32 → All (λ b. b < 256) bytes
         → command_in bytes ≡ Ok cmd → IsCommand cmd }
     ensures fault { (bytes : List ℕ)
