@@ -1,16 +1,20 @@
 //! Worked examples of windows that hold the same image and of windows that do not. Each is the
 //! `ensures` of a function that does nothing.
 
-ghost use Rattle.std.specs.Prelude.{[], ◌∷◌, ◌++◌, false};
+ghost use Rattle.std.specs.Prelude.{[], ◌∷◌, ◌++◌, drop, false};
 ghost use Rattle.pico_board.specs.declared.boot.Cpu.TheVariants.{Arm};
 ghost use Rattle.image_def.specs.declared.started.Started.{Started};
 ghost use Rattle.image_check.specs.Examples.{record_at, arm_type, map_of, right_pc, window_with};
 ghost use Rattle.image_check.specs.SameImage.{HoldSameImage};
 
-/// Without a load map each byte of the window is compared, also behind the block.
+/// Without a load map each byte of the window is compared, the first one and those behind the block
+/// too.
 pub fn without_a_map()
     ensures same { HoldSameImage Arm (window_with right_pc (arm_type ∷ []) 0)
         (window_with right_pc (arm_type ∷ []) 0) (record_at right_pc false) }
+    ensures first_byte { (s : Started)
+        → HoldSameImage Arm (window_with right_pc (arm_type ∷ []) 0)
+        (1 ∷ drop 1 (window_with right_pc (arm_type ∷ []) 0)) s → ⊥ }
     ensures byte_behind { (s : Started)
         → HoldSameImage Arm (window_with right_pc (arm_type ∷ []) 0 ++ 7 ∷ [])
         (window_with right_pc (arm_type ∷ []) 0 ++ 8 ∷ []) s → ⊥ }

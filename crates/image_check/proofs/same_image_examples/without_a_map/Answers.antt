@@ -1,5 +1,5 @@
 -- By computing.
-use Rattle.std.proofs.Common.{◌≡◌, [], ◌∷◌, ◌++◌, refl, arith}
+use Rattle.std.proofs.Common.{◌≡◌, [], ◌∷◌, ◌++◌, drop, refl, arith}
 use Rattle.std.specs.Prelude.{false, slice_index}
 use Rattle.pico_board.specs.declared.boot.Cpu.TheVariants.{Arm}
 use Rattle.block_codec.specs.Blocks.{frame}
@@ -23,6 +23,15 @@ returns-clause-same c =
     (answered-held Arm false (otp_with 0 0 0 0) one (record_at right_pc false) refl) refl refl refl refl
     (same-range one two 8 20 (omega arith) (omega arith) refl, tt)
     (same-range one two 0 28 (omega arith) (omega arith) refl)
+
+pub returns-clause-first_byte : goal.returns-clause-first_byte
+unfolding image_in def_of loop_of follow block_from block_at front_block item_words frame size_of word_of word_bytes
+returns-clause-first_byte c = λ s h.
+    let one = window_with right_pc (arm_type ∷ []) 0 in
+    let two = 1 ∷ drop 1 (window_with right_pc (arm_type ∷ []) 0) in
+    let agree = same-storage Arm one two s h _ refl _ refl in
+    let e : slice_index two 0 ≡ slice_index one 0 = agree 0 (omega arith) (omega arith) in
+    absurd (omega (arith, e))
 
 pub returns-clause-byte_behind : goal.returns-clause-byte_behind
 unfolding image_in def_of loop_of follow block_from block_at front_block item_words frame size_of word_of word_bytes
