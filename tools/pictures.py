@@ -14,6 +14,7 @@ where M is 0.
 """
 
 import os
+import re
 import shutil
 import struct
 import subprocess
@@ -33,8 +34,10 @@ PAGE = 256
 MOST_STEPS = 262144
 ERASE, WRITE = 0x03, 0x05
 # a version and an entry beside the type of an image for Arm, and a block that defines no image
-ENTERED = struct.pack("<10I", 0xFFFFDED3, 0x10210142, 0x248, 0x1000A, 0x344, 0x10000201, 0x20082000, 0x6FF, 0, 0xAB123579)
+ENTERED = struct.pack("<10I", 0xFFFFDED3, 0x10210142, 0x248, 0x1000A, 0x344, 0x10000201, 0x20082000, 0x6FF, 0,
+                      0xAB123579)
 UNDEFINED = struct.pack("<6I", 0xFFFFDED3, 0x248, 0x1000A, 0x2FF, 0, 0xAB123579)
+RIGHTS = '"permissions":{"secure":"rw","nonsecure":"rw","bootloader":"rw"}'
 LONG = 256 * 1024 - 512  # a binary: sealed it has 1023 pages in 64 sectors
 WIDTHS = (960, 1920)
 BROWSERS = ("chromium", "chromium-browser", "google-chrome")
@@ -59,6 +62,12 @@ def longest(start, sectors):
         block = UNDEFINED if page % 2 else ENTERED
         lines.append(command(WRITE, start + page * PAGE, PAGE, block.ljust(PAGE, b"\xff")))
     return "\n".join([*lines, "end", ""]).encode()
+
+
+def table_of(parts):
+    """The text of a table of partitions: of each its first and its last sector, and what else is said of it."""
+    rows = (f'{{"first":{first},"last":{last},{RIGHTS}{more}}}' for first, last, more in parts)
+    return f'{{"unpartitioned":{{"families":["absolute"],{RIGHTS}}},"partitions":[{",".join(rows)}]}}'.encode()
 
 
 class Maker:
@@ -107,13 +116,39 @@ class Maker:
         self.write("image", image)
         self.run("plan", "flash", "otp", "arm", "image", "script")
 
+    def height(self, name):
+        """How many pixels a picture is high."""
+        return int(re.search(rb' height="(\d+)"', self.read(name))[1])
+
     def fail(self, text):
         self.wrong += 1
         print(text)
 
     def chart(self, name, wanted):
         """Draws the sweep of the script, which has to be told so, and looks at the picture."""
-        told = self.run("chart", "flash", "otp", "arm", "script", "pattern", name)
+        self.look(name, self.run("chart", "flash", "otp", "arm", "script", "pattern", name), wanted)
+
+    def map(self, name, wanted, otp=b""):
+        """Draws the flash, whose map has to be told so, and looks at the picture."""
+        self.write("otp", otp)
+        self.look(name, self.run("map", "flash", "otp", "arm", name), wanted)
+
+    def parted(self, parts, sectors, images):
+        """A flash with a table of these partitions, and images at sectors."""
+        self.write("table.json", table_of(parts))
+        self.run("table", "table.json", "table.bin")
+        flash = bytearray(self.read("table.bin").ljust(sectors * SECTOR, b"\xff"))
+        for sector, image in images:
+            flash[sector * SECTOR:sector * SECTOR + len(image)] = image
+        self.write("flash", flash)
+
+    def is_shown(self, name):
+        """The picture is the one that the README shows."""
+        with open(f"docs/{name}", "rb") as file:
+            if file.read() != self.read(name):
+                self.fail(f"docs/{name} is not what the program draws")
+
+    def look(self, name, told, wanted):
         self.drawn += 1
         if told != wanted:
             self.fail(f"{name}: {told}\n  wanted {wanted}")
@@ -121,28 +156,18 @@ class Maker:
             self.fail(f"{name}: xmllint does not read it")
         for width in WIDTHS if self.browser else ():
             shot = os.path.abspath(self.path(name.replace(".svg", f"-{width}.png")))
+            size = f"--window-size={width},{self.height(name)}"
             subprocess.run([self.browser, "--headless", "--no-sandbox", "--disable-gpu", f"--screenshot={shot}",
-                            f"--window-size={width},400", "file://" + os.path.abspath(self.path(name))],
-                           capture_output=True, check=False)
+                            size, "file://" + os.path.abspath(self.path(name))], capture_output=True, check=False)
             if not os.path.exists(shot):
                 self.fail(f"{name}: {self.browser} has rendered nothing at {width} pixels")
 
 
-def main():
-    if len(sys.argv) != 3:
-        sys.exit(__doc__.strip())
-    os.makedirs(sys.argv[2], exist_ok=True)
-    make = Maker(sys.argv[1], sys.argv[2])
-    if not shutil.which("xmllint"):
-        print("the pictures are not read by xmllint: it is not there")
-    if not make.browser:
-        print("the pictures are not rendered: there is no Chromium")
+def charts(make):
     make.board(30, b"")
     make.plan(IMAGE + b"\xff" * 484 + b"code")
     make.chart("chart.svg", "chart steps=4 former=4 finished=0 chance=4")
-    with open("docs/chart.svg", "rb") as file:
-        if file.read() != make.read("chart.svg"):
-            make.fail("docs/chart.svg is not what the program draws")
+    make.is_shown("chart.svg")
     make.write("script", b"\0")
     make.chart("none.svg", "chart steps=0 former=0 finished=0 chance=0")
     make.board(64, make.sealed(IMAGE, 9))
@@ -158,6 +183,42 @@ def main():
     # Behind the program of an even page, an image starts that is neither: not behind page 2, whose block
     # stands where the entry is, and not behind page 0, which finishes the image.
     make.chart("longest.svg", f"chart steps={MOST_STEPS} former={2 * MOST_STEPS - 12} finished=0 chance=12")
+
+
+def maps(make):
+    old, new = make.sealed(IMAGE, 8), make.sealed(IMAGE, 9)
+    make.board(30, old.ljust(30 * SECTOR, b"\xff") + new[:4] + b"\0" + new[5:])
+    make.write("flash", make.read("flash").ljust(64 * SECTOR, b"\xff"))
+    make.map("map.svg", "map windows=5")
+    make.is_shown("map.svg")
+    make.write("flash", b"\xff")
+    make.map("whole.svg", "map windows=1")
+    make.write("flash", IMAGE.ljust(64 * SECTOR, b"\xff"))
+    make.map("slots.svg", "map windows=3", b"\0" * (4 * 0x055) + b"\1\0\0\0")
+    # Two slots, fifteen partitions of four sectors, and two free sectors before, between and behind them.
+    parts = [(4 + 6 * i, 7 + 6 * i, f',"name":"part <{i}> & more","families":["rp2350-arm-s","data"]')
+             for i in range(15)]
+    make.parted(parts, 96, [(22, IMAGE)])
+    make.map("fifteen.svg", "map windows=33")
+    # Names of 127 bytes: as they are, of bytes that a file has names for, and of bytes written as digits.
+    names = ("n" * 127, "&<>'" * 31 + "&<>", "\\u0001" * 127, '\\"' * 127)
+    parts = [(2 + 4 * i, 5 + 4 * i, f',"name":"{name}"' + (f',"link":["a",{i - 1}]' if i % 2 else ""))
+             for i, name in enumerate(names)]
+    make.parted(parts, 18, [(2, new), (6, old)])
+    make.map("names.svg", "map windows=6")
+
+
+def main():
+    if len(sys.argv) != 3:
+        sys.exit(__doc__.strip())
+    os.makedirs(sys.argv[2], exist_ok=True)
+    make = Maker(sys.argv[1], sys.argv[2])
+    if not shutil.which("xmllint"):
+        print("the pictures are not read by xmllint: it is not there")
+    if not make.browser:
+        print("the pictures are not rendered: there is no Chromium")
+    maps(make)
+    charts(make)
     print(f"{make.drawn} pictures drawn, {make.wrong} wrong")
     sys.exit(1 if make.wrong else 0)
 
