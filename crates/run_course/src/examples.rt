@@ -2,12 +2,19 @@
 //! that does nothing.
 
 ghost use Rattle.std.specs.Prelude.{◌≡◌, [], ◌∷◌, codes};
+ghost use Rattle.run_course.specs.declared.status.Status.TheVariants.{Words};
 ghost use Rattle.run_course.specs.Outcomes.{AreBytes, input_line, unread, not_understood, outcome_found, found};
 ghost use Rattle.run_course.specs.Ends.{saved};
 
 /// The line of an input that is refused, under the file's word.
 pub fn lines_of_inputs()
     ensures { input_line (codes "f") (codes "empty") ≡ codes "input f: empty\n" }
+{}
+
+/// Words that are no command are answered with one line and write no file.
+pub fn words_that_are_no_command()
+    ensures { not_understood
+        ≡ record { status = Words; text = codes "words not understood\n"; files = [] } }
 {}
 
 /// Bytes are below 256.

@@ -1,10 +1,10 @@
 //! Laws of the definitions of a run's course, proved: each is the `ensures` of a function that does
 //! nothing.
 
-ghost use Rattle.std.specs.Prelude.{ℕ, ◌≡◌, ◌<◌, ◌≤◌, ◌+◌, ◌++◌, [], ◌∷◌, List, length};
+ghost use Rattle.std.specs.Prelude.{ℕ, ◌≡◌, ◌<◌, ◌≤◌, ◌+◌, ◌++◌, [], ◌∷◌, List, length, true, false};
 ghost use Rattle.run_course.specs.declared.status.Status.TheVariants.{Done, Words, Input, Bootsel, ReadFault, WriteFault, OutputFault, Memory};
 ghost use Rattle.run_course.specs.Statuses.{number_of};
-ghost use Rattle.run_course.specs.Outcomes.{Input as ReadInput};
+ghost use Rattle.run_course.specs.Outcomes.{Input as ReadInput, is_finished};
 ghost use Rattle.run_course.specs.Ends.{cut};
 
 /// The program ends with one of eight numbers, by how the run ended.
@@ -17,6 +17,19 @@ pub fn statuses_have_numbers()
     ensures write_fault { number_of WriteFault ≡ 5 }
     ensures output_fault { number_of OutputFault ≡ 6 }
     ensures memory { number_of Memory ≡ 7 }
+{}
+
+/// A run is finished where its whole text was put: it is done, its words are no command, an input is
+/// refused, or the boot falls to BOOTSEL. With one of the four causes it is not.
+pub fn statuses_of_finished_runs()
+    ensures done { is_finished Done ≡ true }
+    ensures words { is_finished Words ≡ true }
+    ensures input { is_finished Input ≡ true }
+    ensures bootsel { is_finished Bootsel ≡ true }
+    ensures read_fault { is_finished ReadFault ≡ false }
+    ensures write_fault { is_finished WriteFault ≡ false }
+    ensures output_fault { is_finished OutputFault ≡ false }
+    ensures memory { is_finished Memory ≡ false }
 {}
 
 /// Of a longer file one byte more than its limit is read, and a file within its limit is read
