@@ -1,0 +1,9 @@
+pub mod WordLemmas
+pub mod TakenLemmas
+pub mod PairLemmas
+pub mod LoadLemmas
+pub mod TargetLemmas
+pub mod OneLemmas
+pub mod HomeLemmas
+pub mod HomeTargetLemmas
+pub mod ExampleLemmas
