@@ -6,9 +6,9 @@ use Rattle.pico_board.specs.declared.boot.BootKind.TheVariants.{Normal}
 use Rattle.pico_board.specs.declared.window.Window.{Window}
 use Rattle.pico_board.specs.declared.Step.{Step}
 use Rattle.pico_board.specs.Steps.{after_all}
-use Rattle.boot_sweep.specs.Results.{CutSession, ConfinedSession, StartsFinished, StartsThere}
-use Rattle.boot_sweep.proofs.ConfinedLaws.{confined-session}
-use Rattle.boot_sweep.proofs.GatedLaws.{gated-decision}
+use Rattle.boot_session.specs.CutSessions.{CutSession, ConfinedSession, StartsFinished, StartsThere}
+use Rattle.boot_session.proofs.ConfinedLaws.{confined-session}
+use Rattle.boot_session.proofs.GatedLaws.{gated-decision}
 use Rattle.pico_board.specs.Board.{Rose}
 use Rattle.pico_board.specs.Content.{Content}
 use Rattle.pico_board.specs.Files.{File, StoreState, Access, file_of}

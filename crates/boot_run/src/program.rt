@@ -9,7 +9,7 @@ ghost use Rattle.pico_board.specs.Steps.{after_all};
 ghost use Rattle.pico_board.specs.declared.Step.{Step};
 ghost use Rattle.pico_board.specs.declared.boot.BootKind.TheVariants.{Normal};
 ghost use Rattle.pico_board.specs.declared.window.Window.{Window};
-ghost use Rattle.boot_sweep.specs.Results.{CutSession, ConfinedSession, StartsFinished, StartsThere};
+ghost use Rattle.boot_session.specs.CutSessions.{CutSession, ConfinedSession, StartsFinished, StartsThere};
 ghost use Rattle.pico_board.specs.Files.{File, file_of};
 ghost use Rattle.pico_board.specs.Puts.{IsPut};
 ghost use Rattle.image_check.specs.NotBelow.{NotBelow};

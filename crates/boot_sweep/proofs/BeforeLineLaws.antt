@@ -14,7 +14,7 @@ use Rattle.boot_rules.specs.declared.tables.Found.{Found}
 use Rattle.boot_sweep.specs.declared.results.CutResult.TheVariants.{Chance}
 use Rattle.boot_sweep.specs.Firms.{Firm, HasOwnDigests, Stray}
 use Rattle.boot_sweep.specs.Refusals.{refusal}
-use Rattle.boot_sweep.specs.Slots.{IsSlot}
+use Rattle.boot_session.specs.Slots.{IsSlot}
 use Rattle.boot_sweep.specs.Sweeps.{Line, cut_in, cut_of, sweep_lines}
 use Rattle.boot_sweep.proofs.ChanceLemmas.{line-cut, line-luck, slot-inside}
 use Rattle.boot_sweep.proofs.FirmLaws.{firm-lucky}

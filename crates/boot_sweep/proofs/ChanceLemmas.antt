@@ -19,10 +19,10 @@ use Rattle.boot_sweep.specs.declared.results.CutResult.TheVariants.{Chance}
 use Rattle.boot_sweep.specs.Comparing.{result_of}
 use Rattle.boot_sweep.specs.Refusals.{refusal}
 use Rattle.boot_sweep.specs.Results.{IsCutResult}
-use Rattle.boot_sweep.specs.Slots.{IsSlot}
+use Rattle.boot_session.specs.Slots.{IsSlot}
 use Rattle.boot_sweep.specs.Sweeps.{Line, cut_of}
-use Rattle.boot_sweep.proofs.GatedLaws.{decide-blank, gated-decision}
-use Rattle.boot_sweep.proofs.NeighbourLemmas.{placed}
+use Rattle.boot_session.proofs.GatedLaws.{decide-blank, gated-decision}
+use Rattle.boot_session.proofs.NeighbourLemmas.{placed}
 use Rattle.boot_sweep.proofs.RefusalLemmas.{IsSweepable, sweepable}
 use Rattle.boot_sweep.proofs.ResultLemmas.{judged-exactly}
 

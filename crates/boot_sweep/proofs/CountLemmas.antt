@@ -17,13 +17,13 @@ use Rattle.pico_board.proofs.SettledCutLemmas.{cut_before_final, cut_elsewhere}
 use Rattle.boot_sweep.specs.declared.results.CutResult.{CutResult}
 use Rattle.boot_sweep.specs.declared.results.CutResult.TheVariants.{Former, Finished, Chance}
 use Rattle.boot_sweep.specs.Comparing.{result_of}
-use Rattle.boot_sweep.specs.Refusals.{outside_from, refusal}
-use Rattle.boot_sweep.specs.Slots.{IsSlot, session_slot}
+use Rattle.boot_sweep.specs.Refusals.{refusal}
+use Rattle.boot_session.specs.Slots.{IsSlot, outside_from, session_slot}
 use Rattle.boot_sweep.specs.Sweeps.{Line, cut_in, cut_of, is_chance, is_chance_result, line_of, lines_from, sweep_lines}
 use Rattle.boot_sweep.proofs.ChanceLemmas.{line-cut, line-luck, slot-inside}
 use Rattle.boot_sweep.proofs.LineLemmas.{IsLineOf, all-by, all-lines}
 use Rattle.boot_sweep.proofs.RefusalLemmas.{no-reason, sweepable}
-use Rattle.boot_sweep.proofs.SlotLemmas.{slot-found}
+use Rattle.boot_session.proofs.SlotLemmas.{slot-found}
 
 -- the lines that may say chance, where e steps stand between the first one and the final programs:
 -- within the first step; and within each of the final programs, and before each but the first

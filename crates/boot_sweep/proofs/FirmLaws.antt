@@ -44,9 +44,9 @@ use Rattle.boot_rules.specs.declared.tables.Found.{Found}
 use Rattle.boot_machine.specs.Luck.{HasNoImage, Lucky}
 use Rattle.boot_sweep.specs.Firms.{Firm, HasOwnDigests, IsFirm, LoadsFront, Stray, covered_by}
 use Rattle.boot_sweep.proofs.ChanceLemmas.{gated-confined}
-use Rattle.boot_sweep.proofs.ConfinedLaws.{confined-table}
+use Rattle.boot_session.proofs.ConfinedLaws.{confined-table}
 use Rattle.boot_sweep.proofs.LikeBlockLemmas.{both-from, decide-headers, decide-words, last-pair, same-suit}
-use Rattle.boot_sweep.proofs.NeighbourLemmas.{placed}
+use Rattle.boot_session.proofs.NeighbourLemmas.{placed}
 
 -- an element of a list stands at a place of it
 held-at : (xs : List BlockView) (x : BlockView) (k : ℕ) → k < length xs → get_or xs k x ≡ x → slice_get xs k ≡ Some x

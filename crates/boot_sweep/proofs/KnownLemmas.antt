@@ -29,12 +29,12 @@ use Rattle.boot_rules.proofs.PlaceLemmas.{placed-inside}
 use Rattle.boot_sweep.specs.declared.results.Verdict.{Verdict}
 use Rattle.boot_sweep.specs.declared.slots.Slot.{Slot}
 use Rattle.boot_sweep.specs.declared.slots.Last.{Last}
-use Rattle.boot_sweep.specs.Slots.{is_confined, session_slot, slot_among, slot_of}
+use Rattle.boot_session.specs.Slots.{is_confined, session_slot, slot_among, slot_of}
 use Rattle.boot_sweep.specs.Verdicts.{IsBeside, IsKnown, IsLast, IsSlotOf, Knows, LiesIn, verdict_by}
-use Rattle.boot_sweep.proofs.ConfinedLaws.{same-image-decision, table-stays}
-use Rattle.boot_sweep.proofs.GatedLaws.{blank-table}
-use Rattle.boot_sweep.proofs.NeighbourLemmas.{placed}
-use Rattle.boot_sweep.proofs.SlotLemmas.{confined-is, slot-found}
+use Rattle.boot_session.proofs.ConfinedLaws.{same-image-decision, table-stays}
+use Rattle.boot_session.proofs.GatedLaws.{blank-table}
+use Rattle.boot_session.proofs.NeighbourLemmas.{placed}
+use Rattle.boot_session.proofs.SlotLemmas.{confined-is, slot-found}
 
 -- the slot of the steps
 all-confined : (w : Window) (steps : List Step) → list_all (is_confined w) steps ≡ true → Confined steps w

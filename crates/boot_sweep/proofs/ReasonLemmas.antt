@@ -17,10 +17,10 @@ use Rattle.boot_rules.specs.Choosing.{decision_in}
 use Rattle.boot_rules.specs.Tables.{table_in}
 use Rattle.boot_sweep.specs.declared.error.SweepError.{SweepError}
 use Rattle.boot_sweep.specs.declared.error.SweepError.TheVariants.{NotConfined, NotGated, TooManySteps, FormerInSlot, TableChanged}
-use Rattle.boot_sweep.specs.declared.recorder.Recorder.{Recorder}
-use Rattle.boot_sweep.specs.Recordings.{IsRecorderOf}
-use Rattle.boot_sweep.specs.Refusals.{gains_table, kept_steps, is_in_slot, outside_from, refusal, starts_in_slot, step_limit, ungated, where_}
-use Rattle.boot_sweep.specs.Slots.{session_slot}
+use Rattle.boot_session.specs.declared.recorder.Recorder.{Recorder}
+use Rattle.boot_session.specs.Recordings.{IsRecorderOf, kept_steps, step_limit}
+use Rattle.boot_sweep.specs.Refusals.{gains_table, refusal, starts_in_slot, ungated, where_}
+use Rattle.boot_session.specs.Slots.{is_in_slot, outside_from, session_slot}
 
 -- the first of the reasons, from what is found of each
 abbrev pub first_reason : Option ℕ → Option ℕ → Bool → Bool → Bool → Option SweepError

@@ -22,13 +22,14 @@ use Rattle.boot_rules.specs.Tables.{table_in}
 use Rattle.boot_rules.proofs.DecisionLemmas.{chosen-decision, decision-chosen}
 use Rattle.boot_sweep.specs.declared.error.SweepError.{SweepError}
 use Rattle.boot_sweep.specs.declared.error.SweepError.TheVariants.{NotConfined, NotGated, TooManySteps, FormerInSlot, Memory, TableChanged}
-use Rattle.boot_sweep.specs.Refusals.{IsFirstOutside, IsFirstUngated, IsGatedSession, IsRefused, KeepsToSlot, LeavesSlot, StartsIn, gains_table, is_start_in, kept_steps, outside_from, refusal, starts_in_slot, step_limit, ungated, where_}
-use Rattle.boot_sweep.specs.Slots.{IsSlot, session_slot}
+use Rattle.boot_sweep.specs.Refusals.{IsFirstOutside, IsFirstUngated, IsGatedSession, IsRefused, KeepsToSlot, LeavesSlot, StartsIn, gains_table, is_start_in, refusal, starts_in_slot, ungated, where_}
+use Rattle.boot_session.specs.Recordings.{kept_steps, step_limit}
+use Rattle.boot_session.specs.Slots.{IsSlot, outside_from, session_slot}
 use Rattle.boot_sweep.proofs.GateLemmas.{gated-none, none-gated}
 use Rattle.boot_sweep.proofs.ChanceLemmas.{gated-confined}
 use Rattle.boot_sweep.proofs.RefusalLaws.{confined-take, first-named, first-outside, named-first, outside-first}
 use Rattle.boot_sweep.proofs.RefusalLemmas.{kept-all, none-outside, outside-none, table-stays}
-use Rattle.boot_sweep.proofs.SlotLemmas.{slot-found, slot-is}
+use Rattle.boot_session.proofs.SlotLemmas.{slot-found, slot-is}
 
 or-some : (a b : Option SweepError) (e : SweepError) → option_or a b ≡ Some e
     → (a ≡ Some e) ⊎ ((a ≡ None) × (b ≡ Some e))

@@ -8,10 +8,10 @@ use Rattle.pico_board.specs.declared.Step.{Step}
 use Rattle.pico_board.specs.declared.window.Window.{Window}
 use Rattle.pico_board.specs.Sessions.{Confined, Gated, IsConfined}
 use Rattle.pico_board.proofs.GateLemmas.{Gated-left}
-use Rattle.boot_sweep.specs.Refusals.{IsFirstOutside, IsFirstUngated, outside_from, ungated_in}
-use Rattle.boot_sweep.specs.Slots.{is_confined}
+use Rattle.boot_sweep.specs.Refusals.{IsFirstOutside, IsFirstUngated, ungated_in}
+use Rattle.boot_session.specs.Slots.{is_confined, outside_from}
 use Rattle.boot_sweep.proofs.GateLemmas.{first-ungated, gated-none, none-gated}
-use Rattle.boot_sweep.proofs.SlotLemmas.{confined-is, is-confined}
+use Rattle.boot_session.proofs.SlotLemmas.{confined-is, is-confined}
 
 -- the first step outside the window, by its place
 pub first-outside : (w : Window) (k : ℕ) (steps : List Step) (j : ℕ) → outside_from k (Some w) steps ≡ Some j

@@ -17,12 +17,13 @@ use Rattle.boot_rules.specs.declared.tables.Found.{Found}
 use Rattle.boot_rules.specs.Choosing.{decision_in}
 use Rattle.boot_rules.specs.Tables.{table_in}
 use Rattle.boot_sweep.specs.declared.error.SweepError.{SweepError}
-use Rattle.boot_sweep.specs.Refusals.{gains_table, is_start_in, kept_steps, outside_from, refusal, starts_in_slot, step_limit, ungated, where_}
-use Rattle.boot_sweep.specs.Results.{StartsElsewhere}
-use Rattle.boot_sweep.specs.Slots.{IsSlot, is_confined, session_slot}
+use Rattle.boot_sweep.specs.Refusals.{gains_table, is_start_in, refusal, starts_in_slot, ungated, where_}
+use Rattle.boot_session.specs.Recordings.{kept_steps, step_limit}
+use Rattle.boot_session.specs.Slots.{IsSlot, is_confined, outside_from, session_slot}
+use Rattle.boot_session.specs.CutSessions.{StartsElsewhere}
 use Rattle.boot_sweep.proofs.GateLemmas.{none-gated}
-use Rattle.boot_sweep.proofs.GatedLaws.{gated-table}
-use Rattle.boot_sweep.proofs.SlotLemmas.{confined-is, is-confined, slot-is}
+use Rattle.boot_session.proofs.GatedLaws.{gated-table}
+use Rattle.boot_session.proofs.SlotLemmas.{confined-is, is-confined, slot-is}
 
 pub none-outside : (w : Window) (k : ℕ) (steps : List Step) → outside_from k (Some w) steps ≡ None → Confined steps w
 none-outside w k [] e = tt

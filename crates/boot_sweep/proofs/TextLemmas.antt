@@ -16,21 +16,21 @@ use Rattle.pico_board.specs.Content.{Content, IsContent}
 use Rattle.pico_board.specs.Steps.{IsStepIn, after_all}
 use Rattle.boot_rules.specs.declared.decision.Decision.{Decision}
 use Rattle.boot_rules.specs.Choosing.{decision_in}
-use Rattle.boot_sweep.specs.declared.recorder.Recorder.{Recorder}
+use Rattle.boot_session.specs.declared.recorder.Recorder.{Recorder}
 use Rattle.boot_sweep.specs.declared.results.CutResult.{CutResult}
 use Rattle.boot_sweep.specs.Comparing.{result_by}
-use Rattle.boot_sweep.specs.Recordings.{IsRecorderOf}
-use Rattle.boot_sweep.specs.Refusals.{outside_from, refusal, step_limit}
-use Rattle.boot_sweep.specs.Scripts.{content_of, script_events, script_session}
-use Rattle.boot_sweep.specs.Sessions.{session}
-use Rattle.boot_sweep.specs.Slots.{session_slot}
+use Rattle.boot_session.specs.Recordings.{IsRecorderOf, step_limit}
+use Rattle.boot_sweep.specs.Refusals.{refusal}
+use Rattle.boot_session.specs.Slots.{outside_from, session_slot}
+use Rattle.boot_session.specs.Scripts.{content_of, script_events, script_session}
+use Rattle.boot_session.specs.Sessions.{session}
 use Rattle.boot_sweep.specs.declared.results.StepResults.{StepResults}
 use Rattle.boot_sweep.specs.declared.results.SweepResults.{SweepResults}
 use Rattle.boot_sweep.specs.StepResults.{HasResults, IsResultsOf, results_from, sweep_results}
 use Rattle.boot_sweep.proofs.ChanceLemmas.{gated-confined, slot-inside, steps-in}
 use Rattle.boot_sweep.proofs.ReasonLemmas.{reason-of}
 use Rattle.boot_sweep.proofs.RefusalLemmas.{kept-all, no-reason, sweepable}
-use Rattle.boot_sweep.proofs.SlotLemmas.{slot-found}
+use Rattle.boot_session.proofs.SlotLemmas.{slot-found}
 
 -- the results by the decisions that were made before and after the session are those of the sweep
 results-whole : (c z : Content) (former finished : Decision) (cpu : Cpu) (pattern : List ℕ) (steps : List Step)

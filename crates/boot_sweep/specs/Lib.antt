@@ -1,15 +1,8 @@
-pub mod Examples
 pub mod Comparing
 pub mod Firms
 pub mod Gating
-pub mod Playing
-pub mod Recordings
 pub mod Refusals
 pub mod Results
-pub mod Scripts
-pub mod Sessions
-pub mod Slots
-pub mod Standing
 pub mod StepResults
 pub mod Sweeps
 pub mod Swept

@@ -19,15 +19,8 @@ use Rattle.boot_rules.specs.Chosen.{Chosen}
 use Rattle.boot_rules.specs.Tables.{table_in}
 use Rattle.boot_sweep.specs.declared.error.SweepError.{SweepError}
 use Rattle.boot_sweep.specs.declared.error.SweepError.TheVariants.{NotConfined, NotGated, TooManySteps, FormerInSlot, Memory, TableChanged}
-use Rattle.boot_sweep.specs.Slots.{IsSlot, is_confined, session_slot}
-
--- the most steps of a session that is swept
-unfoldable pub step_limit : ℕ
-step_limit = 262144
-
--- as many of the steps
-unfoldable pub kept_steps : List Step → List Step
-kept_steps steps = take step_limit steps
+use Rattle.boot_session.specs.Recordings.{kept_steps, step_limit}
+use Rattle.boot_session.specs.Slots.{IsSlot, outside_from, session_slot}
 
 -- step k is the first one that does not lie in the window
 pub record IsFirstOutside (steps : List Step) (w : Window) (k : ℕ) : Type 0 where
@@ -80,17 +73,6 @@ IsRefused c cpu steps Memory = ⊥
 IsRefused c cpu steps TableChanged =
     (w : Window) × IsGatedSession c cpu steps w × (StartsIn c cpu w → ⊥)
     × (table_in (after_all c steps) ≢ table_in c)
-
--- the step lies in the slot, where there is one
-abbrev pub is_in_slot : Option Window → Step → Bool
-is_in_slot None step = false
-is_in_slot (Some w) step = is_confined w step
-
--- the first of the steps that does not lie in the slot, by its number; the first one's is k
-abbrev pub outside_from : ℕ → Option Window → List Step → Option ℕ
-outside_from k slot [] = None
-outside_from k slot (step ∷ steps) =
-    if is_in_slot slot step then outside_from (k + 1) slot steps else Some k
 
 -- there is none
 abbrev pub has_none : List ℕ → Bool

@@ -1,78 +1,12 @@
--- Sessions on one slot of a pair in which power is lost, and what a normal boot decides after them.
--- This project's own.
-use Rattle.std.specs.Prelude.{◌≡◌, ◌≢◌, ⊤, ℕ, false, List, None, Some, slice_get}
-use Rattle.pico_board.specs.declared.Step.{Step}
+-- What a normal boot makes of a session in which power is lost. This project's own.
 use Rattle.pico_board.specs.declared.boot.Cpu.{Cpu}
 use Rattle.pico_board.specs.declared.boot.BootKind.TheVariants.{Normal}
-use Rattle.pico_board.specs.declared.window.Window.{Window}
-use Rattle.pico_board.specs.Content.{Content, IsContent}
-use Rattle.pico_board.specs.Sessions.{Confined, Gated, Unfinished}
-use Rattle.pico_board.specs.Steps.{CutOf, MayLeave, after_all}
-use Rattle.image_check.specs.SameImage.{SameImage}
-use Rattle.image_check.specs.Valid.{Valid}
-use Rattle.slot_choice.specs.declared.choice.Choice.{Choice}
-use Rattle.slot_choice.specs.declared.unit.SlotUnit.{SlotUnit}
-use Rattle.slot_choice.specs.Units.{IsMember}
+use Rattle.pico_board.specs.Content.{Content}
 use Rattle.boot_rules.specs.declared.decision.Decision.{Decision}
-use Rattle.boot_rules.specs.declared.decision.Decision.TheVariants.{Start, Bootsel}
-use Rattle.boot_rules.specs.Choosing.{boot_units_in}
-use Rattle.boot_rules.specs.Chosen.{Chosen, Home}
-use Rattle.boot_rules.specs.Tables.{table_in}
-use Rattle.boot_machine.specs.Luck.{Lucky}
+use Rattle.boot_rules.specs.Chosen.{Chosen}
+use Rattle.boot_session.specs.CutSessions.{StartsFinished}
 use Rattle.boot_sweep.specs.declared.results.CutResult.{CutResult}
 use Rattle.boot_sweep.specs.declared.results.CutResult.TheVariants.{Former, Finished, Chance}
-
--- the decision is no start of an image in the window
-abbrev pub StartsElsewhere : Window → Decision → Type 0
-StartsElsewhere w (Start choice) = choice.image.window ≢ w
-StartsElsewhere w (Bootsel fall) = ⊤
-
--- a normal boot on d starts an image of the window, which is valid there with trial not allowed
-pub record StartsThere (d : Content) (w : Window) (cpu : Cpu) : Type 0 where
-  pub choice : Choice
-  pub chosen : Chosen d cpu Normal (Start choice)
-  pub there : choice.image.window ≡ w
-  pub valid : Valid d w cpu false choice.image
-
--- a normal boot on d makes the same start as one on z, and the image has the same bytes in both
-pub record StartsFinished (z d : Content) (cpu : Cpu) : Type 0 where
-  pub choice : Choice
-  pub here : Chosen d cpu Normal (Start choice)
-  pub after : Chosen z cpu Normal (Start choice)
-  pub same : SameImage d z choice.image cpu
-
--- a gated session on the content c writes one slot w of a pair, and power is lost in it, which
--- leaves d. The decision e of a normal boot on c starts no image of the slot (elsewhere); the whole
--- session leaves the table that there was, or leaves none (same table); and where d is unfinished,
--- it is lucky (luck).
-pub record CutSession (c : Content) (w : Window) (cpu : Cpu) (steps : List Step) (d : Content)
-    (e : Decision) : Type 0 where
-  pub right : IsContent c
-  pub home : Home c w cpu
-  pub gated : Gated steps w
-  pub cut : CutOf c steps d
-  pub former : Chosen c cpu Normal e
-  pub elsewhere : StartsElsewhere w e
-  pub table : table_in (after_all c steps) ≡ table_in c
-  pub luck : Unfinished c steps w d → Lucky c (after_all c steps) d w cpu
-
--- a session on the content c writes only one slot w of a pair, and it is done, or power is lost in
--- it, which leaves d. The decision e of a normal boot on c starts no image of the slot (elsewhere);
--- and where c has no table, d has none (same table). It asks for no luck.
-pub record ConfinedSession (c : Content) (w : Window) (cpu : Cpu) (steps : List Step) (d : Content)
-    (e : Decision) : Type 0 where
-  pub right : IsContent c
-  pub home : Home c w cpu
-  pub confined : Confined steps w
-  pub leaves : MayLeave c steps d
-  pub former : Chosen c cpu Normal e
-  pub elsewhere : StartsElsewhere w e
-  pub table : table_in c ≡ None → table_in d ≡ None
-
--- the window is no member of a boot unit
-abbrev pub IsInNoUnit : Content → Cpu → Window → Type 0
-IsInNoUnit c cpu w = (k : ℕ) (u : SlotUnit) (x : Window)
-    → slice_get (boot_units_in c cpu) k ≡ Some u → IsMember u x → x ≢ w
 
 -- a normal boot on d decides as one on c
 abbrev pub IsFormer : Content → Content → Cpu → Type 0

@@ -11,7 +11,7 @@ use Rattle.boot_machine.specs.Luck.{Lucky}
 use Rattle.boot_sweep.specs.declared.results.CutResult.{CutResult}
 use Rattle.boot_sweep.specs.declared.results.CutResult.TheVariants.{Chance}
 use Rattle.boot_sweep.specs.Results.{IsCutResult}
-use Rattle.boot_sweep.specs.Slots.{IsSlot}
+use Rattle.boot_session.specs.Slots.{IsSlot}
 use Rattle.boot_sweep.specs.Sweeps.{Line, cut_of, end_text, is_chance, line_text}
 
 module _ (c : Content) (cpu : Cpu) (pattern : List ℕ) (steps : List Step) where

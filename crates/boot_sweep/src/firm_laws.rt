@@ -15,7 +15,7 @@ ghost use Rattle.boot_machine.specs.Luck.{Lucky};
 ghost use Rattle.boot_sweep.specs.declared.results.CutResult.TheVariants.{Chance};
 ghost use Rattle.boot_sweep.specs.Firms.{Firm, HasOwnDigests, Stray};
 ghost use Rattle.boot_sweep.specs.Refusals.{refusal};
-ghost use Rattle.boot_sweep.specs.Slots.{IsSlot};
+ghost use Rattle.boot_session.specs.Slots.{IsSlot};
 ghost use Rattle.boot_sweep.specs.Sweeps.{Line, cut_of, sweep_lines};
 
 /// A cut in a gated session that writes a firm image, in a step other than the first one, which

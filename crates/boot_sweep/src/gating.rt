@@ -1,7 +1,8 @@
 //! Whether the steps of a session are a gated list of its slot.
 
 ghost use Rattle.std.specs.Prelude.{◌≡◌, ◌<◌, ◌≤◌, [], length, true};
-ghost use Rattle.boot_sweep.specs.Refusals.{begins_gated, may_follow, pages_behind, step_limit, ungated, ungated_behind, ungated_in};
+ghost use Rattle.boot_sweep.specs.Refusals.{begins_gated, may_follow, pages_behind, ungated, ungated_behind, ungated_in};
+ghost use Rattle.boot_session.specs.Recordings.{step_limit};
 ghost use Rattle.boot_sweep.specs.Gating.{ArePages};
 
 use arrayvec::ArrayVec;

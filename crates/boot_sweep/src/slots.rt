@@ -2,7 +2,7 @@
 //! normal boot depends on that member's image alone; so the images of the others are judged again
 //! only where it has become another one.
 
-ghost use Rattle.std.specs.Prelude.{◌≡◌, ◌+◌, ◌≤◌, false, true, IfSome, IsTrue, List, Some, length};
+ghost use Rattle.std.specs.Prelude.{◌≡◌, ◌+◌, ◌≤◌, false, true, IfSome, IsTrue, Some, length};
 ghost use Rattle.std.specs.List.{list_all};
 ghost use Rattle.pico_board.specs.declared.boot.BootKind.TheVariants.{Normal};
 ghost use Rattle.pico_board.specs.Content.{Content};
@@ -12,14 +12,13 @@ ghost use Rattle.sector_pool.specs.Pool.{HasFree};
 ghost use Rattle.boot_rules.specs.Choosing.{decision_in, images_in};
 ghost use Rattle.boot_rules.specs.Tables.{table_in};
 ghost use Rattle.boot_sweep.specs.Comparing.{result_by};
-ghost use Rattle.boot_sweep.specs.Slots.{is_confined};
+ghost use Rattle.boot_session.specs.Slots.{is_confined};
 ghost use Rattle.boot_sweep.specs.Verdicts.{IsBeside, IsKnown, IsSlotOf, Knows, verdict_by};
 
 use crate::comparing::is_same_started;
-use crate::recording::{is_confined, slot_among};
 use crate::results::{CutResult, Ends, Verdict, result_from, result_on, verdict_on};
-use crate::session::boot_units_in;
 use boot_rules::find_table;
+use boot_session::{boot_units_in, is_confined, slot_among};
 use image_check::{Started, check};
 use pico_board::{Board, Cpu, FlashView, Step, View, Window};
 use sector_pool::SectorPool;

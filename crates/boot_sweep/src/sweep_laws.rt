@@ -1,6 +1,6 @@
 //! Laws on what a sweep says, each the contract of a function that does nothing.
 
-ghost use Rattle.std.specs.Prelude.{◌≡◌, ◌↔◌, ℕ, ◌<◌, ◌≤◌, ◌*◌, ◌+◌, max, All, Contains, List, None, Some, length, slice_get, true, count_by};
+ghost use Rattle.std.specs.Prelude.{◌≡◌, ◌↔◌, ℕ, ◌<◌, ◌≤◌, ◌*◌, max, All, Contains, List, None, Some, length, slice_get, true, count_by};
 ghost use Rattle.pico_board.specs.Content.{Content, IsContent};
 ghost use Rattle.pico_board.specs.Cuts.{IsPattern};
 ghost use Rattle.pico_board.specs.Sessions.{IsGated, Unfinished};
@@ -16,17 +16,10 @@ ghost use Rattle.boot_sweep.specs.declared.results.CutResult.TheVariants.{Chance
 ghost use Rattle.boot_sweep.specs.Comparing.{result_of};
 ghost use Rattle.boot_sweep.specs.Refusals.{IsRefused, refusal};
 ghost use Rattle.boot_sweep.specs.Results.{IsCutResult};
-ghost use Rattle.boot_sweep.specs.Slots.{IsSlot, session_slot};
+ghost use Rattle.boot_session.specs.Slots.{IsSlot};
 ghost use Rattle.boot_sweep.specs.StepResults.{HasCutResults, sweep_results, told_lines};
 ghost use Rattle.boot_sweep.specs.Swept.{IsSweep};
 ghost use Rattle.boot_sweep.specs.Sweeps.{Line, cut_of, is_chance, sweep_lines, sweep_text};
-
-/// The slot of a session is the member of a pair in which its first step lies, and there is one
-/// such member at most.
-pub fn slots_are_found()
-    ensures { (c : Content) (cpu : Cpu) (steps : List Step) (w : Window) → IsContent c
-        → (session_slot c cpu steps ≡ Some w) ↔ IsSlot c cpu steps w }
-{}
 
 /// A session is refused exactly for the reason that holds of it, and for one at most.
 pub fn refusals_are_judged()

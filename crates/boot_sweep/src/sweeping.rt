@@ -8,7 +8,7 @@ ghost use Rattle.pico_board.specs.Steps.{IsStepIn, after, after_all};
 ghost use Rattle.sector_pool.specs.Keeping.{KeepsOut};
 ghost use Rattle.sector_pool.specs.Pool.{HasFree};
 ghost use Rattle.boot_sweep.specs.Comparing.{result_by};
-ghost use Rattle.boot_sweep.specs.Standing.{IsUnarmed};
+ghost use Rattle.boot_session.specs.Standing.{IsUnarmed};
 ghost use Rattle.boot_sweep.specs.StepResults.{results_from, step_results};
 ghost use Rattle.boot_sweep.specs.Verdicts.{Knows, LiesIn};
 

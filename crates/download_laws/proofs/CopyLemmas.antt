@@ -27,8 +27,8 @@ use Rattle.boot_script.specs.Written as records
 use Rattle.boot_rules.specs.Tables.{table_in}
 use Rattle.boot_rules.specs.Targets.{is_executable, target_of}
 use Rattle.boot_machine.specs.Serving.{table_of}
-use Rattle.boot_sweep.specs.Scripts.{events_read, script_session}
-use Rattle.boot_sweep.specs.Sessions.{entered_host, session}
+use Rattle.boot_session.specs.Scripts.{events_read, script_session}
+use Rattle.boot_session.specs.Sessions.{entered_host, session}
 use Rattle.download_laws.specs.Copied.{IsDownload, copied_script, copied_session}
 use Rattle.script_text.specs.Reading.{script_of}
 use Rattle.text_work.specs.Copies.{blocks_in, copy_events}

@@ -33,10 +33,10 @@ use Rattle.boot_rules.specs.Targets.{target_of, unit_target}
 use Rattle.boot_rules.proofs.TargetLemmas.{target-apart}
 use Rattle.boot_machine.specs.Luck.{Lucky}
 use Rattle.boot_machine.proofs.LeftImageLemmas.{units-same}
-use Rattle.boot_sweep.specs.Results.{CutSession, StartsElsewhere, StartsFinished}
-use Rattle.boot_sweep.proofs.ConfinedLaws.{table-stays}
-use Rattle.boot_sweep.proofs.GatedLaws.{blank-table, decide-blank, decide-content, gated-decision}
-use Rattle.boot_sweep.proofs.NeighbourLemmas as near
+use Rattle.boot_session.specs.CutSessions.{CutSession, StartsElsewhere, StartsFinished}
+use Rattle.boot_session.proofs.ConfinedLaws.{table-stays}
+use Rattle.boot_session.proofs.GatedLaws.{blank-table, decide-blank, decide-content, gated-decision}
+use Rattle.boot_session.proofs.NeighbourLemmas as near
 use Rattle.download_laws.specs.Copied.{AreLostUpdates, IsCutDownload, IsDownload, IsLostUpdate, copied_session, last_of}
 use Rattle.download_laws.proofs.DownloadLemmas.{gated-confined, is-placed, session-gated}
 use Rattle.download_laws.proofs.SameTargetLemmas.{same-target, self-apart}

@@ -31,7 +31,7 @@ use Rattle.boot_machine.specs.Machines.{Host, Place, Placing, InBootsel, Off, Ru
 use Rattle.boot_machine.specs.Serving.{Served, block_served, carried_on, done_boot, is_like, ruled_on, ruling_on, table_of, taken_in, uf2_served, with_placing}
 use Rattle.boot_lines.specs.Texts.{accepted_text}
 use Rattle.boot_rules.specs.declared.tables.Found.{Found}
-use Rattle.boot_sweep.specs.Sessions.{going_on, session_from}
+use Rattle.boot_session.specs.Sessions.{going_on, session_from}
 
 -- a block that goes into the window of a target: it is not skipped, its page lies in the window, and its sector
 -- may be written

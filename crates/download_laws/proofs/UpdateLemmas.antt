@@ -27,9 +27,9 @@ use Rattle.boot_rules.specs.Tables.{table_in}
 use Rattle.boot_rules.specs.Targets.{target_of}
 use Rattle.boot_machine.proofs.ExampleLemmas.{all_below, below-all, content-by}
 use Rattle.boot_machine.specs.Luck.{Lucky}
-use Rattle.boot_sweep.specs.Examples.{begins_with, beside_former, former_start, plain_steps, slot, vector_page}
-use Rattle.boot_sweep.specs.Results.{CutSession}
-use Rattle.boot_sweep.proofs.PlanSlotLemmas.{part-right}
+use Rattle.boot_session.specs.Examples.{begins_with, beside_former, former_start, plain_steps, slot, vector_page}
+use Rattle.boot_session.specs.CutSessions.{CutSession}
+use Rattle.boot_session.proofs.PlanSlotLemmas.{part-right}
 use Rattle.boot_rules.specs.declared.tables.Found.{Found}
 use Rattle.boot_rules.proofs.TableLemmas.{found-sound}
 use Rattle.part_table.specs.Examples.{pair_version}

@@ -3,12 +3,12 @@
 
 ghost use Rattle.std.specs.Prelude.{◌≡◌};
 ghost use Rattle.boot_rules.specs.Examples.{bare};
-ghost use Rattle.boot_sweep.specs.Examples.{beside_former, begins_with, former_start, plain_steps, vector_page};
+ghost use Rattle.boot_session.specs.Examples.{beside_former, begins_with, former_start, plain_steps, vector_page};
 ghost use Rattle.pico_board.specs.declared.boot.Cpu.TheVariants.{Arm};
 ghost use Rattle.download_laws.specs.Copied.{IsDownload, IsLostUpdate, copied_session};
 ghost use Rattle.download_laws.specs.Examples.{second_slot, two_pages};
 
-use boot_sweep::session_examples::a_cut_between_two_pages;
+use boot_session::session_examples::a_cut_between_two_pages;
 
 /// Version 1.10 is copied beside 1.9 as a file of two blocks of rp2350-arm-s: all premises of the
 /// laws hold, and the session erases the slot's first sector and programs its two pages. They hold

@@ -17,7 +17,7 @@ ghost use Rattle.boot_rules.specs.declared.decision.Decision.{Decision};
 ghost use Rattle.boot_rules.specs.Chosen.{Chosen, Home};
 ghost use Rattle.boot_rules.specs.Starts.{table_of_content};
 ghost use Rattle.boot_rules.specs.Targets.{target_of};
-ghost use Rattle.boot_sweep.specs.Results.{CutSession, StartsFinished};
+ghost use Rattle.boot_session.specs.CutSessions.{CutSession, StartsFinished};
 ghost use Rattle.run_course.specs.Outcomes.{Answers, one_file};
 ghost use Rattle.text_work.specs.Copies.{blocks_in, copy_events, copy_line, copy_work};
 ghost use Rattle.download_laws.specs.Copied.{AreLostUpdates, IsCutDownload, IsDownload, IsLostUpdate, copied_script, copied_session, downloaded, last_of};

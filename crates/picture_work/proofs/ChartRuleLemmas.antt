@@ -18,8 +18,9 @@ use Rattle.boot_sweep.specs.declared.results.CutResult.{CutResult}
 use Rattle.boot_sweep.specs.declared.results.StepResults.{StepResults}
 use Rattle.boot_sweep.specs.declared.results.SweepResults.{SweepResults}
 use Rattle.boot_sweep.specs.Comparing.{result_of}
-use Rattle.boot_sweep.specs.Refusals.{IsRefused, refusal, step_limit, where_}
-use Rattle.boot_sweep.specs.Scripts.{script_session}
+use Rattle.boot_sweep.specs.Refusals.{IsRefused, refusal, where_}
+use Rattle.boot_session.specs.Recordings.{step_limit}
+use Rattle.boot_session.specs.Scripts.{script_session}
 use Rattle.boot_sweep.specs.StepResults.{IsResultsOf, results_from, step_results, sweep_results}
 use Rattle.boot_sweep.specs.Sweeps.{cut_in}
 use Rattle.boot_sweep.proofs.RefusalCaseLemmas.{refused-exactly}

@@ -12,7 +12,7 @@ use Rattle.boot_sweep.specs.declared.results.CutResult.TheVariants as cut_result
 use Rattle.boot_sweep.specs.declared.results.StepResults.{StepResults}
 use Rattle.boot_sweep.specs.Comparing.{result_of}
 use Rattle.boot_sweep.specs.Refusals.{refusal}
-use Rattle.boot_sweep.specs.Scripts.{script_session}
+use Rattle.boot_session.specs.Scripts.{script_session}
 use Rattle.boot_sweep.specs.StepResults.{sweep_results}
 use Rattle.run_course.specs.Outcomes.{Work, Answers, Refuses, line, one_file}
 use Rattle.run_texts.specs.Texts.{decision_text}

@@ -12,7 +12,7 @@ use Rattle.boot_sweep.specs.declared.results.CutResult.{CutResult}
 use Rattle.boot_sweep.specs.declared.results.StepResults.{StepResults}
 use Rattle.boot_sweep.specs.Refusals.{IsRefused}
 use Rattle.boot_sweep.specs.Results.{IsCutResult}
-use Rattle.boot_sweep.specs.Scripts.{script_session}
+use Rattle.boot_session.specs.Scripts.{script_session}
 use Rattle.boot_sweep.specs.Sweeps.{cut_in}
 use Rattle.run_course.specs.declared.status.Status.TheVariants.{Done}
 use Rattle.run_course.specs.Outcomes.{Outcome, one_file}

@@ -19,7 +19,7 @@ use Rattle.boot_rules.specs.declared.decision.Decision.TheVariants.{Bootsel, Sta
 use Rattle.boot_rules.specs.Chosen.{Chosen}
 use Rattle.boot_rules.specs.Examples.{arm_slot, bare_slot}
 use Rattle.boot_rules.proofs.DecisionLemmas.{chosen-exactly}
-use Rattle.boot_sweep.specs.Examples.{beside_small, block_page, mapped_page, small_slot, small_with, vector_page}
+use Rattle.boot_session.specs.Examples.{beside_small, block_page, mapped_page, small_slot, small_with, vector_page}
 
 -- a normal boot on a content decides in one way
 pub one-decision : (c : Content) (d e : Decision) → Chosen c Arm Normal d → Chosen c Arm Normal e → d ≡ e

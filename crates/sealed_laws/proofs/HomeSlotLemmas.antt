@@ -14,8 +14,8 @@ use Rattle.slot_choice.proofs.UnitLemmas.{member_part}
 use Rattle.boot_rules.specs.declared.tables.Found.{Found}
 use Rattle.boot_rules.specs.Chosen.{Home}
 use Rattle.boot_rules.specs.Tables.{table_in}
-use Rattle.boot_sweep.specs.Sessions.{IsSlotOf}
-use Rattle.boot_sweep.proofs.NeighbourLemmas.{in-unit}
+use Rattle.boot_session.specs.Sessions.{IsSlotOf}
+use Rattle.boot_session.proofs.NeighbourLemmas.{in-unit}
 
 member-partition : (p : Table) (i : ℕ) → i < length p.parts.items → (w : Window)
     → IsMember (unit_of p.parts.items i) w

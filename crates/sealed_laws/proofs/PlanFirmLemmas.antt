@@ -31,9 +31,9 @@ use Rattle.boot_rules.specs.Tables.{table_in}
 use Rattle.boot_rules.specs.declared.tables.Found.{Found}
 use Rattle.boot_machine.specs.Serving.{table_of}
 use Rattle.boot_sweep.specs.Firms.{Firm}
-use Rattle.boot_sweep.specs.Sessions.{IsSlotOf, session}
-use Rattle.boot_sweep.specs.Slots as swept
-use Rattle.boot_sweep.proofs.PlanSlotLemmas.{IsSlot, slot-is}
+use Rattle.boot_session.specs.Sessions.{IsSlotOf, session}
+use Rattle.boot_session.specs.Slots as swept
+use Rattle.boot_session.proofs.PlanSlotLemmas.{IsSlot, slot-is}
 use Rattle.written_image.specs.Written.{HasNoLowBlockPast, planned}
 use Rattle.written_image.proofs.PlannedLemmas.{low-planned}
 use Rattle.written_image.proofs.PlannedValidLemmas.{planned-valid}

@@ -22,10 +22,10 @@ use Rattle.boot_script.specs.Scripts.{events}
 use Rattle.boot_rules.specs.Tables.{table_in}
 use Rattle.boot_machine.specs.Serving.{table_of}
 use Rattle.image_plan.specs.Plans.{plan_text}
-use Rattle.boot_sweep.specs.Sessions.{IsSlotOf, session}
-use Rattle.boot_sweep.proofs.PlanLaws.{KnownEvents, long-barred, long-done, long-is, plan-gated, short-barred, short-done, short-is}
-use Rattle.boot_sweep.proofs.PlanServedLemmas.{Known}
-use Rattle.boot_sweep.proofs.PlanSlotLemmas.{IsSlot, slot-is}
+use Rattle.boot_session.specs.Sessions.{IsSlotOf, session}
+use Rattle.boot_session.proofs.PlanLaws.{KnownEvents, long-barred, long-done, long-is, plan-gated, short-barred, short-done, short-is}
+use Rattle.boot_session.proofs.PlanServedLemmas.{Known}
+use Rattle.boot_session.proofs.PlanSlotLemmas.{IsSlot, slot-is}
 use Rattle.written_image.specs.Written.{plan_steps, planned}
 use Rattle.written_image.proofs.PlanByteLemmas.{plan-writes}
 

@@ -7,12 +7,12 @@ ghost use Rattle.pico_board.specs.declared.Step.TheVariants.{Program};
 ghost use Rattle.pico_board.specs.declared.boot.Cpu.TheVariants.{Arm};
 ghost use Rattle.boot_rules.specs.Examples.{arm_member, arm_slot, bare, bare_slot};
 ghost use Rattle.boot_sweep.specs.declared.results.CutResult.TheVariants.{Chance, Finished, Former};
-ghost use Rattle.boot_sweep.specs.Examples.{begins_with, beside_former, beside_small, data_page, longer_steps, mapped_page, mapped_steps, small_slot, small_with, vector_page};
+ghost use Rattle.boot_session.specs.Examples.{begins_with, beside_former, beside_small, data_page, longer_steps, mapped_page, mapped_steps, small_slot, small_with, vector_page};
 ghost use Rattle.boot_sweep.specs.Firms.{Stray};
 ghost use Rattle.boot_sweep.specs.Results.{IsCutResult};
 ghost use Rattle.boot_sweep.specs.Sweeps.{Line, sweep_lines};
 
-use boot_sweep::session_examples::{
+use boot_session::session_examples::{
     a_cut_behind_the_image, a_cut_between_two_pages, a_cut_within_the_image,
 };
 use boot_sweep::sweep_laws::results_are_judged;

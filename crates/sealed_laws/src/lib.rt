@@ -1,7 +1,7 @@
 //! What a plan leaves of an image, and that a sealed image is firm: laws above the sweep, the image
 //! tool and the plans.
 //!
-//! A plan's session is that of `boot_sweep`; the bytes that it leaves are those of `written_image`.
+//! A plan's session is that of `boot_session`; the bytes that it leaves are those of `written_image`.
 //! `specs/Lone` says when an image's first sector has no block beside its loop.
 #![tactic(auto)]
 

@@ -19,7 +19,7 @@ ghost use Rattle.image_pack.specs.Filling.{padded, round_up};
 ghost use Rattle.boot_rules.specs.Tables.{table_in};
 ghost use Rattle.boot_rules.specs.declared.tables.Found.{Found};
 ghost use Rattle.boot_machine.specs.Serving.{table_of};
-ghost use Rattle.boot_sweep.specs.Sessions.{IsSlotOf, session};
+ghost use Rattle.boot_session.specs.Sessions.{IsSlotOf, session};
 ghost use Rattle.written_image.specs.Written.{HasNoLowBlockPast, plan_steps, planned};
 
 use image_plan::laws::{the_commands_of_a_plan, the_events_of_a_plan};

@@ -2,9 +2,10 @@
 
 ghost use Rattle.std.specs.Prelude.{◌<◌, IfOk};
 ghost use Rattle.pico_board.specs.Content.{IsContent};
-ghost use Rattle.boot_sweep.specs.Scripts.{content_of};
+ghost use Rattle.boot_session.specs.Scripts.{content_of};
 
-use boot_sweep::{SweepError, is_script, sweep};
+use boot_session::is_script;
+use boot_sweep::{SweepError, sweep};
 use image_plan::plan;
 use pico_board::{Cpu, MemBoard, Window};
 use picoboot_cmd::{Cmd, write_cmd};

@@ -6,7 +6,7 @@ use Rattle.pico_board.specs.Content.{Content, IsContent}
 use Rattle.pico_board.specs.Cuts.{IsPattern}
 use Rattle.boot_sweep.specs.declared.error.SweepError.{SweepError}
 use Rattle.boot_sweep.specs.Refusals.{IsRefused, refusal}
-use Rattle.boot_sweep.specs.Scripts.{IsScript, script_session}
+use Rattle.boot_session.specs.Scripts.{IsScript, script_session}
 use Rattle.boot_sweep.specs.Sweeps.{sweep_text}
 use Rattle.boot_sweep.specs.Swept.{IsSweep}
 use Rattle.boot_sweep.proofs.OnlySweepLemmas.{only-sweep}

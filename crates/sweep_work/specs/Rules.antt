@@ -10,7 +10,7 @@ use Rattle.image_def.specs.declared.started.Started.{Started}
 use Rattle.boot_sweep.specs.declared.error.SweepError.{SweepError}
 use Rattle.boot_sweep.specs.Firms.{Firm}
 use Rattle.boot_sweep.specs.Refusals.{IsRefused, refusal}
-use Rattle.boot_sweep.specs.Scripts.{script_session}
+use Rattle.boot_session.specs.Scripts.{script_session}
 use Rattle.boot_sweep.specs.Swept.{IsSweep}
 use Rattle.run_course.specs.declared.status.Status.TheVariants.{Done}
 use Rattle.run_course.specs.Outcomes.{Outcome}

@@ -6,7 +6,7 @@ use Rattle.pico_board.specs.Content.{Content}
 use Rattle.boot_sweep.specs.declared.error.SweepError.{SweepError}
 use Rattle.boot_sweep.specs.declared.error.SweepError.TheVariants.{NotConfined, NotGated, TooManySteps, FormerInSlot, Memory, TableChanged}
 use Rattle.boot_sweep.specs.Refusals.{refusal}
-use Rattle.boot_sweep.specs.Scripts.{script_session}
+use Rattle.boot_session.specs.Scripts.{script_session}
 use Rattle.boot_sweep.specs.Sweeps.{sweep_text}
 use Rattle.run_course.specs.Outcomes.{Work, Answers, Refuses}
 

@@ -1,6 +1,7 @@
 use Rattle.std.proofs.Common.{ap, arith, subst, sym}
 use Rattle.boot_sweep.specs.Gating.{ArePages}
-use Rattle.boot_sweep.specs.Refusals.{step_limit, ungated_behind}
+use Rattle.boot_sweep.specs.Refusals.{ungated_behind}
+use Rattle.boot_session.specs.Recordings.{step_limit}
 use Rattle.boot_sweep.proofs.PageLemmas.{pages-none}
 use Rattle.boot_sweep.proofs.gating.ungated_behind.Goals as goal
 

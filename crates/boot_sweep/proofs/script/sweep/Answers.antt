@@ -1,6 +1,6 @@
 use Rattle.std.proofs.Common.{◌<◌, arith}
 use Rattle.std.proofs.lemmas.List.Elements.{All-from_get_or}
-use Rattle.boot_sweep.specs.Scripts.{content_of, script_session}
+use Rattle.boot_session.specs.Scripts.{content_of, script_session}
 use Rattle.boot_sweep.proofs.SweepLemmas.{says-refused, says-sweep, says-taken}
 use Rattle.boot_sweep.proofs.script.sweep.Goals as goal
 

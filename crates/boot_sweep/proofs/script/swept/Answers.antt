@@ -1,9 +1,9 @@
 use Rattle.std.proofs.Common.{◌≡◌, None, Some, ◌⊎◌, refl, subst}
 use Rattle.pico_board.specs.Board.{State}
 use Rattle.boot_sweep.specs.declared.error.SweepError.TheVariants.{Memory}
-use Rattle.boot_sweep.specs.Recordings.{IsRecorderOf}
+use Rattle.boot_session.specs.Recordings.{IsRecorderOf}
 use Rattle.boot_sweep.specs.Refusals.{refusal}
-use Rattle.boot_sweep.specs.Scripts.{content_of, script_session}
+use Rattle.boot_session.specs.Scripts.{content_of, script_session}
 use Rattle.boot_sweep.specs.StepResults.{HasResults}
 use Rattle.boot_sweep.proofs.TextLemmas.{is-found, recorder-of}
 use Rattle.boot_sweep.proofs.script.swept.Goals as goal

@@ -1,5 +1,5 @@
 use Rattle.std.proofs.Common.{◌∙◌}
-use Rattle.boot_sweep.specs.Scripts.{content_of, script_session}
+use Rattle.boot_session.specs.Scripts.{content_of, script_session}
 use Rattle.boot_sweep.proofs.ToldLemmas.{as-many-cuts, text-of-results}
 use Rattle.boot_sweep.proofs.script.swept_text.Goals as goal
 

@@ -5,7 +5,7 @@ use Rattle.pico_board.specs.Steps.{after_all}
 use Rattle.sector_pool.specs.Keeping.{KeepsOut}
 use Rattle.boot_sweep.specs.declared.results.CutResult.{CutResult}
 use Rattle.boot_sweep.specs.Comparing.{result_by}
-use Rattle.boot_sweep.specs.Standing.{IsUnarmed}
+use Rattle.boot_session.specs.Standing.{IsUnarmed}
 use Rattle.boot_sweep.specs.StepResults.{results_from}
 use Rattle.boot_sweep.specs.Verdicts.{Knows}
 use Rattle.boot_sweep.proofs.sweeping.results_of.Given as goal

@@ -8,7 +8,7 @@ use Rattle.boot_rules.specs.Examples.{arm_slot, bare_slot}
 use Rattle.boot_sweep.specs.declared.results.CutResult.{CutResult}
 use Rattle.boot_sweep.specs.declared.results.CutResult.TheVariants.{Chance}
 use Rattle.boot_sweep.specs.Comparing.{result_of}
-use Rattle.boot_sweep.specs.Examples.{beside_small, data_page, longer_steps}
+use Rattle.boot_session.specs.Examples.{beside_small, data_page, longer_steps}
 use Rattle.boot_sweep.specs.Sweeps.{Line}
 use Rattle.sealed_laws.proofs.ExampleLemmas.{first-three}
 use Rattle.sealed_laws.proofs.examples.a_line_before_a_step_that_says_chance.Goals as goal

@@ -5,7 +5,7 @@ use Rattle.block_codec.specs.Items.{size_of}
 use Rattle.block_codec.proofs.AtLemmas.{BlockAt-unique, no_block_at_erased}
 use Rattle.pico_board.specs.Content.{window_bytes}
 use Rattle.boot_rules.specs.Examples.{arm_slot, bare_slot}
-use Rattle.boot_sweep.specs.Examples.{beside_small, small_slot}
+use Rattle.boot_session.specs.Examples.{beside_small, small_slot}
 use Rattle.boot_sweep.specs.Firms.{IsStray}
 use Rattle.sealed_laws.proofs.ExampleLemmas.{bare-byte, lone-block, mapped-stands, mapped_block, mapped_bytes, older-stands, plain_block, stands}
 use Rattle.sealed_laws.proofs.examples.blocks_that_are_stray_and_that_are_not.Goals as goal

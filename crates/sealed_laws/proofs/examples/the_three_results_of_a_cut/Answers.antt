@@ -6,7 +6,7 @@ use Rattle.boot_rules.specs.declared.decision.Decision.{Decision}
 use Rattle.boot_rules.specs.declared.decision.Decision.TheVariants.{Start}
 use Rattle.boot_rules.specs.Chosen.{Chosen}
 use Rattle.boot_rules.specs.Examples.{arm_slot, bare_slot}
-use Rattle.boot_sweep.specs.Examples.{beside_small, former_start, mapped_page, small_finished, small_former, small_with, vector_page}
+use Rattle.boot_session.specs.Examples.{beside_small, former_start, mapped_page, small_finished, small_former, small_with, vector_page}
 use Rattle.boot_sweep.specs.Results.{IsFormer}
 use Rattle.sealed_laws.proofs.ExampleLemmas.{one-decision, start_of}
 use Rattle.sealed_laws.proofs.examples.the_three_results_of_a_cut.Goals as goal

@@ -1,5 +1,5 @@
 use Rattle.image_check.specs.Changes.{moved_to}
-use Rattle.boot_sweep.specs.Sessions.{session}
+use Rattle.boot_session.specs.Sessions.{session}
 use Rattle.sealed_laws.proofs.PlanFirmLemmas.{KnownSession, swept-firm}
 use Rattle.sealed_laws.proofs.firm_laws.no_cut_of_a_sealed_plan_before_a_step_is_chance.Goals as goal
 

@@ -3,8 +3,8 @@ use Rattle.part_table.specs.declared.table.Right.TheVariants.{BootWrite}
 use Rattle.part_table.specs.Rights.{allowed_by}
 use Rattle.pico_board.proofs.ContentLemmas.{byte_at}
 use Rattle.boot_machine.specs.Serving.{table_of}
-use Rattle.boot_sweep.proofs.PlanLaws.{KnownEvents}
-use Rattle.boot_sweep.proofs.PlanServedLemmas.{Known}
+use Rattle.boot_session.proofs.PlanLaws.{KnownEvents}
+use Rattle.boot_session.proofs.PlanServedLemmas.{Known}
 use Rattle.sealed_laws.proofs.PlanSessionLemmas.{session-barred, session-done, session-rows, session-writes}
 use Rattle.sealed_laws.proofs.plan_laws.the_session_of_a_plan.Goals as goal
 

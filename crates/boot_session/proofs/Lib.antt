@@ -1,0 +1,22 @@
+pub mod NeighbourLemmas
+pub mod ConfinedLaws
+pub mod GatedLaws
+pub mod PlanStepLemmas
+pub mod PlanSlotLemmas
+pub mod PlanServedLemmas
+pub mod PlanLaws
+mod ExampleLemmas
+mod PlayLemmas
+mod TargetLemmas
+mod CutBetweenLemmas
+mod CutBehindLemmas
+mod CutWithinLemmas
+mod OutsideLaws
+mod RecorderLemmas
+mod MarkLemmas
+mod ServedLemmas
+mod SessionLemmas
+mod PoolLemmas
+pub mod SlotLemmas
+mod StepBoundLemmas
+mod ScriptLemmas

@@ -1,0 +1,20 @@
+//! The session of a script: the steps that its host does on a board from BOOTSEL on, and what the
+//! next normal boot decides where it keeps to one slot of a pair, also where power is lost in it.
+//!
+//! `specs/Sessions` says which steps a script's session does, `specs/Slots` which slot it writes,
+//! `specs/Recordings` what is recorded of it, and `specs/CutSessions` the sessions of one slot that
+//! the laws speak of. The loss of power is that of `pico_board`, the decision is that of
+//! `boot_rules`, and what a host's events do is that of `boot_machine`.
+#![tactic(auto)]
+
+mod judging;
+pub mod laws;
+mod recorder;
+mod recording;
+mod session;
+pub mod session_examples;
+
+pub use judging::is_script;
+pub use recorder::{Recorder, STEP_LIMIT};
+pub use recording::{is_confined, slot_among};
+pub use session::{boot_units_in, session_on};

@@ -1,0 +1,157 @@
+//! A session: the steps that the host's events of a script do from BOOTSEL on.
+
+ghost use Rattle.std.specs.Prelude.{◌≡◌, ◌&&◌, IfOk, IsTrue, None, Some, false, is_none, true};
+ghost use Rattle.pico_board.specs.MemBoard.{state_of};
+ghost use Rattle.boot_rules.specs.Choosing.{boot_units_in};
+ghost use Rattle.boot_script.specs.Events.{IsWritable, event_from};
+ghost use Rattle.boot_machine.specs.Machines.{Host};
+ghost use Rattle.boot_machine.specs.Serving.{is_hosted};
+ghost use Rattle.boot_machine.specs.Standing.{IsHost, is_bootsel};
+ghost use Rattle.boot_machine.specs.declared.state.State.TheVariants.{Bootsel as SERVING};
+ghost use Rattle.boot_session.specs.Playing.{GoesOn, HasServed};
+ghost use Rattle.boot_session.specs.Recordings.{IsRecorderOf};
+ghost use Rattle.boot_session.specs.Scripts.{IsScript, script_events};
+ghost use Rattle.boot_session.specs.Sessions.{entered_host, session, session_from};
+ghost use Rattle.boot_session.specs.Standing.{IsUnarmed};
+
+use crate::judging::{RECORD_LIMIT, is_end};
+use crate::recorder::Recorder;
+use arrayvec::{ArrayString, ArrayVec};
+use boot_machine::{Machine, State};
+use boot_rules::find_table;
+use boot_script::{Event, next_event};
+use otp_roll::slot_size;
+use pico_board::{Bench, Board, BootKind, Cpu, MemBoard};
+use ram_start::Ram;
+use sector_pool::SectorPool;
+use slot_choice::{SlotUnit, boot_units};
+use std::alloc::{AllocError, Global};
+use uf2_place::Download;
+
+/// Whether the event is for a host.
+fn is_hosted(event: &Event<'_>) -> bool
+    ensures { result ≡ is_hosted (event_from event.now) }
+{
+    match event {
+        Event::Command(_, _) | Event::Uf2(_) => true,
+        _ => false,
+    }
+}
+
+/// Whether a session goes on where this boot was asked for, or none, and the machine is in this
+/// state.
+fn goes_on(asked: &Option<BootKind>, state: &State) -> bool
+    ensures { result ≡ (is_none asked.now && is_bootsel state.now) }
+{
+    match (asked, state) {
+        (None, State::Bootsel) => true,
+        _ => false,
+    }
+}
+
+/// Serves an event, and answers whether the session goes on: no boot is asked for, and BOOTSEL is
+/// not left.
+fn serve<B: Bench>(machine: &mut Machine<B>, event: &Event<'_>) -> bool
+    requires bootsel { machine.old.state ≡ SERVING }
+    requires hosted { is_hosted (event_from event.now) ≡ true }
+    requires writable { IsWritable (event_from event.now) }
+    requires unarmed { (B.state machine.old.board).armed ≡ Some None }
+    ensures { GoesOn B.state B.history machine.old (event_from event.now) result machine.new }
+{
+    let mut line = ArrayString::new();
+    let asked = machine.serve(event, &mut line);
+    goes_on(&asked, machine.state())
+}
+
+/// Serves an event that is for a host, and passes over another one; answers whether the session
+/// goes on.
+fn follow<B: Bench>(machine: &mut Machine<B>, event: &Event<'_>) -> bool
+    requires bootsel { machine.old.state ≡ SERVING }
+    requires writable { IsWritable (event_from event.now) }
+    requires unarmed { (B.state machine.old.board).armed ≡ Some None }
+    ensures hosted { is_hosted (event_from event.now) ≡ true
+        → GoesOn B.state B.history machine.old (event_from event.now) result machine.new }
+    ensures passed { is_hosted (event_from event.now) ≡ false
+        → (result ≡ true) × (machine.new ≡ machine.old) }
+{
+    if is_hosted(event) {
+        serve(machine, event)
+    } else {
+        true
+    }
+}
+
+/// Serves the host's events of a script up to its end, or to the first one that asks for a boot or
+/// leaves BOOTSEL. Other events are passed over.
+fn play<B: Bench>(machine: &mut Machine<B>, script: &[u8])
+    requires script { IsScript script.now }
+    requires hosted { (host : Host) × IsHost machine.old host }
+    requires power { IsTrue (B.state machine.old.board).powered }
+    requires unarmed { (B.state machine.old.board).armed ≡ Some None }
+    ensures { (host : Host) → IsHost machine.old host
+        → HasServed B.state B.history machine.old.board
+        (session_from (B.state machine.old.board).content machine.old.cpu host
+        (script_events script.now)) machine.new.board }
+{
+    let mut at = 0;
+    for number in 0..RECORD_LIMIT {
+        let (event, next) = match next_event(script, at) {
+            Ok(read) => read,
+            Err(_) => return,
+        };
+        if is_end(&event) {
+            return;
+        }
+        if !follow(machine, &event) {
+            return;
+        }
+        at = next;
+    }
+}
+
+/// The boot units of the board's flash, in table order.
+pub fn boot_units_in<B: Board>(board: &B, cpu: Cpu) -> ArrayVec<SlotUnit, 15>
+    requires power { IsTrue (B.state board.now).powered }
+    ensures { result.items ≡ boot_units_in (B.state board.now).content cpu }
+{
+    let size = slot_size(board);
+    match find_table(board) {
+        Some(found) => boot_units(Some(&found.table), board.flash_len(), size, cpu),
+        None => boot_units(None, board.flash_len(), size, cpu),
+    }
+}
+
+/// A machine that has entered BOOTSEL.
+#[tactic(auto, using(crate::proofs::PoolLemmas::two_free))]
+fn machine_of<B: Bench + Drop>(alloc: Global, board: B, cpu: Cpu) -> Result<Machine<B>, AllocError>
+    requires power { IsTrue (B.state board).powered }
+    ensures board { IfOk result (λ machine. machine.board ≡ board) }
+    ensures cpu { IfOk result (λ machine. machine.cpu ≡ cpu) }
+    ensures bootsel { IfOk result (λ machine. machine.state ≡ SERVING) }
+    ensures entered { IfOk result
+        (λ machine. IsHost machine (entered_host (B.state board).content)) }
+{
+    let pool = SectorPool::make(alloc, 2)?;
+    let download = Download::make(alloc)?;
+    let ram = Ram::make(alloc)?;
+    Ok(Machine::bootsel(board, pool, download, ram, cpu))
+}
+
+/// The recorder of the session that a script does on a board, which is then the one after it.
+pub fn session_on(
+    alloc: Global,
+    board: MemBoard,
+    cpu: Cpu,
+    script: &[u8],
+) -> Result<Recorder<MemBoard>, AllocError>
+    requires ready { IsUnarmed (state_of board) }
+    requires script { IsScript script.now }
+    ensures { IfOk result (λ r. IsRecorderOf r (state_of board).content cpu
+        (session (state_of board).content cpu (script_events script.now))) }
+{
+    let units = boot_units_in(&board, cpu);
+    let recorder = Recorder::make(alloc, board, units)?;
+    let mut machine = machine_of(alloc, recorder, cpu)?;
+    play(&mut machine, script);
+    Ok(machine.into_board())
+}

@@ -1,5 +1,0 @@
-use Rattle.boot_sweep.proofs.OutsideLaws.{outside-stays}
-use Rattle.boot_sweep.proofs.laws.partitions_in_no_unit_decide_nothing.Goals as goal
-
-pub returns : goal.returns
-returns c = outside-stays

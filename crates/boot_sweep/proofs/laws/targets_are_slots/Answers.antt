@@ -1,8 +1,0 @@
-use Rattle.boot_sweep.proofs.TargetLemmas.{gated-target, target-stands}
-use Rattle.boot_sweep.proofs.laws.targets_are_slots.Goals as goal
-
-pub returns-clause-stands : goal.returns-clause-stands
-returns-clause-stands c = target-stands
-
-pub returns-clause-gated : goal.returns-clause-gated
-returns-clause-gated c = gated-target

@@ -1,7 +1,0 @@
-use Rattle.std.proofs.Common.{◌≡◌, drop}
-use Rattle.boot_sweep.specs.Slots.{slot_among}
-use Rattle.boot_sweep.proofs.recording.slot_among.Given as goal
-
--- the slot of the rest is that of all
-abbrev pub invariant-loop-unit : goal.invariant-loop-unit
-invariant-loop-unit l = slot_among (drop l.unit-index l.units) l.step ≡ slot_among l.units l.step
