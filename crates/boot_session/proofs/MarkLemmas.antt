@@ -96,7 +96,8 @@ pub session-recorded : (board : MemBoard) (r m t u : Recorder MemBoard) (cpu k :
     → length (session (state_of board).content cpu es) < 2 ^ 32 - 1
     → IsRecorderOf u (state_of board).content cpu (session (state_of board).content cpu es)
 session-recorded board r m t u cpu k es bench units none same as_cpu served last few =
-    let one = subst (λ (x : Recorder MemBoard). HasServed (λ (x : Recorder MemBoard). state_of x.bench) (λ x. IsHistoryOf x) x
+    let one = subst (λ (x : Recorder MemBoard). HasServed (λ (x : Recorder MemBoard). state_of x.bench)
+    (λ x. IsHistoryOf x) x
     (session_from (state_of x.bench).content k (entered_host (state_of r.bench).content) es) t) same served in
     let two = subst (λ (x : Cpu). HasServed (λ (x : Recorder MemBoard). state_of x.bench) (λ x. IsHistoryOf x) r
     (session_from (state_of r.bench).content x (entered_host (state_of r.bench).content) es) t) as_cpu one in

@@ -26,7 +26,8 @@ module _ {B : Type 0} (state : B → BoardState) (history : B → List Step → 
   done-told : (armed : Option (Option Cut)) (c : Content) (steps : List Step) (ok : Bool) (t : BoardState)
       → armed ≡ Some None → AreCutAsArmed armed c steps ok t → (ok ≡ true) × (t.armed ≡ Some None)
   done-told armed c steps ok t none told =
-      let outcome : HasCutOutcome (cut_steps steps None c) ok t = subst (λ a. AreCutAsArmed a c steps ok t) none told in (
+      let outcome : HasCutOutcome (cut_steps steps None c) ok t =
+      subst (λ a. AreCutAsArmed a c steps ok t) none told in (
         sym outcome.answer ∙ ap (λ (o : CutOutcome). o.answer) (told-none steps c),
         outcome.armed ∙ ap (λ (o : CutOutcome). Some o.armed) (told-none steps c),
       )
@@ -40,7 +41,8 @@ module _ {B : Type 0} (state : B → BoardState) (history : B → List Step → 
           content = subst (λ b. OnTrue b ((state new).content ≡ after_all (state old).content steps)) whole.0 does.done;
           power = does.power ∙ whole.0;
           unarmed = whole.1;
-          recorded = subst (λ b. OnTrue b ((h : List Step) → history old h → history new (h ++ steps))) whole.0 does.recorded;
+          recorded = subst (λ b. OnTrue b ((h : List Step) → history old h → history new (h ++ steps)))
+              whole.0 does.recorded;
         },
       )
 

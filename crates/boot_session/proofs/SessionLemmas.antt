@@ -166,7 +166,8 @@ module _ {B : Type 0} (state : B → BoardState) (history : B → List Step → 
       let m = remains-more script at n e next on.remains is more in
       let c = (state now.board).content in
       let s = served c now.cpu on.host e in
-      let rest = going-stop new (λ h. session_from (after_all c s.steps) now.cpu h m.others.rest) s.boot s.place one.next in
+      let rest = going-stop new (λ h. session_from (after_all c s.steps) now.cpu h m.others.rest)
+      s.boot s.place one.next in
       subst (λ steps. HasServed state history old.board steps new.board)
       (sym (on.whole
       ∙ (ap (λ es. on.done ++ session_from c now.cpu on.host es) m.whole
@@ -183,7 +184,8 @@ module _ {B : Type 0} (state : B → BoardState) (history : B → List Step → 
       let m = remains-more script at n e next on.remains is more in
       let c = (state now.board).content in
       let s = served c now.cpu on.host e in
-      let g = going-more new (λ h. session_from (after_all c s.steps) now.cpu h m.others.rest) s.boot s.place one.next in
+      let g = going-more new (λ h. session_from (after_all c s.steps) now.cpu h m.others.rest)
+      s.boot s.place one.next in
       record {
         remains = m.others;
         host = g.0;

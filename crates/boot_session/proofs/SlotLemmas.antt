@@ -117,7 +117,8 @@ pub among-member : (units : List SlotUnit) (step : Step) (w : Window) → slot_a
 among-member [] step w e = cc
 among-member (u ∷ us) step w e = go (λ e. among-member us step w e) (slot_in_unit u.a u.b step) refl e
   where
-    go : (slot_among us step ≡ Some w → IsMemberAt us step w) → (o : Option Window) → slot_in_unit u.a u.b step ≡ o → option_or o (slot_among us step) ≡ Some w
+    go : (slot_among us step ≡ Some w → IsMemberAt us step w) → (o : Option Window)
+        → slot_in_unit u.a u.b step ≡ o → option_or o (slot_among us step) ≡ Some w
         → IsMemberAt (u ∷ us) step w
     go ih None is e = later u us step w (ih e)
     go ih (Some v) is e = front u us step w (in-unit u u.b step w refl (is ∙ e))

@@ -98,7 +98,8 @@ module _ (n : ℕ) (otp : List ℕ) (t : Option Table) (busy : Bool) (cmd : Cmd)
     | inl erase ↦
         let k = few-sectors erase inside short in
         let long = length-erases (offset cmd / 4096) (size cmd / 4096) in
-        subst (λ id. length (steps_of (with_id cmd id) payload) ≤ 4096 + length payload) (sym erase) (omega (arith, k, long))
+        subst (λ id. length (steps_of (with_id cmd id) payload) ≤ 4096 + length payload) (sym erase)
+        (omega (arith, k, long))
     | inr no_erase ↦ elim (cases_eq cmd.id WRITE) [
       | inl write ↦
           let long = length-programs ((length payload + 255) / 256) (offset cmd / 256) payload in
@@ -132,7 +133,8 @@ flat-few f one (x ∷ xs) =
 programs-few : (sector : ℕ) (bytes_of : ℕ → Option (List ℕ)) → length (programs_in sector bytes_of) ≤ 16
 unfolding programs_in
 programs-few sector bytes_of =
-    let all = flat-few (λ i. program_of (16 * sector + i) (bytes_of i)) (λ i. program-few (16 * sector + i) (bytes_of i))
+    let all = flat-few (λ i. program_of (16 * sector + i) (bytes_of i))
+    (λ i. program-few (16 * sector + i) (bytes_of i))
     (range_with_len 0 16) in
     let long = length-range_with_len 0 16 in omega (arith, all, long)
 
@@ -190,7 +192,8 @@ grown-few t [] b =
     let none = none-few t.gated in
     let long = length-drop 0 (placed t (b ∷ [])) in omega (arith, by, none, long)
   where
-    none-few : (gated : Bool) → length (if gated then gated_steps t.window [] else in_turn (own_steps t.window) [] []) ≤ 1
+    none-few : (gated : Bool)
+        → length (if gated then gated_steps t.window [] else in_turn (own_steps t.window) [] []) ≤ 1
     none-few true = omega arith
     none-few false = omega arith
 grown-few t (x ∷ xs) b =
@@ -216,7 +219,8 @@ few-block host b (Continues target) =
     (grown target (blocks_of host.placing) (blocks_of host.placing ++ b ∷ []))))
     (grown-few target (blocks_of host.placing) b)
 
-few-uf2 : (c : Content) (cpu : Cpu) (host : Host) (r : Result Uf2 Uf2Fault) → length (uf2_served c cpu host r).steps ≤ 19
+few-uf2 : (c : Content) (cpu : Cpu) (host : Host) (r : Result Uf2 Uf2Fault)
+    → length (uf2_served c cpu host r).steps ≤ 19
 few-uf2 c cpu host (Err fault) = omega arith
 few-uf2 c cpu host (Ok b) =
     few-block host b (ruling_on (length c.flash) (table_of host.found) (target_of c (table_of host.found) cpu b.family)
@@ -236,7 +240,8 @@ few-host c host cmd payload short = go (status == 0) refl
     go true is =
         let inside = inside-of (length c.flash) c.otp (table_of host.found) (is_some host.placing) cmd payload
         (eqb-true status 0 is) in
-        rw is (few-steps_of (length c.flash) c.otp (table_of host.found) (is_some host.placing) cmd payload inside short)
+        rw is (few-steps_of (length c.flash) c.otp (table_of host.found) (is_some host.placing) cmd payload
+        inside short)
     go false is = rw is (omega arith)
 
 one-of : (b d : Bool) (x y z : Served) (n : ℕ) → length x.steps ≤ n → length y.steps ≤ n → length z.steps ≤ n
@@ -265,7 +270,8 @@ few-served : (c : Content) (cpu : Cpu) (host : Host) (e : Happening) → length 
     → length (served c cpu host e).steps ≤ 4096 + length (written e)
 few-served c cpu host (Command command payload) short =
     let few = few-command c cpu host (command_in command) payload short in
-    let long = behind 1 command (bytes_low_first 0 4 (length payload)) payload (written (Command command payload)) refl in
+    let long = behind 1 command (bytes_low_first 0 4 (length payload)) payload
+    (written (Command command payload)) refl in
     omega (arith, few, long)
 few-served c cpu host (Block block) short = let few = few-uf2 c cpu host (uf2_of block) in omega (arith, few)
 few-served c cpu host End short = omega arith
@@ -294,7 +300,9 @@ few-session c cpu host (e ∷ es) short =
     s = served c cpu host e
 
     whole : length (flat_map written (e ∷ es)) ≡ length (written e) + length (flat_map written es)
-    whole = ap (λ (xs : List ℕ). length xs) (flat_map-cons written e es) ∙ length-append (written e) (flat_map written es)
+    whole =
+        ap (λ (xs : List ℕ). length xs) (flat_map-cons written e es)
+        ∙ length-append (written e) (flat_map written es)
 
     go : ((d : Content) (next : Host) → length d.flash ≤ 2 ^ 24
         → length (session_from d cpu next es) ≤ 4096 * length es + length (flat_map written es)) → (hosted : Bool)

@@ -140,7 +140,8 @@ module _ (judge : Content → CutResult) (pattern : List ℕ) (e : ℕ) where
       let a : (e + 1 == 0) ≡ false = grind (arith) in
       let c : nat_le (e + 1) e ≡ false = grind (arith) in
       let d : (e + 1 == e + 1) ≡ true = grind (arith) in
-      ap (λ x. cond (if x then false else if nat_le (e + 1) e then false else if e + 1 == e + 1 then false else true) 1 0
+      ap (λ x. cond (if x then false else if nat_le (e + 1) e then false else if e + 1 == e + 1 then false else true)
+      1 0
       + cond (if x then true else if nat_le (e + 1) e then false else if e + 1 == e + 1 then true else true) 1 0) a
       ∙ (ap (λ x. cond (if x then false else if e + 1 == e + 1 then false else true) 1 0
       + cond (if x then false else if e + 1 == e + 1 then true else true) 1 0) c
@@ -190,7 +191,8 @@ module _ (c : Content) (cpu : Cpu) (pattern : List ℕ) (steps : List Step) (w :
   chance-may : (line : Line) → IsLineOf judge c pattern 0 steps line → is_chance line ≡ true
       → may_chance (length elsewhere) line ≡ true
   chance-may line is chance =
-      go (line.number == 0) (nat_le line.number (length elsewhere)) (line.number == length elsewhere + 1) line.within refl
+      go (line.number == 0) (nat_le line.number (length elsewhere)) (line.number == length elsewhere + 1)
+      line.within refl
       refl refl refl
     where
       same : is.place ≡ line.number

@@ -170,8 +170,10 @@ same-ok x y r e f = cc
 
 -- a definition with a digest that is the same in both has the same digest
 same-digests : (u v : List ℕ) (b : BlockView) (def : Def) (loads : List Load) → (o : Option (List ℕ)) → IsSome o
-    → IfSome o (λ value. value ≡ covered_digest u b def loads) → IfSome o (λ value. value ≡ covered_digest v b def loads)
-    → sha256 (covered v loads b def.hash_words def.image_word) ≡ sha256 (covered u loads b def.hash_words def.image_word)
+    → IfSome o (λ value. value ≡ covered_digest u b def loads)
+    → IfSome o (λ value. value ≡ covered_digest v b def loads)
+    → sha256 (covered v loads b def.hash_words def.image_word)
+    ≡ sha256 (covered u loads b def.hash_words def.image_word)
 unfolding covered_digest
 same-digests u v b def loads None some one two = let e : false ≡ true = some in cc
 same-digests u v b def loads (Some value) some one two = sym two ∙ one
@@ -200,7 +202,8 @@ same-image : (i j : Defined) → i.block ≡ j.block → i.def ≡ j.def → i �
 same-image i j e f = made i.block i.def j.block j.def e f
   where
     made : (b : BlockView) (x : Def) (c : BlockView) (y : Def) → b ≡ c → x ≡ y
-        → (let one : Defined = record { block = b; def = x } in let two : Defined = record { block = c; def = y } in one ≡ two)
+        → (let one : Defined = record { block = b; def = x } in
+        let two : Defined = record { block = c; def = y } in one ≡ two)
     made b x c y e f = cc
 
 split-at : (before behind : List BlockView) (x : BlockView)
@@ -211,7 +214,8 @@ split-at (y ∷ before) behind x = split-at before behind x
 -- a window with the finished image, where no stray block stands in its first sector
 module _ (cpu : Cpu) (u v : List ℕ) (s : Started) (firm : IsFirm cpu u s) (long : length v ≡ length u)
     (behind : (k : ℕ) → 4096 ≤ k → slice_index v k ≡ slice_index u k)
-    (low : (b : BlockView) → b.at < 4096 → BlockAt v b.at b → (a : BlockView) × BlockAt u b.at a × HasHeadersOf b a) where
+    (low : (b : BlockView) → b.at < 4096 → BlockAt v b.at b
+    → (a : BlockView) × BlockAt u b.at a × HasHeadersOf b a) where
   -- the definition stands behind the first sector, in the window
   defined-late : 4096 ≤ firm.held.image.block.at
   defined-late =
@@ -332,7 +336,8 @@ module _ (z d : Content) (w : Window) (s : ℕ) (first : 4096 * s ≡ w.start) (
 -- a cut in a step of a gated list other than the first leaves the finished content but for the first sector, where
 -- it leaves an unfinished one
 closing-of : (c : Content) (steps : List Step) (w : Window) (s : ℕ) (elsewhere last : List Step) (k : ℕ) (step : Step)
-    (d : Content) → IsGated steps w s elsewhere last → w.start + w.len ≤ length c.flash → IsCutAt c steps k step d → 1 ≤ k
+    (d : Content) → IsGated steps w s elsewhere last → w.start + w.len ≤ length c.flash
+    → IsCutAt c steps k step d → 1 ≤ k
     → Unfinished c steps w d → (p : ℕ) × IsClosing (after_all c steps) s p d
 closing-of c steps w s elsewhere last k step d g inside at some unfinished =
     go k some (subst (λ xs. IsCutAt c xs k step d) g.whole at)
@@ -416,6 +421,7 @@ pub firm-lucky : (c : Content) (w : Window) (cpu : Cpu) (steps : List Step) (s :
 firm-lucky c w cpu steps s k step d found right table home gated firm at some clean own unfinished =
     let inside = (placed c w cpu right home).inside in
     let cut = CutOf-from c steps d (k, step, at) in record {
-      table = confined-table c w cpu steps d found right home (gated-confined w steps gated) (inr cut) table ∙ sym table;
+      table = confined-table c w cpu steps d found right home (gated-confined w steps gated) (inr cut) table
+          ∙ sym table;
       image = inl (firm-none c w cpu steps s k step d (omega (arith, inside)) gated firm at some clean own unfinished);
     }

@@ -25,7 +25,8 @@ same-loop : (x y : List BlockView) (r : Result (List BlockView) LoopFault) → r
 same-loop x y r e f = cc
 
 module _ (cpu : Cpu) (bytes : List ℕ) (s : Started) (image : Defined) (loads : List Load)
-    (is : defined_in cpu bytes ≡ Ok image) (loaded : map_answer in_flash (length bytes) image.block image.def ≡ Ok loads)
+    (is : defined_in cpu bytes ≡ Ok image)
+    (loaded : map_answer in_flash (length bytes) image.block image.def ≡ Ok loads)
   where
     -- each loop of the window has all blocks of its first sector
     abbrev pub Alone : Type 0

@@ -61,7 +61,8 @@ tail-final s tail e l p d t inside fresh = record {
   whole = ap (λ xs. xs ++ Program p d ∷ []) t.whole ∙ append_assoc e l (Program p d ∷ []);
   apart = t.apart;
   final = all-more (IsProgramIn s) l (Program p d) t.final (omega (arith, inside), omega (arith, inside));
-  distinct = subst (λ ps. IsDistinct nat_eq ps) (sym (pages-behind l p d)) (distinct-behind (pages_of l) p t.distinct fresh);
+  distinct = subst (λ ps. IsDistinct nat_eq ps) (sym (pages-behind l p d))
+      (distinct-behind (pages_of l) p t.distinct fresh);
 }
 
 -- a page of another sector
@@ -108,7 +109,8 @@ tail-none s tail e l k (step ∷ steps) t none =
     go (λ u f m. tail-none s u f m (k + 1) steps) (may_follow s (pages_of l) step) refl none
   where
     go : ((u f m : List Step) → IsTail s u f m → ungated_behind s (pages_of m) (k + 1) steps ≡ None
-        → (g : List Step) × (o : List Step) × IsTail s (u ++ steps) g o) → (b : Bool) → may_follow s (pages_of l) step ≡ b
+        → (g : List Step) × (o : List Step) × IsTail s (u ++ steps) g o)
+        → (b : Bool) → may_follow s (pages_of l) step ≡ b
         → (if b then ungated_behind s (pages_behind s (pages_of l) step) (k + 1) steps else Some k) ≡ None
         → (f : List Step) × (m : List Step) × IsTail s (tail ++ step ∷ steps) f m
     go ih false may none = cc
@@ -188,7 +190,8 @@ first-at s pages k (step ∷ steps) j e =
     same-number a b e = cc
 
     go : (ungated_behind s (pages_behind s pages step) (k + 1) steps ≡ Some j
-        → (i : ℕ) × IsFirstAt s (pages_behind s pages step) (k + 1) steps j i) → (b : Bool) → may_follow s pages step ≡ b
+        → (i : ℕ) × IsFirstAt s (pages_behind s pages step) (k + 1) steps j i)
+        → (b : Bool) → may_follow s pages step ≡ b
         → (if b then ungated_behind s (pages_behind s pages step) (k + 1) steps else Some k) ≡ Some j
         → (i : ℕ) × IsFirstAt s pages k (step ∷ steps) j i
     go ih false may e = (
@@ -228,7 +231,8 @@ none-gated w (step ∷ steps) confined none = go step refl (begins_gated w step)
     go (Erase s) is true begins none =
         let first : 4096 * s ≡ w.start = eqb-true (4096 * s) w.start begins in
         let same : w.start / 4096 ≡ s = omega (arith, first) in
-        let t = tail-none s [] [] [] 1 steps (record { whole = refl; apart = tt; final = tt; distinct = IsDistinct-none })
+        let t = tail-none s [] [] [] 1 steps
+        (record { whole = refl; apart = tt; final = tt; distinct = IsDistinct-none })
         (ap (λ n. ungated_behind n [] 1 steps) (sym same) ∙ none) in
         inr (
           s,

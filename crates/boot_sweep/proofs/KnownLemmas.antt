@@ -148,7 +148,8 @@ module _ (c : Content) (cpu : Cpu) (slot : Slot) (d : Content) (beside : IsBesid
   slot-inside =
       let long = beside.same.outside.long in
       let whole = beside.right.flash_length.whole in
-      let inside = placed-inside (length c.flash) slot.window whole (placed c slot.window cpu beside.right beside.home) in
+      let inside = placed-inside (length c.flash) slot.window whole
+      (placed c slot.window cpu beside.right beside.home) in
       omega (arith, inside, long)
 
   none-some : (o : Option Found) → o ≡ None → IsSome o → ⊥

@@ -82,7 +82,8 @@ pub same-suit : (cpu : Cpu) (b a : BlockView) → HasHeadersOf b a → does_suit
 same-suit cpu b a like =
     let flags : image_flags_of a ≡ image_flags_of b =
     flags-from 1 0 a.items ∙ (ap flags_by like.headers ∙ sym (flags-from 1 0 b.items)) in
-    ap (λ n. nat_le (4 * n + 16) MOST_BLOCK_BYTES && option_map_or (suits_flags cpu) (image_flags_of a) false) like.count
+    ap (λ n. nat_le (4 * n + 16) MOST_BLOCK_BYTES && option_map_or (suits_flags cpu) (image_flags_of a) false)
+    like.count
     ∙ ap (λ o. nat_le (block_size b) MOST_BLOCK_BYTES && option_map_or (suits_flags cpu) o false) flags
 
 -- the last element that passes, found from the front

@@ -29,12 +29,24 @@ changed-again k at n f g (x ∷ xs) same =
 and-again : (b d p : ℕ) → bit_and (bit_and b (bit_or d p)) d ≡ bit_and b d
 and-again b d p =
     same_from_bits (bit_and (bit_and b (bit_or d p)) d) (bit_and b d) (λ i.
-    omega (arith, bit_at_and (bit_and b (bit_or d p)) d i, bit_at_and b (bit_or d p) i, bit_at_or d p i, bit_at_and b d i))
+    omega (
+      arith,
+      bit_at_and (bit_and b (bit_or d p)) d i,
+      bit_at_and b (bit_or d p) i,
+      bit_at_or d p i,
+      bit_at_and b d i,
+    ))
 
 or-again : (v b m : ℕ) → bit_or (bit_or v (bit_and b m)) b ≡ bit_or v b
 or-again v b m =
     same_from_bits (bit_or (bit_or v (bit_and b m)) b) (bit_or v b) (λ i.
-    omega (arith, bit_at_or (bit_or v (bit_and b m)) b i, bit_at_or v (bit_and b m) i, bit_at_and b m i, bit_at_or v b i))
+    omega (
+      arith,
+      bit_at_or (bit_or v (bit_and b m)) b i,
+      bit_at_or v (bit_and b m) i,
+      bit_at_and b m i,
+      bit_at_or v b i,
+    ))
 
 same-flash : (f g o : List ℕ) → f ≡ g
     → (let c : Content = record { flash = f; otp = o } in let d : Content = record { flash = g; otp = o } in c ≡ d)
@@ -47,7 +59,8 @@ same-otp f o p e = cc
 pub redone-erase : (pattern : List ℕ) (c : Content) (s : ℕ)
     → after (torn_by pattern c (Erase s)) (Erase s) ≡ after c (Erase s)
 redone-erase pattern c s =
-    same-flash _ _ c.otp (changed-again 0 (4096 * s) 4096 (λ i b. 255) (λ i b. pattern_at pattern i) c.flash (λ i x. refl))
+    same-flash _ _ c.otp (changed-again 0 (4096 * s) 4096 (λ i b. 255)
+    (λ i b. pattern_at pattern i) c.flash (λ i x. refl))
 
 pub redone-program : (pattern : List ℕ) (c : Content) (p : ℕ) (d : List ℕ)
     → after (torn_by pattern c (Program p d)) (Program p d) ≡ after c (Program p d)

@@ -367,7 +367,8 @@ module _ (c : Content) (cpu : Cpu) (steps : List Step) (right : IsContent c) whe
           → starts_in_slot slot (decision_in c cpu Normal) ≡ false
       go false is = is
       go true is =
-          let e = ap (λ o. starts_in_slot o (decision_in c cpu Normal)) (sym (slot-is c cpu steps w right found)) ∙ is in
+          let e = ap (λ o. starts_in_slot o (decision_in c cpu Normal)) (sym (slot-is c cpu steps w right found))
+          ∙ is in
           let s = start-in w (decision_in c cpu Normal) e in
           absurd (no_ (s.0, subst (λ x. Chosen c cpu Normal x) s.1 (decision-chosen c cpu Normal), s.2))
 

@@ -362,7 +362,8 @@ false-true b e f = let g : false ≡ true = sym e ∙ f in cc
 pub judged : (c z d : Content) (cpu : Cpu) → IsCutResult c z d cpu (result_of c z d cpu)
 judged c z d cpu =
     go (is_same_decision (decision_in d cpu Normal) (decision_in c cpu Normal))
-    (is_same_decision (decision_in d cpu Normal) (decision_in z cpu Normal) && is_whole cpu d z (decision_in d cpu Normal))
+    (is_same_decision (decision_in d cpu Normal) (decision_in z cpu Normal)
+    && is_whole cpu d z (decision_in d cpu Normal))
     refl refl
   where
     go : (f g : Bool) → is_same_decision (decision_in d cpu Normal) (decision_in c cpu Normal) ≡ f

@@ -17,7 +17,8 @@ use Rattle.boot_sweep.proofs.LineLemmas.{line-of-sweep, two-each}
 use Rattle.boot_sweep.proofs.ResultLemmas.{judged-exactly}
 
 -- the two lines of step j
-lines-at : (judge : Content → CutResult) (pattern : List ℕ) (k : ℕ) (b : Content) (steps : List Step) (j : ℕ) (step : Step)
+lines-at : (judge : Content → CutResult) (pattern : List ℕ) (k : ℕ) (b : Content) (steps : List Step)
+    (j : ℕ) (step : Step)
     → slice_get steps j ≡ Some step
     → (slice_get (lines_from judge pattern k b steps) (2 * j)
     ≡ Some (line_of judge (after_all b (take j steps)) pattern (k + j) step false))
@@ -27,8 +28,10 @@ lines-at judge pattern k b [] j step is = let e : None ≡ Some step = is in cc
 lines-at judge pattern k b (x ∷ xs) zero step is =
     let same = same_Some x step is in
     let none : k ≡ k + 0 = omega arith in (
-      ap (λ y. Some (line_of judge b pattern k y false)) same ∙ ap (λ n. Some (line_of judge b pattern n step false)) none,
-      ap (λ y. Some (line_of judge b pattern k y true)) same ∙ ap (λ n. Some (line_of judge b pattern n step true)) none,
+      ap (λ y. Some (line_of judge b pattern k y false)) same
+          ∙ ap (λ n. Some (line_of judge b pattern n step false)) none,
+      ap (λ y. Some (line_of judge b pattern k y true)) same
+          ∙ ap (λ n. Some (line_of judge b pattern n step true)) none,
     )
 lines-at judge pattern k b (x ∷ xs) (suc j) step is =
     let rest = lines-at judge pattern (k + 1) (after b x) xs j step is in

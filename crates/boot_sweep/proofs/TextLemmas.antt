@@ -39,7 +39,8 @@ results-whole : (c z : Content) (former finished : Decision) (cpu : Cpu) (patter
 results-whole c z former finished cpu pattern steps one two is =
     ap (λ f. results_from (λ d. result_by f finished cpu d z) pattern c steps) one
     ∙ (ap (λ f. results_from (λ d. result_by (decision_in c cpu Normal) f cpu d z) pattern c steps) two
-    ∙ ap (λ y. results_from (λ d. result_by (decision_in c cpu Normal) (decision_in y cpu Normal) cpu d y) pattern c steps) is)
+    ∙ ap (λ y. results_from (λ d. result_by (decision_in c cpu Normal) (decision_in y cpu Normal) cpu d y)
+    pattern c steps) is)
 
 some-none : (k : ℕ) → Some k ≡ None → ⊥
 some-none k e = cc
@@ -100,7 +101,8 @@ results-told r c cpu steps z former finished d pattern cuts end_ right is none s
     let y = (state_of z).content in
     let at : y ≡ after_all c steps = ap (λ b. (state_of b).content) same ∙ is.content in
     let kept = (recorded-steps r c cpu steps right is none).0 in
-    let there : finished ≡ decision_in y cpu Normal = two ∙ ap (λ b. decision_in (state_of b).content cpu Normal) (sym same) in
+    let there : finished ≡ decision_in y cpu Normal =
+    two ∙ ap (λ b. decision_in (state_of b).content cpu Normal) (sym same) in
     let z = after_all c steps in record {
       cuts_are = first ∙ (ap (λ xs. results_from (λ d. result_by former finished cpu d y) pattern c xs) kept
           ∙ results-whole c y former finished cpu pattern steps one there at);
@@ -127,5 +129,6 @@ pub recorder-of : (r : Recorder MemBoard) (one two : MemBoard) (flash otp : List
     → IsRecorderOf r (state_of two).content cpu (script_session (content_of flash otp) cpu script)
 unfolding script_session
 recorder-of r one two flash otp cpu script first second is =
-    subst (λ (s : State). IsRecorderOf r s.content cpu (session (content_of flash otp) cpu (script_events script))) (sym second)
+    subst (λ (s : State). IsRecorderOf r s.content cpu (session (content_of flash otp) cpu (script_events script)))
+    (sym second)
     (subst (λ (s : State). IsRecorderOf r s.content cpu (session s.content cpu (script_events script))) first is)

@@ -78,7 +78,8 @@ as-many-cuts c cpu pattern steps found is =
 -- the results of step j
 results-at : (judge : Content → CutResult) (pattern : List ℕ) (b : Content) (steps : List Step) (j : ℕ) (step : Step)
     → slice_get steps j ≡ Some step
-    → slice_get (results_from judge pattern b steps) j ≡ Some (step_results judge (after_all b (take j steps)) pattern step)
+    → slice_get (results_from judge pattern b steps) j
+    ≡ Some (step_results judge (after_all b (take j steps)) pattern step)
 results-at judge pattern b [] j step is = let e : None ≡ Some step = is in cc
 results-at judge pattern b (x ∷ xs) zero step is =
     ap (λ y. Some (step_results judge b pattern y)) (same_Some x step is)

@@ -287,9 +287,9 @@ fn push_sweep(
 ///
 /// A session is refused for the first of these: a step leaves the member of a pair in which the
 /// first one lies; a step up to which the steps do not write that member's first sector last; more
-/// than 262,144 steps; an image of that member starts before the session; the session leaves another
-/// partition table. A refusal leaves `out`, and want of memory leaves its bytes in front. The pool
-/// keeps what is out. (This project's own.)
+/// than 262,144 steps; an image of that member starts before the session; the session leaves
+/// another partition table. A refusal leaves `out`, and want of memory leaves its bytes in front.
+/// The pool keeps what is out. (This project's own.)
 pub fn sweep(
     alloc: Global,
     flash: &Vec<u8>,

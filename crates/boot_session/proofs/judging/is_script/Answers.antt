@@ -21,7 +21,8 @@ returns-in-Err c = (
 pub returns-then-is_end : goal.returns-then-is_end
 returns-then-is_end c = (
   λ e. read-end c.args.script.now c.loop-number.at c.loop-number.number (event_from c.in-Ok.read.0) c.in-Ok.read.1
-      (omega (arith, c.if-script-gt-SCRIPT_LIMIT.false)) c.loop-number.invariant.read (omega (arith, c.loop-number-test.true))
+      (omega (arith, c.if-script-gt-SCRIPT_LIMIT.false)) c.loop-number.invariant.read
+      (omega (arith, c.loop-number-test.true))
       (sym c.in-Ok.ensures.exact) (sym c.is_end.ensures ∙ c.if-is_end.true),
   λ is. refl,
 )

@@ -25,7 +25,8 @@ returns-in-Start g c =
     let d = (g.B.Board.state c.args.board.now).content in
     let z = (g.Z.Board.state c.args.finished.now).content in
     let window = c.in-Start.choice.image.window in
-    same-exactly c.args.cpu (window_bytes d window) (window_bytes z window) c.in-Start.choice.image c.same_content.result
+    same-exactly c.args.cpu (window_bytes d window) (window_bytes z window) c.in-Start.choice.image
+    c.same_content.result
     (start-holds d c.args.cpu c.in-Start.choice
     (subst (λ x. Chosen d c.args.cpu Normal x) c.in-Start.is c.requires.chosen))
     c.same_content.ensures

@@ -49,8 +49,11 @@ returns-then-is_some g c = λ steps is.
     ∙ (sym c.ungated.ensures ∙ c.in_default-ungated.is) in
     let starts = ap (starts_in_slot c.args.recorder.now.slot) (sym c.requires.former)
     ∙ (sym c.starts_in_slot.ensures ∙ c.if-starts_in_slot.false) in
-    let before = ap is_none (sym c.find_table.ensures.exact) ∙ none-by c.find_table.result c.is_none.result true c.is_none.ensures c.if-is_none.true in
-    let after = ap is_some (sym c.find_table-then-is_none.ensures.exact) ∙ (sym c.is_some.ensures ∙ c.if-is_some.true) in
+    let before = ap is_none (sym c.find_table.ensures.exact)
+    ∙ none-by c.find_table.result c.is_none.result true
+    c.is_none.ensures c.if-is_none.true in
+    let after = ap is_some (sym c.find_table-then-is_none.ensures.exact)
+    ∙ (sym c.is_some.ensures ∙ c.if-is_some.true) in
     reason-by c.args.recorder.now (g.B.Board.state c.args.board.now).content c.args.cpu steps None None false false true
     is c.in_default.is first (few-is c.args.recorder.now.count (omega (arith, c.if-recorder.false))) starts
     (gains-some (table_in (g.B.Board.state c.args.board.now).content)
@@ -68,10 +71,12 @@ returns g c = λ steps is.
       | else-is_none-via-then-is_none+else-is_some w ↦
           gains-some (table_in (g.B.Board.state c.args.board.now).content)
           (table_in (state_of c.args.recorder.now.bench).content) false
-          (ap is_none (sym c.find_table.ensures.exact) ∙ none-by c.find_table.result c.is_none.result true c.is_none.ensures w.if-is_none.true)
+          (ap is_none (sym c.find_table.ensures.exact)
+          ∙ none-by c.find_table.result c.is_none.result true c.is_none.ensures w.if-is_none.true)
           (ap is_some (sym w.find_table-then-is_none.ensures.exact) ∙ (sym w.is_some.ensures ∙ w.if-is_some.false))
       | else-is_none-via-else-is_none w ↦
           gains-none (table_in (g.B.Board.state c.args.board.now).content)
           (table_in (state_of c.args.recorder.now.bench).content)
-          (ap is_none (sym c.find_table.ensures.exact) ∙ none-by c.find_table.result c.is_none.result false c.is_none.ensures w.if-is_none.false)
+          (ap is_none (sym c.find_table.ensures.exact)
+          ∙ none-by c.find_table.result c.is_none.result false c.is_none.ensures w.if-is_none.false)
     ])

@@ -28,13 +28,15 @@ returns-in-Ok-judged-clause-found c =
     (subst (λ (s : State). IsRecorderOf c.in-Ok.recorder s.content c.args.cpu steps) c.in_ok-board.ensures.made is)
     (subst (λ (s : State). refusal s.content c.args.cpu steps ≡ None) c.in_ok-board.ensures.made found.0)
     refl
-    (subst (λ (s : State). HasResults s.content c.args.cpu c.args.pattern.now steps c.in-Ok-judged.cuts.items c.in-Ok-judged.end)
+    (subst (λ (s : State). HasResults s.content c.args.cpu c.args.pattern.now steps
+    c.in-Ok-judged.cuts.items c.in-Ok-judged.end)
     c.in_ok-board.ensures.made found.1)
 
 pub returns-in-Err-judged-clause-swept : goal.returns-in-Err-judged-clause-swept
 returns-in-Err-judged-clause-swept c =
     let steps = script_session (content_of c.args.flash.now.items c.args.otp.now.items) c.args.cpu c.args.script.now in
-    subst (λ (s : State). (c.in-Err-judged.reason ≡ Memory) ⊎ (refusal s.content c.args.cpu steps ≡ Some c.in-Err-judged.reason))
+    subst (λ (s : State). (c.in-Err-judged.reason ≡ Memory)
+    ⊎ (refusal s.content c.args.cpu steps ≡ Some c.in-Err-judged.reason))
     c.in_ok-board.ensures.made
     (c.in-Err-judged.ensures.judged steps (recorder-of c.in-Ok.recorder c.in_ok-board_of.field-0 c.in_ok-board.board
     c.args.flash.now.items c.args.otp.now.items c.args.cpu c.args.script.now c.in_ok-board_of.ensures.made

@@ -14,7 +14,8 @@ result_beside-within-requires-clause-known g c =
       x,
       subst (λ d. Knows x ends.cpu ends.former ends.finished c.args.slot c.result_beside-before.new.last d)
           (sym c.tear.ensures.torn)
-          (known-torn x ends.cpu ends.former ends.finished c.args.pattern.now c.args.slot c.result_beside-before.new.last
+          (known-torn x ends.cpu ends.former ends.finished c.args.pattern.now c.args.slot
+          c.result_beside-before.new.last
           (state_of c.args.board.now).content c.args.step.now c.requires.slot first),
     )
 
