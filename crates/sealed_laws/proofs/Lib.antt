@@ -5,6 +5,7 @@ mod SealedFirmLemmas
 mod PlanFirmLemmas
 mod ExampleLemmas
 mod FirmExampleLemmas
+mod DigestLemmas
 mod FirmDigestLemmas
 mod FirmImageLemmas
 mod FirmFlashLemmas
