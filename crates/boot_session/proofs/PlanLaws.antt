@@ -2,6 +2,7 @@
 use Rattle.std.proofs.Common.{◌≡◌, ◌⊎◌, inl, inr, ℕ, ◌+◌, ◌-◌, ◌*◌, ◌/◌, ◌%◌, ◌<◌, ◌≤◌, Bool, true, false, List, [], ◌∷◌, ◌++◌, length, drop, take, Result, Ok, refl, sym, ap, ◌∙◌, subst, arith, append-nil, append_assoc, length-drop}
 use Rattle.std.proofs.lemmas.Bool.{cases_lt}
 use Rattle.std.proofs.lemmas.List.{length-take-le}
+use Rattle.pico_board.specs.declared.window.TheConstants.{MOST_FLASH_BYTES}
 use Rattle.pico_board.specs.declared.Step.{Step}
 use Rattle.pico_board.specs.declared.Step.TheVariants.{Erase}
 use Rattle.pico_board.specs.declared.boot.BootKind.TheVariants.{Bootsel}
@@ -46,7 +47,7 @@ module _ (known : Known) (c : Content) (cpu : Cpu) (w : Window) (right : IsConte
       let whole = right.flash_length.whole in
       omega (arith, in_sectors, whole)
 
-  small : length c.flash ≤ 16777216
+  small : length c.flash ≤ MOST_FLASH_BYTES
   small = right.flash_length.most
 
   may-write : slot.may ≡ true → (at n : ℕ) → w.start ≤ at → at + n ≤ w.start + w.len
@@ -304,12 +305,12 @@ same-ok xs ys e = cc
 -- what the law on the events of a plan says
 pub record KnownEvents : Type 0 where
   pub short : (w : Window) (image : List ℕ) → length image ≤ 4096 → length image ≤ w.len
-      → w.start % 4096 ≡ 0 → w.len % 4096 ≡ 0 → w.start + w.len ≤ 16777216
+      → w.start % 4096 ≡ 0 → w.len % 4096 ≡ 0 → w.start + w.len ≤ MOST_FLASH_BYTES
       → events (plan_text w.start image)
       ≡ Ok (PowerOn ∷ Reset Bootsel ∷ sent (erase_cmd 1 w.start 4096) []
       ∷ sent (write_cmd 2 w.start (length image)) image ∷ sent (update_cmd 3 w.start) [] ∷ [])
   pub long : (w : Window) (image : List ℕ) → 4096 < length image → length image ≤ w.len
-      → w.start % 4096 ≡ 0 → w.len % 4096 ≡ 0 → w.start + w.len ≤ 16777216
+      → w.start % 4096 ≡ 0 → w.len % 4096 ≡ 0 → w.start + w.len ≤ MOST_FLASH_BYTES
       → events (plan_text w.start image)
       ≡ Ok (PowerOn ∷ Reset Bootsel ∷ sent (erase_cmd 1 w.start 4096) []
       ∷ sent (erase_cmd 2 (w.start + 4096) (in_sectors (length (drop 4096 image)))) []
@@ -324,7 +325,7 @@ plan-gated known says c cpu w image es right of some room is = go (cases_lt 4096
     slot : IsSlot c w
     slot = slot-is c cpu w right of
 
-    low : w.start + w.len ≤ 16777216
+    low : w.start + w.len ≤ MOST_FLASH_BYTES
     low = let ends = inside known c cpu w right slot image some room in
         let most = right.flash_length.most in omega (arith, ends, most)
 

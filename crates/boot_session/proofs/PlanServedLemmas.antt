@@ -3,6 +3,7 @@ use Rattle.std.proofs.Common.{◌≡◌, ◌≢◌, ◌↔◌, ℕ, ◌+◌, ◌
 use Rattle.std.specs.Prelude.{if◌then◌else◌}
 use Rattle.std.proofs.lemmas.Bool.{lt-leb}
 use Rattle.std.proofs.lemmas.Bool.Decides.{nat_tests}
+use Rattle.pico_board.specs.declared.window.TheConstants.{MOST_FLASH_BYTES}
 use Rattle.pico_board.specs.declared.Step.{Step}
 use Rattle.pico_board.specs.declared.boot.BootKind.{BootKind}
 use Rattle.pico_board.specs.declared.boot.Cpu.{Cpu}
@@ -38,9 +39,9 @@ pub record Known : Type 0 where
       → (command_in (written (erase_cmd token at size)) ≡ Ok (erase_cmd token at size))
       × (command_in (written (write_cmd token at size)) ≡ Ok (write_cmd token at size))
       × (command_in (written (update_cmd token at)) ≡ Ok (update_cmd token at))
-  pub is_erase : (n token s k : ℕ) (t : Option Table) → n ≤ 16777216 → 4096 * (s + k) ≤ n
+  pub is_erase : (n token s k : ℕ) (t : Option Table) → n ≤ MOST_FLASH_BYTES → 4096 * (s + k) ≤ n
       → MayWrite t (4096 * s) (4096 * k) → IsErase n t s k (erase_cmd token (4096 * s) (4096 * k))
-  pub is_write : (n token p : ℕ) (t : Option Table) (payload : List ℕ) → n ≤ 16777216
+  pub is_write : (n token p : ℕ) (t : Option Table) (payload : List ℕ) → n ≤ MOST_FLASH_BYTES
       → 256 * p + length payload ≤ n → MayWrite t (256 * p) (length payload)
       → IsWrite n t p payload (write_cmd token (256 * p) (length payload))
   pub is_reboot : (token at : ℕ) → IsReboot (update_cmd token at)
@@ -173,11 +174,11 @@ module _ (c : Content) (cpu : Cpu) where
 
   -- an erase or a write of bytes that may not be written does no step
   module _ (known : Known) (d : Content) (long : length d.flash ≡ length c.flash)
-      (small : length c.flash ≤ 16777216) where
+      (small : length c.flash ≤ MOST_FLASH_BYTES) where
     abbrev n : ℕ
     n = length d.flash
 
-    fits : n ≤ 16777216
+    fits : n ≤ MOST_FLASH_BYTES
     fits = omega (arith, long, small)
 
     not-allowed : (at count : ℕ) → 0 < count → allowed_by table (at / 4096) BootWrite ≡ false

@@ -1,6 +1,7 @@
 //! Load maps and what an image's digest covers.
 
 ghost use Rattle.std.specs.Prelude.{◌≡◌, ◌≤◌, true, length};
+ghost use Rattle.pico_board.specs.declared.window.TheConstants.{MOST_FLASH_BYTES};
 ghost use Rattle.load_map.specs.Loads.{IsMapAt, is_load_map};
 ghost use Rattle.load_map.specs.Stored.{AreStoredIn};
 
@@ -81,7 +82,7 @@ fn has_map(block: &Block) -> bool
 
 /// A view of the bytes.
 fn view_of(bytes: &[u8]) -> SliceView<'_>
-    requires { length bytes.now ≤ 16777216 }
+    requires { length bytes.now ≤ MOST_FLASH_BYTES }
     ensures { result.bytes.now ≡ bytes.now }
 {
     SliceView { bytes }
@@ -126,7 +127,7 @@ fn both_digests(
     def: &Def,
     loads: &Loads,
 ) -> Result<([u8; 32], [u8; 32]), Fail>
-    requires short { length window.now ≤ 16777216 }
+    requires short { length window.now ≤ MOST_FLASH_BYTES }
     requires stored { AreStoredIn (length window.now) loads.now.items }
 {
     assert!(rt; def.hash_words <= block.size() / 4);
