@@ -140,7 +140,8 @@ partition_with flag_word number extra text = record {
 
 -- the same with a name of these bytes, and without an id or extra families
 abbrev pub named_partition_of : ℕ → List ℕ → Partition
-named_partition_of flag_word bytes = partition_with flag_word None [] (Some (record { items = bytes }))
+named_partition_of flag_word bytes =
+    partition_with flag_word None [] (Some (record { items = bytes }))
 
 -- the name of the greatest length, each byte of which is the greatest one
 abbrev pub longest_name : ArrayVec ℕ

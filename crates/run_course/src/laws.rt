@@ -19,8 +19,8 @@ pub fn statuses_have_numbers()
     ensures memory { number_of Memory ≡ 7 }
 {}
 
-/// A run is finished where its whole text was put: it is done, its words are no command, an input is
-/// refused, or the boot falls to BOOTSEL. With one of the four causes it is not.
+/// A run is finished where its whole text was put: it is done, its words are no command, an input
+/// is refused, or the boot falls to BOOTSEL. With one of the four causes it is not.
 pub fn statuses_of_finished_runs()
     ensures done { is_finished Done ≡ true }
     ensures words { is_finished Words ≡ true }

@@ -48,5 +48,6 @@ bytes : digest_bytes end 8 ≡ cleared_digest
 unfolding digest_bytes
 bytes = refl
 
-pub cleared-digest : sha256 (covered cleared (clear_load ∷ front_load 0x1000 ∷ []) (back_block cleared_items) 11 1) ≡ cleared_digest
+pub cleared-digest : sha256
+    (covered cleared (clear_load ∷ front_load 0x1000 ∷ []) (back_block cleared_items) 11 1) ≡ cleared_digest
 cleared-digest = digest-is message hashes end blocks hashed last ∙ bytes

@@ -56,7 +56,9 @@ module _ (p q : ℕ → Bool) where
       by rest false kept y passes h = later a n i (rw kept refl) (rest h)
       by rest true kept true passes h =
           let here : cond (p a) (Some a) (find p (filter q (range_with_len (a + 1) n))) ≡ Some i = h in
-          let same : a ≡ i = same_Some a i (sym (ap (λ b. cond b (Some a) (find p (filter q (range_with_len (a + 1) n)))) passes) ∙ here) in
+          let same : a ≡ i =
+              same_Some a i (sym (ap
+                  (λ b. cond b (Some a) (find p (filter q (range_with_len (a + 1) n)))) passes) ∙ here) in
           record {
             low = omega (arith, same);
             high = omega (arith, same);
@@ -125,7 +127,8 @@ module _ (t : Table) (family : ℕ) where
 
   no_second-begins : (x : Partition) → link_type x ≢ 1 → begins_load_unit x ≡ true
   no_second-begins x other =
-      let no : is_second x ≡ false = never_true (is_second x) (λ yes. other (eqb-true (link_type x) 1 yes)) in rw no refl
+      let no : is_second x ≡ false =
+          never_true (is_second x) (λ yes. other (eqb-true (link_type x) 1 yes)) in rw no refl
 
   both : (x y : Bool) → x ≡ true → y ≡ true → (x && y) ≡ true
   both x y a b = rw (a, b) refl
@@ -157,7 +160,8 @@ module _ (t : Table) (family : ℕ) where
         high = omega (arith, within);
         kept = ap begins_load_unit same ∙ no_second-begins x load.may.first;
         passes = ap (λ y. accepts y family) same ∙ words-accepts x family load.may.accepts;
-        none = λ j le lt. never_true (begins j && takes j) (λ met. again j lt within met (begins j) refl (takes j) refl);
+        none = λ j le lt. never_true (begins j && takes j)
+            (λ met. again j lt within met (begins j) refl (takes j) refl);
       }
     where
       again : (j : ℕ) → j < i → i < length parts → (begins j && takes j) ≡ true → (a : Bool) → begins j ≡ a

@@ -80,7 +80,8 @@ module _ (t : Table) where
     windows-second : (i : ℕ) (o : Option Window) → IsSecondWindow t i o → (unit_of parts i).b ≡ o
     windows-second i None none = by (pair_of parts i) refl
       where
-        by : (o : Option ℕ) → pair_of parts i ≡ o → option_map (λ j. part_window (part_at parts j)) (pair_of parts i) ≡ None
+        by : (o : Option ℕ) → pair_of parts i ≡ o
+            → option_map (λ j. part_window (part_at parts j)) (pair_of parts i) ≡ None
         by None e = ap (option_map (λ j. part_window (part_at parts j))) e
         by (Some j) e = absurd (none j (part_at parts j) (second-words i j e))
     windows-second i (Some w) is =

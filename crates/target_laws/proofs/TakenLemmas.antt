@@ -22,7 +22,8 @@ use Rattle.target_laws.specs.TargetRules.{WritesOther}
 use Rattle.target_laws.proofs.WordLemmas.{below-lower, lower-below}
 
 -- of a pair one member at most would be taken
-pub not-both : (c : Content) (cpu : Cpu) (one two : Window) → TakesFirst c cpu one (Some two) → TakesSecond c cpu one two
+pub not-both : (c : Content) (cpu : Cpu) (one two : Window) → TakesFirst c cpu one (Some two)
+    → TakesSecond c cpu one two
     → ⊥
 not-both c cpu one two first second =
     first.best two second.image refl second.valid (second.best first.image first.valid)
@@ -105,7 +106,8 @@ module _ (c : Content) (cpu : Cpu) (u : SlotUnit) where
   pub member-words : (m : Member) → taken_member c cpu u ≡ Some m → Taken m
   member-words m e = by (taken c cpu u) refl e
     where
-      by : (o : Option Choice) → taken c cpu u ≡ o → option_map (λ (choice : Choice). choice.member) o ≡ Some m → Taken m
+      by : (o : Option Choice) → taken c cpu u ≡ o → option_map (λ (choice : Choice). choice.member) o ≡ Some m
+          → Taken m
       by None is h = cc
       by (Some choice) is h = subst Taken (same_Some choice.member m h) (taken-by choice is)
 
