@@ -1,9 +1,10 @@
 -- Texts are read back, and a picture of texts has ASCII alone.
-use Rattle.std.proofs.Common.{◌≡◌, ℕ, zero, suc, ◌+◌, ◌/◌, ◌%◌, ◌<◌, ◌==◌, Bool, true, false, List, [], ◌∷◌, ◌++◌, map, refl, sym, ap, ◌∙◌, arith, inl, inr, decimal}
-use Rattle.std.specs.Prelude.{if◌then◌else◌, ◌||◌, codes, nat_le, nat_lt}
+use Rattle.std.proofs.Common.{◌≡◌, ℕ, zero, suc, ◌+◌, ◌-◌, ◌/◌, ◌%◌, ◌^◌, ◌<◌, ◌≤◌, ◌==◌, Bool, true, false, List, [], ◌∷◌, ◌++◌, length, map, refl, sym, ap, ◌∙◌, arith, inl, inr, decimal}
+use Rattle.std.specs.Prelude.{if◌then◌else◌, ◌||◌, codes, nat_le, nat_lt, replicate}
 use Rattle.std.specs.List.{flat_map, list_all}
-use Rattle.std.specs.Fmt.{digits, digits_onto, digit_glyph}
-use Rattle.std.proofs.lemmas.Bool.{and_parts, cases_eq, lt-ltb, ne_eqb}
+use Rattle.std.specs.Fmt.{char_count, digits, digits_onto, digit_glyph, format_spec, padded_integral}
+use Rattle.std.proofs.lemmas.Bool.{and_parts, cases_eq, cases_lt, le-ltb, lt-ltb, ne_eqb}
+use Rattle.std.proofs.Math.Nat.{mod-lt}
 use Rattle.std.proofs.lemmas.List.Folds.{list_all-append}
 use Rattle.svg_text.specs.declared.class.Class.{Class}
 use Rattle.svg_text.specs.declared.class.Class.TheVariants.{Former, Finished, Chance, Span, Erase, Program, Raise, Legend, Window, Row, Join, Starts}
@@ -81,47 +82,87 @@ text-written (b ∷ text) is =
     let parts = and_parts (is_printed b) (is_text text) is in
     join (escaped_byte b) (escaped text) (byte-written b parts.0) (text-written text parts.1)
 
-glyph-printed : (n : ℕ) → is_printed (digit_glyph false (n % 10)) ≡ true
-glyph-printed n =
-    let low : n % 10 < 10 = omega arith in
-    let above : nat_le 32 (48 + n % 10) ≡ true = grind arith in
-    let below : nat_le (48 + n % 10) 126 ≡ true = grind arith in
-    rw (lt-ltb (n % 10) 10 low) (rw (above, below) refl)
+-- texts one behind the other
+pub text-join : (xs ys : List ℕ) → is_text xs ≡ true → is_text ys ≡ true → is_text (xs ++ ys) ≡ true
+text-join xs ys first second = list_all-append is_printed xs ys ∙ rw (first, second) refl
 
-onto-written : (fuel n : ℕ) (acc : List ℕ) → AreWritten acc → AreWritten (digits_onto fuel 10 false n acc)
-onto-written zero n acc is = is
-onto-written (suc fuel) n acc is =
-    let more : AreWritten (digit_glyph false (n % 10) ∷ acc) =
-    rw (printed-written (digit_glyph false (n % 10)) (glyph-printed n)) is in
-    go (n / 10 == 0) more (onto-written fuel (n / 10) (digit_glyph false (n % 10) ∷ acc) more)
-  where
-    go : (t : Bool) → AreWritten (digit_glyph false (n % 10) ∷ acc)
-        → AreWritten (digits_onto fuel 10 false (n / 10) (digit_glyph false (n % 10) ∷ acc))
-        → AreWritten (if t then digit_glyph false (n % 10) ∷ acc
-        else digits_onto fuel 10 false (n / 10) (digit_glyph false (n % 10) ∷ acc))
-    go true first second = first
-    go false first second = second
+pub text-parts : (xs ys : List ℕ) → is_text (xs ++ ys) ≡ true → (is_text xs ≡ true) × (is_text ys ≡ true)
+text-parts xs ys is = and_parts (is_text xs) (is_text ys) (sym (list_all-append is_printed xs ys) ∙ is)
 
-digits-fuel : (n : ℕ) → digits 10 false n ≡ digits_onto 64 10 false n []
-unfolding digits
-digits-fuel n = refl
+all-written : (text : List ℕ) → is_text text ≡ true → AreWritten text
+all-written [] is = refl
+all-written (b ∷ text) is =
+    let parts = and_parts (is_printed b) (is_text text) is in
+    rw (printed-written b parts.0) (all-written text parts.1)
+
+printed : (b : ℕ) → 32 ≤ b → b ≤ 126 → is_printed b ≡ true
+printed b low high =
+    let above : nat_le 32 b ≡ true = grind arith in
+    let below : nat_le b 126 ≡ true = grind arith in rw (above, below) refl
+
+glyph-printed : (d : ℕ) → d < 16 → is_printed (digit_glyph false d) ≡ true
+glyph-printed d low =
+    elim (cases_lt d 10) [
+      | inl lt ↦ rw (lt-ltb d 10 lt) (printed (48 + d) (omega arith) (omega arith))
+      | inr le ↦ rw (le-ltb d 10 le) (printed (87 + d) (omega arith) (omega arith))
+    ]
+
+-- digits are a text
+module _ (base : ℕ) (some : 0 < base) (few : base ≤ 16) where
+  onto-printed : (fuel n : ℕ) (acc : List ℕ) → is_text acc ≡ true → is_text (digits_onto fuel base false n acc) ≡ true
+  onto-printed zero n acc is = is
+  onto-printed (suc fuel) n acc is =
+      let low : n % base < base = mod-lt n some in
+      let more : is_text (digit_glyph false (n % base) ∷ acc) ≡ true =
+      rw (glyph-printed (n % base) (omega arith)) is in
+      go (n / base == 0) more (onto-printed fuel (n / base) (digit_glyph false (n % base) ∷ acc) more)
+    where
+      go : (t : Bool) → is_text (digit_glyph false (n % base) ∷ acc) ≡ true
+          → is_text (digits_onto fuel base false (n / base) (digit_glyph false (n % base) ∷ acc)) ≡ true
+          → is_text (if t then digit_glyph false (n % base) ∷ acc
+          else digits_onto fuel base false (n / base) (digit_glyph false (n % base) ∷ acc)) ≡ true
+      go true first second = first
+      go false first second = second
+
+  digits-printed : (n : ℕ) → is_text (digits base false n) ≡ true
+  unfolding digits
+  digits-printed n = onto-printed 64 n [] refl
+
+pub decimal-printed : (n : ℕ) → is_text (decimal n) ≡ true
+decimal-printed n = digits-printed 10 (omega arith) (omega arith) n
+
+zeros-printed : (n : ℕ) → is_text (replicate n 48) ≡ true
+zeros-printed zero = refl
+zeros-printed (suc n) = zeros-printed n
+
+-- eight hexadecimal digits or more
+pub hex-printed : (n : ℕ)
+    → is_text (padded_integral (format_spec 32 0 4 8 (2 ^ 64 - 1)) false [] (digits 16 false n)) ≡ true
+unfolding padded_integral char_count
+hex-printed n =
+    let zeros : ℕ = 8 - length (digits 16 false n) - 0 - 0 in
+    text-join (replicate zeros 48) (digits 16 false n ++ []) (zeros-printed zeros)
+    (text-join (digits 16 false n) [] (digits-printed 16 (omega arith) (omega arith) n) refl)
 
 number : (n : ℕ) → AreWritten (decimal n)
-number n = ap (λ ds. list_all is_written ds) (digits-fuel n) ∙ onto-written 64 n [] refl
+number n = all-written (decimal n) (decimal-printed n)
+
+pub word-printed : (class : Class) → is_text (class_word class) ≡ true
+word-printed Former = refl
+word-printed Finished = refl
+word-printed Chance = refl
+word-printed Span = refl
+word-printed Erase = refl
+word-printed Program = refl
+word-printed Raise = refl
+word-printed Legend = refl
+word-printed Window = refl
+word-printed Row = refl
+word-printed Join = refl
+word-printed Starts = refl
 
 word-written : (class : Class) → AreWritten (class_word class)
-word-written Former = refl
-word-written Finished = refl
-word-written Chance = refl
-word-written Span = refl
-word-written Erase = refl
-word-written Program = refl
-word-written Raise = refl
-word-written Legend = refl
-word-written Window = refl
-word-written Row = refl
-word-written Join = refl
-word-written Starts = refl
+word-written class = all-written (class_word class) (word-printed class)
 
 colour-written : (colour : Colour) → AreWritten (colour_word colour)
 colour-written Ink = refl
