@@ -2,7 +2,7 @@
 -- its first byte, at the top, to its last. Words begin at 160 and are 14 high; a line of them has
 -- at most 80 letters and the word `starts` behind them, each of at most 9 points. This project's
 -- own.
-use Rattle.std.specs.Prelude.{ℕ, ◌+◌, ◌-◌, ◌*◌, ◌/◌, ◌%◌, ◌^◌, ◌==◌, Bool, true, false, if◌then◌else◌, max, List, [], ◌∷◌, ◌++◌, length, map, codes, decimal, string_bytes}
+use Rattle.std.specs.Prelude.{ℕ, ◌+◌, ◌-◌, ◌*◌, ◌/◌, ◌%◌, ◌^◌, ◌==◌, Bool, false, if◌then◌else◌, max, List, [], ◌∷◌, ◌++◌, length, map, codes, decimal, string_bytes}
 use Rattle.std.specs.Fmt.{digits, padded_integral, format_spec}
 use Rattle.pico_board.specs.declared.window.Window.{Window}
 use Rattle.pico_board.specs.Content.{flash_base}

@@ -1,10 +1,12 @@
 //! Laws of pictures of a flash, each the contract of a function that does nothing.
 
-ghost use Rattle.std.specs.Prelude.{◌≡◌, ℕ, List, length, map};
+ghost use Rattle.std.specs.Prelude.{◌≡◌, ℕ, List, length, map, true};
+ghost use Rattle.std.specs.List.{flat_map, list_all};
 ghost use Rattle.svg_text.specs.declared.class.Class.{Class};
 ghost use Rattle.svg_text.specs.declared.class.Class.TheVariants.{Window, Row, Join};
 ghost use Rattle.svg_text.specs.Marks.{class_text, escaped, picture_text};
 ghost use Rattle.svg_text.specs.Reading.{marks_in, times};
+ghost use Rattle.svg_text.specs.Texts.{is_text, is_written};
 ghost use Rattle.map_picture.specs.Maps.{Bar, counted, map_picture};
 
 /// The marks of a class that stand in the bytes of a picture are those of its windows, in their
@@ -24,4 +26,12 @@ pub fn each_window_has_its_marks()
     ensures windows { (bars : List Bar) → length (counted Window bars) ≡ length bars }
     ensures rows { (bars : List Bar) → length (counted Row bars) ≡ length bars }
     ensures joins { (bars : List Bar) → length (counted Join bars) ≡ length bars }
+{}
+
+/// Where what is said of windows, and what the picture shows, have bytes from the blank to the tilde
+/// alone, the picture's bytes are such ones and line feeds.
+pub fn pictures_of_texts_are_ascii()
+    ensures { (flash : ℕ) (bars : List Bar) (desc : List ℕ) → is_text desc ≡ true
+        → is_text (flat_map (λ (bar : Bar). bar.words) bars) ≡ true
+        → list_all is_written (picture_text (map_picture flash bars desc)) ≡ true }
 {}

@@ -8,9 +8,7 @@ ghost use Rattle.map_picture.specs.Maps.{bar_from, column_height, hex_word, join
 use crate::bars::{MapBar, area_at, colour_of};
 use pico_board::{FLASH_BASE, Window};
 use std::alloc::{AllocError, Global};
-use svg_text::{
-    Class, Colour, Ends, LINE_HEIGHT, LINE_LENGTH, push_line, push_lines, push_plain,
-};
+use svg_text::{Class, Colour, Ends, LINE_HEIGHT, LINE_LENGTH, push_line, push_lines, push_plain};
 
 /// No more points lie below one another than these: the words of so many lines fit no memory.
 const MOST_HEIGHT: usize = 1_073_741_824;
@@ -124,7 +122,12 @@ fn push_row(
 {
     push_join(alloc, out, flash, high, top, bar)?;
     push_plain(alloc, out, area_at(138, top + 3, 14, 14), Colour::Ink)?;
-    push_plain(alloc, out, area_at(139, top + 4, 12, 12), colour_of(number, bar))?;
+    push_plain(
+        alloc,
+        out,
+        area_at(139, top + 4, 12, 12),
+        colour_of(number, bar),
+    )?;
     push_lines(
         alloc,
         out,

@@ -1,17 +1,17 @@
 -- What is counted in a chart is what its data say.
-use Rattle.std.proofs.Common.{◌≡◌, ℕ, ◌+◌, List, [], ◌∷◌, ◌++◌, length, map, refl, sym, ap, ◌∙◌, append_assoc, append-nil}
+use Rattle.std.proofs.Common.{◌≡◌, ℕ, ◌+◌, List, [], ◌∷◌, ◌++◌, length, map, refl, ap, ◌∙◌, append-nil}
 use Rattle.std.specs.Prelude.{codes}
 use Rattle.std.specs.List.{flat_map}
 use Rattle.std.proofs.lemmas.Grind.{flat_map-append}
 use Rattle.pico_board.specs.declared.Step.{Step}
 use Rattle.svg_text.specs.declared.class.Class.{Class}
-use Rattle.svg_text.specs.declared.class.Class.TheVariants.{Former, Finished, Chance, Span, Erase, Program, Legend}
+use Rattle.svg_text.specs.declared.class.Class.TheVariants.{Former, Finished, Chance, Span, Legend}
 use Rattle.svg_text.specs.Marks.{Mark, class_text, class_word, escaped, picture_text}
 use Rattle.svg_text.specs.Reading.{is_class, marks_in, times, words_by, words_of}
 use Rattle.svg_text.proofs.PictureLemmas.{picture-reads, picture-times}
 use Rattle.sweep_chart.specs.declared.runs.Run.{Run}
 use Rattle.sweep_chart.specs.Runs.{chance_runs, runs}
-use Rattle.sweep_chart.specs.Charts.{Chart, bar, count_of, counted, counted_end, counted_row, counted_rows, end_row, end_rows, end_top, kind_bar, kind_legend, kind_of, kind_row, kind_title, legend, legend_entry, legend_text, marks_by, names, picture_of, result_row, row_front, run_title, span_text, spans_from, step_rows, swatch, titles, within_top}
+use Rattle.sweep_chart.specs.Charts.{Chart, bar, count_of, counted, counted_end, counted_row, counted_rows, end_row, end_rows, end_top, frame, kind_bar, kind_legend, kind_of, kind_row, kind_title, legend, legend_entry, legend_text, marks_by, names, picture_of, result_row, row_front, run_title, span_text, spans_from, step_rows, swatch, titles, within_top}
 
 module _ (class : Class) where
   -- the words of marks that are counted under the class
@@ -37,7 +37,7 @@ module _ (class : Class) where
       ap (λ z. words_by (is_class class Span) (span_text r) ++ z) (spans-found top (k + 1) rs)
 
   front-found : (name : List ℕ) (top n : ℕ) (more : List Mark) → found (row_front name top n ++ more) ≡ found more
-  unfolding row_front
+  unfolding row_front frame
   front-found name top n more = refl
 
   row-found : (part : List ℕ) (top : ℕ) (classes : List Class)

@@ -1,3 +1,4 @@
 pub mod RunLemmas
 pub mod RunLawLemmas
 pub mod CountLemmas
+pub mod ChartTextLemmas

@@ -1,93 +1,18 @@
 -- The runs that the function gives are runs in the words of their definition.
-use Rattle.std.proofs.Common.{◌≡◌, ◌≢◌, ℕ, zero, suc, ◌+◌, ◌<◌, ◌≤◌, Bool, true, false, List, [], ◌∷◌, length, drop, Option, Some, None, refl, sym, ap, ◌∙◌, subst, arith, inl, inr}
+use Rattle.std.proofs.Common.{◌≡◌, ◌≢◌, ℕ, zero, suc, ◌+◌, ◌<◌, ◌≤◌, Bool, true, false, List, [], ◌∷◌, length, drop, Some, None, refl, sym, ap, ◌∙◌, subst, arith, inl, inr}
 use Rattle.std.specs.Prelude.{not, slice_get}
-use Rattle.std.proofs.lemmas.Bool.{cases_eq, cases_lt}
+use Rattle.std.proofs.lemmas.Bool.{cases_lt}
 use Rattle.svg_text.specs.declared.class.Class.{Class}
-use Rattle.svg_text.specs.declared.class.Class.TheVariants.{Former, Finished, Chance, Span, Erase, Program, Raise, Legend}
 use Rattle.svg_text.specs.Reading.{is_class}
+use Rattle.svg_text.proofs.ClassLemmas.{is-same, same-class}
 use Rattle.sweep_chart.specs.declared.runs.Run.{Run}
-use Rattle.sweep_chart.specs.Runs.{AreRuns, AreRunsFrom, IsOther, IsRun, ends_run, first_of, next_first, run_by, runs, runs_from}
-
-pub same-class : (class : Class) → is_class class class ≡ true
-same-class Former = refl
-same-class Finished = refl
-same-class Chance = refl
-same-class Span = refl
-same-class Erase = refl
-same-class Program = refl
-same-class Raise = refl
-same-class Legend = refl
-
-pub is-same : (class other : Class) → is_class class other ≡ true → class ≡ other
-is-same Former Former h = refl
-is-same Former Finished h = cc
-is-same Former Chance h = cc
-is-same Former Span h = cc
-is-same Former Erase h = cc
-is-same Former Program h = cc
-is-same Former Raise h = cc
-is-same Former Legend h = cc
-is-same Finished Former h = cc
-is-same Finished Finished h = refl
-is-same Finished Chance h = cc
-is-same Finished Span h = cc
-is-same Finished Erase h = cc
-is-same Finished Program h = cc
-is-same Finished Raise h = cc
-is-same Finished Legend h = cc
-is-same Chance Former h = cc
-is-same Chance Finished h = cc
-is-same Chance Chance h = refl
-is-same Chance Span h = cc
-is-same Chance Erase h = cc
-is-same Chance Program h = cc
-is-same Chance Raise h = cc
-is-same Chance Legend h = cc
-is-same Span Former h = cc
-is-same Span Finished h = cc
-is-same Span Chance h = cc
-is-same Span Span h = refl
-is-same Span Erase h = cc
-is-same Span Program h = cc
-is-same Span Raise h = cc
-is-same Span Legend h = cc
-is-same Erase Former h = cc
-is-same Erase Finished h = cc
-is-same Erase Chance h = cc
-is-same Erase Span h = cc
-is-same Erase Erase h = refl
-is-same Erase Program h = cc
-is-same Erase Raise h = cc
-is-same Erase Legend h = cc
-is-same Program Former h = cc
-is-same Program Finished h = cc
-is-same Program Chance h = cc
-is-same Program Span h = cc
-is-same Program Erase h = cc
-is-same Program Program h = refl
-is-same Program Raise h = cc
-is-same Program Legend h = cc
-is-same Raise Former h = cc
-is-same Raise Finished h = cc
-is-same Raise Chance h = cc
-is-same Raise Span h = cc
-is-same Raise Erase h = cc
-is-same Raise Program h = cc
-is-same Raise Raise h = refl
-is-same Raise Legend h = cc
-is-same Legend Former h = cc
-is-same Legend Finished h = cc
-is-same Legend Chance h = cc
-is-same Legend Span h = cc
-is-same Legend Erase h = cc
-is-same Legend Program h = cc
-is-same Legend Raise h = cc
-is-same Legend Legend h = refl
+use Rattle.sweep_chart.specs.Runs.{AreRuns, AreRunsFrom, IsOther, IsRun, next_first, run_by, runs, runs_from}
 
 -- another class follows
 other-class : (class next : Class) → not (is_class class next) ≡ true → class ≢ next
 other-class class next ends same =
-    let two : not (is_class class class) ≡ true = subst (λ (d : Class). not (is_class class d) ≡ true) (sym same) ends in
+    let two : not (is_class class class) ≡ true =
+    subst (λ (d : Class). not (is_class class d) ≡ true) (sym same) ends in
     let no : not true ≡ true = ap not (sym (same-class class)) ∙ two in cc
 
 not-ended : (class next : Class) → not (is_class class next) ≡ false → class ≡ next
@@ -147,8 +72,9 @@ held all first k class before here i low high = elim (cases_lt i k) [
   | inr le ↦ let e : i ≡ k = omega arith in ap (slice_get all) e ∙ here
 ]
 
-runs-are-from : (all : List Class) (first k : ℕ) (classes : List Class) → drop k all ≡ classes → k ≤ length all → first ≤ k
-    → Holds all first k classes → AreRunsFrom all first (runs_from first k classes)
+runs-are-from : (all : List Class) (first k : ℕ) (classes : List Class)
+    → drop k all ≡ classes → k ≤ length all → first ≤ k → Holds all first k classes
+    → AreRunsFrom all first (runs_from first k classes)
 runs-are-from all first k [] is inside low held_ = omega (arith, long-drop all k [] is inside)
 runs-are-from all first k (class ∷ []) is inside low held_ =
     let long = long-drop all k (class ∷ []) is inside in (
@@ -197,3 +123,77 @@ runs-are classes = runs-are-from classes 0 0 classes refl (omega arith) (omega a
     begun : (cs : List Class) → Holds classes 0 0 cs
     begun [] = refl
     begun (c ∷ cs) = λ i a b. absurd (omega arith)
+
+-- no step stands behind the last one
+none-behind : (classes : List Class) (i : ℕ) → length classes ≤ i → slice_get classes i ≡ None
+none-behind [] zero behind = refl
+none-behind [] (suc i) behind = refl
+none-behind (c ∷ classes) zero behind = absurd (omega arith)
+none-behind (c ∷ classes) (suc i) behind = none-behind classes i (omega arith)
+
+-- the first step of runs has the class of their first run
+first-class : (classes : List Class) (k : ℕ) (run : Run) (class : Class) → run.first ≡ k → IsRun classes run
+    → slice_get classes k ≡ Some class → run.class ≡ class
+first-class classes k run class at is here =
+    let same : slice_get classes run.first ≡ Some run.class = is.same run.first (omega arith) is.some in
+    let found : slice_get classes k ≡ Some run.class = ap (λ i. slice_get classes i) (sym at) ∙ same in
+    let both : Some run.class ≡ Some class = sym found ∙ here in cc
+
+-- no run of the class of another one goes on where that ends
+no-longer : (classes : List Class) (a : Run) (more_a : List Run) (b : Run) → a.class ≡ b.class
+    → IsOther a.class more_a → AreRunsFrom classes (a.last + 1) more_a → IsRun classes b → b.first ≤ a.last + 1
+    → a.last < b.last → ⊥
+no-longer classes a [] b same other rest is low more =
+    let here : slice_get classes (a.last + 1) ≡ Some b.class = is.same (a.last + 1) low (omega arith) in
+    let none : slice_get classes (a.last + 1) ≡ None = none-behind classes (a.last + 1) (omega arith) in cc
+no-longer classes a (next ∷ more_a) b same other rest is low more =
+    let here : slice_get classes (a.last + 1) ≡ Some b.class = is.same (a.last + 1) low (omega arith) in
+    let class : next.class ≡ b.class = first-class classes (a.last + 1) next b.class rest.0 rest.1 here in
+    other (same ∙ sym class)
+
+-- a run does not begin behind the last step
+no-run : (classes : List Class) (k : ℕ) (run : Run) → k ≡ length classes → run.first ≡ k → IsRun classes run → ⊥
+no-run classes k run end at is =
+    let here : slice_get classes run.first ≡ Some run.class = is.same run.first (omega arith) is.some in
+    let none : slice_get classes run.first ≡ None = none-behind classes run.first (omega arith) in cc
+
+-- two runs of one class that begin at one step end at one step
+same-last : (classes : List Class) (k : ℕ) (a : Run) (more_a : List Run) (b : Run) (more_b : List Run)
+    → AreRunsFrom classes k (a ∷ more_a) → AreRunsFrom classes k (b ∷ more_b) → a.class ≡ b.class → a.last ≡ b.last
+same-last classes k a more_a b more_b first second class =
+    let some = first.1.some in
+    let more = second.1.some in
+    elim (cases_lt a.last b.last) [
+      | inl lt ↦ absurd (no-longer classes a more_a b class first.2 first.3 second.1
+          (omega (arith, first.0, second.0, some)) lt)
+      | inr le ↦ elim (cases_lt b.last a.last) [
+        | inl lt ↦ absurd (no-longer classes b more_b a (sym class) second.2 second.3 first.1
+            (omega (arith, first.0, second.0, more)) lt)
+        | inr ge ↦ omega arith
+      ]
+    ]
+
+-- runs that begin at the same step are the same
+runs-one-from : (classes : List Class) (k : ℕ) (more_a more_b : List Run)
+    → AreRunsFrom classes k more_a → AreRunsFrom classes k more_b → more_a ≡ more_b
+runs-one-from classes k [] [] first second = refl
+runs-one-from classes k [] (b ∷ more_b) first second = absurd (no-run classes k b first second.0 second.1)
+runs-one-from classes k (a ∷ more_a) [] first second = absurd (no-run classes k a second first.0 first.1)
+runs-one-from classes k (a ∷ more_a) (b ∷ more_b) first second =
+    let begin : a.first ≡ b.first = first.0 ∙ sym second.0 in
+    let at : slice_get classes k ≡ Some b.class =
+    ap (λ i. slice_get classes i) (sym second.0) ∙ second.1.same b.first (omega arith) second.1.some in
+    let class : a.class ≡ b.class = first-class classes k a b.class first.0 first.1 at in
+    let last : a.last ≡ b.last = same-last classes k a more_a b more_b first second class in
+    let run : a ≡ b =
+    ap (λ n. record { first = n; last = a.last; class = a.class }) begin
+    ∙ (ap (λ n. record { first = b.first; last = n; class = a.class }) last
+    ∙ ap (λ c. record { first = b.first; last = b.last; class = c }) class) in
+    let rest : more_a ≡ more_b =
+    runs-one-from classes (a.last + 1) more_a more_b first.3
+    (subst (λ n. AreRunsFrom classes (n + 1) more_b) (sym last) second.3) in
+    ap (λ z. z ∷ more_a) run ∙ ap (λ z. b ∷ z) rest
+
+pub runs-one : (classes : List Class) (more_a more_b : List Run) → AreRuns classes more_a → AreRuns classes more_b
+    → more_a ≡ more_b
+runs-one classes more_a more_b first second = runs-one-from classes 0 more_a more_b first second

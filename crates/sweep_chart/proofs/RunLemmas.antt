@@ -1,16 +1,14 @@
 -- Runs of steps, on the way and whole.
-use Rattle.std.proofs.Common.{◌≡◌, ℕ, zero, suc, ◌+◌, ◌<◌, ◌≤◌, Bool, true, false, List, [], ◌∷◌, ◌++◌, length, drop, get_or, Option, Some, None, refl, sym, ap, ◌∙◌, subst, arith, append_assoc, append-nil}
+use Rattle.std.proofs.Common.{◌≡◌, ℕ, zero, suc, ◌+◌, ◌<◌, Bool, true, false, List, [], ◌∷◌, ◌++◌, length, drop, get_or, Option, refl, sym, ap, ◌∙◌, append_assoc, append-nil}
 use Rattle.std.specs.Prelude.{slice_get}
 use Rattle.std.proofs.lemmas.List.{drop_more}
 use Rattle.svg_text.specs.declared.class.Class.{Class}
-use Rattle.svg_text.specs.declared.class.Class.TheVariants.{Chance}
-use Rattle.svg_text.specs.Reading.{is_class}
 use Rattle.sweep_chart.specs.declared.runs.Run.{Run}
 use Rattle.std.specs.List.{flat_map}
 use Rattle.std.proofs.lemmas.Grind.{flat_map-append}
 use Rattle.svg_text.specs.Marks.{Mark, mark_text}
 use Rattle.sweep_chart.specs.Charts.{span, spans_from}
-use Rattle.sweep_chart.specs.Runs.{chance_runs, ends_run, first_of, next_first, run_by, runs, runs_from}
+use Rattle.sweep_chart.specs.Runs.{ends_run, first_of, next_first, run_by, runs, runs_from}
 
 -- what is next is the first of the rest
 pub first-next : (classes : List Class) (i : ℕ) → first_of (drop i classes) ≡ slice_get classes i
@@ -67,7 +65,8 @@ row-drawn o a b c d front bars tail mark rects text first second rects_are third
     let r = flat_map mark_text bars in
     let m = mark_text mark in
     let t = flat_map mark_text tail in
-    fourth ∙ ap (λ z. z ++ text) (third ∙ ap (λ z. z ++ m) (second ∙ ap (λ z. a ++ z) rects_are ∙ ap (λ z. z ++ r) first))
+    fourth
+    ∙ ap (λ z. z ++ text) (third ∙ ap (λ z. z ++ m) (second ∙ ap (λ z. a ++ z) rects_are ∙ ap (λ z. z ++ r) first))
     ∙ ap (λ z. (((o ++ f) ++ r) ++ m) ++ z) text_is
     ∙ (append_assoc ((o ++ f) ++ r) m t ∙ (append_assoc (o ++ f) r (m ++ t) ∙ append_assoc o f (r ++ (m ++ t))))
     ∙ ap (λ z. o ++ z) (sym (flat_map-append mark_text front (bars ++ (mark ∷ tail))

@@ -5,10 +5,10 @@ use Rattle.std.specs.Fmt.{digits, padded_integral, format_spec}
 use Rattle.pico_board.specs.declared.Step.{Step}
 use Rattle.pico_board.specs.declared.step.Step.TheVariants as steps
 use Rattle.svg_text.specs.declared.class.Class.{Class}
-use Rattle.svg_text.specs.declared.class.Class.TheVariants.{Former, Finished, Chance, Span, Erase, Program, Raise, Legend}
+use Rattle.svg_text.specs.declared.class.Class.TheVariants.{Former, Finished, Chance, Span, Erase, Program, Raise, Legend, Window, Row, Join, Starts}
 use Rattle.svg_text.specs.declared.mark.Area.{Area}
 use Rattle.svg_text.specs.declared.mark.Colour.{Colour}
-use Rattle.svg_text.specs.declared.mark.Colour.TheVariants.{Ink, Grey, Blue, Orange, Slate, Sky}
+use Rattle.svg_text.specs.declared.mark.Colour.TheVariants.{Ink, Grey, Blue, Orange, Slate, Sky, White}
 use Rattle.svg_text.specs.Marks.{Mark, Plain, Rect, Label, Caption, Strip, StripEnd, Picture, class_word}
 use Rattle.svg_text.specs.Reading.{is_class, words_by}
 use Rattle.sweep_chart.specs.declared.runs.Run.{Run}
@@ -52,6 +52,10 @@ colour_of Erase = Slate
 colour_of Program = Sky
 colour_of Raise = Ink
 colour_of Legend = Ink
+colour_of Window = Ink
+colour_of Row = Ink
+colour_of Join = Ink
+colour_of Starts = Ink
 
 abbrev pub area_at : ℕ → ℕ → ℕ → ℕ → Area
 area_at x y width height = record { x = x; y = y; width = width; height = height }
@@ -81,12 +85,18 @@ bar part run = Rect run.class (run_area run) (colour_of run.class) (run_title pa
 abbrev pub kind_bar : List Step → Run → Mark
 kind_bar steps run = Rect run.class (run_area run) (colour_of run.class) (kind_title steps run)
 
+-- The frame of a strip. A white line in it keeps narrow runs at an end apart from it, and a dark
+-- ground lets narrow runs among light ones be seen.
+unfoldable pub frame : ℕ → List Mark
+frame top =
+    Plain (area_at 118 (top - 2) 804 28) Ink ∷ Plain (area_at 119 (top - 1) 802 26) White
+    ∷ Plain (area_at 120 top 800 24) Ink ∷ []
+
 -- the words of a row on its left, the frame of its strip and the beginning of the strip, which has
 -- so many steps
 unfoldable pub row_front : List ℕ → ℕ → ℕ → List Mark
 row_front name top n =
-    Label 24 (top + 17) name ∷ Plain (area_at 119 (top - 1) 802 26) Ink
-    ∷ Strip (area_at 120 top 800 24) n ∷ []
+    Label 24 (top + 17) name ∷ (frame top ++ (Strip (area_at 120 top 800 24) n ∷ []))
 
 -- The chance run of this number in its row is named below the row: five to a line, which are 160
 -- apart, and the lines 20.
@@ -155,7 +165,8 @@ legend y before within =
 -- the colours of kinds, with their words
 unfoldable pub kind_legend : ℕ → List Mark
 kind_legend y =
-    swatch 120 y (colour_of Erase) ++ (Label 142 y (codes "erase") ∷ swatch 320 y (colour_of Program))
+    swatch 120 y (colour_of Erase)
+    ++ (Label 142 y (codes "erase") ∷ swatch 320 y (colour_of Program))
     ++ (Label 342 y (codes "program") ∷ [])
 
 -- `chart steps=N former=A finished=B chance=C`
@@ -231,9 +242,12 @@ counted_rows class (step ∷ steps) before within =
 abbrev pub counted_end : Class → Chart → List (List ℕ)
 counted_end class chart =
     words_by (is_class class chart.end_) (codes "end " ++ class_word chart.end_)
-    ++ (words_by (is_class class Legend) (legend_text Former (count_of Former chart.before chart.within))
-    ++ (words_by (is_class class Legend) (legend_text Finished (count_of Finished chart.before chart.within))
-    ++ words_by (is_class class Legend) (legend_text Chance (count_of Chance chart.before chart.within))))
+    ++ (words_by (is_class class Legend)
+    (legend_text Former (count_of Former chart.before chart.within))
+    ++ (words_by (is_class class Legend)
+    (legend_text Finished (count_of Finished chart.before chart.within))
+    ++ words_by (is_class class Legend)
+    (legend_text Chance (count_of Chance chart.before chart.within))))
 
 -- the words of all marks of a class that a chart has, in their order
 abbrev pub counted : Class → Chart → List (List ℕ)

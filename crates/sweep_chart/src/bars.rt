@@ -3,7 +3,7 @@
 ghost use Rattle.std.specs.Prelude.{◌≡◌, ◌≤◌, ◌^◌, ◌+◌, ◌++◌, IfOk, OnOk, codes, length, map, slice_get, string_bytes};
 ghost use Rattle.std.specs.List.{flat_map};
 ghost use Rattle.svg_text.specs.Marks.{mark_text};
-ghost use Rattle.sweep_chart.specs.Charts.{area_at, bar, colour_of, row_front, run_area, run_title, span_text};
+ghost use Rattle.sweep_chart.specs.Charts.{area_at, bar, colour_of, frame, row_front, run_area, run_title, span_text};
 
 use crate::runs::Run;
 use std::alloc::{AllocError, Global};
@@ -19,9 +19,13 @@ pub fn colour_of(class: Class) -> Colour
         Class::Chance => Colour::Orange,
         Class::Erase => Colour::Slate,
         Class::Program => Colour::Sky,
-        Class::Span => Colour::Ink,
-        Class::Raise => Colour::Ink,
-        Class::Legend => Colour::Ink,
+        Class::Span
+        | Class::Raise
+        | Class::Legend
+        | Class::Window
+        | Class::Row
+        | Class::Join
+        | Class::Starts => Colour::Ink,
     }
 }
 
@@ -101,6 +105,18 @@ pub fn push_bars(
     Ok(())
 }
 
+/// Appends the frame of a strip: a dark line, a white one within it, and a dark ground.
+#[tactic(auto, unfolding(crate::specs::Charts::frame))]
+fn push_frame(alloc: Global, out: &mut Vec<u8>, top: usize) -> Result<(), AllocError>
+    ensures { OnOk result (out.new.items ≡ out.old.items ++ flat_map mark_text (frame top)) }
+{
+    let outer = area_at(118, top.saturating_sub(2), 804, 28);
+    let inner = area_at(119, top.saturating_sub(1), 802, 26);
+    push_plain(alloc, out, outer, Colour::Ink)?;
+    push_plain(alloc, out, inner, Colour::White)?;
+    push_plain(alloc, out, area_at(120, top, 800, 24), Colour::Ink)
+}
+
 /// Appends the front of a row: its words on the left, the frame of its strip, and the beginning of
 /// the strip, which has so many steps.
 #[tactic(auto, unfolding(crate::specs::Charts::row_front))]
@@ -116,7 +132,6 @@ pub fn push_row_front(
         ≡ out.old.items ++ flat_map mark_text (row_front name.now top count)) }
 {
     push_label(alloc, out, 24, top + 17, name)?;
-    let frame = area_at(119, top.saturating_sub(1), 802, 26);
-    push_plain(alloc, out, frame, Colour::Ink)?;
+    push_frame(alloc, out, top)?;
     open_strip(alloc, out, area_at(120, top, 800, 24), count)
 }

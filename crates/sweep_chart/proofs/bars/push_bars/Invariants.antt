@@ -5,4 +5,6 @@ use Rattle.sweep_chart.specs.Charts.{bar}
 use Rattle.sweep_chart.proofs.bars.push_bars.Given as goal
 
 abbrev pub invariant-loop-run : goal.invariant-loop-run
-invariant-loop-run l = l.out.items ≡ l.initial.out.items ++ flat_map mark_text (map (bar l.part) (take l.run-index l.runs))
+invariant-loop-run l =
+    l.out.items ≡ l.initial.out.items
+    ++ flat_map mark_text (map (bar l.part) (take l.run-index l.runs))

@@ -5,4 +5,6 @@ use Rattle.sweep_chart.specs.Charts.{kind_bar}
 use Rattle.sweep_chart.proofs.kinds.push_kind_bars.Given as goal
 
 abbrev pub invariant-loop-run : goal.invariant-loop-run
-invariant-loop-run l = l.out.items ≡ l.initial.out.items ++ flat_map mark_text (map (kind_bar l.steps) (take l.run-index l.runs))
+invariant-loop-run l =
+    l.out.items ≡ l.initial.out.items
+    ++ flat_map mark_text (map (kind_bar l.steps) (take l.run-index l.runs))
