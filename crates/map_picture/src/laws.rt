@@ -28,8 +28,8 @@ pub fn each_window_has_its_marks()
     ensures joins { (bars : List Bar) → length (counted Join bars) ≡ length bars }
 {}
 
-/// Where what is said of windows, and what the picture shows, have bytes from the blank to the tilde
-/// alone, the picture's bytes are such ones and line feeds.
+/// Where what is said of windows, and what the picture shows, have bytes from the blank to the
+/// tilde alone, the picture's bytes are such ones and line feeds.
 pub fn pictures_of_texts_are_ascii()
     ensures { (flash : ℕ) (bars : List Bar) (desc : List ℕ) → is_text desc ≡ true
         → is_text (flat_map (λ (bar : Bar). bar.words) bars) ≡ true

@@ -57,7 +57,8 @@ spans-text : (top k : ℕ) (rs : List Run) → AreTexts (spans_from top k rs)
 spans-text top k [] = refl
 spans-text top k (r ∷ rs) = text-join (span_text r) _ (span-text r) (spans-text top (k + 1) rs)
 
-row-text : (part : List ℕ) (top : ℕ) (classes : List Class) → is_text part ≡ true → AreTexts (result_row part top classes)
+row-text : (part : List ℕ) (top : ℕ) (classes : List Class) → is_text part ≡ true
+    → AreTexts (result_row part top classes)
 unfolding result_row
 row-text part top classes is =
     both (row_front part top (length classes)) _ (front-text part top (length classes) is)
