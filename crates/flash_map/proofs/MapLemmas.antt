@@ -2,6 +2,7 @@
 use Rattle.std.proofs.Common.{◌≡◌, ℕ, zero, suc, ◌+◌, ◌*◌, ◌/◌, ◌%◌, ◌<◌, ◌≤◌, List, [], ◌∷◌, length, map, Option, Some, None, Result, option_map, refl, sym, ◌∙◌, ap, subst, arith}
 use Rattle.std.specs.Prelude.{All, get_or}
 use Rattle.std.specs.List.{AllByRecursion}
+use Rattle.std.specs.Result.{result_ok}
 use Rattle.std.proofs.lemmas.List.{get_or_default}
 use Rattle.arrayvec.specs.ArrayVec.{ArrayVec}
 use Rattle.pico_board.specs.declared.boot.Cpu.{Cpu}
@@ -28,9 +29,9 @@ use Rattle.boot_rules.proofs.TableLemmas.{found-in, found-sound}
 use Rattle.boot_reasons.specs.declared.slots.SlotFault.{SlotFault}
 use Rattle.boot_reasons.specs.declared.slots.ToldTable.{ToldTable}
 use Rattle.boot_reasons.specs.Reasons.{told_table_in}
-use Rattle.boot_reasons.specs.Slots.{slot_answer_in}
+use Rattle.boot_reasons.specs.Slots.{slot_answer_in, taken_table, told_table}
 use Rattle.boot_reasons.proofs.SlotLemmas.{answer-only, answer-right}
-use Rattle.boot_reasons.proofs.TableReasonLemmas.{told-only, told-right}
+use Rattle.boot_reasons.proofs.TableReasonLemmas.{taken-in, told-only, told-right}
 use Rattle.flash_map.specs.declared.maps.FlashMap.{FlashMap}
 use Rattle.flash_map.specs.declared.maps.MapRow.{MapRow}
 use Rattle.flash_map.specs.declared.places.MapWindow.{MapWindow}
@@ -38,8 +39,8 @@ use Rattle.flash_map.specs.declared.places.Place.{Place}
 use Rattle.flash_map.specs.declared.places.Place.TheVariants.{Slot, Partition as Part, Whole, Free}
 use Rattle.flash_map.specs.Windows.{map_windows, parts_of}
 use Rattle.flash_map.specs.WindowRules.{AreMapWindows, AreSideBySide, IsListed, IsMappable, IsRead, IsWindowOf}
-use Rattle.flash_map.specs.Maps.{map_in, row_of, rows_in, windows_in}
-use Rattle.flash_map.specs.MapRules.{IsMap, IsRow}
+use Rattle.flash_map.specs.Maps.{map_in, row_of, rows_in, table_of_map, windows_in}
+use Rattle.flash_map.specs.MapRules.{IsMap, IsReadable, IsRow}
 use Rattle.flash_map.proofs.LaidLemmas.{sectors-of}
 use Rattle.flash_map.proofs.OnlyLemmas.{windows-only}
 use Rattle.flash_map.proofs.PairLemmas.{AreLinked}
@@ -154,29 +155,71 @@ map-from c cpu d f g k r e1 e2 e3 e4 e5 =
     (same-rows r (rows_in c cpu)
     (e5 ∙ ap (λ x. map (row_of c cpu (table_of_content c) x) (windows_in c)) e1))
 
--- each window that is right is read: it stands inside, and a partition is one of the table
+-- each window that is right is read: it stands inside, and it is listed
 module _ (t : Option Table) (n z : ℕ) (able : IsMappable t n z) where
   listed : (p : Place) (w : Window) → IsWindowOf t n z p w → IsListed t p
-  listed (Slot number) w is = tt
+  listed (Slot number) w is = is.1
   listed (Part i) w is = is.0
   listed Whole w is = tt
   listed Free w is = tt
 
-  pub window-read : (m : MapWindow) → IsWindowOf t n z m.place m.window → IsRead t n m
-  window-read m is =
-      let placed = right-placed t n z able m.place m.window is in
+  pub window-read : (p : Place) (w : Window) → IsWindowOf t n z p w → IsRead t n p w
+  window-read p w is =
+      let placed = right-placed t n z able p w is in
       record {
-        inside = subst (λ x. m.window.start + m.window.len ≤ x) (sectors-of n able.whole) placed.inside;
-        listed = listed m.place m.window is;
+        some = some w.len placed.some;
+        inside = subst (λ x. w.start + w.len ≤ x) (sectors-of n able.whole) placed.inside;
+        listed = listed p w is;
       }
+    where
+      some : (x : ℕ) → 4096 ≤ x → 1 ≤ x
+      some x le = omega arith
 
-  pub all-read : (ms : List MapWindow) → AllByRecursion (λ m. IsWindowOf t n z m.place m.window) ms → All (IsRead t n) ms
+  pub all-read : (ms : List MapWindow) → AllByRecursion (λ m. IsWindowOf t n z m.place m.window) ms
+      → All (λ m. IsRead t n m.place m.window) ms
   all-read [] all = λ k d lt. absurd (omega (arith, lt))
   all-read (m ∷ ms) all = λ k d lt. by (all-read ms all.1) k d lt
     where
-      by : All (IsRead t n) ms → (k : ℕ) (d : MapWindow) → k < length (m ∷ ms) → IsRead t n (get_or (m ∷ ms) k d)
-      by rest zero d lt = window-read m all.0
+      by : All (λ m. IsRead t n m.place m.window) ms → (k : ℕ) (d : MapWindow) → k < length (m ∷ ms)
+          → IsRead t n (get_or (m ∷ ms) k d).place (get_or (m ∷ ms) k d).window
+      by rest zero d lt = window-read m.place m.window all.0
       by rest (suc k) d lt = rest k d (omega (arith, lt))
+
+  pub rows-read : (P : MapRow → Type 0) → ((r : MapRow) → P r → IsWindowOf t n z r.place r.window)
+      → (rs : List MapRow) → AllByRecursion P rs → All (λ r. IsRead t n r.place r.window) rs
+  rows-read P has [] all = λ k d lt. absurd (omega (arith, lt))
+  rows-read P has (r ∷ rs) all = λ k d lt. by (rows-read P has rs all.1) k d lt
+    where
+      by : All (λ x. IsRead t n x.place x.window) rs → (k : ℕ) (d : MapRow) → k < length (r ∷ rs)
+          → IsRead t n (get_or (r ∷ rs) k d).place (get_or (r ∷ rs) k d).window
+      by rest zero d lt = window-read r.place r.window (has r all.0)
+      by rest (suc k) d lt = rest k d (omega (arith, lt))
+
+-- the table that a map tells is that of the flash
+pub table-told : (c : Content) (cpu : Cpu) (m : FlashMap) → IsMap c cpu m → table_of_map m ≡ table_of_content c
+table-told c cpu m is =
+    let told = told_table (result_ok (slot_answer_in c 0)) (result_ok (slot_answer_in c 1)) in
+    ap (λ (k : Option ToldTable). taken_table k (result_ok m.first) (result_ok m.second)) (told-only c m.table is.table)
+    ∙ (ap (λ (a : Result Table SlotFault). taken_table told (result_ok a) (result_ok m.second))
+    (answer-only c 0 m.first is.first)
+    ∙ (ap (λ (b : Result Table SlotFault). taken_table told (result_ok (slot_answer_in c 0)) (result_ok b))
+    (answer-only c 1 m.second is.second)
+    ∙ taken-in c))
+
+-- what can be read of a map
+pub map-readable : (c : Content) (cpu : Cpu) (m : FlashMap) → IsContent c → IsMap c cpu m → length m.rows.items ≤ 33
+    → IsReadable m (length c.flash)
+map-readable c cpu m right is few =
+    let t = table_of_content c in
+    let n = length c.flash in
+    let able = mappable c right in
+    record {
+      sound = subst (λ (o : Option Table). IsSoundFor o n) (sym (table-told c cpu m is)) able.sound;
+      rows = subst (λ (o : Option Table). All (λ r. IsRead o n r.place r.window) m.rows.items)
+          (sym (table-told c cpu m is))
+          (rows-read t n (slot_size c.otp n) able (IsRow c cpu t m.decision) (λ r row. row.window) m.rows.items is.rows);
+      few = few;
+    }
 
 -- the table of a content can be mapped by the length and the slot size that were read
 pub mappable-read : (c : Content) (t : Option Table) (n z : ℕ) → IsContent c → t ≡ table_of_content c

@@ -25,13 +25,6 @@ abbrev pub AreLinked : Option Table → Type 0
 AreLinked None = Unit {0}
 AreLinked (Some t) = link_fault t.parts.items ≡ None
 
--- the slots are 0 and 1, and a partition is one of the table
-abbrev pub IsNamed : Option Table → Place → Type 0
-IsNamed t (Slot number) = number < 2
-IsNamed t (Part i) = IsListed t (Part i)
-IsNamed t Whole = Unit {0}
-IsNamed t Free = Unit {0}
-
 -- the link "A is" by its test and by its fields
 second-of : (parts : List Partition) (a b : ℕ) → link_type (part_at parts b) ≡ 1 → link_value (part_at parts b) ≡ a
     → is_second_of a (part_at parts b) ≡ true
@@ -87,7 +80,7 @@ part-right t i lt = go (is_second (part_at t.parts.items i)) refl
     go false e = of-b e (pair_of t.parts.items i) refl
 
 -- what the function tells is right
-pub pairing-right : (t : Option Table) (p : Place) → IsNamed t p → IsPairing t p (pairing t p)
+pub pairing-right : (t : Option Table) (p : Place) → IsListed t p → IsPairing t p (pairing t p)
 pairing-right None (Slot zero) named = (0, refl, (refl, refl))
 pairing-right None (Slot (suc zero)) named = (1, refl, (refl, refl))
 pairing-right None (Slot (suc (suc k))) named = absurd (omega (arith, named))

@@ -20,11 +20,11 @@ use Rattle.flash_map.specs.declared.maps.Pairing.{Pairing}
 use Rattle.flash_map.specs.declared.places.MapWindow.{MapWindow}
 use Rattle.flash_map.specs.declared.places.Place.{Place}
 use Rattle.flash_map.specs.declared.places.Place.TheVariants.{Slot, Partition as Part, Whole, Free}
-use Rattle.flash_map.specs.WindowRules.{IsMappable, IsWindowOf}
+use Rattle.flash_map.specs.WindowRules.{IsListed, IsWindowOf}
 use Rattle.flash_map.specs.Maps.{has_image, is_window, pairing, row_image, row_of, starts}
 use Rattle.flash_map.specs.MapRules.{DoesStart, IsBare, IsPairing, IsRow, IsRowImage}
 use Rattle.flash_map.proofs.LaidLemmas.{same-window}
-use Rattle.flash_map.proofs.PairLemmas.{AreLinked, IsNamed, pairing-once, pairing-right}
+use Rattle.flash_map.proofs.PairLemmas.{AreLinked, pairing-once, pairing-right}
 
 -- a window is the started one
 pub window-is : (v w : Window) → is_window v w ≡ true → v ≡ w
@@ -95,20 +95,20 @@ module _ (c : Content) (cpu : Cpu) (t : Option Table) where
           ∙ sym (ap (λ b. if b then Some (image_at c m.window cpu false) else None) has.0)
       by (Some r) is (inr bare) = absurd (is.0 bare.1)
 
-  module _ (linked : AreLinked t) (d : Decision) where
-    named : (p : Place) (w : Window) → IsWindowOf t (length c.flash) (slot_size c.otp (length c.flash)) p w → IsNamed t p
-    named (Slot number) w is = is.1
-    named (Part i) w is = is.0
-    named Whole w is = tt
-    named Free w is = tt
+  listed : (p : Place) (w : Window) → IsWindowOf t (length c.flash) (slot_size c.otp (length c.flash)) p w → IsListed t p
+  listed (Slot number) w is = is.1
+  listed (Part i) w is = is.0
+  listed Whole w is = tt
+  listed Free w is = tt
 
+  module _ (linked : AreLinked t) (d : Decision) where
     pub row-right : (m : MapWindow)
         → IsWindowOf t (length c.flash) (slot_size c.otp (length c.flash)) m.place m.window
         → IsRow c cpu t d (row_of c cpu t d m)
     row-right m is = record {
       window = is;
       image = image-right m;
-      pair = pairing-right t m.place (named m.place m.window is);
+      pair = pairing-right t m.place (listed m.place m.window is);
       starts = (starts-true d m.window, true-starts d m.window);
     }
 
@@ -123,7 +123,7 @@ module _ (c : Content) (cpu : Cpu) (t : Option Table) where
         same-row r.place r.window r.image (row_image c cpu t (shell r)) r.pair (pairing t r.place) r.starts
         (starts d r.window) (image-only (shell r) r.image is.image)
         (pairing-once t r.place linked r.pair (pairing t r.place) is.pair
-        (pairing-right t r.place (named r.place r.window is.window)))
+        (pairing-right t r.place (listed r.place r.window is.window)))
         (same-test r.starts (starts d r.window) (λ e. true-starts d r.window (is.starts.0 e))
         (λ e. is.starts.1 (starts-true d r.window e)))
 

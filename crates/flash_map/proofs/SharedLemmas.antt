@@ -125,7 +125,7 @@ module _ (t : Option Table) (n z : ℕ) (able : IsMappable t n z) where
       apart x y e1 e2 lt2 le = omega arith
 
   -- what is taken is not free
-  taken-free : (w : Window) (s : ℕ) → IsTaken (parts_of t) z s → IsFreeStretch (parts_of t) z (n / 4096) w
+  pub taken-free : (w : Window) (s : ℕ) → IsTaken (parts_of t) z s → IsFreeStretch (parts_of t) z (n / 4096) w
       → HasSector w s → ⊥
   taken-free w s taken f has =
       let at : HasSector (record { start = 4096 * f.first; len = 4096 * f.count }) s =

@@ -1,5 +1,7 @@
 -- What lies side by side: each sector in one window, and the windows in their order.
-use Rattle.std.proofs.Common.{◌≡◌, ◌⊎◌, inl, inr, ℕ, zero, suc, ◌+◌, ◌*◌, ◌<◌, ◌≤◌, List, [], ◌∷◌, length, map, sum, slice_get, Option, Some, refl, sym, ◌∙◌, ap, subst, arith}
+use Rattle.std.proofs.Common.{◌≡◌, ◌⊎◌, inl, inr, ℕ, zero, suc, ◌+◌, ◌*◌, ◌<◌, ◌≤◌, List, [], ◌∷◌, length, map, slice_get, Option, Some, refl, sym, ◌∙◌, ap, subst, arith}
+use Rattle.std.specs.List.{sum_by}
+use Rattle.std.proofs.lemmas.List.Sums.{sum_by-cons}
 use Rattle.std.proofs.lemmas.Bool.{cases_eq, cases_lt}
 use Rattle.std.proofs.lemmas.Option.{same_Some}
 use Rattle.pico_board.specs.declared.window.Window.{Window}
@@ -86,16 +88,17 @@ module _ {X : Type 0} (f : X → Window) (n : ℕ) where
       by (inr differ) = split (cases_lt j k) differ
 
   -- the lengths, and each after the former
-  pub sum-side : (xs : List X) (at : ℕ) → AreSideBySide at n (map f xs) → at + sum (map (λ x. (f x).len) xs) ≡ n
+  pub sum-side : (xs : List X) (at : ℕ) → AreSideBySide at n (map f xs) → at + sum_by (λ x. (f x).len) xs ≡ n
   sum-side [] at side = plain at side
     where
       plain : (a : ℕ) → a ≡ n → a + 0 ≡ n
       plain a e = omega arith
   sum-side (x ∷ xs) at side =
-      regroup (f x).start (f x).len at (sum (map (λ y. (f y).len) xs)) side.0 (sum-side xs (window_end (f x)) side.1)
+      regroup (f x).start (f x).len at (sum_by (λ y. (f y).len) xs) (sum_by (λ y. (f y).len) (x ∷ xs)) side.0
+      (sum_by-cons (λ y. (f y).len) x xs) (sum-side xs (window_end (f x)) side.1)
     where
-      regroup : (a b c d : ℕ) → a ≡ c → (a + b) + d ≡ n → c + (b + d) ≡ n
-      regroup a b c d e1 e2 = omega arith
+      regroup : (a b c d e : ℕ) → a ≡ c → e ≡ b + d → (a + b) + d ≡ n → c + e ≡ n
+      regroup a b c d e e1 e2 e3 = omega arith
 
   pub first-begins : (xs : List X) (at : ℕ) (x : X) → AreSideBySide at n (map f xs) → slice_get xs 0 ≡ Some x
       → (f x).start ≡ at

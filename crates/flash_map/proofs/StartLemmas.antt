@@ -30,12 +30,14 @@ use Rattle.flash_map.specs.declared.maps.MapRow.{MapRow}
 use Rattle.flash_map.specs.declared.places.Place.{Place}
 use Rattle.flash_map.specs.declared.places.Place.TheVariants.{Slot, Partition as Part, Whole, Free}
 use Rattle.flash_map.specs.Windows.{has_slots, parts_of, window_end}
-use Rattle.flash_map.specs.WindowRules.{HasSector, IsWindowOf}
-use Rattle.flash_map.specs.MapRules.{DoesStart, IsMap, IsRow}
+use Rattle.flash_map.specs.WindowRules.{HasSector, IsFreeStretch, IsTaken, IsWindowOf}
+use Rattle.flash_map.specs.Maps.{paired}
+use Rattle.flash_map.specs.MapRules.{DoesStart, IsMap, IsMemberWith, IsNumbered, IsRow}
 use Rattle.flash_map.proofs.LaidLemmas.{first-in, sectors-of}
-use Rattle.flash_map.proofs.MapLemmas.{mappable}
-use Rattle.flash_map.proofs.SharedLemmas.{right-placed, shared}
-use Rattle.flash_map.proofs.SideLemmas.{Holds, find-sector, one-place}
+use Rattle.flash_map.proofs.MapLemmas.{linked, mappable}
+use Rattle.flash_map.proofs.PairLemmas.{pairing-once}
+use Rattle.flash_map.proofs.SharedLemmas.{right-placed, shared, taken-free}
+use Rattle.flash_map.proofs.SideLemmas.{Holds, find-sector, next-begins, one-place}
 
 -- a window of the map is this one
 pub record IsOneOf (t : Option Table) (n z : ℕ) (w : Window) : Type 0 where
@@ -88,11 +90,11 @@ started c cpu choice h =
     member-right (table_of_content c) (length c.flash) (slot_size c.otp (length c.flash)) cpu unit.place
     (start c cpu Normal choice h).unit unit.tried choice.member choice.image.window unit.stands
 
-all-row : {P : MapRow → Type 0} → (rs : List MapRow) (k : ℕ) (r : MapRow) → AllByRecursion P rs
+all-row : (P : MapRow → Type 0) (rs : List MapRow) (k : ℕ) (r : MapRow) → AllByRecursion P rs
     → slice_get rs k ≡ Some r → P r
-all-row [] k r all e = cc
-all-row {P = P} (x ∷ rs) zero r all e = subst P (same_Some x r e) all.0
-all-row {P = P} (x ∷ rs) (suc k) r all e = all-row {P = P} rs k r all.1 e
+all-row P [] k r all e = cc
+all-row P (x ∷ rs) zero r all e = subst P (same_Some x r e) all.0
+all-row P (x ∷ rs) (suc k) r all e = all-row P rs k r all.1 e
 
 -- the row of a window
 pub record HasRow (m : FlashMap) (p : Place) (w : Window) : Type 0 where
@@ -108,7 +110,7 @@ module _ (c : Content) (cpu : Cpu) (m : FlashMap) (right : IsContent c) (is : Is
 
   pub row-at : (k : ℕ) (r : MapRow) → slice_get m.rows.items k ≡ Some r
       → IsRow c cpu (table_of_content c) m.decision r
-  row-at k r e = all-row {P = IsRow c cpu (table_of_content c) m.decision} m.rows.items k r is.rows e
+  row-at k r e = all-row (IsRow c cpu (table_of_content c) m.decision) m.rows.items k r is.rows e
 
   pub placed : (p : Place) (w : Window) → IsRight p w → IsPlaced w (length c.flash / 4096) 0
   placed p w one =
@@ -190,3 +192,70 @@ module _ (c : Content) (cpu : Cpu) (m : FlashMap) (right : IsContent c) (is : Is
       by false s = refl
       by true s =
           absurd (subst (λ (d : Decision). DoesStart d r.window) e ((row-at k r at).starts.0 s))
+
+  pub sector-in : (s : ℕ) → s < length c.flash / 4096
+      → (k : ℕ) × (r : MapRow) × (slice_get m.rows.items k ≡ Some r) × HasSector r.window s
+  sector-in s lt = let found = sector-row s lt in (found.place, found.item, found.at, found.has)
+
+  pub place-row : (p : Place) (w : Window) → IsRight p w
+      → (k : ℕ) × (r : MapRow) × (slice_get m.rows.items k ≡ Some r) × (r.place ≡ p)
+  place-row p w one = let row = window-row p w one in (row.at, row.row, row.listed, row.place)
+
+  -- what is no free stretch has one window
+  one-window : (p : Place) (v w : Window) → IsRight p v → IsRight p w → (p ≡ Free → ⊥) → v ≡ w
+  one-window (Slot number) v w one two other = one.2 ∙ sym two.2
+  one-window (Part i) v w one two other = one.1 ∙ sym two.1
+  one-window Whole v w one two other = one.1 ∙ sym two.1
+  one-window Free v w one two other = absurd (other refl)
+
+  pub place-once : (j k : ℕ) (x y : MapRow) → slice_get m.rows.items j ≡ Some x → slice_get m.rows.items k ≡ Some y
+      → x.place ≡ y.place → (x.place ≡ Free → ⊥) → j ≡ k
+  place-once j k x y one two same other =
+      window-once j k x y one two
+      (one-window x.place x.window y.window (row-at j x one).window
+      (subst (λ p. IsRight p y.window) (sym same) (row-at k y two).window) other)
+
+  -- behind a free stretch no other one begins
+  free-apart : (v w : Window) → IsRight Free v → IsRight Free w → w.start ≡ window_end v → ⊥
+  free-apart v w one two next = by one.1.behind
+    where
+      f : IsFreeStretch (parts_of (table_of_content c)) (slot_size c.otp (length c.flash)) (length c.flash / 4096) v
+      f = one.1
+
+      begins : w.start ≡ 4096 * (f.first + f.count)
+      begins = next ∙ (ap (λ (x : Window). window_end x) f.window ∙ joined f.first f.count)
+        where
+          joined : (a b : ℕ) → 4096 * a + 4096 * b ≡ 4096 * (a + b)
+          joined a b = omega arith
+
+      by : (f.first + f.count ≡ length c.flash / 4096)
+          ⊎ IsTaken (parts_of (table_of_content c)) (slot_size c.otp (length c.flash)) (f.first + f.count) → ⊥
+      by (inl end) =
+          let at = placed Free w two in
+          past w.start w.len (f.first + f.count) (length c.flash / 4096) begins end at.some at.inside
+        where
+          past : (a b k s : ℕ) → a ≡ 4096 * k → k ≡ s → 4096 ≤ b → a + b ≤ 4096 * s → ⊥
+          past a b k s e1 e2 some inside = omega arith
+      by (inr taken) =
+          let at = placed Free w two in
+          taken-free (table_of_content c) (length c.flash) (slot_size c.otp (length c.flash)) (mappable c right) w
+          (f.first + f.count) taken two.1
+          (first w.start w.len (f.first + f.count) begins at.some)
+        where
+          first : (a b k : ℕ) → a ≡ 4096 * k → 4096 ≤ b → (a ≤ 4096 * k) × (4096 * k < a + b)
+          first a b k e some = (omega arith, omega arith)
+
+  pub no-neighbours : (k : ℕ) (x y : MapRow) → slice_get m.rows.items k ≡ Some x
+      → slice_get m.rows.items (suc k) ≡ Some y → x.place ≡ Free → y.place ≡ Free → ⊥
+  no-neighbours k x y one two x_free y_free =
+      free-apart x.window y.window (subst (λ p. IsRight p x.window) x_free (row-at k x one).window)
+      (subst (λ p. IsRight p y.window) y_free (row-at (suc k) y two).window)
+      (next-begins (λ (r : MapRow). r.window) (length c.flash) m.rows.items 0 k x y is.side_by_side one two)
+
+  -- the rows of both members of a pair
+  pub member-row : (o : Member) (k i j : ℕ) (r : MapRow) → slice_get m.rows.items k ≡ Some r
+      → IsMemberWith (table_of_content c) o i j → IsNumbered (table_of_content c) r.place i
+      → r.pair ≡ Some (paired o j)
+  member-row o k i j r at with_j numbered =
+      pairing-once (table_of_content c) r.place (linked c) r.pair (Some (paired o j)) (row-at k r at).pair
+      (i, numbered, with_j)

@@ -1,5 +1,5 @@
 -- The map of a flash in the words of the rules. This project's own.
-use Rattle.std.specs.Prelude.{◌≡◌, ◌⊎◌, ◌↔◌, ℕ, ◌<◌, true, false, IsTrue, List, length, map, Option, Some, None, Result}
+use Rattle.std.specs.Prelude.{◌≡◌, ◌↔◌, ℕ, ◌<◌, ◌≤◌, false, All, IsTrue, List, length, map, Option, Some, None, Result}
 use Rattle.std.specs.List.{AllByRecursion}
 use Rattle.pico_board.specs.declared.boot.Cpu.{Cpu}
 use Rattle.pico_board.specs.declared.boot.BootKind.TheVariants.{Normal}
@@ -11,6 +11,7 @@ use Rattle.otp_roll.specs.Flags.{slot_size}
 use Rattle.part_table.specs.declared.table.Table.{Table}
 use Rattle.part_table.specs.Fields.{link_type, link_value}
 use Rattle.part_table.specs.Partitions.{part_at}
+use Rattle.part_table.specs.Sound.{IsSoundFor}
 use Rattle.slot_choice.specs.declared.unit.Member.{Member}
 use Rattle.slot_choice.specs.declared.unit.Member.TheVariants.{A, B}
 use Rattle.boot_rules.specs.declared.decision.Decision.{Decision}
@@ -24,7 +25,8 @@ use Rattle.flash_map.specs.declared.maps.MapRow.{MapRow}
 use Rattle.flash_map.specs.declared.maps.Pairing.{Pairing}
 use Rattle.flash_map.specs.declared.places.Place.{Place}
 use Rattle.flash_map.specs.declared.places.Place.TheVariants.{Slot, Partition as Part, Whole, Free}
-use Rattle.flash_map.specs.WindowRules.{AreSideBySide, IsWindowOf}
+use Rattle.flash_map.specs.Maps.{table_of_map}
+use Rattle.flash_map.specs.WindowRules.{AreSideBySide, IsRead, IsWindowOf}
 
 -- no image is told of a slot where there is a table, and of a free stretch
 abbrev pub IsBare : Option Table → Place → Type 0
@@ -89,3 +91,11 @@ pub record IsMap (c : Content) (cpu : Cpu) (m : FlashMap) : Type 0 where
   pub table : IsTableTold c m.table
   pub side_by_side : AreSideBySide 0 (length c.flash) (map (λ r. r.window) m.rows.items)
   pub rows : AllByRecursion (IsRow c cpu (table_of_content c) m.decision) m.rows.items
+
+-- what can be read of a map of a flash of n bytes: its table, if there is one, is sound for the
+-- flash, and each row's window is a byte of the flash at least, a slot 0 or 1, a partition one of
+-- the table
+pub record IsReadable (m : FlashMap) (n : ℕ) : Type 0 where
+  pub sound : IsSoundFor (table_of_map m) n
+  pub rows : All (λ r. IsRead (table_of_map m) n r.place r.window) m.rows.items
+  pub few : length m.rows.items ≤ 33

@@ -1,5 +1,6 @@
 -- The map of a flash as a function of its content. This project's own.
 use Rattle.std.specs.Prelude.{ℕ, ◌==◌, ◌&&◌, not, Bool, true, false, if◌then◌else◌, List, length, map, is_some, option_map, Option, Some, None, Result}
+use Rattle.std.specs.Result.{result_ok}
 use Rattle.pico_board.specs.declared.boot.Cpu.{Cpu}
 use Rattle.pico_board.specs.declared.boot.BootKind.TheVariants.{Normal}
 use Rattle.pico_board.specs.declared.window.Window.{Window}
@@ -20,7 +21,7 @@ use Rattle.boot_rules.specs.declared.decision.Decision.TheVariants.{Start, Boots
 use Rattle.boot_rules.specs.Choosing.{decision_in}
 use Rattle.boot_rules.specs.Starts.{table_of_content}
 use Rattle.boot_reasons.specs.Reasons.{told_table_in}
-use Rattle.boot_reasons.specs.Slots.{slot_answer_in}
+use Rattle.boot_reasons.specs.Slots.{slot_answer_in, taken_table}
 use Rattle.flash_map.specs.declared.maps.FlashMap.{FlashMap}
 use Rattle.flash_map.specs.declared.maps.MapRow.{MapRow}
 use Rattle.flash_map.specs.declared.maps.Pairing.{Pairing}
@@ -104,3 +105,7 @@ map_in c cpu = record {
   table = told_table_in c;
   rows = record { items = rows_in c cpu };
 }
+
+-- the table of the flash by its map
+abbrev pub table_of_map : FlashMap → Option Table
+table_of_map m = taken_table m.table (result_ok m.first) (result_ok m.second)

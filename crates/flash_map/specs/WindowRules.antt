@@ -71,14 +71,15 @@ pub record IsMappable (t : Option Table) (n z : ℕ) : Type 0 where
   pub sound : IsSoundFor t n
   pub behind : All (λ p. 2 * z ≤ 4096 * first_sector p) (parts_of t)
 
--- a partition's number is that of a partition of the table
+-- a slot is 0 or 1, and a partition is one of the table
 abbrev pub IsListed : Option Table → Place → Type 0
-IsListed t (Slot number) = Unit {0}
+IsListed t (Slot number) = number < 2
 IsListed t (Part i) = i < length (parts_of t)
 IsListed t Whole = Unit {0}
 IsListed t Free = Unit {0}
 
--- a window of the map stands inside a flash of n bytes, and a partition is one of the table
-pub record IsRead (t : Option Table) (n : ℕ) (m : MapWindow) : Type 0 where
-  pub inside : window_end m.window ≤ n
-  pub listed : IsListed t m.place
+-- a window stands inside a flash of n bytes, is a byte at least, and is listed
+pub record IsRead (t : Option Table) (n : ℕ) (p : Place) (w : Window) : Type 0 where
+  pub some : 1 ≤ w.len
+  pub inside : window_end w ≤ n
+  pub listed : IsListed t p

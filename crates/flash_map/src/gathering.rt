@@ -1,11 +1,11 @@
 //! The map of a flash, gathered.
 
-ghost use Rattle.std.specs.Prelude.{◌≡◌, IsTrue, length, map, option_map};
+ghost use Rattle.std.specs.Prelude.{◌≡◌, ◌≤◌, IsTrue, length, map, option_map};
 ghost use Rattle.sector_pool.specs.Keeping.{KeepsOut};
 ghost use Rattle.sector_pool.specs.Pool.{HasFree};
 ghost use Rattle.boot_rules.specs.Starts.{table_of_content};
 ghost use Rattle.flash_map.specs.Maps.{map_in, row_of, windows_in};
-ghost use Rattle.flash_map.specs.MapRules.{IsMap};
+ghost use Rattle.flash_map.specs.MapRules.{IsMap, IsReadable};
 
 use crate::maps::{FlashMap, MapRow};
 use crate::rows::rows_of;
@@ -33,6 +33,7 @@ fn rows_in<B: Board>(
     ensures exact { result.items ≡ map (row_of (B.state board.now).content cpu
         (table_of_content (B.state board.now).content) decision.now)
         (windows_in (B.state board.now).content) }
+    ensures few { length result.items ≤ 33 }
     ensures kept { KeepsOut pool.old pool.new }
 {
     let windows = map_windows(table, board.flash_len(), slot_size(board));
@@ -44,6 +45,7 @@ fn map_of<B: Board>(board: &B, pool: &mut SectorPool, cpu: Cpu) -> FlashMap
     requires power { IsTrue (B.state board.now).powered }
     requires free { HasFree pool.old }
     ensures exact { result ≡ map_in (B.state board.now).content cpu }
+    ensures few { length result.rows.items ≤ 33 }
     ensures kept { KeepsOut pool.old pool.new }
 {
     let first = slot_answer(board, 0);
@@ -76,6 +78,7 @@ pub fn gather_map<B: Board>(board: &B, pool: &mut SectorPool, cpu: Cpu) -> Flash
     requires lease { HasFree pool.old }
     ensures mapped { IsMap (B.state board.now).content cpu result }
     ensures function { result ≡ map_in (B.state board.now).content cpu }
+    ensures readable { IsReadable result (length (B.state board.now).content.flash) }
     ensures pool { KeepsOut pool.old pool.new }
 {
     map_of(board, pool, cpu)

@@ -127,7 +127,7 @@ fn row_of<B: Board>(
     requires power { IsTrue (B.state board.now).powered }
     requires free { HasFree pool.old }
     requires read { IsRead (option_map (λ t. t.now) table)
-        (length (B.state board.now).content.flash) window.now }
+        (length (B.state board.now).content.flash) window.now.place window.now.window }
     ensures exact { result ≡ row_of (B.state board.now).content cpu
         (option_map (λ t. t.now) table.entry) decision.now window.now }
     ensures kept { KeepsOut pool.old pool.new }
@@ -153,10 +153,11 @@ pub(crate) fn rows_of<B: Board>(
     requires power { IsTrue (B.state board.now).powered }
     requires free { HasFree pool.old }
     requires few { length windows.now ≤ 33 }
-    requires read { All (IsRead (option_map (λ t. t.now) table)
-        (length (B.state board.now).content.flash)) windows.now }
+    requires read { All (λ w. IsRead (option_map (λ t. t.now) table)
+        (length (B.state board.now).content.flash) w.place w.window) windows.now }
     ensures exact { result.items ≡ map (row_of (B.state board.now).content cpu
         (option_map (λ t. t.now) table.entry) decision.now) windows.now }
+    ensures few { length result.items ≤ 33 }
     ensures kept { KeepsOut pool.old pool.new }
 {
     let mut rows = ArrayVec::new();

@@ -16,8 +16,9 @@ map_windows-windows-requires g c = record {
 pub rows_of-requires-clause-read : goal.rows_of-requires-clause-read
 rows_of-requires-clause-read g c =
     let given = option_map (λ (t : Bor Table). t.now) c.args.table in
-    subst (λ n. All (IsRead given n) c.as_slice.result.now) c.flash_len.ensures
-    (subst (λ (ms : List MapWindow). All (IsRead given c.flash_len.result) ms) (sym c.as_slice.ensures.value)
+    subst (λ n. All (λ (m : MapWindow). IsRead given n m.place m.window) c.as_slice.result.now) c.flash_len.ensures
+    (subst (λ (ms : List MapWindow). All (λ (m : MapWindow). IsRead given c.flash_len.result m.place m.window) ms)
+    (sym c.as_slice.ensures.value)
     (all-read given c.flash_len.result c.slot_size.result
     (mappable-read (g.B.Board.state c.args.board.now).content given c.flash_len.result c.slot_size.result
     (g.met.B.Board.is_content c.args.board.now) c.requires.table c.flash_len.ensures c.slot_size.ensures)
