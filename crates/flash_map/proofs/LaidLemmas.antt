@@ -1,18 +1,14 @@
 -- Where the slots and partitions of a flash stand.
-use Rattle.std.proofs.Common.{◌≡◌, ◌≢◌, ◌⊎◌, inl, inr, ℕ, zero, suc, ◌+◌, ◌-◌, ◌*◌, ◌/◌, ◌%◌, ◌<◌, ◌≤◌, Bool, true, false, List, [], length, Option, Some, None, refl, sym, ◌∙◌, ap, subst, arith}
-use Rattle.std.specs.Prelude.{All}
+use Rattle.std.proofs.Common.{◌≡◌, ◌≢◌, ◌⊎◌, inl, inr, ℕ, zero, suc, ◌+◌, ◌-◌, ◌*◌, ◌/◌, ◌%◌, ◌<◌, ◌≤◌, List, length, Option, Some, None, refl, arith}
 use Rattle.pico_board.specs.declared.window.Window.{Window}
 use Rattle.pico_board.specs.Content.{AreApart}
 use Rattle.part_table.specs.declared.partition.Partition.{Partition}
 use Rattle.part_table.specs.declared.table.Table.{Table}
-use Rattle.part_table.specs.Fields.{first_sector}
 use Rattle.part_table.specs.Partitions.{no_partition, part_at}
-use Rattle.part_table.specs.Sound.{IsSoundFor}
 use Rattle.part_table.specs.Windows.{IsPlaced, part_window}
 use Rattle.part_table.proofs.TableLemmas.{partitions_apart, sound_placed}
-use Rattle.boot_rules.specs.Tables.{slot_window}
-use Rattle.flash_map.specs.Windows.{parts_of, window_end}
-use Rattle.flash_map.specs.WindowRules.{HasSector, IsFreeStretch, IsMappable, IsTaken}
+use Rattle.flash_map.specs.Windows.{parts_of}
+use Rattle.flash_map.specs.WindowRules.{HasSector, IsMappable}
 
 -- slots of z bytes, and the partitions behind them, in a flash of so many sectors
 pub record AreLaid (parts : List Partition) (z sectors : ℕ) : Type 0 where

@@ -12,11 +12,9 @@ use Rattle.pico_board.specs.Content.{Content, IsContent}
 use Rattle.otp_roll.specs.Flags.{slot_size}
 use Rattle.part_table.specs.declared.table.Table.{Table}
 use Rattle.part_table.specs.Fields.{first_sector}
-use Rattle.part_table.specs.Faults.{table_fault}
 use Rattle.part_table.specs.Partitions.{no_partition, part_at}
 use Rattle.part_table.specs.declared.partition.Partition.{Partition}
 use Rattle.part_table.specs.Sound.{IsSoundFor}
-use Rattle.part_table.specs.Windows.{IsPlaced}
 use Rattle.part_table.proofs.TableLemmas.{sectors_in}
 use Rattle.boot_rules.specs.declared.decision.Decision.{Decision}
 use Rattle.boot_rules.specs.declared.tables.Found.{Found}
@@ -37,7 +35,7 @@ use Rattle.flash_map.specs.declared.maps.MapRow.{MapRow}
 use Rattle.flash_map.specs.declared.places.MapWindow.{MapWindow}
 use Rattle.flash_map.specs.declared.places.Place.{Place}
 use Rattle.flash_map.specs.declared.places.Place.TheVariants.{Slot, Partition as Part, Whole, Free}
-use Rattle.flash_map.specs.Windows.{map_windows, parts_of}
+use Rattle.flash_map.specs.Windows.{parts_of}
 use Rattle.flash_map.specs.WindowRules.{AreMapWindows, AreSideBySide, IsListed, IsMappable, IsRead, IsWindowOf}
 use Rattle.flash_map.specs.Maps.{map_in, row_of, rows_in, table_of_map, windows_in}
 use Rattle.flash_map.specs.MapRules.{IsMap, IsReadable, IsRow}
@@ -57,8 +55,8 @@ behind-of c (Some found) e right = λ k d lt.
     low (slot_size c.otp (length c.flash)) (first_sector (get_or found.table.parts.items k d))
     (slot-size c.otp (length c.flash) right.flash_length.least).whole
     (subst (λ p. 2 * slot_size c.otp (length c.flash) / 4096 ≤ first_sector p) (same k d lt)
-    (sectors_in found.table (length c.flash / 4096) (2 * slot_size c.otp (length c.flash) / 4096) (found-in c found e).1 k
-    lt).0)
+    (sectors_in found.table (length c.flash / 4096) (2 * slot_size c.otp (length c.flash) / 4096) (found-in c found e).1
+    k lt).0)
   where
     low : (z f : ℕ) → z % 4096 ≡ 0 → 2 * z / 4096 ≤ f → 2 * z ≤ 4096 * f
     low z f whole le = omega arith
@@ -217,7 +215,8 @@ map-readable c cpu m right is few =
       sound = subst (λ (o : Option Table). IsSoundFor o n) (sym (table-told c cpu m is)) able.sound;
       rows = subst (λ (o : Option Table). All (λ r. IsRead o n r.place r.window) m.rows.items)
           (sym (table-told c cpu m is))
-          (rows-read t n (slot_size c.otp n) able (IsRow c cpu t m.decision) (λ r row. row.window) m.rows.items is.rows);
+          (rows-read t n (slot_size c.otp n) able (IsRow c cpu t m.decision) (λ r row. row.window)
+          m.rows.items is.rows);
       few = few;
     }
 

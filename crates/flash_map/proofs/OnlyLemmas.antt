@@ -1,9 +1,8 @@
 -- Only one list of windows is right by the rules.
-use Rattle.std.proofs.Common.{◌≡◌, ℕ, zero, suc, ◌+◌, ◌-◌, ◌*◌, ◌/◌, ◌%◌, ◌<◌, ◌≤◌, List, [], ◌∷◌, length, map, Option, refl, sym, ◌∙◌, ap, subst, arith}
+use Rattle.std.proofs.Common.{◌≡◌, ℕ, ◌+◌, ◌*◌, ◌/◌, ◌≤◌, List, [], ◌∷◌, map, Option, refl, sym, ◌∙◌, ap, subst, arith}
 use Rattle.std.specs.List.{AllByRecursion}
 use Rattle.pico_board.specs.declared.window.Window.{Window}
 use Rattle.part_table.specs.declared.table.Table.{Table}
-use Rattle.part_table.specs.Windows.{IsPlaced}
 use Rattle.flash_map.specs.declared.places.MapWindow.{MapWindow}
 use Rattle.flash_map.specs.declared.places.Place.{Place}
 use Rattle.flash_map.specs.Windows.{map_windows, window_end}

@@ -1,6 +1,6 @@
 -- The row of a window, by the function and in the words of the rules.
-use Rattle.std.proofs.Common.{◌≡◌, ◌⊎◌, inl, inr, ℕ, ◌==◌, ◌&&◌, Bool, true, false, List, [], ◌∷◌, length, map, Option, Some, None, Result, refl, sym, ◌∙◌, ap, subst}
-use Rattle.std.specs.Prelude.{IsTrue, if◌then◌else◌}
+use Rattle.std.proofs.Common.{◌≡◌, ◌⊎◌, inl, inr, ◌==◌, ◌&&◌, Bool, true, false, List, [], ◌∷◌, length, map, Option, Some, None, Result, refl, sym, ◌∙◌, ap, subst}
+use Rattle.std.specs.Prelude.{if◌then◌else◌}
 use Rattle.std.specs.List.{AllByRecursion}
 use Rattle.std.proofs.lemmas.Bool.{eq-eqb, eqb-true}
 use Rattle.pico_board.specs.declared.boot.Cpu.{Cpu}
@@ -22,7 +22,7 @@ use Rattle.flash_map.specs.declared.places.Place.{Place}
 use Rattle.flash_map.specs.declared.places.Place.TheVariants.{Slot, Partition as Part, Whole, Free}
 use Rattle.flash_map.specs.WindowRules.{IsListed, IsWindowOf}
 use Rattle.flash_map.specs.Maps.{has_image, is_window, pairing, row_image, row_of, starts}
-use Rattle.flash_map.specs.MapRules.{DoesStart, IsBare, IsPairing, IsRow, IsRowImage}
+use Rattle.flash_map.specs.MapRules.{DoesStart, IsBare, IsRow, IsRowImage}
 use Rattle.flash_map.proofs.LaidLemmas.{same-window}
 use Rattle.flash_map.proofs.PairLemmas.{AreLinked, pairing-once, pairing-right}
 
@@ -95,7 +95,8 @@ module _ (c : Content) (cpu : Cpu) (t : Option Table) where
           ∙ sym (ap (λ b. if b then Some (image_at c m.window cpu false) else None) has.0)
       by (Some r) is (inr bare) = absurd (is.0 bare.1)
 
-  listed : (p : Place) (w : Window) → IsWindowOf t (length c.flash) (slot_size c.otp (length c.flash)) p w → IsListed t p
+  listed : (p : Place) (w : Window) → IsWindowOf t (length c.flash) (slot_size c.otp (length c.flash)) p w
+      → IsListed t p
   listed (Slot number) w is = is.1
   listed (Part i) w is = is.0
   listed Whole w is = tt

@@ -1,15 +1,14 @@
 -- Two windows that are right and share a sector are one window.
-use Rattle.std.proofs.Common.{◌≡◌, ◌≢◌, ◌⊎◌, inl, inr, ℕ, zero, suc, ◌+◌, ◌-◌, ◌*◌, ◌/◌, ◌%◌, ◌<◌, ◌≤◌, Bool, true, false, List, [], length, Option, Some, None, refl, sym, ◌∙◌, ap, subst, arith}
+use Rattle.std.proofs.Common.{◌≡◌, ◌⊎◌, inl, inr, ℕ, ◌+◌, ◌-◌, ◌*◌, ◌/◌, ◌%◌, ◌<◌, ◌≤◌, Bool, true, false, length, Option, Some, None, refl, sym, ◌∙◌, ap, subst, arith}
 use Rattle.std.proofs.lemmas.Bool.{cases_eq}
 use Rattle.pico_board.specs.declared.window.Window.{Window}
-use Rattle.part_table.specs.declared.partition.Partition.{Partition}
 use Rattle.part_table.specs.declared.table.Table.{Table}
 use Rattle.part_table.specs.Partitions.{part_at}
 use Rattle.part_table.specs.Windows.{IsPlaced, part_window}
 use Rattle.boot_rules.specs.Tables.{slot_window}
 use Rattle.flash_map.specs.declared.places.Place.{Place}
 use Rattle.flash_map.specs.declared.places.Place.TheVariants.{Slot, Partition as Part, Whole, Free}
-use Rattle.flash_map.specs.Windows.{has_slots, parts_of, window_end}
+use Rattle.flash_map.specs.Windows.{has_slots, parts_of}
 use Rattle.flash_map.specs.WindowRules.{HasSector, IsFreeStretch, IsMappable, IsTaken, IsWindowOf}
 use Rattle.flash_map.proofs.LaidLemmas.{AreLaid, laid, no-common, same-window, sectors-of, slot-start}
 
@@ -118,8 +117,8 @@ module _ (t : Option Table) (n z : ℕ) (able : IsMappable t n z) where
   slot-part : (a i s : ℕ) → a < 2 → i < length (parts_of t) → HasSector (slot_window z a) s
       → HasSector (part_window (part_at (parts_of t) i)) s → ⊥
   slot-part a i s a_lt lt one two =
-      apart (a * z) (part_window (part_at (parts_of t) i)).start (either (a * z) z (slot-x a a_lt)) (lay.behind i lt) one.1
-      two.0
+      apart (a * z) (part_window (part_at (parts_of t) i)).start (either (a * z) z (slot-x a a_lt)) (lay.behind i lt)
+      one.1 two.0
     where
       apart : (x y : ℕ) → x ≤ z → 2 * z ≤ y → 4096 * s < x + z → y ≤ 4096 * s → ⊥
       apart x y e1 e2 lt2 le = omega arith
@@ -180,7 +179,8 @@ module _ (t : Option Table) (n z : ℕ) (able : IsMappable t n z) where
       let first : f.first ≡ g.first =
       not-less f.first g.first (no-later v w f g s in_f in_g) (no-later w v g f s in_g in_f) in
       let end : f.first + f.count ≡ g.first + g.count =
-      not-less (f.first + f.count) (g.first + g.count) (no-longer v w f g s in_f in_g) (no-longer w v g f s in_g in_f) in
+      not-less (f.first + f.count) (g.first + g.count) (no-longer v w f g s in_f in_g)
+      (no-longer w v g f s in_g in_f) in
       f.window
       ∙ (same-window (4096 * f.first) (4096 * f.count) (4096 * g.first) (4096 * g.count)
       (ap (λ x. 4096 * x) first)

@@ -1,5 +1,5 @@
 -- What lies side by side: each sector in one window, and the windows in their order.
-use Rattle.std.proofs.Common.{◌≡◌, ◌⊎◌, inl, inr, ℕ, zero, suc, ◌+◌, ◌*◌, ◌<◌, ◌≤◌, List, [], ◌∷◌, length, map, slice_get, Option, Some, refl, sym, ◌∙◌, ap, subst, arith}
+use Rattle.std.proofs.Common.{◌≡◌, ◌⊎◌, inl, inr, ℕ, zero, suc, ◌+◌, ◌*◌, ◌<◌, ◌≤◌, List, [], ◌∷◌, length, map, slice_get, Some, refl, sym, ◌∙◌, ap, subst, arith}
 use Rattle.std.specs.List.{sum_by}
 use Rattle.std.proofs.lemmas.List.Sums.{sum_by-cons}
 use Rattle.std.proofs.lemmas.Bool.{cases_eq, cases_lt}
@@ -75,7 +75,8 @@ module _ {X : Type 0} (f : X → Window) (n : ℕ) where
     where
       split : (j < k) ⊎ (k ≤ j) → (j ≡ k → ⊥) → j ≡ k
       split (inl lt) differ =
-          absurd (crossed (window_end (f x)) (f y).start (4096 * s) has.1 (ordered xs at j k x y side lt one two) also.0)
+          absurd (crossed (window_end (f x)) (f y).start (4096 * s) has.1 (ordered xs at j k x y side lt one two)
+          also.0)
       split (inr ge) differ =
           absurd (crossed (window_end (f y)) (f x).start (4096 * s) also.1
           (ordered xs at k j y x side (above j k ge differ) two one) has.0)

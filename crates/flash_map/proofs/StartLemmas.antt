@@ -1,5 +1,5 @@
 -- The window that a normal boot starts, and the rows of slots and partitions.
-use Rattle.std.proofs.Common.{◌≡◌, ◌⊎◌, inl, inr, ℕ, zero, suc, ◌+◌, ◌*◌, ◌/◌, ◌%◌, ◌<◌, ◌≤◌, Bool, true, false, List, [], ◌∷◌, length, map, slice_get, Option, Some, None, refl, sym, ◌∙◌, ap, subst, arith}
+use Rattle.std.proofs.Common.{◌≡◌, ◌⊎◌, inl, inr, ℕ, zero, suc, ◌+◌, ◌*◌, ◌/◌, ◌<◌, ◌≤◌, Bool, true, false, List, [], ◌∷◌, length, slice_get, Option, Some, None, refl, sym, ◌∙◌, ap, subst, arith}
 use Rattle.std.specs.Prelude.{nat_lt, if◌then◌else◌}
 use Rattle.std.specs.List.{AllByRecursion}
 use Rattle.std.proofs.lemmas.Option.{same_Some}
@@ -9,13 +9,12 @@ use Rattle.pico_board.specs.declared.window.Window.{Window}
 use Rattle.pico_board.specs.Content.{Content, IsContent}
 use Rattle.otp_roll.specs.Flags.{slot_size}
 use Rattle.part_table.specs.declared.table.Table.{Table}
-use Rattle.part_table.specs.Partitions.{part_at}
-use Rattle.part_table.specs.Windows.{IsPlaced, part_window}
+use Rattle.part_table.specs.Windows.{IsPlaced}
 use Rattle.slot_choice.specs.declared.choice.Choice.{Choice}
 use Rattle.slot_choice.specs.declared.unit.Member.{Member}
 use Rattle.slot_choice.specs.declared.unit.Member.TheVariants.{A, B}
 use Rattle.slot_choice.specs.declared.unit.SlotUnit.{SlotUnit}
-use Rattle.slot_choice.specs.Units.{IsMember, member_window, slot_pair, tableless_unit, unit_of, units, whole_flash}
+use Rattle.slot_choice.specs.Units.{IsMember, member_window, slot_pair, tableless_unit, units, whole_flash}
 use Rattle.slot_choice.proofs.PlaceLemmas.{IsBootUnit, boot_unit}
 use Rattle.slot_choice.proofs.UnitLemmas.{belongs_within, member_part}
 use Rattle.boot_rules.specs.declared.decision.Decision.{Decision}
@@ -29,11 +28,11 @@ use Rattle.flash_map.specs.declared.maps.FlashMap.{FlashMap}
 use Rattle.flash_map.specs.declared.maps.MapRow.{MapRow}
 use Rattle.flash_map.specs.declared.places.Place.{Place}
 use Rattle.flash_map.specs.declared.places.Place.TheVariants.{Slot, Partition as Part, Whole, Free}
-use Rattle.flash_map.specs.Windows.{has_slots, parts_of, window_end}
+use Rattle.flash_map.specs.Windows.{parts_of, window_end}
 use Rattle.flash_map.specs.WindowRules.{HasSector, IsFreeStretch, IsTaken, IsWindowOf}
 use Rattle.flash_map.specs.Maps.{paired}
 use Rattle.flash_map.specs.MapRules.{DoesStart, IsMap, IsMemberWith, IsNumbered, IsRow}
-use Rattle.flash_map.proofs.LaidLemmas.{first-in, sectors-of}
+use Rattle.flash_map.proofs.LaidLemmas.{first-in}
 use Rattle.flash_map.proofs.MapLemmas.{linked, mappable}
 use Rattle.flash_map.proofs.PairLemmas.{pairing-once}
 use Rattle.flash_map.proofs.SharedLemmas.{right-placed, shared, taken-free}

@@ -4,17 +4,14 @@ use Rattle.std.specs.Prelude.{nat_lt, if◌then◌else◌}
 use Rattle.std.specs.List.{AllByRecursion}
 use Rattle.std.specs.Option.{option_map_or}
 use Rattle.std.proofs.lemmas.Bool.{cases_eq, ltb-true, ltb-false}
-use Rattle.pico_board.specs.declared.window.Window.{Window}
 use Rattle.pico_board.specs.Content.{AreApart}
 use Rattle.part_table.specs.declared.partition.Partition.{Partition}
 use Rattle.part_table.specs.declared.table.Table.{Table}
 use Rattle.part_table.specs.Partitions.{part_at}
 use Rattle.part_table.specs.Windows.{IsPlaced, part_window}
-use Rattle.boot_rules.specs.Tables.{slot_window}
 use Rattle.flash_map.specs.declared.places.MapWindow.{MapWindow}
-use Rattle.flash_map.specs.declared.places.Place.TheVariants.{Free}
 use Rattle.flash_map.specs.Windows.{free_between, free_place, has_slots, map_windows, next_part, next_start, part_place, part_windows, parts_of, slot_place, whole_place, window_end}
-use Rattle.flash_map.specs.WindowRules.{AreMapWindows, AreSideBySide, HasSector, IsFreeStretch, IsMappable, IsTaken, IsWindowOf}
+use Rattle.flash_map.specs.WindowRules.{AreMapWindows, AreSideBySide, HasSector, IsMappable, IsTaken, IsWindowOf}
 use Rattle.flash_map.proofs.NextLemmas.{ahead, ahead-most, ahead-none, ahead-passed, next-from, next-least, next-most, next-source, none-found, part-found, start_of}
 use Rattle.flash_map.proofs.LaidLemmas.{AreLaid, end-whole, first-in, laid, last-in, same-window, sectors-of}
 
@@ -64,8 +61,8 @@ module _ (t : Option Table) (n z : ℕ) (able : IsMappable t n z) (slots : has_s
   low-free : (at s x y : ℕ) → at % 4096 ≡ 0 → at / 4096 ≤ s → x + y ≤ at → 4096 * s < x + y → ⊥
   low-free at s x y whole from most lt = omega arith
 
-  high-free : (at next s x : ℕ) → at % 4096 ≡ 0 → next % 4096 ≡ 0 → at ≤ next → s < at / 4096 + (next / 4096 - at / 4096)
-      → next ≤ x → x ≤ 4096 * s → ⊥
+  high-free : (at next s x : ℕ) → at % 4096 ≡ 0 → next % 4096 ≡ 0 → at ≤ next
+      → s < at / 4096 + (next / 4096 - at / 4096) → next ≤ x → x ≤ 4096 * s → ⊥
   high-free at next s x whole also le lt most from = omega arith
 
   behind-next : (at next : ℕ) → at % 4096 ≡ 0 → next % 4096 ≡ 0 → at ≤ next

@@ -1,5 +1,5 @@
 -- Worked examples of maps, with their answers reckoned by hand from the rules. This project's own.
-use Rattle.std.specs.Prelude.{ℕ, ◌+◌, Bool, true, false, List, [], ◌∷◌, ◌++◌, replicate, Option, Some, None, Result, Ok, Err}
+use Rattle.std.specs.Prelude.{ℕ, Bool, true, false, [], ◌∷◌, ◌++◌, replicate, Option, Some, None, Result, Ok, Err}
 use Rattle.pico_board.specs.declared.window.Window.{Window}
 use Rattle.pico_board.specs.Content.{Content}
 use Rattle.block_loop.specs.declared.fault.LoopFault.{LoopFault}

@@ -1,5 +1,5 @@
 -- The map of a flash in the words of the rules. This project's own.
-use Rattle.std.specs.Prelude.{◌≡◌, ◌↔◌, ℕ, ◌<◌, ◌≤◌, false, All, IsTrue, List, length, map, Option, Some, None, Result}
+use Rattle.std.specs.Prelude.{◌≡◌, ◌↔◌, ℕ, ◌<◌, ◌≤◌, false, All, IsTrue, length, map, Option, Some, None, Result}
 use Rattle.std.specs.List.{AllByRecursion}
 use Rattle.pico_board.specs.declared.boot.Cpu.{Cpu}
 use Rattle.pico_board.specs.declared.boot.BootKind.TheVariants.{Normal}

@@ -1,5 +1,5 @@
 -- The windows of a flash by what they are, in the words of the rules. This project's own.
-use Rattle.std.specs.Prelude.{◌≡◌, ◌⊎◌, ℕ, ◌+◌, ◌-◌, ◌*◌, ◌/◌, ◌%◌, ◌<◌, ◌≤◌, true, false, All, List, [], ◌∷◌, length, map, Option, Some, None}
+use Rattle.std.specs.Prelude.{◌≡◌, ◌⊎◌, ℕ, ◌+◌, ◌-◌, ◌*◌, ◌/◌, ◌%◌, ◌<◌, ◌≤◌, true, false, All, List, [], ◌∷◌, length, map, Option}
 use Rattle.std.specs.List.{AllByRecursion}
 use Rattle.pico_board.specs.declared.window.Window.{Window}
 use Rattle.part_table.specs.declared.partition.Partition.{Partition}

@@ -8,7 +8,6 @@ use Rattle.part_table.specs.Partitions.{part_at}
 use Rattle.part_table.specs.Windows.{part_window}
 use Rattle.boot_rules.specs.Tables.{slot_window}
 use Rattle.flash_map.specs.declared.places.MapWindow.{MapWindow}
-use Rattle.flash_map.specs.declared.places.Place.{Place}
 use Rattle.flash_map.specs.declared.places.Place.TheVariants.{Slot, Partition as Part, Whole, Free}
 
 -- the partitions of a table, and none where there is none

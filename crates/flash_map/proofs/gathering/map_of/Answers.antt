@@ -1,5 +1,4 @@
-use Rattle.std.proofs.Common.{◌∙◌, ap, map}
-use Rattle.boot_rules.specs.Starts.{table_of_content}
+use Rattle.std.proofs.Common.{◌∙◌}
 use Rattle.boot_reasons.proofs.TableReasonLemmas.{taken-from, told-from}
 use Rattle.flash_map.proofs.MapLemmas.{map-from}
 use Rattle.flash_map.proofs.gathering.map_of.Goals as goal

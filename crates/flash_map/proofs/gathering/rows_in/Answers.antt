@@ -1,4 +1,4 @@
-use Rattle.std.proofs.Common.{Bor, List, length, option_map, subst, sym}
+use Rattle.std.proofs.Common.{Bor, List, option_map, subst, sym}
 use Rattle.std.specs.Prelude.{All}
 use Rattle.part_table.specs.declared.table.Table.{Table}
 use Rattle.flash_map.specs.declared.places.MapWindow.{MapWindow}

@@ -1,4 +1,4 @@
-use Rattle.std.proofs.Common.{◌≡◌, ℕ, suc, ◌+◌, length, slice_get, Some, List, subst, arith}
+use Rattle.std.proofs.Common.{◌≡◌, ℕ, suc, ◌+◌, length, slice_get, Some, subst, arith}
 use Rattle.flash_map.specs.declared.maps.MapRow.{MapRow}
 use Rattle.flash_map.proofs.SideLemmas.{first-begins, last-ends, next-begins, sum-side}
 use Rattle.flash_map.proofs.StartLemmas.{placed, row-at}

@@ -1,4 +1,4 @@
-use Rattle.std.proofs.Common.{◌≡◌, ◌∙◌, sym, ap, arith, true, position}
+use Rattle.std.proofs.Common.{◌≡◌, ◌∙◌, sym, ap, arith, position}
 use Rattle.std.proofs.lemmas.Bool.{eq-eqb}
 use Rattle.pico_board.specs.declared.window.Window.{Window}
 use Rattle.part_table.specs.declared.partition.Partition.{Partition}
