@@ -240,7 +240,8 @@ fn open_text(alloc: Global, height: usize) -> Result<String, AllocError>
     ensures { IfOk result (λ t. string_bytes t ≡ open_text height) }
 {
     format!(in alloc;
-        "<svg xmlns=\"http://www.w3.org/2000/svg\" version=\"1.1\" width=\"960\" height=\"{height}\" \
+        "<svg xmlns=\"http://www.w3.org/2000/svg\" version=\"1.1\" \
+         width=\"960\" height=\"{height}\" \
          viewBox=\"0 0 960 {height}\" font-family=\"monospace\" font-size=\"14\" \
          fill=\"#1a1a1a\">\n<title>"
     )
