@@ -57,8 +57,8 @@ module _ (p q : ℕ → Bool) where
       by rest true kept true passes h =
           let here : cond (p a) (Some a) (find p (filter q (range_with_len (a + 1) n))) ≡ Some i = h in
           let same : a ≡ i =
-              same_Some a i (sym (ap
-                  (λ b. cond b (Some a) (find p (filter q (range_with_len (a + 1) n)))) passes) ∙ here) in
+          same_Some a i
+          (sym (ap (λ b. cond b (Some a) (find p (filter q (range_with_len (a + 1) n)))) passes) ∙ here) in
           record {
             low = omega (arith, same);
             high = omega (arith, same);
@@ -128,7 +128,8 @@ module _ (t : Table) (family : ℕ) where
   no_second-begins : (x : Partition) → link_type x ≢ 1 → begins_load_unit x ≡ true
   no_second-begins x other =
       let no : is_second x ≡ false =
-          never_true (is_second x) (λ yes. other (eqb-true (link_type x) 1 yes)) in rw no refl
+      never_true (is_second x) (λ yes. other (eqb-true (link_type x) 1 yes)) in
+      rw no refl
 
   both : (x y : Bool) → x ≡ true → y ≡ true → (x && y) ≡ true
   both x y a b = rw (a, b) refl

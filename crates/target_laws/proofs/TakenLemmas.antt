@@ -23,8 +23,7 @@ use Rattle.target_laws.proofs.WordLemmas.{below-lower, lower-below}
 
 -- of a pair one member at most would be taken
 pub not-both : (c : Content) (cpu : Cpu) (one two : Window) → TakesFirst c cpu one (Some two)
-    → TakesSecond c cpu one two
-    → ⊥
+    → TakesSecond c cpu one two → ⊥
 not-both c cpu one two first second =
     first.best two second.image refl second.valid (second.best first.image first.valid)
 

@@ -19,30 +19,31 @@ use Rattle.target_laws.proofs.examples.a_pair_by_the_words.Goals as goal
 pub returns-clause-second : goal.returns-clause-second
 unfolding table_in decision_in image_in def_of loop_of follow block_from block_at front_block item_words frame size_of
     word_of word_bytes
-returns-clause-second c =
-    answered (pair_content 0 (arm_member 0x10009) bare) Arm 0xe48bff59 (found_in 0 pair_table) refl
+returns-clause-second c = answered (pair_content 0 (arm_member 0x10009) bare)
+    Arm 0xe48bff59 (found_in 0 pair_table) refl
     (to (window_at 0x20000 0x1e000) true false) refl
 
 pub returns-clause-not_first : goal.returns-clause-not_first
 unfolding table_in decision_in image_in def_of loop_of follow block_from block_at front_block item_words frame size_of
     word_of word_bytes
-returns-clause-not_first c =
-    not-other (pair_content 0 (arm_member 0x10009) bare) Arm 0xe48bff59 (found_in 0 pair_table) refl
+returns-clause-not_first c = not-other (pair_content 0 (arm_member 0x10009) bare)
+    Arm 0xe48bff59 (found_in 0 pair_table) refl
     (to (window_at 0x20000 0x1e000) true false) (to (window_at 0x2000 0x1e000) true false) refl
     (other-window _ _ (λ same. absurd (omega (arith, same))))
 
 pub returns-clause-not_ungated : goal.returns-clause-not_ungated
 unfolding table_in decision_in image_in def_of loop_of follow block_from block_at front_block item_words frame size_of
     word_of word_bytes
-returns-clause-not_ungated c =
-    not-other (pair_content 0 (arm_member 0x10009) bare) Arm 0xe48bff59 (found_in 0 pair_table) refl
+returns-clause-not_ungated c = not-other (pair_content 0 (arm_member 0x10009) bare)
+    Arm 0xe48bff59 (found_in 0 pair_table) refl
     (to (window_at 0x20000 0x1e000) true false) (to (window_at 0x20000 0x1e000) false false) refl
-        (other-gate _ _ refl refl)
+    (other-gate _ _ refl refl)
 
 pub returns-clause-neither : goal.returns-clause-neither
 unfolding table_in decision_in image_in def_of loop_of follow block_from block_at front_block item_words frame size_of
     word_of word_bytes
-returns-clause-neither c = answered (pair_content 0 bare bare) Arm 0xe48bff59 (found_in 0 pair_table) refl
+returns-clause-neither c = answered (pair_content 0 bare bare)
+    Arm 0xe48bff59 (found_in 0 pair_table) refl
     (to (window_at 0x2000 0x1e000) true false) refl
 
 pub returns-clause-nowhere : goal.returns-clause-nowhere

@@ -64,8 +64,8 @@ returns-clause-second c = record {
 pub returns-clause-ignored : goal.returns-clause-ignored
 unfolding table_in decision_in image_in def_of loop_of follow block_from block_at front_block item_words frame size_of
     word_of word_bytes
-returns-clause-ignored c =
-    λ home. not-both (flags_table 0x400 0) 6 (found-sound (pair_flash 0x400 0) (found_in 0 (flags_table 0x400 0)) refl)
+returns-clause-ignored c = λ home. not-both (flags_table 0x400 0) 6
+    (found-sound (pair_flash 0x400 0) (found_in 0 (flags_table 0x400 0)) refl)
     Riscv (window_at 0x2000 0x2000)
     (home-words (pair_flash 0x400 0) Riscv (window_at 0x2000 0x2000) (found_in 0 (flags_table 0x400 0)) refl home)
     (record {

@@ -19,21 +19,21 @@ use Rattle.target_laws.proofs.examples.owned_data_by_the_words.Goals as goal
 pub returns-clause-second : goal.returns-clause-second
 unfolding table_in decision_in image_in def_of loop_of follow block_from block_at front_block item_words frame size_of
     word_of word_bytes
-returns-clause-second c =
-    answered (owned_content (arm_owner 0x10009) (arm_owner 0x10009)) Arm 0xe48bff58 (found_in 0 owned_table) refl
+returns-clause-second c = answered (owned_content (arm_owner 0x10009) (arm_owner 0x10009))
+    Arm 0xe48bff58 (found_in 0 owned_table) refl
     (to (window_at 0x1a000 0x8000) false false) refl
 
 pub returns-clause-first : goal.returns-clause-first
 unfolding table_in decision_in image_in def_of loop_of follow block_from block_at front_block item_words frame size_of
     word_of word_bytes
-returns-clause-first c =
-    answered (owned_content (arm_owner 0x10009) (arm_owner 0x1000a)) Arm 0xe48bff58 (found_in 0 owned_table) refl
+returns-clause-first c = answered (owned_content (arm_owner 0x10009) (arm_owner 0x1000a))
+    Arm 0xe48bff58 (found_in 0 owned_table) refl
     (to (window_at 0x12000 0x8000) false false) refl
 
 pub returns-clause-not_second : goal.returns-clause-not_second
 unfolding table_in decision_in image_in def_of loop_of follow block_from block_at front_block item_words frame size_of
     word_of word_bytes
-returns-clause-not_second c =
-    not-other (owned_content (arm_owner 0x10009) (arm_owner 0x1000a)) Arm 0xe48bff58 (found_in 0 owned_table) refl
+returns-clause-not_second c = not-other (owned_content (arm_owner 0x10009) (arm_owner 0x1000a))
+    Arm 0xe48bff58 (found_in 0 owned_table) refl
     (to (window_at 0x12000 0x8000) false false) (to (window_at 0x1a000 0x8000) false false) refl
     (other-window _ _ (λ same. absurd (omega (arith, same))))

@@ -3,8 +3,8 @@ use Rattle.target_laws.proofs.TargetLemmas.{target-words}
 use Rattle.target_laws.proofs.laws.a_target_is_that_of_the_rules.Goals as goal
 
 pub returns-clause-some : goal.returns-clause-some
-returns-clause-some c =
-    λ x t cpu family target sound. (target-words x cpu family t sound target, words-target x cpu family t sound target)
+returns-clause-some c = λ x t cpu family target sound.
+    (target-words x cpu family t sound target, words-target x cpu family t sound target)
 
 pub returns-clause-none : goal.returns-clause-none
 returns-clause-none c = λ x t cpu family sound. no-target-words x cpu family t sound

@@ -10,8 +10,8 @@ pub returns-clause-whole : goal.returns-clause-whole
 returns-clause-whole c = whole-not
 
 pub returns-clause-absolute : goal.returns-clause-absolute
-returns-clause-absolute c =
-    λ x cpu target right targeted home. absolute-not x cpu absolute_family target targeted right refl home
+returns-clause-absolute c = λ x cpu target right targeted home.
+    absolute-not x cpu absolute_family target targeted right refl home
 
 pub returns-clause-lone : goal.returns-clause-lone
 returns-clause-lone c = λ x cpu found i p is at first alone home.
