@@ -45,7 +45,8 @@ pub returns-clause-not_updated : goal.returns-clause-not_updated
 unfolding table_in decision_in image_in def_of loop_of follow block_from block_at front_block item_words frame size_of
     word_of word_bytes
 returns-clause-not_updated c = λ kind chosen.
-    (let updated : false ≡ true = start-trial (trial_content 0) Arm kind (starts_b false (in_b 1 1 true)) chosen refl in cc)
+    (let updated : false ≡ true =
+    start-trial (trial_content 0) Arm kind (starts_b false (in_b 1 1 true)) chosen refl in cc)
 
 pub returns-clause-valid_and_off : goal.returns-clause-valid_and_off
 unfolding table_in decision_in image_in def_of loop_of follow block_from block_at front_block item_words frame size_of
