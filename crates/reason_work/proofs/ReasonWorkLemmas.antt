@@ -17,7 +17,8 @@ use Rattle.reason_work.specs.Rules.{IsExplainOf}
 use Rattle.reason_work.specs.Texts.{explain_text}
 use Rattle.reason_work.specs.Works.{explain_work}
 
-pub explain-right : (c : Content) (cpu : Cpu) (kind : BootKind) → IsExplainOf c cpu kind (worked (explain_work c cpu kind))
+pub explain-right : (c : Content) (cpu : Cpu) (kind : BootKind)
+    → IsExplainOf c cpu kind (worked (explain_work c cpu kind))
 explain-right c cpu kind = record {
   reasons = reasons_in c cpu kind;
   explained = reasons-right c cpu kind;

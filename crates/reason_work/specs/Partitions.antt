@@ -109,7 +109,8 @@ flags_text p =
 -- the partition of a number
 unfoldable pub partition_text : ℕ → Partition → List ℕ
 partition_text i p =
-    codes "partition " ++ (decimal i ++ (codes " " ++ (place_text p ++ (codes " " ++ flags_text p))))
+    codes "partition "
+    ++ (decimal i ++ (codes " " ++ (place_text p ++ (codes " " ++ flags_text p))))
 
 -- the lines of partitions, numbered from i on
 abbrev pub partition_lines : ℕ → List Partition → List ℕ

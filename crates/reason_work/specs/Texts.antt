@@ -156,10 +156,12 @@ units_lines looks unreached = looks_lines 0 looks ++ unreached_lines (length loo
 abbrev pub tables_lines : Reasons → List ℕ
 tables_lines r =
     line (slot_text 0 r.first)
-    ++ (line (slot_text 1 r.second) ++ (line (told_text r.table) ++ table_lines (table_of_reasons r)))
+    ++ (line (slot_text 1 r.second)
+    ++ (line (told_text r.table) ++ table_lines (table_of_reasons r)))
 
 -- the text of the reasons
 abbrev pub explain_text : Reasons → List ℕ
 explain_text r =
     decision_line r.decision
-    ++ (line (otp_text r.required r.off r.size) ++ (tables_lines r ++ units_lines r.looks.items r.unreached))
+    ++ (line (otp_text r.required r.off r.size)
+    ++ (tables_lines r ++ units_lines r.looks.items r.unreached))

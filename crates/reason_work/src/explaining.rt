@@ -26,8 +26,8 @@ fn explain_answer<'a, B: Board>(
 ) -> Result<Answer<'a>, AllocError>
     requires power { IsTrue (B.state board.now).powered }
     requires free { HasFree pool.old }
-    ensures { IfOk result
-        (λ answer. outcome_from answer ≡ worked (explain_work (B.state board.now).content cpu kind)) }
+    ensures { IfOk result (λ answer. outcome_from answer
+        ≡ worked (explain_work (B.state board.now).content cpu kind)) }
 {
     let reasons = gather(board, pool, cpu, kind);
     let text = explain_text(alloc, &reasons)?;
@@ -39,7 +39,7 @@ fn explain_answer<'a, B: Board>(
 }
 
 /// A pool for the calls of a boot. It fails only where memory is out.
-fn new_pool(alloc: Global) -> Result<SectorPool, AllocError>
+pub fn new_pool(alloc: Global) -> Result<SectorPool, AllocError>
     ensures { IfOk result (λ pool. HasFree pool) }
 {
     SectorPool::make(alloc, 4)

@@ -37,7 +37,7 @@ fn line_of(alloc: Global, text: &str) -> Result<String, AllocError>
 }
 
 /// A version.
-fn version_text(alloc: Global, version: Version) -> Result<String, AllocError>
+pub fn version_text(alloc: Global, version: Version) -> Result<String, AllocError>
     ensures { IfOk result (λ t. string_bytes t ≡ version_text version) }
 {
     let major = version.major;
@@ -203,7 +203,7 @@ fn unit_text(alloc: Global, number: usize, unit: &SlotUnit) -> Result<String, Al
 }
 
 /// The rollback version of an image, or `none`.
-fn rollback_text(alloc: Global, rollback: Option<u16>) -> Result<String, AllocError>
+pub fn rollback_text(alloc: Global, rollback: Option<u16>) -> Result<String, AllocError>
     ensures { IfOk result (λ t. string_bytes t ≡ rollback_text rollback) }
 {
     match rollback {
