@@ -200,7 +200,8 @@ module _ (c : Content) (cpu : Cpu) (script out bytes pattern : List ℕ) where
           })
       go (Some e) some = inl (script, sweep_fault e, refused-for e some, some-told e some)
 
-  chart-only : (o : Outcome) → IsChartOf c cpu out bytes pattern o → o ≡ worked (chart_work c cpu script out bytes pattern)
+  chart-only : (o : Outcome) → IsChartOf c cpu out bytes pattern o
+      → o ≡ worked (chart_work c cpu script out bytes pattern)
   unfolding told-chart
   chart-only o is =
       same-outcome o Done _ _ is.status is.text is.files

@@ -6,13 +6,12 @@ ghost use Rattle.pico_board.specs.Content.{IsContent};
 ghost use Rattle.pico_board.specs.MemBoard.{state_of};
 ghost use Rattle.sector_pool.specs.Pool.{HasFree};
 ghost use Rattle.boot_rules.specs.Choosing.{decision_in};
-ghost use Rattle.run_course.specs.Outcomes.{Answers, line, one_file, refused, worked};
+ghost use Rattle.run_course.specs.Outcomes.{Answers, line, one_file, worked};
 ghost use Rattle.run_course.specs.Views.{outcome_from};
 ghost use Rattle.run_forms.specs.declared.forms.Form.{Form};
 ghost use Rattle.run_forms.specs.Forms.{HasForm, content_of};
 ghost use Rattle.run_texts.specs.Texts.{decision_text};
 ghost use Rattle.sweep_chart.specs.Charts.{chart_words};
-ghost use Rattle.sweep_work.specs.SweepWorks.{sweep_fault};
 ghost use Rattle.picture_work.specs.ChartWorks.{before_class, chart_file, chart_line, chart_with, chart_work, within_class};
 
 use crate::results::{before_classes, class_of, within_classes};
@@ -21,18 +20,12 @@ use boot_lines::put_decision;
 use boot_rules::decide;
 use boot_sweep::{SweepError, SweepResults, swept};
 use pico_board::{Board, BootKind, Cpu, MemBoard};
-use run_course::{Answer, one_file, refusal};
+use run_course::{Answer, one_file};
 use run_forms::board_of;
 use sector_pool::SectorPool;
 use std::alloc::{AllocError, Global};
 use sweep_chart::{chart_svg, chart_words};
-
-/// A pool for the calls of a boot. It fails only where memory is out.
-fn new_pool(alloc: Global) -> Result<SectorPool, AllocError>
-    ensures { IfOk result (λ pool. HasFree pool) }
-{
-    SectorPool::make(alloc, 4)
-}
+use sweep_work::{new_pool, unswept};
 
 /// What a normal boot decides on the board, in words.
 fn decided_words<B: Board>(
@@ -52,29 +45,6 @@ fn decided_words<B: Board>(
     put_decision(&mut words, &decision);
     let text = words.as_str();
     format!(in alloc; "{text}")
-}
-
-/// Why a session is not swept.
-fn sweep_fault(alloc: Global, reason: SweepError) -> Result<String, AllocError>
-    ensures { IfOk result (λ t. string_bytes t ≡ sweep_fault reason) }
-{
-    match reason {
-        SweepError::NotConfined(k) => format!(in alloc; "not-confined {k}"),
-        SweepError::NotGated(k) => format!(in alloc; "not-gated {k}"),
-        SweepError::TooManySteps => format!(in alloc; "too-many-steps"),
-        SweepError::FormerInSlot => format!(in alloc; "former-in-slot"),
-        SweepError::Memory => format!(in alloc; "memory"),
-        SweepError::TableChanged => format!(in alloc; "table-changed"),
-    }
-}
-
-/// The answer that refuses a script whose session is not swept.
-fn undrawn<'a>(alloc: Global, name: &str, reason: SweepError) -> Result<Answer<'a>, AllocError>
-    ensures { IfOk result
-        (λ answer. outcome_from answer ≡ refused name.now (sweep_fault reason)) }
-{
-    let fault = sweep_fault(alloc, reason)?;
-    refusal(alloc, name, &fault)
 }
 
 /// The answer that tells what a sweep found, and writes its picture.
@@ -123,14 +93,14 @@ fn chart_answer<'a>(
     match swept(alloc, &flash, &otp, &mut pool, cpu, script, pattern) {
         Ok(found) => drawn(alloc, &found, &decided, out),
         Err(SweepError::Memory) => Err(AllocError),
-        Err(reason) => undrawn(alloc, name, reason),
+        Err(reason) => unswept(alloc, name, reason),
     }
 }
 
-/// The work of `chart` on a flash file, an OTP file, a script and a pattern, which have their forms:
-/// how many steps the script's session has for the processor and how many lines of its sweep have
-/// each result, and the picture of the sweep; or the reason why the session is not swept, told of
-/// the script. It fails only where memory is out.
+/// The work of `chart` on a flash file, an OTP file, a script and a pattern, which have their
+/// forms: how many steps the script's session has for the processor and how many lines of its sweep
+/// have each result, and the picture of the sweep; or the reason why the session is not swept, told
+/// of the script. It fails only where memory is out.
 pub fn chart_script<'a>(
     alloc: Global,
     flash: Vec<u8>,

@@ -9,4 +9,5 @@ mod pool;
 mod sweeping;
 
 pub use firming::firm_image;
-pub use sweeping::sweep_script;
+pub use pool::new_pool;
+pub use sweeping::{sweep_script, unswept};

@@ -29,8 +29,8 @@ fn sweep_fault(alloc: Global, reason: SweepError) -> Result<String, AllocError>
     }
 }
 
-/// The answer that refuses a script whose session is not swept.
-fn unswept<'a>(alloc: Global, name: &str, reason: SweepError) -> Result<Answer<'a>, AllocError>
+/// The answer that refuses a script whose session is not swept. It fails only where memory is out.
+pub fn unswept<'a>(alloc: Global, name: &str, reason: SweepError) -> Result<Answer<'a>, AllocError>
     ensures { IfOk result
         (λ answer. outcome_from answer ≡ refused name.now (sweep_fault reason)) }
 {
