@@ -1,0 +1,3 @@
+pub mod MapWorkLemmas
+mod FileLemmas
+mod StartWordLemmas

@@ -1,0 +1,4 @@
+pub mod Texts
+pub mod Works
+pub mod Rules
+pub mod Examples
