@@ -207,5 +207,5 @@ taken-from c a b k ea eb ek =
     ap (λ x. taken_table x (result_ok a) (result_ok b)) (told-from c a b k ea eb ek)
     ∙ (ap (λ (x : Result Table SlotFault). taken_table (told_table_in c) (result_ok x) (result_ok b)) ea
     ∙ (ap (λ (x : Result Table SlotFault).
-        taken_table (told_table_in c) (result_ok (slot_answer_in c 0)) (result_ok x)) eb
+    taken_table (told_table_in c) (result_ok (slot_answer_in c 0)) (result_ok x)) eb
     ∙ taken-in c))
