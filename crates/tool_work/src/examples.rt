@@ -1,18 +1,19 @@
 //! Worked examples of the definitions, proved by computing: each is the `ensures` of a function
 //! that does nothing.
 
-ghost use Rattle.std.specs.Prelude.{◌≡◌, [], ◌∷◌, ◌++◌, codes, None};
+ghost use Rattle.std.specs.Prelude.{ℕ, ◌≡◌, List, [], ◌∷◌, ◌++◌, codes, Err, None, false};
 ghost use Rattle.pico_board.specs.declared.boot.Cpu.TheVariants.{Arm, Riscv};
 ghost use Rattle.image_check.specs.declared.why.Why.TheVariants.{NoBlock, Entry};
 ghost use Rattle.image_check.specs.declared.why.EntryFault.TheVariants.{Pc};
-ghost use Rattle.run_course.specs.Outcomes.{refused, worked};
+ghost use Rattle.run_course.specs.Outcomes.{Answers, refused, worked};
 ghost use Rattle.run_texts.specs.Examples.{small_window};
 ghost use Rattle.image_pack.specs.declared.spec.SealError.TheVariants.{BadSpec, Unsealable, TooLarge as SealedTooLarge, BlockTooLong, NotBootable, Displaced};
 ghost use Rattle.image_pack.specs.declared.spec.SpecField.TheVariants.{Rollback, Rows};
 ghost use Rattle.elf_pack.specs.declared.fault.ElfFault.TheVariants.{NotElf, FileType, Processor, Headers, Segment, Empty, TooMany, Mixed, Overlap, Seal};
-ghost use Rattle.tool_work.specs.Elfs.{elf_blamed, elf_text};
+ghost use Rattle.table_json.specs.declared.fault.JsonFault.TheVariants.{NotJson};
+ghost use Rattle.tool_work.specs.Elfs.{elf_blamed, elf_text, elf_work};
 ghost use Rattle.tool_work.specs.Seals.{blamed, seal_text, sealed_line};
-ghost use Rattle.tool_work.specs.Tools.{table_line};
+ghost use Rattle.tool_work.specs.Tools.{seal_work, table_line, table_work};
 ghost use Rattle.tool_work.specs.ToolWorks.{executable_family, gen_line, plan_line, target_work, uf2_line, window_work};
 
 /// The texts of the errors of a sealing, and the inputs that they are told of.
@@ -77,4 +78,13 @@ pub fn elf_texts()
     ensures of_spec { elf_blamed (codes "e") (codes "s") (Seal (BadSpec Rows)) ≡ codes "s" }
     ensures of_sealing { elf_blamed (codes "e") (codes "s") (Seal Displaced) ≡ codes "e" }
     ensures of_file { elf_blamed (codes "e") (codes "s") NotElf ≡ codes "e" }
+{}
+
+/// On a text that gives no table or spec a work comes to nothing: no fall, no text and no file.
+pub fn works_on_other_texts()
+    ensures table { (out : List ℕ) → table_work out (Err NotJson) ≡ Answers false [] [] }
+    ensures seal { (binary spec out b : List ℕ)
+        → seal_work binary spec out b (Err NotJson) ≡ Answers false [] [] }
+    ensures elf { (elf spec out e : List ℕ)
+        → elf_work elf spec out e (Err NotJson) ≡ Answers false [] [] }
 {}
