@@ -4,7 +4,7 @@
 ghost use Rattle.std.specs.Prelude.{◌≡◌, Err, None, Ok, Some, [], ◌∷◌, codes, false, replicate, true};
 ghost use Rattle.boot_machine.specs.Machines.{InBootsel};
 ghost use Rattle.boot_machine.specs.Examples.{arm_block, begun_download, block_of, busy, guarded_busy, host_with, idle, slot_one, slot_two, target_at};
-ghost use Rattle.boot_machine.specs.Serving.{block_served, done_boot, ruling_on, served, line_only};
+ghost use Rattle.boot_machine.specs.Serving.{block_served, done_boot, is_like, ruling_on, served, line_only};
 ghost use Rattle.boot_machine.specs.Standing.{IsDoneIn};
 ghost use Rattle.boot_rules.specs.Examples.{found_in};
 ghost use Rattle.boot_script.specs.Events.{Happening};
@@ -16,6 +16,7 @@ ghost use Rattle.pico_board.specs.declared.boot.Cpu.{Cpu};
 ghost use Rattle.uf2_place.specs.declared.answer.Accepted.TheVariants.{Again, Done, Skipped};
 ghost use Rattle.uf2_place.specs.declared.answer.PlaceFault.TheVariants.{NoTarget, NotPermitted, Outside};
 ghost use Rattle.uf2_place.specs.declared.answer.Ruling.TheVariants.{Answered, Begins, Continues};
+ghost use Rattle.uf2_place.specs.declared.block.Uf2.{Uf2};
 
 /// The ruling on a block: where it begins a download, and where it continues one.
 pub fn rulings_on_blocks()
@@ -117,6 +118,17 @@ pub fn boots_after_downloads()
     ensures rp2040 { done_boot 0xe48bff56 (slot_two false) ≡ Some Normal }
     ensures stays { done_boot 0xe48bff59 (slot_two true) ≡ None }
     ensures data_stays { done_boot 0xe48bff58 (slot_two true) ≡ None }
+{}
+
+/// A block is of the family and the count of the first block of a download; where there is none no
+/// block is.
+pub fn blocks_of_a_download()
+    ensures none { (b : Uf2) → is_like [] b ≡ false }
+    ensures same { is_like (arm_block 0x10000000 0 ∷ []) (arm_block 0x10000100 1) ≡ true }
+    ensures another_count { is_like (arm_block 0x10000000 0 ∷ [])
+        (block_of 0x2000 0x10000000 1 3 0xe48bff59) ≡ false }
+    ensures another_family { is_like (arm_block 0x10000000 0 ∷ [])
+        (block_of 0x2000 0x10000000 1 2 0xe48bff5a) ≡ false }
 {}
 
 /// The target of a done download starts within the greatest flash.
