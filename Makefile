@@ -6,7 +6,7 @@
 # make faults     compares the page of faults with the program's code; needs no program
 # make real       links small firmware with the toolchains that are there, and takes it from its ELF file to a swept update;
 #                 installs nothing, and says which of Debian's packages it uses
-# make pictures   draws sweeps, compares the README's with docs/chart.svg, and renders them where Chromium is there, into out/pictures
+# make pictures   draws flashes and sweeps, compares the README's with docs/map.svg and docs/chart.svg, and renders them where Chromium is there, into out/pictures
 # make install    puts the proved program, its manual page, its completions and two pages of docs/ below PREFIX; make it first
 # make uninstall  takes them away again
 # make bench      proves, builds for processors of x86-64-v3, and then times the program beside `openssl dgst -sha256` on flashes of 16 MiB
