@@ -1,10 +1,11 @@
 //! Laws of the definitions, proved: each is the `ensures` of a function that does nothing.
 
-ghost use Rattle.std.specs.Prelude.{◌≡◌, ◌≢◌, ◌+◌, ◌/◌, ◌<◌, ℕ, length, slice_get, true, false, Some};
+ghost use Rattle.std.specs.Prelude.{◌≡◌, ◌≢◌, ◌+◌, ◌/◌, ◌<◌, ◌≤◌, ℕ, List, length, slice_get, true, false, Option, Some};
 ghost use Rattle.std.specs.List.{sum_by};
 ghost use Rattle.pico_board.specs.declared.boot.Cpu.{Cpu};
 ghost use Rattle.pico_board.specs.Content.{Content, IsContent};
 ghost use Rattle.otp_roll.specs.Flags.{slot_size};
+ghost use Rattle.part_table.specs.declared.table.Table.{Table};
 ghost use Rattle.part_table.specs.Windows.{IsPlaced};
 ghost use Rattle.slot_choice.specs.declared.choice.Choice.{Choice};
 ghost use Rattle.slot_choice.specs.declared.unit.Member.TheVariants.{A, B};
@@ -13,9 +14,10 @@ ghost use Rattle.boot_rules.specs.declared.decision.Decision.TheVariants.{Bootse
 ghost use Rattle.boot_rules.specs.declared.decision.Fall.{Fall};
 ghost use Rattle.flash_map.specs.declared.maps.FlashMap.{FlashMap};
 ghost use Rattle.flash_map.specs.declared.maps.MapRow.{MapRow};
+ghost use Rattle.flash_map.specs.declared.places.MapWindow.{MapWindow};
 ghost use Rattle.flash_map.specs.declared.places.Place.TheVariants.{Slot, Partition as Part, Free};
-ghost use Rattle.flash_map.specs.Windows.{has_slots, parts_of, window_end};
-ghost use Rattle.flash_map.specs.WindowRules.{HasSector};
+ghost use Rattle.flash_map.specs.Windows.{has_slots, map_windows, parts_of, window_end};
+ghost use Rattle.flash_map.specs.WindowRules.{AreMapWindows, HasSector, IsMappable};
 ghost use Rattle.flash_map.specs.Maps.{map_in, paired, table_of_map};
 ghost use Rattle.flash_map.specs.MapRules.{ArePair, IsMap, IsNumbered};
 
@@ -26,6 +28,17 @@ pub fn one_map()
         → m ≡ map_in c cpu }
     ensures same { (c : Content) (cpu : Cpu) (m o : FlashMap) → IsContent c → IsMap c cpu m
         → IsMap c cpu o → m ≡ o }
+{}
+
+/// A flash of whole sectors can be mapped with its own table. Of a flash that can be mapped the
+/// rules name exactly one list of windows: that of the function.
+pub fn one_list_of_windows()
+    ensures mappable { (c : Content) → IsContent c
+        → IsMappable (table_of_content c) (length c.flash) (slot_size c.otp (length c.flash)) }
+    ensures right { (t : Option Table) (n z : ℕ) → IsMappable t n z
+        → AreMapWindows t n z (map_windows t n z) }
+    ensures only { (t : Option Table) (n z : ℕ) (windows : List MapWindow) → IsMappable t n z
+        → AreMapWindows t n z windows → windows ≡ map_windows t n z }
 {}
 
 /// The table that is told is that of the flash, where it has one.
@@ -43,6 +56,9 @@ pub fn windows_fill_the_flash()
     ensures next { (c : Content) (cpu : Cpu) (m : FlashMap) (k : ℕ) (r s : MapRow) → IsMap c cpu m
         → slice_get m.rows.items k ≡ Some r → slice_get m.rows.items (k + 1) ≡ Some s
         → s.window.start ≡ window_end r.window }
+    ensures order { (c : Content) (cpu : Cpu) (m : FlashMap) (j k : ℕ) (r s : MapRow)
+        → IsMap c cpu m → j < k → slice_get m.rows.items j ≡ Some r
+        → slice_get m.rows.items k ≡ Some s → window_end r.window ≤ s.window.start }
     ensures last { (c : Content) (cpu : Cpu) (m : FlashMap) (k : ℕ) (r : MapRow) → IsMap c cpu m
         → slice_get m.rows.items k ≡ Some r → k + 1 ≡ length m.rows.items
         → window_end r.window ≡ length c.flash }

@@ -1,6 +1,6 @@
 use Rattle.std.proofs.Common.{◌≡◌, ℕ, suc, ◌+◌, length, slice_get, Some, subst, arith}
 use Rattle.flash_map.specs.declared.maps.MapRow.{MapRow}
-use Rattle.flash_map.proofs.SideLemmas.{first-begins, last-ends, next-begins, sum-side}
+use Rattle.flash_map.proofs.SideLemmas.{first-begins, last-ends, next-begins, ordered, sum-side}
 use Rattle.flash_map.proofs.StartLemmas.{placed, row-at}
 use Rattle.flash_map.proofs.laws.windows_fill_the_flash.Goals as goal
 
@@ -15,6 +15,10 @@ pub returns-clause-next : goal.returns-clause-next
 returns-clause-next a = λ c cpu m k r s is at next.
     next-begins (λ (x : MapRow). x.window) (length c.flash) m.rows.items 0 k r s is.side_by_side at
     (subst (λ j. slice_get m.rows.items j ≡ Some s) (next-at k) next)
+
+pub returns-clause-order : goal.returns-clause-order
+returns-clause-order a = λ c cpu m j k r s is lt one two.
+    ordered (λ (x : MapRow). x.window) (length c.flash) m.rows.items 0 j k r s is.side_by_side lt one two
 
 pub returns-clause-last : goal.returns-clause-last
 returns-clause-last a = λ c cpu m k r is at last.
