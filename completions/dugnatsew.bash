@@ -4,7 +4,7 @@ _dugnatsew() {
     local word=${COMP_WORDS[COMP_CWORD]} words=""
     COMPREPLY=()
     case $(_dugnatsew_form "${COMP_WORDS[1]}" "$COMP_CWORD") in
-        COMMAND) words="boot info data explain replay sweep chart seal elf firm table uf2 plan copy list script gen --help --version" ;;
+        COMMAND) words="boot info data explain map replay sweep chart seal elf firm table uf2 plan copy list script gen --help --version" ;;
         CPU) words="arm riscv" ;;
         KIND) words="normal bootsel update=0x" ;;
         FAMILY) words="rp2040 absolute data rp2350-arm-s rp2350-riscv rp2350-arm-ns" ;;
@@ -27,6 +27,7 @@ _dugnatsew_form() {
     local -a forms=(COMMAND)
     case $1 in
         boot | data | explain) forms+=(FILE FILE CPU KIND) ;;
+        map) forms+=(FILE FILE CPU FILE) ;;
         info) forms+=(FILE FILE CPU) ;;
         replay | chart) forms+=(FILE FILE CPU FILE FILE FILE) ;;
         sweep) forms+=(FILE FILE CPU FILE FILE) ;;

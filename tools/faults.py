@@ -41,6 +41,7 @@ riscv|rp2040|rp2350-arm-ns|rp2350-arm-s|rp2350-riscv|rw|secure={},nonsecure={},b
 slot|slot {} fault={}|slots|table {} partitions={} singleton={}|table slot={} because={}|tie|unit
 unit {} not-reached|unit {} takes|updated|version|w|whole
 {} {} to {}|{} to {}|chart steps={} former={} finished={} chance={}|steps|steps 0 to {}|within
+{} starts|free|map windows={}|partition {} name={} families={}
 """
 
 

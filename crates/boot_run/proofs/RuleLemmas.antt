@@ -12,7 +12,7 @@ use Rattle.boot_rules.proofs.DecisionLemmas.{decision-chosen, chosen-decision}
 use Rattle.run_course.specs.declared.status.Status.TheVariants.{Input as Refused, Bootsel}
 use Rattle.run_course.specs.Outcomes.{AreOfBytes, Outcome, Answers, found, outcome_found}
 use Rattle.run_course.proofs.ReadLemmas.{found-long}
-use Rattle.run_words.specs.Commands.{Command, Boot, Info, OwnedData, Explain, Replay, Sweep, Chart, Seal, Elf, Firm, Table, Usage, Release, Uf2, Plan, Copy, ListScript, WriteScript, Gen}
+use Rattle.run_words.specs.Commands.{Command, Boot, Info, OwnedData, Explain, Map, Replay, Sweep, Chart, Seal, Elf, Firm, Table, Usage, Release, Uf2, Plan, Copy, ListScript, WriteScript, Gen}
 use Rattle.run_words.specs.Usages.{usage_text, release_line}
 use Rattle.run_forms.specs.declared.forms.Form.TheVariants.{Flash, Otp}
 use Rattle.run_forms.specs.Forms.{HasForm, content_of}
@@ -23,6 +23,7 @@ use Rattle.run_forms.proofs.WorkLemmas.{work-obeys, work-only, work-refused, non
 use Rattle.board_work.specs.Rules.{decided_status}
 use Rattle.board_work.proofs.BoardWorkLemmas.{boot-works, info-works, data-works}
 use Rattle.reason_work.proofs.ReasonWorkLemmas.{explain-works}
+use Rattle.map_work.proofs.MapWorkLemmas.{map-works}
 use Rattle.script_work.proofs.ReplayRuleLemmas.{replay-works}
 use Rattle.picture_work.proofs.ChartRuleLemmas.{chart-works}
 use Rattle.sweep_work.proofs.FirmRuleLemmas.{firm-works}
@@ -41,6 +42,7 @@ works (Boot flash otp cpu kind) = boot-works flash otp cpu kind
 works (Info flash otp cpu) = info-works flash otp cpu
 works (OwnedData flash otp cpu kind) = data-works flash otp cpu kind
 works (Explain flash otp cpu kind) = explain-works flash otp cpu kind
+works (Map flash otp cpu out) = map-works flash otp out cpu
 works (Replay flash otp cpu script out_flash out_otp) = replay-works flash otp script out_flash out_otp cpu
 works (Sweep flash otp cpu script pattern) = sweep-works flash otp script pattern cpu
 works (Chart flash otp cpu script pattern out) = chart-works flash otp script pattern out cpu
@@ -86,6 +88,7 @@ bytes-serve (Boot flash otp cpu kind) read small = tt
 bytes-serve (Info flash otp cpu) read small = tt
 bytes-serve (OwnedData flash otp cpu kind) read small = tt
 bytes-serve (Explain flash otp cpu kind) read small = tt
+bytes-serve (Map flash otp cpu out) read small = small
 bytes-serve (Replay flash otp cpu script out_flash out_otp) read small = small
 bytes-serve (Sweep flash otp cpu script pattern) read small = small
 bytes-serve (Chart flash otp cpu script pattern out) read small = small

@@ -4,13 +4,14 @@
 use Rattle.std.specs.Prelude.{ℕ, false, List, [], Option, Some, None, ◌≡◌, ⊤}
 use Rattle.pico_board.specs.Files.{File}
 use Rattle.run_course.specs.Outcomes.{Input, Outcome, Work, Answers, not_understood, found, outcome_found, AreOfBytes}
-use Rattle.run_words.specs.Commands.{Command, Boot, Info, OwnedData, Explain, Replay, Sweep, Chart, Seal, Elf, Firm, Table, Usage, Release, Uf2, Plan, Copy, ListScript, WriteScript, Gen}
+use Rattle.run_words.specs.Commands.{Command, Boot, Info, OwnedData, Explain, Map, Replay, Sweep, Chart, Seal, Elf, Firm, Table, Usage, Release, Uf2, Plan, Copy, ListScript, WriteScript, Gen}
 use Rattle.run_words.specs.Usages.{usage_text, release_line}
 use Rattle.run_forms.specs.Forms.{content_of, HasForm}
 use Rattle.run_forms.specs.Jsons.{spec_read, table_read}
 use Rattle.run_forms.specs.Inputs.{InputFile, readings, flash_and_otp, flash_otp_script, flash_otp_script_pattern, flash_otp_image, binary_and_spec, elf_and_spec, one_json, image_alone, uf2_alone, script_alone, text_alone, of_one, of_two, of_three, of_four, outcome_by}
 use Rattle.board_work.specs.Works.{boot_work, info_work, data_work}
 use Rattle.reason_work.specs.Works.{explain_work}
+use Rattle.map_work.specs.Works.{map_work}
 use Rattle.script_work.specs.Works.{replay_work}
 use Rattle.picture_work.specs.ChartWorks.{chart_work}
 use Rattle.sweep_work.specs.FirmWorks.{firm_work}
@@ -34,6 +35,7 @@ use Rattle.run_forms.specs.declared.forms.Form.TheVariants.{Flash, Otp}
 use Rattle.run_forms.specs.Rules.{OfOne, OfTwo, OfThree, OfFour, IsRefusedFor, IsWorked}
 use Rattle.board_work.specs.Rules.{decided_status, IsBootOf, IsInfoOf, IsDataOf}
 use Rattle.reason_work.specs.Rules.{IsExplainOf}
+use Rattle.map_work.specs.Rules.{IsMapOf}
 use Rattle.script_work.specs.Rules.{IsReplayOf}
 use Rattle.text_work.specs.Rules.{IsCopyOf, IsListOf, IsTextRefused, IsWrittenOf}
 use Rattle.picture_work.specs.Rules.{IsChartOf}
@@ -48,6 +50,7 @@ inputs_of (Boot flash otp cpu kind) = flash_and_otp flash otp
 inputs_of (Info flash otp cpu) = flash_and_otp flash otp
 inputs_of (OwnedData flash otp cpu kind) = flash_and_otp flash otp
 inputs_of (Explain flash otp cpu kind) = flash_and_otp flash otp
+inputs_of (Map flash otp cpu out) = flash_and_otp flash otp
 inputs_of (Replay flash otp cpu script out_flash out_otp) = flash_otp_script flash otp script
 inputs_of (Sweep flash otp cpu script pattern) =
     flash_otp_script_pattern flash otp script pattern
@@ -73,6 +76,7 @@ work_of (Info flash otp cpu) = of_two (λ f g. info_work (content_of f g) cpu)
 work_of (OwnedData flash otp cpu kind) = of_two (λ f g. data_work (content_of f g) cpu kind)
 work_of (Explain flash otp cpu kind) =
     of_two (λ f g. explain_work (content_of f g) cpu kind)
+work_of (Map flash otp cpu out) = of_two (λ f g. map_work (content_of f g) cpu out)
 work_of (Replay flash otp cpu script out_flash out_otp) =
     of_three (λ f g s. replay_work (content_of f g) cpu s out_flash out_otp)
 work_of (Sweep flash otp cpu script pattern) =
@@ -148,6 +152,8 @@ IsRight (OwnedData flash otp cpu kind) read o =
     OfTwo (λ f g. IsDataOf (content_of f g) cpu kind o) read
 IsRight (Explain flash otp cpu kind) read o =
     OfTwo (λ f g. IsExplainOf (content_of f g) cpu kind o) read
+IsRight (Map flash otp cpu out) read o =
+    OfTwo (λ f g. IsMapOf (content_of f g) cpu out o) read
 IsRight (Replay flash otp cpu script out_flash out_otp) read o =
     OfThree (λ f g s. IsReplayOf (content_of f g) cpu s out_flash out_otp o) read
 IsRight (Sweep flash otp cpu script pattern) read o =
@@ -175,9 +181,11 @@ abbrev pub Obeys : Command → List (List ℕ) → Outcome → Type 0
 Obeys command read o =
     IsWorked (inputs_of command) (IsRefusedWork command read) (IsRight command read) read o
 
--- a replay, a sweep and its picture ask that their inputs are of bytes, since power that is lost in an erase
--- leaves bytes, and the packing of an ELF file, since its entry is a word; the other commands ask nothing
+-- the picture of a flash asks that its inputs are of bytes, since a content is; so do a replay, a
+-- sweep and its picture, since power that is lost in an erase leaves bytes, and the packing of an
+-- ELF file, since its entry is a word; the other commands ask nothing
 abbrev pub NeedsBytes : Command → List (List ℕ) → Type 0
+NeedsBytes (Map flash otp cpu out) read = AreOfBytes read
 NeedsBytes (Replay flash otp cpu script out_flash out_otp) read = AreOfBytes read
 NeedsBytes (Sweep flash otp cpu script pattern) read = AreOfBytes read
 NeedsBytes (Chart flash otp cpu script pattern out) read = AreOfBytes read

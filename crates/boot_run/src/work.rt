@@ -9,6 +9,7 @@ ghost use Rattle.run_forms.specs.Views.{input_file_from};
 ghost use Rattle.boot_run.specs.Commands.{command_outcome, inputs_of, work_of};
 
 use board_work::{boot, data, info};
+use map_work::map_flash;
 use picture_work::chart_script;
 use reason_work::explain;
 use run_course::{Answer, told};
@@ -38,6 +39,7 @@ pub fn inputs<'a>(
         CommandWords::Info { flash, otp, .. } => flash_and_otp(alloc, flash, otp),
         CommandWords::OwnedData { flash, otp, .. } => flash_and_otp(alloc, flash, otp),
         CommandWords::Explain { flash, otp, .. } => flash_and_otp(alloc, flash, otp),
+        CommandWords::Map { flash, otp, .. } => flash_and_otp(alloc, flash, otp),
         CommandWords::Replay {
             flash,
             otp,
@@ -105,6 +107,10 @@ fn work<'a>(
         CommandWords::Explain { cpu, kind, .. } => {
             let (flash, otp) = board_files(files);
             explain(alloc, flash, &otp, *cpu, *kind)
+        }
+        CommandWords::Map { cpu, out, .. } => {
+            let (flash, otp) = board_files(files);
+            map_flash(alloc, flash, &otp, *cpu, out)
         }
         CommandWords::Replay {
             cpu,

@@ -1,4 +1,5 @@
-//! What `boot`, `info` and `data` tell of flashes whose texts were worked out by hand.
+//! What `boot`, `info`, `data`, `explain` and `map` tell of flashes whose texts were worked out by
+//! hand.
 
 use boot_run::{Status, run};
 use pico_board::{MemSink, MemStore};
@@ -203,7 +204,7 @@ const BOOTS: [Case; 12] = [
 ];
 
 /// What windows have, why a boot decides so, and the data of an owner.
-const WINDOWS: [Case; 9] = [
+const WINDOWS: [Case; 11] = [
     (
         &["explain", "f", "o", "arm", "normal"],
         MINIMAL,
@@ -219,6 +220,20 @@ unit 0 whole
 image window=0x00000000+0x00002000 ok version=0.0 rollback=none trial=no
 unit 0 takes window=0x00000000+0x00002000 because=only
 ",
+    ),
+    (
+        &["map", "f", "o", "arm", "a"],
+        MINIMAL,
+        NO_ROW,
+        Status::Done,
+        "map windows=1\n",
+    ),
+    (
+        &["map", "f", "o", "riscv", "a"],
+        SLOTS,
+        SLOT_SIZE,
+        Status::Done,
+        "map windows=2\n",
     ),
     (
         &["info", "f", "o", "arm"],
@@ -338,7 +353,7 @@ fn otp(alloc: Global, rows: (usize, u8)) -> Result<Vec<u8>, Fail> {
     Ok(bytes)
 }
 
-/// How a case ends, in two reads, no write and one put: another one would fail.
+/// How a case ends, in two reads, one write and one put: another one would fail.
 fn ended(alloc: Global, case: &Case) -> Result<(Status, MemSink), Fail> {
     let (texts, (parts, length), rows, _, _) = case;
     let files = vec![in alloc;
@@ -346,7 +361,7 @@ fn ended(alloc: Global, case: &Case) -> Result<(Status, MemSink), Fail> {
         (String::from_str(alloc, "o")?, otp(alloc, *rows)?),
     ]?;
     let bad_reads = vec![in alloc; 2_u64]?;
-    let mut store = MemStore::make(alloc, files, bad_reads, vec![in alloc; 0_u64]?);
+    let mut store = MemStore::make(alloc, files, bad_reads, vec![in alloc; 1_u64]?);
     let mut out = MemSink::make(alloc, vec![in alloc; 1_u64]?);
     let status = run(alloc, &words(alloc, texts)?, &mut store, &mut out);
     Ok((status, out))

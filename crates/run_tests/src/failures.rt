@@ -7,11 +7,12 @@ use std::alloc::Global;
 use std::test::Fail;
 
 /// The words of each command that reads a file or writes one, its reads, and its writes.
-const COMMANDS: [(&[&str], u64, u64); 17] = [
+const COMMANDS: [(&[&str], u64, u64); 18] = [
     (&["boot", "f", "o", "arm", "normal"], 2, 0),
     (&["info", "f", "o", "arm"], 2, 0),
     (&["data", "f", "o", "arm", "normal"], 2, 0),
     (&["explain", "f", "o", "arm", "normal"], 2, 0),
+    (&["map", "f", "o", "arm", "a"], 2, 1),
     (&["replay", "f", "o", "arm", "s", "a", "b"], 3, 2),
     (&["sweep", "f", "o", "arm", "s", "t"], 4, 0),
     (&["chart", "f", "o", "arm", "s", "t", "a"], 4, 1),

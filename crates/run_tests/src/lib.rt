@@ -8,4 +8,6 @@ mod boards;
 #[cfg(test)]
 mod failures;
 #[cfg(test)]
+mod maps;
+#[cfg(test)]
 mod usage;

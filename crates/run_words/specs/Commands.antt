@@ -16,6 +16,7 @@ pub data Command : Type 0 where
   Info : (flash otp : List ℕ) → (cpu : Cpu) → Command
   OwnedData : (flash otp : List ℕ) → (cpu : Cpu) → (kind : BootKind) → Command
   Explain : (flash otp : List ℕ) → (cpu : Cpu) → (kind : BootKind) → Command
+  Map : (flash otp : List ℕ) → (cpu : Cpu) → (out : List ℕ) → Command
   Replay : (flash otp : List ℕ) → (cpu : Cpu) → (script out_flash out_otp : List ℕ) → Command
   Sweep : (flash otp : List ℕ) → (cpu : Cpu) → (script pattern : List ℕ) → Command
   Chart : (flash otp : List ℕ) → (cpu : Cpu) → (script pattern out : List ℕ) → Command
@@ -119,15 +120,21 @@ four_words name first second third =
     else option_or (board_words name first second (cpu_of third))
     (uf2_words name first (family_of second) third)
 
--- the name of a command and four words
-abbrev pub five_words : List ℕ → List ℕ → List ℕ → Option Cpu → Option BootKind → Option Command
-five_words name flash otp None kind = None
-five_words name flash otp (Some cpu) None = None
-five_words name flash otp (Some cpu) (Some kind) =
+-- the name of a command on a flash, an OTP, a processor and a boot type
+abbrev pub kind_words : List ℕ → List ℕ → List ℕ → Cpu → Option BootKind → Option Command
+kind_words name flash otp cpu None = None
+kind_words name flash otp cpu (Some kind) =
     if bytes_eq name (codes "boot") then Some (Boot flash otp cpu kind)
     else if bytes_eq name (codes "data") then Some (OwnedData flash otp cpu kind)
     else if bytes_eq name (codes "explain") then Some (Explain flash otp cpu kind)
     else None
+
+-- the name of a command and four words
+abbrev pub five_words : List ℕ → List ℕ → List ℕ → Option Cpu → List ℕ → Option Command
+five_words name flash otp None last = None
+five_words name flash otp (Some cpu) last =
+    if bytes_eq name (codes "map") then Some (Map flash otp cpu last)
+    else kind_words name flash otp cpu (kind_of last)
 
 -- the name of a command and five words
 abbrev pub six_words : List ℕ → List ℕ → List ℕ → Option Cpu → List ℕ → List ℕ → Option Command
@@ -152,8 +159,8 @@ command_of (name ∷ []) = one_word name
 command_of (name ∷ word ∷ []) = two_words name word
 command_of (name ∷ first ∷ second ∷ []) = three_words name first second
 command_of (name ∷ first ∷ second ∷ third ∷ []) = four_words name first second third
-command_of (name ∷ flash ∷ otp ∷ cpu ∷ kind ∷ []) =
-    five_words name flash otp (cpu_of cpu) (kind_of kind)
+command_of (name ∷ flash ∷ otp ∷ cpu ∷ last ∷ []) =
+    five_words name flash otp (cpu_of cpu) last
 command_of (name ∷ flash ∷ otp ∷ cpu ∷ first ∷ second ∷ []) =
     six_words name flash otp (cpu_of cpu) first second
 command_of (name ∷ flash ∷ otp ∷ cpu ∷ script ∷ second ∷ third ∷ []) =
@@ -170,6 +177,7 @@ command_from (words.Boot flash otp cpu kind) = Boot flash.now otp.now cpu kind
 command_from (words.Info flash otp cpu) = Info flash.now otp.now cpu
 command_from (words.OwnedData flash otp cpu kind) = OwnedData flash.now otp.now cpu kind
 command_from (words.Explain flash otp cpu kind) = Explain flash.now otp.now cpu kind
+command_from (words.Map flash otp cpu out) = Map flash.now otp.now cpu out.now
 command_from (words.Replay flash otp cpu script out_flash out_otp) =
     Replay flash.now otp.now cpu script.now out_flash.now out_otp.now
 command_from (words.Sweep flash otp cpu script pattern) =

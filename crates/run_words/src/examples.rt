@@ -4,7 +4,7 @@
 ghost use Rattle.std.specs.Prelude.{◌≡◌, [], ◌∷◌, codes, Some, None};
 ghost use Rattle.pico_board.specs.declared.boot.Cpu.TheVariants.{Arm, Riscv};
 ghost use Rattle.pico_board.specs.declared.boot.BootKind.TheVariants.{Normal, Bootsel as AskBootsel, Update};
-ghost use Rattle.run_words.specs.Commands.{Table, command_of, kind_of, Boot, Info, OwnedData, Explain, Replay, Usage, Release, Sweep, Chart, Seal, Elf, Firm, Uf2, Plan, Copy, ListScript, WriteScript, Gen};
+ghost use Rattle.run_words.specs.Commands.{Table, command_of, kind_of, Boot, Info, OwnedData, Explain, Map, Replay, Usage, Release, Sweep, Chart, Seal, Elf, Firm, Uf2, Plan, Copy, ListScript, WriteScript, Gen};
 ghost use Rattle.run_words.specs.Usages.{release_line};
 ghost use Rattle.run_words.specs.Values.{family_of, number_of};
 
@@ -24,6 +24,12 @@ pub fn words_of_commands()
     ensures explain { command_of
         (codes "explain" ∷ codes "f" ∷ codes "o" ∷ codes "riscv" ∷ codes "bootsel" ∷ [])
         ≡ Some (Explain (codes "f") (codes "o") Riscv AskBootsel) }
+    ensures map { command_of
+        (codes "map" ∷ codes "f" ∷ codes "o" ∷ codes "riscv" ∷ codes "a" ∷ [])
+        ≡ Some (Map (codes "f") (codes "o") Riscv (codes "a")) }
+    ensures map_to_normal { command_of
+        (codes "map" ∷ codes "f" ∷ codes "o" ∷ codes "arm" ∷ codes "normal" ∷ [])
+        ≡ Some (Map (codes "f") (codes "o") Arm (codes "normal")) }
     ensures replay { command_of
         (codes "replay" ∷ codes "f" ∷ codes "o" ∷ codes "riscv" ∷ codes "s" ∷ codes "a"
         ∷ codes "b" ∷ []) ≡ Some
@@ -75,6 +81,13 @@ pub fn other_words()
     ensures replay_cpu { command_of
         (codes "replay" ∷ codes "f" ∷ codes "o" ∷ codes "x86" ∷ codes "s" ∷ codes "a" ∷ codes "b"
         ∷ []) ≡ None }
+    ensures map_cpu { command_of
+        (codes "map" ∷ codes "f" ∷ codes "o" ∷ codes "x86" ∷ codes "a" ∷ []) ≡ None }
+    ensures map_of_three { command_of
+        (codes "map" ∷ codes "f" ∷ codes "o" ∷ codes "arm" ∷ []) ≡ None }
+    ensures map_of_five { command_of
+        (codes "map" ∷ codes "f" ∷ codes "o" ∷ codes "arm" ∷ codes "normal" ∷ codes "a" ∷ [])
+        ≡ None }
     ensures eight { command_of
         (codes "replay" ∷ codes "f" ∷ codes "o" ∷ codes "arm" ∷ codes "s" ∷ codes "a" ∷ codes "b"
         ∷ codes "c" ∷ []) ≡ None }

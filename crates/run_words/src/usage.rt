@@ -14,6 +14,7 @@ pub const USAGE: &str =
 info FLASH OTP CPU       the partition table, and the image in each window or why there is none
 data FLASH OTP CPU KIND  the same as boot, and the windows of the data that the image owns
 explain FLASH OTP CPU KIND  why a boot decides so: each table, partition, unit and image
+map FLASH OTP CPU OUT    a picture of the flash, in SVG: what is where, and what a boot starts
 replay FLASH OTP CPU SCRIPT OUTFLASH OUTOTP  what each event of a script does, and what it leaves
 sweep FLASH OTP CPU SCRIPT PATTERN  what a boot makes of each loss of power in a script's session
 chart FLASH OTP CPU SCRIPT PATTERN OUT  the same as a picture: a file in SVG

@@ -1,7 +1,7 @@
 //! The words that are a command.
 
 ghost use Rattle.std.specs.Prelude.{◌≡◌, ◌≢◌, ◌<◌, ◌≤◌, length, IfSome, option_map, map, string_bytes};
-ghost use Rattle.run_words.specs.Commands.{command_of, cpu_of, kind_of, hex_digit, hex_value, update_base, one_word, firm_words, three_words, board_words, four_words, five_words, seven_words, gen_words, two_words, uf2_words, six_words, command_from};
+ghost use Rattle.run_words.specs.Commands.{command_of, cpu_of, kind_of, hex_digit, hex_value, update_base, one_word, firm_words, three_words, board_words, four_words, kind_words, five_words, seven_words, gen_words, two_words, uf2_words, six_words, command_from};
 ghost use Rattle.run_words.specs.Values.{family_of, number_of};
 
 use crate::values::{family_word, number_word};
@@ -36,6 +36,13 @@ pub enum CommandWords<'a> {
         otp: &'a str,
         cpu: Cpu,
         kind: BootKind,
+    },
+    /// A picture of a flash.
+    Map {
+        flash: &'a str,
+        otp: &'a str,
+        cpu: Cpu,
+        out: &'a str,
     },
     /// What a script does to a machine.
     Replay {
@@ -318,18 +325,17 @@ fn four_words<'a>(
     }
 }
 
-/// The command of five words.
-fn five_words<'a>(
+/// The command of a flash, an OTP, a processor and a boot type.
+fn kind_words<'a>(
     name: &str,
     flash: &'a str,
     otp: &'a str,
-    cpu: &str,
+    cpu: Cpu,
     kind: &str,
 ) -> Option<CommandWords<'a>>
     ensures { option_map command_from result
-        ≡ five_words name.now flash.entry.now otp.entry.now (cpu_of cpu.now) (kind_of kind.now) }
+        ≡ kind_words name.now flash.entry.now otp.entry.now cpu (kind_of kind.now) }
 {
-    let cpu = cpu_word(cpu)?;
     let kind = kind_word(kind)?;
     if name == "boot" {
         Some(CommandWords::Boot {
@@ -354,6 +360,30 @@ fn five_words<'a>(
         })
     } else {
         None
+    }
+}
+
+/// The command of five words.
+fn five_words<'a>(
+    name: &str,
+    flash: &'a str,
+    otp: &'a str,
+    cpu: &str,
+    last: &'a str,
+) -> Option<CommandWords<'a>>
+    ensures { option_map command_from result
+        ≡ five_words name.now flash.entry.now otp.entry.now (cpu_of cpu.now) last.entry.now }
+{
+    let cpu = cpu_word(cpu)?;
+    if name == "map" {
+        Some(CommandWords::Map {
+            flash,
+            otp,
+            cpu,
+            out: last,
+        })
+    } else {
+        kind_words(name, flash, otp, cpu, last)
     }
 }
 
@@ -458,7 +488,7 @@ fn three_or_more(words: &[String]) -> Option<CommandWords<'_>>
     match words {
         [name, first, second] => three_words(name, first, second),
         [name, first, second, third] => four_words(name, first, second, third),
-        [name, flash, otp, cpu, kind] => five_words(name, flash, otp, cpu, kind),
+        [name, flash, otp, cpu, last] => five_words(name, flash, otp, cpu, last),
         _ => six_or_more(words),
     }
 }
