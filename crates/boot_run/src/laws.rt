@@ -12,9 +12,8 @@ ghost use Rattle.run_course.specs.Outcomes.{Outcome, found};
 ghost use Rattle.boot_run.specs.Commands.{inputs_of, command_outcome, outcome_on, Obeys, FallsOn, NeedsBytes, IsRefused};
 ghost use Rattle.run_course.specs.Ends.{cut};
 
-/// The outcome of a command on the bytes of its inputs is the one that is right by the rules. Of a
-/// replay alone it is asked that its inputs are of bytes, since an erase that loses power leaves
-/// bytes.
+/// The outcome of a command on the bytes of its inputs is the one that is right by the rules. Of
+/// the commands that `NeedsBytes` names it is asked that their inputs are of bytes.
 pub fn outcomes_are_right()
     ensures right { (command : Command) (read : List (List ℕ))
         → length read ≡ length (inputs_of command) → NeedsBytes command read

@@ -154,16 +154,14 @@ pub fn words(alloc: Global, texts: &[&str]) -> Result<Vec<String>, AllocError>
     Ok(words)
 }
 
-/// An ELF file for the Arm cores of one segment, the least image, at 0x10000000. It fails only
-/// where memory is out.
+/// An ELF file for the Arm cores of one segment, the least image, at 0x10000000: 380 bytes. It
+/// fails only where memory is out.
 pub fn elf_file(alloc: Global) -> Result<Vec<u8>, AllocError>
     ensures { IfOk result (λ bytes. length bytes.items ≡ 380) }
 {
-    let mut bytes = Vec::new(alloc);
-    for word in ELF_HEAD {
-        bytes.extend_from_slice(&word.to_le_bytes())?;
-    }
-    let image = flash(alloc, &[(0, &VECTORS), (0x114, &ARM)], 0x128)?;
-    bytes.extend_from_slice(&image)?;
-    Ok(bytes)
+    flash(
+        alloc,
+        &[(0, &ELF_HEAD), (84, &VECTORS), (84 + 0x114, &ARM)],
+        84 + 0x128,
+    )
 }
