@@ -27,5 +27,23 @@ free_window = record {
   starts = false;
 }
 
+-- words of 80 bytes
+abbrev pub whole_line : Bar
+whole_line = record {
+  window = record { start = 0; len = 4096 };
+  words = codes "0x10000000 to 0x10000fff partition 0 name=a families=0x4 version=1.00 rollback=0";
+  free = false;
+  starts = true;
+}
+
+-- words of 81 bytes, the last word of which stands in a line of its own
+abbrev pub two_lines : Bar
+two_lines = record {
+  window = record { start = 0; len = 4096 };
+  words = codes "0x10000000 to 0x10000fff partition 0 name=ab families=0x4 version=1.00 rollback=0";
+  free = false;
+  starts = true;
+}
+
 abbrev pub three_windows : List Bar
 three_windows = started_slot ∷ unstarted_slot ∷ free_window ∷ []

@@ -1,7 +1,7 @@
 -- What the picture of a flash has. The picture is 960 wide. A column on its left is the flash from
 -- its first byte, at the top, to its last. Words begin at 160 and are 14 high; a line of them has
--- at most 80 letters and the word `starts` behind them, each of at most 9 points. This project's
--- own.
+-- at most 80 letters, a blank and the word `starts` behind them, each of at most 9 points. This
+-- project's own.
 use Rattle.std.specs.Prelude.{ℕ, ◌+◌, ◌-◌, ◌*◌, ◌/◌, ◌%◌, ◌^◌, ◌==◌, Bool, false, if◌then◌else◌, max, List, [], ◌∷◌, ◌++◌, length, map, codes, decimal, string_bytes}
 use Rattle.std.specs.Fmt.{digits, padded_integral, format_spec}
 use Rattle.pico_board.specs.declared.window.Window.{Window}
@@ -11,7 +11,8 @@ use Rattle.svg_text.specs.declared.class.Class.TheVariants as classes
 use Rattle.svg_text.specs.declared.mark.Area.{Area}
 use Rattle.svg_text.specs.declared.mark.Colour.{Colour}
 use Rattle.svg_text.specs.declared.mark.Colour.TheVariants.{Ink, Grey, Blue, Orange, Slate, Sky}
-use Rattle.svg_text.specs.Marks.{Mark, Plain, Rect, Column, StripEnd, Line, Lines, Picture, line_height, line_length, line_words}
+use Rattle.svg_text.specs.Breaks.{line_count}
+use Rattle.svg_text.specs.Marks.{Mark, Plain, Rect, Column, StripEnd, Line, Lines, Picture, line_height, line_words}
 use Rattle.map_picture.specs.declared.bars.MapBar.{MapBar}
 
 -- what is drawn of a window: where it lies, what is said of it, whether it is free, and whether a
@@ -69,13 +70,9 @@ abbrev pub windows_from : ℕ → List Bar → List Mark
 windows_from k [] = []
 windows_from k (bar ∷ bars) = window_mark k bar ∷ windows_from (k + 1) bars
 
--- how many lines so many bytes of words have
-abbrev pub line_count : ℕ → ℕ
-line_count n = 1 + (n - 1) / line_length
-
 -- how high a row is, with what is free below it
 abbrev pub row_height : Bar → ℕ
-row_height bar = line_height * line_count (length bar.words) + 8
+row_height bar = line_height * line_count bar.words + 8
 
 abbrev pub rows_height : List Bar → ℕ
 rows_height [] = 0

@@ -5,8 +5,8 @@ ghost use Rattle.std.specs.Prelude.{◌≡◌, [], ◌∷◌, codes, true};
 ghost use Rattle.svg_text.specs.declared.class.Class.TheVariants as classes;
 ghost use Rattle.svg_text.specs.declared.mark.Colour.TheVariants.{Blue, Grey, Orange, Sky};
 ghost use Rattle.svg_text.specs.Marks.{Rect};
-ghost use Rattle.map_picture.specs.Maps.{colour_of, column_height, counted, line_count, map_words, middle, rows_height, window_mark};
-ghost use Rattle.map_picture.specs.Examples.{free_window, started_slot, three_windows, unstarted_slot};
+ghost use Rattle.map_picture.specs.Maps.{colour_of, column_height, counted, map_words, middle, row_height, rows_height, window_mark};
+ghost use Rattle.map_picture.specs.Examples.{free_window, started_slot, three_windows, two_lines, unstarted_slot, whole_line};
 
 /// What is said of a flash of three windows, and what its picture has.
 pub fn a_flash_of_three_windows()
@@ -24,10 +24,9 @@ pub fn a_flash_of_three_windows()
 
 /// Rows are as high as their lines, and a column is at least 400 high and as high as the rows.
 pub fn heights()
-    ensures none { line_count 0 ≡ 1 }
-    ensures whole { line_count 80 ≡ 1 }
-    ensures two { line_count 81 ≡ 2 }
-    ensures third { line_count 161 ≡ 3 }
+    ensures one { row_height unstarted_slot ≡ 28 }
+    ensures whole { row_height whole_line ≡ 28 }
+    ensures two { row_height two_lines ≡ 48 }
     ensures rows { rows_height three_windows ≡ 84 }
     ensures middle { middle 16384 400 (record { start = 8192; len = 8192 }) ≡ 300 }
     ensures first { middle 16384 400 (record { start = 0; len = 4096 }) ≡ 50 }

@@ -2,13 +2,14 @@
 
 ghost use Rattle.std.specs.Prelude.{◌≡◌, ◌≤◌, ◌^◌, ◌*◌, ◌+◌, ◌++◌, IfOk, OnOk, drop, map, string_bytes};
 ghost use Rattle.std.specs.List.{flat_map};
-ghost use Rattle.svg_text.specs.Marks.{mark_text};
-ghost use Rattle.map_picture.specs.Maps.{bar_from, column_height, hex_word, join_mark, line_count, middle, row_height, row_marks, rows_from, rows_height, span_text};
+ghost use Rattle.svg_text.specs.Breaks.{line_count};
+ghost use Rattle.svg_text.specs.Marks.{line_height, mark_text};
+ghost use Rattle.map_picture.specs.Maps.{bar_from, column_height, hex_word, join_mark, middle, row_height, row_marks, rows_from, rows_height, span_text};
 
 use crate::bars::{MapBar, area_at, colour_of};
 use pico_board::{FLASH_BASE, Window};
 use std::alloc::{AllocError, Global};
-use svg_text::{Class, Colour, Ends, LINE_HEIGHT, LINE_LENGTH, push_line, push_lines, push_plain};
+use svg_text::{Class, Colour, Ends, LINE_HEIGHT, line_count, push_line, push_lines, push_plain};
 
 /// No more points lie below one another than these: the words of so many lines fit no memory.
 const MOST_HEIGHT: usize = 1_073_741_824;
@@ -32,12 +33,11 @@ fn span_text(alloc: Global, window: Window) -> Result<String, AllocError>
     format!(in alloc; "{first} to {last}")
 }
 
-/// How high a row is.
-fn row_height(bar: &MapBar) -> usize
-    ensures exact { result ≡ row_height (bar_from bar.now) }
-    ensures most { result ≤ 2 ^ 63 }
+/// How high a row of so many lines is.
+fn lines_height(lines: usize) -> usize
+    requires { lines ≤ 2 ^ 30 }
+    ensures { result ≡ line_height * lines + 8 }
 {
-    let lines = 1 + bar.words.len().saturating_sub(1) / LINE_LENGTH;
     LINE_HEIGHT * lines + 8
 }
 
@@ -48,7 +48,11 @@ fn next_top(top: usize, bar: &MapBar) -> Result<usize, AllocError>
     ensures exact { IfOk result (λ next. next ≡ top + row_height (bar_from bar.now)) }
     ensures most { IfOk result (λ next. next ≤ 2 ^ 30) }
 {
-    let next = top + row_height(bar);
+    let lines = line_count(&bar.words);
+    if MOST_HEIGHT < lines {
+        return Err(AllocError);
+    }
+    let next = top + lines_height(lines);
     if next <= MOST_HEIGHT {
         Ok(next)
     } else {

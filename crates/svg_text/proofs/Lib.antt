@@ -1,3 +1,4 @@
+pub mod BreakLemmas
 pub mod FreeLemmas
 pub mod MarkLemmas
 pub mod WordLemmas

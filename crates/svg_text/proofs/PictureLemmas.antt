@@ -8,7 +8,8 @@ use Rattle.svg_text.specs.declared.class.Class.TheVariants.{Starts}
 use Rattle.svg_text.specs.declared.mark.Area.{Area}
 use Rattle.svg_text.specs.declared.mark.Colour.{Colour}
 use Rattle.svg_text.specs.declared.mark.Ends.{Ends}
-use Rattle.svg_text.specs.Marks.{Mark, Plain, Rect, Label, Caption, Strip, Column, StripEnd, Line, Lines, Picture, area_text, class_text, colour_word, desc_text, ends_text, escaped, escaped_byte, fill_text, ground_text, line_words, lines_from, mark_text, open_text, picture_text, place_text, starts_text, stroke_text, title_text}
+use Rattle.svg_text.specs.Breaks.{lines_of}
+use Rattle.svg_text.specs.Marks.{Mark, Plain, Rect, Label, Caption, Strip, Column, StripEnd, Line, Lines, Picture, area_text, class_text, colour_word, desc_text, ends_text, escaped, escaped_byte, fill_text, ground_text, line_words, lines_text, mark_text, open_text, picture_text, place_text, starts_text, stroke_text, title_text}
 use Rattle.svg_text.specs.Reading.{Words, is_class, is_free, marks_by, marks_in, one_more, begins, starts_by, times, words_behind, words_by, words_from, words_of}
 use Rattle.svg_text.proofs.FreeLemmas.{colour-c, colour-end, escaped-quote, free-append, free-decimal}
 use Rattle.svg_text.proofs.MarkLemmas.{at-class, behind-free, calm, skip, skip-text}
@@ -304,7 +305,7 @@ module _ (class : Class) where
   -- words in lines, and what stands behind them
   broken : ℕ → ℕ → List ℕ → Bool → List ℕ → List ℕ
   broken x y words starts rest =
-      place_text x y ++ (codes " xml:space=\"preserve\">" ++ (lines_from x 0 words
+      place_text x y ++ (codes " xml:space=\"preserve\">" ++ (lines_text x (lines_of words)
       ++ (starts_text starts ++ (codes "</text>\n" ++ rest))))
 
   broken-words : (x y : ℕ) (words : List ℕ) (starts : Bool) (rest : List ℕ)
@@ -319,7 +320,7 @@ module _ (class : Class) where
   unfolding broken
   broken-rest x y words starts rest =
       skip class (place_text x y) _ (place-c x y) ∙ front-lines _
-      ∙ lines-rest class x 0 words (starts_text starts ++ (codes "</text>\n" ++ rest)) (tail-calm starts rest)
+      ∙ lines-rest class x (lines_of words) (starts_text starts ++ (codes "</text>\n" ++ rest)) (tail-calm starts rest)
       ∙ starts-found starts rest
 
   lines : (own : Class) (x y : ℕ) (words : List ℕ) (starts : Bool) (rest : List ℕ)
@@ -332,8 +333,8 @@ module _ (class : Class) where
       ap (λ z. marks_in class (codes "<text " ++ z)) (append_assoc (class_text own) _ rest
       ∙ ap (λ z. class_text own ++ z) (append_assoc (place_text x y) _ rest
       ∙ ap (λ z. place_text x y ++ (codes " xml:space=\"preserve\">" ++ z))
-      (append_assoc (lines_from x 0 words) _ rest
-      ∙ ap (λ z. lines_from x 0 words ++ z) (append_assoc (starts_text starts) _ rest))))
+      (append_assoc (lines_text x (lines_of words)) _ rest
+      ∙ ap (λ z. lines_text x (lines_of words) ++ z) (append_assoc (starts_text starts) _ rest))))
       ∙ tag-text _ ∙ skip class (codes " ") _ refl ∙ at-class class own (broken x y words starts rest)
       ∙ found-by (is_class class own) (line_words words starts) _ _ (broken-words x y words starts rest)
       ∙ ap (λ z. map escaped found ++ z) (broken-rest x y words starts rest)

@@ -1,6 +1,6 @@
 -- Texts are read back, and a picture of texts has ASCII alone.
 use Rattle.std.proofs.Common.{◌≡◌, ℕ, zero, suc, ◌+◌, ◌-◌, ◌/◌, ◌%◌, ◌^◌, ◌<◌, ◌≤◌, ◌==◌, Bool, true, false, List, [], ◌∷◌, ◌++◌, length, map, refl, sym, ap, ◌∙◌, arith, inl, inr, decimal}
-use Rattle.std.specs.Prelude.{if◌then◌else◌, ◌||◌, codes, nat_le, nat_lt, replicate}
+use Rattle.std.specs.Prelude.{if◌then◌else◌, ◌||◌, codes, nat_le, replicate}
 use Rattle.std.specs.List.{flat_map, list_all}
 use Rattle.std.specs.Fmt.{char_count, digits, digits_onto, digit_glyph, format_spec, padded_integral}
 use Rattle.std.proofs.lemmas.Bool.{and_parts, cases_eq, cases_lt, le-ltb, lt-ltb, ne_eqb}
@@ -12,8 +12,10 @@ use Rattle.svg_text.specs.declared.mark.Area.{Area}
 use Rattle.svg_text.specs.declared.mark.Colour.{Colour}
 use Rattle.svg_text.specs.declared.mark.Colour.TheVariants.{Ink, Grey, Blue, Orange, Slate, Sky, White}
 use Rattle.svg_text.specs.declared.mark.Ends.{Ends}
-use Rattle.svg_text.specs.Marks.{Mark, Plain, Rect, Label, Caption, Strip, Column, StripEnd, Line, Lines, Picture, area_text, break_text, class_text, class_word, colour_word, desc_text, ends_text, escaped, escaped_byte, fill_text, front_text, ground_text, is_broken, line_end, line_text, lines_from, mark_text, open_text, picture_text, place_text, starts_text, stroke_text, text_if, title_text}
+use Rattle.svg_text.specs.Breaks.{joined, lines_of}
+use Rattle.svg_text.specs.Marks.{Mark, Plain, Rect, Label, Caption, Strip, Column, StripEnd, Line, Lines, Picture, area_text, class_text, class_word, colour_word, desc_text, ends_text, escaped, escaped_byte, fill_text, front_text, further_text, ground_text, line_text, lines_text, mark_text, open_text, picture_text, place_text, starts_text, stroke_text, title_text}
 use Rattle.svg_text.specs.Texts.{HasTexts, is_printed, is_text, is_written, texts_of, unescaped, unescaped_from}
+use Rattle.svg_text.proofs.BreakLemmas.{joined-from}
 use Rattle.svg_text.proofs.MarkLemmas.{ne-swap}
 
 -- a byte is read back
@@ -201,32 +203,24 @@ stroke-written : (colour : Colour) → AreWritten (stroke_text colour)
 unfolding stroke_text
 stroke-written colour = join (colour_word colour) (codes "\"") (colour-written colour) refl
 
-end-written : (i : ℕ) → AreWritten (line_end i)
-unfolding line_end
-end-written i = go (nat_lt 80 i)
-  where
-    go : (t : Bool) → AreWritten (text_if t (codes "</tspan>"))
-    go true = refl
-    go false = refl
-
 begin-written : (x : ℕ) → AreWritten (line_text x)
 unfolding line_text
 begin-written x = numbered x _ refl
 
-break-written : (x i : ℕ) → AreWritten (break_text x i)
-unfolding break_text
-break-written x i = go (is_broken i)
-  where
-    go : (t : Bool) → AreWritten (text_if t (line_end i ++ line_text x))
-    go true = join (line_end i) (line_text x) (end-written i) (begin-written x)
-    go false = refl
+furthers-written : (x : ℕ) (lines : List (List ℕ)) → is_text (joined lines) ≡ true
+    → AreWritten (flat_map (further_text x) lines)
+furthers-written x [] is = refl
+furthers-written x (line ∷ lines) is =
+    let parts = text-parts line (joined lines) is in
+    join (further_text x line) (flat_map (further_text x) lines)
+    (join (line_text x) _ (begin-written x) (join (escaped line) (codes "</tspan>") (text-written line parts.0) refl))
+    (furthers-written x lines parts.1)
 
-lines-written : (x i : ℕ) (words : List ℕ) → is_text words ≡ true → AreWritten (lines_from x i words)
-lines-written x i [] is = end-written i
-lines-written x i (b ∷ words) is =
-    let parts = and_parts (is_printed b) (is_text words) is in
-    join (break_text x i) _ (break-written x i) (join (escaped_byte b) _ (byte-written b parts.0)
-    (lines-written x (i + 1) words parts.1))
+lines-written : (x : ℕ) (lines : List (List ℕ)) → is_text (joined lines) ≡ true → AreWritten (lines_text x lines)
+lines-written x [] is = refl
+lines-written x (line ∷ lines) is =
+    let parts = text-parts line (joined lines) is in
+    join (escaped line) _ (text-written line parts.0) (furthers-written x lines parts.1)
 
 starts-written : (starts : Bool) → AreWritten (starts_text starts)
 unfolding starts_text class_text
@@ -258,7 +252,8 @@ mark-written (Line class ends colour title) is =
     (join (escaped title) (codes "</title></line>\n") (text-written title is) refl)))
 mark-written (Lines class x y words starts) is =
     join (class_text class) _ (class-written class) (join (place_text x y) _ (place-written x y)
-    (join (lines_from x 0 words) _ (lines-written x 0 words is)
+    (join (lines_text x (lines_of words)) _
+    (lines-written x (lines_of words) (ap is_text (joined-from 0 false words) ∙ is))
     (join (starts_text starts) (codes "</text>\n") (starts-written starts) refl)))
 
 marks-written : (marks : List Mark) → is_text (flat_map texts_of marks) ≡ true → AreWritten (flat_map mark_text marks)

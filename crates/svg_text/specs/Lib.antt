@@ -1,3 +1,4 @@
+pub mod Breaks
 pub mod Marks
 pub mod Reading
 pub mod Texts

@@ -1,7 +1,7 @@
 -- The marks of a picture, and their bytes in an SVG file: SVG 1.1, chapters 5 (structure), 9 (basic
 -- shapes) and 10 (text). Which marks there are, and the order of their attributes, is this
 -- project's own.
-use Rattle.std.specs.Prelude.{ℕ, ◌+◌, ◌%◌, Bool, true, false, if◌then◌else◌, ◌==◌, ◌&&◌, nat_lt, List, [], ◌∷◌, ◌++◌, codes, decimal}
+use Rattle.std.specs.Prelude.{ℕ, Bool, true, false, if◌then◌else◌, ◌==◌, List, [], ◌∷◌, ◌++◌, codes, decimal}
 use Rattle.std.specs.List.{flat_map}
 use Rattle.svg_text.specs.declared.class.Class.{Class}
 use Rattle.svg_text.specs.declared.class.Class.TheVariants.{Former, Finished, Chance, Span, Erase, Program, Raise, Legend, Window, Row, Join, Starts}
@@ -9,6 +9,7 @@ use Rattle.svg_text.specs.declared.mark.Area.{Area}
 use Rattle.svg_text.specs.declared.mark.Ends.{Ends}
 use Rattle.svg_text.specs.declared.mark.Colour.{Colour}
 use Rattle.svg_text.specs.declared.mark.Colour.TheVariants.{Ink, Grey, Blue, Orange, Slate, Sky, White}
+use Rattle.svg_text.specs.Breaks.{lines_of}
 
 -- the word of a class
 abbrev pub class_word : Class → List ℕ
@@ -66,8 +67,8 @@ pub data Mark : Type 0 where
   StripEnd : Mark
   -- a line that is counted, with a title in it
   Line : (class : Class) → (ends : Ends) → (colour : Colour) → (title : List ℕ) → Mark
-  -- Words that are counted, in lines of 80; behind them, where this is asked for, a blank and the
-  -- word `starts`, which is counted too.
+  -- Words that are counted, in lines of 80 that are broken between words; behind them, where this
+  -- is asked for, a blank and the word `starts`, which is counted too.
   Lines : (class : Class) → (x y : ℕ) → (words : List ℕ) → (starts : Bool) → Mark
 
 -- where and how large, as attributes
@@ -98,10 +99,6 @@ fill_text colour = codes " fill=\"#" ++ (colour_word colour ++ codes "\"")
 unfoldable pub stroke_text : Colour → List ℕ
 stroke_text colour = codes " stroke=\"#" ++ (colour_word colour ++ codes "\"")
 
--- How many bytes of words stand in a line; the word `starts` may stand behind them.
-abbrev pub line_length : ℕ
-line_length = 80
-
 -- how far the next line of words lies below a line
 abbrev pub line_height : ℕ
 line_height = 20
@@ -110,25 +107,18 @@ abbrev pub text_if : Bool → List ℕ → List ℕ
 text_if true text = text
 text_if false text = []
 
--- The first line of words stands in its element itself, each further one in an element of its own:
--- its beginning, and its end before the byte of this number, if it has begun there.
+-- how a further line of words begins
 unfoldable pub line_text : ℕ → List ℕ
 line_text x = codes "<tspan x=\"" ++ (decimal x ++ codes "\" dy=\"20\">")
 
-unfoldable pub line_end : ℕ → List ℕ
-line_end i = text_if (nat_lt line_length i) (codes "</tspan>")
+-- a further line of words, in an element of its own
+abbrev pub further_text : ℕ → List ℕ → List ℕ
+further_text x line = line_text x ++ (escaped line ++ codes "</tspan>")
 
--- a further line begins with the byte of this number
-abbrev pub is_broken : ℕ → Bool
-is_broken i = nat_lt 0 i && (i % line_length == 0)
-
-unfoldable pub break_text : ℕ → ℕ → List ℕ
-break_text x i = text_if (is_broken i) (line_end i ++ line_text x)
-
--- the bytes of words from the byte of number i on, in lines that begin at x
-abbrev pub lines_from : ℕ → ℕ → List ℕ → List ℕ
-lines_from x i [] = line_end i
-lines_from x i (b ∷ words) = break_text x i ++ (escaped_byte b ++ lines_from x (i + 1) words)
+-- Lines of words that begin at x: the first stands in the element of the words itself.
+abbrev pub lines_text : ℕ → List (List ℕ) → List ℕ
+lines_text x [] = []
+lines_text x (line ∷ lines) = escaped line ++ flat_map (further_text x) lines
 
 -- a blank and the word `starts`
 unfoldable pub starts_text : Bool → List ℕ
@@ -164,7 +154,7 @@ mark_text (Line class ends colour title) =
     ++ (codes "><title>" ++ (escaped title ++ codes "</title></line>\n")))))
 mark_text (Lines class x y words starts) =
     codes "<text " ++ (class_text class ++ (place_text x y ++ (codes " xml:space=\"preserve\">"
-    ++ (lines_from x 0 words ++ (starts_text starts ++ codes "</text>\n")))))
+    ++ (lines_text x (lines_of words) ++ (starts_text starts ++ codes "</text>\n")))))
 
 -- how a picture of this height begins, up to its title
 unfoldable pub open_text : ℕ → List ℕ

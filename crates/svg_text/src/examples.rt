@@ -4,10 +4,11 @@
 ghost use Rattle.std.specs.Prelude.{◌≡◌, [], ◌∷◌, ◌++◌, codes, true, false};
 ghost use Rattle.svg_text.specs.declared.class.Class.TheVariants.{Chance, Former, Join, Row, Span, Starts};
 ghost use Rattle.svg_text.specs.declared.mark.Colour.TheVariants.{Grey, Slate};
-ghost use Rattle.svg_text.specs.Marks.{Caption, Column, Label, Line, Lines, Rect, Strip, class_text, escaped, lines_from, mark_text};
+ghost use Rattle.svg_text.specs.Breaks.{lines_of};
+ghost use Rattle.svg_text.specs.Marks.{Caption, Column, Label, Line, Lines, Rect, Strip, class_text, escaped, lines_text, mark_text};
 ghost use Rattle.svg_text.specs.Reading.{is_class, marks_in, times};
 ghost use Rattle.svg_text.specs.Texts.{is_printed, is_written, texts_of, unescaped};
-ghost use Rattle.svg_text.specs.Examples.{forty};
+ghost use Rattle.svg_text.specs.Examples.{forty, thirty_nine};
 
 /// Texts as they stand in a file.
 pub fn texts_in_a_file()
@@ -45,12 +46,33 @@ pub fn words_in_lines()
     ensures starts { mark_text (Lines Row 160 39 (codes "a") true)
         ≡ codes "<text class=\"row\" x=\"160\" y=\"39\" xml:space=\"preserve\">a"
         ++ codes " <tspan class=\"starts\" font-weight=\"bold\">starts</tspan></text>\n" }
-    ensures whole { lines_from 160 0 (forty ++ forty) ≡ forty ++ forty }
-    ensures second { lines_from 160 0 (forty ++ (forty ++ codes "b"))
-        ≡ forty ++ (forty ++ codes "<tspan x=\"160\" dy=\"20\">b</tspan>") }
-    ensures third { lines_from 160 0 (forty ++ (forty ++ (forty ++ (forty ++ codes "b"))))
-        ≡ forty ++ (forty ++ (codes "<tspan x=\"160\" dy=\"20\">" ++ (forty ++ (forty
-        ++ codes "</tspan><tspan x=\"160\" dy=\"20\">b</tspan>")))) }
+    ensures one { lines_text 160 ((forty ++ forty) ∷ []) ≡ forty ++ forty }
+    ensures third { lines_text 160 (codes "a " ∷ codes "<b " ∷ codes "c" ∷ [])
+        ≡ codes "a <tspan x=\"160\" dy=\"20\">&lt;b </tspan>"
+        ++ codes "<tspan x=\"160\" dy=\"20\">c</tspan>" }
+{}
+
+/// Where words are broken: a word that ends with byte 80, and one that would end with byte 81;
+/// blanks at both; words of 81 and 80 bytes, each alone and behind another.
+pub fn broken_words()
+    ensures whole { lines_of (forty ++ (codes " " ++ thirty_nine))
+        ≡ (forty ++ (codes " " ++ thirty_nine)) ∷ [] }
+    ensures past { lines_of (forty ++ (codes " " ++ forty))
+        ≡ (forty ++ codes " ") ∷ forty ∷ [] }
+    ensures last_blank { lines_of (forty ++ (thirty_nine ++ codes " b"))
+        ≡ (forty ++ (thirty_nine ++ codes " ")) ∷ codes "b" ∷ [] }
+    ensures hanging { lines_of (forty ++ (forty ++ codes " b"))
+        ≡ (forty ++ (forty ++ codes " ")) ∷ codes "b" ∷ [] }
+    ensures two_blanks { lines_of (forty ++ (forty ++ codes "  b"))
+        ≡ (forty ++ (forty ++ codes " ")) ∷ codes " b" ∷ [] }
+    ensures longer { lines_of (forty ++ (forty ++ codes "b"))
+        ≡ (forty ++ forty) ∷ codes "b" ∷ [] }
+    ensures alone { lines_of (forty ++ forty) ≡ (forty ++ forty) ∷ [] }
+    ensures behind { lines_of (codes "a " ++ (forty ++ forty))
+        ≡ codes "a " ∷ (forty ++ forty) ∷ [] }
+    ensures torn { lines_of (codes "a " ++ (forty ++ (forty ++ codes "b c")))
+        ≡ codes "a " ∷ (forty ++ forty) ∷ codes "b c" ∷ [] }
+    ensures none { lines_of [] ≡ [] ∷ [] }
 {}
 
 /// What a reader of the bytes finds.

@@ -1,8 +1,9 @@
 //! Laws of pictures, each the contract of a function that does nothing.
 
-ghost use Rattle.std.specs.Prelude.{◌≡◌, ℕ, List, length, map, true};
+ghost use Rattle.std.specs.Prelude.{◌≡◌, ◌<◌, ℕ, List, length, map, true};
 ghost use Rattle.std.specs.List.{flat_map, list_all};
 ghost use Rattle.svg_text.specs.declared.class.Class.{Class};
+ghost use Rattle.svg_text.specs.Breaks.{AreLines, joined, line_count, lines_of};
 ghost use Rattle.svg_text.specs.Marks.{Picture, class_text, escaped, picture_text};
 ghost use Rattle.svg_text.specs.Reading.{is_free, marks_in, times, words_of};
 ghost use Rattle.svg_text.specs.Texts.{HasTexts, is_written, unescaped};
@@ -39,4 +40,13 @@ pub fn texts_are_read_back()
 /// ones and line feeds.
 pub fn pictures_of_texts_are_ascii()
     ensures { (p : Picture) → HasTexts p → list_all is_written (picture_text p) ≡ true }
+{}
+
+/// The lines of words, one behind the other, are the words. Each has at most 80 bytes, or a blank
+/// behind them, and each but the last ends behind a blank, where the next word would pass 80 bytes,
+/// or within a word that alone fills the line and goes on. There is one line at least.
+pub fn lines_are_those_of_the_words()
+    ensures words { (words : List ℕ) → joined (lines_of words) ≡ words }
+    ensures lines { (words : List ℕ) → AreLines (lines_of words) }
+    ensures some { (words : List ℕ) → 0 < line_count words }
 {}

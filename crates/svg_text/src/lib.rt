@@ -4,6 +4,7 @@
 //! words. The set of marks is this project's own.
 #![tactic(auto)]
 
+mod breaks;
 mod class;
 pub mod examples;
 pub mod laws;
@@ -11,8 +12,9 @@ mod lines;
 mod mark;
 mod writing;
 
+pub use breaks::{LINE_LENGTH, line_count};
 pub use class::{Class, class_word, is_class};
-pub use lines::{LINE_HEIGHT, LINE_LENGTH, push_lines};
+pub use lines::{LINE_HEIGHT, push_lines};
 pub use mark::{Area, Colour, Ends};
 pub use writing::{
     close_strip, open_column, open_strip, push_caption, push_end, push_front, push_label,

@@ -1,14 +1,14 @@
 //! Words in lines to bytes.
 
-ghost use Rattle.std.specs.Prelude.{◌≡◌, ◌++◌, IfOk, OnOk, codes, length, string_bytes};
-ghost use Rattle.svg_text.specs.Marks.{Lines, break_text, line_end, line_text, lines_from, mark_text, starts_text};
+ghost use Rattle.std.specs.Prelude.{◌≡◌, ◌||◌, ◌++◌, ◌≤◌, IfOk, OnOk, codes, drop, length, string_bytes};
+ghost use Rattle.svg_text.specs.Breaks.{lines_of};
+ghost use Rattle.svg_text.specs.Marks.{Lines, line_text, lines_text, mark_text, starts_text, text_if};
 
+use crate::breaks::{is_broken, next_column};
 use crate::class::Class;
 use crate::writing::{class_text, place_text, push_escaped_byte};
 use std::alloc::{AllocError, Global};
 
-/// How many bytes of words stand in a line; the word `starts` may stand behind them.
-pub const LINE_LENGTH: usize = 80;
 /// How far the next line of words lies below a line.
 pub const LINE_HEIGHT: usize = 20;
 
@@ -20,53 +20,72 @@ fn line_text(alloc: Global, x: usize) -> Result<String, AllocError>
     format!(in alloc; "<tspan x=\"{x}\" dy=\"20\">")
 }
 
-/// Ends a further line before the byte of this number, if it has begun there.
-#[tactic(auto, unfolding(crate::specs::Marks::line_end))]
-fn push_line_end(out: &mut Vec<u8>, number: usize) -> Result<(), AllocError>
-    ensures { OnOk result (out.new.items ≡ out.old.items ++ line_end number) }
+/// Ends a further line, if one has begun.
+fn push_line_end(out: &mut Vec<u8>, opened: bool) -> Result<(), AllocError>
+    ensures { OnOk result (out.new.items ≡ out.old.items ++ text_if opened (codes "</tspan>")) }
 {
-    if LINE_LENGTH < number {
+    if opened {
         out.extend_from_slice(b"</tspan>")?;
     }
     Ok(())
 }
 
-/// Begins a further line before the byte of this number.
+/// Begins a further line, behind another one or not.
 fn push_next_line(
     alloc: Global,
     out: &mut Vec<u8>,
     x: usize,
-    number: usize,
+    opened: bool,
 ) -> Result<(), AllocError>
     ensures { OnOk result (out.new.items
-        ≡ out.old.items ++ (line_end number ++ line_text x)) }
+        ≡ out.old.items ++ (text_if opened (codes "</tspan>") ++ line_text x)) }
 {
-    push_line_end(out, number)?;
+    push_line_end(out, opened)?;
     let line = line_text(alloc, x)?;
     out.extend_from_slice(line.as_bytes())
 }
 
-/// Begins a further line before the byte of this number, where one begins there.
-#[tactic(auto, unfolding(crate::specs::Marks::break_text))]
-fn push_break(alloc: Global, out: &mut Vec<u8>, x: usize, number: usize) -> Result<(), AllocError>
-    ensures { OnOk result (out.new.items ≡ out.old.items ++ break_text x number) }
+/// Begins a further line, behind another one or not, where one begins here.
+fn push_break(
+    alloc: Global,
+    out: &mut Vec<u8>,
+    x: usize,
+    opened: bool,
+    broken: bool,
+) -> Result<(), AllocError>
+    ensures { OnOk result (out.new.items
+        ≡ out.old.items ++ text_if broken (text_if opened (codes "</tspan>") ++ line_text x)) }
 {
-    if 0 < number && number % LINE_LENGTH == 0 {
-        push_next_line(alloc, out, x, number)?;
+    if broken {
+        push_next_line(alloc, out, x, opened)?;
     }
     Ok(())
 }
 
+/// Whether a line is a further one, behind a byte that begins a line or not.
+fn is_further(opened: bool, broken: bool) -> bool
+    ensures { result ≡ (opened || broken) }
+{
+    opened || broken
+}
+
 /// Appends words in lines that begin at x.
 fn push_words(alloc: Global, out: &mut Vec<u8>, x: usize, words: &str) -> Result<(), AllocError>
-    ensures { OnOk result (out.new.items ≡ out.old.items ++ lines_from x 0 words.now) }
+    ensures { OnOk result (out.new.items ≡ out.old.items ++ lines_text x (lines_of words.now)) }
 {
     let bytes = words.as_bytes();
+    let mut column = 0;
+    let mut blank = false;
+    let mut opened = false;
     for (number, byte) in bytes.iter().enumerate() {
-        push_break(alloc, out, x, number)?;
+        let broken = is_broken(bytes, number, column, blank);
+        push_break(alloc, out, x, opened, broken)?;
         push_escaped_byte(out, *byte)?;
+        column = next_column(broken, column);
+        blank = *byte == b' ';
+        opened = is_further(opened, broken);
     }
-    push_line_end(out, bytes.len())
+    push_line_end(out, opened)
 }
 
 /// Appends a blank and the word `starts`, where this is asked for.
@@ -92,7 +111,7 @@ fn push_content(
     starts: bool,
 ) -> Result<(), AllocError>
     ensures { OnOk result (out.new.items ≡ out.old.items ++ (front.now
-        ++ (lines_from x 0 words.now ++ (starts_text starts ++ codes "</text>\n")))) }
+        ++ (lines_text x (lines_of words.now) ++ (starts_text starts ++ codes "</text>\n")))) }
 {
     out.extend_from_slice(front.as_bytes())?;
     push_words(alloc, out, x, words)?;
@@ -100,8 +119,9 @@ fn push_content(
     out.extend_from_slice(b"</text>\n")
 }
 
-/// Appends words that are counted, in lines of 80 bytes, the first of which begins at this place;
-/// behind them, where this is asked for, a blank and the word `starts`, which is counted too.
+/// Appends words that are counted, in lines of 80 bytes that are broken between words, the first of
+/// which begins at this place; behind them, where this is asked for, a blank and the word `starts`,
+/// which is counted too.
 #[tactic(auto, unfolding(crate::specs::Marks::mark_text))]
 pub fn push_lines(
     alloc: Global,

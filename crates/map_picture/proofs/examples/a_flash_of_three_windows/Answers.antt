@@ -1,5 +1,6 @@
 use Rattle.std.proofs.Common.{refl}
 use Rattle.std.specs.Fmt.{char_count, digits, padded_integral}
+use Rattle.svg_text.specs.Breaks.{is_broken}
 use Rattle.map_picture.specs.Maps.{hex_word, map_words, span_text}
 use Rattle.map_picture.proofs.examples.a_flash_of_three_windows.Goals as goal
 
@@ -24,5 +25,5 @@ unfolding map_words span_text hex_word digits padded_integral char_count
 returns-clause-former c = refl
 
 pub returns-clause-column : goal.returns-clause-column
-unfolding map_words span_text hex_word digits padded_integral char_count
+unfolding is_broken
 returns-clause-column c = refl

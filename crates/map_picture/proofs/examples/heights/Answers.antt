@@ -1,25 +1,22 @@
 use Rattle.std.proofs.Common.{refl}
+use Rattle.svg_text.specs.Breaks.{is_broken}
 use Rattle.map_picture.specs.Maps.{middle}
 use Rattle.map_picture.proofs.examples.heights.Goals as goal
 
-pub returns-clause-none : goal.returns-clause-none
-unfolding middle
-returns-clause-none c = refl
+pub returns-clause-one : goal.returns-clause-one
+unfolding is_broken
+returns-clause-one c = refl
 
 pub returns-clause-whole : goal.returns-clause-whole
-unfolding middle
+unfolding is_broken
 returns-clause-whole c = refl
 
 pub returns-clause-two : goal.returns-clause-two
-unfolding middle
+unfolding is_broken
 returns-clause-two c = refl
 
-pub returns-clause-third : goal.returns-clause-third
-unfolding middle
-returns-clause-third c = refl
-
 pub returns-clause-rows : goal.returns-clause-rows
-unfolding middle
+unfolding is_broken
 returns-clause-rows c = refl
 
 pub returns-clause-middle : goal.returns-clause-middle
