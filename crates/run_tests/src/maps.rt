@@ -57,14 +57,14 @@ const PICTURE: &str = "<svg xmlns=\"http://www.w3.org/2000/svg\" version=\"1.1\"
 <rect x=\"138\" y=\"83\" width=\"14\" height=\"14\" fill=\"#1a1a1a\"/>
 <rect x=\"139\" y=\"84\" width=\"12\" height=\"12\" fill=\"#00509e\"/>
 <text class=\"row\" x=\"160\" y=\"95\" xml:space=\"preserve\">0x10002000 to 0x1001ffff partition \
-    0 name=none families=rp2350-arm-s version=1.9<tspan x=\"160\" dy=\"20\"> rollback=none pair \
+    0 name=none families=rp2350-arm-s version=1.9 <tspan x=\"160\" dy=\"20\">rollback=none pair \
     A with 1</tspan></text>
 <line class=\"join\" x1=\"73\" y1=\"317\" x2=\"138\" y2=\"138\" \
     stroke=\"#505050\"><title>0x10020000 to 0x1003dfff</title></line>
 <rect x=\"138\" y=\"131\" width=\"14\" height=\"14\" fill=\"#1a1a1a\"/>
 <rect x=\"139\" y=\"132\" width=\"12\" height=\"12\" fill=\"#e98a15\"/>
 <text class=\"row\" x=\"160\" y=\"143\" xml:space=\"preserve\">0x10020000 to 0x1003dfff \
-    partition 1 name=none families=rp2350-arm-s version=1.1<tspan x=\"160\" dy=\"20\">0 \
+    partition 1 name=none families=rp2350-arm-s <tspan x=\"160\" dy=\"20\">version=1.10 \
     rollback=none pair B with 0</tspan> <tspan class=\"starts\" \
     font-weight=\"bold\">starts</tspan></text>
 <line class=\"join\" x1=\"73\" y1=\"417\" x2=\"138\" y2=\"186\" \
