@@ -3,18 +3,6 @@ mod BootLemmas
 mod BlockLemmas
 mod CarriedLemmas
 mod EntryLemmas
-pub mod LuckLaws
-mod LeftRowLemmas
-pub mod LeftImageLemmas
-pub mod RaisesCutLemmas
-mod PairLemmas
-mod OwnStepLemmas
-mod OwnWindowLemmas
-mod OwnLeftLemmas
-mod OwnPickLemmas
-pub mod OwnDecisionLemmas
-pub mod OwnLaws
-pub mod ExampleLemmas
 mod InfoLemmas
 mod ReplyLemmas
 mod SteadinessLemmas

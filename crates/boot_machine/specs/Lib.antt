@@ -3,8 +3,6 @@ pub mod Boots
 pub mod Serving
 pub mod Moves
 pub mod Standing
-pub mod Luck
-pub mod Crashes
 pub mod Examples
 pub mod Runs
 pub mod Ranges

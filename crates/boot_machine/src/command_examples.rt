@@ -5,7 +5,8 @@ ghost use Rattle.std.specs.Prelude.{◌≡◌, ◌++◌, List, None, Some, [], �
 ghost use Rattle.boot_lines.specs.Examples.{ram_image};
 ghost use Rattle.boot_machine.specs.Machines.{FromRam, Host, InBootsel, Off, Program, Running};
 ghost use Rattle.boot_machine.specs.Moves.{effect};
-ghost use Rattle.boot_machine.specs.Examples.{begun_download, block_of, busy, erased, guarded, guarded_busy, idle, machine_at, no_command, table_and_bare, with_image};
+ghost use Rattle.boot_machine.specs.Examples.{begun_download, block_of, busy, erased, guarded, guarded_busy, idle, machine_at, no_command, with_image};
+ghost use Rattle.boot_writes.specs.Examples.{table_and_bare};
 ghost use Rattle.boot_machine.specs.Runs.{host_writes, place_writes};
 ghost use Rattle.boot_machine.specs.Serving.{info_status, info_words, served, serves, line_only, with_ram};
 ghost use Rattle.boot_rules.specs.Examples.{bare, found_in, pair_content, tables_content};

@@ -9,8 +9,6 @@
 mod booting;
 pub mod command_examples;
 mod commands;
-pub mod crash_examples;
-pub mod crash_laws;
 pub mod download_examples;
 mod entering;
 mod found;

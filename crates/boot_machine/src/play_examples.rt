@@ -3,8 +3,9 @@
 ghost use Rattle.std.specs.Prelude.{◌≡◌, ◌++◌, List, None, Some, [], ◌∷◌, codes, false, replicate, true, ℕ};
 ghost use Rattle.boot_lines.specs.Examples.{ram_image};
 ghost use Rattle.boot_machine.specs.Boots.{decided_place, decided_steps, entered};
-ghost use Rattle.boot_machine.specs.Examples.{arm_block, armed_with, asks_target, block_of, busy, erase_both, erased, fresh_host, idle, image_bytes, image_in_a, loaded_host, lost_with, machine_at, pair_host, plain_sector, running_trial, slot_two, table_and_bare, whole_flash_of};
-ghost use Rattle.boot_machine.specs.Crashes.{settled_choice};
+ghost use Rattle.boot_machine.specs.Examples.{arm_block, armed_with, asks_target, block_of, busy, erase_both, erased, fresh_host, idle, image_bytes, image_in_a, loaded_host, lost_with, machine_at, pair_host, slot_two};
+ghost use Rattle.boot_writes.specs.Examples.{plain_sector, running_trial, table_and_bare, whole_flash_of};
+ghost use Rattle.boot_writes.specs.Crashes.{settled_choice};
 ghost use Rattle.boot_machine.specs.Machines.{FromFlash, FromRam, InBootsel, Machine, Off, Program as AnyProgram, Running};
 ghost use Rattle.boot_machine.specs.Moves.{Moves, Plays, effect, lost_text};
 ghost use Rattle.boot_machine.specs.Ranges.{AreInRange, HasBytes};

@@ -29,7 +29,7 @@ use Rattle.boot_rules.proofs.ChangeLemmas.{changed, changed-then-none, choose-sa
 use Rattle.boot_rules.proofs.DataLemmas.{same-bytes, same-length, same-table}
 use Rattle.boot_rules.proofs.DecisionLemmas.{chosen-exactly}
 use Rattle.boot_rules.proofs.StartLemmas.{chosen-start}
-use Rattle.boot_machine.proofs.LeftImageLemmas.{units-same}
+use Rattle.boot_writes.proofs.LeftImageLemmas.{units-same}
 use Rattle.boot_session.specs.CutSessions.{ConfinedSession, StartsElsewhere, StartsThere}
 use Rattle.boot_session.proofs.NeighbourLemmas.{here-or-apart, slots-apart}
 

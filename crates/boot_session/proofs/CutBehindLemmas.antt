@@ -21,8 +21,8 @@ use Rattle.image_check.proofs.LawLemmas.{valid-at, valid-holds}
 use Rattle.boot_rules.specs.declared.decision.Decision.TheVariants.{Start}
 use Rattle.boot_rules.specs.Choosing.{decision_in}
 use Rattle.boot_rules.specs.Tables.{table_in}
-use Rattle.boot_machine.specs.Luck.{Lucky}
-use Rattle.boot_machine.proofs.ExampleLemmas.{torn-before}
+use Rattle.boot_writes.specs.Luck.{Lucky}
+use Rattle.boot_writes.proofs.ExampleLemmas.{torn-before}
 use Rattle.boot_session.specs.Examples.{small_with, beside_small, data_page, small_finished, mapped_page, mapped_steps, small_slot, vector_page}
 use Rattle.boot_session.proofs.ExampleLemmas.{small_before, differ}
 

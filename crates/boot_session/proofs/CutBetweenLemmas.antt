@@ -18,8 +18,8 @@ use Rattle.boot_rules.specs.Choosing.{decision_in, images_in}
 use Rattle.boot_rules.specs.Examples.{arm_member}
 use Rattle.boot_rules.specs.Tables.{table_in}
 use Rattle.boot_rules.proofs.DecisionLemmas.{valid-found}
-use Rattle.boot_machine.specs.Luck.{Lucky}
-use Rattle.boot_machine.proofs.ExampleLemmas.{torn-before}
+use Rattle.boot_writes.specs.Luck.{Lucky}
+use Rattle.boot_writes.proofs.ExampleLemmas.{torn-before}
 use Rattle.boot_session.specs.Examples.{begins_with, beside_former, block_page, finished_start, former_start, plain_steps, slot, vector_page}
 use Rattle.boot_session.proofs.ExampleLemmas.{before, differ, none-some}
 

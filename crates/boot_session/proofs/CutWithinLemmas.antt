@@ -24,7 +24,7 @@ use Rattle.boot_rules.specs.Choosing.{decision_in, images_in}
 use Rattle.boot_rules.specs.Examples.{arm_slot}
 use Rattle.boot_rules.specs.Tables.{table_in}
 use Rattle.boot_rules.proofs.DecisionLemmas.{found-valid, valid-found}
-use Rattle.boot_machine.specs.Luck.{IsKnownImage, IsSameImageIn, Lucky}
+use Rattle.boot_writes.specs.Luck.{IsKnownImage, IsSameImageIn, Lucky}
 use Rattle.boot_session.specs.Examples.{small_with, beside_small, block_page, data_page, small_finished, longer_steps, small_slot, vector_page}
 use Rattle.boot_session.proofs.ExampleLemmas.{small_before, differ, none-some}
 

@@ -26,7 +26,7 @@ use Rattle.boot_rules.specs.Chosen.{Chosen, Home}
 use Rattle.boot_rules.specs.Examples.{bare, bare_slot}
 use Rattle.boot_rules.specs.Tables.{table_in}
 use Rattle.boot_rules.proofs.DecisionLemmas.{chosen-exactly}
-use Rattle.boot_machine.proofs.ExampleLemmas.{all_below, content-by}
+use Rattle.boot_writes.proofs.ExampleLemmas.{all_below, content-by}
 use Rattle.boot_session.specs.Examples.{beside_former, beside_small, finished_start, former_start, slot, small_finished, small_first, small_former, small_slot}
 
 pub chosen-by : (c : Content) (e : Decision) → decision_in c Arm Normal ≡ e → Chosen c Arm Normal e

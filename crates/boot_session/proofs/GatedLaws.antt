@@ -37,8 +37,8 @@ use Rattle.boot_rules.specs.Chosen.{Chosen, Home}
 use Rattle.boot_rules.specs.Tables.{found_of, slot_table, slot_window, table_in, table_in_loop}
 use Rattle.boot_rules.proofs.DataLemmas.{same-bytes, same-length, same-slot}
 use Rattle.boot_rules.proofs.DecisionLemmas.{chosen-exactly, found-valid, valid-found}
-use Rattle.boot_machine.specs.Luck.{HasNoImage, IsKnownImage, Lucky}
-use Rattle.boot_machine.proofs.LuckLaws.{same-there}
+use Rattle.boot_writes.specs.Luck.{HasNoImage, IsKnownImage, Lucky}
+use Rattle.boot_writes.proofs.LuckLaws.{same-there}
 use Rattle.boot_session.specs.CutSessions.{CutSession, StartsElsewhere, StartsFinished, StartsThere}
 use Rattle.boot_session.proofs.ConfinedLaws.{empty-decision, next-decision, same-image-decision, table-stays}
 use Rattle.boot_session.proofs.NeighbourLemmas.{placed}

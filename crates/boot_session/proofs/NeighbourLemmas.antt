@@ -22,7 +22,7 @@ use Rattle.boot_rules.specs.Tables.{slot_window, table_in}
 use Rattle.boot_rules.proofs.PlaceLemmas.{boot-unit-members, slot-size, table-sound}
 use Rattle.boot_rules.proofs.StartLemmas.{boot-pair-apart, is-member, other-apart}
 use Rattle.boot_rules.proofs.TableLemmas.{found-in}
-use Rattle.boot_machine.proofs.OwnDecisionLemmas.{units-apart}
+use Rattle.boot_writes.proofs.OwnDecisionLemmas.{units-apart}
 
 same-or-other : (m n : Member) → (m ≡ n) ⊎ (m ≡ other_of n)
 same-or-other A A = inl refl

@@ -18,7 +18,7 @@ use Rattle.boot_rules.specs.declared.decision.Decision.TheVariants.{Start, Boots
 use Rattle.boot_rules.specs.Choosing.{boot_units_in}
 use Rattle.boot_rules.specs.Chosen.{Chosen, Home}
 use Rattle.boot_rules.specs.Tables.{table_in}
-use Rattle.boot_machine.specs.Luck.{Lucky}
+use Rattle.boot_writes.specs.Luck.{Lucky}
 
 -- the decision is no start of an image in the window
 abbrev pub StartsElsewhere : Window → Decision → Type 0

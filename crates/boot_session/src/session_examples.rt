@@ -1,7 +1,7 @@
 //! Worked sessions, proved by computing: each is the `ensures` of a function that does nothing.
 
 ghost use Rattle.std.specs.Prelude.{◌≡◌, ◌++◌, [], ◌∷◌, false, true};
-ghost use Rattle.boot_machine.specs.Luck.{Lucky};
+ghost use Rattle.boot_writes.specs.Luck.{Lucky};
 ghost use Rattle.boot_rules.specs.Chosen.{Chosen};
 ghost use Rattle.boot_rules.specs.Examples.{arm_member, arm_slot, bare, bare_slot, tables_content};
 ghost use Rattle.boot_rules.specs.declared.decision.Decision.TheVariants.{Start};

@@ -14,7 +14,7 @@ use Rattle.pico_board.specs.declared.step.Step.TheVariants.{Erase, Program, Rais
 use Rattle.pico_board.specs.Steps.{CutOf, IsCutAt, IsStepIn, after_all}
 use Rattle.boot_rules.specs.Choosing.{decision_in}
 use Rattle.boot_rules.proofs.DecisionLemmas.{decision-chosen}
-use Rattle.boot_machine.specs.Luck.{Lucky}
+use Rattle.boot_writes.specs.Luck.{Lucky}
 use Rattle.boot_sweep.specs.declared.results.CutResult.TheVariants.{Chance}
 use Rattle.boot_sweep.specs.Comparing.{result_of}
 use Rattle.boot_sweep.specs.Refusals.{refusal}

@@ -41,7 +41,7 @@ use Rattle.image_check.specs.declared.examining.Defined.{Defined}
 use Rattle.boot_rules.specs.Chosen.{Home}
 use Rattle.boot_rules.specs.Tables.{table_in}
 use Rattle.boot_rules.specs.declared.tables.Found.{Found}
-use Rattle.boot_machine.specs.Luck.{HasNoImage, Lucky}
+use Rattle.boot_writes.specs.Luck.{HasNoImage, Lucky}
 use Rattle.boot_sweep.specs.Firms.{Firm, HasOwnDigests, IsFirm, LoadsFront, Stray, covered_by}
 use Rattle.boot_sweep.proofs.ChanceLemmas.{gated-confined}
 use Rattle.boot_session.proofs.ConfinedLaws.{confined-table}

@@ -7,7 +7,7 @@ use Rattle.pico_board.specs.declared.window.Window.{Window}
 use Rattle.pico_board.specs.Content.{Content}
 use Rattle.pico_board.specs.Sessions.{Unfinished}
 use Rattle.pico_board.specs.Steps.{after_all}
-use Rattle.boot_machine.specs.Luck.{Lucky}
+use Rattle.boot_writes.specs.Luck.{Lucky}
 use Rattle.boot_sweep.specs.declared.results.CutResult.{CutResult}
 use Rattle.boot_sweep.specs.declared.results.CutResult.TheVariants.{Chance}
 use Rattle.boot_sweep.specs.Results.{IsCutResult}

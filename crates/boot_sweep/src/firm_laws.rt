@@ -11,7 +11,7 @@ ghost use Rattle.image_def.specs.declared.started.Started.{Started};
 ghost use Rattle.boot_rules.specs.Chosen.{Home};
 ghost use Rattle.boot_rules.specs.Tables.{table_in};
 ghost use Rattle.boot_rules.specs.declared.tables.Found.{Found};
-ghost use Rattle.boot_machine.specs.Luck.{Lucky};
+ghost use Rattle.boot_writes.specs.Luck.{Lucky};
 ghost use Rattle.boot_sweep.specs.declared.results.CutResult.TheVariants.{Chance};
 ghost use Rattle.boot_sweep.specs.Firms.{Firm, HasOwnDigests, Stray};
 ghost use Rattle.boot_sweep.specs.Refusals.{refusal};

@@ -8,7 +8,7 @@ ghost use Rattle.pico_board.specs.Steps.{after_all};
 ghost use Rattle.pico_board.specs.declared.Step.{Step};
 ghost use Rattle.pico_board.specs.declared.boot.Cpu.{Cpu};
 ghost use Rattle.pico_board.specs.declared.window.Window.{Window};
-ghost use Rattle.boot_machine.specs.Luck.{Lucky};
+ghost use Rattle.boot_writes.specs.Luck.{Lucky};
 ghost use Rattle.boot_sweep.specs.declared.error.SweepError.{SweepError};
 ghost use Rattle.boot_sweep.specs.declared.results.CutResult.{CutResult};
 ghost use Rattle.boot_sweep.specs.declared.results.StepResults.{StepResults};

@@ -31,8 +31,8 @@ use Rattle.boot_rules.specs.Starts.{table_of_content}
 use Rattle.boot_rules.specs.Tables.{table_in}
 use Rattle.boot_rules.specs.Targets.{target_of, unit_target}
 use Rattle.boot_rules.proofs.TargetLemmas.{target-apart}
-use Rattle.boot_machine.specs.Luck.{Lucky}
-use Rattle.boot_machine.proofs.LeftImageLemmas.{units-same}
+use Rattle.boot_writes.specs.Luck.{Lucky}
+use Rattle.boot_writes.proofs.LeftImageLemmas.{units-same}
 use Rattle.boot_session.specs.CutSessions.{CutSession, StartsElsewhere, StartsFinished}
 use Rattle.boot_session.proofs.ConfinedLaws.{table-stays}
 use Rattle.boot_session.proofs.GatedLaws.{blank-table, decide-blank, decide-content, gated-decision}

@@ -33,8 +33,8 @@ use Rattle.boot_rules.specs.Targets.{deciding_in, deciding_unit, member_for, pai
 use Rattle.boot_rules.proofs.PlaceLemmas.{IsLoad, all_flash, boot-unit-members, load-is, no_table, of_part, table-sound, target-member}
 use Rattle.boot_rules.proofs.StartLemmas.{is-member}
 use Rattle.boot_rules.proofs.TargetLemmas.{normal-taken, taken-stands}
-use Rattle.boot_machine.proofs.LeftImageLemmas.{units-same}
-use Rattle.boot_machine.proofs.OwnDecisionLemmas.{units-apart}
+use Rattle.boot_writes.proofs.LeftImageLemmas.{units-same}
+use Rattle.boot_writes.proofs.OwnDecisionLemmas.{units-apart}
 
 pub self-apart : (w : Window) → 4096 ≤ w.len → AreApart w w → ⊥
 self-apart w some (inl e) = omega (arith, some, e)

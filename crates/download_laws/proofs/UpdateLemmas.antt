@@ -25,8 +25,8 @@ use Rattle.boot_rules.specs.Examples.{bare, found_in}
 use Rattle.boot_rules.specs.Starts.{table_of_content}
 use Rattle.boot_rules.specs.Tables.{table_in}
 use Rattle.boot_rules.specs.Targets.{target_of}
-use Rattle.boot_machine.proofs.ExampleLemmas.{all_below, below-all, content-by}
-use Rattle.boot_machine.specs.Luck.{Lucky}
+use Rattle.boot_writes.proofs.ExampleLemmas.{all_below, below-all, content-by}
+use Rattle.boot_writes.specs.Luck.{Lucky}
 use Rattle.boot_session.specs.Examples.{begins_with, beside_former, former_start, plain_steps, slot, vector_page}
 use Rattle.boot_session.specs.CutSessions.{CutSession}
 use Rattle.boot_session.proofs.PlanSlotLemmas.{part-right}

@@ -18,7 +18,7 @@ use Rattle.boot_rules.specs.Chosen.{Chosen, Home}
 use Rattle.boot_rules.specs.Starts.{table_of_content}
 use Rattle.boot_rules.specs.Tables.{table_in}
 use Rattle.boot_rules.specs.Targets.{is_executable, target_of}
-use Rattle.boot_machine.specs.Luck.{Lucky}
+use Rattle.boot_writes.specs.Luck.{Lucky}
 use Rattle.boot_session.specs.Scripts.{script_session}
 use Rattle.script_text.specs.Reading.{script_of}
 use Rattle.text_work.specs.Copies.{blocks_in, copy_events}

@@ -24,7 +24,7 @@ use Rattle.boot_rules.specs.Starts.{table_of_content}
 use Rattle.boot_rules.specs.Tables.{table_in}
 use Rattle.boot_rules.proofs.PlaceLemmas.{boot-unit-members, table-sound}
 use Rattle.boot_rules.proofs.StartLemmas.{boot-pair-apart, is-member, of-unit, start, start-valid}
-use Rattle.boot_machine.proofs.OwnDecisionLemmas.{units-apart}
+use Rattle.boot_writes.proofs.OwnDecisionLemmas.{units-apart}
 use Rattle.own_write_laws.specs.Running.{StandsValid}
 
 -- windows that start at one place are not apart

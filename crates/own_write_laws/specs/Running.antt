@@ -12,7 +12,7 @@ use Rattle.slot_choice.specs.declared.choice.Choice.{Choice}
 use Rattle.trial_buy.specs.Buying.{buy_steps}
 use Rattle.boot_rules.specs.Starts.{IsOfUnit}
 use Rattle.boot_script.specs.Events.{Happening}
-use Rattle.boot_machine.specs.Crashes.{IsLuckyCut}
+use Rattle.boot_writes.specs.Crashes.{IsLuckyCut}
 use Rattle.boot_machine.specs.Machines.{FromFlash, Machine, Running}
 use Rattle.boot_machine.specs.Moves.{Moves, Plays, lost_text}
 use Rattle.boot_machine.specs.Runs.{IsFresh}

@@ -20,13 +20,13 @@ ghost use Rattle.boot_rules.specs.declared.decision.Decision.TheVariants.{Start}
 ghost use Rattle.boot_rules.specs.declared.tables.Found.{Found};
 ghost use Rattle.boot_script.specs.Events.{Happening};
 ghost use Rattle.boot_machine.specs.Boots.{decided_place};
-ghost use Rattle.boot_machine.specs.Crashes.{AreOwnSteps, IsLuckyCut, KeepsOtherRows, PicksBought, StartsBought, settled_choice};
+ghost use Rattle.boot_writes.specs.Crashes.{AreOwnSteps, IsLuckyCut, KeepsOtherRows, PicksBought, StartsBought, settled_choice};
 ghost use Rattle.boot_machine.specs.Machines.{FromFlash, Machine, Off, Running};
 ghost use Rattle.boot_machine.specs.Moves.{Moves, lost_text};
 ghost use Rattle.own_write_laws.specs.Running.{LosesBuy, RunsTrial, StandsValid, buys};
 
-use boot_machine::crash_laws::boots_own_writes;
 use boot_machine::run_laws::{a_running_trial_is_chosen, only_lost_power_says_so};
+use boot_writes::laws::boots_own_writes;
 
 /// An updated image is one that a boot chooses exactly where it is valid in a member of a boot
 /// unit, with a trial allowed, and flash boot is not off: the update boot of its window chooses it

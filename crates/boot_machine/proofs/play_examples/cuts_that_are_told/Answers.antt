@@ -7,7 +7,7 @@ use Rattle.pico_board.specs.Steps.{after}
 use Rattle.pico_board.proofs.ContentLemmas.{flash_bytes-after}
 use Rattle.pico_board.proofs.TornStepLemmas.{Torn-before}
 use Rattle.boot_machine.specs.Examples.{erased}
-use Rattle.boot_machine.proofs.ExampleLemmas.{all_below, content-by}
+use Rattle.boot_writes.proofs.ExampleLemmas.{all_below, content-by}
 use Rattle.boot_machine.proofs.play_examples.cuts_that_are_told.Goals as goal
 
 right : IsContent erased

@@ -15,7 +15,7 @@ use Rattle.picoboot_cmd.specs.Examples.{erase_command}
 use Rattle.ram_start.proofs.RamLemmas.{zeros-right}
 use Rattle.ram_start.specs.Sram.{zero_ram}
 use Rattle.boot_machine.specs.Examples.{erased}
-use Rattle.boot_machine.proofs.ExampleLemmas.{all_below, below-all, content-by}
+use Rattle.boot_writes.proofs.ExampleLemmas.{all_below, below-all, content-by}
 use Rattle.boot_machine.proofs.play_examples.numbers_in_range.Goals as goal
 
 right : IsContent erased

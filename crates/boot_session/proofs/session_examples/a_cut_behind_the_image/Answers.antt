@@ -5,7 +5,7 @@ use Rattle.pico_board.specs.declared.boot.Cpu.TheVariants.{Arm}
 use Rattle.pico_board.specs.Content.{Content}
 use Rattle.boot_rules.specs.declared.decision.Decision.TheVariants.{Start}
 use Rattle.boot_rules.specs.Tables.{table_in}
-use Rattle.boot_machine.specs.Luck.{Lucky}
+use Rattle.boot_writes.specs.Luck.{Lucky}
 use Rattle.boot_session.specs.Examples.{small_finished, small_former, small_slot}
 use Rattle.boot_session.specs.CutSessions.{StartsFinished}
 use Rattle.boot_session.proofs.ExampleLemmas.{small_before, chosen-by, decided, small-elsewhere, small-former-before, gated, small-home, small-right, small-starts-apart, three-pages}

@@ -5,7 +5,7 @@ use Rattle.pico_board.specs.declared.boot.Cpu.TheVariants.{Arm}
 use Rattle.pico_board.specs.Content.{Content}
 use Rattle.boot_rules.specs.declared.decision.Decision.TheVariants.{Start}
 use Rattle.boot_rules.specs.Tables.{table_in}
-use Rattle.boot_machine.specs.Luck.{Lucky}
+use Rattle.boot_writes.specs.Luck.{Lucky}
 use Rattle.boot_session.specs.Examples.{former_start, slot}
 use Rattle.boot_session.proofs.ExampleLemmas.{before, chosen-by, decided, elsewhere, former-before, gated, home, right, starts-apart, two-pages}
 use Rattle.boot_session.proofs.CutBetweenLemmas.{halfway, finished, cut, former-halfway, finished-start, table-after, lucky, done, unfinished}

@@ -10,7 +10,7 @@ use Rattle.slot_choice.specs.declared.choice.Choice.{Choice}
 use Rattle.boot_rules.specs.declared.decision.Decision.{Decision}
 use Rattle.boot_rules.specs.declared.decision.Decision.TheVariants.{Bootsel, Start}
 use Rattle.boot_rules.specs.Choosing.{decision_in}
-use Rattle.boot_machine.specs.Luck.{Lucky}
+use Rattle.boot_writes.specs.Luck.{Lucky}
 use Rattle.boot_session.specs.Examples.{small_finished, longer_steps, small_slot}
 use Rattle.boot_session.specs.CutSessions.{StartsFinished}
 use Rattle.boot_session.proofs.ExampleLemmas.{small_before, chosen-by, decided}

@@ -4,7 +4,7 @@ use Rattle.boot_rules.specs.Chosen.{Chosen}
 use Rattle.boot_rules.specs.declared.decision.Decision.TheVariants.{Start}
 use Rattle.boot_rules.proofs.StartLemmas.{of-unit, start}
 use Rattle.boot_script.specs.Events.{Happening}
-use Rattle.boot_machine.specs.Crashes.{settled_choice}
+use Rattle.boot_writes.specs.Crashes.{settled_choice}
 use Rattle.boot_machine.specs.Moves.{lost_text}
 use Rattle.own_write_laws.specs.Running.{buys}
 use Rattle.own_write_laws.proofs.RunLemmas.{buy-cut, is-done, next-place}

@@ -1,0 +1,3 @@
+pub mod Luck
+pub mod Crashes
+pub mod Examples
