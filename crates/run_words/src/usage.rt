@@ -41,7 +41,7 @@ OUTFLASH, OUTOTP  files to write: the whole flash, and all 4096 rows, 4 bytes ea
 BIN     a file of at most 16777216 bytes: an image, with or without a version and a digest
 ELF     a file of at most 67108864 bytes: a 32-bit executable of segments in flash, or in SRAM
 SPEC    a JSON text of at most 65536 bytes: processor, version, rollback, rows and trial
-        of the image; those of the binary are lost, also where the spec leaves them out
+        of the image; those of the binary, and its window delta, are lost, also if left out
 JSON    a JSON text of at most 65536 bytes: version, singleton, unpartitioned and partitions
 IMAGE   a file of 1 to 16777216 bytes, and for plan at most as many as it has room for
 UF2     a file of 512 to 33554944 bytes, in blocks of 512; the board judges them, not this command
