@@ -5,8 +5,10 @@ ghost use Rattle.std.specs.Prelude.{◌≡◌, [], ◌∷◌, codes, Some, None}
 ghost use Rattle.pico_board.specs.declared.boot.Cpu.TheVariants.{Arm};
 ghost use Rattle.pico_board.specs.declared.boot.BootKind.TheVariants.{Normal};
 ghost use Rattle.run_words.specs.Commands.{Table, Boot, Info, OwnedData, Replay, Seal, Elf, Uf2, Plan};
-ghost use Rattle.boot_run.specs.Commands.{command_outcome, outcome_on};
+ghost use Rattle.boot_run.specs.Commands.{Names, command_outcome, outcome_on};
+ghost use Rattle.boot_run.specs.Examples.{no_start, sink_of};
 ghost use Rattle.run_course.specs.Outcomes.{refused, unread, not_understood};
+ghost use Rattle.run_course.specs.declared.status.Status.{Status};
 
 /// Of two inputs that break their form the first in word order is named; a lacking name has no
 /// text.
@@ -53,4 +55,18 @@ pub fn refusals_of_images()
         ([] ∷ (0 ∷ []) ∷ [] ∷ []) ≡ refused (codes "f") (codes "empty") }
     ensures otp { command_outcome (Plan (codes "f") (codes "o") Arm (codes "i") (codes "a"))
         ((0 ∷ []) ∷ (0 ∷ []) ∷ [] ∷ []) ≡ refused (codes "o") (codes "otp-length") }
+{}
+
+/// A run names a decision where it ends with the decision's status and puts its line: neither
+/// nothing, nor more, nor with another status. What was put before stays.
+pub fn what_names_a_decision()
+    ensures line { Names no_start Status.Bootsel (sink_of (7 ∷ []))
+        (sink_of (7 ∷ codes "bootsel no-image\n")) }
+    ensures nothing { ¬ (Names no_start Status.Bootsel (sink_of []) (sink_of [])) }
+    ensures more { ¬ (Names no_start Status.Bootsel (sink_of [])
+        (sink_of (codes "bootsel no-image\n\n"))) }
+    ensures other_line { ¬ (Names no_start Status.Bootsel (sink_of [])
+        (sink_of (codes "bootsel off\n"))) }
+    ensures other_status { ¬ (Names no_start Status.Done (sink_of [])
+        (sink_of (codes "bootsel no-image\n"))) }
 {}

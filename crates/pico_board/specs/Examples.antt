@@ -1,12 +1,14 @@
 -- Worked examples of the lists of steps that a session does: two sectors are written, the first of
 -- them last, and power is lost within the last step; and of the files of a store. This project's
 -- own.
-use Rattle.std.specs.Prelude.{ℕ, List, [], ◌∷◌, Some, false, true}
+use Rattle.std.specs.Prelude.{⊤, ℕ, Bool, List, [], ◌∷◌, Result, Some, false, true}
 use Rattle.pico_board.specs.declared.window.Window.{Window}
 use Rattle.pico_board.specs.Content.{Content}
 use Rattle.pico_board.specs.Steps.{Step, Erase, Program, after_all}
 use Rattle.pico_board.specs.Cuts.{cut_by, cut_with}
+use Rattle.pico_board.specs.declared.sink.SinkFail.{SinkFail}
 use Rattle.pico_board.specs.Files.{File, StoreState}
+use Rattle.pico_board.specs.Puts.{SinkState, Takes}
 
 -- the window of this start and length
 abbrev pub window_at : ℕ → ℕ → Window
@@ -52,6 +54,25 @@ of_a byte = record { name = name_a; bytes = byte ∷ [] }
 
 abbrev pub of_b : ℕ → File
 of_b byte = record { name = name_b; bytes = byte ∷ [] }
+
+-- a store that tells one file, had so many faults of reads and of writes, and is steady or not
+abbrev pub counting : ℕ → ℕ → Bool → StoreState
+counting reads writes steady = record {
+  files = Some (of_a 1 ∷ []);
+  read_faults = reads;
+  write_faults = writes;
+  steady = steady;
+}
+
+-- a sink that tells one byte, had so many faults, and is steady or not
+abbrev pub putting : ℕ → Bool → SinkState
+putting faults steady = record { bytes = Some (1 ∷ []); faults = faults; steady = steady }
+
+-- the first takes a put of no byte with this answer, and is then the second; of what was put before
+-- nothing is known
+abbrev pub TakesNothing : SinkState → Result (Unit {0}) SinkFail → SinkState → Type 0
+TakesNothing old answer new =
+    Takes (λ s. s) (λ s puts. ⊤) old (record { bytes = []; answer = answer }) new
 
 -- a store that tells these files, had no faults, and is not steady
 abbrev pub telling : List File → StoreState

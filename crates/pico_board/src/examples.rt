@@ -11,11 +11,11 @@ ghost use Rattle.pico_board.specs.Content.{AreApart, Content, IsContent, flash_b
 ghost use Rattle.pico_board.specs.Steps.{CutOf, Erase, IsStepIn, Program, Raise};
 ghost use Rattle.pico_board.specs.Board.{Rose};
 ghost use Rattle.pico_board.specs.Cuts.{IsPattern, torn_by};
-ghost use Rattle.pico_board.specs.Files.{IsReadOf, KeepsOthers, ShowsWrite};
-ghost use Rattle.pico_board.specs.Puts.{IsPutBy};
+ghost use Rattle.pico_board.specs.Files.{GoesOn, IsReadOf, KeepsOthers, ShowsRead, ShowsWrite};
+ghost use Rattle.pico_board.specs.Puts.{IsPutBy, PutsOn};
 ghost use Rattle.pico_board.specs.Sessions.{Confined, Gated, IsBlankPage, IsElsewhere, IsGated, IsPageOf, IsPartial, IsProgramIn, IsSamePage, SameButSector, Unfinished};
 ghost use Rattle.pico_board.specs.Views.{IsViewed};
-ghost use Rattle.pico_board.specs.Examples.{first_sector, half_done, holding, name_a, of_a, of_b, second_sector, telling, two_pages, two_sectors, window_at};
+ghost use Rattle.pico_board.specs.Examples.{TakesNothing, counting, first_sector, half_done, holding, name_a, name_b, of_a, of_b, putting, second_sector, telling, two_pages, two_sectors, window_at};
 
 /// Steps on the first and the last sector and page of the window of sectors 2 and 3 are confined to
 /// it, and steps on the sectors and pages beside it are not; nor is a raise.
@@ -186,6 +186,55 @@ pub fn files_after_a_write()
         (7 ∷ []) (Err fail) (telling (of_a 7 ∷ []))) }
     ensures failed_changed { (fail : StoreFail) → ¬ (ShowsWrite (telling (of_a 1 ∷ of_b 2 ∷ []))
         name_a (7 ∷ []) (Err fail) (telling (of_a 7 ∷ of_b 7 ∷ []))) }
+{}
+
+/// A read at fault is counted among those of reads, and want of memory is no fault. A steady store
+/// faults on a name that it lacks, and on no other. A read leaves the files.
+pub fn faults_of_reads()
+    ensures counted { ShowsRead (counting 0 0 false) name_a 0 (Err StoreFail.Fault)
+        (counting 1 0 false) }
+    ensures uncounted { ¬ (ShowsRead (counting 0 0 false) name_a 0 (Err StoreFail.Fault)
+        (counting 0 1 false)) }
+    ensures memory { ShowsRead (counting 0 0 true) name_a 0 (Err StoreFail.Memory)
+        (counting 0 0 true) }
+    ensures steady { ¬ (ShowsRead (counting 0 0 true) name_a 0 (Err StoreFail.Fault)
+        (counting 1 0 true)) }
+    ensures lacking { ShowsRead (counting 0 0 true) name_b 0 (Err StoreFail.Fault)
+        (counting 1 0 true) }
+    ensures files { ¬ (ShowsRead (telling (of_a 1 ∷ [])) name_a 0 (Ok (1 ∷ []))
+        (telling (of_a 7 ∷ []))) }
+{}
+
+/// A write at fault is counted among those of writes, and want of memory is no fault. A steady store
+/// has none.
+pub fn faults_of_writes()
+    ensures counted { ShowsWrite (counting 0 0 false) name_a (1 ∷ []) (Err StoreFail.Fault)
+        (counting 0 1 false) }
+    ensures uncounted { ¬ (ShowsWrite (counting 0 0 false) name_a (1 ∷ []) (Err StoreFail.Fault)
+        (counting 1 0 false)) }
+    ensures memory { ShowsWrite (counting 0 0 true) name_a (1 ∷ []) (Err StoreFail.Memory)
+        (counting 0 0 true) }
+    ensures steady { ¬ (ShowsWrite (counting 0 0 true) name_a (1 ∷ []) (Err StoreFail.Fault)
+        (counting 0 1 true)) }
+{}
+
+/// A put at fault is counted, and want of memory is no fault. A steady sink has none.
+pub fn faults_of_puts()
+    ensures counted { TakesNothing (putting 0 false) (Err SinkFail.Fault) (putting 1 false) }
+    ensures uncounted { ¬ (TakesNothing (putting 0 false) (Err SinkFail.Fault) (putting 0 false)) }
+    ensures memory { TakesNothing (putting 0 true) (Err SinkFail.Memory) (putting 0 true) }
+    ensures steady { ¬ (TakesNothing (putting 0 true) (Err SinkFail.Fault) (putting 1 true)) }
+{}
+
+/// No count of faults falls, and what is steady stays so; a call may raise any count.
+pub fn counts_that_go_on()
+    ensures rose { GoesOn (counting 2 3 true) (counting 3 4 true) }
+    ensures reads { ¬ (GoesOn (counting 2 3 true) (counting 1 3 true)) }
+    ensures writes { ¬ (GoesOn (counting 2 3 true) (counting 2 2 true)) }
+    ensures steady { ¬ (GoesOn (counting 2 3 true) (counting 2 3 false)) }
+    ensures put_rose { PutsOn (putting 2 true) (putting 3 true) }
+    ensures puts { ¬ (PutsOn (putting 2 true) (putting 1 true)) }
+    ensures put_steady { ¬ (PutsOn (putting 2 true) (putting 2 false)) }
 {}
 
 /// A put that is Ok appends all of its bytes, and one that failed none, some of the first, or all

@@ -1,10 +1,9 @@
-//! Tests of the program's top call: of the commands on scripts. They show what no clause says: that
-//! each status comes with ample memory, and texts that were worked out by hand.
+//! Tests of the program's top call: of the commands that play, list and write scripts. They show
+//! what no clause says: that each status comes with ample memory, and texts that were worked out by
+//! hand.
 #![tactic(auto)]
 
 #[cfg(test)]
 mod replays;
-#[cfg(test)]
-mod sweeps;
 #[cfg(test)]
 mod texts;
