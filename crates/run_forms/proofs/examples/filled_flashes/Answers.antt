@@ -13,3 +13,7 @@ returns-clause-behind c = refl
 pub returns-clause-last : goal.returns-clause-last
 unfolding filled
 returns-clause-last c = refl
+
+pub returns-clause-past : goal.returns-clause-past
+unfolding filled
+returns-clause-past c = refl
