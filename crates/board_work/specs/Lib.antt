@@ -1,2 +1,3 @@
 pub mod Works
 pub mod Rules
+pub mod Examples

@@ -3,6 +3,7 @@
 #![tactic(auto)]
 
 mod boards;
+pub mod examples;
 pub mod laws;
 
 pub use boards::{boot, data, info};

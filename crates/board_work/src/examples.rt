@@ -1,0 +1,22 @@
+//! Worked examples of the definitions, proved by computing: each is the `ensures` of a function
+//! that does nothing.
+
+ghost use Rattle.std.specs.Prelude.{◌≡◌, [], ◌∷◌, Some, None};
+ghost use Rattle.pico_board.specs.declared.boot.Cpu.TheVariants.{Arm, Riscv};
+ghost use Rattle.board_work.specs.Works.{windows_of};
+ghost use Rattle.board_work.specs.Examples.{first_part, second_part, found_of, window_at};
+
+/// The windows of a flash: those of its table's partitions, in table order, or without a table its
+/// two slots or all of it.
+pub fn windows_of_flashes()
+    ensures slots { windows_of None 0x40000 0x20000 Arm
+        ≡ window_at 0 0x20000 ∷ window_at 0x20000 0x20000 ∷ [] }
+    ensures least_slots { windows_of None 0x4000 0x2000 Riscv
+        ≡ window_at 0 0x2000 ∷ window_at 0x2000 0x2000 ∷ [] }
+    ensures whole { windows_of None 0x40000 0x1000 Arm ≡ window_at 0 0x40000 ∷ [] }
+    ensures table { windows_of (Some (found_of (first_part ∷ second_part ∷ []))) 0x40000 0x1000 Arm
+        ≡ window_at 0x2000 0x1e000 ∷ window_at 0x20000 0x1e000 ∷ [] }
+    ensures turned { windows_of (Some (found_of (second_part ∷ first_part ∷ []))) 0x40000 8192 Arm
+        ≡ window_at 0x20000 0x1e000 ∷ window_at 0x2000 0x1e000 ∷ [] }
+    ensures no_partition { windows_of (Some (found_of [])) 0x40000 0x20000 Arm ≡ [] }
+{}
