@@ -14,7 +14,7 @@ ghost use Rattle.table_json.specs.declared.fault.JsonFault.TheVariants.{NotJson}
 ghost use Rattle.tool_work.specs.Elfs.{elf_blamed, elf_text, elf_work};
 ghost use Rattle.tool_work.specs.Seals.{blamed, seal_text, sealed_line};
 ghost use Rattle.tool_work.specs.Tools.{seal_work, table_line, table_work};
-ghost use Rattle.tool_work.specs.ToolWorks.{executable_family, gen_line, plan_line, target_work, uf2_line, window_work};
+ghost use Rattle.tool_work.specs.ToolWorks.{executable_family, gen_line, plan_line, target_work, uf2_line, uf2_work, window_work};
 
 /// The texts of the errors of a sealing, and the inputs that they are told of.
 pub fn seal_texts()
@@ -55,6 +55,20 @@ pub fn refusals_of_images()
     ensures past { worked
         (window_work (record { start = 0; len = 2 }) (codes "i") (codes "a") (1 ∷ 2 ∷ 3 ∷ []))
         ≡ refused (codes "i") (codes "past-window") }
+    ensures no_byte { worked (uf2_work (codes "i") 0xe48bff58 (codes "a") [])
+        ≡ refused (codes "i") (codes "empty") }
+{}
+
+/// The least image has one byte, and the greatest of a plan is as long as the window.
+pub fn least_and_greatest_images()
+    ensures whole_window { (worked
+        (window_work (record { start = 0; len = 2 }) (codes "i") (codes "a") (1 ∷ 2 ∷ []))).text
+        ≡ codes "plan window=0x00000000+0x00000002 bytes=2\n" }
+    ensures one_byte { (worked
+        (window_work (record { start = 0x2000; len = 256 }) (codes "i") (codes "a") (1 ∷ []))).text
+        ≡ codes "plan window=0x00002000+0x00000100 bytes=1\n" }
+    ensures one_block { (worked (uf2_work (codes "i") 0xe48bff58 (codes "a") (1 ∷ []))).text
+        ≡ codes "uf2 blocks=1\n" }
 {}
 
 /// The family of a processor's executables.
