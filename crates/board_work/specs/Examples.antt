@@ -1,8 +1,11 @@
 -- Partitions, tables and windows of the worked examples. This project's own.
-use Rattle.std.specs.Prelude.{ℕ, [], List, None, false}
+use Rattle.std.specs.Prelude.{ℕ, [], List, None, Some, false}
 use Rattle.pico_board.specs.declared.window.Window.{Window}
 use Rattle.part_table.specs.declared.partition.Partition.{Partition}
+use Rattle.slot_choice.specs.declared.choice.Choice.{Choice}
+use Rattle.slot_choice.specs.declared.unit.Member.{Member}
 use Rattle.boot_rules.specs.declared.tables.Found.{Found}
+use Rattle.boot_rules.specs.Examples.{version_in}
 
 -- the sectors 2 to 31 with all rights, for images of Arm
 abbrev pub first_part : Partition
@@ -42,3 +45,13 @@ found_of parts =
 -- the window of this start and length
 abbrev pub window_at : ℕ → ℕ → Window
 window_at start len = record { start = start; len = len }
+
+-- the start of an image of version 1.9 in this member of a pair, whose other one has this window
+abbrev pub start_in : Window → Member → Window → Choice
+start_in w member other =
+    record {
+      image = version_in w 1 9 false;
+      member = member;
+      other = Some other;
+      updated = false;
+    }

@@ -1,10 +1,13 @@
 //! Worked examples of the definitions, proved by computing: each is the `ensures` of a function
 //! that does nothing.
 
-ghost use Rattle.std.specs.Prelude.{ℕ, ◌≡◌, List, [], ◌∷◌, ◌++◌, codes, Err, None, false};
+ghost use Rattle.std.specs.Prelude.{ℕ, ◌≡◌, List, [], ◌∷◌, ◌++◌, codes, Err, None, Some, false, replicate, true};
 ghost use Rattle.pico_board.specs.declared.boot.Cpu.TheVariants.{Arm, Riscv};
 ghost use Rattle.image_check.specs.declared.why.Why.TheVariants.{NoBlock, Entry};
 ghost use Rattle.image_check.specs.declared.why.EntryFault.TheVariants.{Pc};
+ghost use Rattle.flash_maker.specs.Flashes.{generated};
+ghost use Rattle.slot_choice.specs.Examples.{window_at};
+ghost use Rattle.boot_rules.specs.Examples.{arm_member, arm_slot, bare, bare_slot, pair_content, tables_content, to};
 ghost use Rattle.run_course.specs.Outcomes.{Answers, refused, worked};
 ghost use Rattle.run_texts.specs.Examples.{small_window};
 ghost use Rattle.image_pack.specs.declared.spec.SealError.TheVariants.{BadSpec, Unsealable, TooLarge as SealedTooLarge, BlockTooLong, NotBootable, Displaced};
@@ -14,7 +17,7 @@ ghost use Rattle.table_json.specs.declared.fault.JsonFault.TheVariants.{NotJson}
 ghost use Rattle.tool_work.specs.Elfs.{elf_blamed, elf_text, elf_work};
 ghost use Rattle.tool_work.specs.Seals.{blamed, seal_text, sealed_line};
 ghost use Rattle.tool_work.specs.Tools.{seal_work, table_line, table_work};
-ghost use Rattle.tool_work.specs.ToolWorks.{executable_family, gen_line, plan_line, target_work, uf2_line, uf2_work, window_work};
+ghost use Rattle.tool_work.specs.ToolWorks.{executable_family, gen_line, made_content, plan_line, plan_target, target_work, uf2_line, uf2_work, window_work};
 
 /// The texts of the errors of a sealing, and the inputs that they are told of.
 pub fn seal_texts()
@@ -101,4 +104,22 @@ pub fn works_on_other_texts()
         → seal_work binary spec out b (Err NotJson) ≡ Answers false [] [] }
     ensures elf { (elf spec out e : List ℕ)
         → elf_work elf spec out e (Err NotJson) ≡ Answers false [] [] }
+{}
+
+/// A plan goes where a download of the processor's own executables does: into the member of the
+/// pair that does not start, and nowhere where the table takes none of them.
+pub fn targets_of_plans()
+    ensures second { plan_target (pair_content 0 (arm_member 0x10009) bare) Arm
+        ≡ Some (to (window_at 0x20000 0x1e000) true false) }
+    ensures first { plan_target (pair_content 0 bare (arm_member 0x10009)) Arm
+        ≡ Some (to (window_at 0x2000 0x1e000) true false) }
+    ensures none { plan_target (pair_content 0 (arm_member 0x10009) bare) Riscv ≡ None }
+    ensures tableless { plan_target (tables_content 1 (arm_slot 0x10009) bare_slot) Arm
+        ≡ Some (to (window_at 0x2000 0x2000) true false) }
+{}
+
+/// A made flash stands beside an OTP of zeros.
+pub fn contents_that_are_made()
+    ensures flash { (n : ℕ) → (made_content n).flash ≡ generated n }
+    ensures otp { (n : ℕ) → (made_content n).otp ≡ replicate 4096 0 }
 {}
