@@ -243,6 +243,8 @@ pub fn replies_and_boots()
     ensures normal { boot_of (reboot_command 0x100 7) ≡ Some Normal }
     ensures bootsel { boot_of (reboot_command 2 7) ≡ Some Bootsel }
     ensures update { boot_of (reboot_command 4 0x10020000) ≡ Some (Update 0x10020000) }
+    ensures later_bootsel { boot_of (reboot_command 0x102 7) ≡ Some Bootsel }
+    ensures later_update { boot_of (reboot_command 0x104 0x10020000) ≡ Some (Update 0x10020000) }
     ensures xip { boot_of (plain_command 7 0 0) ≡ None }
 {}
 
@@ -253,13 +255,35 @@ pub fn a_table_that_fits()
     ensures none { IsSoundFor None 0 }
 {}
 
-/// Well-formed commands on the last bytes of a flash of 262,144 bytes, on none, and on the last
-/// page of the sectors that may be written.
+/// Well-formed commands on the last bytes of a flash of 262,144 bytes, on none, and on the first
+/// and the last sector and page that may be written.
 pub fn well_formed_commands()
     ensures erase { IsErase 262144 None 32 32 (erase_command 0x10020000 0x20000) }
     ensures erase_none { IsErase 262144 None 64 0 (erase_command 0x10040000 0) }
+    ensures erase_first { IsErase 262144 (Some guarded_table) 32 1
+        (erase_command 0x10020000 0x1000) }
+    ensures erase_last { IsErase 262144 (Some guarded_table) 61 1
+        (erase_command 0x1003d000 0x1000) }
     ensures write { IsWrite 262144 None 1023 (1 ∷ 2 ∷ []) (write_command 0x1003ff00 2) }
+    ensures write_first { IsWrite 262144 (Some guarded_table) 512 (replicate 256 0)
+        (write_command 0x10020000 256) }
     ensures write_right { IsWrite 262144 (Some guarded_table) 991 (replicate 256 0)
         (write_command 0x1003df00 256) }
     ensures reboot { IsReboot (reboot_command 4 0x10020000) }
+{}
+
+/// No well-formed commands: those on the sector before and the one behind the sectors that may be
+/// written, and those that pass the end of the flash.
+pub fn commands_that_are_not_well_formed()
+    ensures erase_before { ¬ (IsErase 262144 (Some guarded_table) 31 1
+        (erase_command 0x1001f000 0x1000)) }
+    ensures erase_behind { ¬ (IsErase 262144 (Some guarded_table) 61 2
+        (erase_command 0x1003d000 0x2000)) }
+    ensures erase_past { ¬ (IsErase 262144 None 63 2 (erase_command 0x1003f000 0x2000)) }
+    ensures write_before { ¬ (IsWrite 262144 (Some guarded_table) 511 (replicate 256 0)
+        (write_command 0x1001ff00 256)) }
+    ensures write_behind { ¬ (IsWrite 262144 (Some guarded_table) 991 (replicate 257 0)
+        (write_command 0x1003df00 257)) }
+    ensures write_past { ¬ (IsWrite 262144 None 1023 (replicate 257 0)
+        (write_command 0x1003ff00 257)) }
 {}

@@ -26,6 +26,32 @@ returns-clause-erase_none c = record {
   allowed = λ i lt. refl;
 }
 
+pub returns-clause-erase_first : goal.returns-clause-erase_first
+returns-clause-erase_first c = record {
+  id = refl;
+  arg_size = refl;
+  transfer = refl;
+  address = refl;
+  size = refl;
+  inside = omega arith;
+  allowed = λ i lt.
+      let sector : 32 ≡ (4096 * 32 + i) / 4096 = omega (arith, lt) in
+      subst (λ (s : ℕ). allowed_by (Some guarded_table) s BootWrite ≡ true) sector refl;
+}
+
+pub returns-clause-erase_last : goal.returns-clause-erase_last
+returns-clause-erase_last c = record {
+  id = refl;
+  arg_size = refl;
+  transfer = refl;
+  address = refl;
+  size = refl;
+  inside = omega arith;
+  allowed = λ i lt.
+      let sector : 61 ≡ (4096 * 61 + i) / 4096 = omega (arith, lt) in
+      subst (λ (s : ℕ). allowed_by (Some guarded_table) s BootWrite ≡ true) sector refl;
+}
+
 pub returns-clause-write : goal.returns-clause-write
 returns-clause-write c = record {
   id = refl;
@@ -35,6 +61,19 @@ returns-clause-write c = record {
   size = refl;
   inside = omega arith;
   allowed = λ i lt. refl;
+}
+
+pub returns-clause-write_first : goal.returns-clause-write_first
+returns-clause-write_first c = record {
+  id = refl;
+  arg_size = refl;
+  transfer = refl;
+  address = refl;
+  size = refl;
+  inside = omega arith;
+  allowed = λ i lt.
+      let sector : 32 ≡ (256 * 512 + i) / 4096 = omega (arith, lt) in
+      subst (λ (s : ℕ). allowed_by (Some guarded_table) s BootWrite ≡ true) sector refl;
 }
 
 pub returns-clause-write_right : goal.returns-clause-write_right
