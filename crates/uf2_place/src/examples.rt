@@ -11,8 +11,8 @@ ghost use Rattle.uf2_place.specs.declared.block.Uf2Fault.TheVariants.{Alignment,
 ghost use Rattle.uf2_place.specs.Blocks.{is_number, uf2_of, word_bytes, written};
 ghost use Rattle.uf2_place.specs.Downloads.{IsTargetIn};
 ghost use Rattle.uf2_place.specs.Examples.{absolute_block, arm_block, arm_download, block_bytes, first_slot, flagged, slot};
-ghost use Rattle.uf2_place.specs.Files.{file_block, filled, page_count};
-ghost use Rattle.uf2_place.specs.OtherFamilies.{with_family};
+ghost use Rattle.uf2_place.specs.Files.{file_block, filled, page_count, page_of};
+ghost use Rattle.uf2_place.specs.OtherFamilies.{SameButFamily, with_family};
 ghost use Rattle.uf2_place.specs.Placement.{HasWholeSectors, is_whole, placed};
 ghost use Rattle.uf2_place.specs.Rulings.{is_of, is_skipped, is_within, ruling, wanted};
 
@@ -55,6 +55,10 @@ pub fn pages_of_an_image()
     ensures two { page_count 257 ≡ 2 }
     ensures most { page_count 16777216 ≡ 65536 }
     ensures rest { filled (replicate 253 7) ≡ replicate 253 7 ++ (255 ∷ 255 ∷ 255 ∷ []) }
+    ensures second { page_of (replicate 256 7 ++ (replicate 256 8 ++ (9 ∷ []))) 1
+        ≡ replicate 256 8 }
+    ensures last { page_of (replicate 256 7 ++ (replicate 256 8 ++ (9 ∷ []))) 2
+        ≡ 9 ∷ replicate 255 255 }
     ensures address { (image : List ℕ) → (file_block image 0xe48bff59 2).address ≡ 0x10000200 }
     ensures flags { (image : List ℕ) → (file_block image 0xe48bff59 2).flags ≡ 0x2000 }
     ensures number { (image : List ℕ) → (file_block image 0xe48bff59 2).number ≡ 2 }
@@ -172,9 +176,13 @@ pub fn the_first_sector_last()
         ≡ Erase 32 ∷ Erase 33 ∷ Program 528 a ∷ Program 529 b ∷ Erase 34 ∷ Program 544 c ∷ [] }
 {}
 
-/// A window of one whole sector is enough for a target.
-pub fn the_least_window()
-    ensures { HasWholeSectors (record { start = 0x2000; len = 4096 }) }
+/// The window of a target has whole sectors, at least one, and begins with one.
+pub fn windows_of_whole_sectors()
+    ensures least { HasWholeSectors (record { start = 0x2000; len = 0x1000 }) }
+    ensures at_zero { HasWholeSectors (record { start = 0; len = 0x2000 }) }
+    ensures none { ¬ (HasWholeSectors (record { start = 0x2000; len = 0 })) }
+    ensures half_more { ¬ (HasWholeSectors (record { start = 0x2000; len = 0x1800 })) }
+    ensures half_behind { ¬ (HasWholeSectors (record { start = 0x2800; len = 0x1000 })) }
 {}
 
 /// The window of a target may end with the flash, and no later.
@@ -223,4 +231,32 @@ pub fn rulings_on_another_family()
         (with_family (arm_block 0 0x10040000 []) 0xe48bff57) ≡ Answered (Ok Skipped) }
     ensures absolute_inside { ruling 0x40000 (Some pair_table) (Some first_slot) [] None
         (with_family (arm_block 0 0x10000000 []) 0xe48bff57) ≡ Begins first_slot }
+{}
+
+/// Bytes are the same but for their family where they differ in the word at 28 alone, in bytes
+/// behind the page, which are not read, or behind the block; and not where they differ in a byte
+/// beside that word, in the page or in the last word.
+pub fn bytes_that_differ_in_the_family()
+    ensures family { SameButFamily (block_bytes 256 0x10000200 1 3)
+        (take 28 (block_bytes 256 0x10000200 1 3)
+        ++ (1 ∷ 2 ∷ 3 ∷ 4 ∷ drop 32 (block_bytes 256 0x10000200 1 3))) }
+    ensures not_read { SameButFamily (block_bytes 256 0x10000200 1 3)
+        (take 288 (block_bytes 256 0x10000200 1 3)
+        ++ (replicate 220 7 ++ drop 508 (block_bytes 256 0x10000200 1 3))) }
+    ensures longer { SameButFamily (block_bytes 256 0x10000200 1 3)
+        (block_bytes 256 0x10000200 1 3 ++ (7 ∷ [])) }
+    ensures before { ¬ (SameButFamily (block_bytes 256 0x10000200 1 3)
+        (take 27 (block_bytes 256 0x10000200 1 3)
+        ++ (7 ∷ drop 28 (block_bytes 256 0x10000200 1 3)))) }
+    ensures behind { ¬ (SameButFamily (block_bytes 256 0x10000200 1 3)
+        (take 32 (block_bytes 256 0x10000200 1 3)
+        ++ (7 ∷ drop 33 (block_bytes 256 0x10000200 1 3)))) }
+    ensures page_end { ¬ (SameButFamily (block_bytes 256 0x10000200 1 3)
+        (take 287 (block_bytes 256 0x10000200 1 3)
+        ++ (7 ∷ drop 288 (block_bytes 256 0x10000200 1 3)))) }
+    ensures last_word { ¬ (SameButFamily (block_bytes 256 0x10000200 1 3)
+        (take 508 (block_bytes 256 0x10000200 1 3)
+        ++ (7 ∷ drop 509 (block_bytes 256 0x10000200 1 3)))) }
+    ensures last_byte { ¬ (SameButFamily (block_bytes 256 0x10000200 1 3)
+        (take 511 (block_bytes 256 0x10000200 1 3) ++ (7 ∷ []))) }
 {}
