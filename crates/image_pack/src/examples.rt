@@ -1,6 +1,6 @@
 //! Worked examples of sealed images. Each is the `ensures` of a function that does nothing.
 
-ghost use Rattle.std.specs.Prelude.{◌≡◌, [], ◌∷◌, ◌++◌, true, false, length, None, Some, pos, replicate};
+ghost use Rattle.std.specs.Prelude.{◌≡◌, [], ◌∷◌, ◌++◌, true, false, length, None, Some, negsuc, pos, replicate};
 ghost use Rattle.pico_board.specs.declared.boot.Cpu.TheVariants.{Arm, Riscv};
 ghost use Rattle.block_codec.specs.Blocks.{frame};
 ghost use Rattle.block_codec.specs.Words.{bytes_of};
@@ -10,7 +10,7 @@ ghost use Rattle.image_pack.specs.Examples.{block_at_40, four_bytes, least_image
 ghost use Rattle.image_pack.specs.Filling.{whole_sectors, whole_words};
 ghost use Rattle.image_pack.specs.ReadBack.{IsHalves, map_place};
 ghost use Rattle.image_pack.specs.Starts.{StartsBy};
-ghost use Rattle.image_pack.specs.Sealing.{copied_loads, copied_words, entry_words, front_items, link_offset_of, offset_of, own_loads, parts_of, sealed_text};
+ghost use Rattle.image_pack.specs.Sealing.{block_link, copied_loads, copied_words, covered_part, entry_words, front_items, link_offset_of, offset_of, own_loads, parts_of, sealed_text};
 ghost use Rattle.image_pack.specs.Within.{IsWithin};
 
 /// The least image for Arm, sealed with version 1.9: its block links to the new one, and that back
@@ -57,6 +57,26 @@ pub fn the_loads_of_a_new_block()
         ≡ 0xffffffc8 ∷ 0x20000000 ∷ 4 ∷ [] }
     ensures clear { entry_words 0x138 (four_bytes None 0x20000000)
         ≡ 0 ∷ 0x20000000 ∷ 4 ∷ [] }
+{}
+
+/// What the digest covers of a load: its storage bytes, which are 0xff behind the bytes that there
+/// are, and of a clear entry its size.
+#[tactic(auto, unfolding(block_codec::specs::Words::word_bytes))]
+pub fn covered_bytes_of_loads()
+    ensures inside { covered_part (1 ∷ 2 ∷ 3 ∷ 4 ∷ 5 ∷ []) (four_bytes (Some 1) 0x20000000)
+        ≡ 2 ∷ 3 ∷ 4 ∷ 5 ∷ [] }
+    ensures past { covered_part (1 ∷ 2 ∷ 3 ∷ 4 ∷ 5 ∷ []) (four_bytes (Some 3) 0x20000000)
+        ≡ 4 ∷ 5 ∷ 255 ∷ 255 ∷ [] }
+    ensures behind { covered_part (1 ∷ 2 ∷ []) (four_bytes (Some 2) 0x20000000)
+        ≡ 255 ∷ 255 ∷ 255 ∷ 255 ∷ [] }
+    ensures clear { covered_part (1 ∷ 2 ∷ []) (four_bytes None 0x20000000)
+        ≡ 4 ∷ 0 ∷ 0 ∷ 0 ∷ [] }
+{}
+
+/// A new block links to the first block of the binary's loop, and to itself where there is none.
+pub fn links_of_new_blocks()
+    ensures back { block_link 0x128 (Some (parts_at 0x114 0x114 0x120 [])) ≡ negsuc 0x13 }
+    ensures itself { block_link 0x128 None ≡ pos 0 }
 {}
 
 /// The numbers of a version are half words.
