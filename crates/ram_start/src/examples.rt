@@ -2,12 +2,12 @@
 
 ghost use Rattle.std.specs.Prelude.{◌≡◌, List, [], ◌∷◌, Err, Ok, Some, None, false, replicate, true, ℕ};
 ghost use Rattle.image_check.specs.Examples.{otp_with, plain_digest, stored_digest};
-ghost use Rattle.image_check.specs.declared.why.Why.TheVariants.{Digest};
+ghost use Rattle.image_check.specs.declared.why.Why.TheVariants.{Digest, Trial};
 ghost use Rattle.pico_board.specs.Content.{Content};
 ghost use Rattle.pico_board.specs.declared.boot.Cpu.TheVariants.{Arm, Riscv};
 ghost use Rattle.picoboot_cmd.specs.Examples.{command, erase_command, range_args, read_command, write_command};
 ghost use Rattle.picoboot_cmd.specs.declared.kinds.TheConstants.{OTP_READ, READ, REBOOT, WRITE};
-ghost use Rattle.ram_start.specs.Examples.{hashed_bytes, hashed_in_ram, image_bytes, image_in_ram, reboot_into, with_rows};
+ghost use Rattle.ram_start.specs.Examples.{hashed_bytes, hashed_in_ram, image_bytes, image_in_ram, reboot_into, trial_bytes, with_rows};
 ghost use Rattle.ram_start.specs.Images.{ram_image};
 ghost use Rattle.ram_start.specs.Serving.{is_ram_command, is_range, ram_command, ram_served, ram_status};
 ghost use Rattle.load_map.specs.Addresses.{in_sram};
@@ -93,8 +93,8 @@ pub fn what_ram_commands_do()
 {}
 
 /// A reboot starts the image of its range, whose addresses are seen from the range's first byte on;
-/// the SRAM stays. It starts none for the other processor, of a part of the image, or where the
-/// rows ask for a rollback version that the image does not have.
+/// the SRAM stays. It starts none for the other processor, of a part of the image, of a trial
+/// image, or where the rows ask for a rollback version that the image does not have.
 pub fn images_in_ram()
     ensures first { ram_command (with_rows 0) image_bytes Arm true (reboot_into 3 0x20000000 28) []
         ≡ record {
@@ -109,6 +109,9 @@ pub fn images_in_ram()
         (reboot_into 3 0x20000000 28) [] ≡ 13 }
     ensures part { ram_status (with_rows 0) image_bytes Arm false
         (reboot_into 3 0x20000000 27) [] ≡ 13 }
+    ensures trial { ram_image (with_rows 0) trial_bytes 0x20000000 Arm ≡ Err Trial }
+    ensures trial_status { ram_status (with_rows 0) trial_bytes Arm false
+        (reboot_into 3 0x20000000 28) [] ≡ 13 }
     ensures required { ram_status (with_rows 1) image_bytes Arm false
         (reboot_into 3 0x20000000 28) [] ≡ 13 }
 {}

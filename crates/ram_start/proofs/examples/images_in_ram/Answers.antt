@@ -29,6 +29,16 @@ unfolding image_in def_of loop_of follow block_from block_at front_block item_wo
     word_bytes
 returns-clause-part c = refl
 
+pub returns-clause-trial : goal.returns-clause-trial
+unfolding image_in def_of loop_of follow block_from block_at front_block item_words frame size_of word_of
+    word_bytes
+returns-clause-trial c = refl
+
+pub returns-clause-trial_status : goal.returns-clause-trial_status
+unfolding image_in def_of loop_of follow block_from block_at front_block item_words frame size_of word_of
+    word_bytes
+returns-clause-trial_status c = refl
+
 pub returns-clause-required : goal.returns-clause-required
 unfolding image_in def_of loop_of follow block_from block_at front_block item_words frame size_of word_of
     word_bytes
