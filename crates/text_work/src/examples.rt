@@ -7,7 +7,7 @@ ghost use Rattle.pico_board.specs.declared.boot.BootKind.TheVariants.{Bootsel};
 ghost use Rattle.boot_script.specs.Events.{PowerOn, Reset, Uf2};
 ghost use Rattle.run_course.specs.Outcomes.{refused, worked};
 ghost use Rattle.script_text.specs.declared.script.TextError.TheVariants.{Line, TooLong, TooMany};
-ghost use Rattle.text_work.specs.Copies.{blocks_in, copy_events, copy_line};
+ghost use Rattle.text_work.specs.Copies.{blocks_in, copy_events, copy_line, copy_work};
 ghost use Rattle.text_work.specs.TextWorks.{list_work, script_line, text_fault, write_work};
 
 /// A script of power alone as text.
@@ -40,11 +40,20 @@ pub fn scripts_of_texts()
     ensures told { script_line 2 ≡ codes "script records=2\n" }
 {}
 
-/// The blocks of a file, and the events that copy them.
+/// The blocks of a file, the events that copy them, and the script of a file of one block.
 pub fn copies_of_files()
     ensures blocks { blocks_in 2 (replicate 512 1 ++ replicate 512 2)
         ≡ replicate 512 1 ∷ replicate 512 2 ∷ [] }
     ensures events { copy_events ((1 ∷ []) ∷ (2 ∷ []) ∷ [])
         ≡ PowerOn ∷ Reset Bootsel ∷ Uf2 (1 ∷ []) ∷ Uf2 (2 ∷ []) ∷ [] }
     ensures line { copy_line 65537 ≡ codes "copy blocks=65537\n" }
+    ensures copied { worked (copy_work (codes "a") (replicate 512 1))
+        ≡ record {
+          status = Done;
+          text = codes "copy blocks=1\n";
+          files = record {
+            name = codes "a";
+            bytes = 4 ∷ 5 ∷ 2 ∷ 0 ∷ 0 ∷ 0 ∷ 0 ∷ 2 ∷ replicate 512 1 ++ 0 ∷ [];
+          } ∷ [];
+        } }
 {}

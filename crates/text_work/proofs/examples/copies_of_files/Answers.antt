@@ -5,3 +5,7 @@ use Rattle.text_work.proofs.examples.copies_of_files.Goals as goal
 pub returns-clause-line : goal.returns-clause-line
 unfolding digits
 returns-clause-line c = refl
+
+pub returns-clause-copied : goal.returns-clause-copied
+unfolding digits
+returns-clause-copied c = refl
