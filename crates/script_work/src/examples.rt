@@ -6,8 +6,10 @@ ghost use Rattle.pico_board.specs.declared.boot.Cpu.TheVariants.{Arm};
 ghost use Rattle.pico_board.specs.declared.boot.BootKind.TheVariants.{Normal};
 ghost use Rattle.boot_script.specs.Events.{Buy, Reset, Cut};
 ghost use Rattle.boot_machine.specs.Machines.{Off, InBootsel, Running, FromRam};
+ghost use Rattle.run_course.specs.declared.status.Status.TheVariants.{Done};
+ghost use Rattle.run_course.specs.Outcomes.{worked};
 ghost use Rattle.script_work.specs.Replays.{played, powerless};
-ghost use Rattle.script_work.specs.Works.{content_files, event_lines, end_line};
+ghost use Rattle.script_work.specs.Works.{content_files, event_lines, end_line, replay_work};
 ghost use Rattle.run_texts.specs.Examples.{example_image};
 ghost use Rattle.script_work.specs.Examples.{example_content};
 
@@ -50,5 +52,16 @@ pub fn events_without_power()
             place = Off;
           };
           texts = codes "cut armed" ∷ codes "cut armed" ∷ [];
+        } }
+{}
+
+/// The replay of a script, of which what follows its end is not read.
+pub fn replays_of_scripts()
+    ensures { worked (replay_work example_content Arm (6 ∷ 6 ∷ 0 ∷ 9 ∷ []) (codes "a") (codes "b"))
+        ≡ record {
+          status = Done;
+          text = codes "0 off\n1 off\nend state=off\n";
+          files = record { name = codes "a"; bytes = 1 ∷ 255 ∷ [] }
+              ∷ record { name = codes "b"; bytes = 0 ∷ 0 ∷ 0 ∷ 0 ∷ [] } ∷ [];
         } }
 {}
