@@ -6,9 +6,10 @@ ghost use Rattle.block_loop.specs.declared.fault.LoopFault.TheVariants.{NoBlock,
 ghost use Rattle.part_table.specs.declared.table.TableFault.{TableFault};
 ghost use Rattle.boot_reasons.specs.declared.slots.SlotFault.{SlotFault};
 ghost use Rattle.boot_reasons.specs.declared.slots.TableReason.{TableReason};
-ghost use Rattle.reason_work.specs.Examples.{example_part};
+ghost use Rattle.boot_reasons.specs.declared.looks.UnitReason.{UnitReason};
+ghost use Rattle.reason_work.specs.Examples.{alone_look, bare_reasons, example_part, pair_look, slots_look, table_reasons};
 ghost use Rattle.reason_work.specs.Partitions.{families_text, flags_text, id_text, name_text, place_text, rights_text};
-ghost use Rattle.reason_work.specs.Texts.{otp_text, slot_fault_text, slot_text, told_text, unreached_text};
+ghost use Rattle.reason_work.specs.Texts.{explain_text, look_lines, otp_text, slot_fault_text, slot_text, told_text, unit_reason_text, units_lines, unreached_text};
 
 /// Names: none, one of no byte, and bytes on both sides of those that stand as they are.
 pub fn names_of_partitions()
@@ -35,6 +36,8 @@ pub fn fields_of_partitions()
         ≡ codes "rp2350-arm-s,0xe48bff59,0x00000001" }
     ensures rights { rights_text (example_part 0 []).location
         ≡ codes "secure=rw,nonsecure=r,bootloader=w" }
+    ensures reads { rights_text 0x54000000 ≡ codes "secure=r,nonsecure=r,bootloader=r" }
+    ensures writes { rights_text 0xa8000000 ≡ codes "secure=w,nonsecure=w,bootloader=w" }
     ensures no_rights { rights_text 0 ≡ codes "secure=none,nonsecure=none,bootloader=none" }
     ensures plain { flags_text (example_part 0 [])
         ≡ codes "rights=secure=rw,nonsecure=r,bootloader=w link=none ignored=none reboot=yes" }
@@ -72,4 +75,44 @@ pub fn texts_of_slots()
     ensures otp { otp_text true false 0x20000
         ≡ codes "otp rollback-required=yes flash-off=no slot-size=0x00020000" }
     ensures unreached { unreached_text 14 ≡ codes "unit 14 not-reached" }
+{}
+
+/// The lines of units, which are numbered from 0 on: what each is, its images and what it takes;
+/// and those that are not reached.
+pub fn lines_of_units()
+    ensures parts { units_lines (alone_look ∷ pair_look ∷ []) 2
+        ≡ codes "unit 0 alone 0\nimage window=0x00002000+0x00002000 fault=no-definition\n"
+        ++ (codes "unit 0 takes none\nunit 1 pair 1 2\nimage window=0x00004000+0x00002000 "
+        ++ (codes "ok version=1.2 rollback=3 trial=no\n"
+        ++ (codes "image window=0x00006000+0x00002000 fault=digest\n"
+        ++ (codes "unit 1 takes window=0x00004000+0x00002000 because=only\n"
+        ++ codes "unit 2 not-reached\nunit 3 not-reached\n")))) }
+    ensures slots { look_lines 0 slots_look
+        ≡ codes "unit 0 slots\nimage window=0x00000000+0x00002000 ok version=1.1 "
+        ++ (codes "rollback=none trial=no\nimage window=0x00002000+0x00002000 ok version=1.0 "
+        ++ (codes "rollback=none trial=yes\n"
+        ++ codes "unit 0 takes window=0x00002000+0x00002000 because=updated\n")) }
+    ensures version { unit_reason_text UnitReason.Version ≡ codes "version" }
+    ensures tie { unit_reason_text UnitReason.Tie ≡ codes "tie" }
+{}
+
+/// The whole texts of two boots: with a table, whose partitions are numbered from 0 on, while flash
+/// boot is off; and without one.
+pub fn texts_of_reasons()
+    ensures table { explain_text table_reasons
+        ≡ codes "bootsel flash-off\notp rollback-required=no flash-off=yes slot-size=0x00001000\n"
+        ++ (codes "slot 0 table version=1.9 partitions=2 singleton=yes\nslot 1 fault=no-block\n"
+        ++ (codes "table slot=0 because=only\npartition 0 window=0x00002000+0x00002000 "
+        ++ (codes "name=none id=none families=none rights=secure=rw,nonsecure=r,bootloader=w "
+        ++ (codes "link=none ignored=none reboot=yes\n"
+        ++ (codes "partition 1 window=0x00004000+0x00002000 name=none id=none families=none "
+        ++ (codes "rights=secure=rw,nonsecure=rw,bootloader=rw link=a=0 ignored=none "
+        ++ codes "reboot=yes\n")))))) }
+    ensures bare { explain_text bare_reasons
+        ≡ codes "start window=0x00000000+0x00002000 block=0x00000114 pc=0x10000201 "
+        ++ (codes "sp=0x20082000 limit=0x00000000 version=0.0 rollback=none trial=no\n"
+        ++ (codes "otp rollback-required=yes flash-off=no slot-size=0x00001000\n"
+        ++ (codes "slot 0 fault=no-table\nslot 1 fault=no-block\ntable none\nunit 0 whole\n"
+        ++ (codes "image window=0x00000000+0x00002000 ok version=0.0 rollback=none trial=no\n"
+        ++ codes "unit 0 takes window=0x00000000+0x00002000 because=only\n")))) }
 {}

@@ -26,6 +26,14 @@ pub returns-clause-rights : goal.returns-clause-rights
 unfolding padded_integral digits char_count
 returns-clause-rights c = refl
 
+pub returns-clause-reads : goal.returns-clause-reads
+unfolding padded_integral digits char_count
+returns-clause-reads c = refl
+
+pub returns-clause-writes : goal.returns-clause-writes
+unfolding padded_integral digits char_count
+returns-clause-writes c = refl
+
 pub returns-clause-no_rights : goal.returns-clause-no_rights
 unfolding padded_integral digits char_count
 returns-clause-no_rights c = refl

@@ -1,8 +1,6 @@
-use Rattle.std.proofs.Common.{◌∙◌, ap, length, ◌/◌, List, [], ℕ, map}
+use Rattle.std.proofs.Common.{◌∙◌, ap, length, ◌/◌, map}
 use Rattle.boot_reasons.specs.Reasons.{reasons_in, table_of_reasons}
-use Rattle.pico_board.specs.Files.{File}
 use Rattle.run_course.specs.declared.status.Status.TheVariants.{Done}
-use Rattle.run_course.specs.Outcomes.{Outcome}
 use Rattle.run_course.specs.Views.{file_from}
 use Rattle.reason_work.specs.Texts.{explain_text}
 use Rattle.reason_work.proofs.SoundPartLemmas.{sound-parts, sound-reasons}
