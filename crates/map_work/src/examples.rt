@@ -77,5 +77,7 @@ pub fn windows_that_are_drawn()
       free = true;
       starts = false;
     } }
+    ensures slot { (bar_of table_map (bare_row (Place.Slot 1) 0x1000 0x1000)).free ≡ false }
+    ensures part { (bar_of table_map (bare_row (Place.Partition 1) 0x4000 0x2000)).free ≡ false }
     ensures line { map_line three_rows ≡ codes "map windows=3\n" }
 {}
