@@ -1,15 +1,19 @@
 //! Worked examples of the definitions, proved by computing: each is the `ensures` of a function
 //! that does nothing.
 
-ghost use Rattle.std.specs.Prelude.{◌≡◌, [], ◌∷◌, codes, None, Some, pos, true, false};
+ghost use Rattle.std.specs.Prelude.{◌≡◌, [], ◌∷◌, codes, Err, None, Some, pos, true, false};
+ghost use Rattle.block_loop.specs.declared.fault.LoopFault.TheVariants.{Broken};
 ghost use Rattle.boot_sweep.specs.declared.error.SweepError.TheVariants.{FormerInSlot, NotConfined, NotGated, TableChanged, TooManySteps};
+ghost use Rattle.image_check.specs.declared.why.Why.{Why};
+ghost use Rattle.load_map.specs.declared.load.MapFault.{MapFault};
 ghost use Rattle.pico_board.specs.declared.boot.Cpu.TheVariants.{Arm};
+ghost use Rattle.run_course.specs.declared.status.Status.TheVariants.{Done};
 ghost use Rattle.run_course.specs.Outcomes.{refused, worked};
-ghost use Rattle.sweep_work.specs.Firmness.{is_of_loop, loads_front};
+ghost use Rattle.sweep_work.specs.Firmness.{has_front, is_alone, is_covered, is_of_loop, loads_front};
 ghost use Rattle.sweep_work.specs.FirmWorks.{firm_line, firm_work};
 ghost use Rattle.sweep_work.specs.SweepWorks.{sweep_fault, swept_work};
 
-/// Why a session is not swept, and of which file that is told.
+/// Why a session is not swept, and of which file that is told; the lines of one that is swept.
 pub fn sweep_faults()
     ensures confined { sweep_fault (NotConfined 0) ≡ codes "not-confined 0" }
     ensures gated { sweep_fault (NotGated 31) ≡ codes "not-gated 31" }
@@ -18,6 +22,8 @@ pub fn sweep_faults()
     ensures table { sweep_fault TableChanged ≡ codes "table-changed" }
     ensures told { worked (swept_work (codes "s") (codes "t") (Some TableChanged))
         ≡ refused (codes "s") (codes "table-changed") }
+    ensures lines { worked (swept_work (codes "s") (codes "t") None)
+        ≡ record { status = Done; text = codes "t"; files = [] } }
 {}
 
 /// What is told of an image.
@@ -27,7 +33,8 @@ pub fn firm_texts()
     ensures empty { worked (firm_work (codes "i") [] Arm) ≡ refused (codes "i") (codes "empty") }
 {}
 
-/// A load that has all before an offset, and one that has not.
+/// A load that has all before an offset, and one that has not. With a wrong load map, and without a
+/// definition, none has.
 pub fn loads_in_front()
     ensures whole { loads_front 4096 (record { storage = Some 0; runtime = 0; size = 4096 } ∷ [])
         ≡ true }
@@ -40,13 +47,16 @@ pub fn loads_in_front()
     ensures second { loads_front 4096 (record { storage = None; runtime = 0; size = 4 }
         ∷ record { storage = Some 0; runtime = 0; size = 4096 } ∷ []) ≡ false }
     ensures none { loads_front 4096 [] ≡ false }
+    ensures faulty { has_front 4096 (Err (Why.Map (MapFault.Storage 0))) ≡ false }
+    ensures undefined { is_covered [] 4096 (Err Why.NoDefinition) ≡ false }
 {}
 
-/// A block is one of a loop by its place.
+/// A block is one of a loop by its place. Where the loop does not close there is none to be of.
 pub fn blocks_of_a_loop()
     ensures there { is_of_loop (record { at = 256; items = []; link = pos 0 } ∷ [])
         (Some (record { at = 256; items = []; link = pos 0 })) ≡ true }
     ensures elsewhere { is_of_loop (record { at = 256; items = []; link = pos 0 } ∷ [])
         (Some (record { at = 260; items = []; link = pos 0 })) ≡ false }
     ensures none { is_of_loop [] None ≡ true }
+    ensures broken { is_alone [] (Err (Broken 256)) ≡ false }
 {}
