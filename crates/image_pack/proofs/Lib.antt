@@ -14,4 +14,10 @@ pub mod LoadsBackLemmas
 pub mod SealedBackLemmas
 pub mod SealedLoadLemmas
 pub mod StartLemmas
+mod CopiedLoadLemmas
+mod KeptTableLemmas
+mod SameStartLaws
+mod LeastImageLemmas
+mod TableExampleLemmas
+mod LoadedImageLemmas
 pub mod ReadBackLemmas

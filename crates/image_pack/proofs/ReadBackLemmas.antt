@@ -97,13 +97,13 @@ offset-least binary =
     omega (arith, whole)
 
 -- whole sectors, by the number of their bytes
-long-sectors : (xs : List ℕ) → length (whole_sectors xs) ≡ round_up 4096 (length xs)
+pub long-sectors : (xs : List ℕ) → length (whole_sectors xs) ≡ round_up 4096 (length xs)
 long-sectors xs =
     let whole = length-append xs (replicate (round_up 4096 (length xs) - length xs) 255) in
     let fill = length-replicate {A = ℕ} (round_up 4096 (length xs) - length xs) 255 in
     omega (arith, whole, fill)
 
-sectors-more : (n m : ℕ) → n ≤ m → round_up 4096 n ≤ round_up 4096 m
+pub sectors-more : (n m : ℕ) → n ≤ m → round_up 4096 n ≤ round_up 4096 m
 sectors-more n m le = omega (arith, le)
 
 -- a window has one definition, with one list of loads

@@ -1,6 +1,7 @@
 -- A binary and specs that stand as worked examples. This project's own.
-use Rattle.std.specs.Prelude.{ℕ, Bool, false, List, [], ◌∷◌, ◌++◌, Option, None, replicate, pos}
+use Rattle.std.specs.Prelude.{ℕ, ◌+◌, Bool, false, List, [], ◌∷◌, ◌++◌, Option, None, Some, replicate, pos}
 use Rattle.pico_board.specs.declared.boot.Cpu.{Cpu}
+use Rattle.pico_board.specs.declared.window.Window.{Window}
 use Rattle.block_codec.specs.Blocks.{BlockView, frame}
 use Rattle.block_codec.specs.Words.{bytes_of}
 use Rattle.image_def.specs.declared.started.Started.{Started}
@@ -13,6 +14,48 @@ abbrev pub least_image : List ℕ
 least_image =
     bytes_of (0x20082000 ∷ 0x10000201 ∷ replicate 67 0xffffffff ++ frame (0x10210142 ∷ []) (pos 0))
 
+-- the same image sealed with version 1.9: the first block links to the new one at 0x128, and that
+-- back to it
+abbrev pub least_sealed : List ℕ
+least_sealed =
+    bytes_of (0x20082000 ∷ 0x10000201 ∷ replicate 67 0xffffffff
+    ++ frame (0x10210142 ∷ []) (pos 0x14)
+    ++ (0xffffded3 ∷ 0x10210142 ∷ 0x00000248 ∷ 0x00010009 ∷ 0x01000406 ∷ 0xfffffec8 ∷ 0x10000000
+    ∷ 0x128 ∷ 0x01000247 ∷ 0x0000000a ∷ 0x0000094b ∷ 0xeda62c5f ∷ 0x61a08060 ∷ 0xa84474d8
+    ∷ 0x44daa3aa ∷ 0x129c6b06 ∷ 0xaf45aed2 ∷ 0x3a33ea57 ∷ 0x8e4c4aff ∷ 0x000012ff ∷ 0xffffffec
+    ∷ 0xab123579 ∷ []))
+
+-- an erased sector
+abbrev pub erased_sector : List ℕ
+erased_sector = replicate 4096 255
+
+-- a window of this length at the start of the flash
+abbrev pub first_window : ℕ → Window
+first_window len = record { start = 0; len = len }
+
+-- the record of an image in such a window that starts by the two words of this vector table: its
+-- definition stands at this offset and says this version
+abbrev pub table_record : ℕ → ℕ → ℕ → ℕ → Started
+table_record len block major minor = record {
+  window = first_window len;
+  block = block;
+  image_at = block + 4;
+  pc = 0x10000201;
+  sp = 0x20082000;
+  limit = 0;
+  version = record { major = major; minor = minor };
+  rollback = None;
+  rows = record { items = [] };
+  trial = false;
+}
+
+-- an image for Arm whose vector table, its first eight bytes, is loaded to the start of SRAM: its
+-- block at 8 has a VECTOR_TABLE and a LOAD_MAP item
+abbrev pub loaded_image : List ℕ
+loaded_image =
+    bytes_of (0x20082000 ∷ 0x10000201 ∷ frame (0x10210142 ∷ 0x00000203 ∷ 0x20000000 ∷ 0x01000406
+    ∷ 0xffffffe8 ∷ 0x20000000 ∷ 8 ∷ []) (pos 0))
+
 -- a spec of version 1.9
 abbrev pub spec_of : Cpu → Bool → Option ℕ → List ℕ → SealSpec
 spec_of cpu trial rollback rows = record {
@@ -22,6 +65,10 @@ spec_of cpu trial rollback rows = record {
   rows = record { items = rows };
   trial = trial;
 }
+
+-- a load of eight bytes that are stored at this offset, to the start of SRAM
+abbrev pub eight_bytes : ℕ → Load
+eight_bytes storage = record { storage = Some storage; runtime = 0x20000000; size = 8 }
 
 -- a load of four bytes
 abbrev pub four_bytes : Option ℕ → ℕ → Load

@@ -1,5 +1,5 @@
--- Where a sealed image starts. This project's own.
-use Rattle.std.specs.Prelude.{◌≡◌, ℕ, List, None}
+-- Where a sealed image starts, and which bytes of its binary stay. This project's own.
+use Rattle.std.specs.Prelude.{◌≡◌, ◌⊎◌, ℕ, ◌+◌, ◌-◌, ◌<◌, ◌≤◌, List, find, reverse, None, Some}
 use Rattle.pico_board.specs.declared.boot.Cpu.{Cpu}
 use Rattle.pico_board.specs.Content.{flash_base}
 use Rattle.block_codec.specs.declared.definition.Def.{Def}
@@ -8,12 +8,17 @@ use Rattle.image_check.specs.declared.entry.Source.{Source}
 use Rattle.image_check.specs.Entering.{IsSource}
 use Rattle.image_def.specs.declared.started.Started.{Started}
 use Rattle.load_map.specs.declared.load.Load.{Load}
+use Rattle.load_map.specs.Given.{holds}
 
 -- a definition keeps the start that another one says: its ENTRY_POINT, and where it has none its
 -- VECTOR_TABLE
 pub record KeepsStart (own def : Def) : Type 0 where
   pub entry : def.entry_point ≡ own.entry_point
   pub vector : own.entry_point ≡ None → def.vector ≡ own.vector
+
+-- the start that a record says
+abbrev pub start_of : Started → EntryPoint
+start_of s = record { pc = s.pc; sp = s.sp; limit = s.limit }
 
 -- an image starts as an entry point says
 pub record StartsAs (e : EntryPoint) (s : Started) : Type 0 where
@@ -30,3 +35,34 @@ pub record StartsBy (cpu : Cpu) (def : Def) (bytes : List ℕ) (loads : List Loa
   pub source : Source
   pub said : IsSource flash_base bytes cpu def loads def.entry_point source
   pub starts : StartsAs source.entry s
+
+-- the byte at an address comes from this offset of the window: of the loads whose runtime range
+-- holds the address, the last one stores it there
+pub record IsLoadedFrom (loads : List Load) (address offset : ℕ) : Type 0 where
+  pub load : Load
+  pub last : find (holds address) (reverse loads) ≡ Some load
+  pub start : ℕ
+  pub storage : load.storage ≡ Some start
+  pub place : offset ≡ start + (address - load.runtime)
+
+-- two ranges of so many bytes share none
+abbrev pub AreApart : ℕ → ℕ → ℕ → ℕ → Type 0
+AreApart x size y other = (x + size ≤ y) ⊎ (y + other ≤ x)
+
+-- sealing leaves the byte at this offset as it is: it is one of the first `size` bytes, those of
+-- the binary, and none of the four of the link word at that offset
+pub record Stays (size link_at offset : ℕ) : Type 0 where
+  pub inside : offset < size
+  pub apart : AreApart offset 1 link_at 4
+
+-- no byte of the vector table at this address is one of the four of the link word at this offset:
+-- neither where the table lies in flash, nor by where loads store it
+pub record LinkIsOutsideTable (loads : List Load) (table link_at : ℕ) : Type 0 where
+  pub flash : AreApart table 8 (flash_base + link_at) 4
+  pub loaded : (i offset : ℕ) → i < 8 → IsLoadedFrom loads (table + i) offset
+      → AreApart offset 1 link_at 4
+
+-- each byte of the vector table at this address that is loaded comes from the first `size` bytes
+abbrev pub TableIsStoredIn : ℕ → List Load → ℕ → Type 0
+TableIsStoredIn size loads table =
+    (i offset : ℕ) → i < 8 → IsLoadedFrom loads (table + i) offset → offset < size

@@ -1,28 +1,30 @@
 //! Worked examples of sealed images. Each is the `ensures` of a function that does nothing.
 
-ghost use Rattle.std.specs.Prelude.{◌≡◌, [], ◌∷◌, ◌++◌, true, false, length, None, Some, negsuc, pos, replicate};
+ghost use Rattle.std.specs.Prelude.{◌≡◌, [], ◌∷◌, ◌++◌, true, false, length, None, Some, negsuc, pos, replicate, ◌<◌, ◌≤◌, Ok};
 ghost use Rattle.pico_board.specs.declared.boot.Cpu.TheVariants.{Arm, Riscv};
-ghost use Rattle.block_codec.specs.Blocks.{frame};
-ghost use Rattle.block_codec.specs.Words.{bytes_of};
+ghost use Rattle.pico_board.specs.declared.window.TheConstants.{MOST_FLASH_BYTES};
+ghost use Rattle.pico_board.specs.Content.{flash_base};
+ghost use Rattle.block_codec.specs.Erased.{AreErased};
+ghost use Rattle.load_map.specs.declared.addresses.TheConstants.{SRAM_START};
 ghost use Rattle.image_def.specs.Examples.{arm_block, arm_def, full_block, full_def};
+ghost use Rattle.image_check.specs.Addressing.{in_flash};
+ghost use Rattle.image_check.specs.Entering.{table_address};
 ghost use Rattle.image_check.specs.Examples.{def_with, table_bytes};
-ghost use Rattle.image_pack.specs.Examples.{block_at_40, four_bytes, least_image, one_item, parts_at, spec_of, started_at};
+ghost use Rattle.image_check.specs.Image.{image_in};
+ghost use Rattle.image_check.specs.Valid.{IsValidImage};
+ghost use Rattle.image_pack.specs.declared.parts.Parts.{Parts};
+ghost use Rattle.image_pack.specs.Examples.{block_at_40, eight_bytes, erased_sector, four_bytes, least_image, least_sealed, loaded_image, one_item, parts_at, spec_of, started_at, table_record, first_window};
+ghost use Rattle.image_pack.specs.Faults.{IsSealed, block_offset, zero_otp};
 ghost use Rattle.image_pack.specs.Filling.{whole_sectors, whole_words};
 ghost use Rattle.image_pack.specs.ReadBack.{IsHalves, map_place};
-ghost use Rattle.image_pack.specs.Starts.{StartsBy};
-ghost use Rattle.image_pack.specs.Sealing.{block_link, copied_loads, copied_words, covered_part, entry_words, front_items, link_offset_of, offset_of, own_loads, parts_of, sealed_text};
+ghost use Rattle.image_pack.specs.Starts.{StartsBy, LinkIsOutsideTable, StartsAs, TableIsStoredIn, start_of};
+ghost use Rattle.image_pack.specs.Sealing.{block_link, copied_loads, copied_words, covered_part, entry_words, front_items, link_offset_of, offset_of, own_loads, parts_of, sealed_text, parts_in};
 ghost use Rattle.image_pack.specs.Within.{IsWithin};
 
 /// The least image for Arm, sealed with version 1.9: its block links to the new one, and that back
 /// to it.
 pub fn the_least_image_sealed()
-    ensures { sealed_text least_image (spec_of Arm false None [])
-        ≡ bytes_of (0x20082000 ∷ 0x10000201 ∷ replicate 67 0xffffffff
-        ++ frame (0x10210142 ∷ []) (pos 0x14)
-        ++ (0xffffded3 ∷ 0x10210142 ∷ 0x00000248 ∷ 0x00010009 ∷ 0x01000406 ∷ 0xfffffec8
-        ∷ 0x10000000 ∷ 0x128 ∷ 0x01000247 ∷ 0x0000000a ∷ 0x0000094b ∷ 0xeda62c5f ∷ 0x61a08060
-        ∷ 0xa84474d8 ∷ 0x44daa3aa ∷ 0x129c6b06 ∷ 0xaf45aed2 ∷ 0x3a33ea57 ∷ 0x8e4c4aff
-        ∷ 0x000012ff ∷ 0xffffffec ∷ 0xab123579 ∷ [])) }
+    ensures { sealed_text least_image (spec_of Arm false None []) ≡ least_sealed }
 {}
 
 /// The items before the load map: of a trial image for RISC-V without rows; with one row, and with
@@ -163,4 +165,67 @@ pub fn starts_without_an_entry_point()
         (started_at 0x10000000 0x20082000 0) }
     ensures not_by_table { ¬ (StartsBy Riscv (def_with None None []) table_bytes []
         (started_at 0x10000201 0x20082000 0)) }
+{}
+
+/// The least image for Arm starts by the vector table at its start, unsealed as sealed. The
+/// premises of the law on that hold together: it is a valid image as it is, with a sector of 0xff
+/// behind it; it is sealed; its table lies in flash; and the one block of its loop is its
+/// definition, so that the link is outside the table.
+pub fn the_least_image_starts_sealed_as_before()
+    ensures unsealed { image_in in_flash (first_window 8192) Arm false zero_otp
+        (whole_sectors least_image ++ erased_sector) ≡ Ok (table_record 8192 0x114 0 0) }
+    ensures sealed { image_in in_flash (first_window 4096) Arm false zero_otp
+        (whole_sectors least_sealed) ≡ Ok (table_record 4096 0x128 1 9) }
+    ensures together { (sealed : IsSealed least_image (spec_of Arm false None []))
+        × AreErased erased_sector
+        × (valid : IsValidImage in_flash (first_window 8192) Arm false zero_otp
+        (whole_sectors least_image ++ erased_sector) (table_record 8192 0x114 0 0))
+        × (length (whole_sectors least_image ++ erased_sector) ≤ MOST_FLASH_BYTES)
+        × (p : Parts) × (parts_in Arm (whole_sectors least_image) ≡ Ok p)
+        × (valid.image.def.entry_point ≡ None) × (p.last ≡ valid.image.block.at)
+        × (table_address flash_base valid.image.def < SRAM_START)
+        × LinkIsOutsideTable valid.sound.loads (table_address flash_base valid.image.def)
+        p.link_at
+        × StartsAs (start_of (table_record 8192 0x114 0 0)) sealed.started }
+{}
+
+/// An image for Arm whose vector table is loaded into SRAM starts by it, unsealed as sealed. The
+/// premises of the law on that hold together too: it is a valid image as it is, it is sealed, its
+/// table is stored in it, and the link is outside the table.
+pub fn a_loaded_table_starts_sealed_as_before()
+    ensures unsealed { image_in in_flash (first_window 8192) Arm false zero_otp
+        (whole_sectors loaded_image ++ erased_sector) ≡ Ok (table_record 8192 8 0 0) }
+    ensures together { (sealed : IsSealed loaded_image (spec_of Arm false None []))
+        × AreErased erased_sector
+        × (valid : IsValidImage in_flash (first_window 8192) Arm false zero_otp
+        (whole_sectors loaded_image ++ erased_sector) (table_record 8192 8 0 0))
+        × (length (whole_sectors loaded_image ++ erased_sector) ≤ MOST_FLASH_BYTES)
+        × (p : Parts) × (parts_in Arm (whole_sectors loaded_image) ≡ Ok p)
+        × (SRAM_START ≤ table_address flash_base valid.image.def)
+        × TableIsStoredIn (block_offset loaded_image) valid.sound.loads
+        (table_address flash_base valid.image.def)
+        × LinkIsOutsideTable valid.sound.loads (table_address flash_base valid.image.def)
+        p.link_at
+        × StartsAs (start_of (table_record 8192 8 0 0)) sealed.started }
+{}
+
+/// A link word that begins where a vector table ends, or ends where it begins, is outside it; one
+/// that begins or ends a byte further in is not. A loaded table lies where it is stored.
+pub fn links_beside_a_vector_table()
+    ensures behind { LinkIsOutsideTable [] 0x10000000 8 }
+    ensures last_byte { ¬ (LinkIsOutsideTable [] 0x10000000 7) }
+    ensures before { LinkIsOutsideTable [] 0x10000008 4 }
+    ensures first_byte { ¬ (LinkIsOutsideTable [] 0x10000008 5) }
+    ensures loaded_behind { LinkIsOutsideTable (eight_bytes 0x20 ∷ []) 0x20000000 0x28 }
+    ensures loaded_last_byte { ¬ (LinkIsOutsideTable (eight_bytes 0x20 ∷ []) 0x20000000 0x27) }
+    ensures loaded_before { LinkIsOutsideTable (eight_bytes 0x20 ∷ []) 0x20000000 0x1c }
+    ensures loaded_first_byte { ¬ (LinkIsOutsideTable (eight_bytes 0x20 ∷ []) 0x20000000 0x1d) }
+{}
+
+/// A loaded vector table is stored in the bytes up to its last one, and in no fewer; one that lies
+/// in flash without a load, in any.
+pub fn tables_stored_in_a_binary()
+    ensures all { TableIsStoredIn 0x28 (eight_bytes 0x20 ∷ []) 0x20000000 }
+    ensures one_less { ¬ (TableIsStoredIn 0x27 (eight_bytes 0x20 ∷ []) 0x20000000) }
+    ensures not_loaded { TableIsStoredIn 0 [] 0x10000000 }
 {}

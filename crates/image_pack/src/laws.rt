@@ -1,6 +1,6 @@
 //! Laws of sealed images, each the contract of a function that does nothing.
 
-ghost use Rattle.std.specs.Prelude.{◌≡◌, ◌⊎◌, ◌↔◌, ℕ, ◌+◌, ◌-◌, ◌*◌, ◌<◌, ◌≤◌, ◌^◌, List, [], ◌∷◌, ◌++◌, true, length, take, drop, slice_index, Ok, Option, Some, None};
+ghost use Rattle.std.specs.Prelude.{◌≡◌, ◌⊎◌, ◌↔◌, ℕ, ◌+◌, ◌-◌, ◌*◌, ◌<◌, ◌≤◌, ◌^◌, Bool, List, [], ◌∷◌, ◌++◌, true, length, take, drop, slice_index, Ok, Option, Some, None};
 ghost use Rattle.pico_board.specs.declared.window.TheConstants.{MOST_FLASH_BYTES};
 ghost use Rattle.pico_board.specs.declared.window.Window.{Window};
 ghost use Rattle.pico_board.specs.Content.{Content, flash_base, window_bytes};
@@ -12,7 +12,9 @@ ghost use Rattle.image_check.specs.NotBelow.{NotBelow};
 ghost use Rattle.image_check.specs.declared.examining.Defined.{Defined};
 ghost use Rattle.image_check.specs.Addressing.{in_flash};
 ghost use Rattle.image_check.specs.Rules.{map_loads};
-ghost use Rattle.image_check.specs.Valid.{IsDefined, Valid};
+ghost use Rattle.image_check.specs.Entering.{table_address};
+ghost use Rattle.image_check.specs.Valid.{IsDefined, IsValidImage, Valid};
+ghost use Rattle.image_def.specs.declared.started.Started.{Started};
 ghost use Rattle.image_pack.specs.declared.spec.SealError.{SealError};
 ghost use Rattle.image_pack.specs.declared.spec.SealSpec.{SealSpec};
 ghost use Rattle.image_pack.specs.Faults.{IsSealFault, IsSealed, block_offset};
@@ -21,16 +23,18 @@ ghost use Rattle.image_pack.specs.declared.parts.Parts.{Parts};
 ghost use Rattle.image_pack.specs.Sealing.{digest_text, own_loads, parts_in, relinked, sealed_text, sram_loads};
 ghost use Rattle.image_pack.specs.Within.{IsWithin};
 ghost use Rattle.load_map.specs.declared.load.Load.{Load};
+ghost use Rattle.load_map.specs.Given.{byte_at};
 ghost use Rattle.load_map.specs.Stored.{AreStoredIn};
 ghost use Rattle.block_codec.specs.Words.{word_bytes};
 ghost use Rattle.image_check.specs.declared.why.Why.{Why};
 ghost use Rattle.image_pack.specs.declared.spec.SealError.TheVariants.{Unsealable};
 ghost use Rattle.image_pack.specs.Faults.{IsRightSpec, IsSealable};
 ghost use Rattle.image_pack.specs.ReadBack.{IsHalves, IsReadBack, MeetsRollback, SaysSpec};
-ghost use Rattle.image_pack.specs.Starts.{StartsAs, StartsBy};
+ghost use Rattle.image_pack.specs.Starts.{IsLoadedFrom, LinkIsOutsideTable, StartsAs, StartsBy, Stays, TableIsStoredIn, start_of};
 ghost use Rattle.image_pack.specs.Unsealable.{IsUnsealable, KeepsRules};
 ghost use Rattle.block_codec.specs.declared.definition.EntryPoint.{EntryPoint};
 ghost use Rattle.pico_board.specs.declared.boot.Cpu.{Cpu};
+ghost use Rattle.pico_board.specs.declared.boot.Cpu.TheVariants.{Arm, Riscv};
 
 /// A binary and a spec have at most one fault, and none where the binary is sealed.
 pub fn at_most_one_fault()
@@ -89,6 +93,77 @@ pub fn a_sealed_image_is_read_back()
         (loads : List Load) → IsDefined spec.cpu bytes loop image
         → map_loads in_flash (length bytes) image.block image.def ≡ Ok loads
         → (image ≡ back.image) × (loads ≡ back.loads) }
+{}
+
+/// A sealed image starts as its binary does: where the binary is itself a valid image in some
+/// window that has 0xff behind it, for some OTP, the sealed image has its PC, its SP and its limit,
+/// in each window; without an ENTRY_POINT that limit is 0. So it is without more where the binary's
+/// definition has an ENTRY_POINT, and for RISC-V. Where the start comes from a vector table, no
+/// byte of it may be one of the four of the link word that sealing rewrites; and where the table is
+/// loaded into SRAM, those of its bytes that a load stores have to come from the binary, not from
+/// the 0xff behind it, where the new block comes to stand. The link word is outside the table where
+/// the definition is the last block of the binary's loop, as it is in a loop of one block.
+pub fn a_sealed_image_starts_as_its_binary()
+    ensures entry { (binary : List ℕ) (spec : SealSpec) (sealed : IsSealed binary spec)
+        → IsHalves spec.version → (g : List ℕ) → AreErased g → (w : Window) (trial : Bool)
+        (otp : List ℕ) (s : Started)
+        (valid : IsValidImage in_flash w spec.cpu trial otp (whole_sectors binary ++ g) s)
+        (e : EntryPoint) → valid.image.def.entry_point ≡ Some e
+        → (v : Window) → StartsAs (start_of s) (moved_to v sealed.started) }
+    ensures riscv { (binary : List ℕ) (spec : SealSpec) (sealed : IsSealed binary spec)
+        → IsHalves spec.version → (g : List ℕ) → AreErased g → (w : Window) (trial : Bool)
+        (otp : List ℕ) (s : Started)
+        → IsValidImage in_flash w spec.cpu trial otp (whole_sectors binary ++ g) s
+        → spec.cpu ≡ Riscv → (v : Window) → StartsAs (start_of s) (moved_to v sealed.started) }
+    ensures flash { (binary : List ℕ) (spec : SealSpec) (sealed : IsSealed binary spec)
+        → IsHalves spec.version → (g : List ℕ) → AreErased g → (w : Window) (trial : Bool)
+        (otp : List ℕ) (s : Started)
+        (valid : IsValidImage in_flash w spec.cpu trial otp (whole_sectors binary ++ g) s)
+        → length (whole_sectors binary ++ g) ≤ MOST_FLASH_BYTES
+        → (p : Parts) → parts_in spec.cpu (whole_sectors binary) ≡ Ok p
+        → table_address flash_base valid.image.def < SRAM_START
+        → LinkIsOutsideTable valid.sound.loads (table_address flash_base valid.image.def) p.link_at
+        → (v : Window) → StartsAs (start_of s) (moved_to v sealed.started) }
+    ensures loaded { (binary : List ℕ) (spec : SealSpec) (sealed : IsSealed binary spec)
+        → IsHalves spec.version → (g : List ℕ) → AreErased g → (w : Window) (trial : Bool)
+        (otp : List ℕ) (s : Started)
+        (valid : IsValidImage in_flash w spec.cpu trial otp (whole_sectors binary ++ g) s)
+        → length (whole_sectors binary ++ g) ≤ MOST_FLASH_BYTES
+        → (p : Parts) → parts_in spec.cpu (whole_sectors binary) ≡ Ok p
+        → TableIsStoredIn (block_offset binary) valid.sound.loads
+        (table_address flash_base valid.image.def)
+        → LinkIsOutsideTable valid.sound.loads (table_address flash_base valid.image.def) p.link_at
+        → (v : Window) → StartsAs (start_of s) (moved_to v sealed.started) }
+    ensures outside { (binary g : List ℕ) → AreErased g → (w : Window) (trial : Bool)
+        (otp : List ℕ) (s : Started)
+        (valid : IsValidImage in_flash w Arm trial otp (whole_sectors binary ++ g) s)
+        → valid.image.def.entry_point ≡ None
+        → (p : Parts) → parts_in Arm (whole_sectors binary) ≡ Ok p
+        → p.last ≡ valid.image.block.at
+        → LinkIsOutsideTable valid.sound.loads (table_address flash_base valid.image.def)
+        p.link_at }
+{}
+
+/// In each window of a flash that has a sealed image with 0xff behind it, each byte of the binary
+/// is as it was, but those of the link word that is rewritten. And at each address of SRAM the
+/// loads that are read back give the byte that the loads of the binary's own image give, or none
+/// where those give none, unless that byte is stored in the link word, or behind the binary.
+pub fn a_sealed_image_gives_the_bytes_of_its_binary()
+    ensures flash { (binary : List ℕ) (spec : SealSpec) → IsSealed binary spec → (f : List ℕ)
+        (p : Parts) → parts_in spec.cpu (whole_sectors binary) ≡ Ok p
+        → (offset : ℕ) → Stays (block_offset binary) p.link_at offset
+        → slice_index (whole_sectors (sealed_text binary spec) ++ f) offset
+        ≡ slice_index (whole_sectors binary) offset }
+    ensures sram { (binary : List ℕ) (spec : SealSpec) → IsSealed binary spec → (f : List ℕ)
+        (p : Parts) → parts_in spec.cpu (whole_sectors binary) ≡ Ok p
+        → (own : KeepsRules spec.cpu (whole_sectors binary))
+        → flash_base + length (whole_sectors (sealed_text binary spec) ++ f) ≤ SRAM_START
+        → (back : IsReadBack binary spec (whole_sectors (sealed_text binary spec) ++ f))
+        (address : ℕ) → SRAM_START ≤ address
+        → ((offset : ℕ) → IsLoadedFrom own.loads address offset
+        → Stays (block_offset binary) p.link_at offset)
+        → byte_at flash_base (whole_sectors (sealed_text binary spec) ++ f) back.loads address
+        ≡ byte_at flash_base (whole_sectors binary) own.loads address }
 {}
 
 /// Where the loads of the binary's own image are stored in the binary, filled to whole words, those
