@@ -11,17 +11,10 @@ ghost use Rattle.boot_rules.specs.Targets.{deciding_in, deciding_unit, is_execut
 use crate::picking::taken;
 use otp_roll::slot_size;
 use owner_data::owner_pair;
-use part_table::{Table, Target};
+use part_table::{ARM_NS_FAMILY, ARM_S_FAMILY, RISCV_FAMILY, Table, Target};
 use pico_board::{Board, Cpu, Window};
 use sector_pool::SectorPool;
 use slot_choice::{Choice, Member, SlotUnit, load_unit, unit_of};
-
-/// The family rp2350-arm-s.
-const ARM_S_FAMILY: u32 = 0xe48b_ff59;
-/// The family rp2350-riscv.
-const RISCV_FAMILY: u32 = 0xe48b_ff5a;
-/// The family rp2350-arm-ns.
-const ARM_NS_FAMILY: u32 = 0xe48b_ff5b;
 
 /// Whether the family is one of the three of executables for the RP2350.
 pub fn is_executable(family: u32) -> bool

@@ -8,6 +8,7 @@
 
 mod contents;
 pub mod examples;
+mod families;
 mod faults;
 mod hashes;
 mod items;
@@ -18,6 +19,9 @@ mod table;
 mod target;
 mod writing;
 
+pub use families::{
+    ABSOLUTE_FAMILY, ARM_NS_FAMILY, ARM_S_FAMILY, DATA_FAMILY, RISCV_FAMILY, RP2040_FAMILY,
+};
 pub use partition::Partition;
 pub use reading::{has_table, read_table};
 pub use table::{Right, Table, TableFault, TableWriteFault};

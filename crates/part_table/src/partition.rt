@@ -6,6 +6,7 @@ ghost use Rattle.part_table.specs.Families.{accepts, has_family_bit};
 ghost use Rattle.part_table.specs.Links.{is_second, is_owned, is_second_of};
 ghost use Rattle.part_table.specs.Windows.{has_sector, shares_sector, part_window};
 
+use crate::families::{ARM_NS_FAMILY, RP2040_FAMILY};
 use arrayvec::ArrayVec;
 use pico_board::{Cpu, Window};
 
@@ -31,13 +32,7 @@ pub struct Partition {
     pub name: Option<ArrayVec<u8, 127>>,
 }
 
-/// The number of the family rp2040, the first of six that have a bit in a flag word.
-const FIRST_FAMILY: u32 = 0xe48b_ff56;
-
-/// The number of the family rp2350-arm-ns, the last of the six.
-const LAST_FAMILY: u32 = 0xe48b_ff5b;
-
-/// The flag bit of the first family.
+/// The flag bit of the first family, rp2040; those of the other five follow it.
 const FIRST_FAMILY_BIT: u32 = 14;
 
 /// Whether a word has this bit, counted from the lowest as 0.
@@ -81,9 +76,9 @@ pub(crate) fn has_name(flags: u32) -> bool
 fn has_family_bit(flags: u32, family: u32) -> bool
     ensures { result ≡ has_family_bit flags family }
 {
-    family >= FIRST_FAMILY
-        && family <= LAST_FAMILY
-        && has_bit(flags, FIRST_FAMILY_BIT + (family - FIRST_FAMILY))
+    family >= RP2040_FAMILY
+        && family <= ARM_NS_FAMILY
+        && has_bit(flags, FIRST_FAMILY_BIT + (family - RP2040_FAMILY))
 }
 
 impl Partition {

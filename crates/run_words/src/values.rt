@@ -3,17 +3,21 @@
 ghost use Rattle.std.specs.Prelude.{◌≡◌, ◌<◌, ◌≤◌, length, IfSome};
 ghost use Rattle.run_words.specs.Values.{family_of, decimal_digit, decimal_value, number_of};
 
+use part_table::{
+    ABSOLUTE_FAMILY, ARM_NS_FAMILY, ARM_S_FAMILY, DATA_FAMILY, RISCV_FAMILY, RP2040_FAMILY,
+};
+
 /// The family that a word names.
 pub fn family_word(word: &str) -> Option<u32>
     ensures { result ≡ family_of word.now }
 {
     match word {
-        "rp2040" => Some(0xe48b_ff56),
-        "absolute" => Some(0xe48b_ff57),
-        "data" => Some(0xe48b_ff58),
-        "rp2350-arm-s" => Some(0xe48b_ff59),
-        "rp2350-riscv" => Some(0xe48b_ff5a),
-        "rp2350-arm-ns" => Some(0xe48b_ff5b),
+        "rp2040" => Some(RP2040_FAMILY),
+        "absolute" => Some(ABSOLUTE_FAMILY),
+        "data" => Some(DATA_FAMILY),
+        "rp2350-arm-s" => Some(ARM_S_FAMILY),
+        "rp2350-riscv" => Some(RISCV_FAMILY),
+        "rp2350-arm-ns" => Some(ARM_NS_FAMILY),
         _ => None,
     }
 }

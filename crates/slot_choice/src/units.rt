@@ -11,17 +11,11 @@ ghost use Rattle.slot_choice.specs.Units.{begins_boot_unit, parts_where, slot_pa
 
 use crate::unit::SlotUnit;
 use arrayvec::ArrayVec;
-use part_table::{Partition, Table};
+use part_table::{ABSOLUTE_FAMILY, ARM_NS_FAMILY, DATA_FAMILY, Partition, Table};
 use pico_board::{Cpu, Window};
 
 /// The size of the smallest slot, in which a flash without a table is one unit.
 const SMALLEST_SLOT: u32 = 4096;
-/// The absolute family, which goes to the whole flash.
-const ABSOLUTE_FAMILY: u32 = 0xe48b_ff57;
-/// The first of the four families that a flash without a table takes.
-const DATA_FAMILY: u32 = 0xe48b_ff58;
-/// The last of them.
-const ARM_NS_FAMILY: u32 = 0xe48b_ff5b;
 
 /// The B of a partition, where it has one.
 pub fn second_of(parts: &[Partition], first: u32) -> Option<u32>

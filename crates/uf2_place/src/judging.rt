@@ -13,11 +13,8 @@ use crate::block::Uf2;
 use crate::current::Current;
 use crate::marks::Marks;
 use crate::pages::sector_in;
-use part_table::{Right, Table, Target};
+use part_table::{ABSOLUTE_FAMILY, Right, Table, Target};
 use pico_board::FLASH_BASE;
-
-/// The family of blocks at absolute addresses.
-const ABSOLUTE: u32 = 0xe48b_ff57;
 
 /// The ruling on a block.
 pub fn ruling(
@@ -109,7 +106,7 @@ pub fn is_skipped(flash_len: u32, block: &Uf2) -> bool
 {
     block.flags & 1 == 1
         || block.flags >> 13 & 1 != 1
-        || block.family == ABSOLUTE && !is_within(flash_len, block)
+        || block.family == ABSOLUTE_FAMILY && !is_within(flash_len, block)
 }
 
 /// Whether a block is of the family and the count of a download.
