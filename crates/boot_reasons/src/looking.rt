@@ -5,15 +5,15 @@ ghost use Rattle.std.specs.Result.{result_ok};
 ghost use Rattle.sector_pool.specs.Keeping.{KeepsOut};
 ghost use Rattle.sector_pool.specs.Pool.{HasFree};
 ghost use Rattle.boot_rules.specs.Chosen.{is_member};
-ghost use Rattle.boot_rules.specs.Choosing.{choice_of, other_of};
+ghost use Rattle.boot_rules.specs.Choosing.{choice_of};
 ghost use Rattle.boot_rules.specs.Picking.{AreInside, IsInside};
-ghost use Rattle.slot_choice.specs.Units.{member_window};
 ghost use Rattle.boot_reasons.specs.Looks.{better_took, counted, first_choice, is_update, look_at, look_choice, looks_of, second_image, seen_image, took, took_of};
 ghost use Rattle.boot_reasons.specs.Reasons.{results_in};
 
 use crate::looks::{Look, Took, UnitReason};
 use arrayvec::ArrayVec;
 use block_codec::copy_rows;
+use boot_rules::{member_window, other_of};
 use image_check::{Started, Why, check};
 use pico_board::{Board, Cpu, Window};
 use sector_pool::SectorPool;
@@ -203,26 +203,6 @@ fn copy_image(image: &Started) -> Started
         rollback: image.rollback,
         rows: copy_rows(&image.rows),
         trial: image.trial,
-    }
-}
-
-/// The other member of a pair.
-fn other_of(member: Member) -> Member
-    ensures { result ≡ other_of member }
-{
-    match member {
-        Member::A => Member::B,
-        Member::B => Member::A,
-    }
-}
-
-/// The window of a member of a unit.
-fn member_window(unit: &SlotUnit, member: Member) -> Option<Window>
-    ensures { result ≡ member_window member unit.now }
-{
-    match member {
-        Member::A => Some(unit.a),
-        Member::B => unit.b,
     }
 }
 

@@ -1,10 +1,7 @@
 //! The table of each slot, or why it has none, and whose table is that of the flash.
 
-ghost use Rattle.std.specs.Prelude.{◌≡◌, ◌+◌, ◌*◌, ◌/◌, ◌≤◌, List, IfOk, IfSome, IsTrue, Ok, find, length, option_map, reverse, true};
+ghost use Rattle.std.specs.Prelude.{◌≡◌, ◌*◌, ◌/◌, ◌≤◌, IfOk, IsTrue, length, option_map, true};
 ghost use Rattle.std.specs.Result.{result_ok};
-ghost use Rattle.block_codec.specs.Blocks.{BlockView};
-ghost use Rattle.block_loop.specs.Loop.{loop_of};
-ghost use Rattle.block_loop.specs.Offsets.{AreLoop};
 ghost use Rattle.otp_roll.specs.Flags.{slot_size};
 ghost use Rattle.part_table.specs.Sound.{IsSoundTable};
 ghost use Rattle.part_table.specs.TableOf.{has_table, table_of};
@@ -14,28 +11,12 @@ ghost use Rattle.boot_reasons.specs.SlotRules.{IsSlotAnswer};
 
 use crate::slots::{SlotFault, TableReason, ToldTable};
 use block_codec::Block;
-use block_loop::{BlockLoop, block_of, walk};
+use block_loop::walk;
+use boot_rules::table_block;
 use otp_roll::slot_size;
-use part_table::{Table, has_table, read_table};
+use part_table::{Table, read_table};
 use pico_board::{Board, FlashView, View, Window};
 use slot_choice::is_below;
-
-/// The last block of the view's loop that has a PARTITION_TABLE item.
-fn table_block<V: View>(view: &V, found: &BlockLoop) -> Option<Block>
-    requires loop_ { AreLoop (V.bytes view.now) found.now }
-    ensures last { (loop : List BlockView) → loop_of (V.bytes view.now) ≡ Ok loop
-        → result ≡ find has_table (reverse loop) }
-    ensures has { IfSome result (λ b. has_table b ≡ true) }
-{
-    let mut last = None;
-    for i in 0..found.count() {
-        let block = block_of(view, found, i);
-        if has_table(&block) {
-            last = Some(block);
-        }
-    }
-    last
-}
 
 /// What is read of a block that has a table, in a flash of so many sectors whose first free one is
 /// given.

@@ -23,6 +23,7 @@ pub use deciding::decide;
 pub use decision::{Decision, Fall};
 pub use image_check::Started;
 pub use part_table::Target;
+pub use picking::{member_window, other_of};
 pub use slot_choice::Choice;
-pub use tables::{Found, find_table};
+pub use tables::{Found, find_table, table_block};
 pub use targets::{is_executable, target};

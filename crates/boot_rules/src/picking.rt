@@ -20,7 +20,7 @@ use sector_pool::SectorPool;
 use slot_choice::{Choice, Member, SlotUnit, better};
 
 /// The other member of a pair.
-fn other_of(member: Member) -> Member
+pub fn other_of(member: Member) -> Member
     ensures { result ≡ other_of member }
 {
     match member {
@@ -30,7 +30,7 @@ fn other_of(member: Member) -> Member
 }
 
 /// The window of a member of a unit.
-fn member_window(unit: &SlotUnit, member: Member) -> Option<Window>
+pub fn member_window(unit: &SlotUnit, member: Member) -> Option<Window>
     ensures { result ≡ member_window member unit.now }
 {
     match member {

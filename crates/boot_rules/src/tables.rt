@@ -27,7 +27,7 @@ pub struct Found {
 }
 
 /// The last block of the view's loop that has a PARTITION_TABLE item.
-fn table_block<V: View>(view: &V, found: &BlockLoop) -> Option<Block>
+pub fn table_block<V: View>(view: &V, found: &BlockLoop) -> Option<Block>
     requires loop_ { AreLoop (V.bytes view.now) found.now }
     ensures last { (loop : List BlockView) → loop_of (V.bytes view.now) ≡ Ok loop
         → result ≡ find has_table (reverse loop) }
