@@ -6,11 +6,12 @@ use Rattle.std.proofs.lemmas.Bool.Decides.{nat_tests}
 use Rattle.std.proofs.lemmas.Grind.{common_steps}
 use Rattle.std.proofs.lemmas.Option.{same_Some, none-some}
 use Rattle.load_map.specs.declared.addresses.TheConstants.{SRAM_END, SRAM_START}
+use Rattle.pico_board.specs.Content.{flash_base}
 use Rattle.elf_pack.specs.declared.segment.Segment.{Segment}
 use Rattle.elf_pack.specs.Faults.{AreTogether, IsInFlash, IsInSram, IsPlaced, Share}
 use Rattle.elf_pack.specs.Judging.{are_mixed, do_overlap, is_misplaced}
 use Rattle.elf_pack.specs.Fields.{header_count, word_at}
-use Rattle.elf_pack.specs.Segments.{header_at, is_in_flash, is_in_sram, is_segment, segment_at, segment_of, segments}
+use Rattle.elf_pack.specs.Segments.{flash_end, header_at, is_in_flash, is_in_sram, is_segment, segment_at, segment_of, segments}
 use Rattle.elf_pack.proofs.ListLemmas.{all-made}
 
 -- a segment has a byte at least
@@ -41,13 +42,13 @@ range-true : (a b low high : ℕ) → low ≤ a → b ≤ high → (nat_le low a
 range-true a b low high from to = rw (le-leb low a from, le-leb b high to) refl
 
 pub in-flash : (s : Segment) → is_in_flash s ≡ true → IsInFlash s
-in-flash s is = range-test s.address (s.address + s.size) 0x10000000 0x11000000 is
+in-flash s is = range-test s.address (s.address + s.size) flash_base flash_end is
 
 pub in-sram : (s : Segment) → is_in_sram s ≡ true → IsInSram s
 in-sram s is = range-test s.address (s.address + s.size) SRAM_START SRAM_END is
 
 pub flash-is : (s : Segment) → IsInFlash s → is_in_flash s ≡ true
-flash-is s is = range-true s.address (s.address + s.size) 0x10000000 0x11000000 is.0 is.1
+flash-is s is = range-true s.address (s.address + s.size) flash_base flash_end is.0 is.1
 
 pub sram-is : (s : Segment) → IsInSram s → is_in_sram s ≡ true
 sram-is s is = range-true s.address (s.address + s.size) SRAM_START SRAM_END is.0 is.1

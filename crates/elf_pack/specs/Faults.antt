@@ -3,6 +3,7 @@
 use Rattle.std.specs.Prelude.{◌≡◌, ◌≢◌, ◌⊎◌, ℕ, ◌+◌, ◌*◌, ◌<◌, ◌≤◌, List, [], ◌∷◌, ◌++◌, length, take}
 use Rattle.std.specs.List.{AllByRecursion}
 use Rattle.load_map.specs.declared.addresses.TheConstants.{SRAM_END, SRAM_START}
+use Rattle.pico_board.specs.Content.{flash_base}
 use Rattle.pico_board.specs.declared.boot.Cpu.{Cpu}
 use Rattle.image_pack.specs.declared.spec.SealError.{SealError}
 use Rattle.image_pack.specs.declared.spec.SealError.TheVariants.{Memory as SealMemory}
@@ -13,7 +14,7 @@ use Rattle.elf_pack.specs.declared.fault.ElfFault.TheVariants.{NotElf, FileType,
 use Rattle.elf_pack.specs.declared.segment.Segment.{Segment as OneSegment}
 use Rattle.elf_pack.specs.Binaries.{elf_binary}
 use Rattle.elf_pack.specs.Fields.{file_type, header_count, header_size, headers_at, identification, machine, machine_of}
-use Rattle.elf_pack.specs.Segments.{segments}
+use Rattle.elf_pack.specs.Segments.{flash_end, segments}
 
 -- the file has at least 52 bytes and begins with the identification of a 32-bit ELF file with the
 -- lowest byte first
@@ -36,7 +37,7 @@ pub record IsRightHead (cpu : Cpu) (elf : List ℕ) : Type 0 where
 
 -- a segment lies wholly in the addresses of flash, or wholly in SRAM
 abbrev pub IsInFlash : OneSegment → Type 0
-IsInFlash s = (0x10000000 ≤ s.address) × (s.address + s.size ≤ 0x11000000)
+IsInFlash s = (flash_base ≤ s.address) × (s.address + s.size ≤ flash_end)
 
 abbrev pub IsInSram : OneSegment → Type 0
 IsInSram s = (SRAM_START ≤ s.address) × (s.address + s.size ≤ SRAM_END)

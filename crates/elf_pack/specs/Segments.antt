@@ -3,6 +3,8 @@
 -- That a segment of no byte in the file is none is this project's own.
 use Rattle.std.specs.Prelude.{ℕ, ◌+◌, ◌-◌, ◌*◌, ◌==◌, ◌&&◌, nat_le, nat_lt, Bool, if◌then◌else◌, List, slice_index, slice_range, filter_map, Option, Some, None}
 use Rattle.std.specs.List.{range_with_len}
+use Rattle.pico_board.specs.declared.window.TheConstants.{MOST_FLASH_BYTES}
+use Rattle.pico_board.specs.Content.{flash_base}
 use Rattle.load_map.specs.Addresses.{in_sram}
 use Rattle.elf_pack.specs.declared.segment.Segment.{Segment}
 use Rattle.elf_pack.specs.Fields.{header_count, headers_at, word_at}
@@ -46,9 +48,13 @@ holds address s = nat_le s.address address && nat_lt address (s.address + s.size
 abbrev pub byte_of : List ℕ → ℕ → Segment → ℕ
 byte_of elf address s = slice_index elf (s.offset + (address - s.address))
 
--- the segment lies wholly in the addresses of flash: 16 MiB from 0x10000000 on
+-- the address after the last one of the greatest flash
+abbrev pub flash_end : ℕ
+flash_end = flash_base + MOST_FLASH_BYTES
+
+-- the segment lies wholly in the addresses of flash
 abbrev pub is_in_flash : Segment → Bool
-is_in_flash s = nat_le 0x10000000 s.address && nat_le (s.address + s.size) 0x11000000
+is_in_flash s = nat_le flash_base s.address && nat_le (s.address + s.size) flash_end
 
 -- it lies wholly in SRAM
 abbrev pub is_in_sram : Segment → Bool

@@ -6,7 +6,7 @@ ghost use Rattle.pico_board.specs.declared.window.TheConstants.{MOST_FLASH_BYTES
 ghost use Rattle.pico_board.specs.Content.{flash_base};
 ghost use Rattle.elf_pack.specs.Binaries.{FitsIn, flash_binary, flash_bytes, greatest_end};
 ghost use Rattle.elf_pack.specs.Faults.{IsInFlash};
-ghost use Rattle.elf_pack.specs.Segments.{segment_bytes};
+ghost use Rattle.elf_pack.specs.Segments.{flash_end, segment_bytes};
 
 use crate::segment::Segment;
 use pico_board::FLASH_BASE;
@@ -20,7 +20,7 @@ fn greatest_end(segments: &[Segment]) -> u32
     requires { AllByRecursion IsInFlash segments.now }
     ensures value { result ≡ greatest_end segments.now }
     ensures above { flash_base ≤ result }
-    ensures below { result ≤ 0x11000000 }
+    ensures below { result ≤ flash_end }
 {
     match segments {
         [] => FLASH_BASE,

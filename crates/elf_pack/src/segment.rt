@@ -6,6 +6,7 @@ ghost use Rattle.elf_pack.specs.Segments.{is_in_flash, is_in_sram, segment_at, s
 
 use crate::fields::{half_at, word_at};
 use load_map::{SRAM_END, SRAM_START};
+use pico_board::{FLASH_BASE, MOST_FLASH_BYTES};
 use std::alloc::{AllocError, Global};
 
 /// The size of a program header.
@@ -14,8 +15,8 @@ pub(crate) const HEADER: usize = 32;
 /// The type of a program header that asks for bytes to be loaded.
 const LOADED: u32 = 1;
 
-/// The first address of flash, and the one after its last.
-const FLASH: (u64, u64) = (0x1000_0000, 0x1100_0000);
+/// The address after the last one of the greatest flash.
+const FLASH_END: u64 = FLASH_BASE as u64 + MOST_FLASH_BYTES as u64;
 
 /// What a program header asks to be loaded.
 #[derive(Clone, Copy, Debug, PartialEq, Eq)]
@@ -74,7 +75,7 @@ pub(crate) fn is_in_flash(segment: &Segment) -> bool
     ensures { result ≡ is_in_flash segment.now }
 {
     let (first, size) = (u64::from(segment.address), u64::from(segment.size));
-    FLASH.0 <= first && first + size <= FLASH.1
+    u64::from(FLASH_BASE) <= first && first + size <= FLASH_END
 }
 
 /// Whether a segment lies wholly in SRAM.
