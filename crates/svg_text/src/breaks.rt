@@ -6,7 +6,7 @@ ghost use Rattle.svg_text.specs.Reading.{one_more};
 
 /// How many bytes of words stand in a line. A blank may stand behind them, and so may the word
 /// `starts`.
-pub const LINE_LENGTH: usize = 80;
+const LINE_LENGTH: usize = 80;
 
 /// How many bytes the word has that begins here.
 fn word_length(bytes: &[u8]) -> usize

@@ -12,7 +12,7 @@ mod lines;
 mod mark;
 mod writing;
 
-pub use breaks::{LINE_LENGTH, line_count};
+pub use breaks::line_count;
 pub use class::{Class, class_word, is_class};
 pub use lines::{LINE_HEIGHT, push_lines};
 pub use mark::{Area, Colour, Ends};
