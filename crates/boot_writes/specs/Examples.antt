@@ -65,7 +65,8 @@ abbrev pub two_trials : Content
 two_trials = record {
   flash = region 0x2000 (framed (three_parts (sectors 2 2) 0xfc000000 (sectors 3 3) 0xfc000000
       (sectors 4 4) 0xfc000000) 0)
-      ++ (typed_sector 0x90210142 0 0x0c0 ++ (typed_sector 0x90210142 1 0x0c0 ++ rows_sector 2 0x0c0));
+      ++ (typed_sector 0x90210142 0 0x0c0
+      ++ (typed_sector 0x90210142 1 0x0c0 ++ rows_sector 2 0x0c0));
   otp = triple_rows 0 0 0;
 }
 

@@ -205,8 +205,8 @@ pub fn faults_of_reads()
         (telling (of_a 7 ∷ []))) }
 {}
 
-/// A write at fault is counted among those of writes, and want of memory is no fault. A steady store
-/// has none.
+/// A write at fault is counted among those of writes, and want of memory is no fault. A steady
+/// store has none.
 pub fn faults_of_writes()
     ensures counted { ShowsWrite (counting 0 0 false) name_a (1 ∷ []) (Err StoreFail.Fault)
         (counting 0 1 false) }
