@@ -19,6 +19,8 @@ pub fn names_of_partitions()
         ≡ 0x22 ∷ codes "A ~" ++ 0x22 ∷ [] }
     ensures low { name_text (Some (record { items = 0x1f ∷ [] }))
         ≡ 0x22 ∷ 0x5c ∷ codes "x1f" ++ 0x22 ∷ [] }
+    ensures short { name_text (Some (record { items = 0 ∷ 0xf ∷ [] }))
+        ≡ 0x22 ∷ 0x5c ∷ codes "x00" ++ 0x5c ∷ codes "x0f" ++ 0x22 ∷ [] }
     ensures high { name_text (Some (record { items = 0x7f ∷ 0xff ∷ [] }))
         ≡ 0x22 ∷ 0x5c ∷ codes "x7f" ++ 0x5c ∷ codes "xff" ++ 0x22 ∷ [] }
     ensures quote { name_text (Some (record { items = 0x22 ∷ 0x5c ∷ [] }))

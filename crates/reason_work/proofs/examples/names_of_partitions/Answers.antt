@@ -18,6 +18,10 @@ pub returns-clause-low : goal.returns-clause-low
 unfolding padded_integral digits char_count
 returns-clause-low c = refl
 
+pub returns-clause-short : goal.returns-clause-short
+unfolding padded_integral digits char_count
+returns-clause-short c = refl
+
 pub returns-clause-high : goal.returns-clause-high
 unfolding padded_integral digits char_count
 returns-clause-high c = refl
