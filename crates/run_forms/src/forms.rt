@@ -12,11 +12,11 @@ ghost use Rattle.run_forms.specs.Forms.{limit_of, form_fault, otp_fault, own_fau
 use crate::json::{spec_fault, table_fault};
 use boot_script::{Event, ScriptFault, next_event};
 use byteorder::{ByteOrder, LittleEndian};
-use pico_board::{BoardError, MemBoard};
+use pico_board::{BoardError, MOST_FLASH_BYTES, MemBoard};
 use std::alloc::{AllocError, Global};
 
 /// The greatest flash, in bytes.
-pub const FLASH_LIMIT: u32 = 16_777_216;
+pub const FLASH_LIMIT: u32 = MOST_FLASH_BYTES as u32;
 
 /// The greatest OTP file, in bytes.
 pub const OTP_LIMIT: u32 = 16_384;
@@ -25,7 +25,7 @@ pub const OTP_LIMIT: u32 = 16_384;
 pub const SCRIPT_LIMIT: u32 = 67_108_864;
 
 /// The greatest image, in bytes.
-pub const IMAGE_LIMIT: u32 = 16_777_216;
+pub const IMAGE_LIMIT: u32 = MOST_FLASH_BYTES as u32;
 
 /// The greatest number of records of a script, with its end.
 pub const RECORD_LIMIT: u32 = 524_288;
@@ -34,7 +34,7 @@ pub const RECORD_LIMIT: u32 = 524_288;
 pub const PATTERN_LIMIT: u32 = 4096;
 
 /// The greatest binary, in bytes.
-pub const BINARY_LIMIT: u32 = 16_777_216;
+pub const BINARY_LIMIT: u32 = MOST_FLASH_BYTES as u32;
 
 /// The greatest JSON text, in bytes.
 pub const JSON_LIMIT: u32 = 65_536;
