@@ -13,3 +13,4 @@ mod rows;
 
 pub use bars::MapBar;
 pub use map::{map_svg, map_words};
+pub use rows::span_text;

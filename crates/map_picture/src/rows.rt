@@ -24,7 +24,7 @@ fn hex_word(alloc: Global, number: u64) -> Result<String, AllocError>
 
 /// The flash addresses of a window's first and last byte.
 #[tactic(auto, unfolding(crate::specs::Maps::span_text))]
-fn span_text(alloc: Global, window: Window) -> Result<String, AllocError>
+pub fn span_text(alloc: Global, window: Window) -> Result<String, AllocError>
     ensures { IfOk result (λ t. string_bytes t ≡ span_text window) }
 {
     let start = u64::from(FLASH_BASE) + u64::from(window.start);

@@ -1,7 +1,5 @@
 -- The texts of the windows of a flash, as its picture shows them. This project's own.
-use Rattle.std.specs.Prelude.{ℕ, ◌+◌, ◌-◌, ◌==◌, if◌then◌else◌, Bool, true, false, List, [], ◌++◌, map, Option, Some, None, Result, Ok, Err, codes, decimal}
-use Rattle.pico_board.specs.declared.window.Window.{Window}
-use Rattle.pico_board.specs.Content.{flash_base}
+use Rattle.std.specs.Prelude.{ℕ, ◌==◌, if◌then◌else◌, Bool, true, false, List, [], ◌++◌, map, Option, Some, None, Result, Ok, Err, codes, decimal}
 use Rattle.image_def.specs.declared.started.Started.{Started}
 use Rattle.image_check.specs.declared.why.Why.{Why}
 use Rattle.part_table.specs.declared.partition.Partition.{Partition}
@@ -17,16 +15,10 @@ use Rattle.flash_map.specs.declared.places.Place.{Place}
 use Rattle.flash_map.specs.declared.places.Place.TheVariants.{Slot, Partition as Part, Whole, Free}
 use Rattle.flash_map.specs.Maps.{table_of_map}
 use Rattle.flash_map.specs.Windows.{parts_of}
-use Rattle.map_picture.specs.Maps.{Bar}
-use Rattle.run_texts.specs.Texts.{hex_word, rollback_text, version_text, why_text}
+use Rattle.map_picture.specs.Maps.{Bar, span_text}
+use Rattle.run_texts.specs.Texts.{rollback_text, version_text, why_text}
 use Rattle.reason_work.specs.Partitions.{families_text, name_text}
 use Rattle.reason_work.specs.Texts.{slot_text}
-
--- the flash addresses of a window's first byte and of its last
-abbrev pub span_text : Window → List ℕ
-span_text w =
-    hex_word (flash_base + w.start)
-    ++ (codes " to " ++ hex_word (flash_base + w.start + w.len - 1))
 
 -- an image, or the first rule that it fails
 abbrev pub found_words : Result Started Why → List ℕ

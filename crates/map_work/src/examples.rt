@@ -6,9 +6,10 @@ ghost use Rattle.block_loop.specs.declared.fault.LoopFault.TheVariants.{Broken, 
 ghost use Rattle.image_check.specs.declared.why.Why.{Why};
 ghost use Rattle.slot_choice.specs.declared.unit.Member.TheVariants.{A, B};
 ghost use Rattle.flash_map.specs.declared.places.Place.{Place};
+ghost use Rattle.map_picture.specs.Maps.{span_text};
 ghost use Rattle.run_texts.specs.Examples.{example_image};
 ghost use Rattle.map_work.specs.Examples.{bare_map, bare_row, paired, row_with, table_map, three_rows};
-ghost use Rattle.map_work.specs.Texts.{bar_of, row_text, span_text};
+ghost use Rattle.map_work.specs.Texts.{bar_of, row_text};
 ghost use Rattle.map_work.specs.Works.{map_line};
 
 /// The addresses of a window's first byte and of its last.

@@ -1,33 +1,23 @@
 //! The texts of the windows of a flash.
 
-ghost use Rattle.std.specs.Prelude.{◌≡◌, ◌+◌, ◌-◌, All, IfOk, map, option_map, string_bytes};
+ghost use Rattle.std.specs.Prelude.{◌≡◌, All, IfOk, map, option_map, string_bytes};
 ghost use Rattle.part_table.specs.Partitions.{part_at};
 ghost use Rattle.flash_map.specs.declared.places.Place.{Place};
 ghost use Rattle.flash_map.specs.WindowRules.{IsListed};
 ghost use Rattle.flash_map.specs.Maps.{table_of_map};
 ghost use Rattle.flash_map.specs.Windows.{parts_of};
 ghost use Rattle.map_picture.specs.Maps.{bar_from};
-ghost use Rattle.map_work.specs.Texts.{answer_of, bar_of, bars_of, found_words, image_words, is_free, member_words, pair_words, part_words, place_words, row_text, slot_words, span_text};
+ghost use Rattle.map_work.specs.Texts.{answer_of, bar_of, bars_of, found_words, image_words, is_free, member_words, pair_words, part_words, place_words, row_text, slot_words};
 
 use boot_reasons::{SlotFault, taken_table};
 use flash_map::{FlashMap, MapRow, Pairing, Place};
 use image_check::{Started, Why};
-use map_picture::MapBar;
+use map_picture::{MapBar, span_text};
 use part_table::{Partition, Table};
-use pico_board::{FLASH_BASE, Window};
 use reason_work::{families_text, name_text, rollback_text, slot_text, version_text};
 use run_texts::why_text;
 use slot_choice::Member;
 use std::alloc::{AllocError, Global};
-
-/// The flash addresses of a window's first byte and of its last.
-fn span_text(alloc: Global, window: Window) -> Result<String, AllocError>
-    ensures { IfOk result (λ t. string_bytes t ≡ span_text window) }
-{
-    let first = u64::from(FLASH_BASE) + u64::from(window.start);
-    let last = first + u64::from(window.len) - 1;
-    format!(in alloc; "0x{first:08x} to 0x{last:08x}")
-}
 
 /// An image, or the first rule that it fails.
 fn found_words(alloc: Global, image: &Result<Started, Why>) -> Result<String, AllocError>

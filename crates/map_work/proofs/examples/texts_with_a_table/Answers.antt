@@ -1,28 +1,29 @@
 use Rattle.std.proofs.Common.{refl}
 use Rattle.std.specs.Fmt.{padded_integral, digits, char_count}
+use Rattle.map_picture.specs.Maps.{hex_word, span_text}
 use Rattle.map_work.specs.Texts.{row_text}
 use Rattle.map_work.proofs.examples.texts_with_a_table.Goals as goal
 
 pub returns-clause-slot_0 : goal.returns-clause-slot_0
-unfolding padded_integral digits char_count row_text
+unfolding span_text hex_word padded_integral digits char_count row_text
 returns-clause-slot_0 c = refl
 
 pub returns-clause-slot_1 : goal.returns-clause-slot_1
-unfolding padded_integral digits char_count row_text
+unfolding span_text hex_word padded_integral digits char_count row_text
 returns-clause-slot_1 c = refl
 
 pub returns-clause-named : goal.returns-clause-named
-unfolding padded_integral digits char_count row_text
+unfolding span_text hex_word padded_integral digits char_count row_text
 returns-clause-named c = refl
 
 pub returns-clause-second : goal.returns-clause-second
-unfolding padded_integral digits char_count row_text
+unfolding span_text hex_word padded_integral digits char_count row_text
 returns-clause-second c = refl
 
 pub returns-clause-alone : goal.returns-clause-alone
-unfolding padded_integral digits char_count row_text
+unfolding span_text hex_word padded_integral digits char_count row_text
 returns-clause-alone c = refl
 
 pub returns-clause-free : goal.returns-clause-free
-unfolding padded_integral digits char_count row_text
+unfolding span_text hex_word padded_integral digits char_count row_text
 returns-clause-free c = refl
