@@ -14,8 +14,8 @@ use flash_map::{FlashMap, MapRow, Pairing, Place};
 use image_check::{Started, Why};
 use map_picture::{MapBar, span_text};
 use part_table::{Partition, Table};
-use reason_work::{families_text, name_text, rollback_text, slot_text, version_text};
-use run_texts::why_text;
+use reason_work::{families_text, name_text, slot_text};
+use run_texts::{rollback_text, version_text, why_text};
 use slot_choice::Member;
 use std::alloc::{AllocError, Global};
 

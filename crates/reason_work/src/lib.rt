@@ -12,4 +12,4 @@ mod texts;
 
 pub use explaining::{explain, new_pool};
 pub use partitions::{families_text, id_text, name_text, partition_line};
-pub use texts::{rollback_text, slot_line, slot_text, version_text};
+pub use texts::{slot_line, slot_text};

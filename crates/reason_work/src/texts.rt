@@ -6,11 +6,10 @@ ghost use Rattle.part_table.specs.Fields.{first_sector, last_sector};
 ghost use Rattle.part_table.specs.Sound.{IsSoundTable};
 ghost use Rattle.boot_reasons.specs.Reasons.{table_of_reasons};
 ghost use Rattle.run_course.specs.Outcomes.{line};
-ghost use Rattle.run_texts.specs.Texts.{hex_word, invalid_text, rollback_text, valid_text, version_text, yes_or_no};
+ghost use Rattle.run_texts.specs.Texts.{yes_or_no};
 ghost use Rattle.reason_work.specs.Texts.{explain_text, look_lines, looks_lines, member_text, otp_text, pair_text, second_line, slot_fault_text, slot_table_text, slot_text, table_fault_text, table_lines, table_reason_text, tables_lines, taken_text, takes_text, told_text, unit_kind_text, unit_reason_text, unit_text, units_lines, unreached_lines, unreached_text};
 
 use crate::partitions::partition_lines;
-use block_codec::Version;
 use block_loop::LoopFault;
 use boot_reasons::{
     Look, Reasons, SlotFault, TableReason, ToldTable, Took, UnitReason, taken_table,
@@ -18,7 +17,7 @@ use boot_reasons::{
 use image_check::{Started, Why};
 use part_table::{Table, TableFault};
 use pico_board::Window;
-use run_texts::{decision_line, place_text, why_text};
+use run_texts::{decision_line, hex_text, invalid_text, place_text, valid_text, version_text};
 use slot_choice::SlotUnit;
 use std::alloc::{AllocError, Global};
 
@@ -34,22 +33,6 @@ fn line_of(alloc: Global, text: &str) -> Result<String, AllocError>
     ensures { IfOk result (λ t. string_bytes t ≡ line text.now) }
 {
     format!(in alloc; "{text}\n")
-}
-
-/// A version.
-pub fn version_text(alloc: Global, version: Version) -> Result<String, AllocError>
-    ensures { IfOk result (λ t. string_bytes t ≡ version_text version) }
-{
-    let major = version.major;
-    let minor = version.minor;
-    format!(in alloc; "version={major}.{minor}")
-}
-
-/// A number as 0x and eight hexadecimal digits.
-fn hex_text(alloc: Global, n: u32) -> Result<String, AllocError>
-    ensures { IfOk result (λ t. string_bytes t ≡ hex_word n) }
-{
-    format!(in alloc; "0x{n:08x}")
 }
 
 /// What the OTP says of a boot.
@@ -200,35 +183,6 @@ fn unit_text(alloc: Global, number: usize, unit: &SlotUnit) -> Result<String, Al
 {
     let kind = unit_kind_text(alloc, unit)?;
     format!(in alloc; "unit {number} {kind}")
-}
-
-/// The rollback version of an image, or `none`.
-pub fn rollback_text(alloc: Global, rollback: Option<u16>) -> Result<String, AllocError>
-    ensures { IfOk result (λ t. string_bytes t ≡ rollback_text rollback) }
-{
-    match rollback {
-        Some(version) => format!(in alloc; "{version}"),
-        None => format!(in alloc; "none"),
-    }
-}
-
-/// A window with a valid image.
-fn valid_text(alloc: Global, window: Window, image: &Started) -> Result<String, AllocError>
-    ensures { IfOk result (λ t. string_bytes t ≡ valid_text window image.now) }
-{
-    let place = place_text(alloc, window)?;
-    let version = version_text(alloc, image.version)?;
-    let rollback = rollback_text(alloc, image.rollback)?;
-    format!(in alloc; "image {place} ok {version} rollback={rollback}")
-}
-
-/// A window without one.
-fn invalid_text(alloc: Global, window: Window, why: Why) -> Result<String, AllocError>
-    ensures { IfOk result (λ t. string_bytes t ≡ invalid_text window why) }
-{
-    let place = place_text(alloc, window)?;
-    let fault = why_text(alloc, why)?;
-    format!(in alloc; "image {place} fault={fault}")
 }
 
 /// A member's image, and whether it is a trial, or why it has none.

@@ -14,7 +14,7 @@ use pico_board::Window;
 use std::alloc::{AllocError, Global};
 
 /// The rollback version, or `none`.
-fn rollback_word(alloc: Global, rollback: Option<u16>) -> Result<String, AllocError>
+pub fn rollback_text(alloc: Global, rollback: Option<u16>) -> Result<String, AllocError>
     ensures { IfOk result (λ t. string_bytes t ≡ rollback_text rollback) }
 {
     match rollback {
@@ -24,7 +24,7 @@ fn rollback_word(alloc: Global, rollback: Option<u16>) -> Result<String, AllocEr
 }
 
 /// A number as 0x and eight hexadecimal digits.
-fn hex_text(alloc: Global, n: u32) -> Result<String, AllocError>
+pub fn hex_text(alloc: Global, n: u32) -> Result<String, AllocError>
     ensures { IfOk result (λ t. string_bytes t ≡ hex_word n) }
 {
     format!(in alloc; "0x{n:08x}")
@@ -40,7 +40,7 @@ pub fn place_text(alloc: Global, window: Window) -> Result<String, AllocError>
 }
 
 /// A version.
-fn version_words(alloc: Global, version: Version) -> Result<String, AllocError>
+pub fn version_text(alloc: Global, version: Version) -> Result<String, AllocError>
     ensures { IfOk result (λ t. string_bytes t ≡ version_text version) }
 {
     let major = version.major;
@@ -65,7 +65,7 @@ fn table_text(alloc: Global, found: Option<&Found>) -> Result<String, AllocError
     match found {
         Some(found) => {
             let slot = found.slot;
-            let version = version_words(alloc, found.table.version)?;
+            let version = version_text(alloc, found.table.version)?;
             let count = found.table.parts.len();
             format!(in alloc; "table slot={slot} {version} partitions={count}")
         }
@@ -83,17 +83,17 @@ pub fn table_line(alloc: Global, found: Option<&Found>) -> Result<String, AllocE
 }
 
 /// A window with a valid image.
-fn valid_text(alloc: Global, window: Window, image: &Started) -> Result<String, AllocError>
+pub fn valid_text(alloc: Global, window: Window, image: &Started) -> Result<String, AllocError>
     ensures { IfOk result (λ t. string_bytes t ≡ valid_text window image.now) }
 {
     let place = place_text(alloc, window)?;
-    let version = version_words(alloc, image.version)?;
-    let rollback = rollback_word(alloc, image.rollback)?;
+    let version = version_text(alloc, image.version)?;
+    let rollback = rollback_text(alloc, image.rollback)?;
     format!(in alloc; "image {place} ok {version} rollback={rollback}")
 }
 
 /// A window without a valid image.
-fn invalid_text(alloc: Global, window: Window, why: Why) -> Result<String, AllocError>
+pub fn invalid_text(alloc: Global, window: Window, why: Why) -> Result<String, AllocError>
     ensures { IfOk result (λ t. string_bytes t ≡ invalid_text window why) }
 {
     let place = place_text(alloc, window)?;
