@@ -28,7 +28,7 @@ use Rattle.boot_rules.proofs.PlaceLemmas.{slot-size}
 use Rattle.boot_rules.proofs.TableLemmas.{found-in, found-sound}
 use Rattle.target_laws.specs.HomeRules.{IsInBootPair, IsInKeptPair, MayBoot}
 use Rattle.target_laws.specs.Pairs.{HasNoSecond, IsPart, IsSecondOf}
-use Rattle.target_laws.specs.TargetRules.{flash_window, slot_of}
+use Rattle.target_laws.specs.TargetRules.{flash_window, slot_bytes}
 use Rattle.target_laws.proofs.PairLemmas.{part-is, part-there, part-within, second-words, words-second}
 
 not-apart : (w : Window) → 4096 ≤ w.len → AreApart w w → ⊥
@@ -140,7 +140,7 @@ module _ (c : Content) (cpu : Cpu) (w : Window) where
   n = length c.flash
 
   abbrev z : ℕ
-  z = slot_of c
+  z = slot_bytes c
 
   -- with a table
   module _ (found : Found) (is : table_in c ≡ Some found) where
@@ -263,10 +263,12 @@ whole-not c cpu right home = by (table_in c) refl
         let size = slot-size c.otp (length c.flash) right.flash_length.least in
         in-slots slots.0 size.fits slots.1
       where
-        in-slots : 4096 < slot_of c → 2 * slot_of c ≤ length c.flash
-            → (flash_window c ≡ record { start = 0; len = slot_of c })
-            ⊎ (flash_window c ≡ record { start = slot_of c; len = slot_of c }) → ⊥
+        in-slots : 4096 < slot_bytes c → 2 * slot_bytes c ≤ length c.flash
+            → (flash_window c ≡ record { start = 0; len = slot_bytes c })
+            ⊎ (flash_window c ≡ record { start = slot_bytes c; len = slot_bytes c }) → ⊥
         in-slots large fits (inl one) =
-            let long : length c.flash ≡ slot_of c = ap (λ (x : Window). x.len) one in omega (arith, large, fits, long)
+            let long : length c.flash ≡ slot_bytes c = ap (λ (x : Window). x.len) one in
+            omega (arith, large, fits, long)
         in-slots large fits (inr two) =
-            let long : length c.flash ≡ slot_of c = ap (λ (x : Window). x.len) two in omega (arith, large, fits, long)
+            let long : length c.flash ≡ slot_bytes c = ap (λ (x : Window). x.len) two in
+            omega (arith, large, fits, long)

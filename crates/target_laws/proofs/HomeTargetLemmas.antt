@@ -22,7 +22,7 @@ use Rattle.boot_rules.specs.Targets.{target_of}
 use Rattle.boot_rules.proofs.TableLemmas.{found-sound}
 use Rattle.target_laws.specs.HomeRules.{IsHomeTarget, IsInBootPair, IsInKeptPair}
 use Rattle.target_laws.specs.Loads.{IsExecutable}
-use Rattle.target_laws.specs.TargetRules.{IsLoneTarget, IsPairTarget, IsPartTarget, IsSlotTarget, IsSmallTarget, IsTarget, IsWholeFlash, part_of, slot_of, window_of}
+use Rattle.target_laws.specs.TargetRules.{IsLoneTarget, IsPairTarget, IsPartTarget, IsSlotTarget, IsSmallTarget, IsTarget, IsWholeFlash, part_of, slot_bytes, window_of}
 use Rattle.target_laws.proofs.HomeLemmas.{home-slots, home-words, lone-not, same-first, slots-home, whole-not, words-home}
 use Rattle.target_laws.proofs.TargetLemmas.{target-words}
 use Rattle.target_laws.proofs.WordLemmas.{slot-not_absolute}
@@ -138,7 +138,8 @@ module _ (c : Content) (cpu : Cpu) (family : ℕ) (target : Target) where
     pub slot-home : IsSlotTarget c cpu family target → Home c target.window cpu
     slot-home slot =
         slots-home c cpu target.window none slot.large
-        (in-slots slot.member (record { start = 0; len = slot_of c }) (record { start = slot_of c; len = slot_of c })
+        (in-slots slot.member (record { start = 0; len = slot_bytes c })
+        (record { start = slot_bytes c; len = slot_bytes c })
         target.window slot.window)
 
     pub home-slot : IsContent c → IsTarget c None cpu family target → Home c target.window cpu

@@ -21,7 +21,7 @@ use Rattle.slot_choice.specs.LoadUnits.{absolute_unit, family_unit, load_unit}
 use Rattle.slot_choice.specs.Units.{IsSoundFor, tableless_unit, unit_of, whole_flash}
 use Rattle.boot_rules.specs.Targets.{target_of, unit_target}
 use Rattle.target_laws.specs.Loads.{AcceptsAbsolute}
-use Rattle.target_laws.specs.TargetRules.{FollowsOwner, IsLoneTarget, IsPairTarget, IsPartTarget, IsSlotTarget, IsSmallTarget, IsTablelessTarget, IsTarget, IsUnitTarget, IsWholeFlash, StaysBy, WritesMember, part_of, slot_of, window_of}
+use Rattle.target_laws.specs.TargetRules.{FollowsOwner, IsLoneTarget, IsPairTarget, IsPartTarget, IsSlotTarget, IsSmallTarget, IsTablelessTarget, IsTarget, IsUnitTarget, IsWholeFlash, StaysBy, WritesMember, part_of, slot_bytes, window_of}
 use Rattle.target_laws.proofs.LoadLemmas.{one-load, one-part, words-accepting}
 use Rattle.target_laws.proofs.PairLemmas.{one-second}
 use Rattle.target_laws.proofs.TakenLemmas.{one-written}
@@ -49,8 +49,8 @@ same-stay p x y a b = same-flag (bit_at p.flags 13 ≡ 1) x.stay y.stay a b
 module _ (c : Content) (cpu : Cpu) (family : ℕ) (x y : Target) where
   one-slot : IsSlotTarget c cpu family x → IsSlotTarget c cpu family y → x ≡ y
   one-slot a b =
-      let first : Window = record { start = 0; len = slot_of c } in
-      let second : Window = record { start = slot_of c; len = slot_of c } in
+      let first : Window = record { start = 0; len = slot_bytes c } in
+      let second : Window = record { start = slot_bytes c; len = slot_bytes c } in
       let same : a.member ≡ b.member = one-written c cpu first second a.member b.member a.written b.written in
       same-target x y
       (a.window ∙ ap (λ (m : Member). window_of m first second) same ∙ sym b.window)
@@ -116,7 +116,7 @@ module _ (c : Content) (cpu : Cpu) (family : ℕ) where
   n = length c.flash
 
   abbrev z : ℕ
-  z = slot_of c
+  z = slot_bytes c
 
   one-unit : (t : Option Table) → IsSoundFor t n → (x y : Target) → IsUnitTarget c t cpu family x
       → IsUnitTarget c t cpu family y → x ≡ y

@@ -28,7 +28,7 @@ use Rattle.boot_rules.specs.Picking.{taken_member}
 use Rattle.boot_rules.specs.Targets.{deciding_unit, is_executable, member_for, pair_target, stays, target_of, unit_target}
 use Rattle.target_laws.specs.Loads.{AcceptsAbsolute, IsExecutable, IsLoadPart, IsSlotFamily}
 use Rattle.target_laws.specs.Taking.{TakesFirst}
-use Rattle.target_laws.specs.TargetRules.{FollowsOwner, IsAbsoluteTarget, IsLoneTarget, IsPairTarget, IsPartTarget, IsSlotTarget, IsTablelessTarget, IsTarget, IsUnitTarget, IsWholeFlash, StaysBy, WouldTakeFirst, WritesMember, WritesOther, part_of, slot_of}
+use Rattle.target_laws.specs.TargetRules.{FollowsOwner, IsAbsoluteTarget, IsLoneTarget, IsPairTarget, IsPartTarget, IsSlotTarget, IsTablelessTarget, IsTarget, IsUnitTarget, IsWholeFlash, StaysBy, WouldTakeFirst, WritesMember, WritesOther, part_of, slot_bytes}
 use Rattle.target_laws.proofs.LoadLemmas.{accepting-words}
 use Rattle.target_laws.proofs.PairLemmas.{none-words, part-within, second-words, unit-windows, windows-unit}
 use Rattle.target_laws.proofs.TakenLemmas.{member-words, words-member, writes-other}
@@ -47,13 +47,13 @@ stays-none (Some p) = refl
 -- a flash without a table
 module _ (c : Content) (cpu : Cpu) (family : ℕ) (slots : IsSlotFamily family) where
   abbrev first : Window
-  first = record { start = 0; len = slot_of c }
+  first = record { start = 0; len = slot_bytes c }
 
   abbrev second : Window
-  second = record { start = slot_of c; len = slot_of c }
+  second = record { start = slot_bytes c; len = slot_bytes c }
 
-  slot-target : 4096 < slot_of c → (m : Member) → WritesOther c cpu first second m
-      → IsSlotTarget c cpu family (pair_target None family (slot_pair (slot_of c)) second m)
+  slot-target : 4096 < slot_bytes c → (m : Member) → WritesOther c cpu first second m
+      → IsSlotTarget c cpu family (pair_target None family (slot_pair (slot_bytes c)) second m)
   slot-target large A written = record {
     large = large;
     member = A;
@@ -71,23 +71,23 @@ module _ (c : Content) (cpu : Cpu) (family : ℕ) (slots : IsSlotFamily family) 
     stays = refl;
   }
 
-  tableless-by : (large : Bool) → nat_lt 4096 (slot_of c) ≡ large → (u : SlotUnit)
-      → u ≡ (if large then slot_pair (slot_of c) else whole_flash (length c.flash))
+  tableless-by : (large : Bool) → nat_lt 4096 (slot_bytes c) ≡ large → (u : SlotUnit)
+      → u ≡ (if large then slot_pair (slot_bytes c) else whole_flash (length c.flash))
       → IsTablelessTarget c cpu family (unit_target c None cpu family u u.b)
   tableless-by true large u is =
       subst (λ (v : SlotUnit). IsTablelessTarget c cpu family (unit_target c None cpu family v v.b)) (sym is)
       (record {
         taken = slots;
-        placed = inl (slot-target (ltb-true 4096 (slot_of c) large)
-            (member_for (taken_member c cpu (slot_pair (slot_of c))))
-            (writes-other c cpu (slot_pair (slot_of c)) second refl));
+        placed = inl (slot-target (ltb-true 4096 (slot_bytes c) large)
+            (member_for (taken_member c cpu (slot_pair (slot_bytes c))))
+            (writes-other c cpu (slot_pair (slot_bytes c)) second refl));
       })
   tableless-by false small u is =
       subst (λ (v : SlotUnit). IsTablelessTarget c cpu family (unit_target c None cpu family v v.b)) (sym is)
       (record {
         taken = slots;
         placed = inr (record {
-          small = ltb-false 4096 (slot_of c) small;
+          small = ltb-false 4096 (slot_bytes c) small;
           whole = record { window = refl; gated = refl; stays = refl };
         });
       })
@@ -216,7 +216,7 @@ module _ (c : Content) (cpu : Cpu) (family : ℕ) where
   n = length c.flash
 
   abbrev z : ℕ
-  z = slot_of c
+  z = slot_bytes c
 
   abbrev target-in : Option Table → SlotUnit → Target
   target-in t u = unit_target c t cpu family u u.b

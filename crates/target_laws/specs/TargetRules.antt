@@ -19,8 +19,8 @@ use Rattle.target_laws.specs.Pairs.{AreWindowsOf, HasNoSecond, IsSecondOf, SaysO
 use Rattle.target_laws.specs.Taking.{TakesFirst, TakesNeither, TakesSecond}
 
 -- the slot size of a content, and its whole flash
-abbrev pub slot_of : Content → ℕ
-slot_of c = slot_size c.otp (length c.flash)
+abbrev pub slot_bytes : Content → ℕ
+slot_bytes c = slot_size c.otp (length c.flash)
 
 abbrev pub flash_window : Content → Window
 flash_window c = record { start = 0; len = length c.flash }
@@ -112,18 +112,18 @@ pub record IsPartTarget (c : Content) (t : Table) (cpu : Cpu) (family : ℕ) (ta
 
 -- without a table the pair of slots is written where it would not be read
 pub record IsSlotTarget (c : Content) (cpu : Cpu) (family : ℕ) (target : Target) : Type 0 where
-  pub large : 4096 < slot_of c
+  pub large : 4096 < slot_bytes c
   pub member : Member
-  pub written : WritesOther c cpu (record { start = 0; len = slot_of c })
-      (record { start = slot_of c; len = slot_of c }) member
-  pub window : target.window ≡ window_of member (record { start = 0; len = slot_of c })
-      (record { start = slot_of c; len = slot_of c })
+  pub written : WritesOther c cpu (record { start = 0; len = slot_bytes c })
+      (record { start = slot_bytes c; len = slot_bytes c }) member
+  pub window : target.window ≡ window_of member (record { start = 0; len = slot_bytes c })
+      (record { start = slot_bytes c; len = slot_bytes c })
   pub gated : IsGatedBy family target
   pub stays : target.stay ≡ false
 
 -- and where the slots are the least ones, the whole flash
 pub record IsSmallTarget (c : Content) (target : Target) : Type 0 where
-  pub small : slot_of c ≤ 4096
+  pub small : slot_bytes c ≤ 4096
   pub whole : IsWholeFlash c target
 
 -- a flash without a table, by the family

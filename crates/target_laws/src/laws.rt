@@ -25,7 +25,7 @@ ghost use Rattle.target_laws.specs.HomeRules.{IsHomeTarget, IsInBootPair, IsInKe
 ghost use Rattle.target_laws.specs.Loads.{Accepts, IsExecutable};
 ghost use Rattle.target_laws.specs.Pairs.{HasNoSecond, IsPart};
 ghost use Rattle.target_laws.specs.Taking.{IsLower, TakesFirst, TakesSecond};
-ghost use Rattle.target_laws.specs.TargetRules.{IsSlotTarget, IsTarget, flash_window, slot_of};
+ghost use Rattle.target_laws.specs.TargetRules.{IsSlotTarget, IsTarget, flash_window, slot_bytes};
 
 /// A partition accepts a family by its bit or among its extra families, and a version is lower by
 /// major, then minor. A normal boot would take A or B of a unit by what their windows hold.
@@ -63,9 +63,9 @@ pub fn homes_are_members_of_boot_pairs()
     ensures table { (c : Content) (w : Window) (cpu : Cpu) (found : Found)
         → table_in c ≡ Some found → Home c w cpu ↔ IsInBootPair found.table cpu w }
     ensures slots { (c : Content) (w : Window) (cpu : Cpu) → table_in c ≡ None
-        → Home c w cpu ↔ ((4096 < slot_of c)
-        × ((w ≡ record { start = 0; len = slot_of c })
-        ⊎ (w ≡ record { start = slot_of c; len = slot_of c }))) }
+        → Home c w cpu ↔ ((4096 < slot_bytes c)
+        × ((w ≡ record { start = 0; len = slot_bytes c })
+        ⊎ (w ≡ record { start = slot_bytes c; len = slot_bytes c }))) }
 {}
 
 /// The target of a family by a content's own table is a home exactly where it is a member of the
