@@ -15,24 +15,24 @@ use Rattle.image_check.specs.declared.why.EntryFault.{EntryFault}
 use Rattle.image_check.specs.declared.why.EntryFault.TheVariants.{Table, InBlock, Pc}
 use Rattle.image_check.specs.declared.entry.Source.{Source}
 use Rattle.image_check.specs.Entry.{code_address, entry_of, from_table, from_words, is_in_block, is_runnable, is_shared, is_within, judged_source, judged_sources, source_of}
-use Rattle.image_check.specs.Entering.{IsEntry, IsEntryFault, IsIn, IsRunnable, IsSource, IsTabled, MeetsBlock, table_address}
+use Rattle.image_check.specs.Entering.{IsAddressIn, IsEntry, IsEntryFault, IsRunnable, IsSource, IsTabled, MeetsBlock, table_address}
 
 -- a test of a range
-within-is : (address at size : ℕ) → is_within address at size ≡ true → IsIn address at size
+within-is : (address at size : ℕ) → is_within address at size ≡ true → IsAddressIn address at size
 within-is address at size h = (grind (arith, nat_tests), grind (arith, nat_tests))
 
-is-within : (address at size : ℕ) → IsIn address at size → is_within address at size ≡ true
+is-within : (address at size : ℕ) → IsAddressIn address at size → is_within address at size ≡ true
 is-within address at size is = grind (arith, nat_tests)
 
 -- two ranges that share an address
 shared-is : (at size other other_size : ℕ) → 1 ≤ size → 1 ≤ other_size → is_shared at size other other_size ≡ true
-    → (address : ℕ) × IsIn address at size × IsIn address other other_size
+    → (address : ℕ) × IsAddressIn address at size × IsAddressIn address other other_size
 shared-is at size other other_size some more h = elim (cases_lt at other) [
   | inl below ↦ (other, (omega (arith, below), grind (arith, nat_tests)), (omega arith, omega (arith, more)))
   | inr above ↦ (at, (omega arith, omega (arith, some)), (omega (arith, above), grind (arith, nat_tests)))
 ]
 
-is-shared : (at size other other_size address : ℕ) → IsIn address at size → IsIn address other other_size
+is-shared : (at size other other_size address : ℕ) → IsAddressIn address at size → IsAddressIn address other other_size
     → is_shared at size other other_size ≡ true
 is-shared at size other other_size address one two = grind (arith, nat_tests)
 
@@ -50,14 +50,15 @@ or-right false b h = h
 
 table-shares : (base : ℕ) (b : BlockView) (table : Option ℕ)
     → option_map_or (λ t. is_shared t 8 (base + b.at) (block_size b)) table false ≡ true
-    → (t : ℕ) × (address : ℕ) × (table ≡ Some t) × IsIn address t 8 × IsIn address (base + b.at) (block_size b)
+    → (t : ℕ) × (address : ℕ) × (table ≡ Some t) × IsAddressIn address t 8
+    × IsAddressIn address (base + b.at) (block_size b)
 table-shares base b None h = cc
 table-shares base b (Some t) h =
     let found = shared-is t 8 (base + b.at) (block_size b) (omega arith) (omega arith) h in
     (t, found.0, refl, found.1, found.2)
 
-shares-table : (base : ℕ) (b : BlockView) (table : Option ℕ) (t address : ℕ) → table ≡ Some t → IsIn address t 8
-    → IsIn address (base + b.at) (block_size b) → option_map_or
+shares-table : (base : ℕ) (b : BlockView) (table : Option ℕ) (t address : ℕ) → table ≡ Some t → IsAddressIn address t 8
+    → IsAddressIn address (base + b.at) (block_size b) → option_map_or
     (λ t. is_shared t 8 (base + b.at) (block_size b)) table false ≡ true
 shares-table base b table t address is one two =
     ap (λ (o : Option ℕ). option_map_or (λ t. is_shared t 8 (base + b.at) (block_size b)) o false) is

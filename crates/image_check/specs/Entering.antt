@@ -16,8 +16,8 @@ use Rattle.image_check.specs.declared.entry.Source.{Source}
 use Rattle.image_check.specs.Entry.{code_address}
 
 -- an address in a range
-abbrev pub IsIn : ℕ → ℕ → ℕ → Type 0
-IsIn address at size = (at ≤ address) × (address < at + size)
+abbrev pub IsAddressIn : ℕ → ℕ → ℕ → Type 0
+IsAddressIn address at size = (at ≤ address) × (address < at + size)
 
 -- SP and PC are the two words at the table's address, SP first, and the limit is 0
 pub record IsTabled (base : ℕ) (bytes : List ℕ) (loads : List Load) (table : ℕ)
@@ -54,15 +54,15 @@ pub record LacksTable (base : ℕ) (bytes : List ℕ) (cpu : Cpu) (def : Def)
 -- the vector table shares a byte with the definition's block, or the first code address lies in it
 abbrev pub MeetsBlock : ℕ → BlockView → Source → Type 0
 MeetsBlock base b source =
-    ((table : ℕ) × (address : ℕ) × (source.table ≡ Some table) × IsIn address table 8
-    × IsIn address (base + b.at) (block_size b))
-    ⊎ IsIn (code_address source.entry.pc) (base + b.at) (block_size b)
+    ((table : ℕ) × (address : ℕ) × (source.table ≡ Some table) × IsAddressIn address table 8
+    × IsAddressIn address (base + b.at) (block_size b))
+    ⊎ IsAddressIn (code_address source.entry.pc) (base + b.at) (block_size b)
 
 -- the first code address lies in the window or in SRAM
 abbrev pub IsRunnable : ℕ → ℕ → Source → Type 0
 IsRunnable base n source =
-    IsIn (code_address source.entry.pc) base n
-    ⊎ IsIn (code_address source.entry.pc) SRAM_START (SRAM_END - SRAM_START)
+    IsAddressIn (code_address source.entry.pc) base n
+    ⊎ IsAddressIn (code_address source.entry.pc) SRAM_START (SRAM_END - SRAM_START)
 
 -- the entry is found and is right
 pub record IsEntry (base : ℕ) (bytes : List ℕ) (cpu : Cpu) (b : BlockView) (def : Def)

@@ -22,8 +22,8 @@ use Rattle.image_pack.specs.Sealing.{parts_in, sealed_text}
 use Rattle.image_pack.proofs.FaultLemmas.{one-fault, no-fault, sealed-by, fault-by}
 use Rattle.tool_work.specs.Seals.{may_list, is_apart, all_apart, are_listed, goes_with, start_error, alone, sealed_error, binary_error, seal_error}
 
-abbrev IsIn : ℕ → Type 0
-IsIn row = (FIRST_ROW ≤ row) × (row ≤ LAST_ROW)
+abbrev MayList : ℕ → Type 0
+MayList row = (FIRST_ROW ≤ row) × (row ≤ LAST_ROW)
 
 -- a test that each element passes, by what it tells
 tested : (p : ℕ → Bool) (P : ℕ → Type 0) → ((x : ℕ) → p x ≡ true → P x) → (xs : List ℕ) → list_all p xs ≡ true
@@ -39,12 +39,12 @@ passes p P tells [] all = refl
 passes p P tells (x ∷ xs) all =
     and_from (p x) (list_all p xs) (tells x (All-head P x xs all)) (passes p P tells xs (All-tail P x xs all))
 
-in-range : (row : ℕ) → may_list row ≡ true → IsIn row
+in-range : (row : ℕ) → may_list row ≡ true → MayList row
 in-range row h =
     let both = and_parts (nat_le FIRST_ROW row) (nat_le row LAST_ROW) h in
     (leb-true FIRST_ROW row both.0, leb-true row LAST_ROW both.1)
 
-range-in : (row : ℕ) → IsIn row → may_list row ≡ true
+range-in : (row : ℕ) → MayList row → may_list row ≡ true
 range-in row is =
     and_from (nat_le FIRST_ROW row) (nat_le row LAST_ROW) (le-leb FIRST_ROW row is.0) (le-leb row LAST_ROW is.1)
 
@@ -85,14 +85,14 @@ listed-rows rows h =
     let both = and_parts (list_all may_list rows) (all_apart rows) first.1 in
     record {
       few = leb-true (length rows) 32 first.0;
-      in_range = tested may_list IsIn in-range rows both.0;
+      in_range = tested may_list MayList in-range rows both.0;
       apart = pairs-told rows both.1;
     }
 
 rows-listed : (rows : List ℕ) → AreRollbackRows rows → are_listed rows ≡ true
 rows-listed rows are =
     and_from (nat_le (length rows) 32) (list_all may_list rows && all_apart rows) (le-leb (length rows) 32 are.few)
-    (and_from (list_all may_list rows) (all_apart rows) (passes may_list IsIn range-in rows are.in_range)
+    (and_from (list_all may_list rows) (all_apart rows) (passes may_list MayList range-in rows are.in_range)
     (told-pairs rows are.apart))
 
 goes-right : (rollback : Option ℕ) (rows : List ℕ) → goes_with rollback rows ≡ true → IsRightRollback rollback rows
