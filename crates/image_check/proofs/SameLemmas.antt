@@ -15,7 +15,7 @@ use Rattle.block_loop.specs.Loop.{loop_of}
 use Rattle.block_loop.specs.Offsets.{AreLoop, loop_offsets, offsets_of}
 use Rattle.block_loop.specs.declared.fault.LoopFault.{LoopFault}
 use Rattle.arrayvec.specs.ArrayVec.{ArrayVec}
-use Rattle.image_check.specs.Examined.{listed}
+use Rattle.image_check.specs.Examined.{map_answered}
 use Rattle.block_loop.proofs.ChainLemmas.{loop_of-loop}
 use Rattle.image_def.specs.declared.started.Started.{Started}
 use Rattle.load_map.specs.declared.load.Load.{Load}
@@ -237,13 +237,13 @@ not-undefined cpu w s h r why is wrong = go r (is ∙ held-image cpu w s h) wron
     go q e f = cc
 
 -- the answer on the map, with the loads as a list
-pub listed-err : (r : Result (ArrayVec Load) Why) (q : Result (List Load) Why) (why : Why) → listed r ≡ q → r ≡ Err why
-    → q ≡ Err why
-listed-err r q why is wrong = sym is ∙ ap listed wrong
+pub answered-err : (r : Result (ArrayVec Load) Why) (q : Result (List Load) Why) (why : Why) → map_answered r ≡ q
+    → r ≡ Err why → q ≡ Err why
+answered-err r q why is wrong = sym is ∙ ap map_answered wrong
 
-pub listed-ok : (r : Result (ArrayVec Load) Why) (q : Result (List Load) Why) (loads : ArrayVec Load) → listed r ≡ q
-    → r ≡ Ok loads → q ≡ Ok loads.items
-listed-ok r q loads is found = sym is ∙ ap listed found
+pub answered-ok : (r : Result (ArrayVec Load) Why) (q : Result (List Load) Why) (loads : ArrayVec Load)
+    → map_answered r ≡ q → r ≡ Ok loads → q ≡ Ok loads.items
+answered-ok r q loads is found = sym is ∙ ap map_answered found
 
 -- each place of an image that is the same in both
 pub same-block : (cpu : Cpu) (one two : List ℕ) (s : Started) → HoldSameImage cpu one two s → (loop : List BlockView)

@@ -46,6 +46,6 @@ confirmed_in window bytes c =
     (Ok (started_of window (record { block = c.block; def = c.def }) c.entry)))
 
 -- an answer of the code, which keeps the loads in an `ArrayVec`, with the loads as a list
-abbrev pub listed : Result (ArrayVec Load) Why → Result (List Load) Why
-listed (Ok loads) = Ok loads.items
-listed (Err why) = Err why
+abbrev pub map_answered : Result (ArrayVec Load) Why → Result (List Load) Why
+map_answered (Ok loads) = Ok loads.items
+map_answered (Err why) = Err why

@@ -10,7 +10,7 @@ ghost use Rattle.image_def.specs.Guarantees.{IsDefinition};
 ghost use Rattle.image_def.specs.Suits.{does_suit, has_image_type, last_suiting};
 ghost use Rattle.load_map.specs.Stored.{AreStoredIn};
 ghost use Rattle.otp_roll.specs.Rows.{AreRollbackRows};
-ghost use Rattle.image_check.specs.Examined.{admitted_in, examined_in, listed, loaded_in};
+ghost use Rattle.image_check.specs.Examined.{admitted_in, examined_in, loaded_in, map_answered};
 ghost use Rattle.image_check.specs.Rules.{definition_answer, entry_answer, items_answer, map_answer, rollback_fault, trial_fault};
 ghost use Rattle.image_check.specs.Image.{defined_in};
 
@@ -56,7 +56,7 @@ struct Seen {
 }
 
 /// The block that stands at this offset.
-pub(crate) fn block_of<V: View>(view: &V, at: u32) -> Block
+pub(crate) fn block_there<V: View>(view: &V, at: u32) -> Block
     requires { (b : BlockView) × (block_at (V.bytes view.now) at ≡ Some b) }
     ensures { block_at (V.bytes view.now) at ≡ Some result }
 {
@@ -98,7 +98,7 @@ fn see_all<V: View>(view: &V, found: &BlockLoop, cpu: Cpu) -> Seen
         suiting: None,
     };
     for i in 0..found.count() {
-        seen = see(seen, block_of(view, found.at(i)), cpu);
+        seen = see(seen, block_there(view, found.at(i)), cpu);
     }
     seen
 }
@@ -186,7 +186,7 @@ fn admit<B: Board>(board: &B, trial_ok: bool, def: &Def) -> Result<(), Why>
 /// What the image's load map loads in a window of `len` bytes; nothing without one.
 pub fn loads_of(addressing: Addressing, len: u32, block: &Block, def: &Def) -> Result<Loads, Why>
     requires sound { IsDefinition block.now def.now }
-    ensures exact { listed result ≡ map_answer addressing len block.now def.now }
+    ensures exact { map_answered result ≡ map_answer addressing len block.now def.now }
     ensures stored { IfOk result (λ loads. AreStoredIn len loads.items) }
 {
     let item = match def.map_item {

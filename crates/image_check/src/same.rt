@@ -8,7 +8,7 @@ ghost use Rattle.load_map.specs.Stored.{AreStoredIn, IsStoredIn};
 ghost use Rattle.image_check.specs.SameImage.{AgreeFrom, AgreeOnBlocks, AgreeOnLoad, AgreeOnLoads, AgreeOnStorage, Holds, HoldSameImage};
 
 use crate::addressing::Addressing;
-use crate::examining::{block_of, defined_in, loads_of};
+use crate::examining::{block_there, defined_in, loads_of};
 use block_codec::Def;
 use block_loop::{BlockLoop, walk};
 use image_def::Started;
@@ -71,7 +71,7 @@ fn same_blocks<V: View, W: View>(one: &V, two: &W, found: &BlockLoop) -> bool
         → (result ≡ true) ↔ AgreeOnBlocks (V.bytes one.now) (W.bytes two.now) loop }
 {
     for i in 0..found.count() {
-        let block = block_of(one, found.at(i));
+        let block = block_there(one, found.at(i));
         if !same_range(one, two, block.at(), block.size()) {
             return false;
         }

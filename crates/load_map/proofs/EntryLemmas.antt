@@ -14,7 +14,7 @@ use Rattle.block_codec.specs.declared.items.Item.{Item}
 use Rattle.block_codec.specs.declared.kinds.TheConstants.{LOAD_MAP}
 use Rattle.load_map.specs.Loads.{IsMapAt, entry_at, entry_count, entries_from}
 use Rattle.arrayvec.specs.ArrayVec.{ArrayVec}
-use Rattle.load_map.specs.Reading.{load_of, load_fault, entry_fault, loads_or_fault, listed}
+use Rattle.load_map.specs.Reading.{load_of, load_fault, entry_fault, loads_or_fault, loads_answered}
 use Rattle.load_map.specs.Stored.{AreStoredIn}
 use Rattle.load_map.proofs.SoundLoadLemmas.{sound-loads}
 use Rattle.load_map.specs.declared.entry.Entry.{Entry}
@@ -91,7 +91,8 @@ module _ (s : Setting) (b : BlockView) (absolute : Bool) (entries : List Entry) 
 
   -- the loads of an answer lie in the window
   pub stored-answer : (answer : Result (ArrayVec Load) MapFault)
-      → listed answer ≡ loads_or_fault s b absolute entries → IfOk answer (λ loads. AreStoredIn s.len loads.items)
+      → loads_answered answer ≡ loads_or_fault s b absolute entries
+      → IfOk answer (λ loads. AreStoredIn s.len loads.items)
   stored-answer (Ok loads) is = (sound-loads s b absolute entries loads.items (sym is)).stored
   stored-answer (Err fault) is = tt
 

@@ -99,6 +99,6 @@ loads_of base in_place n b item =
     (entries_of (block_words b) item)
 
 -- an answer of the code, which keeps the loads in an `ArrayVec`, with the loads as a list
-abbrev pub listed : Result (ArrayVec Load) MapFault → Result (List Load) MapFault
-listed (Ok loads) = Ok loads.items
-listed (Err fault) = Err fault
+abbrev pub loads_answered : Result (ArrayVec Load) MapFault → Result (List Load) MapFault
+loads_answered (Ok loads) = Ok loads.items
+loads_answered (Err fault) = Err fault

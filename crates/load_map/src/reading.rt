@@ -6,7 +6,7 @@ ghost use Rattle.block_codec.specs.Blocks.{block_words};
 ghost use Rattle.block_codec.specs.Items.{items_of};
 ghost use Rattle.block_codec.specs.declared.items.Item.{Item};
 ghost use Rattle.load_map.specs.Loads.{IsMapAt, entries_of, entry_count, is_absolute, is_load_map};
-ghost use Rattle.load_map.specs.Reading.{listed, load_fault, loads_of, loads_or_fault};
+ghost use Rattle.load_map.specs.Reading.{load_fault, loads_answered, loads_of, loads_or_fault};
 ghost use Rattle.load_map.specs.Stored.{AreStoredIn};
 
 use crate::entry::{entry_count, entry_in, is_absolute};
@@ -39,7 +39,7 @@ fn read_entries(setting: &Setting, block: &Block, item: &Item) -> Result<Loads, 
     requires of_block { Contains (items_of block.now.items) item.now }
     requires map { IsTrue (is_load_map item.now) }
     requires few { entry_count item.now ≤ 51 }
-    ensures { listed result ≡ loads_or_fault setting.now block.now (is_absolute item.now)
+    ensures { loads_answered result ≡ loads_or_fault setting.now block.now (is_absolute item.now)
         (entries_of (block_words block.now) item.now) }
 {
     let absolute = is_absolute(item);
@@ -64,7 +64,7 @@ pub fn read_map_at(
 ) -> Result<Loads, MapFault>
     requires map { IsMapAt block.now item }
     ensures exact { (map : Item) → slice_get (items_of block.now.items) item ≡ Some map
-        → listed result ≡ loads_of base in_place window_len block.now map }
+        → loads_answered result ≡ loads_of base in_place window_len block.now map }
     ensures stored { IfOk result (λ loads. AreStoredIn window_len loads.items) }
     ensures few { IfOk result (λ loads. length loads.items ≤ 51) }
 {
@@ -83,7 +83,7 @@ pub fn read_map_at(
 pub fn read_map(block: &Block, item: u32, window_len: u32) -> Result<Loads, MapFault>
     requires map { IsMapAt block.now item }
     ensures exact { (map : Item) → slice_get (items_of block.now.items) item ≡ Some map
-        → listed result ≡ loads_of flash_base false window_len block.now map }
+        → loads_answered result ≡ loads_of flash_base false window_len block.now map }
     ensures stored { IfOk result (λ loads. AreStoredIn window_len loads.items) }
     ensures few { IfOk result (λ loads. length loads.items ≤ 51) }
 {

@@ -1,7 +1,7 @@
 use Rattle.std.proofs.Common.{ap, subst, sym, ◌∙◌}
 use Rattle.image_check.specs.Addressing.{in_flash}
 use Rattle.image_check.specs.Rules.{map_answer}
-use Rattle.image_check.proofs.SameLemmas.{held-loop, listed-err, listed-ok, no-loop-fault, no-map-fault, not-undefined}
+use Rattle.image_check.proofs.SameLemmas.{held-loop, answered-err, answered-ok, no-loop-fault, no-map-fault, not-undefined}
 use Rattle.boot_sweep.specs.Firms.{LoadsFront}
 use Rattle.boot_sweep.proofs.FirmLemmas.{firm-is, is-firm}
 use Rattle.boot_sweep.proofs.firmness.firm.Goals as goal
@@ -24,14 +24,14 @@ unreachable-requires-in-Err-loads_of g c =
     let answered = c.loads_of.ensures.exact ∙ ap (λ n. map_answer in_flash n image.block image.def) c.len.ensures in
     no-map-fault c.args.cpu bytes c.args.started.now c.requires.held image
     (sym c.defined_in.ensures.exact ∙ c.in-Ok-defined_in.is) c.in-Err-loads_of.field-0
-    (listed-err c.loads_of.result _ c.in-Err-loads_of.field-0 answered c.in-Err-loads_of.is)
+    (answered-err c.loads_of.result _ c.in-Err-loads_of.field-0 answered c.in-Err-loads_of.is)
 
 pub returns-then-is_none : goal.returns-then-is_none
 returns-then-is_none g c =
     let bytes = g.V.View.bytes c.args.view.now in
     let image = c.in-Ok-defined_in.image in
     let answered = c.loads_of.ensures.exact ∙ ap (λ n. map_answer in_flash n image.block image.def) c.len.ensures in
-    let loaded = listed-ok c.loads_of.result _ c.in-Ok-loads_of.loads answered c.in-Ok-loads_of.is in (
+    let loaded = answered-ok c.loads_of.result _ c.in-Ok-loads_of.loads answered c.in-Ok-loads_of.is in (
       λ e. cc,
       λ f.
           let parts = is-firm c.args.cpu bytes c.args.started.now image c.in-Ok-loads_of.loads.items
@@ -46,7 +46,7 @@ returns-then-not-loads_front g c =
     let bytes = g.V.View.bytes c.args.view.now in
     let image = c.in-Ok-defined_in.image in
     let answered = c.loads_of.ensures.exact ∙ ap (λ n. map_answer in_flash n image.block image.def) c.len.ensures in
-    let loaded = listed-ok c.loads_of.result _ c.in-Ok-loads_of.loads answered c.in-Ok-loads_of.is in (
+    let loaded = answered-ok c.loads_of.result _ c.in-Ok-loads_of.loads answered c.in-Ok-loads_of.is in (
       λ e. cc,
       λ f.
           let parts = is-firm c.args.cpu bytes c.args.started.now image c.in-Ok-loads_of.loads.items
@@ -61,7 +61,7 @@ returns g c =
     let bytes = g.V.View.bytes c.args.view.now in
     let image = c.in-Ok-defined_in.image in
     let answered = c.loads_of.ensures.exact ∙ ap (λ n. map_answer in_flash n image.block image.def) c.len.ensures in
-    let loaded = listed-ok c.loads_of.result _ c.in-Ok-loads_of.loads answered c.in-Ok-loads_of.is in
+    let loaded = answered-ok c.loads_of.result _ c.in-Ok-loads_of.loads answered c.in-Ok-loads_of.is in
     let is = sym c.defined_in.ensures.exact ∙ c.in-Ok-defined_in.is in
     let loop = c.requires.held.sound.loop in (
       λ e. firm-is c.args.cpu bytes c.args.started.now image c.in-Ok-loads_of.loads.items is loaded c.requires.held

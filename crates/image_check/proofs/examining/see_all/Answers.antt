@@ -5,8 +5,8 @@ use Rattle.block_loop.proofs.PlaceLemmas.{stands-at}
 use Rattle.image_check.proofs.SeenLemmas.{all-blocks, suiting-step, typed-step}
 use Rattle.image_check.proofs.examining.see_all.Goals as goal
 
-pub block_of-requires : goal.block_of-requires
-block_of-requires g c =
+pub block_there-requires : goal.block_there-requires
+block_there-requires g c =
     stands-at (g.V.View.bytes c.args.view.now) c.args.found.now c.loop-i.i c.at.result c.requires.loop_ c.at.ensures
 
 pub loop-i-preserved : goal.loop-i-preserved
@@ -15,12 +15,12 @@ loop-i-preserved g c =
     record {
       typed =
           λ loop is. typed-step w c.args.found.now c.requires.loop_ c.args.cpu c.loop-i.i c.at.result c.at.ensures
-          c.block_of.result
-          c.block_of.ensures loop is _ _ (c.loop-i.invariant.typed loop is) c.see-seen.ensures.typed;
+          c.block_there.result
+          c.block_there.ensures loop is _ _ (c.loop-i.invariant.typed loop is) c.see-seen.ensures.typed;
       suiting =
           λ loop is. suiting-step w c.args.found.now c.requires.loop_ c.args.cpu c.loop-i.i c.at.result c.at.ensures
-          c.block_of.result
-          c.block_of.ensures loop is _ _ (c.loop-i.invariant.suiting loop is) c.see-seen.ensures.suiting;
+          c.block_there.result
+          c.block_there.ensures loop is _ _ (c.loop-i.invariant.suiting loop is) c.see-seen.ensures.suiting;
     }
 
 pub returns-clause-typed : goal.returns-clause-typed
