@@ -12,6 +12,7 @@ ghost use Rattle.run_forms.specs.Forms.{HasForm, content_of};
 
 use boot_rules::{Target, find_table, target};
 use image_plan::{PlanError, plan};
+use part_table::{ARM_S_FAMILY, RISCV_FAMILY};
 use pico_board::{Board, Cpu, Window};
 use run_course::{Answer, one_file, refusal};
 use run_forms::board_of;
@@ -24,8 +25,8 @@ fn executable_family(cpu: Cpu) -> u32
     ensures { result ≡ executable_family cpu }
 {
     match cpu {
-        Cpu::Arm => 0xe48b_ff59,
-        Cpu::Riscv => 0xe48b_ff5a,
+        Cpu::Arm => ARM_S_FAMILY,
+        Cpu::Riscv => RISCV_FAMILY,
     }
 }
 
