@@ -21,7 +21,7 @@ use otp_roll::slot_size;
 use part_table::Partition;
 use pico_board::{Board, BootKind, Cpu, Window};
 use run_course::{Answer, Status};
-use run_forms::board_of;
+use run_forms::{board_of, new_pool};
 use run_texts::{data_line, decision_line, image_line, table_line};
 use sector_pool::SectorPool;
 use slot_choice::boot_units;
@@ -203,13 +203,6 @@ fn data_answer<'a, B: Board>(
         text,
         files: Vec::new(alloc),
     })
-}
-
-/// A pool for the calls of a boot. It fails only where memory is out.
-fn new_pool(alloc: Global) -> Result<SectorPool, AllocError>
-    ensures { IfOk result (λ pool. HasFree pool) }
-{
-    SectorPool::make(alloc, 4)
 }
 
 /// The work of `boot` on a flash file and an OTP file, which have their forms: the decision of a

@@ -18,9 +18,8 @@ use boot_rules::Decision;
 use flash_map::{FlashMap, gather_map};
 use map_picture::{map_svg, map_words};
 use pico_board::{Board, Cpu};
-use reason_work::new_pool;
 use run_course::{Answer, one_file};
-use run_forms::board_of;
+use run_forms::{board_of, new_pool};
 use sector_pool::SectorPool;
 use std::alloc::{AllocError, Global};
 

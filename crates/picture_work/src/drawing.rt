@@ -21,11 +21,11 @@ use boot_rules::decide;
 use boot_sweep::{SweepError, SweepResults, swept};
 use pico_board::{Board, BootKind, Cpu, MemBoard};
 use run_course::{Answer, one_file};
-use run_forms::board_of;
+use run_forms::{board_of, new_pool};
 use sector_pool::SectorPool;
 use std::alloc::{AllocError, Global};
 use sweep_chart::{chart_svg, chart_words};
-use sweep_work::{new_pool, unswept};
+use sweep_work::unswept;
 
 /// What a normal boot decides on the board, in words.
 fn decided_words<B: Board>(

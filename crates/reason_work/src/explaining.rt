@@ -12,7 +12,7 @@ use crate::texts::explain_text;
 use boot_reasons::gather;
 use pico_board::{Board, BootKind, Cpu};
 use run_course::{Answer, Status};
-use run_forms::board_of;
+use run_forms::{board_of, new_pool};
 use sector_pool::SectorPool;
 use std::alloc::{AllocError, Global};
 
@@ -36,13 +36,6 @@ fn explain_answer<'a, B: Board>(
         text,
         files: Vec::new(alloc),
     })
-}
-
-/// A pool for the calls of a boot. It fails only where memory is out.
-pub fn new_pool(alloc: Global) -> Result<SectorPool, AllocError>
-    ensures { IfOk result (λ pool. HasFree pool) }
-{
-    SectorPool::make(alloc, 4)
 }
 
 /// The work of `explain` on a flash file and an OTP file, which have their forms: why a boot of

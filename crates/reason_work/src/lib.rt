@@ -10,6 +10,6 @@ pub mod laws;
 mod partitions;
 mod texts;
 
-pub use explaining::{explain, new_pool};
+pub use explaining::explain;
 pub use partitions::{families_text, id_text, name_text, partition_line};
 pub use texts::{slot_line, slot_text};

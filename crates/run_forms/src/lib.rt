@@ -1,6 +1,6 @@
 //! The forms of input files, the first fault of each, and what files that have their forms give:
-//! a board in memory, the spec of a sealed image, a partition table. And when the work of a command
-//! is right by rules of its own.
+//! a board in memory, the spec of a sealed image, a partition table. Besides, the pool for the
+//! calls of a boot, and when the work of a command is right by rules of its own.
 #![tactic(auto)]
 
 pub mod examples;
@@ -8,6 +8,7 @@ mod forms;
 mod inputs;
 mod json;
 pub mod laws;
+mod pool;
 mod shapes;
 
 pub use forms::{
@@ -19,6 +20,7 @@ pub use inputs::{
     seal_files, sweep_files,
 };
 pub use json::{spec_in, table_in};
+pub use pool::new_pool;
 pub use shapes::{
     binary_and_spec, elf_and_spec, flash_and_otp, flash_otp_image, flash_otp_script,
     flash_otp_script_pattern, image_alone, one_json, script_alone, text_alone, uf2_alone,

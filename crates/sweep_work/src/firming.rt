@@ -13,12 +13,11 @@ ghost use Rattle.sweep_work.specs.FirmWorks.{firm_line, firm_work, image_alone, 
 ghost use Rattle.pico_board.specs.MemBoard.{state_of};
 ghost use Rattle.image_check.specs.Image.{image_at};
 
-use crate::pool::new_pool;
 use boot_sweep::firm;
 use image_check::{Started, Why, check};
 use pico_board::{Board, Cpu, FlashView, MemBoard, Window};
 use run_course::{Answer, refusal, told};
-use run_forms::board_of;
+use run_forms::{board_of, new_pool};
 use run_texts::why_text;
 use std::alloc::{AllocError, Global};
 

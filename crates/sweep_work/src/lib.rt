@@ -5,9 +5,7 @@
 pub mod examples;
 mod firming;
 pub mod laws;
-mod pool;
 mod sweeping;
 
 pub use firming::firm_image;
-pub use pool::new_pool;
 pub use sweeping::{sweep_script, unswept};

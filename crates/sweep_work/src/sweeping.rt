@@ -8,11 +8,10 @@ ghost use Rattle.run_forms.specs.declared.forms.Form.{Form};
 ghost use Rattle.run_forms.specs.Forms.{HasForm, content_of};
 ghost use Rattle.sweep_work.specs.SweepWorks.{sweep_fault, sweep_work};
 
-use crate::pool::new_pool;
 use boot_sweep::{SweepError, swept_text};
 use pico_board::{Cpu, MemBoard};
 use run_course::{Answer, refusal, told};
-use run_forms::board_of;
+use run_forms::{board_of, new_pool};
 use std::alloc::{AllocError, Global};
 
 /// Why a session is not swept.

@@ -16,9 +16,8 @@ use boot_rules::{Decision, decide};
 use flash_maker::generate;
 use pico_board::{BootKind, Cpu, MemBoard};
 use run_course::{Answer, told};
-use run_forms::board_of;
+use run_forms::{board_of, new_pool};
 use run_texts::decision_line;
-use sector_pool::SectorPool;
 use sha2::{Digest, Sha256};
 use std::alloc::{AllocError, Global};
 
@@ -55,7 +54,7 @@ fn made_decision(alloc: Global, board: &MemBoard) -> Result<Decision, AllocError
     requires { IsTrue (state_of board.now).powered }
     ensures { IfOk result (λ d. d ≡ decision_in (state_of board.now).content Arm Normal) }
 {
-    let mut pool = SectorPool::make(alloc, 4)?;
+    let mut pool = new_pool(alloc)?;
     Ok(decide(board, &mut pool, Cpu::Arm, BootKind::Normal))
 }
 

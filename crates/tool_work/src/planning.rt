@@ -15,7 +15,7 @@ use image_plan::{PlanError, plan};
 use part_table::{ARM_S_FAMILY, RISCV_FAMILY};
 use pico_board::{Board, Cpu, Window};
 use run_course::{Answer, one_file, refusal};
-use run_forms::board_of;
+use run_forms::{board_of, new_pool};
 use run_texts::place_text;
 use sector_pool::SectorPool;
 use std::alloc::{AllocError, Global};
@@ -90,7 +90,7 @@ fn plan_answer<'a, B: Board>(
     ensures { IfOk result (λ answer. outcome_from answer
         ≡ worked (plan_work (B.state board.now).content cpu name.now out.entry.now image.now)) }
 {
-    let mut pool = SectorPool::make(alloc, 4)?;
+    let mut pool = new_pool(alloc)?;
     match plan_target(board, &mut pool, cpu) {
         Some(target) => window_answer(alloc, target.window, name, out, image),
         None => refusal(alloc, name, "no-target"),
