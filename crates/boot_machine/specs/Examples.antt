@@ -62,8 +62,8 @@ abbrev pub slot_two : Bool → Target
 slot_two stay = record { window = window_at 0x20000 0x1e000; gated = true; stay = stay }
 
 -- a block of these flags, address, number, count and family
-abbrev pub block_of : ℕ → ℕ → ℕ → ℕ → ℕ → Uf2
-block_of flags address number count family = record {
+abbrev pub uf2_block : ℕ → ℕ → ℕ → ℕ → ℕ → Uf2
+uf2_block flags address number count family = record {
   flags = flags;
   address = address;
   number = number;
@@ -74,7 +74,7 @@ block_of flags address number count family = record {
 
 -- the first of two blocks of rp2350-arm-s, and the second
 abbrev pub arm_block : ℕ → ℕ → Uf2
-arm_block address number = block_of 0x2000 address number 2 0xe48bff59
+arm_block address number = uf2_block 0x2000 address number 2 0xe48bff59
 
 -- a download into that target that has taken the first one
 abbrev pub begun_download : Placing

@@ -5,7 +5,7 @@ ghost use Rattle.std.specs.Prelude.{◌≡◌, ◌++◌, List, None, Some, [], �
 ghost use Rattle.boot_lines.specs.Examples.{ram_image};
 ghost use Rattle.boot_machine.specs.Machines.{FromRam, Host, InBootsel, Off, Program, Running};
 ghost use Rattle.boot_machine.specs.Moves.{effect};
-ghost use Rattle.boot_machine.specs.Examples.{begun_download, block_of, busy, erased, guarded, guarded_busy, idle, machine_at, no_command, with_image};
+ghost use Rattle.boot_machine.specs.Examples.{begun_download, busy, erased, guarded, guarded_busy, idle, machine_at, no_command, uf2_block, with_image};
 ghost use Rattle.boot_writes.specs.Examples.{table_and_bare};
 ghost use Rattle.boot_machine.specs.Runs.{host_writes, place_writes};
 ghost use Rattle.boot_machine.specs.Serving.{info_status, info_words, served, serves, line_only, with_ram};
@@ -175,7 +175,7 @@ pub fn writes_to_the_sram()
     ensures block { (w : RamWrite) → host_writes erased Arm idle (w ∷ [])
         (Happening.Uf2 (replicate 512 0)) ≡ w ∷ [] }
     ensures download { (w : RamWrite) → host_writes erased Arm idle (w ∷ [])
-        (Happening.Uf2 (block_bytes (block_of 0x2000 0x10000000 0 1 0xe48bff58))) ≡ [] }
+        (Happening.Uf2 (block_bytes (uf2_block 0x2000 0x10000000 0 1 0xe48bff58))) ≡ [] }
     ensures off { (w : RamWrite) (event : Happening) → place_writes erased Arm Off (w ∷ []) event
         ≡ [] }
     ensures running { (w : RamWrite) (program : Program) (event : Happening)

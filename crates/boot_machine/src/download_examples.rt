@@ -3,7 +3,7 @@
 
 ghost use Rattle.std.specs.Prelude.{◌≡◌, Err, None, Ok, Some, [], ◌∷◌, codes, false, replicate, true};
 ghost use Rattle.boot_machine.specs.Machines.{InBootsel};
-ghost use Rattle.boot_machine.specs.Examples.{arm_block, begun_download, block_of, busy, guarded_busy, host_with, idle, slot_one, slot_two, target_at};
+ghost use Rattle.boot_machine.specs.Examples.{arm_block, begun_download, busy, guarded_busy, host_with, idle, slot_one, slot_two, target_at, uf2_block};
 ghost use Rattle.boot_machine.specs.Serving.{block_served, done_boot, is_like, ruling_on, served, line_only};
 ghost use Rattle.boot_machine.specs.Standing.{IsDoneIn};
 ghost use Rattle.boot_rules.specs.Examples.{found_in};
@@ -27,13 +27,13 @@ pub fn rulings_on_blocks()
     ensures again { ruling_on 262144 None None (Some begun_download) (arm_block 0x10000000 0)
         ≡ Answered (Ok Again) }
     ensures another_count { ruling_on 262144 None (Some slot_one) (Some begun_download)
-        (block_of 0x2000 0x10000000 1 3 0xe48bff59) ≡ Begins slot_one }
+        (uf2_block 0x2000 0x10000000 1 3 0xe48bff59) ≡ Begins slot_one }
     ensures another_family { ruling_on 262144 None (Some slot_one) (Some begun_download)
-        (block_of 0x2000 0x10000000 1 2 0xe48bff5a) ≡ Begins slot_one }
+        (uf2_block 0x2000 0x10000000 1 2 0xe48bff5a) ≡ Begins slot_one }
     ensures no_target { ruling_on 262144 None None None (arm_block 0x10000000 0)
         ≡ Answered (Err NoTarget) }
     ensures none_for_another { ruling_on 262144 None None (Some begun_download)
-        (block_of 0x2000 0x10000000 1 3 0xe48bff59) ≡ Answered (Err NoTarget) }
+        (uf2_block 0x2000 0x10000000 1 3 0xe48bff59) ≡ Answered (Err NoTarget) }
     ensures last_page { ruling_on 262144 None (Some (slot_two false)) None
         (arm_block 0x1001df00 0) ≡ Begins (slot_two false) }
     ensures outside { ruling_on 262144 None (Some (slot_two false)) None (arm_block 0x1001e000 0)
@@ -52,9 +52,9 @@ pub fn rulings_on_blocks()
 /// permitted comes.
 pub fn the_first_ruling_comes()
     ensures skipped_again { ruling_on 262144 None None (Some begun_download)
-        (block_of 0x2001 0x10000000 0 2 0xe48bff59) ≡ Answered (Ok Skipped) }
+        (uf2_block 0x2001 0x10000000 0 2 0xe48bff59) ≡ Answered (Ok Skipped) }
     ensures skipped_targetless { ruling_on 262144 None None None
-        (block_of 0 0x10000000 0 2 0xe48bff59) ≡ Answered (Ok Skipped) }
+        (uf2_block 0 0x10000000 0 2 0xe48bff59) ≡ Answered (Ok Skipped) }
     ensures again_outside { ruling_on 262144 None None (Some begun_download)
         (arm_block 0x1001e000 0) ≡ Answered (Ok Again) }
     ensures targetless_outside { ruling_on 262144 None None None (arm_block 0x0fffff00 0)
@@ -86,17 +86,17 @@ pub fn what_a_block_leaves()
           text = codes "uf2 1 done stay";
           boot = None;
         } }
-    ensures anew { block_served guarded_busy (block_of 0x2000 0x10000100 2 3 0xe48bff58)
+    ensures anew { block_served guarded_busy (uf2_block 0x2000 0x10000100 2 3 0xe48bff58)
         (Begins slot_one) ≡ record {
           steps = Erase 2 ∷ Program 0x21 (replicate 256 0x55) ∷ [];
           place = InBootsel (host_with (Some (found_in 1 guarded_table)) (Some (record {
             target = slot_one;
-            blocks = block_of 0x2000 0x10000100 2 3 0xe48bff58 ∷ [];
+            blocks = uf2_block 0x2000 0x10000100 2 3 0xe48bff58 ∷ [];
           })));
           text = codes "uf2 2 taken";
           boot = None;
         } }
-    ensures data { (block_served idle (block_of 0x2000 0x10000000 0 1 0xe48bff58)
+    ensures data { (block_served idle (uf2_block 0x2000 0x10000000 0 1 0xe48bff58)
         (Begins slot_one)).boot ≡ Some Normal }
     ensures refused { block_served busy (arm_block 0x10000000 0) (Answered (Err Outside))
         ≡ line_only busy (codes "uf2 refused outside") }
@@ -126,9 +126,9 @@ pub fn blocks_of_a_download()
     ensures none { (b : Uf2) → is_like [] b ≡ false }
     ensures same { is_like (arm_block 0x10000000 0 ∷ []) (arm_block 0x10000100 1) ≡ true }
     ensures another_count { is_like (arm_block 0x10000000 0 ∷ [])
-        (block_of 0x2000 0x10000000 1 3 0xe48bff59) ≡ false }
+        (uf2_block 0x2000 0x10000000 1 3 0xe48bff59) ≡ false }
     ensures another_family { is_like (arm_block 0x10000000 0 ∷ [])
-        (block_of 0x2000 0x10000000 1 2 0xe48bff5a) ≡ false }
+        (uf2_block 0x2000 0x10000000 1 2 0xe48bff5a) ≡ false }
 {}
 
 /// The target of a done download starts within the greatest flash.

@@ -3,7 +3,7 @@
 ghost use Rattle.std.specs.Prelude.{◌≡◌, ◌++◌, List, None, Some, [], ◌∷◌, codes, false, replicate, true, ℕ};
 ghost use Rattle.boot_lines.specs.Examples.{ram_image};
 ghost use Rattle.boot_machine.specs.Boots.{decided_place, decided_steps, entered};
-ghost use Rattle.boot_machine.specs.Examples.{arm_block, armed_with, asks_target, block_of, busy, erase_both, erased, fresh_host, idle, image_bytes, image_in_a, loaded_host, lost_with, machine_at, pair_host, slot_two};
+ghost use Rattle.boot_machine.specs.Examples.{arm_block, armed_with, asks_target, busy, erase_both, erased, fresh_host, idle, image_bytes, image_in_a, loaded_host, lost_with, machine_at, pair_host, slot_two, uf2_block};
 ghost use Rattle.boot_writes.specs.Examples.{plain_sector, running_trial, table_and_bare, whole_flash_of};
 ghost use Rattle.boot_writes.specs.Crashes.{settled_choice};
 ghost use Rattle.boot_machine.specs.Machines.{FromFlash, FromRam, InBootsel, Machine, Off, Program as AnyProgram, Running};
@@ -98,12 +98,12 @@ pub fn blocks_that_begin_a_download()
     ensures first { BeginsDownload 262144 idle 0xe48bff59 (block_bytes (arm_block 0x10000000 0))
         (arm_block 0x10000000 0) }
     ensures another_count { BeginsDownload 262144 busy 0xe48bff59
-        (block_bytes (block_of 0x2000 0x10000000 0 3 0xe48bff59))
-        (block_of 0x2000 0x10000000 0 3 0xe48bff59) }
+        (block_bytes (uf2_block 0x2000 0x10000000 0 3 0xe48bff59))
+        (uf2_block 0x2000 0x10000000 0 3 0xe48bff59) }
     ensures next { (bytes : List ℕ)
         → BeginsDownload 262144 busy 0xe48bff59 bytes (arm_block 0x10000100 1) → ⊥ }
     ensures skipped { (bytes : List ℕ)
-        → BeginsDownload 262144 idle 0xe48bff59 bytes (block_of 0x2001 0x10000000 0 2 0xe48bff59)
+        → BeginsDownload 262144 idle 0xe48bff59 bytes (uf2_block 0x2001 0x10000000 0 2 0xe48bff59)
         → ⊥ }
     ensures another_family { (bytes : List ℕ)
         → BeginsDownload 262144 idle 0xe48bff5a bytes (arm_block 0x10000000 0) → ⊥ }
@@ -164,7 +164,7 @@ pub fn power_that_comes_back()
 /// A download that is done boots on what it has left: here it has erased the image.
 pub fn a_boot_after_a_download()
     ensures event { effect (machine_at (whole_flash_of (plain_sector 0)) (InBootsel idle))
-        (Happening.Uf2 (block_bytes (block_of 0x2000 0x10000000 0 1 0xe48bff58))) ≡ record {
+        (Happening.Uf2 (block_bytes (uf2_block 0x2000 0x10000000 0 1 0xe48bff58))) ≡ record {
           steps = Erase 0 ∷ Program 0 (replicate 256 0x55) ∷ [];
           place = InBootsel fresh_host;
           text = codes "uf2 0 done boot bootsel no-image";
