@@ -9,6 +9,7 @@ use Rattle.pico_board.specs.declared.boot.BootKind.{BootKind}
 use Rattle.pico_board.specs.declared.boot.BootKind.TheVariants.{Normal, Update}
 use Rattle.pico_board.specs.Content.{Content, flash_base}
 use Rattle.pico_board.specs.Steps.{after_all}
+use Rattle.otp_roll.specs.declared.flags.TheConstants.{BOOT_FLAGS}
 use Rattle.otp_roll.specs.Flags.{slot_size}
 use Rattle.part_table.specs.declared.Table.{Table}
 use Rattle.part_table.specs.declared.Target.{Target}
@@ -77,7 +78,7 @@ abbrev pub device_of : Content → Cpu → Device
 device_of c cpu = record {
   flash_len = length c.flash;
   cpu = cpu;
-  flags = slice_index c.otp 0x048;
+  flags = slice_index c.otp BOOT_FLAGS;
   slot = slot_size c.otp (length c.flash);
 }
 
