@@ -13,7 +13,7 @@ use Rattle.boot_rules.specs.Tables.{table_in}
 use Rattle.boot_rules.specs.declared.tables.Found.{Found}
 use Rattle.boot_sweep.specs.declared.results.CutResult.TheVariants.{Chance}
 use Rattle.boot_sweep.specs.Firms.{Firm, HasOwnDigests, Stray}
-use Rattle.boot_sweep.specs.Refusals.{refusal}
+use Rattle.boot_sweep.specs.Refusals.{sweep_refusal}
 use Rattle.boot_session.specs.Slots.{IsSlot}
 use Rattle.boot_sweep.specs.Sweeps.{Line, cut_in, cut_of, sweep_lines}
 use Rattle.boot_sweep.proofs.ChanceLemmas.{line-cut, line-luck, slot-inside}
@@ -41,7 +41,7 @@ some-before c steps w (suc n) unfinished = omega arith
 
 pub no-chance-before : (c : Content) (cpu : Cpu) (pattern : List ℕ) (steps : List Step) (line : Line) (w : Window)
     (s : Started) (found : Found) → IsContent c → All (λ b. b < 256) pattern → table_in c ≡ Some found
-    → refusal c cpu steps ≡ None → IsSlot c cpu steps w → Firm (after_all c steps) w cpu s
+    → sweep_refusal c cpu steps ≡ None → IsSlot c cpu steps w → Firm (after_all c steps) w cpu s
     → HasOwnDigests (after_all c steps) (cut_of c pattern steps line) w cpu s
     → Contains (sweep_lines c cpu pattern steps) line → line.within ≡ false → line.result ≢ Chance
 no-chance-before c cpu pattern steps line w s found right small table none slot firm own has before chance =

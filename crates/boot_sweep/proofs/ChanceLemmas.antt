@@ -17,7 +17,7 @@ use Rattle.boot_rules.proofs.DecisionLemmas.{decision-chosen}
 use Rattle.boot_writes.specs.Luck.{Lucky}
 use Rattle.boot_sweep.specs.declared.results.CutResult.TheVariants.{Chance}
 use Rattle.boot_sweep.specs.Comparing.{result_of}
-use Rattle.boot_sweep.specs.Refusals.{refusal}
+use Rattle.boot_sweep.specs.Refusals.{sweep_refusal}
 use Rattle.boot_sweep.specs.Results.{IsCutResult}
 use Rattle.boot_session.specs.Slots.{IsSlot}
 use Rattle.boot_sweep.specs.Sweeps.{Line, cut_of}
@@ -102,7 +102,7 @@ slot-inside c cpu steps w right slot =
     let is = placed c w cpu right slot.home in let inside = is.inside in omega (arith, inside)
 
 pub line-luck : (c : Content) (cpu : Cpu) (pattern : List ℕ) (steps : List Step) (line : Line) (w : Window)
-    → IsContent c → All (λ b. b < 256) pattern → refusal c cpu steps ≡ None → IsSlot c cpu steps w
+    → IsContent c → All (λ b. b < 256) pattern → sweep_refusal c cpu steps ≡ None → IsSlot c cpu steps w
     → slice_get steps line.number ≡ Some line.step
     → line.result ≡ result_of c (after_all c steps) (cut_of c pattern steps line) cpu → line.result ≡ Chance
     → Unfinished c steps w (cut_of c pattern steps line)

@@ -17,7 +17,7 @@ use Rattle.pico_board.proofs.SettledCutLemmas.{cut_before_final, cut_elsewhere}
 use Rattle.boot_sweep.specs.declared.results.CutResult.{CutResult}
 use Rattle.boot_sweep.specs.declared.results.CutResult.TheVariants.{Former, Finished, Chance}
 use Rattle.boot_sweep.specs.Comparing.{result_of}
-use Rattle.boot_sweep.specs.Refusals.{refusal}
+use Rattle.boot_sweep.specs.Refusals.{sweep_refusal}
 use Rattle.boot_session.specs.Slots.{IsSlot, outside_from, session_slot}
 use Rattle.boot_sweep.specs.Sweeps.{Line, cut_in, cut_of, is_chance, is_chance_result, line_of, lines_from, sweep_lines}
 use Rattle.boot_sweep.proofs.ChanceLemmas.{line-cut, line-luck, slot-inside}
@@ -173,7 +173,7 @@ chance-is Finished e = cc
 chance-is Chance e = refl
 
 module _ (c : Content) (cpu : Cpu) (pattern : List ℕ) (steps : List Step) (w : Window) (right : IsContent c)
-    (small : All (λ b. b < 256) pattern) (none : refusal c cpu steps ≡ None) (slot : IsSlot c cpu steps w)
+    (small : All (λ b. b < 256) pattern) (none : sweep_refusal c cpu steps ≡ None) (slot : IsSlot c cpu steps w)
     (s : ℕ) (elsewhere last : List Step) (g : IsGated steps w s elsewhere last) where
   inside : w.start + w.len ≤ length c.flash
   inside = slot-inside c cpu steps w right slot
@@ -245,7 +245,7 @@ cons-none : (x : Step) (xs : List Step) → (x ∷ xs) ≡ [] → ⊥
 cons-none x xs e = cc
 
 pub few-chances : (c : Content) (cpu : Cpu) (pattern : List ℕ) (steps : List Step) → IsContent c
-    → All (λ b. b < 256) pattern → refusal c cpu steps ≡ None
+    → All (λ b. b < 256) pattern → sweep_refusal c cpu steps ≡ None
     → count_by is_chance (sweep_lines c cpu pattern steps) ≤ 32
 few-chances c cpu pattern [] right small none = omega arith
 few-chances c cpu pattern (step ∷ steps) right small none = go (session_slot c cpu (step ∷ steps)) refl

@@ -19,7 +19,7 @@ use Rattle.boot_sweep.specs.declared.error.SweepError.{SweepError}
 use Rattle.boot_sweep.specs.declared.error.SweepError.TheVariants.{NotConfined, NotGated, TooManySteps, FormerInSlot, TableChanged}
 use Rattle.boot_session.specs.declared.recorder.Recorder.{Recorder}
 use Rattle.boot_session.specs.Recordings.{IsRecorderOf, kept_steps, step_limit}
-use Rattle.boot_sweep.specs.Refusals.{gains_table, refusal, starts_in_slot, ungated, where_}
+use Rattle.boot_sweep.specs.Refusals.{gains_table, starts_in_slot, sweep_refusal, ungated, where_}
 use Rattle.boot_session.specs.Slots.{is_in_slot, outside_from, session_slot}
 
 -- the first of the reasons, from what is found of each
@@ -66,10 +66,10 @@ same-reasons o p u v m n s t g h a b c d e =
 
 -- the reason, from the recorder
 pub reason-of : (r : Recorder MemBoard) (c : Content) (cpu : Cpu) (steps : List Step) → IsRecorderOf r c cpu steps
-    → refusal c cpu steps ≡ first_reason r.outside (ungated r.slot r.steps.items) (nat_lt step_limit r.count)
+    → sweep_refusal c cpu steps ≡ first_reason r.outside (ungated r.slot r.steps.items) (nat_lt step_limit r.count)
     (starts_in_slot r.slot (decision_in c cpu Normal))
     (gains_table (table_in c) (table_in (state_of r.bench).content))
-unfolding refusal
+unfolding sweep_refusal
 reason-of r c cpu steps is =
     let slot = sym is.slot in
     let few = is.few in
@@ -93,7 +93,8 @@ reason-of r c cpu steps is =
 pub reason-by : (r : Recorder MemBoard) (c : Content) (cpu : Cpu) (steps : List Step) (o u : Option ℕ) (m s g : Bool)
     → IsRecorderOf r c cpu steps → r.outside ≡ o → ungated r.slot r.steps.items ≡ u → nat_lt step_limit r.count ≡ m
     → starts_in_slot r.slot (decision_in c cpu Normal) ≡ s
-    → gains_table (table_in c) (table_in (state_of r.bench).content) ≡ g → first_reason o u m s g ≡ refusal c cpu steps
+    → gains_table (table_in c) (table_in (state_of r.bench).content) ≡ g
+    → first_reason o u m s g ≡ sweep_refusal c cpu steps
 reason-by r c cpu steps o u m s g is one two three four five =
     sym (reason-of r c cpu steps is
     ∙ same-reasons r.outside o (ungated r.slot r.steps.items) u (nat_lt step_limit r.count) m

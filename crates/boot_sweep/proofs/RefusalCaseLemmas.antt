@@ -22,7 +22,7 @@ use Rattle.boot_rules.specs.Tables.{table_in}
 use Rattle.boot_rules.proofs.DecisionLemmas.{chosen-decision, decision-chosen}
 use Rattle.boot_sweep.specs.declared.error.SweepError.{SweepError}
 use Rattle.boot_sweep.specs.declared.error.SweepError.TheVariants.{NotConfined, NotGated, TooManySteps, FormerInSlot, Memory, TableChanged}
-use Rattle.boot_sweep.specs.Refusals.{IsFirstOutside, IsFirstUngated, IsGatedSession, IsRefused, KeepsToSlot, LeavesSlot, StartsIn, gains_table, is_start_in, refusal, starts_in_slot, ungated, where_}
+use Rattle.boot_sweep.specs.Refusals.{IsFirstOutside, IsFirstUngated, IsGatedSession, IsRefused, KeepsToSlot, LeavesSlot, StartsIn, gains_table, is_start_in, starts_in_slot, sweep_refusal, ungated, where_}
 use Rattle.boot_session.specs.Recordings.{kept_steps, step_limit}
 use Rattle.boot_session.specs.Slots.{IsSlot, outside_from, session_slot}
 use Rattle.boot_sweep.proofs.GateLemmas.{gated-none, none-gated}
@@ -294,8 +294,8 @@ module _ (c : Content) (cpu : Cpu) (steps : List Step) (right : IsContent c) whe
             refused-many e inside (map-none NotGated (ungated slot (kept_steps steps)) b.0) b.1
       ]
 
-  refused-is : (e : SweepError) → refusal c cpu steps ≡ Some e → IsRefused c cpu steps e
-  unfolding refusal
+  refused-is : (e : SweepError) → sweep_refusal c cpu steps ≡ Some e → IsRefused c cpu steps e
+  unfolding sweep_refusal
   refused-is e is =
       elim (or-some (option_map NotConfined (outside_from 0 slot steps)) gated_part e is) [
         | inl a ↦
@@ -309,10 +309,10 @@ module _ (c : Content) (cpu : Cpu) (steps : List Step) (right : IsContent c) whe
   reasons : (a b : Option ℕ) (x y z : Bool) → outside_from 0 slot steps ≡ a → ungated slot (kept_steps steps) ≡ b
       → nat_lt step_limit (length steps) ≡ x → starts_in_slot slot (decision_in c cpu Normal) ≡ y
       → gains_table (table_in c) (table_in (after_all c steps)) ≡ z
-      → refusal c cpu steps ≡ option_or (option_map NotConfined a)
+      → sweep_refusal c cpu steps ≡ option_or (option_map NotConfined a)
       (option_or (option_map NotGated b) (option_or (where_ x TooManySteps)
       (option_or (where_ y FormerInSlot) (where_ z TableChanged))))
-  unfolding refusal
+  unfolding sweep_refusal
   reasons a b x y z p q r s t =
       ap (λ o. option_or (option_map NotConfined o)
       (option_or (option_map NotGated (ungated slot (kept_steps steps)))
@@ -381,7 +381,7 @@ module _ (c : Content) (cpu : Cpu) (steps : List Step) (right : IsContent c) whe
       go true e = e
       go false e = absurd (other (table-stays c cpu steps w right is.slot is.gated e))
 
-  is-refused : (e : SweepError) → IsRefused c cpu steps e → refusal c cpu steps ≡ Some e
+  is-refused : (e : SweepError) → IsRefused c cpu steps e → sweep_refusal c cpu steps ≡ Some e
   is-refused (NotConfined k) leaving =
       reasons (Some k) (ungated slot (kept_steps steps)) (nat_lt step_limit (length steps))
       (starts_in_slot slot (decision_in c cpu Normal)) (gains_table (table_in c) (table_in (after_all c steps)))
@@ -405,5 +405,5 @@ module _ (c : Content) (cpu : Cpu) (steps : List Step) (right : IsContent c) whe
       reasons None None false false true (inside-none w (gated-keeps w is)) (gated-ungated w is)
       (le-ltb step_limit (length steps) is.few) (starting-not w is.slot no_) (gaining w is other)
 
-  pub refused-exactly : (e : SweepError) → (refusal c cpu steps ≡ Some e) ↔ IsRefused c cpu steps e
+  pub refused-exactly : (e : SweepError) → (sweep_refusal c cpu steps ≡ Some e) ↔ IsRefused c cpu steps e
   refused-exactly e = (refused-is e, is-refused e)

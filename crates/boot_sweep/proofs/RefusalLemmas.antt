@@ -17,7 +17,7 @@ use Rattle.boot_rules.specs.declared.tables.Found.{Found}
 use Rattle.boot_rules.specs.Choosing.{decision_in}
 use Rattle.boot_rules.specs.Tables.{table_in}
 use Rattle.boot_sweep.specs.declared.error.SweepError.{SweepError}
-use Rattle.boot_sweep.specs.Refusals.{gains_table, is_start_in, refusal, starts_in_slot, ungated, where_}
+use Rattle.boot_sweep.specs.Refusals.{gains_table, is_start_in, starts_in_slot, sweep_refusal, ungated, where_}
 use Rattle.boot_session.specs.Recordings.{kept_steps, step_limit}
 use Rattle.boot_session.specs.Slots.{IsSlot, is_confined, outside_from, session_slot}
 use Rattle.boot_session.specs.CutSessions.{StartsElsewhere}
@@ -60,8 +60,9 @@ pub record HasNoReason (c : Content) (cpu : Cpu) (steps : List Step) : Type 0 wh
   pub elsewhere : starts_in_slot (session_slot c cpu steps) (decision_in c cpu Normal) ≡ false
   pub table : gains_table (table_in c) (table_in (after_all c steps)) ≡ false
 
-pub no-reason : (c : Content) (cpu : Cpu) (steps : List Step) → refusal c cpu steps ≡ None → HasNoReason c cpu steps
-unfolding refusal
+pub no-reason : (c : Content) (cpu : Cpu) (steps : List Step) → sweep_refusal c cpu steps ≡ None
+    → HasNoReason c cpu steps
+unfolding sweep_refusal
 no-reason c cpu steps none =
     let a = or-none _ _ none in
     let b = or-none _ _ a.1 in
@@ -116,7 +117,7 @@ table-stays c cpu steps w right slot gated no_ = go (table_in c) (table_in (afte
         let g : true ≡ false = sym f ∙ no_ in cc
 
 pub sweepable : (c : Content) (cpu : Cpu) (steps : List Step) (w : Window) → IsContent c
-    → refusal c cpu steps ≡ None → IsSlot c cpu steps w → IsSweepable c cpu steps w
+    → sweep_refusal c cpu steps ≡ None → IsSlot c cpu steps w → IsSweepable c cpu steps w
 sweepable c cpu steps w right none slot =
     let r = no-reason c cpu steps none in
     let at = slot-is c cpu steps w right slot in

@@ -8,7 +8,7 @@ use Rattle.pico_board.specs.Content.{Content, IsContent}
 use Rattle.pico_board.specs.Steps.{after, after_all}
 use Rattle.boot_sweep.specs.declared.results.CutResult.{CutResult}
 use Rattle.boot_sweep.specs.Comparing.{result_of}
-use Rattle.boot_sweep.specs.Refusals.{refusal}
+use Rattle.boot_sweep.specs.Refusals.{sweep_refusal}
 use Rattle.boot_sweep.specs.Sweeps.{cut_in, line_of, lines_from, sweep_lines, sweep_text}
 use Rattle.boot_sweep.specs.Swept.{HasLineAt, IsLineOf, IsSweep}
 use Rattle.boot_sweep.proofs.ChanceLemmas.{line-luck}
@@ -78,7 +78,7 @@ module _ (c : Content) (cpu : Cpu) (pattern : List ℕ) (steps : List Step) wher
         ),
       )
 
-  pub is-sweep : IsContent c → All (λ b. b < 256) pattern → refusal c cpu steps ≡ None
+  pub is-sweep : IsContent c → All (λ b. b < 256) pattern → sweep_refusal c cpu steps ≡ None
       → IsSweep c cpu pattern steps (sweep_text c cpu pattern steps)
   unfolding sweep_text
   is-sweep right small none = record {

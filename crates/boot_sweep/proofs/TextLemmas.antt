@@ -20,7 +20,7 @@ use Rattle.boot_session.specs.declared.recorder.Recorder.{Recorder}
 use Rattle.boot_sweep.specs.declared.results.CutResult.{CutResult}
 use Rattle.boot_sweep.specs.Comparing.{result_by}
 use Rattle.boot_session.specs.Recordings.{IsRecorderOf, step_limit}
-use Rattle.boot_sweep.specs.Refusals.{refusal}
+use Rattle.boot_sweep.specs.Refusals.{sweep_refusal}
 use Rattle.boot_session.specs.Slots.{outside_from, session_slot}
 use Rattle.boot_session.specs.Scripts.{content_of, script_events, script_session}
 use Rattle.boot_session.specs.Sessions.{session}
@@ -45,7 +45,7 @@ results-whole c z former finished cpu pattern steps one two is =
 some-none : (k : ℕ) → Some k ≡ None → ⊥
 some-none k e = cc
 
-ranges-of : (c : Content) (cpu : Cpu) (steps : List Step) → IsContent c → refusal c cpu steps ≡ None
+ranges-of : (c : Content) (cpu : Cpu) (steps : List Step) → IsContent c → sweep_refusal c cpu steps ≡ None
     → AllByRecursion (IsStepIn (length c.flash)) steps
 ranges-of c cpu [] right none = tt
 ranges-of c cpu (step ∷ steps) right none = go (session_slot c cpu (step ∷ steps)) refl
@@ -62,7 +62,7 @@ ranges-of c cpu (step ∷ steps) right none = go (session_slot c cpu (step ∷ s
 
 -- the recorder of a session that is swept has all of its steps, and each of them is in range
 pub recorded-steps : (r : Recorder MemBoard) (c : Content) (cpu : Cpu) (steps : List Step) → IsContent c
-    → IsRecorderOf r c cpu steps → refusal c cpu steps ≡ None
+    → IsRecorderOf r c cpu steps → sweep_refusal c cpu steps ≡ None
     → (r.steps.items ≡ steps) × All (IsStepIn (length c.flash)) r.steps.items × (length r.steps.items ≤ step_limit)
 recorded-steps r c cpu steps right is none =
     let few = ltb-false step_limit (length steps) (no-reason c cpu steps none).few in
@@ -75,7 +75,8 @@ recorded-steps r c cpu steps right is none =
 
 -- a session of one recorder is refused or not, whichever of its lists is judged
 pub none-too : (r : Recorder MemBoard) (c : Content) (cpu : Cpu) (first steps : List Step)
-    → IsRecorderOf r c cpu first → refusal c cpu first ≡ None → IsRecorderOf r c cpu steps → refusal c cpu steps ≡ None
+    → IsRecorderOf r c cpu first → sweep_refusal c cpu first ≡ None → IsRecorderOf r c cpu steps
+    → sweep_refusal c cpu steps ≡ None
 none-too r c cpu first steps one none is = reason-of r c cpu steps is ∙ (sym (reason-of r c cpu first one) ∙ none)
 
 -- the board after the session, as the lines want it
@@ -92,7 +93,7 @@ ends-long r c cpu steps z same is =
 -- the results of the recorder's steps and of all of them are those of the sweep
 pub results-told : (r : Recorder MemBoard) (c : Content) (cpu : Cpu) (steps : List Step) (z : MemBoard)
     (former finished : Decision) (d : Content) (pattern : List ℕ) (cuts : List StepResults) (end_ : CutResult)
-    → IsContent c → IsRecorderOf r c cpu steps → refusal c cpu steps ≡ None → z ≡ r.bench
+    → IsContent c → IsRecorderOf r c cpu steps → sweep_refusal c cpu steps ≡ None → z ≡ r.bench
     → former ≡ decision_in c cpu Normal → finished ≡ decision_in (state_of r.bench).content cpu Normal
     → cuts ≡ results_from (λ d. result_by former finished cpu d (state_of z).content) pattern c r.steps.items
     → d ≡ after_all c r.steps.items → end_ ≡ result_by former finished cpu d (state_of z).content
@@ -114,7 +115,7 @@ results-told r c cpu steps z former finished d pattern cuts end_ right is none s
 
 -- what the recorder kept and these results are what a sweep finds
 pub is-found : (r : Recorder MemBoard) (c : Content) (cpu : Cpu) (pattern : List ℕ) (steps : List Step)
-    (found : SweepResults) → IsContent c → IsRecorderOf r c cpu steps → refusal c cpu steps ≡ None
+    (found : SweepResults) → IsContent c → IsRecorderOf r c cpu steps → sweep_refusal c cpu steps ≡ None
     → found.steps.items ≡ r.steps.items → HasResults c cpu pattern steps found.cuts.items found.end
     → IsResultsOf c cpu pattern steps found
 is-found r c cpu pattern steps found right is none same results = record {

@@ -139,8 +139,8 @@ abbrev pub where_ : Bool → SweepError → Option SweepError
 where_ holds reason = if holds then Some reason else None
 
 -- why the session is not swept, as a function
-unfoldable pub refusal : Content → Cpu → List Step → Option SweepError
-refusal c cpu steps =
+unfoldable pub sweep_refusal : Content → Cpu → List Step → Option SweepError
+sweep_refusal c cpu steps =
     let slot = session_slot c cpu steps in
     option_or (option_map NotConfined (outside_from 0 slot steps))
     (option_or (option_map NotGated (ungated slot (kept_steps steps)))

@@ -14,7 +14,7 @@ ghost use Rattle.boot_rules.specs.declared.tables.Found.{Found};
 ghost use Rattle.boot_writes.specs.Luck.{Lucky};
 ghost use Rattle.boot_sweep.specs.declared.results.CutResult.TheVariants.{Chance};
 ghost use Rattle.boot_sweep.specs.Firms.{Firm, HasOwnDigests, Stray};
-ghost use Rattle.boot_sweep.specs.Refusals.{refusal};
+ghost use Rattle.boot_sweep.specs.Refusals.{sweep_refusal};
 ghost use Rattle.boot_session.specs.Slots.{IsSlot};
 ghost use Rattle.boot_sweep.specs.Sweeps.{Line, cut_of, sweep_lines};
 
@@ -44,7 +44,7 @@ pub fn no_cut_before_a_step_is_chance()
     ensures { (c : Content) (cpu : Cpu) (pattern : List ℕ) (steps : List Step) (line : Line)
         (w : Window) (s : Started) (found : Found)
         → IsContent c → All (λ b. b < 256) pattern → table_in c ≡ Some found
-        → refusal c cpu steps ≡ None → IsSlot c cpu steps w → Firm (after_all c steps) w cpu s
+        → sweep_refusal c cpu steps ≡ None → IsSlot c cpu steps w → Firm (after_all c steps) w cpu s
         → HasOwnDigests (after_all c steps) (cut_of c pattern steps line) w cpu s
         → Contains (sweep_lines c cpu pattern steps) line → line.within ≡ false
         → line.result ≢ Chance }

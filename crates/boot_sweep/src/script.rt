@@ -12,7 +12,7 @@ ghost use Rattle.boot_rules.specs.Choosing.{decision_in};
 ghost use Rattle.boot_script.specs.Written.{IsKept};
 ghost use Rattle.boot_sweep.specs.declared.error.SweepError.TheVariants.{Memory};
 ghost use Rattle.boot_session.specs.Recordings.{IsRecorderOf};
-ghost use Rattle.boot_sweep.specs.Refusals.{IsRefused, IsSwept, is_start_in, refusal, starts_in_slot};
+ghost use Rattle.boot_sweep.specs.Refusals.{IsRefused, IsSwept, is_start_in, starts_in_slot, sweep_refusal};
 ghost use Rattle.boot_session.specs.Scripts.{IsScript, content_of, script_session};
 ghost use Rattle.boot_session.specs.Standing.{IsUnarmed};
 ghost use Rattle.boot_sweep.specs.StepResults.{HasResults, IsResultsOf};
@@ -74,7 +74,7 @@ fn starts_in_slot(slot: Option<Window>, decision: &Decision) -> bool
 }
 
 /// Why the recorded session is not swept, for a board before it and the decision there.
-fn refusal<B: Board>(
+fn sweep_refusal<B: Board>(
     board: &B,
     recorder: &Recorder<MemBoard>,
     former: &Decision,
@@ -86,7 +86,7 @@ fn refusal<B: Board>(
     requires former { former.now ≡ decision_in (B.state board.now).content cpu Normal }
     ensures { (steps : List Done)
         → IsRecorderOf recorder.now (B.state board.now).content cpu steps
-        → result ≡ refusal (B.state board.now).content cpu steps }
+        → result ≡ sweep_refusal (B.state board.now).content cpu steps }
 {
     if let Some(k) = recorder.outside {
         return Some(SweepError::NotConfined(k));
@@ -122,13 +122,13 @@ fn judged(
     requires free { HasFree pool.old }
     ensures judged { (steps : List Done)
         → IsRecorderOf recorder.now (state_of board).content cpu steps
-        → IsSwept (refusal (state_of board).content cpu steps) result
+        → IsSwept (sweep_refusal (state_of board).content cpu steps) result
         × IfOk result (λ found. HasResults (state_of board).content cpu pattern.now steps
         found.0.items found.1) }
     ensures kept { KeepsOut pool.old pool.new }
 {
     let former = decide(&board, pool, cpu, BootKind::Normal);
-    if let Some(reason) = refusal(&board, recorder, &former, cpu) {
+    if let Some(reason) = sweep_refusal(&board, recorder, &former, cpu) {
         return Err(reason);
     }
     let finished = decide(&recorder.bench, pool, cpu, BootKind::Normal);
@@ -157,7 +157,7 @@ fn all_results(
     requires same { ends.now.board.now ≡ recorder.now.bench }
     requires recorded { (steps : List Done)
         × IsRecorderOf recorder.now (state_of board).content ends.now.cpu steps
-        × (refusal (state_of board).content ends.now.cpu steps ≡ None) }
+        × (sweep_refusal (state_of board).content ends.now.cpu steps ≡ None) }
     requires former { ends.now.former
         ≡ decision_in (state_of board).content ends.now.cpu Normal }
     requires finished { ends.now.finished
@@ -192,7 +192,7 @@ pub fn swept(
     requires script { IsScript script.now }
     requires pattern { IsPattern true pattern.now }
     requires free { HasFree pool.old }
-    ensures swept { IsSwept (refusal (content_of flash.now.items otp.now.items) cpu
+    ensures swept { IsSwept (sweep_refusal (content_of flash.now.items otp.now.items) cpu
         (script_session (content_of flash.now.items otp.now.items) cpu script.now)) result }
     ensures found { IfOk result (IsResultsOf (content_of flash.now.items otp.now.items) cpu
         pattern.now (script_session (content_of flash.now.items otp.now.items) cpu script.now)) }
@@ -228,7 +228,7 @@ pub fn swept_text(
     requires script { IsScript script.now }
     requires pattern { IsPattern true pattern.now }
     requires free { HasFree pool.old }
-    ensures swept { IsSwept (refusal (content_of flash.now.items otp.now.items) cpu
+    ensures swept { IsSwept (sweep_refusal (content_of flash.now.items otp.now.items) cpu
         (script_session (content_of flash.now.items otp.now.items) cpu script.now)) result }
     ensures text { IfOk result (λ t. string_bytes t
         ≡ sweep_text (content_of flash.now.items otp.now.items) cpu pattern.now
@@ -260,7 +260,7 @@ fn push_sweep(
     requires script { IsScript script.now }
     requires pattern { IsPattern true pattern.now }
     requires free { HasFree pool.old }
-    ensures swept { IsSwept (refusal (content_of flash.now.items otp.now.items) cpu
+    ensures swept { IsSwept (sweep_refusal (content_of flash.now.items otp.now.items) cpu
         (script_session (content_of flash.now.items otp.now.items) cpu script.now)) result }
     ensures text { OnOk result (out.new.items ≡ out.old.items
         ++ sweep_text (content_of flash.now.items otp.now.items) cpu pattern.now
@@ -314,7 +314,7 @@ pub fn sweep(
         → IsRefused (content_of flash.now.items otp.now.items) cpu
         (script_session (content_of flash.now.items otp.now.items) cpu script.now) e
         × (out.new.items ≡ out.old.items) }
-    ensures judged { IsSwept (refusal (content_of flash.now.items otp.now.items) cpu
+    ensures judged { IsSwept (sweep_refusal (content_of flash.now.items otp.now.items) cpu
         (script_session (content_of flash.now.items otp.now.items) cpu script.now)) result }
     ensures text { OnOk result (out.new.items ≡ out.old.items
         ++ sweep_text (content_of flash.now.items otp.now.items) cpu pattern.now

@@ -14,7 +14,7 @@ ghost use Rattle.boot_sweep.specs.declared.results.CutResult.{CutResult};
 ghost use Rattle.boot_sweep.specs.declared.results.StepResults.{StepResults};
 ghost use Rattle.boot_sweep.specs.declared.results.CutResult.TheVariants.{Chance};
 ghost use Rattle.boot_sweep.specs.Comparing.{result_of};
-ghost use Rattle.boot_sweep.specs.Refusals.{IsRefused, refusal};
+ghost use Rattle.boot_sweep.specs.Refusals.{IsRefused, sweep_refusal};
 ghost use Rattle.boot_sweep.specs.Results.{IsCutResult};
 ghost use Rattle.boot_session.specs.Slots.{IsSlot};
 ghost use Rattle.boot_sweep.specs.StepResults.{HasCutResults, sweep_results, told_lines};
@@ -24,7 +24,7 @@ ghost use Rattle.boot_sweep.specs.Sweeps.{Line, cut_of, is_chance, sweep_lines, 
 /// A session is refused exactly for the reason that holds of it, and for one at most.
 pub fn refusals_are_judged()
     ensures { (c : Content) (cpu : Cpu) (steps : List Step) (e : SweepError) → IsContent c
-        → (refusal c cpu steps ≡ Some e) ↔ IsRefused c cpu steps e }
+        → (sweep_refusal c cpu steps ≡ Some e) ↔ IsRefused c cpu steps e }
 {}
 
 /// The result of a cut is exactly one: that of the function that compares.
@@ -65,24 +65,24 @@ pub fn chance_is_bad_luck()
     ensures luck { (c : Content) (cpu : Cpu) (pattern : List ℕ) (steps : List Step) (line : Line)
         (w : Window)
         → IsContent c → IsPattern true pattern → All (λ b. b < 256) pattern
-        → refusal c cpu steps ≡ None → IsSlot c cpu steps w
+        → sweep_refusal c cpu steps ≡ None → IsSlot c cpu steps w
         → Contains (sweep_lines c cpu pattern steps) line → line.result ≡ Chance
         → Unfinished c steps w (cut_of c pattern steps line)
         × (Lucky c (after_all c steps) (cut_of c pattern steps line) w cpu → ⊥) }
     ensures few { (c : Content) (cpu : Cpu) (pattern : List ℕ) (steps : List Step)
         → IsContent c → IsPattern true pattern → All (λ b. b < 256) pattern
-        → refusal c cpu steps ≡ None
+        → sweep_refusal c cpu steps ≡ None
         → count_by is_chance (sweep_lines c cpu pattern steps) ≤ 32 }
     ensures programs { (c : Content) (cpu : Cpu) (pattern : List ℕ) (steps : List Step)
         (w : Window) (s : ℕ) (elsewhere last : List Step)
         → IsContent c → IsPattern true pattern → All (λ b. b < 256) pattern
-        → refusal c cpu steps ≡ None → IsSlot c cpu steps w → IsGated steps w s elsewhere last
+        → sweep_refusal c cpu steps ≡ None → IsSlot c cpu steps w → IsGated steps w s elsewhere last
         → count_by is_chance (sweep_lines c cpu pattern steps) ≤ max 1 (2 * length last) }
 {}
 
 /// The text of a sweep says, in the rules' words, what a normal boot makes of each cut.
 pub fn sweeps_are_told()
     ensures { (c : Content) (cpu : Cpu) (pattern : List ℕ) (steps : List Step) → IsContent c
-        → All (λ b. b < 256) pattern → refusal c cpu steps ≡ None
+        → All (λ b. b < 256) pattern → sweep_refusal c cpu steps ≡ None
         → IsSweep c cpu pattern steps (sweep_text c cpu pattern steps) }
 {}

@@ -18,7 +18,7 @@ use Rattle.boot_sweep.specs.declared.results.CutResult.{CutResult}
 use Rattle.boot_sweep.specs.declared.results.StepResults.{StepResults}
 use Rattle.boot_sweep.specs.declared.results.SweepResults.{SweepResults}
 use Rattle.boot_sweep.specs.Comparing.{result_of}
-use Rattle.boot_sweep.specs.Refusals.{IsRefused, refusal, where_}
+use Rattle.boot_sweep.specs.Refusals.{IsRefused, sweep_refusal, where_}
 use Rattle.boot_session.specs.Recordings.{step_limit}
 use Rattle.boot_session.specs.Scripts.{script_session}
 use Rattle.boot_sweep.specs.StepResults.{IsResultsOf, results_from, step_results, sweep_results}
@@ -49,8 +49,9 @@ where-none true e is = cc
 where-none false e is = refl
 
 -- a session that is swept has no more steps than may be swept
-pub few-steps : (c : Content) (cpu : Cpu) (steps : List Step) → refusal c cpu steps ≡ None → length steps ≤ step_limit
-unfolding refusal
+pub few-steps : (c : Content) (cpu : Cpu) (steps : List Step) → sweep_refusal c cpu steps ≡ None
+    → length steps ≤ step_limit
+unfolding sweep_refusal
 few-steps c cpu steps none =
     ltb-false step_limit (length steps) (where-none (nat_lt step_limit (length steps)) TooManySteps
     (or-none _ _ (or-none _ _ (or-none _ _ none).1).1).0)
@@ -115,7 +116,7 @@ module _ (c : Content) (cpu : Cpu) (pattern : List ℕ) (steps : List Step) wher
 
 -- what a sweep finds has no more steps than may be swept, and as many results
 pub swept-few : (c : Content) (cpu : Cpu) (pattern : List ℕ) (steps : List Step) (found : SweepResults)
-    → IsResultsOf c cpu pattern steps found → refusal c cpu steps ≡ None
+    → IsResultsOf c cpu pattern steps found → sweep_refusal c cpu steps ≡ None
     → (length found.steps.items ≤ 262144) × (length found.cuts.items ≤ 262144)
 unfolding step_limit
 swept-few c cpu pattern steps found is none =
@@ -143,29 +144,29 @@ module _ (c : Content) (cpu : Cpu) (script out bytes pattern : List ℕ) where
   by-reason : Option SweepError → Outcome
   by-reason reason = worked (drawn_work script out chart (decision_text (decision_in c cpu Normal)) reason)
 
-  none-told : refusal c cpu steps ≡ None
+  none-told : sweep_refusal c cpu steps ≡ None
       → worked (chart_work c cpu script out bytes pattern) ≡ told-chart chart (decision_in c cpu Normal)
   unfolding told-chart by-reason
   none-told none = ap by-reason none
 
-  some-told : (e : SweepError) → refusal c cpu steps ≡ Some e
+  some-told : (e : SweepError) → sweep_refusal c cpu steps ≡ Some e
       → worked (chart_work c cpu script out bytes pattern) ≡ refused script (sweep_fault e)
   unfolding by-reason
   some-told e some = ap by-reason some
 
   -- nothing refuses the session
-  not-refused : IsContent c → refusal c cpu steps ≡ None → (e : SweepError) → IsRefused c cpu steps e → ⊥
+  not-refused : IsContent c → sweep_refusal c cpu steps ≡ None → (e : SweepError) → IsRefused c cpu steps e → ⊥
   not-refused right none e is =
       let two : Some e ≡ None = sym ((refused-exactly c cpu steps right e).1 is) ∙ none in cc
 
-  none-refused : IsContent c → ((e : SweepError) → IsRefused c cpu steps e → ⊥) → refusal c cpu steps ≡ None
-  none-refused right taken = go (refusal c cpu steps) refl
+  none-refused : IsContent c → ((e : SweepError) → IsRefused c cpu steps e → ⊥) → sweep_refusal c cpu steps ≡ None
+  none-refused right taken = go (sweep_refusal c cpu steps) refl
     where
-      go : (o : Option SweepError) → refusal c cpu steps ≡ o → refusal c cpu steps ≡ None
+      go : (o : Option SweepError) → sweep_refusal c cpu steps ≡ o → sweep_refusal c cpu steps ≡ None
       go None is = is
       go (Some e) is = absurd (taken e ((refused-exactly c cpu steps right e).0 is))
 
-  refused-for : (e : SweepError) → refusal c cpu steps ≡ Some e
+  refused-for : (e : SweepError) → sweep_refusal c cpu steps ≡ Some e
       → IsSweepRefused script c cpu bytes script (sweep_fault e)
   refused-for e some = record {
     reason = e;
@@ -178,9 +179,9 @@ module _ (c : Content) (cpu : Cpu) (script out bytes pattern : List ℕ) where
   chart-right : IsContent c → IsDone (IsSweepRefused script c cpu bytes) (IsChartOf c cpu out bytes pattern)
       (worked (chart_work c cpu script out bytes pattern))
   unfolding told-chart
-  chart-right right = go (refusal c cpu steps) refl
+  chart-right right = go (sweep_refusal c cpu steps) refl
     where
-      go : (o : Option SweepError) → refusal c cpu steps ≡ o
+      go : (o : Option SweepError) → sweep_refusal c cpu steps ≡ o
           → IsDone (IsSweepRefused script c cpu bytes) (IsChartOf c cpu out bytes pattern)
           (worked (chart_work c cpu script out bytes pattern))
       go None none =
@@ -215,9 +216,9 @@ module _ (c : Content) (cpu : Cpu) (script out bytes pattern : List ℕ) where
   chart-refuses : (worked (chart_work c cpu script out bytes pattern)).status ≡ Refused
       → (name : List ℕ) × (fault : List ℕ) × IsSweepRefused script c cpu bytes name fault
   unfolding told-chart
-  chart-refuses h = go (refusal c cpu steps) refl
+  chart-refuses h = go (sweep_refusal c cpu steps) refl
     where
-      go : (o : Option SweepError) → refusal c cpu steps ≡ o
+      go : (o : Option SweepError) → sweep_refusal c cpu steps ≡ o
           → (name : List ℕ) × (fault : List ℕ) × IsSweepRefused script c cpu bytes name fault
       go None none = let e : Done ≡ Refused = sym (ap (λ (o : Outcome). o.status) (none-told none)) ∙ h in cc
       go (Some e) some = (script, sweep_fault e, refused-for e some)

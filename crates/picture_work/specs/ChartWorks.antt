@@ -11,7 +11,7 @@ use Rattle.boot_sweep.specs.declared.results.CutResult.{CutResult}
 use Rattle.boot_sweep.specs.declared.results.CutResult.TheVariants as cut_result
 use Rattle.boot_sweep.specs.declared.results.StepResults.{StepResults}
 use Rattle.boot_sweep.specs.Comparing.{result_of}
-use Rattle.boot_sweep.specs.Refusals.{refusal}
+use Rattle.boot_sweep.specs.Refusals.{sweep_refusal}
 use Rattle.boot_session.specs.Scripts.{script_session}
 use Rattle.boot_sweep.specs.StepResults.{sweep_results}
 use Rattle.run_course.specs.Outcomes.{Work, Answers, Refuses, line, one_file}
@@ -67,7 +67,7 @@ drawn_work script out chart decided None =
 abbrev pub steps_work : Content → Cpu → List ℕ → List ℕ → List ℕ → List Step → Work
 steps_work c cpu script out pattern steps =
     drawn_work script out (chart_of c cpu pattern steps) (decision_text (decision_in c cpu Normal))
-    (refusal c cpu steps)
+    (sweep_refusal c cpu steps)
 
 abbrev pub chart_work : Content → Cpu → List ℕ → List ℕ → List ℕ → List ℕ → Work
 chart_work c cpu script out bytes pattern =

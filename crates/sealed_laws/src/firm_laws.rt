@@ -22,7 +22,7 @@ ghost use Rattle.boot_rules.specs.Tables.{table_in};
 ghost use Rattle.boot_rules.specs.declared.tables.Found.{Found};
 ghost use Rattle.boot_sweep.specs.declared.results.CutResult.TheVariants.{Chance};
 ghost use Rattle.boot_sweep.specs.Firms.{Firm, HasOwnDigests};
-ghost use Rattle.boot_sweep.specs.Refusals.{refusal};
+ghost use Rattle.boot_sweep.specs.Refusals.{sweep_refusal};
 ghost use Rattle.boot_session.specs.Sessions.{session};
 ghost use Rattle.boot_session.specs.Slots.{IsSlot};
 ghost use Rattle.boot_sweep.specs.Sweeps.{Line, cut_of, sweep_lines};
@@ -64,7 +64,7 @@ pub fn no_cut_of_a_sealed_plan_before_a_step_is_chance()
         → IsContent c → All (λ b. b < 256) pattern → table_in c ≡ Some found
         → MeetsRollback c.otp spec → length (sealed_text binary spec) ≤ w.len
         → events (plan_text w.start (sealed_text binary spec)) ≡ Ok es
-        → refusal c spec.cpu (session c spec.cpu es) ≡ None
+        → sweep_refusal c spec.cpu (session c spec.cpu es) ≡ None
         → IsSlot c spec.cpu (session c spec.cpu es) w
         → HasOwnDigests (after_all c (session c spec.cpu es))
         (cut_of c pattern (session c spec.cpu es) line) w spec.cpu (moved_to w sealed.started)

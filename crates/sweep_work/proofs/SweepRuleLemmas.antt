@@ -5,7 +5,7 @@ use Rattle.pico_board.specs.declared.boot.Cpu.{Cpu}
 use Rattle.pico_board.specs.Content.{Content, IsContent}
 use Rattle.pico_board.specs.Cuts.{IsPattern}
 use Rattle.boot_sweep.specs.declared.error.SweepError.{SweepError}
-use Rattle.boot_sweep.specs.Refusals.{IsRefused, refusal}
+use Rattle.boot_sweep.specs.Refusals.{IsRefused, sweep_refusal}
 use Rattle.boot_session.specs.Scripts.{IsScript, script_session}
 use Rattle.boot_sweep.specs.Sweeps.{sweep_text}
 use Rattle.boot_sweep.specs.Swept.{IsSweep}
@@ -48,28 +48,28 @@ module _ (c : Content) (cpu : Cpu) (script bytes pattern : List ℕ) where
   by-reason : Option SweepError → Outcome
   by-reason reason = worked (swept_work script (sweep_text c cpu pattern steps) reason)
 
-  none-told : refusal c cpu steps ≡ None → worked (sweep_work c cpu script bytes pattern) ≡ told-sweep
+  none-told : sweep_refusal c cpu steps ≡ None → worked (sweep_work c cpu script bytes pattern) ≡ told-sweep
   unfolding told-sweep by-reason
   none-told none = ap by-reason none
 
-  some-told : (e : SweepError) → refusal c cpu steps ≡ Some e
+  some-told : (e : SweepError) → sweep_refusal c cpu steps ≡ Some e
       → worked (sweep_work c cpu script bytes pattern) ≡ refused script (sweep_fault e)
   unfolding by-reason
   some-told e some = ap by-reason some
 
   -- nothing refuses the session
-  not-refused : IsContent c → refusal c cpu steps ≡ None → (e : SweepError) → IsRefused c cpu steps e → ⊥
+  not-refused : IsContent c → sweep_refusal c cpu steps ≡ None → (e : SweepError) → IsRefused c cpu steps e → ⊥
   not-refused right none e is =
       let two : Some e ≡ None = sym ((refused-exactly c cpu steps right e).1 is) ∙ none in cc
 
-  none-refused : IsContent c → ((e : SweepError) → IsRefused c cpu steps e → ⊥) → refusal c cpu steps ≡ None
-  none-refused right taken = go (refusal c cpu steps) refl
+  none-refused : IsContent c → ((e : SweepError) → IsRefused c cpu steps e → ⊥) → sweep_refusal c cpu steps ≡ None
+  none-refused right taken = go (sweep_refusal c cpu steps) refl
     where
-      go : (o : Option SweepError) → refusal c cpu steps ≡ o → refusal c cpu steps ≡ None
+      go : (o : Option SweepError) → sweep_refusal c cpu steps ≡ o → sweep_refusal c cpu steps ≡ None
       go None is = is
       go (Some e) is = absurd (taken e ((refused-exactly c cpu steps right e).0 is))
 
-  refused-for : (e : SweepError) → refusal c cpu steps ≡ Some e
+  refused-for : (e : SweepError) → sweep_refusal c cpu steps ≡ Some e
       → IsSweepRefused script c cpu bytes script (sweep_fault e)
   refused-for e some = record {
     reason = e;
@@ -83,9 +83,9 @@ module _ (c : Content) (cpu : Cpu) (script bytes pattern : List ℕ) where
       → IsDone (IsSweepRefused script c cpu bytes) (IsSweepOf c cpu bytes pattern)
       (worked (sweep_work c cpu script bytes pattern))
   unfolding told-sweep
-  sweep-right right small = go (refusal c cpu steps) refl
+  sweep-right right small = go (sweep_refusal c cpu steps) refl
     where
-      go : (o : Option SweepError) → refusal c cpu steps ≡ o
+      go : (o : Option SweepError) → sweep_refusal c cpu steps ≡ o
           → IsDone (IsSweepRefused script c cpu bytes) (IsSweepOf c cpu bytes pattern)
           (worked (sweep_work c cpu script bytes pattern))
       go None none =
@@ -109,9 +109,9 @@ module _ (c : Content) (cpu : Cpu) (script bytes pattern : List ℕ) where
   pub sweep-refuses : (worked (sweep_work c cpu script bytes pattern)).status ≡ Refused
       → (name : List ℕ) × (fault : List ℕ) × IsSweepRefused script c cpu bytes name fault
   unfolding told-sweep
-  sweep-refuses h = go (refusal c cpu steps) refl
+  sweep-refuses h = go (sweep_refusal c cpu steps) refl
     where
-      go : (o : Option SweepError) → refusal c cpu steps ≡ o
+      go : (o : Option SweepError) → sweep_refusal c cpu steps ≡ o
           → (name : List ℕ) × (fault : List ℕ) × IsSweepRefused script c cpu bytes name fault
       go None none = let e : Done ≡ Refused = sym (ap (λ (o : Outcome). o.status) (none-told none)) ∙ h in cc
       go (Some e) some = (script, sweep_fault e, refused-for e some)

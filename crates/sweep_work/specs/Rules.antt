@@ -9,7 +9,7 @@ use Rattle.image_check.specs.WhyNot.{WhyNot}
 use Rattle.image_def.specs.declared.started.Started.{Started}
 use Rattle.boot_sweep.specs.declared.error.SweepError.{SweepError}
 use Rattle.boot_sweep.specs.Firms.{Firm}
-use Rattle.boot_sweep.specs.Refusals.{IsRefused, refusal}
+use Rattle.boot_sweep.specs.Refusals.{IsRefused, sweep_refusal}
 use Rattle.boot_session.specs.Scripts.{script_session}
 use Rattle.boot_sweep.specs.Swept.{IsSweep}
 use Rattle.run_course.specs.declared.status.Status.TheVariants.{Done}
@@ -34,7 +34,7 @@ pub record IsSweepOf (c : Content) (cpu : Cpu) (script pattern : List ℕ) (o : 
 pub record IsSweepRefused (script : List ℕ) (c : Content) (cpu : Cpu)
     (bytes name fault : List ℕ) : Type 0 where
   pub reason : SweepError
-  pub named : refusal c cpu (script_session c cpu bytes) ≡ Some reason
+  pub named : sweep_refusal c cpu (script_session c cpu bytes) ≡ Some reason
   pub holds : IsContent c → IsRefused c cpu (script_session c cpu bytes) reason
   pub blames : name ≡ script
   pub tells : fault ≡ sweep_fault reason

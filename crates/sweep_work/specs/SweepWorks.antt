@@ -5,7 +5,7 @@ use Rattle.pico_board.specs.declared.boot.Cpu.{Cpu}
 use Rattle.pico_board.specs.Content.{Content}
 use Rattle.boot_sweep.specs.declared.error.SweepError.{SweepError}
 use Rattle.boot_sweep.specs.declared.error.SweepError.TheVariants.{NotConfined, NotGated, TooManySteps, FormerInSlot, Memory, TableChanged}
-use Rattle.boot_sweep.specs.Refusals.{refusal}
+use Rattle.boot_sweep.specs.Refusals.{sweep_refusal}
 use Rattle.boot_session.specs.Scripts.{script_session}
 use Rattle.boot_sweep.specs.Sweeps.{sweep_text}
 use Rattle.run_course.specs.Outcomes.{Work, Answers, Refuses}
@@ -27,7 +27,7 @@ swept_work script text None = Answers false text []
 -- the session of a script on a content
 abbrev pub session_work : Content → Cpu → List ℕ → List ℕ → List Step → Work
 session_work c cpu script pattern steps =
-    swept_work script (sweep_text c cpu pattern steps) (refusal c cpu steps)
+    swept_work script (sweep_text c cpu pattern steps) (sweep_refusal c cpu steps)
 
 abbrev pub sweep_work : Content → Cpu → List ℕ → List ℕ → List ℕ → Work
 sweep_work c cpu script bytes pattern =

@@ -5,8 +5,8 @@ use Rattle.pico_board.specs.MemBoard.{state_of}
 use Rattle.boot_sweep.specs.Refusals.{starts_in_slot, ungated}
 use Rattle.boot_session.specs.Recordings.{step_limit}
 use Rattle.boot_sweep.proofs.ReasonLemmas.{few-is, gains-none, gains-some, kept-few, many-is, none-by, reason-by}
-use Rattle.boot_sweep.proofs.script.refusal.Goals as goal
-use Rattle.boot_sweep.proofs.script.refusal.Goals.{else-is_none-via-then-is_none+else-is_some, else-is_none-via-else-is_none}
+use Rattle.boot_sweep.proofs.script.sweep_refusal.Goals as goal
+use Rattle.boot_sweep.proofs.script.sweep_refusal.Goals.{else-is_none-via-then-is_none+else-is_some, else-is_none-via-else-is_none}
 
 pub returns-in-Some : goal.returns-in-Some
 returns-in-Some g c = λ steps is.
