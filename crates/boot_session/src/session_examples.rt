@@ -1,6 +1,6 @@
 //! Worked sessions, proved by computing: each is the `ensures` of a function that does nothing.
 
-ghost use Rattle.std.specs.Prelude.{◌≡◌, ◌++◌, [], ◌∷◌, false, true};
+ghost use Rattle.std.specs.Prelude.{◌≡◌, ◌++◌, [], ◌∷◌, true};
 ghost use Rattle.boot_writes.specs.Luck.{Lucky};
 ghost use Rattle.boot_rules.specs.Chosen.{Chosen};
 ghost use Rattle.boot_rules.specs.Examples.{arm_member, arm_slot, bare, bare_slot, tables_content};
@@ -14,7 +14,7 @@ ghost use Rattle.image_plan.specs.Plans.{plan_events};
 ghost use Rattle.pico_board.specs.Sessions.{Unfinished};
 ghost use Rattle.pico_board.specs.Steps.{after_all};
 ghost use Rattle.pico_board.specs.declared.Step.TheVariants.{Erase};
-ghost use Rattle.pico_board.specs.declared.boot.BootKind.TheVariants.{Bootsel, Normal};
+ghost use Rattle.pico_board.specs.declared.boot.BootKind.TheVariants.{Normal};
 ghost use Rattle.pico_board.specs.declared.boot.Cpu.TheVariants.{Arm};
 ghost use Rattle.picoboot_cmd.specs.Commands.{written};
 ghost use Rattle.picoboot_cmd.specs.Examples.{erase_command};

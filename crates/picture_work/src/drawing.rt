@@ -1,8 +1,7 @@
 //! The picture of the sweep of a script's session on a board in memory.
 
-ghost use Rattle.std.specs.Prelude.{◌≡◌, ◌≤◌, ℕ, List, IfOk, IsTrue, false, length, map, string_bytes};
+ghost use Rattle.std.specs.Prelude.{◌≡◌, ◌≤◌, IfOk, IsTrue, false, length, string_bytes};
 ghost use Rattle.pico_board.specs.declared.boot.BootKind.TheVariants.{Normal};
-ghost use Rattle.pico_board.specs.Content.{IsContent};
 ghost use Rattle.pico_board.specs.MemBoard.{state_of};
 ghost use Rattle.sector_pool.specs.Pool.{HasFree};
 ghost use Rattle.boot_rules.specs.Choosing.{decision_in};
@@ -12,7 +11,7 @@ ghost use Rattle.run_forms.specs.declared.forms.Form.{Form};
 ghost use Rattle.run_forms.specs.Forms.{HasForm, content_of};
 ghost use Rattle.run_texts.specs.Texts.{decision_text};
 ghost use Rattle.sweep_chart.specs.Charts.{chart_words};
-ghost use Rattle.picture_work.specs.ChartWorks.{before_class, chart_file, chart_line, chart_with, chart_work, within_class};
+ghost use Rattle.picture_work.specs.ChartWorks.{chart_file, chart_line, chart_with, chart_work};
 
 use crate::results::{before_classes, class_of, within_classes};
 use arrayvec::ArrayString;
