@@ -121,6 +121,7 @@ impl SectorPool {
         ensures value { slice_get self.old.sectors lease.now ≡ Some result.now }
         ensures len { length result.now ≡ 4096 }
     {
+        // The prover takes from this call that the sector has 4096 bytes.
         let _length = self.bytes(lease).len();
         self.sectors[lease.number as usize].as_mut_slice()
     }
