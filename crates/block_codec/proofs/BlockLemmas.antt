@@ -11,7 +11,7 @@ use Rattle.std.specs.Option.{option_and_then}
 use Rattle.byteorder.specs.Numbers.{little_from-take}
 use Rattle.block_codec.specs.Words.{bytes_of, word_of, words_of, are_bytes, AreWords}
 use Rattle.block_codec.specs.Blocks.{BlockView, start_word, frame, block_size, IsBlock, Begins}
-use Rattle.block_codec.specs.Reading.{item_words, block_of, begun_block, front_block}
+use Rattle.block_codec.specs.Reading.{item_words, framed_block, begun_block, front_block}
 use Rattle.block_codec.specs.Reading.{IsFramed}
 use Rattle.block_codec.proofs.WordLemmas.{AreBytes, AreBytes-from_test, AreBytes-bytes_of, are_bytes-true, length-bytes_of, length-words_of, get_or-words_of, words_of-append, words_of-take, bytes_of-words_of, AreWords-words_of}
 use Rattle.block_codec.proofs.FrameLemmas.{IsFramed-from_found, length-frame, frame-items, frame-start, frame-link, item_words-frame, frame-from_framed, AreWords-frame}
@@ -44,10 +44,10 @@ same_view : (x : ℕ) (xs ys : List ℕ) (k l : ℤ) → xs ≡ ys → k ≡ l �
 same_view x xs ys k l e f = rw (e, f) refl
 
 -- what the words of a block give
-block_of-block : (x : ℕ) (bytes ws p items rest : List ℕ) (link : ℤ) → IsBlock p items link
+framed_block-block : (x : ℕ) (bytes ws p items rest : List ℕ) (link : ℤ) → IsBlock p items link
     → take (4 * length items + 16) bytes ≡ p → ws ≡ frame items link ++ rest →
-    option_and_then (block_of x bytes ws) (item_words ws) ≡ Some (record { at = x; items = items; link = link })
-block_of-block x bytes ws p items rest link block front is =
+    option_and_then (framed_block x bytes ws) (item_words ws) ≡ Some (record { at = x; items = items; link = link })
+framed_block-block x bytes ws p items rest link block front is =
     let found : item_words ws ≡ Some (length items) = ap item_words is ∙ item_words-frame items link rest block.whole in
     let test : are_bytes (take (4 * length items + 16) bytes) ≡ true =
     ap are_bytes (front ∙ block.spelled)
@@ -57,7 +57,7 @@ block_of-block x bytes ws p items rest link block front is =
     let same_link : cast_signed w32 (get_or ws (length items + 2) 0) ≡ link =
     ap (cast_signed w32) (ap (λ xs. get_or xs (length items + 2) 0) is ∙ frame-link items link rest)
     ∙ to_z-of_z w32 link block.fits in
-    ap (option_and_then (block_of x bytes ws)) found
+    ap (option_and_then (framed_block x bytes ws)) found
     ∙ ap (λ t. cond t (Some (record
     { at = x; items = take (length items) (drop 1 ws); link = cast_signed w32 (get_or ws (length items + 2) 0) }))
     None) test
@@ -86,7 +86,7 @@ front_block-found x p items rest link block =
     let few = block.few in
     let front = front-of 640 p rest (omega arith) in
     ap (λ t. begun_block t x (p ++ rest)) (eq-eqb _ start_word (word_of-block p items rest link block))
-    ∙ block_of-block x (p ++ rest) (words_of (take 640 (p ++ rest))) p items
+    ∙ framed_block-block x (p ++ rest) (words_of (take 640 (p ++ rest))) p items
     (words_of (take (640 - length p) rest)) link block
     (take_at p rest (4 * length items + 16) long)
     (ap words_of front ∙ words_of-block p items (take (640 - length p) rest) link block)
@@ -175,7 +175,7 @@ stands_framed m x n bytes most least test start framed =
 begun-stands : (x : ℕ) (bytes : List ℕ) (b : BlockView) → word_of bytes ≡ start_word
     → begun_block true x bytes ≡ Some b → Begins x bytes b
 begun-stands x bytes b start e =
-    option_and_then_some (block_of x bytes (words_of (take 640 bytes))) (item_words (words_of (take 640 bytes))) b e
+    option_and_then_some (framed_block x bytes (words_of (take 640 bytes))) (item_words (words_of (take 640 bytes))) b e
     (λ n found made.
     let (test, same) = cond_some (are_bytes (take (4 * n + 16) bytes)) _ b made in
     subst (λ v. Begins x bytes v) same

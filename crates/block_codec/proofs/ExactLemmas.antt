@@ -12,7 +12,7 @@ use Rattle.block_codec.specs.Items.{AreItems, items_of}
 use Rattle.block_codec.specs.declared.items.Item.{Item}
 use Rattle.std.specs.List.{Contains}
 use Rattle.block_codec.specs.Blocks.{BlockView, start_word, frame, block_size, IsBlock, Begins, IsWhole}
-use Rattle.block_codec.specs.Reading.{item_words, block_of, begun_block, front_block}
+use Rattle.block_codec.specs.Reading.{item_words, framed_block, begun_block, front_block}
 use Rattle.block_codec.specs.Reading.{framed_words, IsFramed, view_of}
 use Rattle.block_codec.proofs.WordLemmas.{AreBytes, AreBytes-take, are_bytes-true, length-words_of, get_or-words_of}
 use Rattle.block_codec.proofs.ItemLemmas.{IsItemOf-from_contains}
@@ -45,8 +45,8 @@ front_block-framed x n bytes ws are is found =
     ∙ word_of-take 640 bytes (omega arith) in
     let test = are_bytes-true (take (4 * n + 16) bytes) (AreBytes-take (4 * n + 16) bytes are) in
     sym (ap (λ t. begun_block t x bytes) (eq-eqb _ start_word (sym first ∙ start))
-    ∙ ap (λ xs. option_and_then (block_of x bytes xs) (item_words xs)) (sym is)
-    ∙ ap (option_and_then (block_of x bytes ws)) items
+    ∙ ap (λ xs. option_and_then (framed_block x bytes xs) (item_words xs)) (sym is)
+    ∙ ap (option_and_then (framed_block x bytes ws)) items
     ∙ ap (λ t. cond t (Some (view_of x ws n)) None) test)
 
 -- words that begin with a block's are found

@@ -31,8 +31,8 @@ item_words ws = option_and_then (if_ended ws) (words_before 0 (drop 1 ws))
 
 -- the block at an offset with the first n of the words after the start word as its item words,
 -- where the bytes that it was read from are bytes
-abbrev pub block_of : ℕ → List ℕ → List ℕ → ℕ → Option BlockView
-block_of x bytes ws n =
+abbrev pub framed_block : ℕ → List ℕ → List ℕ → ℕ → Option BlockView
+framed_block x bytes ws n =
     if are_bytes (take (4 * n + 16) bytes)
     then Some (record {
       at = x;
@@ -46,7 +46,7 @@ abbrev pub begun_block : Bool → ℕ → List ℕ → Option BlockView
 begun_block false x bytes = None
 begun_block true x bytes =
     let ws = words_of (take 640 bytes) in
-    option_and_then (block_of x bytes ws) (item_words ws)
+    option_and_then (framed_block x bytes ws) (item_words ws)
 
 -- the block at the front of the bytes, with x as its offset; None where no prefix of them is a
 -- block

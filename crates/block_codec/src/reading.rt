@@ -86,7 +86,7 @@ fn items_in(words: &[u32], count: usize) -> ArrayVec<u32, 156>
 }
 
 /// The block at an offset with the item words and the link of framed words.
-fn block_of(at: u32, words: &[u32], count: usize) -> Block
+fn framed_block(at: u32, words: &[u32], count: usize) -> Block
     requires framed { IsFramed words.now count }
     requires few { length words.now ≤ 160 }
     requires aligned { at % 4 ≡ 0 }
@@ -112,7 +112,7 @@ pub fn read_block(piece: &[u8], at: u32) -> Option<Block>
     let front = front_words(piece);
     let words = front.as_slice();
     match framed_count(words) {
-        Some(count) => Some(block_of(at, words, count)),
+        Some(count) => Some(framed_block(at, words, count)),
         None => None,
     }
 }

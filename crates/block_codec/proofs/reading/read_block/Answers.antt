@@ -4,12 +4,12 @@ use Rattle.block_codec.proofs.WordLemmas.{AreBytes}
 use Rattle.block_codec.proofs.BlockLemmas.{front_block-stands}
 use Rattle.block_codec.proofs.ExactLemmas.{front_block-framed, front_block-none, no_block_in_front}
 use Rattle.block_codec.proofs.reading.read_block.Goals as goal
-use Rattle.block_codec.proofs.reading.read_block.Goals.{After-block_of}
+use Rattle.block_codec.proofs.reading.read_block.Goals.{After-framed_block}
 
-found : (c : After-block_of) → Some c.block_of.result ≡ front_block c.args.at c.args.piece.now
+found : (c : After-framed_block) → Some c.framed_block.result ≡ front_block c.args.at c.args.piece.now
 found c =
     let bytes : AreBytes c.args.piece.now = λ i. omega (arith, c.type_inv.piece i) in
-    ap Some c.block_of.ensures.value
+    ap Some c.framed_block.ensures.value
     ∙ front_block-framed c.args.at c.in-Some.count c.args.piece.now c.as_slice-words.result.now bytes
     (c.as_slice-words.ensures.value ∙ c.front_words-front.ensures) c.in-Some.ensures.value
 
@@ -17,7 +17,7 @@ pub returns-in-Some-clause-exact : goal.returns-in-Some-clause-exact
 returns-in-Some-clause-exact c = found c
 
 pub returns-in-Some-clause-found : goal.returns-in-Some-clause-found
-returns-in-Some-clause-found c = front_block-stands c.args.at c.args.piece.now c.block_of.result (sym (found c))
+returns-in-Some-clause-found c = front_block-stands c.args.at c.args.piece.now c.framed_block.result (sym (found c))
 
 pub returns-in-None-clause-exact : goal.returns-in-None-clause-exact
 returns-in-None-clause-exact c =
