@@ -3,6 +3,10 @@
 #![tactic(auto)]
 
 #[cfg(test)]
-mod boards;
+mod boots;
+#[cfg(test)]
+mod cases;
 #[cfg(test)]
 mod maps;
+#[cfg(test)]
+mod windows;
