@@ -8,6 +8,7 @@ pub mod PlanLaws
 mod ExampleLemmas
 mod PlayLemmas
 mod TargetLemmas
+mod ChangedPieceLemmas
 mod CutBetweenLemmas
 mod CutBehindLemmas
 mod CutWithinLemmas
