@@ -113,8 +113,8 @@ pub fn own_writes_keep_to_their_windows()
         → IsLuckyCut c z d cpu choice (Raise row bits) }
 {}
 
-/// After all steps of an updated start the pick of the unit is the started image; after those of a
-/// buy it is that image with a clear trial bit.
+/// After all steps of an updated start of an image that is no trial the pick of the unit is that
+/// image; after those of a buy it is the bought image, with a clear trial bit.
 pub fn what_own_writes_leave()
     ensures start { (c : Content) (cpu : Cpu) (kind : BootKind) (choice : Choice) (u : SlotUnit)
         → IsContent c → Chosen c cpu kind (Start choice) → IsOfUnit c cpu choice u

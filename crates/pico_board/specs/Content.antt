@@ -2,6 +2,7 @@
 -- Source: RP2350 Datasheet, chapters 5 (Bootrom) and 13 (OTP). The limits on the length of the
 -- flash are this project's own.
 use Rattle.std.specs.Prelude.{◌≡◌, ◌⊎◌, ℕ, ◌+◌, ◌%◌, ◌^◌, ◌<◌, ◌≤◌, List, length, slice_range, All}
+use Rattle.pico_board.specs.declared.window.TheConstants.{FLASH_BASE, MOST_FLASH_BYTES}
 use Rattle.pico_board.specs.declared.window.Window.{Window}
 
 -- what a board holds: the bytes of its flash and the rows of its OTP
@@ -14,7 +15,7 @@ pub record Content : Type 0 where
 pub record IsFlashLength (n : ℕ) : Type 0 where
   pub whole : n % 4096 ≡ 0
   pub least : 8192 ≤ n
-  pub most : n ≤ 16777216
+  pub most : n ≤ MOST_FLASH_BYTES
 
 -- a content has a flash of whole sectors, whose elements are bytes, and 4096 rows of 24 bits
 -- (RP2350 Datasheet, chapter 13, OTP)
@@ -27,7 +28,7 @@ pub record IsContent (c : Content) : Type 0 where
 -- the address at which the first byte of a flash window is seen (RP2350 Datasheet, section 2.2,
 -- Address map)
 abbrev pub flash_base : ℕ
-flash_base = 0x10000000
+flash_base = FLASH_BASE
 
 -- the list of the flash bytes of the window
 abbrev pub window_bytes : Content → Window → List ℕ

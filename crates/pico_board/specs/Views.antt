@@ -1,7 +1,8 @@
 -- What a view shows. This project's own.
 use Rattle.std.specs.Prelude.{ℕ, ◌<◌, ◌≤◌, length, List, All}
+use Rattle.pico_board.specs.declared.window.TheConstants.{MOST_FLASH_BYTES}
 
--- a view has at most 16,777,216 elements, and each of them is a byte
+-- a view has at most as many elements as a flash has bytes, and each of them is a byte
 pub record IsViewed (xs : List ℕ) : Type 0 where
-  pub short : length xs ≤ 16777216
+  pub short : length xs ≤ MOST_FLASH_BYTES
   pub bytes : All (λ b. b < 256) xs

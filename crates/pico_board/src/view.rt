@@ -2,6 +2,7 @@
 
 ghost use Rattle.std.specs.Prelude.{◌≡◌, ℕ, ◌+◌, ◌<◌, ◌≤◌, All, List, length, IsTrue, slice_range};
 ghost use Rattle.pico_board.specs.Views.{IsViewed};
+ghost use Rattle.pico_board.specs.declared.window.TheConstants.{MOST_FLASH_BYTES};
 
 use crate::board::Board;
 use crate::window::Window;
@@ -56,7 +57,7 @@ impl<'a, B: Board> View for FlashView<'a, B> {
 pub struct SliceView<'a> {
     /// The bytes, of which there are at most 16,777,216.
     pub bytes: &'a [u8],
-    pub ghost short: { length bytes.now ≤ 16777216 },
+    pub ghost short: { length bytes.now ≤ MOST_FLASH_BYTES },
     pub ghost small: { All (λ b. b < 256) bytes.now },
 }
 
