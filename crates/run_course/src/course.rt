@@ -46,6 +46,7 @@ fn unwritten_status(fail: StoreFail) -> Status
 fn has_bytes(file: &[u8])
     ensures { AreBytes file.now }
 {
+    // The prover takes from this call that each element of the slice is a byte.
     let _length = file.len();
 }
 
