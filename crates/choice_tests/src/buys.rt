@@ -5,37 +5,13 @@ ghost use Rattle.pico_board.specs.MemBoard.{state_of};
 
 use image_check::check;
 use pico_board::{Board, Cpu, MemBoard, Window};
+use run_fixtures::{ARM_1_1, TRIAL_1_1, VECTORS};
 use sector_pool::SectorPool;
 use slot_choice::{Choice, Member};
 use std::alloc::{AllocError, Global};
 use std::process::Abort;
 use std::test::Fail;
 use trial_buy::buy;
-
-/// SP at the end of SRAM, and PC at 0x200 of the window in Thumb state.
-const VECTORS: [u32; 2] = [0x2008_2000, 0x1000_0201];
-
-/// The block of an image of version 1.1 with the trial bit set.
-const TRIAL: [u32; 7] = [
-    0xffff_ded3,
-    0x9021_0142,
-    0x0000_0248,
-    0x0001_0001,
-    0x0000_03ff,
-    0,
-    0xab12_3579,
-];
-
-/// The block of an image of version 1.1 with the trial bit clear.
-const PLAIN: [u32; 7] = [
-    0xffff_ded3,
-    0x1021_0142,
-    0x0000_0248,
-    0x0001_0001,
-    0x0000_03ff,
-    0,
-    0xab12_3579,
-];
 
 /// A flash of 16,384 bytes: the vectors and this block at 0, and at 8192; 0xff elsewhere.
 fn flash_of(alloc: Global, first: &[u32], second: &[u32]) -> Result<Vec<u8>, AllocError> {
@@ -81,7 +57,7 @@ const SECOND: Window = Window {
 /// Does a buy of the trial image in B, started in its update, and answers how many steps that took,
 /// what B's image is then, and whether A still has one.
 fn bought(rt: &impl Abort, alloc: Global, first: &[u32]) -> Result<(u64, bool, bool), Fail> {
-    let mut board = board_of(alloc, flash_of(alloc, first, &TRIAL)?)?;
+    let mut board = board_of(alloc, flash_of(alloc, first, &TRIAL_1_1)?)?;
     let mut pool = SectorPool::make(alloc, 2)?;
     assert!(rt; pool.free() == 2);
     assert!(rt; board.flash_len() == 16384);
@@ -117,6 +93,6 @@ fn a_buy_rewrites_one_sector(rt: HostRuntime) -> Result<(), Fail> {
         0xab12_3579,
     ];
     assert_eq!(rt; bought(&rt, rt.alloc(), &lesser)?, (17, true, true));
-    assert_eq!(rt; bought(&rt, rt.alloc(), &PLAIN)?, (18, true, false));
+    assert_eq!(rt; bought(&rt, rt.alloc(), &ARM_1_1)?, (18, true, false));
     Ok(())
 }

@@ -5,46 +5,11 @@ ghost use Rattle.pico_board.specs.MemBoard.{state_of};
 
 use boot_rules::{Decision, Target, data_of, decide, find_table, target};
 use pico_board::{BootKind, Cpu, MemBoard, Window};
+use run_fixtures::{OWNED, PAIR, VECTORS};
 use sector_pool::SectorPool;
 use std::alloc::{AllocError, Global};
 use std::process::Abort;
 use std::test::Fail;
-
-/// SP at the end of SRAM, and PC at 0x200 of the window in Thumb state.
-const VECTORS: [u32; 2] = [0x2008_2000, 0x1000_0201];
-
-/// The table block of a pair of partitions at 0x2000 and 0x20000, of 30 sectors each.
-const PAIR: [u32; 10] = [
-    0xffff_ded3,
-    0x0200_060a,
-    0xfc00_8000,
-    0xfc03_e002,
-    0xfc02_0000,
-    0xfc07_a020,
-    0xfc02_0002,
-    0x0000_06ff,
-    0,
-    0xab12_3579,
-];
-
-/// The table block of a pair at 0x2000 and 0xa000, and of a pair of its data at 0x12000 and
-/// 0x1a000.
-const OWNED: [u32; 14] = [
-    0xffff_ded3,
-    0x0400_0a0a,
-    0xfc00_8000,
-    0xfc01_2002,
-    0xfc02_0000,
-    0xfc02_200a,
-    0xfc02_0002,
-    0xfc03_2012,
-    0xfc01_0004,
-    0xfc04_201a,
-    0xfc01_0012,
-    0x0000_0aff,
-    0,
-    0xab12_3579,
-];
 
 /// The block of an image of this version, which is a trial or not.
 fn image(version: u32, trial: bool) -> [u32; 7] {

@@ -32,7 +32,7 @@ pub(crate) fn compare(
 ) -> Result<(), Fail> {
     let (words, size) = parts;
     if size == 0 || size > 262_144 {
-        return Ok(());
+        return Err("no flash of a test".into());
     }
     let bytes = flash(alloc, words, size)?;
     let answer = explain(alloc, bytes, &[], Cpu::Arm, kind)?;

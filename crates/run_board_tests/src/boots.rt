@@ -2,7 +2,7 @@
 
 use crate::cases::{
     BOTH, Case, EMPTY, GREATEST, LAST_IN_RANGE, MINIMAL, NO_ROW, PART_OF_ROW, PAST_GREATEST,
-    PAST_RANGE, ROWS_TOO_MANY, TWO_VERSIONS, WITH_TRIAL, ended,
+    PAST_RANGE, ROWS_TOO_MANY, TWO_VERSIONS, WITH_TRIAL, compare,
 };
 use boot_run::Status;
 use std::test::Fail;
@@ -138,20 +138,10 @@ const REFUSED: [Case; 4] = [
 
 #[test]
 fn each_boot_is_told(rt: HostRuntime) -> Result<(), Fail> {
-    for case in BOOTS {
-        let (status, out) = ended(rt.alloc(), &case)?;
-        assert_eq!(rt; status, case.3, "for {}", case.4);
-        assert_eq!(rt; out.bytes(), case.4.as_bytes());
-    }
-    Ok(())
+    compare(&rt, rt.alloc(), &BOOTS)
 }
 
 #[test]
 fn each_refusal_is_told(rt: HostRuntime) -> Result<(), Fail> {
-    for case in REFUSED {
-        let (status, out) = ended(rt.alloc(), &case)?;
-        assert_eq!(rt; status, case.3, "for {}", case.4);
-        assert_eq!(rt; out.bytes(), case.4.as_bytes());
-    }
-    Ok(())
+    compare(&rt, rt.alloc(), &REFUSED)
 }

@@ -2,8 +2,11 @@
 
 use boot_run::{Status, run};
 use pico_board::{MemSink, MemStore};
-use run_fixtures::{ARM, ARM_1_0, ARM_1_9, ARM_1_10, PAIR, TRIAL_1_1, VECTORS, flash, words};
+use run_fixtures::{
+    ARM, ARM_1_0, ARM_1_9, ARM_1_10, OWNED, PAIR, TRIAL_1_1, VECTORS, flash, words,
+};
 use std::alloc::Global;
+use std::process::Abort;
 use std::test::Fail;
 
 /// A block for the Arm cores that links to the one 0x20 bytes behind it.
@@ -15,24 +18,6 @@ const RISCV: [u32; 5] = [
     0x1101_0142,
     0x0000_01ff,
     0xffff_ffe0,
-    0xab12_3579,
-];
-
-/// A table of a pair of images, and a pair of data that it owns.
-const OWNED: [u32; 14] = [
-    0xffff_ded3,
-    0x0400_0a0a,
-    0xfc00_8000,
-    0xfc01_2002,
-    0xfc02_0000,
-    0xfc02_200a,
-    0xfc02_0002,
-    0xfc03_2012,
-    0xfc01_0004,
-    0xfc04_201a,
-    0xfc01_0012,
-    0x0000_0aff,
-    0,
     0xab12_3579,
 ];
 
@@ -125,7 +110,7 @@ fn otp(alloc: Global, rows: (usize, u8)) -> Result<Vec<u8>, Fail> {
 }
 
 /// How a case ends, in two reads, one write and one put: another one would fail.
-pub(crate) fn ended(alloc: Global, case: &Case) -> Result<(Status, MemSink), Fail> {
+fn ended(alloc: Global, case: &Case) -> Result<(Status, MemSink), Fail> {
     let (texts, (parts, length), rows, _, _) = case;
     let files = vec![in alloc;
         (String::from_str(alloc, "f")?, flash(alloc, parts, *length)?),
@@ -136,4 +121,14 @@ pub(crate) fn ended(alloc: Global, case: &Case) -> Result<(Status, MemSink), Fai
     let mut out = MemSink::make(alloc, vec![in alloc; 1_u64]?);
     let status = run(alloc, &words(alloc, texts)?, &mut store, &mut out);
     Ok((status, out))
+}
+
+/// Compares how each case ends with its status and its text.
+pub(crate) fn compare(rt: &impl Abort, alloc: Global, cases: &[Case]) -> Result<(), Fail> {
+    for case in cases {
+        let (status, out) = ended(alloc, case)?;
+        assert_eq!(rt; status, case.3, "for {}", case.4);
+        assert_eq!(rt; out.bytes(), case.4.as_bytes());
+    }
+    Ok(())
 }

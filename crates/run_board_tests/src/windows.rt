@@ -1,7 +1,7 @@
 //! What `info`, `data`, `explain` and `map` tell.
 
 use crate::cases::{
-    Case, ERASED, MINIMAL, NO_ROW, SLOT_SIZE, SLOTS, TWO_VERSIONS, WITH_DATA, WITH_TRIAL, ended,
+    Case, ERASED, MINIMAL, NO_ROW, SLOT_SIZE, SLOTS, TWO_VERSIONS, WITH_DATA, WITH_TRIAL, compare,
 };
 use boot_run::Status;
 use std::test::Fail;
@@ -116,10 +116,5 @@ image window=0x00020000+0x0001e000 fault=trial
 
 #[test]
 fn each_window_is_told(rt: HostRuntime) -> Result<(), Fail> {
-    for case in WINDOWS {
-        let (status, out) = ended(rt.alloc(), &case)?;
-        assert_eq!(rt; status, case.3, "for {}", case.4);
-        assert_eq!(rt; out.bytes(), case.4.as_bytes());
-    }
-    Ok(())
+    compare(&rt, rt.alloc(), &WINDOWS)
 }

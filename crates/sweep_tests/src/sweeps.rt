@@ -9,51 +9,14 @@ use boot_sweep::{SweepError, sweep};
 use image_plan::plan;
 use pico_board::{Cpu, MemBoard, Window};
 use picoboot_cmd::{Cmd, write_cmd};
+use run_fixtures::{ARM_1_0, ARM_1_1, PAIR, VECTORS};
 use sector_pool::SectorPool;
 use std::alloc::Global;
 use std::process::Abort;
 use std::test::Fail;
 
-/// The first two words of a vector table: SP 0x20082000 and PC 0x10000201.
-const VECTORS: [u32; 2] = [0x2008_2000, 0x1000_0201];
-
-/// The block of an executable for the Arm cores, of version 1.0.
-const ARM_1_0: [u32; 7] = [
-    0xffff_ded3,
-    0x1021_0142,
-    0x0000_0248,
-    0x0001_0000,
-    0x0000_03ff,
-    0,
-    0xab12_3579,
-];
-
-/// The same of version 1.1.
-const ARM_1_1: [u32; 7] = [
-    0xffff_ded3,
-    0x1021_0142,
-    0x0000_0248,
-    0x0001_0001,
-    0x0000_03ff,
-    0,
-    0xab12_3579,
-];
-
-/// A table whose A has the sectors 2 to 31 and whose B has the sectors 32 to 61.
-const PAIR: [u32; 10] = [
-    0xffff_ded3,
-    0x0200_060a,
-    0xfc00_8000,
-    0xfc03_e002,
-    0xfc02_0000,
-    0xfc07_a020,
-    0xfc02_0002,
-    0x0000_06ff,
-    0,
-    0xab12_3579,
-];
-
-/// The same with the sectors 64 to 93 and 94 to 123, past the end of a flash of 64 sectors.
+/// The table of `PAIR` with the sectors 64 to 93 and 94 to 123, past the end of a flash of 64
+/// sectors.
 const FAR_PAIR: [u32; 10] = [
     0xffff_ded3,
     0x0200_060a,
