@@ -19,8 +19,11 @@ CODE = "crates/*/src/**/*.rt"
 # The names of JSON members, which the texts of their faults have.
 FIELDS = "crates/table_json/src/fault.rt"
 # Crates and files that put no text by themselves: what they have in quotes is read, or is tested.
-NO_CRATE = re.compile(r"crates/(boot_cli|table_json|svg_text|\w+_tests)/")
+NO_CRATE = re.compile(r"crates/(boot_cli|table_json|svg_marks|test_\w+)/")
 NO_FILE = re.compile(r"(^|[/_])(tests?|examples|laws|usage|words|values)(/|\.rt$)")
+
+# A file whose faults are put in parts: what begins with a blank goes on with the part before it.
+IN_PARTS = "crates/text_lines/src/faults.rt"
 
 # Texts that tell no fault.
 OTHERS = """
@@ -35,7 +38,7 @@ input {}: {}|image {} fault={}
 enter-xip|erase|exclusive|exit-xip|firm no|firm yes|flags={}|kind={}|normal|otp-read|otp-write
 partition={}|power|program|raise|ram={}|read|reboot|row={} count={} ecc={}|script records={}|table
 target={}|uf2 number={} count={} address={} family={}|update={}|write
-{} because={}|{} name={} id={} families={}|{} trial={}|{}{}{}{}|\\\\x{}|a={}|absolute|alone|arm|both|only
+uf2 number={} count={}|{}{}|{} because={}|{} name={} id={} families={}|{} trial={}|{}{}{}{}|\\\\x{}|a={}|absolute|alone|arm|both|only
 otp rollback-required={} flash-off={} slot-size={}|owner={}|pair|r|rights={} link={} ignored={} reboot={}
 riscv|rp2040|rp2350-arm-ns|rp2350-arm-s|rp2350-riscv|rw|secure={},nonsecure={},bootloader={}|singleton
 slot|slot {} fault={}|slots|table {} partitions={} singleton={}|table slot={} because={}|tie|unit
@@ -57,6 +60,17 @@ def code_files():
     return [it for it in files if not NO_CRATE.match(it) and not NO_FILE.search(it)]
 
 
+def joined(texts):
+    """Whole texts of parts, with `{}` for what is put between and behind them."""
+    whole = []
+    for text in texts:
+        if text.startswith(" ") and whole:
+            whole[-1] += text + "{}"
+        else:
+            whole.append(text + "{}" if text.endswith(" ") else text)
+    return [it.strip() for it in whole]
+
+
 def code_texts(files):
     """The texts in the code, each with a file that has it."""
     found = {}
@@ -64,7 +78,8 @@ def code_texts(files):
         code = pathlib.Path(file).read_text(encoding="utf-8")
         code = re.sub(r"(?m)^\s*(//|ghost use|#\[).*$", "", code)
         code = re.sub(r"(?s)\b(requires|ensures)\b[^{]*\{.*?\}\n", "\n", code)
-        for text in re.findall(r'"((?:[^"\\]|\\.)*)"', code):
+        texts = re.findall(r'"((?:[^"\\]|\\.)*)"', code)
+        for text in joined(texts) if file == IN_PARTS else texts:
             # what begins or ends with a blank or a sign is a part of a line
             if re.search(r"[a-z]", text) and not re.search(r"^[ .+]|[ =+]$", text):
                 found.setdefault(plain(text), file)

@@ -56,7 +56,7 @@ no_block-from_none w x b none at = none-some b (sym none ∙ block_at-stands w x
 pub BlockAt-unique : (w : List ℕ) (x : ℕ) (b c : BlockView) → BlockAt w x b → BlockAt w x c → b ≡ c
 BlockAt-unique w x b c at_b at_c = same_Some b c (sym (block_at-stands w x b at_b) ∙ block_at-stands w x c at_c)
 
--- the same is found in both lists where the same blocks stand
+-- two searches have the same answer where each block that one finds the other finds too
 pub same_found : (o q : Option BlockView) → ((b : BlockView) → o ≡ Some b → q ≡ Some b)
     → ((b : BlockView) → q ≡ Some b → o ≡ Some b) → o ≡ q
 same_found None None f g = refl

@@ -37,7 +37,7 @@ words_of-block p items rest link block =
     ap (λ bs. words_of (bs ++ rest)) block.spelled
     ∙ words_of-append (frame items link) rest (AreWords-block p items link block)
 
--- the same block by equal parts
+-- two blocks at one offset are the same where their item words and their links are
 same_view : (x : ℕ) (xs ys : List ℕ) (k l : ℤ) → xs ≡ ys → k ≡ l →
     ◌≡◌ {A = Option BlockView} (Some (record { at = x; items = xs; link = k }))
     (Some (record { at = x; items = ys; link = l }))

@@ -11,7 +11,7 @@ use Rattle.block_codec.specs.Words.{word_of, words_of, AreWords}
 use Rattle.block_codec.specs.Items.{AreItems, items_of}
 use Rattle.block_codec.specs.declared.items.Item.{Item}
 use Rattle.std.specs.List.{Contains}
-use Rattle.block_codec.specs.Blocks.{BlockView, start_word, frame, block_size, IsBlock, Begins, IsWhole}
+use Rattle.block_codec.specs.Blocks.{BlockView, start_word, frame, block_size, IsBlock, Begins, IsWholeBlock}
 use Rattle.block_codec.specs.Reading.{item_words, framed_block, begun_block, front_block}
 use Rattle.block_codec.specs.Reading.{framed_words, IsFramed, view_of}
 use Rattle.block_codec.proofs.WordLemmas.{AreBytes, AreBytes-take, are_bytes-true, length-words_of, get_or-words_of}
@@ -77,7 +77,7 @@ front_block-none x bytes ws is none =
     none_unless (front_block x bytes)
     (λ b e. none-some _ (none ∙ framed_words-begins x bytes ws b is (front_block-stands x bytes b e)))
 
--- and no front of the bytes is a block
+-- where no number is found, no front of the bytes is a block
 pub no_block_in_front : (bytes ws : List ℕ) → ws ≡ words_of (take 640 bytes) → None ≡ framed_words ws
     → (n : ℕ) (items : List ℕ) (link : ℤ) → IsBlock (take n bytes) items link → ⊥
 no_block_in_front bytes ws is none n items link block =
@@ -101,7 +101,7 @@ AreWords-drop (suc n) (w ∷ ws) h = AreWords-drop n ws h.1
 -- the parts of a block that was made of whole items
 pub IsWhole-made : (at : ℕ) (items : List ℕ) (link : ℤ) → AreItems items → length items ≤ 156 → AreWords items
     → FitsSigned w32 link → at % 4 ≡ 0 → at < 2 ^ 24 →
-    IsWhole (record { at = at; items = items; link = cast_signed w32 (cast_unsigned w32 link) })
+    IsWholeBlock (record { at = at; items = items; link = cast_signed w32 (cast_unsigned w32 link) })
 IsWhole-made at items link whole few words fits aligned near =
     record {
       whole = whole;
@@ -113,7 +113,7 @@ IsWhole-made at items link whole few words fits aligned near =
     }
 
 -- a word of an item of a block is one of the block's words
-pub item_word-room : (u v : BlockView) (xs : List ℕ) (item : Item) (k : ℕ) → IsWhole u → u ≡ v → xs ≡ u.items
+pub item_word-room : (u v : BlockView) (xs : List ℕ) (item : Item) (k : ℕ) → IsWholeBlock u → u ≡ v → xs ≡ u.items
     → Contains (items_of v.items) item → k < item.words →
     item.first + k < length xs + 4
 item_word-room u v xs item k whole same is among lt =
@@ -123,8 +123,8 @@ item_word-room u v xs item k whole same is among lt =
     let long = ap length is in
     omega arith
 
--- and so it does of the words that callers see
-pub item_word-within : (u v : BlockView) (xs : List ℕ) (item : Item) (k : ℕ) → IsWhole u → u ≡ v → xs ≡ u.items
+-- a word of an item of a block is one of the block's words, as callers see them
+pub item_word-within : (u v : BlockView) (xs : List ℕ) (item : Item) (k : ℕ) → IsWholeBlock u → u ≡ v → xs ≡ u.items
     → Contains (items_of v.items) item → k < item.words → item.first + k < length v.items + 4
 item_word-within u v xs item k whole same is among lt =
     let room = item_word-room u v xs item k whole same is among lt in

@@ -38,7 +38,7 @@ words_before-item h ws kind size =
     let f = ne_eqb (size_of h) 0 size in
     rw (e, f) refl
 
--- the same for an item of n + 1 words in front of the words from a place on
+-- what follows an item of n + 1 words, in front of the words from a place on, is counted as if it began there
 step_from : (ws : List ℕ) (at size n h : ℕ) → size_of h ≡ size → size ≡ suc n → type_byte h ≢ 255 →
     words_before 0 (h ∷ drop (at + 1) ws) ≡ later size (words_before 0 (drop (at + size) ws))
 step_from ws at size n h is_size is_suc kind =

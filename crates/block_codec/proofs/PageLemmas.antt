@@ -11,7 +11,7 @@ use Rattle.block_codec.specs.Words.{bytes_of, word_of, words_of}
 use Rattle.block_codec.specs.Items.{type_byte, size_of, AreItemsAfter, headers_from, headers_of}
 use Rattle.block_codec.specs.Blocks.{BlockView, start_word, end_word, last_item, frame, block_words, block_size, IsBlock, BlockAt}
 use Rattle.block_codec.specs.Reading.{IsFramed}
-use Rattle.block_codec.specs.Pages.{IsBlankPage, IsSamePage, IsPartlyWritten, HasHeadersOf}
+use Rattle.block_codec.specs.Pages.{IsBlankWindowPage, IsSameWindowPage, IsPartlyWritten, HasHeadersOf}
 use Rattle.block_codec.proofs.WordLemmas.{AreBytes, AreBytes-take, AreBytes-drop, length-words_of, get_or-words_of, bytes_of-words_of, AreWords-words_of}
 use Rattle.block_codec.proofs.FrameLemmas.{frame-from_framed, word-start, word-item, word-last, word-link, word-end}
 use Rattle.block_codec.proofs.ExactLemmas.{AreWords-take, AreWords-drop}
@@ -65,23 +65,23 @@ word_of-blank bs a b c d = omega arith
 -- flash that is programmed in part, and the finished one
 module _ (w v : List ℕ) (written : IsPartlyWritten w v) where
   -- a byte of a word, by the word's page
-  blank_byte : (y q i : ℕ) → y % 4 ≡ 0 → q ≡ y / 256 → i < 4 → IsBlankPage q v → get_or (drop y v) i 0 ≡ 255
+  blank_byte : (y q i : ℕ) → y % 4 ≡ 0 → q ≡ y / 256 → i < 4 → IsBlankWindowPage q v → get_or (drop y v) i 0 ≡ 255
   blank_byte y q i even is few blank =
       get_or-drop y v i 0 ∙ ap (λ n. get_or v n 0) (omega arith) ∙ blank (y % 256 + i) (omega arith)
 
-  same_byte : (y q i : ℕ) → y % 4 ≡ 0 → q ≡ y / 256 → i < 4 → IsSamePage q w v
+  same_byte : (y q i : ℕ) → y % 4 ≡ 0 → q ≡ y / 256 → i < 4 → IsSameWindowPage q w v
       → get_or (drop y w) i 0 ≡ get_or (drop y v) i 0
   same_byte y q i even is few same =
       get_or-drop y w i 0 ∙ ap (λ n. get_or w n 0) (omega arith) ∙ sym (same (y % 256 + i) (omega arith))
       ∙ ap (λ n. get_or v n 0) (omega arith) ∙ sym (get_or-drop y v i 0)
 
-  blank_word : (y q : ℕ) → y % 4 ≡ 0 → q ≡ y / 256 → IsBlankPage q v → word_of (drop y v) ≡ 0xffffffff
+  blank_word : (y q : ℕ) → y % 4 ≡ 0 → q ≡ y / 256 → IsBlankWindowPage q v → word_of (drop y v) ≡ 0xffffffff
   blank_word y q even is blank =
       word_of-blank (drop y v) (blank_byte y q 0 even is (omega arith) blank)
       (blank_byte y q 1 even is (omega arith) blank) (blank_byte y q 2 even is (omega arith) blank)
       (blank_byte y q 3 even is (omega arith) blank)
 
-  same_word : (y q : ℕ) → y % 4 ≡ 0 → q ≡ y / 256 → IsSamePage q w v → word_of (drop y w) ≡ word_of (drop y v)
+  same_word : (y q : ℕ) → y % 4 ≡ 0 → q ≡ y / 256 → IsSameWindowPage q w v → word_of (drop y w) ≡ word_of (drop y v)
   same_word y q even is same =
       word_of-same (drop y w) (drop y v) (same_byte y q 0 even is (omega arith) same)
       (same_byte y q 1 even is (omega arith) same) (same_byte y q 2 even is (omega arith) same)

@@ -59,7 +59,7 @@ pub record BlockAt (w : List ℕ) (x : ℕ) (b : BlockView) : Type 0 where
 
 -- what is true of each block that was read: its item words are whole items, and its offset is a
 -- multiple of 4 below 2^24
-pub record IsWhole (b : BlockView) : Type 0 where
+pub record IsWholeBlock (b : BlockView) : Type 0 where
   pub whole : AreItems b.items
   pub few : length b.items ≤ 156
   pub words : AreWords b.items

@@ -5,17 +5,18 @@ use Rattle.block_codec.specs.Items.{headers_of}
 use Rattle.block_codec.specs.Blocks.{BlockView}
 
 -- page q is erased
-abbrev pub IsBlankPage : ℕ → List ℕ → Type 0
-IsBlankPage q v = (i : ℕ) → i < 256 → slice_index v (256 * q + i) ≡ 255
+abbrev pub IsBlankWindowPage : ℕ → List ℕ → Type 0
+IsBlankWindowPage q v = (i : ℕ) → i < 256 → slice_index v (256 * q + i) ≡ 255
 
 -- page q is the same in both
-abbrev pub IsSamePage : ℕ → List ℕ → List ℕ → Type 0
-IsSamePage q w v = (i : ℕ) → i < 256 → slice_index v (256 * q + i) ≡ slice_index w (256 * q + i)
+abbrev pub IsSameWindowPage : ℕ → List ℕ → List ℕ → Type 0
+IsSameWindowPage q w v = (i : ℕ) → i < 256
+    → slice_index v (256 * q + i) ≡ slice_index w (256 * q + i)
 
 -- v is w but for pages that are erased
 pub record IsPartlyWritten (w v : List ℕ) : Type 0 where
   pub long : length v ≡ length w
-  pub pages : (q : ℕ) → IsBlankPage q v ⊎ IsSamePage q w v
+  pub pages : (q : ℕ) → IsBlankWindowPage q v ⊎ IsSameWindowPage q w v
 
 -- block c has the place, the size, the headers and the link of block b
 pub record HasHeadersOf (b c : BlockView) : Type 0 where

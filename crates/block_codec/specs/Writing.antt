@@ -1,4 +1,4 @@
--- Which item words are refused by a writer: this project's own.
+-- Which item words are refused by a writer.
 use Rattle.std.specs.Prelude.{◌≡◌, ℕ, ◌+◌, ◌<◌, ◌⊎◌, List, length, take, slice_index}
 use Rattle.block_codec.specs.Items.{AreItems, type_byte, size_of}
 

@@ -8,9 +8,9 @@ use crate::words::item_size;
 /// An item of a block: where it stands and what its header says.
 #[derive(Debug, Clone, Copy, PartialEq, Eq)]
 pub struct Item {
-    /// The index of its header among the words of the block, at least 1.
+    /// The index of the item's header among the words of the block, at least 1.
     pub first: u32,
-    /// Its size in words, with the header; at least 1.
+    /// The item's size in words, with its header; at least 1.
     pub words: u32,
     /// The header's first byte, the type byte; never 0xff.
     pub kind: u8,

@@ -2,7 +2,7 @@
 
 ghost use Rattle.std.specs.Prelude.{◌≡◌, ℕ, ℤ, List, ◌+◌, ◌*◌, ◌%◌, ◌<◌, ◌≤◌, ◌^◌, take, drop, length, slice_index, IfSome, IfNone, OnSome};
 ghost use Rattle.block_codec.specs.Words.{words_of, AreWords};
-ghost use Rattle.block_codec.specs.Blocks.{start_word, IsBlock, IsWhole, Begins};
+ghost use Rattle.block_codec.specs.Blocks.{start_word, IsBlock, IsWholeBlock, Begins};
 ghost use Rattle.block_codec.specs.Reading.{words_before, item_words, front_block};
 ghost use Rattle.block_codec.specs.Reading.{framed_words, IsFramed, view_of};
 
@@ -63,7 +63,7 @@ fn item_count(words: &[u32]) -> Option<usize>
     }
 }
 
-/// The same, with what the number means.
+/// The number of item words of the block that begins the words, with what that number means.
 fn framed_count(words: &[u32]) -> Option<usize>
     requires { length words.now ≤ 160 }
     ensures value { result ≡ framed_words words.now }
@@ -92,7 +92,7 @@ fn framed_block(at: u32, words: &[u32], count: usize) -> Block
     requires aligned { at % 4 ≡ 0 }
     requires near { at < 2 ^ 24 }
     ensures value { result ≡ view_of at words.now count }
-    ensures whole { IsWhole result }
+    ensures whole { IsWholeBlock result }
 {
     let items = items_in(words, count);
     Block::new(at, items, words[count + 2].cast_signed())
@@ -105,7 +105,7 @@ pub fn read_block(piece: &[u8], at: u32) -> Option<Block>
     requires near { at < 2 ^ 24 }
     ensures exact { result ≡ front_block at piece.now }
     ensures found { IfSome result (λ b. Begins at piece.now b) }
-    ensures whole { IfSome result (λ b. IsWhole b) }
+    ensures whole { IfSome result (λ b. IsWholeBlock b) }
     ensures none { IfNone result ((n : ℕ) (items : List ℕ) (link : ℤ)
         → IsBlock (take n piece.now) items link → ⊥) }
 {

@@ -8,7 +8,7 @@ use Rattle.std.specs.List.{slice_get}
 use Rattle.block_codec.specs.Blocks.{BlockView, BlockAt}
 use Rattle.block_codec.specs.Reading.{block_at, front_block}
 use Rattle.block_codec.proofs.AtLemmas.{block_at-aligned, BlockAt-from_found, BlockAt-unique, no_block-from_none}
-use Rattle.block_loop.specs.Loop.{target, shares, IsFirstBlock, IsChain, IsLast, IsLoop, IsOpenChain, IsNext, IsFirstShared, IsFault, block_from, first_block, block_at_offset, is_offset, first_shared, follow, loop_of}
+use Rattle.block_loop.specs.Loop.{target, shares, IsFirstBlock, IsChain, IsLastBlock, IsLoop, IsOpenChain, IsNextBlock, IsFirstShared, IsLoopFault, block_from, first_block, block_at_offset, is_offset, first_shared, follow, loop_of}
 use Rattle.block_loop.specs.declared.fault.LoopFault.{LoopFault}
 use Rattle.block_loop.specs.declared.fault.LoopFault.TheVariants.{NoBlock, Broken, TooMany, Overlap}
 use Rattle.block_loop.proofs.FollowLemmas.{first_from-end, first_from-here, first_from-later, follow-closed, follow-many, follow-broken, follow-overlap, follow-more, loop_of-none, loop_of-first, is_offset-true, is_offset-same, block_at_offset-found, block_at_offset-stands, place-none, none-place, some-place, place-some}
@@ -144,7 +144,7 @@ kept (a ∷ bs) c (suc i) b at = kept bs c i b at
 -- a chain that goes from the block at x to block z
 pub record IsWalk (w : List ℕ) (x : ℕ) (bs : List BlockView) (z : BlockView) : Type 0 where
   pub chain : IsChain w bs
-  pub last : IsLast bs z
+  pub last : IsLastBlock bs z
   pub first : (b : BlockView) → slice_get bs 0 ≡ Some b → b.at ≡ x
 
 -- the first block alone is such a chain
@@ -259,7 +259,7 @@ IsOpenChain-far w x bs z walk far = record {
 -- what a result says of a window
 abbrev pub Says : List ℕ → Result (List BlockView) LoopFault → Type 0
 Says w (Ok bs) = IsLoop w bs
-Says w (Err f) = IsFault w f
+Says w (Err f) = IsLoopFault w f
 
 -- the function that goes from link to link answers the loop or the fault
 follow-says : (n : ℕ) (w : List ℕ) (x : ℕ) (bs : List BlockView) (z : BlockView) → IsWalk w x bs z → length bs + n ≡ 32
@@ -384,8 +384,8 @@ module _ (w : List ℕ) (bs : List BlockView) (a : BlockView) (chain : IsChain w
       follows_chain k y here ∙ ap (λ n. follow n w a.at (take (k + 1) bs) y) more ∙ goes_on k (31 - suc k) y z here next
       ∙ ap (λ n. follow (31 - suc k) w a.at (take n bs) z) (omega arith)
 
-  -- up to its last block
-  follows_whole : (z : BlockView) → IsLast bs z → loop_of w ≡ follow (32 - length bs) w a.at bs z
+  -- the function follows a chain up to its last block
+  follows_whole : (z : BlockView) → IsLastBlock bs z → loop_of w ≡ follow (32 - length bs) w a.at bs z
   follows_whole z last =
       let some = chain.some in
       follows_chain (length bs - 1) z last ∙ ap (λ n. follow n w a.at (take (length bs - 1 + 1) bs) z) (omega arith)
@@ -393,7 +393,7 @@ module _ (w : List ℕ) (bs : List BlockView) (a : BlockView) (chain : IsChain w
 
 -- the ends of a chain
 pub ends : (w : List ℕ) (bs : List BlockView) → IsChain w bs
-    → (a : BlockView) × (z : BlockView) × (slice_get bs 0 ≡ Some a) × IsLast bs z
+    → (a : BlockView) × (z : BlockView) × (slice_get bs 0 ≡ Some a) × IsLastBlock bs z
 ends w bs chain =
     let some = chain.some in
     let (a, first) = some_at bs 0 (omega arith) in
@@ -408,7 +408,7 @@ loop_of-loop w bs loop =
     ∙ follow-closed (32 - length bs) w a.at bs z (is_offset-same (target z) a.at (loop.closed a z first last))
 
 open_far : (w : List ℕ) (bs : List BlockView) (a z : BlockView) → IsOpenChain w bs → slice_get bs 0 ≡ Some a
-    → IsLast bs z → is_offset (target z) a.at ≡ false
+    → IsLastBlock bs z → is_offset (target z) a.at ≡ false
 open_far w bs a z chain first last =
     elim (cases_Bool (is_offset (target z) a.at)) [
       | inr far ↦ far
@@ -416,7 +416,8 @@ open_far w bs a z chain first last =
     ]
 
 -- where no block stands at the last one's target, none is found
-no_next : (w : List ℕ) (bs : List BlockView) (z : BlockView) → IsLast bs z → ((c : BlockView) → IsNext w bs c → ⊥)
+no_next : (w : List ℕ) (bs : List BlockView) (z : BlockView) → IsLastBlock bs z
+    → ((c : BlockView) → IsNextBlock w bs c → ⊥)
     → block_at_offset w (target z) ≡ None
 no_next w bs z last none =
     elim (none_or_some (block_at_offset w (target z))) [
@@ -430,8 +431,8 @@ no_next w bs z last none =
           }))
     ]
 
--- so is its fault
-pub loop_of-fault : (w : List ℕ) (f : LoopFault) → IsFault w f → loop_of w ≡ Err f
+-- a fault of the loop is what the function answers
+pub loop_of-fault : (w : List ℕ) (f : LoopFault) → IsLoopFault w f → loop_of w ≡ Err f
 loop_of-fault w NoBlock none = loop_of-none w (first_block-nowhere w none)
 loop_of-fault w TooMany (bs, open_chain, many) =
     let (a, z, first, last) = ends w bs open_chain.chain in

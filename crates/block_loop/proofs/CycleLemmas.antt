@@ -4,7 +4,7 @@ use Rattle.std.proofs.lemmas.Bool.{cases_lt, cases_order}
 use Rattle.std.proofs.lemmas.Option.{same_Some, slice_get_within}
 use Rattle.std.specs.List.{slice_get}
 use Rattle.block_codec.specs.Blocks.{BlockView, BlockAt}
-use Rattle.block_loop.specs.Loop.{target, IsChain, IsLast, IsLoop}
+use Rattle.block_loop.specs.Loop.{target, IsChain, IsLastBlock, IsLoop}
 use Rattle.block_loop.specs.Offsets.{offsets_of}
 use Rattle.block_loop.specs.Cycles.{IsLike, IsSameCycle, BeginsAmong, KeepsLinks}
 use Rattle.block_loop.proofs.ChainLemmas.{apart_places, some_at, ends}
@@ -99,10 +99,10 @@ module _ (w v : List ℕ) (bs cs : List BlockView) (loop : IsLoop w bs) (other :
     leads_home : (k : ℕ) (e : BlockView) → i + k + 1 ≡ length bs → slice_get cs k ≡ Some e → target e ≡ pos f.at
     leads_home k e end_ at =
         let (d, there) = some_at bs (i + k) (omega arith) in
-        let last : IsLast bs d = ap (slice_get bs) (omega arith) ∙ there in
+        let last : IsLastBlock bs d = ap (slice_get bs) (omega arith) ∙ there in
         like_target d e (follows i k d e start there at) ∙ loop.closed f d front last
 
-    -- so the first blocks are the same
+    -- the first blocks of two such loops are the same
     same_first : f.at ≡ a.at
     same_first =
         let within = slice_get_within bs i b here in
@@ -112,7 +112,7 @@ module _ (w v : List ℕ) (bs cs : List BlockView) (loop : IsLoop w bs) (other :
         let home = leads_home k e (omega arith) at in
         elim (cases_lt (k + 1) (length cs)) [
           | inr all ↦
-              let last : IsLast cs e = ap (slice_get cs) (omega arith) ∙ at in
+              let last : IsLastBlock cs e = ap (slice_get cs) (omega arith) ∙ at in
               same_place f.at a.at (sym home ∙ other.closed a e first last)
           | inl more ↦
               let (n, next) = some_at cs (k + 1) (omega arith) in

@@ -45,7 +45,7 @@ at-place w offsets i x are at loop is =
     let stands = (is-loop w loop is).chain.stand i b.0 b.1 in
     (b.0, b.1, ap (block_at w) (sym b.2) ∙ block_at-stands w b.0.at b.0 stands)
 
--- so some block stands there
+-- some block stands at each offset of the loop
 pub stands-at : (w offsets : List ℕ) (i x : ℕ) → AreLoop w offsets → slice_get offsets i ≡ Some x
     → (b : BlockView) × (block_at w x ≡ Some b)
 stands-at w offsets i x are at =

@@ -12,7 +12,7 @@ use Rattle.block_codec.specs.Erased.{AreErased, IsErasedFrom}
 use Rattle.block_codec.specs.HighByte.{ChangesHighByte, changed_block}
 use Rattle.block_codec.proofs.AtLemmas.{block_at-stands, BlockAt-from_found, block_at-erased, no_block_at_erased}
 use Rattle.block_codec.proofs.HighByteLemmas.{changed-stands, ChangesHighByte-back, changed_block-at, changed_block-length, changed_item, changed_apart}
-use Rattle.block_loop.specs.Loop.{target, shares, IsFirstBlock, IsLoop, IsFault, first_block, block_at_offset, is_offset, first_shared, follow, loop_of}
+use Rattle.block_loop.specs.Loop.{target, shares, IsFirstBlock, IsLoop, IsLoopFault, first_block, block_at_offset, is_offset, first_shared, follow, loop_of}
 use Rattle.block_loop.specs.declared.fault.LoopFault.{LoopFault}
 use Rattle.block_loop.specs.declared.fault.LoopFault.TheVariants.{NoBlock}
 use Rattle.block_loop.proofs.FollowLemmas.{follow-closed, follow-many, follow-broken, follow-overlap, follow-more, loop_of-none, loop_of-first}
@@ -22,27 +22,27 @@ use Rattle.block_loop.proofs.ChainLemmas.{none_or_some, none_or_place, first_blo
 pub IsLoop-from_answer : (w : List ℕ) (bs : List BlockView) → loop_of w ≡ Ok bs → IsLoop w bs
 IsLoop-from_answer w bs e = subst (Says w) e (loop_of-says w)
 
-pub IsFault-from_answer : (w : List ℕ) (f : LoopFault) → loop_of w ≡ Err f → IsFault w f
+pub IsFault-from_answer : (w : List ℕ) (f : LoopFault) → loop_of w ≡ Err f → IsLoopFault w f
 IsFault-from_answer w f e = subst (Says w) e (loop_of-says w)
 
 -- a window has one loop
 pub IsLoop-unique : (w : List ℕ) (bs cs : List BlockView) → IsLoop w bs → IsLoop w cs → bs ≡ cs
 IsLoop-unique w bs cs one two = let e = sym (loop_of-loop w bs one) ∙ loop_of-loop w cs two in cc
 
--- or one fault
-pub IsFault-unique : (w : List ℕ) (f g : LoopFault) → IsFault w f → IsFault w g → f ≡ g
+-- a window has one fault of its loop, where it has one
+pub IsFault-unique : (w : List ℕ) (f g : LoopFault) → IsLoopFault w f → IsLoopFault w g → f ≡ g
 IsFault-unique w f g one two = let e = sym (loop_of-fault w f one) ∙ loop_of-fault w g two in cc
 
--- and never both
-pub no_loop_and_fault : (w : List ℕ) (bs : List BlockView) (f : LoopFault) → IsLoop w bs → IsFault w f → ⊥
+-- no window has both a loop and a fault of its loop
+pub no_loop_and_fault : (w : List ℕ) (bs : List BlockView) (f : LoopFault) → IsLoop w bs → IsLoopFault w f → ⊥
 no_loop_and_fault w bs f loop fault = let e = sym (loop_of-loop w bs loop) ∙ loop_of-fault w f fault in cc
 
 loop_or_fault-by : (w : List ℕ) (r : Result (List BlockView) LoopFault) → Says w r
-    → ((bs : List BlockView) × IsLoop w bs) ⊎ ((f : LoopFault) × IsFault w f)
+    → ((bs : List BlockView) × IsLoop w bs) ⊎ ((f : LoopFault) × IsLoopFault w f)
 loop_or_fault-by w (Ok bs) says = inl (bs, says)
 loop_or_fault-by w (Err f) says = inr (f, says)
 
-pub loop_or_fault : (w : List ℕ) → ((bs : List BlockView) × IsLoop w bs) ⊎ ((f : LoopFault) × IsFault w f)
+pub loop_or_fault : (w : List ℕ) → ((bs : List BlockView) × IsLoop w bs) ⊎ ((f : LoopFault) × IsLoopFault w f)
 loop_or_fault w = loop_or_fault-by w (loop_of w) (loop_of-says w)
 
 -- two windows in which the same blocks stand at each offset
@@ -98,7 +98,7 @@ module _ (w v : List ℕ) (same : (x : ℕ) → block_at w x ≡ block_at v x) w
         ]
       ]
 
-  -- they have the same loop, or the same fault
+  -- two windows in which the same blocks stand at each offset have the same loop, or the same fault
   pub loop_of-same : loop_of w ≡ loop_of v
   loop_of-same =
       elim (none_or_some (first_block w)) [

@@ -7,7 +7,7 @@ use Rattle.std.specs.Prelude.{FitsSigned}
 use Rattle.std.specs.Int.{cast_unsigned, cast_signed, w64}
 use Rattle.std.specs.List.{position_from}
 use Rattle.block_codec.specs.Blocks.{BlockView}
-use Rattle.block_loop.specs.Loop.{target, shares, first_block, block_at_offset, is_offset, first_shared, follow, loop_of, IsFault}
+use Rattle.block_loop.specs.Loop.{target, shares, first_block, block_at_offset, is_offset, first_shared, follow, loop_of, IsLoopFault}
 use Rattle.block_loop.specs.Offsets.{offsets_of, loop_offsets, AreLoop}
 use Rattle.block_loop.specs.Spans.{span_of, spans_share, places_of}
 use Rattle.block_loop.specs.declared.fault.LoopFault.{LoopFault}
@@ -105,11 +105,11 @@ answer-from_AreLoop w offsets are = let (bs, loop, is) = are.blocks in ap loop_o
     ∙ ap Ok is
 
 pub IsFault-from_offsets : (w : List ℕ) (r : Result (List BlockView) LoopFault) (f : LoopFault) → loop_of w ≡ r
-    → loop_offsets r ≡ Err f → IsFault w f
+    → loop_offsets r ≡ Err f → IsLoopFault w f
 IsFault-from_offsets w (Ok bs) f e is = cc
-IsFault-from_offsets w (Err g) f e is = let same : g ≡ f = cc in subst (IsFault w) same (IsFault-from_answer w g e)
+IsFault-from_offsets w (Err g) f e is = let same : g ≡ f = cc in subst (IsLoopFault w) same (IsFault-from_answer w g e)
 
-pub answer-from_IsFault : (w : List ℕ) (f : LoopFault) → IsFault w f → loop_offsets (loop_of w) ≡ Err f
+pub answer-from_IsFault : (w : List ℕ) (f : LoopFault) → IsLoopFault w f → loop_offsets (loop_of w) ≡ Err f
 answer-from_IsFault w f fault = ap loop_offsets (loop_of-fault w f fault)
 
 -- tests of signed numbers by their bits
@@ -128,7 +128,7 @@ pub found_to : (w : List ℕ) (z : BlockView) (s : ℤ) (r : Option BlockView) �
     r ≡ block_at_offset w (target z)
 found_to w z s r f is e = e ∙ ap (block_at_offset w) (to_z-of_z w64 s f ∙ is)
 
--- the same search over equal ranges
+-- a search over equal ranges for an equal one has the same answer
 pub same_search : (r : Option ℕ) (s t : Span) (xs ys : List Span) → xs ≡ ys → s ≡ t
     → r ≡ position_from (λ (u : Span). spans_share u s) 0 xs →
     r ≡ position_from (λ (u : Span). spans_share u t) 0 ys

@@ -1,4 +1,4 @@
--- Loops that lead through the same places: this project's own.
+-- Loops that lead through the same places.
 use Rattle.std.specs.Prelude.{◌≡◌, ℕ, List, length, slice_get, Some}
 use Rattle.block_codec.specs.Blocks.{BlockView, BlockAt}
 

@@ -36,23 +36,24 @@ pub record IsChain (w : List ℕ) (bs : List BlockView) : Type 0 where
       → slice_get bs j ≡ Some c → shares b c ≡ false
 
 -- the last block of a chain
-abbrev pub IsLast : List BlockView → BlockView → Type 0
-IsLast bs b = slice_get bs (length bs - 1) ≡ Some b
+abbrev pub IsLastBlock : List BlockView → BlockView → Type 0
+IsLastBlock bs b = slice_get bs (length bs - 1) ≡ Some b
 
 -- the blocks of a window's loop, in loop order: a chain whose last link leads to the first block
 pub record IsLoop (w : List ℕ) (bs : List BlockView) : Type 0 where
   pub chain : IsChain w bs
-  pub closed : (a z : BlockView) → slice_get bs 0 ≡ Some a → IsLast bs z → target z ≡ pos a.at
+  pub closed : (a z : BlockView) → slice_get bs 0 ≡ Some a → IsLastBlock bs z → target z ≡ pos a.at
 
 -- a chain whose last link leads elsewhere
 pub record IsOpenChain (w : List ℕ) (bs : List BlockView) : Type 0 where
   pub chain : IsChain w bs
-  pub leads_on : (a z : BlockView) → slice_get bs 0 ≡ Some a → IsLast bs z → target z ≢ pos a.at
+  pub leads_on : (a z : BlockView) → slice_get bs 0 ≡ Some a → IsLastBlock bs z
+      → target z ≢ pos a.at
 
 -- the block stands in w where the link of the last block of the chain leads
-pub record IsNext (w : List ℕ) (bs : List BlockView) (c : BlockView) : Type 0 where
+pub record IsNextBlock (w : List ℕ) (bs : List BlockView) (c : BlockView) : Type 0 where
   pub stands : BlockAt w c.at c
-  pub leads : (z : BlockView) → IsLast bs z → target z ≡ pos c.at
+  pub leads : (z : BlockView) → IsLastBlock bs z → target z ≡ pos c.at
 
 -- block i of the chain is the first that shares a byte with the block
 pub record IsFirstShared (bs : List BlockView) (c : BlockView) (i : ℕ) : Type 0 where
@@ -60,15 +61,15 @@ pub record IsFirstShared (bs : List BlockView) (c : BlockView) (i : ℕ) : Type 
   pub before : (k : ℕ) (b : BlockView) → k < i → slice_get bs k ≡ Some b → shares b c ≡ false
 
 -- the fault of a window without a loop
-abbrev pub IsFault : List ℕ → LoopFault → Type 0
-IsFault w NoBlock = (x : ℕ) (b : BlockView) → x < 4096 → BlockAt w x b → ⊥
-IsFault w (Broken x) =
+abbrev pub IsLoopFault : List ℕ → LoopFault → Type 0
+IsLoopFault w NoBlock = (x : ℕ) (b : BlockView) → x < 4096 → BlockAt w x b → ⊥
+IsLoopFault w (Broken x) =
     (bs : List BlockView) × IsOpenChain w bs × (length bs < 32)
-    × ((z : BlockView) → IsLast bs z → z.at ≡ x) × ((c : BlockView) → IsNext w bs c → ⊥)
-IsFault w TooMany = (bs : List BlockView) × IsOpenChain w bs × (length bs ≡ 32)
-IsFault w (Overlap i j) =
+    × ((z : BlockView) → IsLastBlock bs z → z.at ≡ x) × ((c : BlockView) → IsNextBlock w bs c → ⊥)
+IsLoopFault w TooMany = (bs : List BlockView) × IsOpenChain w bs × (length bs ≡ 32)
+IsLoopFault w (Overlap i j) =
     (bs : List BlockView) × IsOpenChain w bs × (length bs ≡ j) × (j < 32)
-    × ((c : BlockView) × IsNext w bs c × IsFirstShared bs c i)
+    × ((c : BlockView) × IsNextBlock w bs c × IsFirstShared bs c i)
 
 -- the first block at one of the next n multiples of 4 from offset x on, where the bytes from x on
 -- are given

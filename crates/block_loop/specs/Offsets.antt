@@ -1,4 +1,4 @@
--- A loop as the list of its blocks' offsets, in loop order: this project's own.
+-- A loop as the list of its blocks' offsets, in loop order.
 use Rattle.std.specs.Prelude.{◌≡◌, ℕ, List, map, Result, Ok, Err}
 use Rattle.block_codec.specs.Blocks.{BlockView}
 use Rattle.block_loop.specs.declared.fault.LoopFault.{LoopFault}

@@ -1,4 +1,4 @@
--- Where a block lies, as a walk keeps it: this project's own.
+-- Where a block lies, as a walk keeps it.
 use Rattle.std.specs.Prelude.{ℕ, ◌+◌, ◌&&◌, nat_lt, Bool, List, map}
 use Rattle.block_codec.specs.Blocks.{BlockView, block_size}
 use Rattle.block_loop.specs.declared.spans.Span.{Span}

@@ -1,7 +1,7 @@
 //! Blocks at offsets of a view.
 
 ghost use Rattle.std.specs.Prelude.{◌≡◌, ◌-◌, ◌%◌, ◌<◌, min, length, IfSome, IfNone};
-ghost use Rattle.block_codec.specs.Blocks.{BlockView, BlockAt, IsWhole};
+ghost use Rattle.block_codec.specs.Blocks.{BlockView, BlockAt, IsWholeBlock};
 ghost use Rattle.block_codec.specs.Reading.{block_at};
 ghost use Rattle.block_loop.specs.Loop.{first_block, block_at_offset};
 
@@ -15,7 +15,7 @@ fn block_in<V: View>(view: &V, at: u32, piece: &mut [u8]) -> Option<Block>
     requires part { length piece.old ≡ min 640 (length (V.bytes view.now) - at) }
     requires aligned { at % 4 ≡ 0 }
     ensures exact { result ≡ block_at (V.bytes view.now) at }
-    ensures whole { IfSome result (λ b. IsWhole b) }
+    ensures whole { IfSome result (λ b. IsWholeBlock b) }
 {
     view.read(at, piece);
     read_block(piece, at)
@@ -25,7 +25,7 @@ fn block_in<V: View>(view: &V, at: u32, piece: &mut [u8]) -> Option<Block>
 pub fn block_at<V: View>(view: &V, at: u32) -> Option<Block>
     ensures exact { result ≡ block_at (V.bytes view.now) at }
     ensures found { IfSome result (λ b. BlockAt (V.bytes view.now) at b) }
-    ensures whole { IfSome result (λ b. IsWhole b) }
+    ensures whole { IfSome result (λ b. IsWholeBlock b) }
     ensures none { IfNone result ((b : BlockView) → BlockAt (V.bytes view.now) at b → ⊥) }
 {
     let len = view.len();
@@ -40,7 +40,7 @@ pub fn block_at<V: View>(view: &V, at: u32) -> Option<Block>
 /// The block at a signed offset of the view.
 pub(crate) fn block_to<V: View>(view: &V, to: i64) -> Option<Block>
     ensures exact { result ≡ block_at_offset (V.bytes view.now) to }
-    ensures whole { IfSome result (λ b. IsWhole b) }
+    ensures whole { IfSome result (λ b. IsWholeBlock b) }
 {
     if to < 0 {
         return None;
@@ -54,7 +54,7 @@ pub(crate) fn block_to<V: View>(view: &V, to: i64) -> Option<Block>
 /// The first block of the view: the one at the least multiple of 4 below 4096.
 pub(crate) fn first_block<V: View>(view: &V) -> Option<Block>
     ensures exact { result ≡ first_block (V.bytes view.now) }
-    ensures whole { IfSome result (λ b. IsWhole b) }
+    ensures whole { IfSome result (λ b. IsWholeBlock b) }
 {
     for place in 0..1024u32 {
         if let Some(block) = block_at(view, 4 * place) {

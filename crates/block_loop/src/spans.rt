@@ -9,9 +9,9 @@ use block_codec::Block;
 /// Where a block lies: its offset and its size, both in bytes.
 #[derive(Debug, Clone, Copy, Default)]
 pub(crate) struct Span {
-    /// The offset of its first byte.
+    /// The offset of the block's first byte.
     pub(crate) at: u32,
-    /// Its size.
+    /// The block's size in bytes.
     pub(crate) size: u32,
 }
 

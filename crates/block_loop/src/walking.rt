@@ -1,8 +1,8 @@
 //! Loops of blocks, from link to link.
 
 ghost use Rattle.std.specs.Prelude.{◌≡◌, ◌↔◌, ℕ, ℤ, List, ◌<◌, ◌≤◌, length, slice_get, IfOk, IfErr, IsErrOf, Ok, Some};
-ghost use Rattle.block_codec.specs.Blocks.{BlockView, IsWhole};
-ghost use Rattle.block_loop.specs.Loop.{target, first_block, loop_of, IsFault};
+ghost use Rattle.block_codec.specs.Blocks.{BlockView, IsWholeBlock};
+ghost use Rattle.block_loop.specs.Loop.{target, first_block, loop_of, IsLoopFault};
 ghost use Rattle.block_loop.specs.Offsets.{loop_offsets, AreLoop};
 
 use crate::fault::LoopFault;
@@ -100,7 +100,7 @@ pub fn walk<V: View>(view: &V) -> Result<BlockLoop, LoopFault>
     ensures loop_ { IfOk result (λ offsets. AreLoop (V.bytes view.now) offsets) }
     ensures each_loop { (offsets : List ℕ) → AreLoop (V.bytes view.now) offsets
         → result ≡ Ok offsets }
-    ensures fault { (f : LoopFault) → IsErrOf result f ↔ IsFault (V.bytes view.now) f }
+    ensures fault { (f : LoopFault) → IsErrOf result f ↔ IsLoopFault (V.bytes view.now) f }
 {
     loop_in(view)
 }
@@ -111,7 +111,7 @@ pub fn block_of<V: View>(view: &V, found: &BlockLoop, i: u32) -> Block
     requires inside { i < length found.now }
     ensures exact { (loop : List BlockView) → loop_of (V.bytes view.now) ≡ Ok loop
         → slice_get loop i ≡ Some result }
-    ensures whole { IsWhole result }
+    ensures whole { IsWholeBlock result }
 {
     match block_at(view, found.at(i)) {
         Some(block) => block,

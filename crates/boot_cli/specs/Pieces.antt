@@ -1,4 +1,4 @@
--- What is read of a reader, and written to a writer, piece by piece. This project's own.
+-- What is read of a reader, and written to a writer, piece by piece.
 use Rattle.std.specs.Prelude.{◌≡◌, ◌≤◌, ℕ, Option, List, ◌++◌, length, take}
 use Rattle.std.specs.Io.KnownBytes.{Appends, Consumes}
 

@@ -30,7 +30,7 @@ impl<R: Print> Sink for Console<'_, R> {
 
     ghost state = { λ console. record { bytes = None; faults = console.faults; steady = false } };
 
-    // It keeps no record of its puts.
+    // The console keeps no record of its puts.
     ghost history = { λ console puts. Unit {0} };
 
     fn put(&mut self, bytes: &[u8]) -> Result<(), SinkFail> {

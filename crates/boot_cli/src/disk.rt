@@ -42,7 +42,7 @@ impl<R: Files> Store for Disk<'_, R> {
       steady = false;
     } };
 
-    // It keeps no record of its calls.
+    // The disk keeps no record of its calls.
     ghost history = { λ disk calls. Unit {0} };
 
     fn read(&mut self, name: &str, limit: u32, into: &mut Vec<u8>) -> Result<(), StoreFail> {

@@ -9,22 +9,22 @@ use Rattle.pico_board.specs.Content.{Content}
 use Rattle.pico_board.specs.Steps.{after_all}
 use Rattle.pico_board.specs.Board.{State as BoardState, DoesAll}
 use Rattle.pico_board.proofs.StepLemmas.{DoesAll-append, DoesAll-append_cut}
-use Rattle.boot_script.specs.Events.{Happening}
+use Rattle.boot_script.specs.Events.{EventView}
 use Rattle.boot_machine.specs.declared.parts.Parts.{Parts}
 use Rattle.boot_machine.specs.declared.state.State.TheVariants as states
-use Rattle.boot_machine.specs.Machines.{Host, InBootsel, Machine, Off, Place, Running, FromFlash, FromRam}
+use Rattle.boot_machine.specs.Machines.{Host, InBootsel, MachineView, Off, StateView, Running, FromFlash, FromRam}
 use Rattle.boot_machine.specs.Boots.{Effect, booted}
 use Rattle.boot_machine.specs.Moves.{bootsel_effect, effect_in}
-use Rattle.boot_machine.specs.Serving.{Served, before_boot, followed, followed_by, is_hosted, served}
+use Rattle.boot_machine.specs.Serving.{ServedEvent, before_boot, followed, followed_by, is_hosted, served_event}
 use Rattle.boot_machine.specs.Standing.{Advances, Comes, IsBy, IsHost, IsServed, Serves, Stands, StandsAt}
 
 -- a machine in BOOTSEL has a host
-pub record HasHost {B : Type 0} (p : Parts B) (place : Place) : Type 0 where
+pub record HasHost {B : Type 0} (p : Parts B) (place : StateView) : Type 0 where
   pub host : Host
   pub is : place ≡ InBootsel host
   pub serves : IsHost p host
 
-pub has-host : {B : Type 0} (p : Parts B) (place : Place) → p.state ≡ states.Bootsel → StandsAt p place
+pub has-host : {B : Type 0} (p : Parts B) (place : StateView) → p.state ≡ states.Bootsel → StandsAt p place
     → HasHost p place
 has-host p Off is off = let no : states.Bootsel ≡ states.Off = sym is ∙ off in cc no
 has-host p (InBootsel host) is at = record { host = host; is = refl; serves = at }
@@ -34,20 +34,20 @@ has-host p (Running (FromRam image)) is run =
     let no : states.Bootsel ≡ states.Running image = sym is ∙ run.state in cc no
 
 -- the effect of an event of a host is what is served, and the boot that follows
-hosted-effect : (c : Content) (cpu : Cpu) (host : Host) (event : Happening) → is_hosted event ≡ true
-    → followed c cpu (served c cpu host event) ≡ bootsel_effect c cpu host event
-hosted-effect c cpu host (Happening.Command command payload) is = refl
-hosted-effect c cpu host (Happening.Uf2 block) is = refl
-hosted-effect c cpu host Happening.End is = cc is
-hosted-effect c cpu host (Happening.Cut left within pattern) is = cc is
-hosted-effect c cpu host Happening.PowerOn is = cc is
-hosted-effect c cpu host (Happening.Reset kind) is = cc is
-hosted-effect c cpu host Happening.Buy is = cc is
+hosted-effect : (c : Content) (cpu : Cpu) (host : Host) (event : EventView) → is_hosted event ≡ true
+    → followed c cpu (served_event c cpu host event) ≡ bootsel_effect c cpu host event
+hosted-effect c cpu host (EventView.Command command payload) is = refl
+hosted-effect c cpu host (EventView.Uf2 block) is = refl
+hosted-effect c cpu host EventView.End is = cc is
+hosted-effect c cpu host (EventView.Cut left within pattern) is = cc is
+hosted-effect c cpu host EventView.PowerOn is = cc is
+hosted-effect c cpu host (EventView.Reset kind) is = cc is
+hosted-effect c cpu host EventView.Buy is = cc is
 
 module _ {B : Type 0} (state : B → BoardState) (history : B → List Step → Type 0) where
   -- an effect of the parts' own content is that of the machine
-  pub advance-by : (old new : Parts B) (event : Happening) (line : List ℕ)
-      → ((m : Machine) → Stands state old m
+  pub advance-by : (old new : Parts B) (event : EventView) (line : List ℕ)
+      → ((m : MachineView) → Stands state old m
       → Comes state history old (effect_in (state old.board).content old.cpu m.place event) new line)
       → Advances state history old event new line
   advance-by old new event line comes m stands =
@@ -56,7 +56,7 @@ module _ {B : Type 0} (state : B → BoardState) (history : B → List Step → 
       (sym stands.cpu) (comes m stands)))
 
   -- power is lost before the boot
-  lost-by : (old new : Parts B) (s : Served) (boot : Option BootKind) (c : Content) (cpu : Cpu) (line : List ℕ)
+  lost-by : (old new : Parts B) (s : ServedEvent) (boot : Option BootKind) (c : Content) (cpu : Cpu) (line : List ℕ)
       → IsBy state history old (before_boot s) false new line
       → IsBy state history old (followed_by c cpu s boot) false new line
   lost-by old new s None c cpu line by = by
@@ -70,7 +70,7 @@ module _ {B : Type 0} (state : B → BoardState) (history : B → List Step → 
   }
 
   -- no boot is asked for, or power was lost
-  served-alone : (old new : Parts B) (s : Served) (c : Content) (cpu : Cpu) (line : List ℕ)
+  served-alone : (old new : Parts B) (s : ServedEvent) (c : Content) (cpu : Cpu) (line : List ℕ)
       → IsServed state history old s None new line → Comes state history old (followed c cpu s) new line
   served-alone old new s c cpu line is = with_ok is.ok is.by is.asked
     where
@@ -95,7 +95,7 @@ module _ {B : Type 0} (state : B → BoardState) (history : B → List Step → 
   }
 
   -- what is known once a boot is asked for
-  pub asked-power : (old mid : Parts B) (s : Served) (kind : BootKind) (line : List ℕ)
+  pub asked-power : (old mid : Parts B) (s : ServedEvent) (kind : BootKind) (line : List ℕ)
       → IsServed state history old s (Some kind) mid line → IsTrue (state mid.board).powered
   asked-power old mid s kind line is = with_ok is.ok is.by is.silent
     where
@@ -105,7 +105,7 @@ module _ {B : Type 0} (state : B → BoardState) (history : B → List Step → 
       with_ok false by silent = cc silent
 
   -- the boot that is asked for is made
-  served-boot : (old mid new : Parts B) (s : Served) (kind : BootKind) (told line : List ℕ)
+  served-boot : (old mid new : Parts B) (s : ServedEvent) (kind : BootKind) (told line : List ℕ)
       → IsServed state history old s (Some kind) mid told
       → Comes state history mid (booted (state mid.board).content mid.cpu kind (told ++ codes " boot ")) new line
       → Comes state history old (followed (state old.board).content old.cpu s) new line
@@ -127,19 +127,19 @@ module _ {B : Type 0} (state : B → BoardState) (history : B → List Step → 
                 line) asked (by-then old mid new (before_boot s) s.steps _ (done.0) told line refl by (done.1)),
           )
 
-  pub advances-alone : (old new : Parts B) (event : Happening) (line : List ℕ) → old.state ≡ states.Bootsel
-      → is_hosted event ≡ true → Serves state history old (λ c cpu host. served c cpu host event) None new line
+  pub advances-alone : (old new : Parts B) (event : EventView) (line : List ℕ) → old.state ≡ states.Bootsel
+      → is_hosted event ≡ true → Serves state history old (λ c cpu host. served_event c cpu host event) None new line
       → Advances state history old event new line
   advances-alone old new event line is hosted serves = advance-by old new event line (λ m stands.
       let at = has-host old m.place is stands.place in
       let c = (state old.board).content in
       subst (λ place. Comes state history old (effect_in c old.cpu place event) new line) (sym at.is)
       (subst (λ e. Comes state history old e new line) (hosted-effect c old.cpu at.host event hosted)
-      (served-alone old new (served c old.cpu at.host event) c old.cpu line (serves at.host at.serves))))
+      (served-alone old new (served_event c old.cpu at.host event) c old.cpu line (serves at.host at.serves))))
 
-  pub advances-boot : (old mid new : Parts B) (event : Happening) (kind : BootKind) (told line : List ℕ)
+  pub advances-boot : (old mid new : Parts B) (event : EventView) (kind : BootKind) (told line : List ℕ)
       → old.state ≡ states.Bootsel → is_hosted event ≡ true
-      → Serves state history old (λ c cpu host. served c cpu host event) (Some kind) mid told
+      → Serves state history old (λ c cpu host. served_event c cpu host event) (Some kind) mid told
       → Comes state history mid (booted (state mid.board).content mid.cpu kind (told ++ codes " boot ")) new line
       → Advances state history old event new line
   advances-boot old mid new event kind told line is hosted serves comes = advance-by old new event line (λ m stands.
@@ -147,4 +147,4 @@ module _ {B : Type 0} (state : B → BoardState) (history : B → List Step → 
       let c = (state old.board).content in
       subst (λ place. Comes state history old (effect_in c old.cpu place event) new line) (sym at.is)
       (subst (λ e. Comes state history old e new line) (hosted-effect c old.cpu at.host event hosted)
-      (served-boot old mid new (served c old.cpu at.host event) kind told line (serves at.host at.serves) comes)))
+      (served-boot old mid new (served_event c old.cpu at.host event) kind told line (serves at.host at.serves) comes)))

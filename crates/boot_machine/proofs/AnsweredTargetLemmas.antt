@@ -17,19 +17,19 @@ use Rattle.uf2_place.specs.declared.answer.PlaceFault.{PlaceFault}
 use Rattle.uf2_place.specs.declared.answer.PlaceFault.TheVariants.{NotPermitted, Outside}
 use Rattle.uf2_place.specs.declared.answer.Accepted.TheVariants.{Skipped}
 use Rattle.uf2_place.specs.Placement.{grown, sector_in}
-use Rattle.uf2_place.specs.Rulings.{begun, is_skipped, is_within}
+use Rattle.uf2_place.specs.Rulings.{begun, is_skipped, is_page_within}
 use Rattle.info_reply.specs.declared.kinds.TheConstants.{INFO}
 use Rattle.info_reply.specs.Infos.{bit, target_words}
 use Rattle.picoboot_cmd.specs.declared.cmd.Cmd.{Cmd}
 use Rattle.picoboot_cmd.specs.Commands.{command_in}
 use Rattle.ram_start.specs.Serving.{is_ram_command}
 use Rattle.boot_rules.specs.Targets.{target_of}
-use Rattle.boot_script.specs.Events.{Happening}
-use Rattle.boot_lines.specs.Texts.{command_text, refused_text}
-use Rattle.boot_machine.specs.Machines.{Host, InBootsel, Machine, Placing, Place}
+use Rattle.boot_script.specs.Events.{EventView}
+use Rattle.text_lines.specs.Texts.{command_text, refused_text}
+use Rattle.boot_machine.specs.Machines.{Host, InBootsel, MachineView, Placing, StateView}
 use Rattle.boot_machine.specs.Moves.{Moves, MovesBy, Decides, effect_in}
-use Rattle.boot_machine.specs.Runs.{AnswersTarget, BeginsDownload, IsNew, served_by}
-use Rattle.boot_machine.specs.Serving.{info_reply, Served, carried_on, uf2_served, command_served, serves_ram, serves_host, taken_in, block_served, followed, info_words, is_like, ruled_on, ruling_on, served, serves_info, info_text, table_of, line_only}
+use Rattle.boot_machine.specs.Runs.{AnswersTarget, BeginsDownload, IsNewDownload, served_by}
+use Rattle.boot_machine.specs.Serving.{info_reply, ServedEvent, carried_on, uf2_served, command_served, serves_ram, serves_host, taken_in, block_served, followed, info_words, is_like, ruled_on, ruling_on, served_event, serves_info, info_line, table_of_found, line_only}
 
 -- two flags are told apart by their number
 flags-apart : (a b c d : Bool) → bit a + 2 * bit b ≡ bit c + 2 * bit d → (a ≡ c) × (b ≡ d)
@@ -80,7 +80,7 @@ words-apart (Some a) None e = cc
 words-apart (Some a) (Some b) e =
     ap Some (same-target a b (ap second e) (ap third e) (flags-apart a.gated a.stay b.gated b.stay (ap fourth e)))
 
--- and so are the bytes, where the words fit
+-- the bytes of two targets' words are the same only where the targets are, where the words fit
 pub bytes-apart : (a b : Option Target) → AreWords (target_words a) → AreWords (target_words b)
     → bytes_of (target_words a) ≡ bytes_of (target_words b) → a ≡ b
 bytes-apart a b fits others same =
@@ -99,37 +99,38 @@ if-true t a b e = ap (λ x. cond x a b) e
 module _ (c : Content) (cpu : Cpu) (host : Host) (command payload : List ℕ) (family : ℕ) (answer : Option Target)
     (is : AnswersTarget c cpu host command payload family answer) where
   -- what is answered is the family's target
-  pub target-answered : target_of c (table_of host.found) cpu family ≡ answer
+  pub target-answered : target_of c (table_of_found host.found) cpu family ≡ answer
   target-answered =
-      words-apart (target_of c (table_of host.found) cpu family) answer
+      words-apart (target_of c (table_of_found host.found) cpu family) answer
       (sym (ap (info_words c cpu host.found) is.asked) ∙ is.words)
 
   module _ (bytes : List ℕ) (b : Uf2) (begins : BeginsDownload (length c.flash) host family bytes b) where
-    rule : (given : Option Target) (placing : Option Placing) → IsNew placing b
-        → ruled_on (table_of host.found) given placing b ≡ begun (table_of host.found) b given
+    rule : (given : Option Target) (placing : Option Placing) → IsNewDownload placing b
+        → ruled_on (table_of_found host.found) given placing b ≡ begun (table_of_found host.found) b given
     rule given None new = refl
     rule given (Some placing) new =
-        if-false (is_like placing.blocks b) (carried_on (table_of host.found) placing b)
-        (begun (table_of host.found) b given) new
+        if-false (is_like placing.blocks b) (carried_on (table_of_found host.found) placing b)
+        (begun (table_of_found host.found) b given) new
 
-    pub ruling-answered : ruling_on (length c.flash) (table_of host.found)
-        (target_of c (table_of host.found) cpu b.family) host.placing b ≡ begun (table_of host.found) b answer
+    pub ruling-answered : ruling_on (length c.flash) (table_of_found host.found)
+        (target_of c (table_of_found host.found) cpu b.family) host.placing b
+        ≡ begun (table_of_found host.found) b answer
     ruling-answered =
-        let given = target_of c (table_of host.found) cpu b.family in
+        let given = target_of c (table_of_found host.found) cpu b.family in
         if-false (is_skipped (length c.flash) b) (Answered (Ok Skipped))
-        (ruled_on (table_of host.found) given host.placing b) begins.kept
+        (ruled_on (table_of_found host.found) given host.placing b) begins.kept
         ∙ rule given host.placing begins.new
-        ∙ ap (begun (table_of host.found) b)
-        (ap (λ f. target_of c (table_of host.found) cpu f) begins.same ∙ target-answered)
+        ∙ ap (begun (table_of_found host.found) b)
+        (ap (λ f. target_of c (table_of_found host.found) cpu f) begins.same ∙ target-answered)
 
-    pub served-answered : served c cpu host (Happening.Uf2 bytes) ≡ served_by host answer b
+    pub served-answered : served_event c cpu host (EventView.Uf2 bytes) ≡ served_by host answer b
     served-answered = ap (uf2_served c cpu host) begins.is ∙ ap (block_served host b) ruling-answered
 
-abbrev machine : Content → Option (Option Cut) → Cpu → Place → Machine
+abbrev machine : Content → Option (Option Cut) → Cpu → StateView → MachineView
 machine c armed cpu place = record { content = c; armed = armed; cpu = cpu; place = place }
 
 -- a move that does no step and leaves the place leaves the machine
-pub still-moves : (m n : Machine) (place : Place) (line text : List ℕ) → m.place ≡ place
+pub still-moves : (m n : MachineView) (place : StateView) (line text : List ℕ) → m.place ≡ place
     → MovesBy m m.armed (record { steps = []; place = place; text = line }) n text → (n ≡ m) × (text ≡ line)
 still-moves m n place line text at (inr lost) = absurd lost.content
 still-moves m n place line text at (inl done) = (
@@ -141,23 +142,23 @@ still-moves m n place line text at (inl done) = (
     armed None b c d is = is
     armed (Some cut) b c d is = is.next
 
-    same : (m n : Machine) → n.content ≡ m.content → n.armed ≡ m.armed → n.cpu ≡ m.cpu → n.place ≡ m.place → n ≡ m
+    same : (m n : MachineView) → n.content ≡ m.content → n.armed ≡ m.armed → n.cpu ≡ m.cpu → n.place ≡ m.place → n ≡ m
     same m n e f g h =
         ap (λ x. machine x n.armed n.cpu n.place) e ∙ ap (λ x. machine m.content x n.cpu n.place) f
         ∙ ap (λ x. machine m.content m.armed x n.place) g ∙ ap (λ x. machine m.content m.armed m.cpu x) h
 
 -- what moves is what is served, in BOOTSEL
-pub hosted-moves : (m n : Machine) (host : Host) (bytes text : List ℕ) (s : Served) → m.place ≡ InBootsel host
-    → served m.content m.cpu host (Happening.Uf2 bytes) ≡ s → Moves m (Happening.Uf2 bytes) n text
+pub hosted-moves : (m n : MachineView) (host : Host) (bytes text : List ℕ) (s : ServedEvent) → m.place ≡ InBootsel host
+    → served_event m.content m.cpu host (EventView.Uf2 bytes) ≡ s → Moves m (EventView.Uf2 bytes) n text
     → MovesBy m m.armed (followed m.content m.cpu s) n text
 hosted-moves m n host bytes text s at is moves =
-    subst (λ (x : Served). MovesBy m m.armed (followed m.content m.cpu x) n text) is
-    (subst (λ (p : Place). MovesBy m m.armed (effect_in m.content m.cpu p (Happening.Uf2 bytes)) n text) at moves)
+    subst (λ (x : ServedEvent). MovesBy m m.armed (followed m.content m.cpu x) n text) is
+    (subst (λ (p : StateView). MovesBy m m.armed (effect_in m.content m.cpu p (EventView.Uf2 bytes)) n text) at moves)
 
-module _ (m n : Machine) (host : Host) (command payload text : List ℕ) (family : ℕ) (answer : Option Target)
+module _ (m n : MachineView) (host : Host) (command payload text : List ℕ) (family : ℕ) (answer : Option Target)
     (at : m.place ≡ InBootsel host) (is : AnswersTarget m.content m.cpu host command payload family answer)
-    (moves : Moves m (Happening.Command command payload) n text) where
-  info-served : served m.content m.cpu host (Happening.Command command payload)
+    (moves : Moves m (EventView.Command command payload) n text) where
+  info-served : served_event m.content m.cpu host (EventView.Command command payload)
       ≡ line_only host (command_text is.cmd 0 (bytes_of (target_words answer)))
   unfolding info_reply
   info-served =
@@ -165,15 +166,15 @@ module _ (m n : Machine) (host : Host) (command payload text : List ℕ) (family
       ∙ if-true (is.cmd.id == INFO) (serves_info m.content m.cpu host is.cmd payload)
       (if is_ram_command is.cmd then serves_ram m.content m.cpu host is.cmd payload
       else serves_host m.content host is.cmd payload) (eq-eqb is.cmd.id INFO is.id)
-      ∙ ap (λ status. line_only host (info_text status m.content m.cpu host.found is.cmd)) is.status
+      ∙ ap (λ status. line_only host (info_line status m.content m.cpu host.found is.cmd)) is.status
       ∙ ap (λ words. line_only host (command_text is.cmd 0 (bytes_of words))) is.words
 
   info-moves : MovesBy m m.armed (followed m.content m.cpu
       (line_only host (command_text is.cmd 0 (bytes_of (target_words answer))))) n text
   info-moves =
-      subst (λ (x : Served). MovesBy m m.armed (followed m.content m.cpu x) n text) info-served
-      (subst (λ (p : Place). MovesBy m m.armed
-      (effect_in m.content m.cpu p (Happening.Command command payload)) n text) at moves)
+      subst (λ (x : ServedEvent). MovesBy m m.armed (followed m.content m.cpu x) n text) info-served
+      (subst (λ (p : StateView). MovesBy m m.armed
+      (effect_in m.content m.cpu p (EventView.Command command payload)) n text) at moves)
 
   info-still : (n ≡ m) × (text ≡ command_text is.cmd 0 (bytes_of (target_words answer)))
   info-still =
@@ -183,24 +184,24 @@ module _ (m n : Machine) (host : Host) (command payload text : List ℕ) (family
       × (text ≡ command_text cmd 0 (bytes_of (target_words answer))))
   info-told = (info-still.0, (is.cmd, is.is, info-still.1))
 
-  module _ (o : Machine) (bytes line : List ℕ) (b : Uf2)
+  module _ (o : MachineView) (bytes line : List ℕ) (b : Uf2)
       (begins : BeginsDownload (length m.content.flash) host family bytes b)
-      (next : Moves n (Happening.Uf2 bytes) o line) where
+      (next : Moves n (EventView.Uf2 bytes) o line) where
     pub block-moves : MovesBy m m.armed (followed m.content m.cpu (served_by host answer b)) o line
     block-moves =
         hosted-moves m o host bytes line (served_by host answer b) at
         (served-answered m.content m.cpu host command payload family answer is bytes b begins)
-        (subst (λ (x : Machine). Moves x (Happening.Uf2 bytes) o line) (info-still.0) next)
+        (subst (λ (x : MachineView). Moves x (EventView.Uf2 bytes) o line) (info-still.0) next)
 
     -- where the ruling is a refusal, nothing is done but a line
-    pub block-refused : (fault : PlaceFault) → begun (table_of host.found) b answer ≡ Answered (Err fault)
+    pub block-refused : (fault : PlaceFault) → begun (table_of_found host.found) b answer ≡ Answered (Err fault)
         → (o ≡ m) × (line ≡ refused_text fault)
     block-refused fault rules =
         still-moves m o (InBootsel host) (refused_text fault) line at
         (subst (λ (r : Ruling). MovesBy m m.armed (followed m.content m.cpu (block_served host b r)) o line) rules
         block-moves)
 
-    pub block-begins : (t : Target) → begun (table_of host.found) b answer ≡ Begins t
+    pub block-begins : (t : Target) → begun (table_of_found host.found) b answer ≡ Begins t
         → MovesBy m m.armed (followed m.content m.cpu (taken_in host t (b ∷ []) b (grown t [] (b ∷ [])))) o line
     block-begins t rules =
         subst (λ (r : Ruling). MovesBy m m.armed (followed m.content m.cpu (block_served host b r)) o line) rules
@@ -214,15 +215,15 @@ module _ (table : Option Table) (b : Uf2) (t : Target) where
   abbrev by_place : Bool → Bool → Ruling
   by_place inside may = if not inside then Answered (Err Outside) else by_right may
 
-  pub begun-outside : is_within t.window.len b ≡ false → begun table b (Some t) ≡ Answered (Err Outside)
+  pub begun-outside : is_page_within t.window.len b ≡ false → begun table b (Some t) ≡ Answered (Err Outside)
   begun-outside out = ap (λ x. by_place x (allowed_by table (sector_in t.window b) BootWrite)) out
 
-  pub begun-forbidden : is_within t.window.len b ≡ true → allowed_by table (sector_in t.window b) BootWrite ≡ false
+  pub begun-forbidden : is_page_within t.window.len b ≡ true → allowed_by table (sector_in t.window b) BootWrite ≡ false
       → begun table b (Some t) ≡ Answered (Err NotPermitted)
   begun-forbidden inside may =
       ap (λ x. by_place x (allowed_by table (sector_in t.window b) BootWrite)) inside ∙ ap by_right may
 
-  pub begun-taken : is_within t.window.len b ≡ true → allowed_by table (sector_in t.window b) BootWrite ≡ true
+  pub begun-taken : is_page_within t.window.len b ≡ true → allowed_by table (sector_in t.window b) BootWrite ≡ true
       → begun table b (Some t) ≡ Begins t
   begun-taken inside may =
       ap (λ x. by_place x (allowed_by table (sector_in t.window b) BootWrite)) inside ∙ ap by_right may

@@ -12,12 +12,12 @@ use Rattle.part_table.specs.Sound.{IsSoundTable}
 use Rattle.uf2_place.specs.Downloads.{IsTargetIn}
 use Rattle.boot_script.specs.declared.event.Event.{Event}
 use Rattle.boot_script.specs.declared.event.Event.TheVariants as events
-use Rattle.boot_script.specs.Events.{Happening, event_from}
+use Rattle.boot_script.specs.Events.{EventView, event_from}
 use Rattle.boot_machine.specs.declared.parts.Parts.{Parts}
-use Rattle.boot_machine.specs.Machines.{Machine, Off, InBootsel, Place, Running, FromFlash, FromRam}
+use Rattle.boot_machine.specs.Machines.{MachineView, Off, InBootsel, StateView, Running, FromFlash, FromRam}
 use Rattle.boot_machine.specs.Boots.{Effect}
 use Rattle.boot_machine.specs.Moves.{Decides, armed_for, effect, effect_in}
-use Rattle.boot_machine.specs.Standing.{Comes, IsBy, IsHeld, IsIdle, IsStep, IsSteady, Stands, StandsAt}
+use Rattle.boot_machine.specs.Standing.{Comes, IsBy, IsHeldChoice, IsIdle, IsStep, IsSteady, Stands, StandsAt}
 use Rattle.boot_machine.proofs.MoveTextLemmas.{not-lost}
 use Rattle.boot_machine.proofs.SteadinessLemmas.{with_board}
 
@@ -34,7 +34,7 @@ told-decides (Some cut) c steps ok t told = record { answer = told.answer; left 
 
 module _ {B : Type 0} (state : B → BoardState) (history : B → List Step → Type 0) where
   -- the machine that the parts stand for in this place
-  abbrev machine_at : Parts B → Machine → Place → Machine
+  abbrev machine_at : Parts B → MachineView → StateView → MachineView
   machine_at p m place = record {
     content = (state p.board).content;
     armed = (state p.board).armed;
@@ -46,7 +46,7 @@ module _ {B : Type 0} (state : B → BoardState) (history : B → List Step → 
   no-steps board steps none = λ h done. subst (λ xs. history board (h ++ xs)) (sym none)
       (subst (history board) (sym (append-nil h)) done)
 
-  idle-step : (old new : Parts B) (m : Machine) (event : Happening) (e : Effect) (line : List ℕ)
+  idle-step : (old new : Parts B) (m : MachineView) (event : EventView) (e : Effect) (line : List ℕ)
       → effect m event ≡ e → armed_for m.armed event ≡ m.armed → Stands state old m
       → IsIdle state history old e new line → IsStep state history old m event new line
   idle-step old new m event e line is armed stands idle = record {
@@ -75,7 +75,7 @@ module _ {B : Type 0} (state : B → BoardState) (history : B → List Step → 
       none : (effect m event).steps ≡ []
       none = ap (λ (x : Effect). x.steps) is ∙ idle.none
 
-  by-step : (old new : Parts B) (m : Machine) (event : Happening) (line : List ℕ) (ok : Bool)
+  by-step : (old new : Parts B) (m : MachineView) (event : EventView) (line : List ℕ) (ok : Bool)
       → armed_for m.armed event ≡ m.armed → Stands state old m
       → IsBy state history old (effect m event) ok new line → IsStep state history old m event new line
   by-step old new m event line true armed stands by = record {
@@ -119,7 +119,7 @@ module _ {B : Type 0} (state : B → BoardState) (history : B → List Step → 
   }
 
   -- what the parts did is the move of the event
-  pub step-of : (old new : Parts B) (m : Machine) (event : Happening) (line : List ℕ)
+  pub step-of : (old new : Parts B) (m : MachineView) (event : EventView) (line : List ℕ)
       → effect m event ≡ effect_in m.content m.cpu m.place event → armed_for m.armed event ≡ m.armed
       → Stands state old m
       → IsIdle state history old (effect_in m.content m.cpu m.place event) new line
@@ -132,7 +132,7 @@ module _ {B : Type 0} (state : B → BoardState) (history : B → List Step → 
       (subst (λ e. IsBy state history old e (comes.0) new line) (sym is) (comes.1))
 
   -- an event that is told and does nothing
-  pub told-step : (old : Parts B) (m : Machine) (event : Happening) (e : Effect) (line : List ℕ)
+  pub told-step : (old : Parts B) (m : MachineView) (event : EventView) (e : Effect) (line : List ℕ)
       → effect m event ≡ e → armed_for m.armed event ≡ m.armed → e.steps ≡ [] → e.place ≡ m.place → line ≡ e.text
       → Stands state old m → IsStep state history old m event old line
   told-step old m event e line is armed none place text stands =
@@ -140,7 +140,7 @@ module _ {B : Type 0} (state : B → BoardState) (history : B → List Step → 
       (record { same = refl; none = none; place = subst (StandsAt old) (sym place) stands.place; text = text })
 
   -- another board changes nothing of the place
-  stands-board : (p : Parts B) (board : B) (place : Place) → StandsAt p place → StandsAt (with_board p board) place
+  stands-board : (p : Parts B) (board : B) (place : StateView) → StandsAt p place → StandsAt (with_board p board) place
   stands-board p board Off is = is
   stands-board p board (InBootsel host) is =
       record { state = is.state; found = is.found; placing = is.placing; ram = is.ram }
@@ -152,11 +152,11 @@ module _ {B : Type 0} (state : B → BoardState) (history : B → List Step → 
   armed-decides armed c cut = none-decided (option_map (λ former. Some cut) armed) c
 
   -- a cut is armed
-  pub arm-step : (old : Parts B) (board : B) (m : Machine) (left : ℕ) (within : Bool) (pattern line : List ℕ)
+  pub arm-step : (old : Parts B) (board : B) (m : MachineView) (left : ℕ) (within : Bool) (pattern line : List ℕ)
       → Becomes state history old.board
       (with_cut (state old.board) (record { left = left; within = within; pattern = pattern })) board
       → line ≡ codes "cut armed" → Stands state old m
-      → IsStep state history old m (Happening.Cut left within pattern) (with_board old board) line
+      → IsStep state history old m (EventView.Cut left within pattern) (with_board old board) line
   arm-step old board m left within pattern line becomes text stands =
       let cut : Cut = record { left = left; within = within; pattern = pattern } in record {
         next = record {
@@ -181,7 +181,7 @@ module _ {B : Type 0} (state : B → BoardState) (history : B → List Step → 
         };
         later = subst (λ (s : BoardState). (state old.board).cuts ≤ s.cuts) (sym becomes.same) (omega arith);
         recorded = λ other h done. subst (history board) (sym (append-nil h)) (becomes.recorded h done);
-        lost = λ same. absurd (not-lost m (Happening.Cut left within pattern) (sym text ∙ same));
+        lost = λ same. absurd (not-lost m (EventView.Cut left within pattern) (sym text ∙ same));
       }
 
   -- the parts stay steady
@@ -196,7 +196,7 @@ module _ {B : Type 0} (state : B → BoardState) (history : B → List Step → 
     carries = steady.carries;
     idle = steady.idle;
     found = λ on f is. subst (λ c. IsSoundTable f.table (length c.flash / 4096)) same (steady.found on f is);
-    held = λ choice run. subst (λ c. IsHeld c old.cpu choice) same
+    held = λ choice run. subst (λ c. IsHeldChoice c old.cpu choice) same
         (steady.held choice (record { state = run.state; membership = run.membership }));
   }
     where
@@ -204,7 +204,7 @@ module _ {B : Type 0} (state : B → BoardState) (history : B → List Step → 
       same = ap (λ (s : BoardState). s.content) (sym becomes.same)
 
 -- every event but a cut and the end is by the state
-pub plain-event : (m : Machine) (event : Event) → event ≢ events.End
+pub plain-event : (m : MachineView) (event : Event) → event ≢ events.End
     → ((left : ℕ) (within : Bool) (pattern : Bor (List ℕ)) → event ≢ events.Cut left within pattern)
     → (effect m (event_from event) ≡ effect_in m.content m.cpu m.place (event_from event))
     × (armed_for m.armed (event_from event) ≡ m.armed)

@@ -3,7 +3,7 @@ use Rattle.std.proofs.Common.{◌≡◌, ℕ, suc, ◌≤◌, Bool, false, cond,
 use Rattle.std.specs.Prelude.{All, not, count_by}
 use Rattle.std.proofs.lemmas.List.Sums.{sum_by-cons}
 use Rattle.pico_board.specs.Board.{State as BoardState}
-use Rattle.sector_pool.specs.Pool.{IsNew, Pool, free_count}
+use Rattle.sector_pool.specs.Pool.{IsNewPool, Pool, free_count}
 use Rattle.boot_machine.specs.declared.parts.Parts.{Parts}
 use Rattle.boot_machine.specs.declared.state.State.TheVariants.{Off}
 use Rattle.boot_machine.specs.Standing.{IsSteady}
@@ -25,6 +25,6 @@ all-free (is_out ∷ rest) all =
     rw (sum_by-cons (λ (b : Bool). cond (not b) 1 0) is_out rest, here) (omega (arith, all-free rest others))
 
 -- a new pool of two sectors and more has two free ones
-pub new_free : (n : ℕ) (pool : Pool) → IsNew n pool → 2 ≤ n → 2 ≤ free_count pool
+pub new_free : (n : ℕ) (pool : Pool) → IsNewPool n pool → 2 ≤ n → 2 ≤ free_count pool
 new_free n pool new some =
     let all = all-free pool.out new.free in let long = new.numbers in omega (arith, all, long, some)

@@ -27,15 +27,15 @@ use Rattle.uf2_place.specs.declared.answer.Ruling.{Ruling}
 use Rattle.uf2_place.specs.declared.answer.Ruling.TheVariants.{Answered, Begins, Continues}
 use Rattle.uf2_place.specs.declared.block.Uf2.{Uf2}
 use Rattle.uf2_place.specs.declared.current.Current.{Current}
-use Rattle.uf2_place.specs.Accepting.{AnswersAtOnce, rules, Kept, Places, StandsFor, answer_after, has_power}
+use Rattle.uf2_place.specs.Accepting.{AnswersAtOnce, rules, DownloadView, Places, StandsFor, answer_after, has_power}
 use Rattle.uf2_place.specs.Marks.{is_marked}
-use Rattle.uf2_place.specs.Placement.{IsBlockOf, grown, is_whole, numbers_of, sector_in}
-use Rattle.uf2_place.specs.Rulings.{aimed, begun, continued, continues, is_of, is_skipped, is_within, ruled, ruling, wanted}
+use Rattle.uf2_place.specs.Placement.{IsBlockOf, grown, is_whole_download, numbers_of, sector_in}
+use Rattle.uf2_place.specs.Rulings.{aimed, begun, continued, continues, is_of, is_skipped, is_page_within, ruled, ruling, wanted}
 use Rattle.uf2_place.specs.Downloads.{IsTargetIn}
 use Rattle.uf2_place.proofs.RuledLemmas.{rules-begins}
 use Rattle.boot_rules.specs.Targets.{target_of}
 use Rattle.boot_machine.specs.Machines.{Host, Placing}
-use Rattle.boot_machine.specs.Serving.{Served, block_text, answer_of, block_served, blocks_of, carried_on, is_like, ruled_on, ruling_on, taken_in, line_only, wanted_in}
+use Rattle.boot_machine.specs.Serving.{ServedEvent, block_text, boot_after_block, block_served, blocks_of, carried_on, is_like, ruled_on, ruling_on, taken_in, line_only, wanted_in}
 use Rattle.boot_machine.specs.Standing.{Carries, IsDoneIn, IsServedBlock}
 
 -- the blocks that a download stands for are of its family and its count
@@ -76,7 +76,7 @@ wants-new n table c cpu current b kept new =
     ∙ ap (λ x. wanted_in c table cpu (if x then None else Some b.family)) new
 
 -- the ruling on a block is that by the blocks that the download stands for
-pub ruling-alike : (n : ℕ) (table : Option Table) (c : Content) (cpu : Cpu) (d : Kept) (pool : Pool)
+pub ruling-alike : (n : ℕ) (table : Option Table) (c : Content) (cpu : Cpu) (d : DownloadView) (pool : Pool)
     (placing : Option Placing) (b : Uf2) → Carries d pool placing
     → ruling n table (wanted_in c table cpu (wanted n d.current b)) d.marks.numbers d.current b
     ≡ ruling_on n table (target_of c table cpu b.family) placing b
@@ -129,10 +129,11 @@ IsMeant placing (Continues t) = (p : Placing) × (placing ≡ Some p) × (p.targ
 
 aimed-meant : (placing : Option Placing) (table : Option Table) (b : Uf2) (t : Target) (go : Ruling)
     → IsMeant placing go → IsMeant placing (aimed table b t go)
-aimed-meant placing table b t go meant = by (is_within t.window.len b) refl (allowed_by table
+aimed-meant placing table b t go meant = by (is_page_within t.window.len b) refl (allowed_by table
     (sector_in t.window b) BootWrite) refl
   where
-    by : (x : Bool) → is_within t.window.len b ≡ x → (y : Bool) → allowed_by table (sector_in t.window b) BootWrite ≡ y
+    by : (x : Bool) → is_page_within t.window.len b ≡ x → (y : Bool)
+        → allowed_by table (sector_in t.window b) BootWrite ≡ y
         → IsMeant placing (aimed table b t go)
     by true within true may = rw (within, may) meant
     by true within false may = rw (within, may) tt
@@ -168,18 +169,18 @@ each-meant n table given placing b = by (is_skipped n b) refl
     by false is = rw is (ruled-meant table given placing b)
 
 module _ {B : Type 0} (state : B → State) (history : B → List Step → Type 0) (old new : B) (host : Host) (b : Uf2)
-    (d e : Kept) (pool after : Pool) (answer : Result Accepted PlaceFault) where
+    (d e : DownloadView) (pool after : Pool) (answer : Result Accepted PlaceFault) where
   -- the block was served as s says
-  abbrev IsThus : Served → Result Accepted PlaceFault → Type 0
-  IsThus s a = IsServedBlock state history s old (answer_of b.family a) new e after (block_text b.number a)
+  abbrev IsThus : ServedEvent → Result Accepted PlaceFault → Type 0
+  IsThus s a = IsServedBlock state history s old (boot_after_block b.family a) new e after (block_text b.number a)
 
-  placed-lost : (s : Served) → DoesAll state history old s.steps false new → e.current ≡ None → IsThus s (Err Lost)
+  placed-lost : (s : ServedEvent) → DoesAll state history old s.steps false new → e.current ≡ None → IsThus s (Err Lost)
   placed-lost s steps none = record { steps = steps; boot = tt; text = tt; carries = tt; lost = none }
 
   -- a block that is taken
   came-placed : (t : Target) (former : List Uf2) → Places state history t former b old answer new e after
       → IsThus (taken_in host t (former ++ b ∷ []) b (grown t former (former ++ b ∷ []))) answer
-  came-placed t former places = by (has_power answer) refl (is_whole (former ++ b ∷ [])) refl
+  came-placed t former places = by (has_power answer) refl (is_whole_download (former ++ b ∷ [])) refl
     where
       -- the steps, where it is known whether power was lost
       done : {x : Bool} → has_power answer ≡ x
@@ -187,7 +188,7 @@ module _ {B : Type 0} (state : B → State) (history : B → List Step → Type 
           → DoesAll state history old (grown t former (former ++ b ∷ [])) x new
       done is steps = subst (λ x. DoesAll state history old (grown t former (former ++ b ∷ [])) x new) is steps
 
-      by : (x : Bool) → has_power answer ≡ x → (w : Bool) → is_whole (former ++ b ∷ []) ≡ w
+      by : (x : Bool) → has_power answer ≡ x → (w : Bool) → is_whole_download (former ++ b ∷ []) ≡ w
           → IsThus (taken_in host t (former ++ b ∷ []) b (grown t former (former ++ b ∷ []))) answer
       by true power true whole =
           let is : answer ≡ Ok (Done t) = places.answered ∙ rw (power, whole) refl in
@@ -264,13 +265,14 @@ module _ {B : Type 0} (state : B → State) (history : B → List Step → Type 
           IsThus (taken_in host t (blocks ++ b ∷ []) b (grown t blocks (blocks ++ b ∷ []))) answer)
           (sym (ap blocks_of is)) done
 
-  -- with the line that was told, where power was not lost
-  told-as : (s : Served) (line : List ℕ) → OnOk (answer_of b.family answer) (line ≡ block_text b.number answer)
-      → IsThus s answer → IsServedBlock state history s old (answer_of b.family answer) new e after line
+  -- a block is served as the machine says, with the line that was told where power was not lost
+  told-as : (s : ServedEvent) (line : List ℕ)
+      → OnOk (boot_after_block b.family answer) (line ≡ block_text b.number answer)
+      → IsThus s answer → IsServedBlock state history s old (boot_after_block b.family answer) new e after line
   told-as s line same thus = record {
     steps = thus.steps;
     boot = thus.boot;
-    text = both (answer_of b.family answer) same thus.text;
+    text = both (boot_after_block b.family answer) same thus.text;
     carries = thus.carries;
     lost = thus.lost;
   }
@@ -283,7 +285,7 @@ module _ {B : Type 0} (state : B → State) (history : B → List Step → Type 
   -- a block is served as the machine says, with the answer and the line that were told
   pub came-told : (r : Ruling) (result : Result (Option BootKind) PowerLost) (line : List ℕ)
       → IsMeant host.placing r → IsPromised r → (state old).powered ≡ true → Carries d pool host.placing
-      → result ≡ answer_of b.family answer → OnOk result (line ≡ block_text b.number answer)
+      → result ≡ boot_after_block b.family answer → OnOk result (line ≡ block_text b.number answer)
       → IsServedBlock state history (block_served host b r) old result new e after line
   came-told r result line meant promised power carries is same =
       subst (λ x. IsServedBlock state history (block_served host b r) old x new e after line) (sym is)
@@ -292,7 +294,7 @@ module _ {B : Type 0} (state : B → State) (history : B → List Step → Type 
 
 -- the ruling of the call is that of the machine, and its promises are of that one
 pub promised-of : {B : Type 0} (state : B → State) (history : B → List Step → Type 0) (old new : B) (host : Host)
-    (b : Uf2) (d e : Kept) (pool mid after : Pool) (answer : Result Accepted PlaceFault) (r q : Ruling) → r ≡ q
+    (b : Uf2) (d e : DownloadView) (pool mid after : Pool) (answer : Result Accepted PlaceFault) (r q : Ruling) → r ≡ q
     → AnswersAtOnce r answer ((e ≡ d) × (after ≡ mid) × (new ≡ old))
     → ((t : Target) → r ≡ Begins t → Places state history t [] b old answer new e after)
     → ((t : Target) (blocks : List Uf2) → r ≡ Continues t → StandsFor d mid t blocks
@@ -302,7 +304,8 @@ promised-of state history old new host b d e pool mid after answer r q same at_o
     (λ early is. at_once early (same ∙ is), λ t is. begins t (same ∙ is), λ t blocks is. continues t blocks (same ∙ is))
 
 -- the ruling of the call is that of the machine
-pub same-ruling : (s : State) (table found : Option Table) (given : Option Target) (cpu : Cpu) (d : Kept) (pool : Pool)
+pub same-ruling : (s : State) (table found : Option Table) (given : Option Target) (cpu : Cpu) (d : DownloadView)
+    (pool : Pool)
     (placing : Option Placing) (b : Uf2) → table ≡ found
     → given ≡ wanted_in s.content table cpu (wanted (length s.content.flash) d.current b) → Carries d pool placing
     → rules s table given d b
@@ -318,9 +321,9 @@ starts-in n t most at = let some = at.whole.some in let inside = at.inside in om
 
 done-answer : (t : Target) (blocks : List Uf2) (answer : Result Accepted PlaceFault) (x : Bool)
     → answer ≡ answer_after x t blocks → t.window.start < 2 ^ 24 → IfOk answer IsDoneIn
-done-answer t blocks answer x is start = subst (λ a. IfOk a IsDoneIn) (sym is) (by x (is_whole blocks) refl)
+done-answer t blocks answer x is start = subst (λ a. IfOk a IsDoneIn) (sym is) (by x (is_whole_download blocks) refl)
   where
-    by : (x w : Bool) → is_whole blocks ≡ w → IfOk (answer_after x t blocks) IsDoneIn
+    by : (x w : Bool) → is_whole_download blocks ≡ w → IfOk (answer_after x t blocks) IsDoneIn
     by true true whole = rw whole start
     by true false whole = rw whole tt
     by false w whole = tt
@@ -334,7 +337,7 @@ quiet-answer (Err fault) quiet = tt
 
 -- a download that is done went into a target in the flash
 pub done-in : {B : Type 0} (state : B → State) (history : B → List Step → Type 0) (old new : B) (s : State)
-    (table : Option Table) (given : Option Target) (placing : Option Placing) (b : Uf2) (d e : Kept)
+    (table : Option Table) (given : Option Target) (placing : Option Placing) (b : Uf2) (d e : DownloadView)
     (pool after : Pool) (Unchanged : Type 0) (answer : Result Accepted PlaceFault) (r q : Ruling)
     → rules s table given d b ≡ r → r ≡ q → IsMeant placing q
     → length s.content.flash ≤ MOST_FLASH_BYTES

@@ -6,7 +6,7 @@ use Rattle.pico_board.specs.declared.boot.BootKind.{BootKind}
 use Rattle.pico_board.specs.declared.window.Window.{Window}
 use Rattle.pico_board.specs.Content.{Content, IsContent}
 use Rattle.pico_board.specs.Steps.{after_all}
-use Rattle.part_table.specs.Windows.{IsPlaced, IsPlacedIn}
+use Rattle.part_table.specs.Windows.{IsPlacedWindow, IsPlacedIn}
 use Rattle.image_check.specs.Valid.{Valid}
 use Rattle.slot_choice.specs.declared.choice.Choice.{Choice}
 use Rattle.trial_buy.specs.Starting.{settling, start_steps}
@@ -14,7 +14,7 @@ use Rattle.trial_buy.specs.Windows.{IsPlacedChoice}
 use Rattle.boot_rules.specs.declared.decision.Decision.{Decision}
 use Rattle.boot_rules.specs.declared.decision.Decision.TheVariants.{Start}
 use Rattle.boot_rules.specs.Chosen.{Chosen}
-use Rattle.boot_machine.specs.Standing.{IsHeld}
+use Rattle.boot_machine.specs.Standing.{IsHeldChoice}
 use Rattle.boot_rules.proofs.StartLemmas.{start-placed, start-other, start-valid}
 
 -- what holds of each value that an option has
@@ -54,12 +54,12 @@ placed-in c d choice same placed = record {
 }
   where
     move : (w : Window) → IsPlacedIn c w → IsPlacedIn d w
-    move w at = subst (λ n. IsPlaced w (n / 4096) 0) (sym same) at
+    move w at = subst (λ n. IsPlacedWindow w (n / 4096) 0) (sym same) at
 
 -- a choice whose steps are done is held: those of a trial image are none
 pub held-by : (c d : Content) (cpu : Cpu) (choice : Choice) → length d.flash ≡ length c.flash
     → d ≡ after_all c (start_steps c cpu choice) → IsPlacedChoice c choice
-    → Valid c choice.image.window cpu true choice.image → IsHeld d cpu choice
+    → Valid c choice.image.window cpu true choice.image → IsHeldChoice d cpu choice
 held-by c d cpu choice same done placed valid = record {
   placed = placed-in c d choice same placed;
   trial = λ trial. subst (λ e. Valid e choice.image.window cpu true choice.image)

@@ -8,13 +8,13 @@ use Rattle.picoboot_cmd.specs.declared.cmd.Cmd.{Cmd}
 use Rattle.info_reply.specs.declared.kinds.TheConstants.{INFO}
 use Rattle.ram_start.specs.Serving.{is_ram_command}
 use Rattle.boot_machine.specs.Machines.{Host}
-use Rattle.boot_machine.specs.Serving.{Served, serves, serves_host, serves_info, serves_ram}
+use Rattle.boot_machine.specs.Serving.{ServedEvent, serves, serves_host, serves_info, serves_ram}
 
 module _ (c : Content) (cpu : Cpu) (host : Host) (cmd : Cmd) (payload : List ℕ) where
-  abbrev by_ram : Bool → Served
+  abbrev by_ram : Bool → ServedEvent
   by_ram asks = if asks then serves_ram c cpu host cmd payload else serves_host c host cmd payload
 
-  abbrev by_id : Bool → Served
+  abbrev by_id : Bool → ServedEvent
   by_id info = if info then serves_info c cpu host cmd payload else by_ram (is_ram_command cmd)
 
   pub case-info : cmd.id ≡ INFO → serves_info c cpu host cmd payload ≡ serves c cpu host cmd payload

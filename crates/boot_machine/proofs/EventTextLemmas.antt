@@ -25,17 +25,17 @@ use Rattle.uf2_place.specs.declared.answer.Accepted.TheVariants.{Done, Taken}
 use Rattle.uf2_place.specs.declared.answer.Ruling.{Ruling}
 use Rattle.uf2_place.specs.declared.answer.Ruling.TheVariants.{Answered, Begins, Continues}
 use Rattle.uf2_place.specs.Blocks.{has_magic, is_number, uf2_of, word_at}
-use Rattle.uf2_place.specs.Placement.{grown, is_whole}
+use Rattle.uf2_place.specs.Placement.{grown, is_whole_download}
 use Rattle.picoboot_cmd.specs.declared.cmd.Cmd.{Cmd}
 use Rattle.picoboot_cmd.specs.declared.cmd.CmdFault.{CmdFault}
 use Rattle.picoboot_cmd.specs.declared.kinds.TheConstants.{MAGIC, OK, READ, REBOOT, OTP_READ}
 use Rattle.picoboot_cmd.specs.Arguments.{address, first_row, offset, reboot_flags, reboot_p0, reboot_p1, row_count, size}
 use Rattle.picoboot_cmd.specs.Checks.{Check, check, checks, first_failing, status_of}
-use Rattle.picoboot_cmd.specs.Commands.{IsCommand, command_in, fields_of}
-use Rattle.picoboot_cmd.specs.Served.{Served as Command, boot_by, reply_of}
+use Rattle.picoboot_cmd.specs.Commands.{IsCommand, command_in, command_fields}
+use Rattle.picoboot_cmd.specs.Served.{ServedCommand as Command, boot_by, reply_of}
 use Rattle.info_reply.specs.declared.ask.Ask.{Ask}
 use Rattle.info_reply.specs.declared.kinds.TheConstants.{BUFFER_TOO_SMALL, INFO, NOT_FOUND}
-use Rattle.info_reply.specs.Asks.{ask_in, asked, is_there, reply_checks}
+use Rattle.info_reply.specs.Asks.{ask_in, asked_info, is_there, reply_checks}
 use Rattle.info_reply.specs.Statuses.{checks_of_reply, info_checks}
 use Rattle.load_map.specs.declared.addresses.TheConstants.{SRAM_START}
 use Rattle.ram_start.specs.Images.{ram_image, ram_window}
@@ -51,15 +51,15 @@ use Rattle.boot_rules.specs.Chosen.{Chosen}
 use Rattle.boot_rules.specs.Targets.{is_executable, target_of}
 use Rattle.boot_rules.proofs.DecisionLemmas.{decision-chosen}
 use Rattle.boot_rules.proofs.StartLemmas.{start-placed, start-valid}
-use Rattle.boot_script.specs.Events.{Happening}
-use Rattle.boot_lines.specs.Events.{IsDecided, IsReboot, IsShown, IsLine, Line, event_text}
-use Rattle.boot_lines.specs.Texts.{accepted_text, command_text, decision_text, numbered_text, ram_start_text}
-use Rattle.boot_lines.proofs.LengthLemmas.{length_event}
+use Rattle.boot_script.specs.Events.{EventView}
+use Rattle.text_lines.specs.Events.{IsDecided, IsReboot, IsShown, IsLine, Line, event_text}
+use Rattle.text_lines.specs.Texts.{accepted_text, command_text, decision_text, numbered_text, ram_start_text}
+use Rattle.text_lines.proofs.LengthLemmas.{length_event}
 use Rattle.boot_machine.specs.Boots.{Effect}
-use Rattle.boot_machine.specs.Machines.{Host, Machine, Place, Off, InBootsel, Running, FromFlash, FromRam}
+use Rattle.boot_machine.specs.Machines.{Host, MachineView, StateView, Off, InBootsel, Running, FromFlash, FromRam}
 use Rattle.boot_machine.specs.Moves.{Moves, effect, effect_in}
-use Rattle.boot_machine.specs.Ranges.{AreInRange, HasBytes, HasSram}
-use Rattle.boot_machine.specs.Serving.{Served, asked_target, block_served, blocks_of, command_served, device_of, followed_by, host_result, info_reply, info_status, info_words, ram_text, ruling_on, serves_host, serves_ram, served, table_slot_of, table_of, taken_in, uf2_served}
+use Rattle.boot_machine.specs.Ranges.{AreInRange, HasHostBytes, HasSram}
+use Rattle.boot_machine.specs.Serving.{ServedEvent, asked_target, block_served, blocks_of, command_served, device_of, followed_by, host_result, info_reply, info_status, info_words, ram_text, ruling_on, serves_host, serves_ram, served_event, table_slot_of, table_of_found, taken_in, uf2_served}
 use Rattle.boot_machine.proofs.InfoLemmas.{few-asked, few-refused, status-asked, status-refused}
 use Rattle.boot_machine.proofs.RamRunLemmas.{either}
 use Rattle.boot_machine.proofs.ReplyLemmas.{slice-few}
@@ -69,12 +69,13 @@ use Rattle.boot_machine.proofs.ShownImageLemmas.{shown-flash, shown-valid}
 abbrev Tells : List ℕ → Type 0
 Tells text = (told : Line) × (text ≡ event_text told) × IsLine told
 
--- the same of what is served, where the decision of a boot that it asks for follows
+-- the text of what is served is that of an event in range, with the decision behind it of the boot that it asks for,
+-- if it does
 abbrev Answers : Option BootKind → List ℕ → Type 0
 Answers None text = Tells text
 Answers (Some kind) text = (d : Decision) → IsDecided d → Tells ((text ++ codes " boot ") ++ decision_text d)
 
-abbrev Serves : Served → Type 0
+abbrev Serves : ServedEvent → Type 0
 Serves s = Answers s.boot s.text
 
 -- the decision of a content
@@ -134,7 +135,7 @@ all-from [] are i d lt = absurd (omega (arith, lt))
 all-from (x ∷ xs) are zero d lt = are 0
 all-from (x ∷ xs) are (suc i) d lt = all-from xs (λ k. are (suc k)) i d (omega (arith, lt))
 
-command-fields : (bytes : List ℕ) → length bytes ≡ 32 → AreBytes bytes → IsCommand (fields_of bytes)
+command-fields : (bytes : List ℕ) → length bytes ≡ 32 → AreBytes bytes → IsCommand (command_fields bytes)
 command-fields bytes long are =
     let rest = length-drop 16 bytes in record {
       token = number-lt bytes 4 are;
@@ -185,7 +186,7 @@ module _ (cmd : Cmd) (right : IsCommand cmd) where
 module _ (c : Content) (host : Host) (cmd : Cmd) (payload : List ℕ) (content : IsContent c)
     (right : IsCommand cmd) where
   abbrev status : ℕ
-  status = status_of (length c.flash) c.otp (table_of host.found) (is_some host.placing) cmd payload
+  status = status_of (length c.flash) c.otp (table_of_found host.found) (is_some host.placing) cmd payload
 
   abbrev read_bytes : List ℕ
   read_bytes = slice_range c.flash (offset cmd) (offset cmd + size cmd)
@@ -219,7 +220,8 @@ module _ (c : Content) (host : Host) (cmd : Cmd) (payload : List ℕ) (content :
   host-serves =
       either (λ (r : Command). Serves (host_result host cmd r)) (status == 0) _ _
       (booting (cmd.id == REBOOT) refl)
-      (answered cmd right status [] (host-small (length c.flash) c.otp (table_of host.found) (is_some host.placing) cmd
+      (answered cmd right status [] (host-small (length c.flash) c.otp (table_of_found host.found)
+      (is_some host.placing) cmd
       payload) (omega arith))
 
 -- a RAM command
@@ -287,12 +289,12 @@ module _ (c : Content) (cpu : Cpu) (found : Option Found) (cmd : Cmd) (payload :
   info-small : info_status c cpu found cmd payload < 2 ^ 32
   unfolding info_status
   info-small =
-      small (info_checks (device_of c cpu) (table_slot_of found) (table_of found)
-      (asked_target c (table_of found) cpu (ask_in cmd)) cmd payload)
+      small (info_checks (device_of c cpu) (table_slot_of found) (table_of_found found)
+      (asked_target c (table_of_found found) cpu (ask_in cmd)) cmd payload)
       (omega arith, (omega arith, (omega arith, by (ask_in cmd))))
     where
-      by : (o : Option Ask) → AreSmall (checks_of_reply (device_of c cpu) (table_slot_of found) (table_of found)
-          (asked_target c (table_of found) cpu (ask_in cmd)) o cmd)
+      by : (o : Option Ask) → AreSmall (checks_of_reply (device_of c cpu) (table_slot_of found) (table_of_found found)
+          (asked_target c (table_of_found found) cpu (ask_in cmd)) o cmd)
       by None = tt
       by (Some ask) = (omega arith, (omega arith, tt))
 
@@ -302,23 +304,23 @@ module _ (c : Content) (cpu : Cpu) (found : Option Found) (cmd : Cmd) (payload :
   both-pass false b e = absurd (omega (arith, e))
 
   fits : (ask : Ask)
-      → first_failing (reply_checks (table_of found) ask (info_words c cpu found (Some ask)) cmd) ≡ 0
+      → first_failing (reply_checks (table_of_found found) ask (info_words c cpu found (Some ask)) cmd) ≡ 0
       → 4 * length (info_words c cpu found (Some ask)) < 2 ^ 32
   fits ask e =
-      let test = both-pass (is_there (table_of found) ask)
+      let test = both-pass (is_there (table_of_found found) ask)
       (nat_le (4 * length (info_words c cpu found (Some ask))) cmd.transfer) e in
       let most = leb-true (4 * length (info_words c cpu found (Some ask))) cmd.transfer test in
       let few = right.transfer in
       omega (arith, most, few)
 
-  info-few : (r : Result Ask ℕ) → asked cmd payload ≡ r
+  info-few : (r : Result Ask ℕ) → asked_info cmd payload ≡ r
       → length (info_reply (info_status c cpu found cmd payload) c cpu found cmd) < 2 ^ 32
   info-few (Ok ask) is =
       subst (λ s. length (info_reply s c cpu found cmd) < 2 ^ 32)
       (status-asked c cpu found cmd payload ask
-      (first_failing (reply_checks (table_of found) ask (info_words c cpu found (Some ask)) cmd)) is refl)
+      (first_failing (reply_checks (table_of_found found) ask (info_words c cpu found (Some ask)) cmd)) is refl)
       (few-asked c cpu found cmd payload ask
-      (first_failing (reply_checks (table_of found) ask (info_words c cpu found (Some ask)) cmd)) is (fits ask))
+      (first_failing (reply_checks (table_of_found found) ask (info_words c cpu found (Some ask)) cmd)) is (fits ask))
   info-few (Err status) is =
       subst (λ s. length (info_reply s c cpu found cmd) < 2 ^ 32) (status-refused c cpu found cmd payload status is)
       (few-refused c cpu found cmd payload status is)
@@ -328,7 +330,7 @@ module _ (c : Content) (cpu : Cpu) (found : Option Found) (cmd : Cmd) (payload :
   info-tells =
       answered cmd right (info_status c cpu found cmd payload)
       (info_reply (info_status c cpu found cmd payload) c cpu found cmd) info-small
-      (info-few (asked cmd payload) refl)
+      (info-few (asked_info cmd payload) refl)
 
 -- a UF2 block
 module _ (host : Host) (b : Uf2) (number : b.number < 2 ^ 32) where
@@ -350,7 +352,7 @@ module _ (host : Host) (b : Uf2) (number : b.number < 2 ^ 32) where
 
   taken-serves : (t : Target) (blocks : List Uf2) (steps : List Step) → Serves (taken_in host t blocks b steps)
   taken-serves t blocks steps =
-      either Serves (is_whole blocks) _ _ (done-by t t.stay (is_executable b.family) _ _ refl)
+      either Serves (is_whole_download blocks) _ _ (done-by t t.stay (is_executable b.family) _ _ refl)
       (Line.Placed b.number Taken, refl, number)
 
   block-serves : (r : Ruling) → Serves (block_served host b r)
@@ -380,11 +382,11 @@ module _ (c : Content) (cpu : Cpu) (host : Host) (content : IsContent c) (sram :
 
   uf2-serves : (r : Result Uf2 Uf2Fault) → IsNumbered r → Serves (uf2_served c cpu host r)
   uf2-serves (Ok b) number =
-      block-serves host b number (ruling_on (length c.flash) (table_of host.found)
-      (target_of c (table_of host.found) cpu b.family) host.placing b)
+      block-serves host b number (ruling_on (length c.flash) (table_of_found host.found)
+      (target_of c (table_of_found host.found) cpu b.family) host.placing b)
   uf2-serves (Err fault) number = (Line.BadForm fault, refl, tt)
 
-  followed-tells : (s : Served) (boot : Option BootKind) → Answers boot s.text
+  followed-tells : (s : ServedEvent) (boot : Option BootKind) → Answers boot s.text
       → AreIn c (followed_by c cpu s boot).steps → Tells (followed_by c cpu s boot).text
   followed-tells s None tells all = tells
   followed-tells s (Some kind) tells all =
@@ -392,64 +394,64 @@ module _ (c : Content) (cpu : Cpu) (host : Host) (content : IsContent c) (sram :
       (decided (after_all c s.steps) cpu kind (IsContent-after_all c s.steps content
       (front (IsStepIn (length c.flash)) s.steps _ all)))
 
-place-tells : (c : Content) (cpu : Cpu) (place : Place) (event : Happening) → IsContent c → HasSram place
-    → HasBytes event → AreIn c (effect_in c cpu place event).steps → Tells (effect_in c cpu place event).text
-place-tells c cpu Off Happening.PowerOn content sram bytes all =
+place-tells : (c : Content) (cpu : Cpu) (place : StateView) (event : EventView) → IsContent c → HasSram place
+    → HasHostBytes event → AreIn c (effect_in c cpu place event).steps → Tells (effect_in c cpu place event).text
+place-tells c cpu Off EventView.PowerOn content sram bytes all =
     boots (decision_in c cpu Normal) (decided c cpu Normal content)
-place-tells c cpu Off Happening.End content sram bytes all = (Line.Off, refl, tt)
-place-tells c cpu Off Happening.Buy content sram bytes all = (Line.Off, refl, tt)
-place-tells c cpu Off (Happening.Command command payload) content sram bytes all = (Line.Off, refl, tt)
-place-tells c cpu Off (Happening.Uf2 block) content sram bytes all = (Line.Off, refl, tt)
-place-tells c cpu Off (Happening.Cut left within pattern) content sram bytes all = (Line.Off, refl, tt)
-place-tells c cpu Off (Happening.Reset kind) content sram bytes all = (Line.Off, refl, tt)
-place-tells c cpu (InBootsel host) (Happening.Command command payload) content sram bytes all =
-    let s = served c cpu host (Happening.Command command payload) in
+place-tells c cpu Off EventView.End content sram bytes all = (Line.Off, refl, tt)
+place-tells c cpu Off EventView.Buy content sram bytes all = (Line.Off, refl, tt)
+place-tells c cpu Off (EventView.Command command payload) content sram bytes all = (Line.Off, refl, tt)
+place-tells c cpu Off (EventView.Uf2 block) content sram bytes all = (Line.Off, refl, tt)
+place-tells c cpu Off (EventView.Cut left within pattern) content sram bytes all = (Line.Off, refl, tt)
+place-tells c cpu Off (EventView.Reset kind) content sram bytes all = (Line.Off, refl, tt)
+place-tells c cpu (InBootsel host) (EventView.Command command payload) content sram bytes all =
+    let s = served_event c cpu host (EventView.Command command payload) in
     followed-tells c cpu host content sram s s.boot
     (command-serves c cpu host content sram (command_in command) payload (command-read command bytes)) all
-place-tells c cpu (InBootsel host) (Happening.Uf2 block) content sram bytes all =
-    let s = served c cpu host (Happening.Uf2 block) in
+place-tells c cpu (InBootsel host) (EventView.Uf2 block) content sram bytes all =
+    let s = served_event c cpu host (EventView.Uf2 block) in
     followed-tells c cpu host content sram s s.boot
     (uf2-serves c cpu host content sram (uf2_of block) (block-read block bytes)) all
-place-tells c cpu (InBootsel host) (Happening.Reset kind) content sram bytes all =
+place-tells c cpu (InBootsel host) (EventView.Reset kind) content sram bytes all =
     boots (decision_in c cpu kind) (decided c cpu kind content)
-place-tells c cpu (InBootsel host) Happening.End content sram bytes all = (Line.Ignored, refl, tt)
-place-tells c cpu (InBootsel host) Happening.PowerOn content sram bytes all = (Line.Ignored, refl, tt)
-place-tells c cpu (InBootsel host) Happening.Buy content sram bytes all = (Line.Ignored, refl, tt)
-place-tells c cpu (InBootsel host) (Happening.Cut left within pattern) content sram bytes all =
+place-tells c cpu (InBootsel host) EventView.End content sram bytes all = (Line.Ignored, refl, tt)
+place-tells c cpu (InBootsel host) EventView.PowerOn content sram bytes all = (Line.Ignored, refl, tt)
+place-tells c cpu (InBootsel host) EventView.Buy content sram bytes all = (Line.Ignored, refl, tt)
+place-tells c cpu (InBootsel host) (EventView.Cut left within pattern) content sram bytes all =
     (Line.Ignored, refl, tt)
-place-tells c cpu (Running program) (Happening.Reset kind) content sram bytes all =
+place-tells c cpu (Running program) (EventView.Reset kind) content sram bytes all =
     boots (decision_in c cpu kind) (decided c cpu kind content)
-place-tells c cpu (Running (FromFlash choice)) Happening.Buy content sram bytes all =
+place-tells c cpu (Running (FromFlash choice)) EventView.Buy content sram bytes all =
     either (λ (e : Effect). Tells e.text) choice.image.trial _ _ (Line.BuyDone, refl, tt) (Line.BuyNone, refl, tt)
-place-tells c cpu (Running (FromRam image)) Happening.Buy content sram bytes all = (Line.BuyNone, refl, tt)
-place-tells c cpu (Running program) Happening.PowerOn content sram bytes all = (Line.Ignored, refl, tt)
-place-tells c cpu (Running program) Happening.End content sram bytes all = (Line.Ignored, refl, tt)
-place-tells c cpu (Running program) (Happening.Command command payload) content sram bytes all =
+place-tells c cpu (Running (FromRam image)) EventView.Buy content sram bytes all = (Line.BuyNone, refl, tt)
+place-tells c cpu (Running program) EventView.PowerOn content sram bytes all = (Line.Ignored, refl, tt)
+place-tells c cpu (Running program) EventView.End content sram bytes all = (Line.Ignored, refl, tt)
+place-tells c cpu (Running program) (EventView.Command command payload) content sram bytes all =
     (Line.Ignored, refl, tt)
-place-tells c cpu (Running program) (Happening.Uf2 block) content sram bytes all = (Line.Ignored, refl, tt)
-place-tells c cpu (Running program) (Happening.Cut left within pattern) content sram bytes all =
+place-tells c cpu (Running program) (EventView.Uf2 block) content sram bytes all = (Line.Ignored, refl, tt)
+place-tells c cpu (Running program) (EventView.Cut left within pattern) content sram bytes all =
     (Line.Ignored, refl, tt)
 
-effect-tells : (m : Machine) (event : Happening) → AreInRange m event → Tells (effect m event).text
-effect-tells m (Happening.Cut left within pattern) is = (Line.CutArmed, refl, tt)
-effect-tells m Happening.End is = (Line.Ended, refl, tt)
-effect-tells m (Happening.Command command payload) is =
-    place-tells m.content m.cpu m.place (Happening.Command command payload) is.content is.sram is.bytes is.steps
-effect-tells m (Happening.Uf2 block) is =
-    place-tells m.content m.cpu m.place (Happening.Uf2 block) is.content is.sram is.bytes is.steps
-effect-tells m Happening.PowerOn is =
-    place-tells m.content m.cpu m.place Happening.PowerOn is.content is.sram is.bytes is.steps
-effect-tells m (Happening.Reset kind) is =
-    place-tells m.content m.cpu m.place (Happening.Reset kind) is.content is.sram is.bytes is.steps
-effect-tells m Happening.Buy is =
-    place-tells m.content m.cpu m.place Happening.Buy is.content is.sram is.bytes is.steps
+effect-tells : (m : MachineView) (event : EventView) → AreInRange m event → Tells (effect m event).text
+effect-tells m (EventView.Cut left within pattern) is = (Line.CutArmed, refl, tt)
+effect-tells m EventView.End is = (Line.Ended, refl, tt)
+effect-tells m (EventView.Command command payload) is =
+    place-tells m.content m.cpu m.place (EventView.Command command payload) is.content is.sram is.bytes is.steps
+effect-tells m (EventView.Uf2 block) is =
+    place-tells m.content m.cpu m.place (EventView.Uf2 block) is.content is.sram is.bytes is.steps
+effect-tells m EventView.PowerOn is =
+    place-tells m.content m.cpu m.place EventView.PowerOn is.content is.sram is.bytes is.steps
+effect-tells m (EventView.Reset kind) is =
+    place-tells m.content m.cpu m.place (EventView.Reset kind) is.content is.sram is.bytes is.steps
+effect-tells m EventView.Buy is =
+    place-tells m.content m.cpu m.place EventView.Buy is.content is.sram is.bytes is.steps
 
-pub move-tells : (m n : Machine) (event : Happening) (text : List ℕ) → AreInRange m event → Moves m event n text
+pub move-tells : (m n : MachineView) (event : EventView) (text : List ℕ) → AreInRange m event → Moves m event n text
     → (told : Line) × (text ≡ event_text told) × IsLine told
 move-tells m n event text is (inl done) = subst Tells (sym done.line) (effect-tells m event is)
 move-tells m n event text is (inr lost) = (Line.LostPower, lost.line, tt)
 
-pub move-fits : (m n : Machine) (event : Happening) (text : List ℕ) → AreInRange m event → Moves m event n text
+pub move-fits : (m n : MachineView) (event : EventView) (text : List ℕ) → AreInRange m event → Moves m event n text
     → length text ≤ 181
 move-fits m n event text is moves =
     let tells = move-tells m n event text is moves in

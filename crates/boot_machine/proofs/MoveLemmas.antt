@@ -12,26 +12,26 @@ use Rattle.pico_board.proofs.ContentLemmas.{IsContent-after}
 use Rattle.pico_board.proofs.TornStepLemmas.{Torn-cut_by}
 use Rattle.pico_board.proofs.CuttingLemmas.{in_range-after}
 use Rattle.pico_board.proofs.CutListLemmas.{told_all-none}
-use Rattle.boot_script.specs.Events.{Happening}
+use Rattle.boot_script.specs.Events.{EventView}
 use Rattle.boot_machine.specs.Boots.{Effect}
-use Rattle.boot_machine.specs.Machines.{Machine, Place, Off}
-use Rattle.boot_machine.specs.Moves.{Decides, IsDone, Moves, MovesBy, armed_for, effect, lost_text}
+use Rattle.boot_machine.specs.Machines.{MachineView, StateView, Off}
+use Rattle.boot_machine.specs.Moves.{Decides, IsDoneWhole, Moves, MovesBy, armed_for, effect, lost_text}
 
-abbrev machine : Content → Option (Option Cut) → Cpu → Place → Machine
+abbrev machine : Content → Option (Option Cut) → Cpu → StateView → MachineView
 machine c armed cpu place = record { content = c; armed = armed; cpu = cpu; place = place }
 
-pub same-machine : (m n : Machine) → m.content ≡ n.content → m.armed ≡ n.armed → m.cpu ≡ n.cpu
+pub same-machine : (m n : MachineView) → m.content ≡ n.content → m.armed ≡ n.armed → m.cpu ≡ n.cpu
     → m.place ≡ n.place → m ≡ n
 same-machine m n e f g h =
     ap (λ x. machine x m.armed m.cpu m.place) e ∙ ap (λ x. machine n.content x m.cpu m.place) f
     ∙ ap (λ x. machine n.content n.armed x m.place) g ∙ ap (λ x. machine n.content n.armed n.cpu x) h
 
 -- what a board told of the steps
-module _ (m : Machine) (cut : Option Cut) (e : Effect) where
+module _ (m : MachineView) (cut : Option Cut) (e : Effect) where
   abbrev told : CutOutcome
   told = cut_steps e.steps cut m.content
 
-  one-move : (n o : Machine) (text line : List ℕ) → MovesBy m (Some cut) e n text → MovesBy m (Some cut) e o line
+  one-move : (n o : MachineView) (text line : List ℕ) → MovesBy m (Some cut) e n text → MovesBy m (Some cut) e o line
       → (n ≡ o) × (text ≡ line)
   one-move n o text line (inl a) (inl b) = (
     same-machine n o (a.content ∙ sym b.content) (a.armed_cut.next ∙ sym b.armed_cut.next) (a.cpu ∙ sym b.cpu)
@@ -48,33 +48,33 @@ module _ (m : Machine) (cut : Option Cut) (e : Effect) where
     a.line ∙ sym b.line,
   )
 
-  next-told : (n : Machine) (text : List ℕ) → MovesBy m (Some cut) e n text
+  next-told : (n : MachineView) (text : List ℕ) → MovesBy m (Some cut) e n text
       → ((next : Option Cut) × (n.armed ≡ Some next))
   next-told n text (inl done) = (told.armed, done.armed_cut.next)
   next-told n text (inr lost) = (told.armed, lost.armed_cut.next)
 
 -- a told cut stays told, whatever the event
-armed-told : (cut : Option Cut) (event : Happening)
+armed-told : (cut : Option Cut) (event : EventView)
     → ((former : Option Cut) × (armed_for (Some cut) event ≡ Some former))
-armed-told cut Happening.End = (cut, refl)
-armed-told cut (Happening.Command command payload) = (cut, refl)
-armed-told cut (Happening.Uf2 block) = (cut, refl)
-armed-told cut (Happening.Cut left within pattern) =
+armed-told cut EventView.End = (cut, refl)
+armed-told cut (EventView.Command command payload) = (cut, refl)
+armed-told cut (EventView.Uf2 block) = (cut, refl)
+armed-told cut (EventView.Cut left within pattern) =
     (Some (record { left = left; within = within; pattern = pattern }), refl)
-armed-told cut Happening.PowerOn = (cut, refl)
-armed-told cut (Happening.Reset kind) = (cut, refl)
-armed-told cut Happening.Buy = (cut, refl)
+armed-told cut EventView.PowerOn = (cut, refl)
+armed-told cut (EventView.Reset kind) = (cut, refl)
+armed-told cut EventView.Buy = (cut, refl)
 
-armed-untold : (event : Happening) → armed_for None event ≡ None
-armed-untold Happening.End = refl
-armed-untold (Happening.Command command payload) = refl
-armed-untold (Happening.Uf2 block) = refl
-armed-untold (Happening.Cut left within pattern) = refl
-armed-untold Happening.PowerOn = refl
-armed-untold (Happening.Reset kind) = refl
-armed-untold Happening.Buy = refl
+armed-untold : (event : EventView) → armed_for None event ≡ None
+armed-untold EventView.End = refl
+armed-untold (EventView.Command command payload) = refl
+armed-untold (EventView.Uf2 block) = refl
+armed-untold (EventView.Cut left within pattern) = refl
+armed-untold EventView.PowerOn = refl
+armed-untold (EventView.Reset kind) = refl
+armed-untold EventView.Buy = refl
 
-pub told-one : (m n o : Machine) (cut : Option Cut) (event : Happening) (text line : List ℕ) → m.armed ≡ Some cut
+pub told-one : (m n o : MachineView) (cut : Option Cut) (event : EventView) (text line : List ℕ) → m.armed ≡ Some cut
     → Moves m event n text → Moves m event o line → (n ≡ o) × (text ≡ line)
 told-one m n o cut event text line armed one two =
     let former = armed-told cut event in
@@ -83,14 +83,14 @@ told-one m n o cut event text line armed one two =
     (subst (λ a. MovesBy m a (effect m event) n text) is one)
     (subst (λ a. MovesBy m a (effect m event) o line) is two)
 
-pub told-next : (m n : Machine) (cut : Option Cut) (event : Happening) (text : List ℕ) → m.armed ≡ Some cut
+pub told-next : (m n : MachineView) (cut : Option Cut) (event : EventView) (text : List ℕ) → m.armed ≡ Some cut
     → Moves m event n text → ((next : Option Cut) × (n.armed ≡ Some next))
 told-next m n cut event text armed one =
     let former = armed-told cut event in
     next-told m (former.0) (effect m event) n text
     (subst (λ a. MovesBy m a (effect m event) n text) (ap (λ a. armed_for a event) armed ∙ former.1) one)
 
-pub untold-next : (m n : Machine) (event : Happening) (text : List ℕ) → m.armed ≡ None → Moves m event n text
+pub untold-next : (m n : MachineView) (event : EventView) (text : List ℕ) → m.armed ≡ None → Moves m event n text
     → n.armed ≡ None
 untold-next m n event text armed one =
     by (subst (λ a. MovesBy m a (effect m event) n text) (ap (λ a. armed_for a event) armed ∙ armed-untold event) one)
@@ -138,8 +138,8 @@ cut-content (step ∷ steps) (Some cut) c small right all is =
     by true rest is = inl (Torn-cut_by cut c step small right.flash_bytes)
     by false rest is = inr (rest is)
 
-pub move-untold : (m : Machine) (event : Happening) → m.armed ≡ None
-    → ((n : Machine) × (text : List ℕ) × IsDone m (armed_for m.armed event) (effect m event) n text)
+pub move-untold : (m : MachineView) (event : EventView) → m.armed ≡ None
+    → ((n : MachineView) × (text : List ℕ) × IsDoneWhole m (armed_for m.armed event) (effect m event) n text)
 move-untold m event armed =
     let e = effect m event in (
       machine (after_all m.content e.steps) None m.cpu e.place,
@@ -155,7 +155,7 @@ move-untold m event armed =
       },
     )
 
-none-told : (m : Machine) (e : Effect)
+none-told : (m : MachineView) (e : Effect)
     → Decides (Some None) m.content e.steps true (after_all m.content e.steps) (Some None)
 none-told m e =
     let whole = told_all-none e.steps m.content in
@@ -165,8 +165,8 @@ none-told m e =
       next = sym (ap (λ (o : CutOutcome). Some o.armed) whole);
     }
 
-pub move-unarmed : (m : Machine) (event : Happening) → armed_for m.armed event ≡ Some None
-    → ((n : Machine) × (text : List ℕ) × IsDone m (armed_for m.armed event) (effect m event) n text)
+pub move-unarmed : (m : MachineView) (event : EventView) → armed_for m.armed event ≡ Some None
+    → ((n : MachineView) × (text : List ℕ) × IsDoneWhole m (armed_for m.armed event) (effect m event) n text)
 move-unarmed m event armed =
     let e = effect m event in (
       machine (after_all m.content e.steps) (Some None) m.cpu e.place,
@@ -182,18 +182,18 @@ move-unarmed m event armed =
       },
     )
 
-pub move-alone : (m n : Machine) (event : Happening) (text : List ℕ) → armed_for m.armed event ≡ Some None
-    → Moves m event n text → IsDone m (armed_for m.armed event) (effect m event) n text
+pub move-alone : (m n : MachineView) (event : EventView) (text : List ℕ) → armed_for m.armed event ≡ Some None
+    → Moves m event n text → IsDoneWhole m (armed_for m.armed event) (effect m event) n text
 move-alone m n event text armed (inl done) = done
 move-alone m n event text armed (inr lost) =
     let told = subst (λ a. Decides a m.content (effect m event).steps false n.content n.armed) armed lost.armed_cut in
     absurd (true≢false
     (sym (ap (λ (o : CutOutcome). o.answer) (told_all-none (effect m event).steps m.content)) ∙ told.answer))
 
-pub move-armed : (m : Machine) (event : Happening) (cut : Cut) → armed_for m.armed event ≡ Some (Some cut)
+pub move-armed : (m : MachineView) (event : EventView) (cut : Cut) → armed_for m.armed event ≡ Some (Some cut)
     → All (λ b. b < 256) cut.pattern → IsContent m.content
     → AllByRecursion (IsStepIn (length m.content.flash)) (effect m event).steps
-    → ((n : Machine) × (text : List ℕ) × Moves m event n text)
+    → ((n : MachineView) × (text : List ℕ) × Moves m event n text)
 move-armed m event cut armed small right all =
     let some = by (cut_steps e.steps (Some cut) m.content).answer refl in
     (some.0, some.1, subst (λ a. MovesBy m a e some.0 some.1) (sym armed) (some.2))
@@ -202,7 +202,7 @@ move-armed m event cut armed small right all =
     e = effect m event
 
     by : (ok : Bool) → (cut_steps e.steps (Some cut) m.content).answer ≡ ok
-        → ((n : Machine) × (text : List ℕ) × MovesBy m (Some (Some cut)) e n text)
+        → ((n : MachineView) × (text : List ℕ) × MovesBy m (Some (Some cut)) e n text)
     by true is =
         let o = cut_steps e.steps (Some cut) m.content in (
           machine o.content (Some o.armed) m.cpu e.place,

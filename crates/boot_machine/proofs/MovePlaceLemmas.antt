@@ -14,7 +14,7 @@ use Rattle.uf2_place.specs.declared.block.Uf2Fault.{Uf2Fault}
 use Rattle.uf2_place.specs.declared.answer.Ruling.{Ruling}
 use Rattle.uf2_place.specs.declared.answer.Ruling.TheVariants.{Answered, Begins, Continues}
 use Rattle.uf2_place.specs.Blocks.{uf2_of}
-use Rattle.uf2_place.specs.Placement.{grown, is_whole}
+use Rattle.uf2_place.specs.Placement.{grown, is_whole_download}
 use Rattle.picoboot_cmd.specs.declared.cmd.Cmd.{Cmd}
 use Rattle.picoboot_cmd.specs.declared.cmd.CmdFault.{CmdFault}
 use Rattle.picoboot_cmd.specs.Commands.{command_in}
@@ -24,23 +24,23 @@ use Rattle.boot_rules.specs.Choosing.{decision_in}
 use Rattle.boot_rules.specs.Targets.{target_of}
 use Rattle.boot_rules.specs.declared.decision.Decision.{Decision}
 use Rattle.boot_rules.specs.declared.decision.Decision.TheVariants.{Start, Bootsel}
-use Rattle.boot_script.specs.Events.{Happening}
+use Rattle.boot_script.specs.Events.{EventView}
 use Rattle.boot_machine.specs.Boots.{Effect, decided_place}
-use Rattle.boot_machine.specs.Machines.{Host, Machine, Place, Off, InBootsel, Running, FromFlash, FromRam}
-use Rattle.boot_machine.specs.Moves.{Decides, IsLost, Moves, MovesBy, armed_for, effect, effect_in, stays}
-use Rattle.boot_machine.specs.Runs.{with_cut}
-use Rattle.boot_machine.specs.Serving.{Served, block_served, blocks_of, command_served, followed_by, ram_place, ruling_on, serves, serves_ram, served, table_of, taken_in, uf2_served}
+use Rattle.boot_machine.specs.Machines.{Host, MachineView, StateView, Off, InBootsel, Running, FromFlash, FromRam}
+use Rattle.boot_machine.specs.Moves.{Decides, IsLost, Moves, MovesBy, armed_for, effect, effect_in, stays_with_line}
+use Rattle.boot_machine.specs.Runs.{machine_with_cut}
+use Rattle.boot_machine.specs.Serving.{ServedEvent, block_served, blocks_of, command_served, followed_by, ram_place, ruling_on, serves, serves_ram, served_event, table_of_found, taken_in, uf2_served}
 use Rattle.boot_machine.proofs.AnsweredTargetLemmas.{still-moves}
 use Rattle.boot_machine.proofs.MoveLemmas.{same-machine}
 use Rattle.boot_machine.proofs.RamRunLemmas.{either}
 
 -- a place that has power
-abbrev IsOn : Place → Type 0
+abbrev IsOn : StateView → Type 0
 IsOn Off = ⊥
 IsOn (InBootsel host) = ⊤
 IsOn (Running program) = ⊤
 
-abbrev Keeps : Served → Type 0
+abbrev Keeps : ServedEvent → Type 0
 Keeps s = IsOn s.place
 
 decided-on : (c : Content) (d : Decision) → IsOn (decided_place c d)
@@ -49,7 +49,7 @@ decided-on c (Bootsel fall) = tt
 
 taken-on : (host : Host) (t : Target) (blocks : List Uf2) (b : Uf2) (steps : List Step)
     → Keeps (taken_in host t blocks b steps)
-taken-on host t blocks b steps = either Keeps (is_whole blocks) _ _ tt tt
+taken-on host t blocks b steps = either Keeps (is_whole_download blocks) _ _ tt tt
 
 block-on : (host : Host) (b : Uf2) (r : Ruling) → Keeps (block_served host b r)
 block-on host b (Answered answer) = tt
@@ -65,8 +65,8 @@ ram-on host (Some image) ram = tt
 module _ (c : Content) (cpu : Cpu) (host : Host) where
   uf2-on : (r : Result Uf2 Uf2Fault) → Keeps (uf2_served c cpu host r)
   uf2-on (Ok b) =
-      block-on host b (ruling_on (length c.flash) (table_of host.found)
-      (target_of c (table_of host.found) cpu b.family) host.placing b)
+      block-on host b (ruling_on (length c.flash) (table_of_found host.found)
+      (target_of c (table_of_found host.found) cpu b.family) host.placing b)
   uf2-on (Err fault) = tt
 
   serves-on : (cmd : Cmd) (payload : List ℕ) → Keeps (serves c cpu host cmd payload)
@@ -78,7 +78,7 @@ module _ (c : Content) (cpu : Cpu) (host : Host) where
   command-on (Ok cmd) payload = serves-on cmd payload
   command-on (Err fault) payload = tt
 
-  followed-on : (s : Served) (boot : Option BootKind) → Keeps s → IsOn (followed_by c cpu s boot).place
+  followed-on : (s : ServedEvent) (boot : Option BootKind) → Keeps s → IsOn (followed_by c cpu s boot).place
   followed-on s None keeps = keeps
   followed-on s (Some kind) keeps =
       decided-on (after_all c s.steps) (decision_in (after_all c s.steps) cpu kind)
@@ -86,93 +86,93 @@ module _ (c : Content) (cpu : Cpu) (host : Host) where
 abbrev Holds : Effect → Type 0
 Holds e = IsOn e.place
 
-place-on : (c : Content) (cpu : Cpu) (place : Place) (event : Happening) → IsOn place
+place-on : (c : Content) (cpu : Cpu) (place : StateView) (event : EventView) → IsOn place
     → Holds (effect_in c cpu place event)
 place-on c cpu Off event on = absurd on
-place-on c cpu (InBootsel host) (Happening.Command command payload) on =
-    let s = served c cpu host (Happening.Command command payload) in
+place-on c cpu (InBootsel host) (EventView.Command command payload) on =
+    let s = served_event c cpu host (EventView.Command command payload) in
     followed-on c cpu host s s.boot (command-on c cpu host (command_in command) payload)
-place-on c cpu (InBootsel host) (Happening.Uf2 block) on =
-    let s = served c cpu host (Happening.Uf2 block) in
+place-on c cpu (InBootsel host) (EventView.Uf2 block) on =
+    let s = served_event c cpu host (EventView.Uf2 block) in
     followed-on c cpu host s s.boot (uf2-on c cpu host (uf2_of block))
-place-on c cpu (InBootsel host) (Happening.Reset kind) on = decided-on c (decision_in c cpu kind)
-place-on c cpu (InBootsel host) Happening.End on = tt
-place-on c cpu (InBootsel host) Happening.PowerOn on = tt
-place-on c cpu (InBootsel host) Happening.Buy on = tt
-place-on c cpu (InBootsel host) (Happening.Cut left within pattern) on = tt
-place-on c cpu (Running program) (Happening.Reset kind) on = decided-on c (decision_in c cpu kind)
-place-on c cpu (Running (FromFlash choice)) Happening.Buy on = either Holds choice.image.trial _ _ tt tt
-place-on c cpu (Running (FromRam image)) Happening.Buy on = tt
-place-on c cpu (Running program) Happening.PowerOn on = tt
-place-on c cpu (Running program) Happening.End on = tt
-place-on c cpu (Running program) (Happening.Command command payload) on = tt
-place-on c cpu (Running program) (Happening.Uf2 block) on = tt
-place-on c cpu (Running program) (Happening.Cut left within pattern) on = tt
+place-on c cpu (InBootsel host) (EventView.Reset kind) on = decided-on c (decision_in c cpu kind)
+place-on c cpu (InBootsel host) EventView.End on = tt
+place-on c cpu (InBootsel host) EventView.PowerOn on = tt
+place-on c cpu (InBootsel host) EventView.Buy on = tt
+place-on c cpu (InBootsel host) (EventView.Cut left within pattern) on = tt
+place-on c cpu (Running program) (EventView.Reset kind) on = decided-on c (decision_in c cpu kind)
+place-on c cpu (Running (FromFlash choice)) EventView.Buy on = either Holds choice.image.trial _ _ tt tt
+place-on c cpu (Running (FromRam image)) EventView.Buy on = tt
+place-on c cpu (Running program) EventView.PowerOn on = tt
+place-on c cpu (Running program) EventView.End on = tt
+place-on c cpu (Running program) (EventView.Command command payload) on = tt
+place-on c cpu (Running program) (EventView.Uf2 block) on = tt
+place-on c cpu (Running program) (EventView.Cut left within pattern) on = tt
 
-effect-on : (m : Machine) (event : Happening) → IsOn m.place → Holds (effect m event)
-effect-on m (Happening.Cut left within pattern) on = on
-effect-on m Happening.End on = on
-effect-on m (Happening.Command command payload) on =
-    place-on m.content m.cpu m.place (Happening.Command command payload) on
-effect-on m (Happening.Uf2 block) on = place-on m.content m.cpu m.place (Happening.Uf2 block) on
-effect-on m Happening.PowerOn on = place-on m.content m.cpu m.place Happening.PowerOn on
-effect-on m (Happening.Reset kind) on = place-on m.content m.cpu m.place (Happening.Reset kind) on
-effect-on m Happening.Buy on = place-on m.content m.cpu m.place Happening.Buy on
+effect-on : (m : MachineView) (event : EventView) → IsOn m.place → Holds (effect m event)
+effect-on m (EventView.Cut left within pattern) on = on
+effect-on m EventView.End on = on
+effect-on m (EventView.Command command payload) on =
+    place-on m.content m.cpu m.place (EventView.Command command payload) on
+effect-on m (EventView.Uf2 block) on = place-on m.content m.cpu m.place (EventView.Uf2 block) on
+effect-on m EventView.PowerOn on = place-on m.content m.cpu m.place EventView.PowerOn on
+effect-on m (EventView.Reset kind) on = place-on m.content m.cpu m.place (EventView.Reset kind) on
+effect-on m EventView.Buy on = place-on m.content m.cpu m.place EventView.Buy on
 
-is-on : (place : Place) → place ≢ Off → IsOn place
+is-on : (place : StateView) → place ≢ Off → IsOn place
 is-on Off on = absurd (on refl)
 is-on (InBootsel host) on = tt
 is-on (Running program) on = tt
 
-pub off-lost : (m n : Machine) (event : Happening) (text : List ℕ) → Moves m event n text → m.place ≢ Off
+pub off-lost : (m n : MachineView) (event : EventView) (text : List ℕ) → Moves m event n text → m.place ≢ Off
     → n.place ≡ Off → IsLost m (armed_for m.armed event) (effect m event) n text
 off-lost m n event text (inl done) on off =
     absurd (subst IsOn (sym done.place ∙ off) (effect-on m event (is-on m.place on)))
 off-lost m n event text (inr lost) on off = lost
 
 -- without power
-module _ (m n : Machine) (text : List ℕ) (at : m.place ≡ Off) where
-  pub rests : (event : Happening) → armed_for m.armed event ≡ m.armed
-      → effect_in m.content m.cpu Off event ≡ stays Off (codes "off")
+module _ (m n : MachineView) (text : List ℕ) (at : m.place ≡ Off) where
+  pub rests : (event : EventView) → armed_for m.armed event ≡ m.armed
+      → effect_in m.content m.cpu Off event ≡ stays_with_line Off (codes "off")
       → MovesBy m (armed_for m.armed event) (effect_in m.content m.cpu m.place event) n text
       → (n ≡ m) × (text ≡ codes "off")
   rests event armed is moves =
       still-moves m n Off (codes "off") text at
       (subst (λ (e : Effect). MovesBy m m.armed e n text) is
-      (subst (λ (p : Place). MovesBy m m.armed (effect_in m.content m.cpu p event) n text) at
+      (subst (λ (p : StateView). MovesBy m m.armed (effect_in m.content m.cpu p event) n text) at
       (subst (λ a. MovesBy m a (effect_in m.content m.cpu m.place event) n text) armed moves)))
 
-  pub off-stays : (event : Happening) → event ≢ Happening.PowerOn
-      → ((left : ℕ) (within : Bool) (pattern : List ℕ) → event ≢ Happening.Cut left within pattern)
+  pub off-stays : (event : EventView) → event ≢ EventView.PowerOn
+      → ((left : ℕ) (within : Bool) (pattern : List ℕ) → event ≢ EventView.Cut left within pattern)
       → Moves m event n text → n ≡ m
-  off-stays Happening.PowerOn power cut moves = absurd (power refl)
-  off-stays (Happening.Cut left within pattern) power cut moves = absurd (cut left within pattern refl)
-  off-stays Happening.End power cut moves = (still-moves m n m.place (codes "end") text refl moves).0
-  off-stays (Happening.Command command payload) power cut moves =
-      (rests (Happening.Command command payload) refl refl moves).0
-  off-stays (Happening.Uf2 block) power cut moves = (rests (Happening.Uf2 block) refl refl moves).0
-  off-stays (Happening.Reset kind) power cut moves = (rests (Happening.Reset kind) refl refl moves).0
-  off-stays Happening.Buy power cut moves = (rests Happening.Buy refl refl moves).0
+  off-stays EventView.PowerOn power cut moves = absurd (power refl)
+  off-stays (EventView.Cut left within pattern) power cut moves = absurd (cut left within pattern refl)
+  off-stays EventView.End power cut moves = (still-moves m n m.place (codes "end") text refl moves).0
+  off-stays (EventView.Command command payload) power cut moves =
+      (rests (EventView.Command command payload) refl refl moves).0
+  off-stays (EventView.Uf2 block) power cut moves = (rests (EventView.Uf2 block) refl refl moves).0
+  off-stays (EventView.Reset kind) power cut moves = (rests (EventView.Reset kind) refl refl moves).0
+  off-stays EventView.Buy power cut moves = (rests EventView.Buy refl refl moves).0
 
-  pub off-line : (event : Happening) → event ≢ Happening.PowerOn → event ≢ Happening.End
-      → ((left : ℕ) (within : Bool) (pattern : List ℕ) → event ≢ Happening.Cut left within pattern)
+  pub off-line : (event : EventView) → event ≢ EventView.PowerOn → event ≢ EventView.End
+      → ((left : ℕ) (within : Bool) (pattern : List ℕ) → event ≢ EventView.Cut left within pattern)
       → Moves m event n text → text ≡ codes "off"
-  off-line Happening.PowerOn power end cut moves = absurd (power refl)
-  off-line (Happening.Cut left within pattern) power end cut moves = absurd (cut left within pattern refl)
-  off-line Happening.End power end cut moves = absurd (end refl)
-  off-line (Happening.Command command payload) power end cut moves =
-      (rests (Happening.Command command payload) refl refl moves).1
-  off-line (Happening.Uf2 block) power end cut moves = (rests (Happening.Uf2 block) refl refl moves).1
-  off-line (Happening.Reset kind) power end cut moves = (rests (Happening.Reset kind) refl refl moves).1
-  off-line Happening.Buy power end cut moves = (rests Happening.Buy refl refl moves).1
+  off-line EventView.PowerOn power end cut moves = absurd (power refl)
+  off-line (EventView.Cut left within pattern) power end cut moves = absurd (cut left within pattern refl)
+  off-line EventView.End power end cut moves = absurd (end refl)
+  off-line (EventView.Command command payload) power end cut moves =
+      (rests (EventView.Command command payload) refl refl moves).1
+  off-line (EventView.Uf2 block) power end cut moves = (rests (EventView.Uf2 block) refl refl moves).1
+  off-line (EventView.Reset kind) power end cut moves = (rests (EventView.Reset kind) refl refl moves).1
+  off-line EventView.Buy power end cut moves = (rests EventView.Buy refl refl moves).1
 
-pub cut-moves : (m n : Machine) (left : ℕ) (within : Bool) (pattern text : List ℕ)
-    → Moves m (Happening.Cut left within pattern) n text
-    → (n ≡ with_cut m left within pattern) × (text ≡ codes "cut armed")
+pub cut-moves : (m n : MachineView) (left : ℕ) (within : Bool) (pattern text : List ℕ)
+    → Moves m (EventView.Cut left within pattern) n text
+    → (n ≡ machine_with_cut m left within pattern) × (text ≡ codes "cut armed")
 cut-moves m n left within pattern text (inr lost) = absurd lost.content
 cut-moves m n left within pattern text (inl done) = (
-  same-machine n (with_cut m left within pattern) done.content
-      (armed (armed_for m.armed (Happening.Cut left within pattern)) n.armed m.content n.content done.armed_cut)
+  same-machine n (machine_with_cut m left within pattern) done.content
+      (armed (armed_for m.armed (EventView.Cut left within pattern)) n.armed m.content n.content done.armed_cut)
       done.cpu done.place,
   done.line,
 )
@@ -181,5 +181,5 @@ cut-moves m n left within pattern text (inl done) = (
     armed None b c d is = is
     armed (Some cut) b c d is = is.next
 
-pub end-moves : (m n : Machine) (text : List ℕ) → Moves m Happening.End n text → (n ≡ m) × (text ≡ codes "end")
+pub end-moves : (m n : MachineView) (text : List ℕ) → Moves m EventView.End n text → (n ≡ m) × (text ≡ codes "end")
 end-moves m n text moves = still-moves m n m.place (codes "end") text refl moves

@@ -15,7 +15,7 @@ use Rattle.uf2_place.specs.declared.block.Uf2Fault.{Uf2Fault}
 use Rattle.uf2_place.specs.declared.answer.Ruling.{Ruling}
 use Rattle.uf2_place.specs.declared.answer.Ruling.TheVariants.{Answered, Begins, Continues}
 use Rattle.uf2_place.specs.Blocks.{uf2_of}
-use Rattle.uf2_place.specs.Placement.{grown, is_whole}
+use Rattle.uf2_place.specs.Placement.{grown, is_whole_download}
 use Rattle.picoboot_cmd.specs.declared.cmd.Cmd.{Cmd}
 use Rattle.picoboot_cmd.specs.declared.cmd.CmdFault.{CmdFault}
 use Rattle.picoboot_cmd.specs.Commands.{command_in}
@@ -26,32 +26,32 @@ use Rattle.boot_rules.specs.Targets.{target_of}
 use Rattle.boot_rules.specs.declared.decision.Decision.{Decision}
 use Rattle.boot_rules.specs.declared.decision.Decision.TheVariants.{Start, Bootsel}
 use Rattle.boot_rules.specs.declared.tables.Found.{Found}
-use Rattle.boot_script.specs.Events.{Happening}
+use Rattle.boot_script.specs.Events.{EventView}
 use Rattle.boot_machine.specs.Boots.{Effect, decided_place, decided_steps, entered}
-use Rattle.boot_machine.specs.Machines.{Host, Machine, Place, Off, InBootsel, Running}
+use Rattle.boot_machine.specs.Machines.{Host, MachineView, StateView, Off, InBootsel, Running}
 use Rattle.boot_machine.specs.Moves.{Moves, MovesBy, armed_for, effect, effect_in}
-use Rattle.boot_machine.specs.Serving.{Served, block_served, blocks_of, command_served, followed_by, ram_place, ruling_on, serves, serves_ram, served, table_of, taken_in, uf2_served}
+use Rattle.boot_machine.specs.Serving.{ServedEvent, block_served, blocks_of, command_served, followed_by, ram_place, ruling_on, serves, serves_ram, served_event, table_of_found, taken_in, uf2_served}
 use Rattle.boot_machine.proofs.RamRunLemmas.{either}
 
 -- what is served leaves this table
-abbrev Keeps : Option Found → Place → Type 0
+abbrev Keeps : Option Found → StateView → Type 0
 Keeps f Off = ⊤
 Keeps f (InBootsel host) = host.found ≡ f
 Keeps f (Running program) = ⊤
 
 -- the table is this one, or BOOTSEL is as it is entered on this content
-abbrev HasTable : Content → Option Found → Place → Type 0
+abbrev HasTable : Content → Option Found → StateView → Type 0
 HasTable c f Off = ⊤
 HasTable c f (InBootsel host) = (host.found ≡ f) ⊎ (InBootsel host ≡ entered c)
 HasTable c f (Running program) = ⊤
 
-lift : (c : Content) (f : Option Found) (place : Place) → Keeps f place → HasTable c f place
+lift : (c : Content) (f : Option Found) (place : StateView) → Keeps f place → HasTable c f place
 lift c f Off keeps = tt
 lift c f (InBootsel host) keeps = inl keeps
 lift c f (Running program) keeps = tt
 
 -- BOOTSEL is as it is entered on this content
-abbrev IsEntered : Content → Place → Type 0
+abbrev IsEntered : Content → StateView → Type 0
 IsEntered c Off = ⊤
 IsEntered c (InBootsel host) = InBootsel host ≡ entered c
 IsEntered c (Running program) = ⊤
@@ -61,7 +61,7 @@ booted-entered : (c : Content) (cpu : Cpu) (d : Decision)
 booted-entered c cpu (Start choice) = tt
 booted-entered c cpu (Bootsel fall) = refl
 
-entered-table : (c : Content) (f : Option Found) (place : Place) → IsEntered c place → HasTable c f place
+entered-table : (c : Content) (f : Option Found) (place : StateView) → IsEntered c place → HasTable c f place
 entered-table c f Off is = tt
 entered-table c f (InBootsel host) is = inr is
 entered-table c f (Running program) is = tt
@@ -74,11 +74,11 @@ booted-table c cpu f steps (Bootsel fall) =
     inr (ap (λ xs. entered (after_all c xs)) (sym (append-nil steps)))
 
 module _ (c : Content) (cpu : Cpu) (host : Host) where
-  abbrev Leaves : Served → Type 0
+  abbrev Leaves : ServedEvent → Type 0
   Leaves s = Keeps host.found s.place
 
   taken-table : (t : Target) (blocks : List Uf2) (b : Uf2) (steps : List Step) → Leaves (taken_in host t blocks b steps)
-  taken-table t blocks b steps = either Leaves (is_whole blocks) _ _ refl refl
+  taken-table t blocks b steps = either Leaves (is_whole_download blocks) _ _ refl refl
 
   block-table : (b : Uf2) (r : Ruling) → Leaves (block_served host b r)
   block-table b (Answered answer) = refl
@@ -89,8 +89,8 @@ module _ (c : Content) (cpu : Cpu) (host : Host) where
 
   uf2-table : (r : Result Uf2 Uf2Fault) → Leaves (uf2_served c cpu host r)
   uf2-table (Ok b) =
-      block-table b (ruling_on (length c.flash) (table_of host.found)
-      (target_of c (table_of host.found) cpu b.family) host.placing b)
+      block-table b (ruling_on (length c.flash) (table_of_found host.found)
+      (target_of c (table_of_found host.found) cpu b.family) host.placing b)
   uf2-table (Err fault) = refl
 
   ram-table : (start : Option Started) (ram : List ℕ) → Keeps host.found (ram_place host start ram)
@@ -109,38 +109,38 @@ module _ (c : Content) (cpu : Cpu) (host : Host) where
   abbrev Says : Effect → Type 0
   Says e = HasTable (after_all c e.steps) host.found e.place
 
-  followed-table : (s : Served) (boot : Option BootKind) → Leaves s → Says (followed_by c cpu s boot)
+  followed-table : (s : ServedEvent) (boot : Option BootKind) → Leaves s → Says (followed_by c cpu s boot)
   followed-table s None keeps = lift (after_all c s.steps) host.found s.place keeps
   followed-table s (Some kind) keeps =
       booted-table c cpu host.found s.steps (decision_in (after_all c s.steps) cpu kind)
 
-  host-table : (event : Happening) → Says (effect_in c cpu (InBootsel host) event)
-  host-table (Happening.Command command payload) =
-      let s = served c cpu host (Happening.Command command payload) in
+  host-table : (event : EventView) → Says (effect_in c cpu (InBootsel host) event)
+  host-table (EventView.Command command payload) =
+      let s = served_event c cpu host (EventView.Command command payload) in
       followed-table s s.boot (command-table (command_in command) payload)
-  host-table (Happening.Uf2 block) =
-      let s = served c cpu host (Happening.Uf2 block) in followed-table s s.boot (uf2-table (uf2_of block))
-  host-table (Happening.Reset kind) =
+  host-table (EventView.Uf2 block) =
+      let s = served_event c cpu host (EventView.Uf2 block) in followed-table s s.boot (uf2-table (uf2_of block))
+  host-table (EventView.Reset kind) =
       let d = decision_in c cpu kind in
       entered-table (after_all c (decided_steps c cpu d)) host.found (decided_place c d) (booted-entered c cpu d)
-  host-table Happening.End = inl refl
-  host-table Happening.PowerOn = inl refl
-  host-table Happening.Buy = inl refl
-  host-table (Happening.Cut left within pattern) = inl refl
+  host-table EventView.End = inl refl
+  host-table EventView.PowerOn = inl refl
+  host-table EventView.Buy = inl refl
+  host-table (EventView.Cut left within pattern) = inl refl
 
-at-place : (c : Content) (f : Option Found) (place : Place) (other : Host) → place ≡ InBootsel other
+at-place : (c : Content) (f : Option Found) (place : StateView) (other : Host) → place ≡ InBootsel other
     → HasTable c f place
     → (other.found ≡ f) ⊎ (InBootsel other ≡ entered c)
 at-place c f place other at has = subst (HasTable c f) at has
 
-at-entered : (c : Content) (place : Place) (other : Host) → place ≡ InBootsel other → IsEntered c place
+at-entered : (c : Content) (place : StateView) (other : Host) → place ≡ InBootsel other → IsEntered c place
     → InBootsel other ≡ entered c
 at-entered c place other at is = subst (IsEntered c) at is
 
-not-off : {P : Type 0} (place : Place) (other : Host) → place ≡ Off → place ≡ InBootsel other → P
+not-off : {P : Type 0} (place : StateView) (other : Host) → place ≡ Off → place ≡ InBootsel other → P
 not-off place other off at = let no : Off ≡ InBootsel other = sym off ∙ at in cc no
 
-by-effect : (m n : Machine) (e : Effect) (text : List ℕ) (armed : Option (Option Cut)) (host other : Host)
+by-effect : (m n : MachineView) (e : Effect) (text : List ℕ) (armed : Option (Option Cut)) (host other : Host)
     → HasTable (after_all m.content e.steps) host.found e.place → MovesBy m armed e n text → n.place ≡ InBootsel other
     → (other.found ≡ host.found) ⊎ (InBootsel other ≡ entered n.content)
 by-effect m n e text armed host other has (inr lost) at = not-off n.place other lost.place at
@@ -148,7 +148,7 @@ by-effect m n e text armed host other has (inl done) at =
     subst (λ (c : Content). (other.found ≡ host.found) ⊎ (InBootsel other ≡ entered c)) (sym done.content)
     (at-place (after_all m.content e.steps) host.found e.place other (sym done.place ∙ at) has)
 
-by-boot : (m n : Machine) (e : Effect) (text : List ℕ) (armed : Option (Option Cut)) (other : Host)
+by-boot : (m n : MachineView) (e : Effect) (text : List ℕ) (armed : Option (Option Cut)) (other : Host)
     → IsEntered (after_all m.content e.steps) e.place → MovesBy m armed e n text → n.place ≡ InBootsel other
     → InBootsel other ≡ entered n.content
 by-boot m n e text armed other is (inr lost) at = not-off n.place other lost.place at
@@ -156,48 +156,48 @@ by-boot m n e text armed other is (inl done) at =
     subst (λ (c : Content). InBootsel other ≡ entered c) (sym done.content)
     (at-entered (after_all m.content e.steps) e.place other (sym done.place ∙ at) is)
 
-pub table-kept : (m n : Machine) (host other : Host) (event : Happening) (text : List ℕ) → m.place ≡ InBootsel host
+pub table-kept : (m n : MachineView) (host other : Host) (event : EventView) (text : List ℕ) → m.place ≡ InBootsel host
     → Moves m event n text → n.place ≡ InBootsel other
     → (other.found ≡ host.found) ⊎ (InBootsel other ≡ entered n.content)
 table-kept m n host other event text at moves there =
     by-effect m n (effect m event) text (armed_for m.armed event) host other (has event) moves there
   where
-    in-bootsel : (event : Happening)
+    in-bootsel : (event : EventView)
         → HasTable (after_all m.content (effect_in m.content m.cpu m.place event).steps) host.found
         (effect_in m.content m.cpu m.place event).place
     in-bootsel event =
-        subst (λ (p : Place). HasTable (after_all m.content (effect_in m.content m.cpu p event).steps) host.found
+        subst (λ (p : StateView). HasTable (after_all m.content (effect_in m.content m.cpu p event).steps) host.found
         (effect_in m.content m.cpu p event).place) (sym at) (host-table m.content m.cpu host event)
 
     still : HasTable m.content host.found m.place
     still = subst (HasTable m.content host.found) (sym at) (inl refl)
 
-    has : (event : Happening) → HasTable (after_all m.content (effect m event).steps) host.found (effect m event).place
-    has (Happening.Cut left within pattern) = still
-    has Happening.End = still
-    has (Happening.Command command payload) = in-bootsel (Happening.Command command payload)
-    has (Happening.Uf2 block) = in-bootsel (Happening.Uf2 block)
-    has Happening.PowerOn = in-bootsel Happening.PowerOn
-    has (Happening.Reset kind) = in-bootsel (Happening.Reset kind)
-    has Happening.Buy = in-bootsel Happening.Buy
+    has : (event : EventView) → HasTable (after_all m.content (effect m event).steps) host.found (effect m event).place
+    has (EventView.Cut left within pattern) = still
+    has EventView.End = still
+    has (EventView.Command command payload) = in-bootsel (EventView.Command command payload)
+    has (EventView.Uf2 block) = in-bootsel (EventView.Uf2 block)
+    has EventView.PowerOn = in-bootsel EventView.PowerOn
+    has (EventView.Reset kind) = in-bootsel (EventView.Reset kind)
+    has EventView.Buy = in-bootsel EventView.Buy
 
-pub table-reset : (m n : Machine) (other : Host) (kind : BootKind) (text : List ℕ) → m.place ≢ Off
-    → Moves m (Happening.Reset kind) n text → n.place ≡ InBootsel other → InBootsel other ≡ entered n.content
+pub table-reset : (m n : MachineView) (other : Host) (kind : BootKind) (text : List ℕ) → m.place ≢ Off
+    → Moves m (EventView.Reset kind) n text → n.place ≡ InBootsel other → InBootsel other ≡ entered n.content
 table-reset m n other kind text on moves there =
-    by-boot m n (effect m (Happening.Reset kind)) text (armed_for m.armed (Happening.Reset kind)) other
+    by-boot m n (effect m (EventView.Reset kind)) text (armed_for m.armed (EventView.Reset kind)) other
     (boots m.place on) moves there
   where
-    boots : (place : Place) → place ≢ Off
-        → IsEntered (after_all m.content (effect_in m.content m.cpu place (Happening.Reset kind)).steps)
-        (effect_in m.content m.cpu place (Happening.Reset kind)).place
+    boots : (place : StateView) → place ≢ Off
+        → IsEntered (after_all m.content (effect_in m.content m.cpu place (EventView.Reset kind)).steps)
+        (effect_in m.content m.cpu place (EventView.Reset kind)).place
     boots Off on = absurd (on refl)
     boots (InBootsel host) on = booted-entered m.content m.cpu (decision_in m.content m.cpu kind)
     boots (Running program) on = booted-entered m.content m.cpu (decision_in m.content m.cpu kind)
 
-pub table-power : (m n : Machine) (other : Host) (text : List ℕ) → m.place ≡ Off
-    → Moves m Happening.PowerOn n text → n.place ≡ InBootsel other → InBootsel other ≡ entered n.content
+pub table-power : (m n : MachineView) (other : Host) (text : List ℕ) → m.place ≡ Off
+    → Moves m EventView.PowerOn n text → n.place ≡ InBootsel other → InBootsel other ≡ entered n.content
 table-power m n other text off moves there =
-    by-boot m n (effect m Happening.PowerOn) text (armed_for m.armed Happening.PowerOn) other
-    (subst (λ (p : Place). IsEntered (after_all m.content (effect_in m.content m.cpu p Happening.PowerOn).steps)
-    (effect_in m.content m.cpu p Happening.PowerOn).place) (sym off)
+    by-boot m n (effect m EventView.PowerOn) text (armed_for m.armed EventView.PowerOn) other
+    (subst (λ (p : StateView). IsEntered (after_all m.content (effect_in m.content m.cpu p EventView.PowerOn).steps)
+    (effect_in m.content m.cpu p EventView.PowerOn).place) (sym off)
     (booted-entered m.content m.cpu (decision_in m.content m.cpu Normal))) moves there

@@ -21,8 +21,8 @@ use Rattle.uf2_place.specs.declared.answer.PlaceFault.TheVariants.{NoTarget, Not
 use Rattle.uf2_place.specs.declared.answer.Ruling.{Ruling}
 use Rattle.uf2_place.specs.declared.answer.Ruling.TheVariants.{Answered, Begins, Continues}
 use Rattle.uf2_place.specs.Blocks.{uf2_of}
-use Rattle.uf2_place.specs.Placement.{grown, is_whole, numbers_of, sector_in}
-use Rattle.uf2_place.specs.Rulings.{aimed, begun, is_skipped, is_within}
+use Rattle.uf2_place.specs.Placement.{grown, is_whole_download, numbers_of, sector_in}
+use Rattle.uf2_place.specs.Rulings.{aimed, begun, is_skipped, is_page_within}
 use Rattle.picoboot_cmd.specs.declared.cmd.Cmd.{Cmd}
 use Rattle.picoboot_cmd.specs.declared.cmd.CmdFault.{CmdFault}
 use Rattle.picoboot_cmd.specs.Commands.{command_in}
@@ -30,12 +30,12 @@ use Rattle.info_reply.specs.declared.kinds.TheConstants.{INFO}
 use Rattle.ram_start.specs.Serving.{is_ram_command}
 use Rattle.boot_rules.specs.Choosing.{decision_in}
 use Rattle.boot_rules.specs.Targets.{target_of}
-use Rattle.boot_script.specs.Events.{Happening}
-use Rattle.boot_lines.specs.Texts.{accepted_text, decision_text, form_text}
+use Rattle.boot_script.specs.Events.{EventView}
+use Rattle.text_lines.specs.Texts.{accepted_text, decision_text, form_text}
 use Rattle.boot_machine.specs.Boots.{Effect}
-use Rattle.boot_machine.specs.Machines.{Host, Machine, Place, Placing, Off, InBootsel, Running, FromFlash, FromRam}
-use Rattle.boot_machine.specs.Moves.{IsDone, IsLost, Moves, armed_for, effect, effect_in, lost_text}
-use Rattle.boot_machine.specs.Serving.{Served, block_served, blocks_of, command_served, followed_by, is_like, ram_text, ruled_on, ruling_on, serves, serves_ram, served, table_of, taken_in, uf2_served}
+use Rattle.boot_machine.specs.Machines.{Host, MachineView, StateView, Placing, Off, InBootsel, Running, FromFlash, FromRam}
+use Rattle.boot_machine.specs.Moves.{IsDoneWhole, IsLost, Moves, armed_for, effect, effect_in, lost_text}
+use Rattle.boot_machine.specs.Serving.{ServedEvent, block_served, blocks_of, command_served, followed_by, is_like, ram_text, ruled_on, ruling_on, serves, serves_ram, served_event, table_of_found, taken_in, uf2_served}
 use Rattle.boot_machine.proofs.RamRunLemmas.{either}
 
 -- a text that does not begin as that of lost power does
@@ -54,7 +54,7 @@ other-apart text is same = absurd-other (subst IsOther same is)
     absurd-other e = true≢false e
 
 -- what is served is told by another text
-abbrev Tells : Served → Type 0
+abbrev Tells : ServedEvent → Type 0
 Tells s = IsOther s.text
 
 -- no block is refused before any step for want of power
@@ -82,7 +82,7 @@ form-tells Number = refl
 module _ (t : Option Table) (b : Uf2) where
   aimed-keeps : (target : Target) (go : Ruling) → KeepsPower go → KeepsPower (aimed t b target go)
   aimed-keeps target go keeps =
-      either KeepsPower (not (is_within target.window.len b)) _ _ tt
+      either KeepsPower (not (is_page_within target.window.len b)) _ _ tt
       (either KeepsPower (not (allowed_by t (sector_in target.window b) BootWrite)) _ _ tt keeps)
 
   begun-keeps : (given : Option Target) → KeepsPower (begun t b given)
@@ -103,7 +103,7 @@ ruling-keeps n t given placing b = either KeepsPower (is_skipped n b) _ _ tt (ru
 
 taken-tells : (host : Host) (t : Target) (blocks : List Uf2) (b : Uf2) (steps : List Step)
     → Tells (taken_in host t blocks b steps)
-taken-tells host t blocks b steps = either Tells (is_whole blocks) _ _ refl refl
+taken-tells host t blocks b steps = either Tells (is_whole_download blocks) _ _ refl refl
 
 block-tells : (host : Host) (b : Uf2) (r : Ruling) → KeepsPower r → Tells (block_served host b r)
 block-tells host b (Answered (Ok accepted)) keeps = accepted-tells b.number accepted
@@ -124,9 +124,9 @@ ram-tells cmd status reply (Some image) = refl
 module _ (c : Content) (cpu : Cpu) (host : Host) where
   uf2-tells : (r : Result Uf2 Uf2Fault) → Tells (uf2_served c cpu host r)
   uf2-tells (Ok b) =
-      let given = target_of c (table_of host.found) cpu b.family in
-      block-tells host b (ruling_on (length c.flash) (table_of host.found) given host.placing b)
-      (ruling-keeps (length c.flash) (table_of host.found) given host.placing b)
+      let given = target_of c (table_of_found host.found) cpu b.family in
+      block-tells host b (ruling_on (length c.flash) (table_of_found host.found) given host.placing b)
+      (ruling-keeps (length c.flash) (table_of_found host.found) given host.placing b)
   uf2-tells (Err fault) = form-tells fault
 
   serves-tells : (cmd : Cmd) (payload : List ℕ) → Tells (serves c cpu host cmd payload)
@@ -138,7 +138,7 @@ module _ (c : Content) (cpu : Cpu) (host : Host) where
   command-tells (Ok cmd) payload = serves-tells cmd payload
   command-tells (Err fault) payload = refl
 
-  followed-tells : (s : Served) (boot : Option BootKind) → Tells s → IsOther (followed_by c cpu s boot).text
+  followed-tells : (s : ServedEvent) (boot : Option BootKind) → Tells s → IsOther (followed_by c cpu s boot).text
   followed-tells s None tells = tells
   followed-tells s (Some kind) tells =
       other-more (s.text ++ codes " boot ") (decision_text (decision_in (after_all c s.steps) cpu kind))
@@ -147,55 +147,56 @@ module _ (c : Content) (cpu : Cpu) (host : Host) where
 abbrev Says : Effect → Type 0
 Says e = IsOther e.text
 
-place-says : (c : Content) (cpu : Cpu) (place : Place) (event : Happening) → Says (effect_in c cpu place event)
-place-says c cpu Off Happening.PowerOn = refl
-place-says c cpu Off Happening.End = refl
-place-says c cpu Off Happening.Buy = refl
-place-says c cpu Off (Happening.Command command payload) = refl
-place-says c cpu Off (Happening.Uf2 block) = refl
-place-says c cpu Off (Happening.Cut left within pattern) = refl
-place-says c cpu Off (Happening.Reset kind) = refl
-place-says c cpu (InBootsel host) (Happening.Command command payload) =
-    let s = served c cpu host (Happening.Command command payload) in
+place-says : (c : Content) (cpu : Cpu) (place : StateView) (event : EventView) → Says (effect_in c cpu place event)
+place-says c cpu Off EventView.PowerOn = refl
+place-says c cpu Off EventView.End = refl
+place-says c cpu Off EventView.Buy = refl
+place-says c cpu Off (EventView.Command command payload) = refl
+place-says c cpu Off (EventView.Uf2 block) = refl
+place-says c cpu Off (EventView.Cut left within pattern) = refl
+place-says c cpu Off (EventView.Reset kind) = refl
+place-says c cpu (InBootsel host) (EventView.Command command payload) =
+    let s = served_event c cpu host (EventView.Command command payload) in
     followed-tells c cpu host s s.boot (command-tells c cpu host (command_in command) payload)
-place-says c cpu (InBootsel host) (Happening.Uf2 block) =
-    let s = served c cpu host (Happening.Uf2 block) in
+place-says c cpu (InBootsel host) (EventView.Uf2 block) =
+    let s = served_event c cpu host (EventView.Uf2 block) in
     followed-tells c cpu host s s.boot (uf2-tells c cpu host (uf2_of block))
-place-says c cpu (InBootsel host) (Happening.Reset kind) = refl
-place-says c cpu (InBootsel host) Happening.End = refl
-place-says c cpu (InBootsel host) Happening.PowerOn = refl
-place-says c cpu (InBootsel host) Happening.Buy = refl
-place-says c cpu (InBootsel host) (Happening.Cut left within pattern) = refl
-place-says c cpu (Running program) (Happening.Reset kind) = refl
-place-says c cpu (Running (FromFlash choice)) Happening.Buy = either Says choice.image.trial _ _ refl refl
-place-says c cpu (Running (FromRam image)) Happening.Buy = refl
-place-says c cpu (Running program) Happening.PowerOn = refl
-place-says c cpu (Running program) Happening.End = refl
-place-says c cpu (Running program) (Happening.Command command payload) = refl
-place-says c cpu (Running program) (Happening.Uf2 block) = refl
-place-says c cpu (Running program) (Happening.Cut left within pattern) = refl
+place-says c cpu (InBootsel host) (EventView.Reset kind) = refl
+place-says c cpu (InBootsel host) EventView.End = refl
+place-says c cpu (InBootsel host) EventView.PowerOn = refl
+place-says c cpu (InBootsel host) EventView.Buy = refl
+place-says c cpu (InBootsel host) (EventView.Cut left within pattern) = refl
+place-says c cpu (Running program) (EventView.Reset kind) = refl
+place-says c cpu (Running (FromFlash choice)) EventView.Buy = either Says choice.image.trial _ _ refl refl
+place-says c cpu (Running (FromRam image)) EventView.Buy = refl
+place-says c cpu (Running program) EventView.PowerOn = refl
+place-says c cpu (Running program) EventView.End = refl
+place-says c cpu (Running program) (EventView.Command command payload) = refl
+place-says c cpu (Running program) (EventView.Uf2 block) = refl
+place-says c cpu (Running program) (EventView.Cut left within pattern) = refl
 
-effect-says : (m : Machine) (event : Happening) → Says (effect m event)
-effect-says m (Happening.Cut left within pattern) = refl
-effect-says m Happening.End = refl
-effect-says m (Happening.Command command payload) =
-    place-says m.content m.cpu m.place (Happening.Command command payload)
-effect-says m (Happening.Uf2 block) = place-says m.content m.cpu m.place (Happening.Uf2 block)
-effect-says m Happening.PowerOn = place-says m.content m.cpu m.place Happening.PowerOn
-effect-says m (Happening.Reset kind) = place-says m.content m.cpu m.place (Happening.Reset kind)
-effect-says m Happening.Buy = place-says m.content m.cpu m.place Happening.Buy
+effect-says : (m : MachineView) (event : EventView) → Says (effect m event)
+effect-says m (EventView.Cut left within pattern) = refl
+effect-says m EventView.End = refl
+effect-says m (EventView.Command command payload) =
+    place-says m.content m.cpu m.place (EventView.Command command payload)
+effect-says m (EventView.Uf2 block) = place-says m.content m.cpu m.place (EventView.Uf2 block)
+effect-says m EventView.PowerOn = place-says m.content m.cpu m.place EventView.PowerOn
+effect-says m (EventView.Reset kind) = place-says m.content m.cpu m.place (EventView.Reset kind)
+effect-says m EventView.Buy = place-says m.content m.cpu m.place EventView.Buy
 
 -- an event that is done says something else than that power was lost
-pub not-lost : (m : Machine) (event : Happening) → (effect m event).text ≢ lost_text
+pub not-lost : (m : MachineView) (event : EventView) → (effect m event).text ≢ lost_text
 not-lost m event same = other-apart (effect m event).text (effect-says m event) same
 
-pub lost-text : (m n : Machine) (event : Happening) (text : List ℕ) → Moves m event n text
+pub lost-text : (m n : MachineView) (event : EventView) (text : List ℕ) → Moves m event n text
     → (text ≡ lost_text) ↔ IsLost m (armed_for m.armed event) (effect m event) n text
 lost-text m n event text (inl done) =
     (λ same. absurd (other-apart (effect m event).text (effect-says m event) (sym done.line ∙ same)), λ lost. lost.line)
 lost-text m n event text (inr lost) = (λ same. lost, λ l. l.line)
 
-pub no-step : (m n : Machine) (event : Happening) (text : List ℕ) → Moves m event n text → (effect m event).steps ≡ []
-    → IsDone m (armed_for m.armed event) (effect m event) n text
+pub no-step : (m n : MachineView) (event : EventView) (text : List ℕ) → Moves m event n text
+    → (effect m event).steps ≡ []
+    → IsDoneWhole m (armed_for m.armed event) (effect m event) n text
 no-step m n event text (inl done) none = done
 no-step m n event text (inr lost) none = absurd (subst (λ steps. CutOf m.content steps n.content) none lost.content)

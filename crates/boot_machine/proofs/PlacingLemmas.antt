@@ -13,14 +13,14 @@ use Rattle.part_table.specs.Sound.{IsSoundTable}
 use Rattle.uf2_place.specs.declared.block.Uf2.{Uf2}
 use Rattle.uf2_place.specs.declared.answer.Ruling.{Ruling}
 use Rattle.uf2_place.specs.declared.answer.Ruling.TheVariants.{Answered, Begins, Continues}
-use Rattle.uf2_place.specs.Accepting.{Kept}
+use Rattle.uf2_place.specs.Accepting.{DownloadView}
 use Rattle.uf2_place.specs.Downloads.{IsTargetIn, lease_of}
-use Rattle.uf2_place.specs.Placement.{grown, is_whole}
+use Rattle.uf2_place.specs.Placement.{grown, is_whole_download}
 use Rattle.boot_machine.specs.declared.parts.Parts.{Parts}
 use Rattle.boot_machine.specs.declared.state.State.TheVariants.{Bootsel}
 use Rattle.boot_machine.specs.Machines.{Host, InBootsel}
 use Rattle.boot_machine.specs.Moves.{lost_text}
-use Rattle.boot_machine.specs.Serving.{Served, block_served, blocks_of, taken_in, with_placing}
+use Rattle.boot_machine.specs.Serving.{ServedEvent, block_served, blocks_of, taken_in, with_placing}
 use Rattle.boot_machine.specs.Standing.{Carries, HasRoom, IsHost, IsLeft, IsServed, IsServedBlock, IsSteady, Serves, StandsAt, is_bootsel, placing_at}
 use Rattle.boot_machine.proofs.SteadinessLemmas.{host-of, steady-bootsel}
 
@@ -28,9 +28,9 @@ use Rattle.boot_machine.proofs.SteadinessLemmas.{host-of, steady-bootsel}
 taken-place : (host : Host) (t : Target) (blocks : List Uf2) (b : Uf2) (steps : List Step)
     → (taken_in host t blocks b steps).place
     ≡ InBootsel (with_placing host (placing_at (taken_in host t blocks b steps).place))
-taken-place host t blocks b steps = by (is_whole blocks) refl
+taken-place host t blocks b steps = by (is_whole_download blocks) refl
   where
-    by : (w : Bool) → is_whole blocks ≡ w → (taken_in host t blocks b steps).place
+    by : (w : Bool) → is_whole_download blocks ≡ w → (taken_in host t blocks b steps).place
         ≡ InBootsel (with_placing host (placing_at (taken_in host t blocks b steps).place))
     by true whole = rw whole refl
     by false whole = rw whole refl
@@ -45,7 +45,7 @@ block-place host b (Continues t) =
 
 module _ {B : Type 0} where
   -- the parts once a block was placed
-  abbrev pub with_block : Parts B → B → Pool → Kept → Parts B
+  abbrev pub with_block : Parts B → B → Pool → DownloadView → Parts B
   with_block p board pool download = record {
     board = board;
     pool = pool;
@@ -58,7 +58,7 @@ module _ {B : Type 0} where
   }
 
   module _ (state : B → BoardState) (history : B → List Step → Type 0) where
-    pub block-ok : (old : Parts B) (host : Host) (s : Served) (board : B) (pool : Pool) (d : Kept)
+    pub block-ok : (old : Parts B) (host : Host) (s : ServedEvent) (board : B) (pool : Pool) (d : DownloadView)
         (boot : Option BootKind) (line : List ℕ) → s.place ≡ InBootsel (with_placing host (placing_at s.place))
         → IsHost old host → IsServedBlock state history s old.board (Ok boot) board d pool line
         → IsServed state history old s boot (with_block old board pool d) line
@@ -77,7 +77,8 @@ module _ {B : Type 0} where
       silent = tt;
     }
 
-    pub block-lost : (old new : Parts B) (s : Served) (board : B) (pool : Pool) (d : Kept) (lost : PowerLost)
+    pub block-lost : (old new : Parts B) (s : ServedEvent) (board : B) (pool : Pool) (d : DownloadView)
+        (lost : PowerLost)
         (told line : List ℕ) → IsServedBlock state history s old.board (Err lost) board d pool told
         → IsLeft (with_block old board pool d) new → line ≡ lost_text → IsServed state history old s None new line
     block-lost old new s board pool d lost told line served left is = record {
@@ -94,7 +95,7 @@ module _ {B : Type 0} where
       silent = refl;
     }
 
-    pub steady-block : (old : Parts B) (s : Host → Served) (board : B) (pool : Pool) (d : Kept)
+    pub steady-block : (old : Parts B) (s : Host → ServedEvent) (board : B) (pool : Pool) (d : DownloadView)
         (boot : Option BootKind) (line : List ℕ) → IsSteady state old → old.state ≡ Bootsel
         → ((host : Host) → host.found ≡ old.found → Carries old.download old.pool host.placing
         → IsServedBlock state history (s host) old.board (Ok boot) board d pool line)
@@ -109,8 +110,8 @@ module _ {B : Type 0} where
         (λ f found. subst (λ n. IsSoundTable f.table (n / 4096)) (sym one.steps.size)
         (steady.found (ap is_bootsel is) f found))
 
-    -- the same is served by another case of the table
-    pub serves-as : (old new : Parts B) (f h : Content → Cpu → Host → Served) (answer : Option BootKind)
+    -- what one case of the table serves another one serves that says the same
+    pub serves-as : (old new : Parts B) (f h : Content → Cpu → Host → ServedEvent) (answer : Option BootKind)
         (line : List ℕ) → ((c : Content) (cpu : Cpu) (host : Host) → f c cpu host ≡ h c cpu host)
         → Serves state history old f answer new line → Serves state history old h answer new line
     serves-as old new f h answer line same serves host is =

@@ -16,33 +16,33 @@ use Rattle.picoboot_cmd.specs.Arguments.{address}
 use Rattle.picoboot_cmd.specs.Commands.{command_in}
 use Rattle.info_reply.specs.declared.kinds.TheConstants.{INFO}
 use Rattle.ram_start.specs.Serving.{RamServed, is_ram_command, ram_served, ram_status}
-use Rattle.ram_start.specs.Sram.{RamWrite, ram_after, stored, written, written_all, zero_ram}
+use Rattle.ram_start.specs.Sram.{RamWrite, ram_after, with_bytes_at, written_ram, written_all, zero_ram}
 use Rattle.boot_rules.specs.declared.decision.Decision.{Decision}
 use Rattle.boot_rules.specs.declared.decision.Decision.TheVariants.{Start, Bootsel}
 use Rattle.boot_rules.specs.Choosing.{decision_in}
-use Rattle.boot_script.specs.Events.{Happening}
+use Rattle.boot_script.specs.Events.{EventView}
 use Rattle.uf2_place.specs.declared.block.Uf2.{Uf2}
 use Rattle.uf2_place.specs.declared.block.Uf2Fault.{Uf2Fault}
 use Rattle.uf2_place.specs.declared.answer.Ruling.{Ruling}
 use Rattle.uf2_place.specs.declared.answer.Ruling.TheVariants.{Answered, Begins, Continues}
 use Rattle.uf2_place.specs.Blocks.{uf2_of}
-use Rattle.uf2_place.specs.Placement.{grown, is_whole}
+use Rattle.uf2_place.specs.Placement.{grown, is_whole_download}
 use Rattle.part_table.specs.declared.Target.{Target}
 use Rattle.pico_board.specs.declared.Step.{Step}
 use Rattle.boot_machine.specs.Boots.{Effect, decided_place}
-use Rattle.boot_machine.specs.Machines.{Host, Machine, Place, Off, InBootsel, Running, FromFlash, FromRam}
+use Rattle.boot_machine.specs.Machines.{Host, MachineView, StateView, Off, InBootsel, Running, FromFlash, FromRam}
 use Rattle.boot_machine.specs.Moves.{Moves, Plays, effect, effect_in}
 use Rattle.boot_machine.specs.Runs.{IsFresh, PlaysWriting, command_writes, host_writes, place_writes, ram_writes, writes_behind}
-use Rattle.boot_machine.specs.Serving.{Served, block_served, blocks_of, ruling_on, table_of, command_served, followed_by, ram_place, serves, serves_host, serves_info, serves_ram, served, taken_in, uf2_served}
+use Rattle.boot_machine.specs.Serving.{ServedEvent, block_served, blocks_of, ruling_on, table_of_found, command_served, followed_by, ram_place, serves, serves_host, serves_info, serves_ram, served_event, taken_in, uf2_served}
 
 -- one more write
 written-more : (ram : List ℕ) (ws : List RamWrite) (w : RamWrite)
-    → written_all ram (ws ++ w ∷ []) ≡ written (written_all ram ws) w
+    → written_all ram (ws ++ w ∷ []) ≡ written_ram (written_all ram ws) w
 written-more ram [] w = refl
-written-more ram (v ∷ ws) w = written-more (written ram v) ws w
+written-more ram (v ∷ ws) w = written-more (written_ram ram v) ws w
 
 -- a place's SRAM is what these writes have left
-abbrev pub HasWritten : Place → List RamWrite → Type 0
+abbrev pub HasWritten : StateView → List RamWrite → Type 0
 HasWritten Off ws = ⊤
 HasWritten (InBootsel host) ws = host.ram ≡ ram_after ws
 HasWritten (Running program) ws = ⊤
@@ -58,11 +58,11 @@ booted-written c (Start choice) = tt
 booted-written c (Bootsel fall) = refl
 
 -- what is served leaves this, where no boot follows
-abbrev Leaves : Served → List RamWrite → Type 0
+abbrev Leaves : ServedEvent → List RamWrite → Type 0
 Leaves s ws = HasWritten s.place ws
 
--- and a boot that follows begins anew
-followed-written : (c : Content) (cpu : Cpu) (s : Served) (ws : List RamWrite) (boot : Option BootKind)
+-- what is served leaves these writes of SRAM where no boot follows, and none where one does
+followed-written : (c : Content) (cpu : Cpu) (s : ServedEvent) (ws : List RamWrite) (boot : Option BootKind)
     → Leaves s ws → HasWritten (followed_by c cpu s boot).place (if is_some boot then [] else ws)
 followed-written c cpu s ws None leaves = leaves
 followed-written c cpu s ws (Some kind) leaves =
@@ -72,7 +72,7 @@ module _ (c : Content) (cpu : Cpu) (host : Host) (ws : List RamWrite) (has : hos
   -- a block leaves the SRAM
   taken-written : (t : Target) (blocks : List Uf2) (b : Uf2) (steps : List Step)
       → Leaves (taken_in host t blocks b steps) ws
-  taken-written t blocks b steps = either (λ s. Leaves s ws) (is_whole blocks) _ _ has has
+  taken-written t blocks b steps = either (λ s. Leaves s ws) (is_whole_download blocks) _ _ has has
 
   block-written : (b : Uf2) (r : Ruling) → Leaves (block_served host b r) ws
   block-written b (Answered answer) = has
@@ -83,8 +83,8 @@ module _ (c : Content) (cpu : Cpu) (host : Host) (ws : List RamWrite) (has : hos
 
   uf2-written : (r : Result Uf2 Uf2Fault) → Leaves (uf2_served c cpu host r) ws
   uf2-written (Ok b) =
-      block-written b (ruling_on (length c.flash) (table_of host.found)
-      (target_of c (table_of host.found) cpu b.family) host.placing b)
+      block-written b (ruling_on (length c.flash) (table_of_found host.found)
+      (target_of c (table_of_found host.found) cpu b.family) host.placing b)
   uf2-written (Err fault) = has
 
   module _ (cmd : Cmd) (payload : List ℕ) where
@@ -99,11 +99,12 @@ module _ (c : Content) (cpu : Cpu) (host : Host) (ws : List RamWrite) (has : hos
 
     -- the SRAM after a RAM command is that after its write
     left : (ok writes ram : Bool) → ram ≡ true
-        → cond ok (cond writes (stored host.ram (address cmd - SRAM_START) payload) host.ram) host.ram
+        → cond ok (cond writes (with_bytes_at host.ram (address cmd - SRAM_START) payload) host.ram) host.ram
         ≡ ram_after (ws ++ (if writes && (ram && ok) then write ∷ [] else []))
     left ok writes false is = absurd (true≢false (sym is))
     left true true true is =
-        ap (λ (ram : List ℕ). stored ram (address cmd - SRAM_START) payload) has ∙ sym (written-more zero_ram ws write)
+        ap (λ (ram : List ℕ). with_bytes_at ram (address cmd - SRAM_START) payload) has
+        ∙ sym (written-more zero_ram ws write)
     left true false true is = still
     left false true true is = still
     left false false true is = still
@@ -133,7 +134,7 @@ module _ (c : Content) (cpu : Cpu) (host : Host) (ws : List RamWrite) (has : hos
     no-write true ok = refl
     no-write false ok = refl
 
-    abbrev kind : Bool → Bool → Served
+    abbrev kind : Bool → Bool → ServedEvent
     kind info ram =
         if info then serves_info c cpu host cmd payload
         else if ram then serves_ram c cpu host cmd payload
@@ -143,14 +144,14 @@ module _ (c : Content) (cpu : Cpu) (host : Host) (ws : List RamWrite) (has : hos
         → Leaves (serves c cpu host cmd payload) (ws ++ ram_writes c cpu host cmd payload)
     by-kind true ram info is =
         let other : (cmd.id == WRITE) ≡ false = ap (λ id. id == WRITE) (eqb-true cmd.id INFO info) in
-        subst (λ (s : Served). Leaves s (ws ++ ram_writes c cpu host cmd payload))
+        subst (λ (s : ServedEvent). Leaves s (ws ++ ram_writes c cpu host cmd payload))
         (sym (ap (λ x. kind x (is_ram_command cmd)) info))
         (unwritten (ap (λ x. if x && (is_ram_command cmd && status == 0) then write ∷ [] else []) other))
     by-kind false true info is =
-        subst (λ (s : Served). Leaves s (ws ++ ram_writes c cpu host cmd payload))
+        subst (λ (s : ServedEvent). Leaves s (ws ++ ram_writes c cpu host cmd payload))
         (sym (ap (λ x. kind x (is_ram_command cmd)) info ∙ ap (kind false) is)) (ram-written is)
     by-kind false false info is =
-        subst (λ (s : Served). Leaves s (ws ++ ram_writes c cpu host cmd payload))
+        subst (λ (s : ServedEvent). Leaves s (ws ++ ram_writes c cpu host cmd payload))
         (sym (ap (λ x. kind x (is_ram_command cmd)) info ∙ ap (kind false) is))
         (unwritten (ap (λ x. if cmd.id == WRITE && (x && status == 0) then write ∷ [] else []) is
         ∙ no-write (cmd.id == WRITE) (status == 0)))
@@ -163,90 +164,90 @@ module _ (c : Content) (cpu : Cpu) (host : Host) (ws : List RamWrite) (has : hos
   commands-written (Ok cmd) payload = command-written cmd payload
   commands-written (Err fault) payload = subst (λ vs. host.ram ≡ ram_after vs) (sym (append-nil ws)) has
 
-  host-written : (event : Happening)
+  host-written : (event : EventView)
       → HasWritten (effect_in c cpu (InBootsel host) event).place (host_writes c cpu host ws event)
-  host-written (Happening.Command command payload) =
-      let s = served c cpu host (Happening.Command command payload) in
+  host-written (EventView.Command command payload) =
+      let s = served_event c cpu host (EventView.Command command payload) in
       followed-written c cpu s (ws ++ command_writes c cpu host (command_in command) payload) s.boot
       (commands-written (command_in command) payload)
-  host-written (Happening.Uf2 block) =
-      let s = served c cpu host (Happening.Uf2 block) in
+  host-written (EventView.Uf2 block) =
+      let s = served_event c cpu host (EventView.Uf2 block) in
       followed-written c cpu s ws s.boot (uf2-written (uf2_of block))
-  host-written (Happening.Reset kind) = booted-written c (decision_in c cpu kind)
-  host-written Happening.End = has
-  host-written (Happening.Cut left within pattern) = has
-  host-written Happening.PowerOn = has
-  host-written Happening.Buy = has
+  host-written (EventView.Reset kind) = booted-written c (decision_in c cpu kind)
+  host-written EventView.End = has
+  host-written (EventView.Cut left within pattern) = has
+  host-written EventView.PowerOn = has
+  host-written EventView.Buy = has
 
-place-written : (c : Content) (cpu : Cpu) (place : Place) (ws : List RamWrite) (event : Happening)
+place-written : (c : Content) (cpu : Cpu) (place : StateView) (ws : List RamWrite) (event : EventView)
     → HasWritten place ws → HasWritten (effect_in c cpu place event).place (place_writes c cpu place ws event)
-place-written c cpu Off ws Happening.PowerOn has = booted-written c (decision_in c cpu Normal)
-place-written c cpu Off ws Happening.End has = tt
-place-written c cpu Off ws Happening.Buy has = tt
-place-written c cpu Off ws (Happening.Command command payload) has = tt
-place-written c cpu Off ws (Happening.Uf2 block) has = tt
-place-written c cpu Off ws (Happening.Cut left within pattern) has = tt
-place-written c cpu Off ws (Happening.Reset kind) has = tt
+place-written c cpu Off ws EventView.PowerOn has = booted-written c (decision_in c cpu Normal)
+place-written c cpu Off ws EventView.End has = tt
+place-written c cpu Off ws EventView.Buy has = tt
+place-written c cpu Off ws (EventView.Command command payload) has = tt
+place-written c cpu Off ws (EventView.Uf2 block) has = tt
+place-written c cpu Off ws (EventView.Cut left within pattern) has = tt
+place-written c cpu Off ws (EventView.Reset kind) has = tt
 place-written c cpu (InBootsel host) ws event has = host-written c cpu host ws has event
-place-written c cpu (Running program) ws Happening.PowerOn has = tt
-place-written c cpu (Running program) ws Happening.End has = tt
-place-written c cpu (Running (FromFlash choice)) ws Happening.Buy has =
+place-written c cpu (Running program) ws EventView.PowerOn has = tt
+place-written c cpu (Running program) ws EventView.End has = tt
+place-written c cpu (Running (FromFlash choice)) ws EventView.Buy has =
     either (λ (e : Effect). HasWritten e.place []) choice.image.trial _ _ tt tt
-place-written c cpu (Running (FromRam image)) ws Happening.Buy has = tt
-place-written c cpu (Running program) ws (Happening.Command command payload) has = tt
-place-written c cpu (Running program) ws (Happening.Uf2 block) has = tt
-place-written c cpu (Running program) ws (Happening.Cut left within pattern) has = tt
-place-written c cpu (Running program) ws (Happening.Reset kind) has = booted-written c (decision_in c cpu kind)
+place-written c cpu (Running (FromRam image)) ws EventView.Buy has = tt
+place-written c cpu (Running program) ws (EventView.Command command payload) has = tt
+place-written c cpu (Running program) ws (EventView.Uf2 block) has = tt
+place-written c cpu (Running program) ws (EventView.Cut left within pattern) has = tt
+place-written c cpu (Running program) ws (EventView.Reset kind) has = booted-written c (decision_in c cpu kind)
 
 -- a cut that is armed, and the end, leave the place
-cut-written : (c : Content) (cpu : Cpu) (place : Place) (ws : List RamWrite) (left : ℕ) (within : Bool)
+cut-written : (c : Content) (cpu : Cpu) (place : StateView) (ws : List RamWrite) (left : ℕ) (within : Bool)
     (pattern : List ℕ)
-    → HasWritten place ws → HasWritten place (place_writes c cpu place ws (Happening.Cut left within pattern))
+    → HasWritten place ws → HasWritten place (place_writes c cpu place ws (EventView.Cut left within pattern))
 cut-written c cpu Off ws left within pattern has = tt
 cut-written c cpu (InBootsel host) ws left within pattern has = has
 cut-written c cpu (Running program) ws left within pattern has = tt
 
-end-written : (c : Content) (cpu : Cpu) (place : Place) (ws : List RamWrite)
-    → HasWritten place ws → HasWritten place (place_writes c cpu place ws Happening.End)
+end-written : (c : Content) (cpu : Cpu) (place : StateView) (ws : List RamWrite)
+    → HasWritten place ws → HasWritten place (place_writes c cpu place ws EventView.End)
 end-written c cpu Off ws has = tt
 end-written c cpu (InBootsel host) ws has = has
 end-written c cpu (Running program) ws has = tt
 
-effect-written : (m : Machine) (ws : List RamWrite) (event : Happening)
+effect-written : (m : MachineView) (ws : List RamWrite) (event : EventView)
     → HasWritten m.place ws → HasWritten (effect m event).place (writes_behind m ws event)
-effect-written m ws (Happening.Cut left within pattern) has =
+effect-written m ws (EventView.Cut left within pattern) has =
     cut-written m.content m.cpu m.place ws left within pattern has
-effect-written m ws Happening.End has = end-written m.content m.cpu m.place ws has
-effect-written m ws (Happening.Command command payload) has =
-    place-written m.content m.cpu m.place ws (Happening.Command command payload) has
-effect-written m ws (Happening.Uf2 block) has = place-written m.content m.cpu m.place ws (Happening.Uf2 block) has
-effect-written m ws Happening.PowerOn has = place-written m.content m.cpu m.place ws Happening.PowerOn has
-effect-written m ws (Happening.Reset kind) has = place-written m.content m.cpu m.place ws (Happening.Reset kind) has
-effect-written m ws Happening.Buy has = place-written m.content m.cpu m.place ws Happening.Buy has
+effect-written m ws EventView.End has = end-written m.content m.cpu m.place ws has
+effect-written m ws (EventView.Command command payload) has =
+    place-written m.content m.cpu m.place ws (EventView.Command command payload) has
+effect-written m ws (EventView.Uf2 block) has = place-written m.content m.cpu m.place ws (EventView.Uf2 block) has
+effect-written m ws EventView.PowerOn has = place-written m.content m.cpu m.place ws EventView.PowerOn has
+effect-written m ws (EventView.Reset kind) has = place-written m.content m.cpu m.place ws (EventView.Reset kind) has
+effect-written m ws EventView.Buy has = place-written m.content m.cpu m.place ws EventView.Buy has
 
-move-written : (m n : Machine) (ws : List RamWrite) (event : Happening) (text : List ℕ)
+move-written : (m n : MachineView) (ws : List RamWrite) (event : EventView) (text : List ℕ)
     → HasWritten m.place ws → Moves m event n text → HasWritten n.place (writes_behind m ws event)
 move-written m n ws event text has (inl done) =
     subst (λ p. HasWritten p (writes_behind m ws event)) (sym done.place) (effect-written m ws event has)
 move-written m n ws event text has (inr lost) =
     subst (λ p. HasWritten p (writes_behind m ws event)) (sym lost.place) tt
 
-plays-written : (m n : Machine) (ws vs : List RamWrite) (events : List Happening) (texts : List (List ℕ))
+plays-written : (m n : MachineView) (ws vs : List RamWrite) (events : List EventView) (texts : List (List ℕ))
     → HasWritten m.place ws → PlaysWriting m ws events n texts vs → HasWritten n.place vs
 plays-written m n ws vs [] texts has plays =
-    subst (HasWritten n.place) (sym (plays.2)) (subst (λ (x : Machine). HasWritten x.place ws) (sym (plays.0)) has)
+    subst (HasWritten n.place) (sym (plays.2)) (subst (λ (x : MachineView). HasWritten x.place ws) (sym (plays.0)) has)
 plays-written m n ws vs (event ∷ events) texts has plays =
     plays-written (plays.0) n (writes_behind m ws event) vs events (plays.2)
     (move-written m (plays.0) ws event (plays.1) has (plays.3)) (plays.4)
 
-pub runs : (m n : Machine) (before : List RamWrite) (events : List Happening) (texts : List (List ℕ))
+pub runs : (m n : MachineView) (before : List RamWrite) (events : List EventView) (texts : List (List ℕ))
     → Plays m events n texts → ((behind : List RamWrite) × PlaysWriting m before events n texts behind)
 runs m n before [] texts plays = (before, (plays.0, plays.1, refl))
 runs m n before (event ∷ events) texts plays =
     let rest = runs (plays.0) n (writes_behind m before event) events (plays.2) (plays.4) in
     (rest.0, (plays.0, plays.1, plays.2, plays.3, rest.1, plays.5))
 
-pub plays : (m n : Machine) (before behind : List RamWrite) (events : List Happening) (texts : List (List ℕ))
+pub plays : (m n : MachineView) (before behind : List RamWrite) (events : List EventView) (texts : List (List ℕ))
     → PlaysWriting m before events n texts behind → Plays m events n texts
 plays m n before behind [] texts run = (run.0, run.1)
 plays m n before behind (event ∷ events) texts run = (
@@ -258,12 +259,12 @@ plays m n before behind (event ∷ events) texts run = (
   run.5,
 )
 
-fresh-written : (place : Place) → IsFresh place → HasWritten place []
+fresh-written : (place : StateView) → IsFresh place → HasWritten place []
 fresh-written Off fresh = tt
 fresh-written (InBootsel host) fresh = fresh.1
 fresh-written (Running program) fresh = absurd fresh
 
-pub run-written : (m n : Machine) (behind : List RamWrite) (events : List Happening) (texts : List (List ℕ))
+pub run-written : (m n : MachineView) (behind : List RamWrite) (events : List EventView) (texts : List (List ℕ))
     (host : Host)
     → IsFresh m.place → PlaysWriting m [] events n texts behind → n.place ≡ InBootsel host → host.ram ≡ ram_after behind
 run-written m n behind events texts host fresh run at =

@@ -30,18 +30,18 @@ use Rattle.boot_rules.specs.declared.decision.Decision.{Decision}
 use Rattle.boot_rules.specs.declared.decision.Decision.TheVariants.{Start, Bootsel}
 use Rattle.boot_rules.specs.Choosing.{decision_in}
 use Rattle.boot_rules.specs.Targets.{target_of}
-use Rattle.boot_script.specs.Events.{Happening}
+use Rattle.boot_script.specs.Events.{EventView}
 use Rattle.uf2_place.specs.declared.block.Uf2.{Uf2}
 use Rattle.uf2_place.specs.declared.block.Uf2Fault.{Uf2Fault}
 use Rattle.uf2_place.specs.declared.answer.Ruling.{Ruling}
 use Rattle.uf2_place.specs.declared.answer.Ruling.TheVariants.{Answered, Begins, Continues}
 use Rattle.uf2_place.specs.Blocks.{uf2_of}
-use Rattle.uf2_place.specs.Placement.{is_whole}
+use Rattle.uf2_place.specs.Placement.{is_whole_download}
 use Rattle.boot_machine.specs.Boots.{Effect, decided_place}
-use Rattle.boot_machine.specs.Machines.{Host, Machine, Place, Off, InBootsel, Running, Program, FromFlash, FromRam}
-use Rattle.boot_machine.specs.Moves.{Decides, bought, buy_effect, Moves, MovesBy, Plays, effect, effect_in}
+use Rattle.boot_machine.specs.Machines.{Host, MachineView, StateView, Off, InBootsel, Running, Program, FromFlash, FromRam}
+use Rattle.boot_machine.specs.Moves.{Decides, bought_choice, buy_effect, Moves, MovesBy, Plays, effect, effect_in}
 use Rattle.boot_machine.specs.Runs.{IsFresh, IsBootIntoRam, PlaysWriting, StartsRam}
-use Rattle.boot_machine.specs.Serving.{Served, block_served, blocks_of, command_served, followed, followed_by, ram_place, ruling_on, serves, serves_host, serves_info, serves_ram, served, table_of, uf2_served}
+use Rattle.boot_machine.specs.Serving.{ServedEvent, block_served, blocks_of, command_served, followed, followed_by, ram_place, ruling_on, serves, serves_host, serves_info, serves_ram, served_event, table_of_found, uf2_served}
 use Rattle.boot_machine.proofs.RamRunLemmas.{either, run-written, runs}
 
 module _ (cmd : Cmd) (ram : is_ram_command cmd ≡ true) where
@@ -66,22 +66,22 @@ module _ (cmd : Cmd) (ram : is_ram_command cmd ≡ true) where
   ram-kind c cpu host payload =
       ap (λ x. kind x (is_ram_command cmd)) (no-info (cmd.id == INFO) refl) ∙ ap (kind false) ram
     where
-      kind : Bool → Bool → Served
+      kind : Bool → Bool → ServedEvent
       kind info ram =
           if info then serves_info c cpu host cmd payload
           else if ram then serves_ram c cpu host cmd payload
           else serves_host c host cmd payload
 
 -- a RAM command does no step
-pub ram-moves : (m n : Machine) (host : Host) (command payload text : List ℕ) (cmd : Cmd)
+pub ram-moves : (m n : MachineView) (host : Host) (command payload text : List ℕ) (cmd : Cmd)
     → m.place ≡ InBootsel host → command_in command ≡ Ok cmd → is_ram_command cmd ≡ true
-    → Moves m (Happening.Command command payload) n text
+    → Moves m (EventView.Command command payload) n text
     → (n.content ≡ m.content) × (n.armed ≡ m.armed)
 ram-moves m n host command payload text cmd at is ram moves =
-    by (subst (λ (s : Served). MovesBy m m.armed (followed m.content m.cpu s) n text)
+    by (subst (λ (s : ServedEvent). MovesBy m m.armed (followed m.content m.cpu s) n text)
     (ap (λ r. command_served m.content m.cpu host r payload) is ∙ ram-kind cmd ram m.content m.cpu host payload)
-    (subst (λ (p : Place). MovesBy m m.armed
-    (effect_in m.content m.cpu p (Happening.Command command payload)) n text) at moves))
+    (subst (λ (p : StateView). MovesBy m m.armed
+    (effect_in m.content m.cpu p (EventView.Command command payload)) n text) at moves))
   where
     armed : (a b : Option (Option Cut)) (c d : Content) → Decides a c [] true d b → b ≡ a
     armed None b c d is = is
@@ -98,26 +98,26 @@ no-boot c (Start choice) s is = cc
 no-boot c (Bootsel fall) s is = cc
 
 -- the event is a RAM command whose answer starts the image
-record IsRamEvent (c : Content) (cpu : Cpu) (place : Place) (event : Happening) (s : Started) : Type 0 where
+record IsRamEvent (c : Content) (cpu : Cpu) (place : StateView) (event : EventView) (s : Started) : Type 0 where
   host : Host
   at : place ≡ InBootsel host
   command : List ℕ
   payload : List ℕ
   cmd : Cmd
-  came : event ≡ Happening.Command command payload
+  came : event ≡ EventView.Command command payload
   is : command_in command ≡ Ok cmd
   ram : is_ram_command cmd ≡ true
   start : (ram_command c host.ram cpu (is_some host.placing) cmd payload).start ≡ Some s
 
 module _ (c : Content) (cpu : Cpu) (s : Started) where
-  abbrev Starts : Place → Type 0
+  abbrev Starts : StateView → Type 0
   Starts place = place ≡ Running (FromRam s)
 
-  no-follow : (served : Served) (boot : Option BootKind) → (Starts served.place → ⊥)
-      → Starts (followed_by c cpu served boot).place → ⊥
-  no-follow served None not is = not is
-  no-follow served (Some kind) not is =
-      no-boot (after_all c served.steps) (decision_in (after_all c served.steps) cpu kind) s is
+  no-follow : (served_event : ServedEvent) (boot : Option BootKind) → (Starts served_event.place → ⊥)
+      → Starts (followed_by c cpu served_event boot).place → ⊥
+  no-follow served_event None not is = not is
+  no-follow served_event (Some kind) not is =
+      no-boot (after_all c served_event.steps) (decision_in (after_all c served_event.steps) cpu kind) s is
 
   module _ (host : Host) where
     stays : (h : Host) → Starts (InBootsel h) → ⊥
@@ -126,25 +126,25 @@ module _ (c : Content) (cpu : Cpu) (s : Started) where
     no-block : (b : Uf2) (r : Ruling) → Starts (block_served host b r).place → ⊥
     no-block b (Answered answer) = stays host
     no-block b (Begins t) =
-        either (λ (x : Served). Starts x.place → ⊥) (is_whole (b ∷ [])) _ _ (stays _) (stays _)
+        either (λ (x : ServedEvent). Starts x.place → ⊥) (is_whole_download (b ∷ [])) _ _ (stays _) (stays _)
     no-block b (Continues t) =
-        either (λ (x : Served). Starts x.place → ⊥) (is_whole (blocks_of host.placing ++ b ∷ [])) _ _
+        either (λ (x : ServedEvent). Starts x.place → ⊥) (is_whole_download (blocks_of host.placing ++ b ∷ [])) _ _
         (stays _) (stays _)
 
     no-uf2 : (r : Result Uf2 Uf2Fault) → Starts (uf2_served c cpu host r).place → ⊥
     no-uf2 (Ok b) =
-        no-block b (ruling_on (length c.flash) (table_of host.found)
-        (target_of c (table_of host.found) cpu b.family) host.placing b)
+        no-block b (ruling_on (length c.flash) (table_of_found host.found)
+        (target_of c (table_of_found host.found) cpu b.family) host.placing b)
     no-uf2 (Err fault) = stays host
 
     module _ (command payload : List ℕ) where
-      abbrev event : Happening
-      event = Happening.Command command payload
+      abbrev event : EventView
+      event = EventView.Command command payload
 
       abbrev Event : Type 0
       Event = IsRamEvent c cpu (InBootsel host) event s
 
-      abbrev kind : Cmd → Bool → Bool → Served
+      abbrev kind : Cmd → Bool → Bool → ServedEvent
       kind cmd info ram =
           if info then serves_info c cpu host cmd payload
           else if ram then serves_ram c cpu host cmd payload
@@ -175,56 +175,56 @@ module _ (c : Content) (cpu : Cpu) (s : Started) where
             (ram_command c host.ram cpu (is_some host.placing) cmd payload).ram starts;
       }
       by-kind cmd false false boot is ram-is starts =
-          let served = serves_host c host cmd payload in
-          absurd (no-follow served served.boot (stays host) starts)
+          let served_event = serves_host c host cmd payload in
+          absurd (no-follow served_event served_event.boot (stays host) starts)
 
       by-command : (r : Result Cmd CmdFault) → command_in command ≡ r
           → Starts (followed c cpu (command_served c cpu host r payload)).place → Event
       by-command (Err fault) is starts = absurd (stays host starts)
       by-command (Ok cmd) is starts = by-kind cmd (cmd.id == INFO) (is_ram_command cmd) None is refl starts
 
-    host-event : (event : Happening) → Starts (effect_in c cpu (InBootsel host) event).place
+    host-event : (event : EventView) → Starts (effect_in c cpu (InBootsel host) event).place
         → IsRamEvent c cpu (InBootsel host) event s
-    host-event (Happening.Command command payload) starts = by-command command payload (command_in command) refl starts
-    host-event (Happening.Uf2 block) starts =
-        let served = served c cpu host (Happening.Uf2 block) in
-        absurd (no-follow served served.boot (no-uf2 (uf2_of block)) starts)
-    host-event (Happening.Reset kind) starts = absurd (no-boot c (decision_in c cpu kind) s starts)
-    host-event Happening.End starts = absurd (stays host starts)
-    host-event (Happening.Cut left within pattern) starts = absurd (stays host starts)
-    host-event Happening.PowerOn starts = absurd (stays host starts)
-    host-event Happening.Buy starts = absurd (stays host starts)
+    host-event (EventView.Command command payload) starts = by-command command payload (command_in command) refl starts
+    host-event (EventView.Uf2 block) starts =
+        let served_event = served_event c cpu host (EventView.Uf2 block) in
+        absurd (no-follow served_event served_event.boot (no-uf2 (uf2_of block)) starts)
+    host-event (EventView.Reset kind) starts = absurd (no-boot c (decision_in c cpu kind) s starts)
+    host-event EventView.End starts = absurd (stays host starts)
+    host-event (EventView.Cut left within pattern) starts = absurd (stays host starts)
+    host-event EventView.PowerOn starts = absurd (stays host starts)
+    host-event EventView.Buy starts = absurd (stays host starts)
 
   -- without power, and while an image runs, no image in RAM is started
-  off-event : (event : Happening) → Starts (effect_in c cpu Off event).place → IsRamEvent c cpu Off event s
-  off-event Happening.PowerOn starts = absurd (no-boot c (decision_in c cpu Normal) s starts)
-  off-event Happening.End starts = cc
-  off-event Happening.Buy starts = cc
-  off-event (Happening.Command command payload) starts = cc
-  off-event (Happening.Uf2 block) starts = cc
-  off-event (Happening.Cut left within pattern) starts = cc
-  off-event (Happening.Reset kind) starts = cc
+  off-event : (event : EventView) → Starts (effect_in c cpu Off event).place → IsRamEvent c cpu Off event s
+  off-event EventView.PowerOn starts = absurd (no-boot c (decision_in c cpu Normal) s starts)
+  off-event EventView.End starts = cc
+  off-event EventView.Buy starts = cc
+  off-event (EventView.Command command payload) starts = cc
+  off-event (EventView.Uf2 block) starts = cc
+  off-event (EventView.Cut left within pattern) starts = cc
+  off-event (EventView.Reset kind) starts = cc
 
   no-buy : (choice : Choice) → Starts (buy_effect c cpu (FromFlash choice)).place → ⊥
   no-buy choice =
-      either (λ (e : Effect). Starts e.place → ⊥) choice.image.trial _ _ (flash (bought choice)) (flash choice)
+      either (λ (e : Effect). Starts e.place → ⊥) choice.image.trial _ _ (flash (bought_choice choice)) (flash choice)
     where
       flash : (x : Choice) → Starts (Running (FromFlash x)) → ⊥
       flash x is = cc
 
-  running-event : (program : Program) (event : Happening) → (Starts (Running program) → ⊥)
+  running-event : (program : Program) (event : EventView) → (Starts (Running program) → ⊥)
       → Starts (effect_in c cpu (Running program) event).place → ⊥
-  running-event program (Happening.Reset kind) former starts = no-boot c (decision_in c cpu kind) s starts
-  running-event (FromFlash choice) Happening.Buy former starts = no-buy choice starts
-  running-event (FromRam image) Happening.Buy former starts = former starts
-  running-event program Happening.PowerOn former starts = former starts
-  running-event program Happening.End former starts = former starts
-  running-event program (Happening.Command command payload) former starts = former starts
-  running-event program (Happening.Uf2 block) former starts = former starts
-  running-event program (Happening.Cut left within pattern) former starts = former starts
+  running-event program (EventView.Reset kind) former starts = no-boot c (decision_in c cpu kind) s starts
+  running-event (FromFlash choice) EventView.Buy former starts = no-buy choice starts
+  running-event (FromRam image) EventView.Buy former starts = former starts
+  running-event program EventView.PowerOn former starts = former starts
+  running-event program EventView.End former starts = former starts
+  running-event program (EventView.Command command payload) former starts = former starts
+  running-event program (EventView.Uf2 block) former starts = former starts
+  running-event program (EventView.Cut left within pattern) former starts = former starts
 
-  module _ (event : Happening) where
-    place-event : (place : Place) → (Starts place → ⊥) → Starts (effect_in c cpu place event).place
+  module _ (event : EventView) where
+    place-event : (place : StateView) → (Starts place → ⊥) → Starts (effect_in c cpu place event).place
         → IsRamEvent c cpu place event s
     place-event (InBootsel host) former starts = host-event host event starts
     place-event Off former starts = off-event event starts
@@ -286,20 +286,20 @@ module _ (c : Content) (ram : List ℕ) (cpu : Cpu) (busy : Bool) (cmd : Cmd) (p
       (reboot_range ram cmd) s valid
 
 -- the event of a machine that starts an image in RAM
-event-of : (m : Machine) (event : Happening) (s : Started) → m.place ≢ Running (FromRam s)
+event-of : (m : MachineView) (event : EventView) (s : Started) → m.place ≢ Running (FromRam s)
     → (effect m event).place ≡ Running (FromRam s) → IsRamEvent m.content m.cpu m.place event s
-event-of m (Happening.Cut left within pattern) s former starts = absurd (former starts)
-event-of m Happening.End s former starts = absurd (former starts)
-event-of m (Happening.Command command payload) s former starts =
-    place-event m.content m.cpu s (Happening.Command command payload) m.place former starts
-event-of m (Happening.Uf2 block) s former starts =
-    place-event m.content m.cpu s (Happening.Uf2 block) m.place former starts
-event-of m Happening.PowerOn s former starts = place-event m.content m.cpu s Happening.PowerOn m.place former starts
-event-of m (Happening.Reset kind) s former starts =
-    place-event m.content m.cpu s (Happening.Reset kind) m.place former starts
-event-of m Happening.Buy s former starts = place-event m.content m.cpu s Happening.Buy m.place former starts
+event-of m (EventView.Cut left within pattern) s former starts = absurd (former starts)
+event-of m EventView.End s former starts = absurd (former starts)
+event-of m (EventView.Command command payload) s former starts =
+    place-event m.content m.cpu s (EventView.Command command payload) m.place former starts
+event-of m (EventView.Uf2 block) s former starts =
+    place-event m.content m.cpu s (EventView.Uf2 block) m.place former starts
+event-of m EventView.PowerOn s former starts = place-event m.content m.cpu s EventView.PowerOn m.place former starts
+event-of m (EventView.Reset kind) s former starts =
+    place-event m.content m.cpu s (EventView.Reset kind) m.place former starts
+event-of m EventView.Buy s former starts = place-event m.content m.cpu s EventView.Buy m.place former starts
 
-event-moved : (m n : Machine) (event : Happening) (text : List ℕ) (s : Started) → m.place ≢ Running (FromRam s)
+event-moved : (m n : MachineView) (event : EventView) (text : List ℕ) (s : Started) → m.place ≢ Running (FromRam s)
     → n.place ≡ Running (FromRam s) → Moves m event n text → IsRamEvent m.content m.cpu m.place event s
 event-moved m n event text s former running (inl done) = event-of m event s former (sym done.place ∙ running)
 event-moved m n event text s former running (inr lost) = absurd (off (sym lost.place ∙ running))
@@ -307,7 +307,7 @@ event-moved m n event text s former running (inr lost) = absurd (off (sym lost.p
     off : Off ≡ Running (FromRam s) → ⊥
     off is = cc
 
-pub ram-started : (m n o : Machine) (events : List Happening) (texts : List (List ℕ)) (event : Happening)
+pub ram-started : (m n o : MachineView) (events : List EventView) (texts : List (List ℕ)) (event : EventView)
     (text : List ℕ) (s : Started) (writes : List RamWrite)
     → IsFresh m.place → PlaysWriting m [] events n texts writes → StartsRam n event o text s
     → IsBootIntoRam n.content n.cpu event writes s × (o.content ≡ n.content)
@@ -316,7 +316,7 @@ ram-started m n o events texts event text s writes fresh run starts =
     let parts = start-parts n.content e.host.ram n.cpu (is_some e.host.placing) e.cmd e.payload s e.start in
     let valid = is-valid n.content e.host.ram n.cpu (is_some e.host.placing) e.cmd e.payload s (parts.2) in
     let kept = ram-moves n o e.host e.command e.payload text e.cmd e.at e.is e.ram
-    (subst (λ (x : Happening). Moves n x o text) e.came starts.moves) in (
+    (subst (λ (x : EventView). Moves n x o text) e.came starts.moves) in (
       record {
         command = e.command;
         payload = e.payload;
@@ -334,7 +334,7 @@ ram-started m n o events texts event text s writes fresh run starts =
       kept.0,
     )
 
-pub ram-starts : (m n o : Machine) (events : List Happening) (texts : List (List ℕ)) (event : Happening)
+pub ram-starts : (m n o : MachineView) (events : List EventView) (texts : List (List ℕ)) (event : EventView)
     (text : List ℕ) (s : Started)
     → IsFresh m.place → Plays m events n texts → StartsRam n event o text s
     → ((writes : List RamWrite) × PlaysWriting m [] events n texts writes

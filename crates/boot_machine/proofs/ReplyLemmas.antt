@@ -13,11 +13,11 @@ use Rattle.picoboot_cmd.specs.Arguments.{address, first_row, offset, row_count, 
 use Rattle.picoboot_cmd.specs.Checks.{status_of}
 use Rattle.picoboot_cmd.specs.declared.applying.Done.{Done}
 use Rattle.picoboot_cmd.specs.declared.reply.HashReply.{HashReply}
-use Rattle.picoboot_cmd.specs.Replies.{HasTaken}
-use Rattle.picoboot_cmd.specs.Served.{command_of, done_of, reply_of}
+use Rattle.picoboot_cmd.specs.Replies.{HasTakenBytes}
+use Rattle.picoboot_cmd.specs.Served.{served_on, done_of, reply_of}
 use Rattle.load_map.specs.declared.addresses.TheConstants.{SRAM_START}
 use Rattle.ram_start.specs.Serving.{ram_command, ram_reply, ram_status}
-use Rattle.boot_lines.specs.Texts.{command_text, ram_start_text}
+use Rattle.text_lines.specs.Texts.{command_text, ram_start_text}
 use Rattle.boot_machine.specs.Serving.{ram_text}
 
 take-most : {X : Type 0} (k : ℕ) (xs : List X) → length (take k xs) ≤ k
@@ -65,7 +65,7 @@ ram-few c ram cpu busy cmd payload most = by (ram_status c ram cpu busy cmd payl
 
 -- the reply of a command of the host
 pub host-few : (c : Content) (t : Option Table) (busy : Bool) (cmd : Cmd) (payload : List ℕ) → IsContent c
-    → length (command_of c t busy cmd payload).reply < 2 ^ 32
+    → length (served_on c t busy cmd payload).reply < 2 ^ 32
 host-few c t busy cmd payload right = by (status_of (length c.flash) c.otp t busy cmd payload == 0) refl
   where
     otp : length (bytes_of (slice_range c.otp (first_row cmd) (first_row cmd + row_count cmd))) < 2 ^ 32
@@ -90,7 +90,7 @@ host-few c t busy cmd payload right = by (status_of (length c.flash) c.otp t bus
         (bytes_of (slice_range c.otp (first_row cmd) (first_row cmd + row_count cmd))) [] otp (omega arith))
 
     by : (b : Bool) → (status_of (length c.flash) c.otp t busy cmd payload == 0) ≡ b
-        → length (command_of c t busy cmd payload).reply < 2 ^ 32
+        → length (served_on c t busy cmd payload).reply < 2 ^ 32
     by true is = rw is here
     by false is = rw is (omega arith)
 
@@ -107,11 +107,11 @@ ram-none cmd s t r o l same is one = one ∙ ap (λ x. command_text cmd x r) sam
 
 -- the text of a command of the host
 pub host-told : (r : HashReply) (c : Content) (t u : Option Table) (busy : Bool) (cmd : Cmd) (payload : List ℕ)
-    → IsContent c → t ≡ u → (line : List ℕ) (done : Done) → done ≡ done_of (command_of c t busy cmd payload)
-    → ((bytes : List ℕ) → HasTaken r bytes → length bytes < 2 ^ 32 → line ≡ command_text cmd done.status bytes)
-    → HasTaken r (command_of c t busy cmd payload).reply
-    → line ≡ command_text cmd (command_of c u busy cmd payload).status (command_of c u busy cmd payload).reply
+    → IsContent c → t ≡ u → (line : List ℕ) (done : Done) → done ≡ done_of (served_on c t busy cmd payload)
+    → ((bytes : List ℕ) → HasTakenBytes r bytes → length bytes < 2 ^ 32 → line ≡ command_text cmd done.status bytes)
+    → HasTakenBytes r (served_on c t busy cmd payload).reply
+    → line ≡ command_text cmd (served_on c u busy cmd payload).status (served_on c u busy cmd payload).reply
 host-told r c t u busy cmd payload right same line done is text taken =
-    text (command_of c t busy cmd payload).reply taken (host-few c t busy cmd payload right)
-    ∙ ap (λ (d : Done). command_text cmd d.status (command_of c t busy cmd payload).reply) is
-    ∙ ap (λ x. command_text cmd (command_of c x busy cmd payload).status (command_of c x busy cmd payload).reply) same
+    text (served_on c t busy cmd payload).reply taken (host-few c t busy cmd payload right)
+    ∙ ap (λ (d : Done). command_text cmd d.status (served_on c t busy cmd payload).reply) is
+    ∙ ap (λ x. command_text cmd (served_on c x busy cmd payload).status (served_on c x busy cmd payload).reply) same

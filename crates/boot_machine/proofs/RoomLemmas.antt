@@ -52,7 +52,7 @@ room_handed old new had has room over = record {
   two = handed-one old new had has room.second room.out over room.two;
 }
 
--- and where the numbers out are the same
+-- a sector stays free or the download's where the same numbers are out
 kept-one : (old new : Pool) (lease : Option ℕ) (k : ℕ) → new.out ≡ old.out → IsMine old lease k → IsMine new lease k
 kept-one old new lease k same (inl free) = inl (ap (λ out. slice_get out k) same ∙ free)
 kept-one old new lease k same (inr mine) = inr mine

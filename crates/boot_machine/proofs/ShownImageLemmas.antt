@@ -26,7 +26,7 @@ use Rattle.image_def.specs.Faults.{def_fault}
 use Rattle.image_def.specs.Rows.{halves_of, rollback_in}
 use Rattle.load_map.specs.declared.load.Load.{Load}
 use Rattle.load_map.specs.Addresses.{is_sram}
-use Rattle.load_map.specs.Given.{byte_at, holds, in_window, loaded_byte, stored_byte, word_at, word_if_given}
+use Rattle.load_map.specs.Given.{byte_at, load_has_address, in_window, loaded_byte, stored_byte, given_word, word_if_given}
 use Rattle.image_check.specs.declared.addressing.Addressing.{Addressing}
 use Rattle.image_check.specs.declared.entry.Source.{Source}
 use Rattle.image_check.specs.declared.examining.Defined.{Defined}
@@ -34,7 +34,7 @@ use Rattle.image_check.specs.Addressing.{in_flash}
 use Rattle.image_check.specs.Entering.{IsSource, table_address}
 use Rattle.image_check.specs.Image.{started_of}
 use Rattle.image_check.specs.Valid.{IsDefined, IsValidImage, Valid}
-use Rattle.boot_lines.specs.Events.{IsShown}
+use Rattle.text_lines.specs.Events.{IsShown}
 use Rattle.boot_rules.proofs.PlaceLemmas.{placed-inside}
 use Rattle.part_table.specs.Windows.{IsPlacedIn}
 use Rattle.boot_machine.proofs.RamRunLemmas.{either}
@@ -143,11 +143,11 @@ module _ (base : ℕ) (bytes : List ℕ) (loads : List Load) (are : AreBytes byt
   byte-lt : (at : ℕ) → IsByte (byte_at base bytes loads at)
   byte-lt at =
       either IsByte (in_window base (length bytes) at) _ _ (are (at - base))
-      (either IsByte (is_sram at) _ _ (found-lt at (find (holds at) (reverse loads))) tt)
+      (either IsByte (is_sram at) _ _ (found-lt at (find (load_has_address at) (reverse loads))) tt)
 
-  word-lt : (at w : ℕ) → word_at base bytes loads at ≡ Some w → w < 2 ^ 32
+  word-lt : (at w : ℕ) → given_word base bytes loads at ≡ Some w → w < 2 ^ 32
   word-lt at w is =
-      some-is (λ x. x < 2 ^ 32) (word_at base bytes loads at) w
+      some-is (λ x. x < 2 ^ 32) (given_word base bytes loads at) w
       (given-lt (byte_at base bytes loads at) (byte_at base bytes loads (at + 1)) (byte_at base bytes loads (at + 2))
       (byte_at base bytes loads (at + 3)) (byte-lt at) (byte-lt (at + 1)) (byte-lt (at + 2)) (byte-lt (at + 3))) is
 

@@ -9,7 +9,7 @@ use Rattle.sector_pool.specs.Keeping.{KeepsOut}
 use Rattle.sector_pool.specs.Pool.{Pool}
 use Rattle.part_table.specs.Sound.{IsSoundTable}
 use Rattle.image_def.specs.declared.started.Started.{Started}
-use Rattle.uf2_place.specs.Accepting.{Kept}
+use Rattle.uf2_place.specs.Accepting.{DownloadView}
 use Rattle.uf2_place.specs.Downloads.{IsTargetIn, lease_of}
 use Rattle.boot_machine.specs.declared.parts.Parts.{Parts}
 use Rattle.boot_machine.specs.declared.state.State.TheVariants.{Off, Bootsel, Running}
@@ -20,7 +20,7 @@ use Rattle.boot_machine.proofs.CarriedLemmas.{carried}
 use Rattle.boot_machine.proofs.RoomLemmas.{room-kept}
 
 -- the download is busy where it carries a placing
-pub busy-as : (d : Kept) (pool : Pool) (placing : Option Placing) → Carries d pool placing
+pub busy-as : (d : DownloadView) (pool : Pool) (placing : Option Placing) → Carries d pool placing
     → is_some d.current ≡ is_some placing
 busy-as d pool None none = ap is_some none
 busy-as d pool (Some p) stands = ap is_some stands.is

@@ -17,7 +17,7 @@ use Rattle.uf2_place.specs.declared.block.Uf2Fault.{Uf2Fault}
 use Rattle.uf2_place.specs.declared.answer.Ruling.{Ruling}
 use Rattle.uf2_place.specs.declared.answer.Ruling.TheVariants.{Answered, Begins, Continues}
 use Rattle.uf2_place.specs.Blocks.{uf2_of}
-use Rattle.uf2_place.specs.Placement.{grown, is_whole}
+use Rattle.uf2_place.specs.Placement.{grown, is_whole_download}
 use Rattle.picoboot_cmd.specs.declared.cmd.Cmd.{Cmd}
 use Rattle.picoboot_cmd.specs.declared.cmd.CmdFault.{CmdFault}
 use Rattle.picoboot_cmd.specs.Commands.{command_in}
@@ -29,12 +29,12 @@ use Rattle.boot_rules.specs.Targets.{target_of}
 use Rattle.boot_rules.specs.declared.decision.Decision.{Decision}
 use Rattle.boot_rules.specs.declared.decision.Decision.TheVariants.{Start, Bootsel}
 use Rattle.boot_rules.proofs.DecisionLemmas.{chosen-exactly}
-use Rattle.boot_script.specs.Events.{Happening}
+use Rattle.boot_script.specs.Events.{EventView}
 use Rattle.boot_machine.specs.Boots.{Effect, booted, decided_place, decided_steps}
-use Rattle.boot_machine.specs.Machines.{Host, Machine, Place, Off, InBootsel, Running, FromFlash, FromRam}
+use Rattle.boot_machine.specs.Machines.{Host, MachineView, StateView, Off, InBootsel, Running, FromFlash, FromRam}
 use Rattle.boot_machine.specs.Moves.{Moves, Plays, effect, effect_in}
 use Rattle.boot_machine.specs.Runs.{IsFresh}
-use Rattle.boot_machine.specs.Serving.{Served, block_served, blocks_of, command_served, followed_by, ram_place, ruling_on, serves, serves_ram, served, table_of, taken_in, uf2_served}
+use Rattle.boot_machine.specs.Serving.{ServedEvent, block_served, blocks_of, command_served, followed_by, ram_place, ruling_on, serves, serves_ram, served_event, table_of_found, taken_in, uf2_served}
 use Rattle.boot_machine.proofs.BootLemmas.{trial-steps}
 use Rattle.boot_machine.proofs.RamRunLemmas.{either}
 
@@ -43,20 +43,20 @@ abbrev pub WasChosen : Content → Cpu → Choice → Type 0
 WasChosen c cpu choice = (kind : BootKind) × Chosen c cpu kind (Start choice)
 
 -- where a trial image runs, a boot on the content chooses it
-abbrev pub HasChosenTrial : Content → Cpu → Place → Type 0
+abbrev pub HasChosenTrial : Content → Cpu → StateView → Type 0
 HasChosenTrial c cpu Off = ⊤
 HasChosenTrial c cpu (InBootsel host) = ⊤
 HasChosenTrial c cpu (Running (FromFlash choice)) = choice.image.trial ≡ true → WasChosen c cpu choice
 HasChosenTrial c cpu (Running (FromRam image)) = ⊤
 
 -- no image from flash runs
-abbrev RunsNone : Place → Type 0
+abbrev RunsNone : StateView → Type 0
 RunsNone Off = ⊤
 RunsNone (InBootsel host) = ⊤
 RunsNone (Running (FromFlash choice)) = ⊥
 RunsNone (Running (FromRam image)) = ⊤
 
-none-chosen : (c : Content) (cpu : Cpu) (place : Place) → RunsNone place → HasChosenTrial c cpu place
+none-chosen : (c : Content) (cpu : Cpu) (place : StateView) → RunsNone place → HasChosenTrial c cpu place
 none-chosen c cpu Off none = tt
 none-chosen c cpu (InBootsel host) none = tt
 none-chosen c cpu (Running (FromFlash choice)) none = absurd none
@@ -80,12 +80,12 @@ booted-chosen : (c : Content) (cpu : Cpu) (kind : BootKind) (text : List ℕ) �
 booted-chosen c cpu kind text = decided-chosen c cpu kind (decision_in c cpu kind) refl
 
 -- what is served runs no image from flash
-abbrev ServesNone : Served → Type 0
+abbrev ServesNone : ServedEvent → Type 0
 ServesNone s = RunsNone s.place
 
 taken-none : (host : Host) (t : Target) (blocks : List Uf2) (b : Uf2) (steps : List Step)
     → ServesNone (taken_in host t blocks b steps)
-taken-none host t blocks b steps = either ServesNone (is_whole blocks) _ _ tt tt
+taken-none host t blocks b steps = either ServesNone (is_whole_download blocks) _ _ tt tt
 
 block-none : (host : Host) (b : Uf2) (r : Ruling) → ServesNone (block_served host b r)
 block-none host b (Answered answer) = tt
@@ -101,8 +101,8 @@ ram-none host (Some image) ram = tt
 module _ (c : Content) (cpu : Cpu) (host : Host) where
   uf2-none : (r : Result Uf2 Uf2Fault) → ServesNone (uf2_served c cpu host r)
   uf2-none (Ok b) =
-      block-none host b (ruling_on (length c.flash) (table_of host.found)
-      (target_of c (table_of host.found) cpu b.family) host.placing b)
+      block-none host b (ruling_on (length c.flash) (table_of_found host.found)
+      (target_of c (table_of_found host.found) cpu b.family) host.placing b)
   uf2-none (Err fault) = tt
 
   serves-none : (cmd : Cmd) (payload : List ℕ) → ServesNone (serves c cpu host cmd payload)
@@ -114,7 +114,7 @@ module _ (c : Content) (cpu : Cpu) (host : Host) where
   command-none (Ok cmd) payload = serves-none cmd payload
   command-none (Err fault) payload = tt
 
-  followed-chosen : (s : Served) (boot : Option BootKind) → ServesNone s → After c cpu (followed_by c cpu s boot)
+  followed-chosen : (s : ServedEvent) (boot : Option BootKind) → ServesNone s → After c cpu (followed_by c cpu s boot)
   followed-chosen s None none = none-chosen (after_all c s.steps) cpu s.place none
   followed-chosen s (Some kind) none =
       let mid = after_all c s.steps in
@@ -124,52 +124,52 @@ module _ (c : Content) (cpu : Cpu) (host : Host) where
 
 -- what a buy leaves is no trial
 buy-chosen : (c : Content) (cpu : Cpu) (choice : Choice) → HasChosenTrial c cpu (Running (FromFlash choice))
-    → After c cpu (effect_in c cpu (Running (FromFlash choice)) Happening.Buy)
+    → After c cpu (effect_in c cpu (Running (FromFlash choice)) EventView.Buy)
 buy-chosen c cpu choice was =
     either (After c cpu) choice.image.trial _ _ (λ trial. absurd (true≢false (sym trial))) was
 
-place-chosen : (c : Content) (cpu : Cpu) (place : Place) (event : Happening) → HasChosenTrial c cpu place
+place-chosen : (c : Content) (cpu : Cpu) (place : StateView) (event : EventView) → HasChosenTrial c cpu place
     → After c cpu (effect_in c cpu place event)
-place-chosen c cpu Off Happening.PowerOn was = booted-chosen c cpu Normal (codes "boot ")
-place-chosen c cpu Off Happening.End was = tt
-place-chosen c cpu Off (Happening.Command command payload) was = tt
-place-chosen c cpu Off (Happening.Uf2 block) was = tt
-place-chosen c cpu Off (Happening.Cut left within pattern) was = tt
-place-chosen c cpu Off (Happening.Reset kind) was = tt
-place-chosen c cpu Off Happening.Buy was = tt
-place-chosen c cpu (InBootsel host) (Happening.Command command payload) was =
-    let s = served c cpu host (Happening.Command command payload) in
+place-chosen c cpu Off EventView.PowerOn was = booted-chosen c cpu Normal (codes "boot ")
+place-chosen c cpu Off EventView.End was = tt
+place-chosen c cpu Off (EventView.Command command payload) was = tt
+place-chosen c cpu Off (EventView.Uf2 block) was = tt
+place-chosen c cpu Off (EventView.Cut left within pattern) was = tt
+place-chosen c cpu Off (EventView.Reset kind) was = tt
+place-chosen c cpu Off EventView.Buy was = tt
+place-chosen c cpu (InBootsel host) (EventView.Command command payload) was =
+    let s = served_event c cpu host (EventView.Command command payload) in
     followed-chosen c cpu host s s.boot (command-none c cpu host (command_in command) payload)
-place-chosen c cpu (InBootsel host) (Happening.Uf2 block) was =
-    let s = served c cpu host (Happening.Uf2 block) in
+place-chosen c cpu (InBootsel host) (EventView.Uf2 block) was =
+    let s = served_event c cpu host (EventView.Uf2 block) in
     followed-chosen c cpu host s s.boot (uf2-none c cpu host (uf2_of block))
-place-chosen c cpu (InBootsel host) (Happening.Reset kind) was = booted-chosen c cpu kind (codes "boot ")
-place-chosen c cpu (InBootsel host) Happening.End was = tt
-place-chosen c cpu (InBootsel host) Happening.PowerOn was = tt
-place-chosen c cpu (InBootsel host) Happening.Buy was = tt
-place-chosen c cpu (InBootsel host) (Happening.Cut left within pattern) was = tt
-place-chosen c cpu (Running program) (Happening.Reset kind) was = booted-chosen c cpu kind (codes "boot ")
-place-chosen c cpu (Running (FromFlash choice)) Happening.Buy was = buy-chosen c cpu choice was
-place-chosen c cpu (Running (FromRam image)) Happening.Buy was = tt
-place-chosen c cpu (Running program) Happening.PowerOn was = was
-place-chosen c cpu (Running program) Happening.End was = was
-place-chosen c cpu (Running program) (Happening.Command command payload) was = was
-place-chosen c cpu (Running program) (Happening.Uf2 block) was = was
-place-chosen c cpu (Running program) (Happening.Cut left within pattern) was = was
+place-chosen c cpu (InBootsel host) (EventView.Reset kind) was = booted-chosen c cpu kind (codes "boot ")
+place-chosen c cpu (InBootsel host) EventView.End was = tt
+place-chosen c cpu (InBootsel host) EventView.PowerOn was = tt
+place-chosen c cpu (InBootsel host) EventView.Buy was = tt
+place-chosen c cpu (InBootsel host) (EventView.Cut left within pattern) was = tt
+place-chosen c cpu (Running program) (EventView.Reset kind) was = booted-chosen c cpu kind (codes "boot ")
+place-chosen c cpu (Running (FromFlash choice)) EventView.Buy was = buy-chosen c cpu choice was
+place-chosen c cpu (Running (FromRam image)) EventView.Buy was = tt
+place-chosen c cpu (Running program) EventView.PowerOn was = was
+place-chosen c cpu (Running program) EventView.End was = was
+place-chosen c cpu (Running program) (EventView.Command command payload) was = was
+place-chosen c cpu (Running program) (EventView.Uf2 block) was = was
+place-chosen c cpu (Running program) (EventView.Cut left within pattern) was = was
 
-effect-chosen : (m : Machine) (event : Happening) → HasChosenTrial m.content m.cpu m.place
+effect-chosen : (m : MachineView) (event : EventView) → HasChosenTrial m.content m.cpu m.place
     → After m.content m.cpu (effect m event)
-effect-chosen m (Happening.Cut left within pattern) was = was
-effect-chosen m Happening.End was = was
-effect-chosen m (Happening.Command command payload) was =
-    place-chosen m.content m.cpu m.place (Happening.Command command payload) was
-effect-chosen m (Happening.Uf2 block) was = place-chosen m.content m.cpu m.place (Happening.Uf2 block) was
-effect-chosen m Happening.PowerOn was = place-chosen m.content m.cpu m.place Happening.PowerOn was
-effect-chosen m (Happening.Reset kind) was = place-chosen m.content m.cpu m.place (Happening.Reset kind) was
-effect-chosen m Happening.Buy was = place-chosen m.content m.cpu m.place Happening.Buy was
+effect-chosen m (EventView.Cut left within pattern) was = was
+effect-chosen m EventView.End was = was
+effect-chosen m (EventView.Command command payload) was =
+    place-chosen m.content m.cpu m.place (EventView.Command command payload) was
+effect-chosen m (EventView.Uf2 block) was = place-chosen m.content m.cpu m.place (EventView.Uf2 block) was
+effect-chosen m EventView.PowerOn was = place-chosen m.content m.cpu m.place EventView.PowerOn was
+effect-chosen m (EventView.Reset kind) was = place-chosen m.content m.cpu m.place (EventView.Reset kind) was
+effect-chosen m EventView.Buy was = place-chosen m.content m.cpu m.place EventView.Buy was
 
 -- an event, and a run
-move-chosen : (m n : Machine) (event : Happening) (text : List ℕ) → Moves m event n text
+move-chosen : (m n : MachineView) (event : EventView) (text : List ℕ) → Moves m event n text
     → HasChosenTrial m.content m.cpu m.place → HasChosenTrial n.content n.cpu n.place
 move-chosen m n event text (inl done) was =
     subst (λ (c : Content). HasChosenTrial c n.cpu n.place) (sym done.content)
@@ -178,19 +178,19 @@ move-chosen m n event text (inl done) was =
     (effect-chosen m event was)))
 move-chosen m n event text (inr lost) was = subst (HasChosenTrial n.content n.cpu) (sym lost.place) tt
 
-plays-chosen : (m n : Machine) (events : List Happening) (texts : List (List ℕ)) → Plays m events n texts
+plays-chosen : (m n : MachineView) (events : List EventView) (texts : List (List ℕ)) → Plays m events n texts
     → HasChosenTrial m.content m.cpu m.place → HasChosenTrial n.content n.cpu n.place
 plays-chosen m n [] texts plays was =
-    subst (λ (x : Machine). HasChosenTrial x.content x.cpu x.place) (sym plays.0) was
+    subst (λ (x : MachineView). HasChosenTrial x.content x.cpu x.place) (sym plays.0) was
 plays-chosen m n (event ∷ events) texts (mid, text, others, moves, rest, all) was =
     plays-chosen mid n events others rest (move-chosen m mid event text moves was)
 
-fresh-chosen : (c : Content) (cpu : Cpu) (place : Place) → IsFresh place → HasChosenTrial c cpu place
+fresh-chosen : (c : Content) (cpu : Cpu) (place : StateView) → IsFresh place → HasChosenTrial c cpu place
 fresh-chosen c cpu Off fresh = tt
 fresh-chosen c cpu (InBootsel host) fresh = tt
 fresh-chosen c cpu (Running program) fresh = absurd fresh
 
-pub running-trial : (m n : Machine) (events : List Happening) (texts : List (List ℕ)) (choice : Choice)
+pub running-trial : (m n : MachineView) (events : List EventView) (texts : List (List ℕ)) (choice : Choice)
     → IsFresh m.place → Plays m events n texts → n.place ≡ Running (FromFlash choice) → choice.image.trial ≡ true
     → WasChosen n.content n.cpu choice
 running-trial m n events texts choice fresh plays at trial =

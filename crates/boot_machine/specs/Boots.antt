@@ -11,18 +11,18 @@ use Rattle.boot_rules.specs.declared.decision.Decision.{Decision}
 use Rattle.boot_rules.specs.declared.decision.Decision.TheVariants.{Start, Bootsel}
 use Rattle.boot_rules.specs.Choosing.{decision_in}
 use Rattle.boot_rules.specs.Tables.{table_in}
-use Rattle.boot_machine.specs.Machines.{Place, InBootsel, Running, FromFlash}
-use Rattle.boot_lines.specs.Texts.{decision_text}
+use Rattle.boot_machine.specs.Machines.{StateView, InBootsel, Running, FromFlash}
+use Rattle.text_lines.specs.Texts.{decision_text}
 
 -- what an event does where no power is lost: its steps, what the machine does afterwards, and the
 -- text of its line
 pub record Effect : Type 0 where
   pub steps : List Step
-  pub place : Place
+  pub place : StateView
   pub text : List ℕ
 
 -- BOOTSEL as it is entered: with the content's table, without a download, and with an SRAM of zeros
-abbrev pub entered : Content → Place
+abbrev pub entered : Content → StateView
 entered c = InBootsel (record { found = table_in c; placing = None; ram = zero_ram })
 
 -- what a decision writes, and where it leads
@@ -30,7 +30,7 @@ abbrev pub decided_steps : Content → Cpu → Decision → List Step
 decided_steps c cpu (Start choice) = start_steps c cpu choice
 decided_steps c cpu (Bootsel fall) = []
 
-abbrev pub decided_place : Content → Decision → Place
+abbrev pub decided_place : Content → Decision → StateView
 decided_place c (Start choice) = Running (FromFlash choice)
 decided_place c (Bootsel fall) = entered c
 

@@ -1,33 +1,37 @@
--- Worked examples of what events do in each state. This project's own.
+-- Worked examples of what events do in each state.
 use Rattle.std.specs.Prelude.{ℕ, Bool, true, false, List, [], ◌∷◌, replicate, Some, None, Option}
-use Rattle.image_check.specs.Examples.{arm_type, window_with}
+use Rattle.worked_flashes.specs.Images.{arm_type, window_with}
 use Rattle.pico_board.specs.Content.{Content}
-use Rattle.part_table.specs.Examples.{sectors, guarded_table, pair_version}
+use Rattle.worked_flashes.specs.Tables.{sectors, guarded_table, pair_version}
 use Rattle.slot_choice.specs.Examples.{window_at}
-use Rattle.boot_rules.specs.Examples.{bare, found_in, image_region, pair_content}
+use Rattle.worked_flashes.specs.Flashes.{bare, image_region, pair_content}
+use Rattle.boot_rules.specs.Examples.{found_in_slot}
 use Rattle.slot_choice.specs.declared.choice.Choice.{Choice}
 use Rattle.pico_board.specs.declared.boot.Cpu.TheVariants.{Arm}
 use Rattle.part_table.specs.declared.Target.{Target}
-use Rattle.picoboot_cmd.specs.Commands.{written as command_bytes}
+use Rattle.picoboot_cmd.specs.Commands.{written_command as command_bytes}
 use Rattle.picoboot_cmd.specs.Examples.{erase_command}
 use Rattle.info_reply.specs.Examples.{info}
-use Rattle.ram_start.specs.Sram.{stored, zero_ram}
-use Rattle.boot_script.specs.Events.{Happening}
+use Rattle.ram_start.specs.Sram.{with_bytes_at, zero_ram}
+use Rattle.boot_script.specs.Events.{EventView}
 use Rattle.pico_board.specs.Cuts.{Cut}
 use Rattle.slot_choice.specs.declared.unit.Member.TheVariants.{B}
 use Rattle.boot_rules.specs.declared.tables.Found.{Found}
 use Rattle.uf2_place.specs.declared.block.Uf2.{Uf2}
-use Rattle.boot_machine.specs.Machines.{Host, InBootsel, Machine, Off, Place, Placing}
+use Rattle.boot_machine.specs.Machines.{Host, InBootsel, MachineView, Off, StateView, Placing}
 use Rattle.boot_machine.specs.Serving.{with_ram}
-use Rattle.boot_writes.specs.Examples.{one_sector, bare_sector}
+use Rattle.worked_flashes.specs.Flashes.{one_sector, bare_sector}
+use Rattle.worked_flashes.specs.Choices.{running_trial}
+use Rattle.worked_flashes.specs.Choices.{starts_alone}
+use Rattle.image_check.specs.Changes.{bought}
 
 -- an Arm machine on this content, whose board tells that no cut is armed
-abbrev pub machine_at : Content → Place → Machine
+abbrev pub machine_at : Content → StateView → MachineView
 machine_at c place = record { content = c; armed = Some None; cpu = Arm; place = place }
 
 -- an erased flash of two sectors
-abbrev pub erased : Content
-erased = one_sector bare_sector
+abbrev pub erased_flash : Content
+erased_flash = one_sector bare_sector
 
 -- an updated start of an image, a trial or not, in the B of a pair
 abbrev pub running : Bool → Choice
@@ -73,13 +77,13 @@ uf2_block flags address number count family = record {
 }
 
 -- the first of two blocks of rp2350-arm-s, and the second
-abbrev pub arm_block : ℕ → ℕ → Uf2
-arm_block address number = uf2_block 0x2000 address number 2 0xe48bff59
+abbrev pub arm_uf2_of_two : ℕ → ℕ → Uf2
+arm_uf2_of_two address number = uf2_block 0x2000 address number 2 0xe48bff59
 
 -- a download into that target that has taken the first one
 abbrev pub begun_download : Placing
 begun_download =
-    record { target = slot_two false; blocks = arm_block 0x10001000 0 ∷ [] }
+    record { target = slot_two false; blocks = arm_uf2_of_two 0x10001000 0 ∷ [] }
 
 -- a download is current
 abbrev pub busy : Host
@@ -91,11 +95,11 @@ no_command = replicate 32 0
 
 -- BOOTSEL with a table in which sectors 0 to 31 and those from 62 on may not be written
 abbrev pub guarded : Host
-guarded = host_with (Some (found_in 0 guarded_table)) None
+guarded = host_with (Some (found_in_slot 0 guarded_table)) None
 
--- the same with the table in slot 1, and with that download
+-- BOOTSEL with the table of `guarded` in slot 1, and with the download that was begun
 abbrev pub guarded_busy : Host
-guarded_busy = host_with (Some (found_in 1 guarded_table)) (Some begun_download)
+guarded_busy = host_with (Some (found_in_slot 1 guarded_table)) (Some begun_download)
 
 -- sectors 2 to 31 as a target
 abbrev pub slot_one : Target
@@ -113,10 +117,10 @@ with_image host = with_ram host (window_with 0x20000021 (arm_type ∷ []) 0)
 abbrev pub image_in_a : Content
 image_in_a = pair_content 0 (image_region 0x1e000 arm_type 0x10000) bare
 
--- BOOTSEL as it is entered there
+-- BOOTSEL as it is entered on `image_in_a`
 abbrev pub pair_host : Host
 pair_host = record {
-  found = Some (found_in 0 (pair_version 0 0));
+  found = Some (found_in_slot 0 (pair_version 0 0));
   placing = None;
   ram = zero_ram;
 }
@@ -133,17 +137,21 @@ abbrev pub image_bytes : List ℕ
 image_bytes = window_with 0x20000021 (arm_type ∷ []) 0
 
 abbrev pub loaded_host : Host
-loaded_host = with_ram fresh_host (stored zero_ram 0 image_bytes)
+loaded_host = with_ram fresh_host (with_bytes_at zero_ram 0 image_bytes)
 
 -- an Arm machine in BOOTSEL on the erased flash, with this cut armed, or none
-abbrev pub armed_with : Option Cut → Machine
+abbrev pub armed_with : Option Cut → MachineView
 armed_with cut =
-    record { content = erased; armed = Some cut; cpu = Arm; place = InBootsel idle }
+    record { content = erased_flash; armed = Some cut; cpu = Arm; place = InBootsel idle }
 
--- the same machine once power was lost, with this content
-abbrev pub lost_with : Content → Machine
+-- an Arm machine without power, with this content and no cut armed
+abbrev pub lost_with : Content → MachineView
 lost_with c = record { content = c; armed = Some None; cpu = Arm; place = Off }
 
 -- the command that erases its two sectors
-abbrev pub erase_both : Happening
-erase_both = Happening.Command (command_bytes (erase_command 0x10000000 0x2000)) []
+abbrev pub erase_both : EventView
+erase_both = EventView.Command (command_bytes (erase_command 0x10000000 0x2000)) []
+
+-- the start of the trial image in the whole flash, once it was bought
+abbrev pub bought_trial : Choice
+bought_trial = starts_alone false (bought running_trial.image)

@@ -28,15 +28,15 @@ pub data Program : Type 0 where
   FromRam : (image : Started) → Program
 
 -- what the machine is doing
-pub data Place : Type 0 where
-  Off : Place
-  InBootsel : (host : Host) → Place
-  Running : (program : Program) → Place
+pub data StateView : Type 0 where
+  Off : StateView
+  InBootsel : (host : Host) → StateView
+  Running : (program : Program) → StateView
 
 -- a machine: the content of its board, the armed cut (None where the board does not tell it, Some
 -- None where none is armed), the processor, and what it is doing
-pub record Machine : Type 0 where
+pub record MachineView : Type 0 where
   pub content : Content
   pub armed : Option (Option Cut)
   pub cpu : Cpu
-  pub place : Place
+  pub place : StateView

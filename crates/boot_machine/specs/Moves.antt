@@ -11,40 +11,40 @@ use Rattle.pico_board.specs.Cuts.{Cut, CutOutcome, cut_steps}
 use Rattle.image_check.specs.Changes.{bought as bought_image}
 use Rattle.slot_choice.specs.declared.choice.Choice.{Choice}
 use Rattle.trial_buy.specs.Buying.{buy_steps}
-use Rattle.boot_script.specs.Events.{Happening}
-use Rattle.boot_machine.specs.Machines.{Machine, Host, Program, Place, Off, InBootsel, Running, FromFlash, FromRam}
+use Rattle.boot_script.specs.Events.{EventView}
+use Rattle.boot_machine.specs.Machines.{MachineView, Host, Program, StateView, Off, InBootsel, Running, FromFlash, FromRam}
 use Rattle.boot_machine.specs.Boots.{Effect, booted}
-use Rattle.boot_machine.specs.Serving.{followed, served}
+use Rattle.boot_machine.specs.Serving.{followed, served_event}
 
 -- the line where power was lost
 abbrev pub lost_text : List ℕ
 lost_text = codes "power lost"
 
 -- nothing is done but a line
-abbrev pub stays : Place → List ℕ → Effect
-stays place text = record { steps = []; place = place; text = text }
+abbrev pub stays_with_line : StateView → List ℕ → Effect
+stays_with_line place text = record { steps = []; place = place; text = text }
 
 -- a boot of this kind, from any state
 abbrev pub reset : Content → Cpu → BootKind → Effect
 reset c cpu kind = booted c cpu kind (codes "boot ")
 
 -- without power only power that comes back does something
-abbrev pub off_effect : Content → Cpu → Happening → Effect
-off_effect c cpu Happening.PowerOn = reset c cpu Normal
-off_effect c cpu event = stays Off (codes "off")
+abbrev pub off_effect : Content → Cpu → EventView → Effect
+off_effect c cpu EventView.PowerOn = reset c cpu Normal
+off_effect c cpu event = stays_with_line Off (codes "off")
 
 -- in BOOTSEL the host is served, and resets are made
-abbrev pub bootsel_effect : Content → Cpu → Host → Happening → Effect
-bootsel_effect c cpu host (Happening.Command command payload) =
-    followed c cpu (served c cpu host (Happening.Command command payload))
-bootsel_effect c cpu host (Happening.Uf2 block) =
-    followed c cpu (served c cpu host (Happening.Uf2 block))
-bootsel_effect c cpu host (Happening.Reset kind) = reset c cpu kind
-bootsel_effect c cpu host event = stays (InBootsel host) (codes "ignored")
+abbrev pub bootsel_effect : Content → Cpu → Host → EventView → Effect
+bootsel_effect c cpu host (EventView.Command command payload) =
+    followed c cpu (served_event c cpu host (EventView.Command command payload))
+bootsel_effect c cpu host (EventView.Uf2 block) =
+    followed c cpu (served_event c cpu host (EventView.Uf2 block))
+bootsel_effect c cpu host (EventView.Reset kind) = reset c cpu kind
+bootsel_effect c cpu host event = stays_with_line (InBootsel host) (codes "ignored")
 
 -- the choice of an image that is bought
-abbrev pub bought : Choice → Choice
-bought choice = record {
+abbrev pub bought_choice : Choice → Choice
+bought_choice choice = record {
   image = bought_image choice.image;
   member = choice.member;
   other = choice.other;
@@ -56,34 +56,34 @@ abbrev pub buy_effect : Content → Cpu → Program → Effect
 buy_effect c cpu (FromFlash choice) =
     if choice.image.trial then record {
       steps = buy_steps c cpu choice;
-      place = Running (FromFlash (bought choice));
+      place = Running (FromFlash (bought_choice choice));
       text = codes "buy done";
     }
-    else stays (Running (FromFlash choice)) (codes "buy none")
-buy_effect c cpu (FromRam image) = stays (Running (FromRam image)) (codes "buy none")
+    else stays_with_line (Running (FromFlash choice)) (codes "buy none")
+buy_effect c cpu (FromRam image) = stays_with_line (Running (FromRam image)) (codes "buy none")
 
 -- while an image runs it may buy itself, and resets are made
-abbrev pub running_effect : Content → Cpu → Program → Happening → Effect
-running_effect c cpu program (Happening.Reset kind) = reset c cpu kind
-running_effect c cpu program Happening.Buy = buy_effect c cpu program
-running_effect c cpu program event = stays (Running program) (codes "ignored")
+abbrev pub running_effect : Content → Cpu → Program → EventView → Effect
+running_effect c cpu program (EventView.Reset kind) = reset c cpu kind
+running_effect c cpu program EventView.Buy = buy_effect c cpu program
+running_effect c cpu program event = stays_with_line (Running program) (codes "ignored")
 
-abbrev pub effect_in : Content → Cpu → Place → Happening → Effect
+abbrev pub effect_in : Content → Cpu → StateView → EventView → Effect
 effect_in c cpu Off event = off_effect c cpu event
 effect_in c cpu (InBootsel host) event = bootsel_effect c cpu host event
 effect_in c cpu (Running program) event = running_effect c cpu program event
 
 -- what an event does where no power is lost: a cut is armed and the script's end does nothing in
 -- any state
-abbrev pub effect : Machine → Happening → Effect
-effect m (Happening.Cut left within pattern) = stays m.place (codes "cut armed")
-effect m Happening.End = stays m.place (codes "end")
+abbrev pub effect : MachineView → EventView → Effect
+effect m (EventView.Cut left within pattern) = stays_with_line m.place (codes "cut armed")
+effect m EventView.End = stays_with_line m.place (codes "end")
 effect m event = effect_in m.content m.cpu m.place event
 
 -- the cut that is armed while the event's steps are done, where the board tells it: a Cut event
 -- takes the place of a former one
-abbrev pub armed_for : Option (Option Cut) → Happening → Option (Option Cut)
-armed_for armed (Happening.Cut left within pattern) =
+abbrev pub armed_for : Option (Option Cut) → EventView → Option (Option Cut)
+armed_for armed (EventView.Cut left within pattern) =
     option_map (λ former. Some (record { left = left; within = within; pattern = pattern })) armed
 armed_for armed event = armed
 
@@ -102,7 +102,8 @@ Decides None c steps done d armed = armed ≡ None
 Decides (Some cut) c steps done d armed = LeavesCutOutcome (cut_steps steps cut c) done d armed
 
 -- the steps are done whole
-pub record IsDone (m : Machine) (armed : Option (Option Cut)) (e : Effect) (n : Machine)
+pub record IsDoneWhole (m : MachineView) (armed : Option (Option Cut)) (e : Effect)
+    (n : MachineView)
     (text : List ℕ) : Type 0 where
   pub content : n.content ≡ after_all m.content e.steps
   pub armed_cut : Decides armed m.content e.steps true n.content n.armed
@@ -111,7 +112,7 @@ pub record IsDone (m : Machine) (armed : Option (Option Cut)) (e : Effect) (n : 
   pub line : text ≡ e.text
 
 -- power is lost in one of the steps
-pub record IsLost (m : Machine) (armed : Option (Option Cut)) (e : Effect) (n : Machine)
+pub record IsLost (m : MachineView) (armed : Option (Option Cut)) (e : Effect) (n : MachineView)
     (text : List ℕ) : Type 0 where
   pub content : CutOf m.content e.steps n.content
   pub armed_cut : Decides armed m.content e.steps false n.content n.armed
@@ -119,16 +120,16 @@ pub record IsLost (m : Machine) (armed : Option (Option Cut)) (e : Effect) (n : 
   pub place : n.place ≡ Off
   pub line : text ≡ lost_text
 
-abbrev pub MovesBy : Machine → Option (Option Cut) → Effect → Machine → List ℕ → Type 0
-MovesBy m armed e n text = IsDone m armed e n text ⊎ IsLost m armed e n text
+abbrev pub MovesBy : MachineView → Option (Option Cut) → Effect → MachineView → List ℕ → Type 0
+MovesBy m armed e n text = IsDoneWhole m armed e n text ⊎ IsLost m armed e n text
 
 -- Moves: an event takes the machine m to n, with the text of its line
-abbrev pub Moves : Machine → Happening → Machine → List ℕ → Type 0
+abbrev pub Moves : MachineView → EventView → MachineView → List ℕ → Type 0
 Moves m event n text = MovesBy m (armed_for m.armed event) (effect m event) n text
 
 -- Plays: the events, one after another, take m to n, with the texts of their lines
-abbrev pub Plays : Machine → List Happening → Machine → List (List ℕ) → Type 0
+abbrev pub Plays : MachineView → List EventView → MachineView → List (List ℕ) → Type 0
 Plays m [] n texts = (n ≡ m) × (texts ≡ [])
 Plays m (event ∷ events) n texts =
-    (mid : Machine) × (text : List ℕ) × (others : List (List ℕ))
+    (mid : MachineView) × (text : List ℕ) × (others : List (List ℕ))
     × Moves m event mid text × Plays mid events n others × (texts ≡ (text ∷ others))

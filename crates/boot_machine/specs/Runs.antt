@@ -25,10 +25,10 @@ use Rattle.image_check.specs.NotBelow.{NotBelow}
 use Rattle.ram_start.specs.Images.{ValidRam}
 use Rattle.ram_start.specs.Serving.{asks_reboot, is_ram_command, is_range, ram_status, reboot_range}
 use Rattle.ram_start.specs.Sram.{RamWrite, ram_after, zero_ram}
-use Rattle.boot_script.specs.Events.{Happening}
-use Rattle.boot_machine.specs.Machines.{Host, Machine, Placing, Place, Off, InBootsel, Running, FromRam}
+use Rattle.boot_script.specs.Events.{EventView}
+use Rattle.boot_machine.specs.Machines.{Host, MachineView, Placing, StateView, Off, InBootsel, Running, FromRam}
 use Rattle.boot_machine.specs.Moves.{Moves}
-use Rattle.boot_machine.specs.Serving.{Served, block_served, info_status, info_words, is_like, served, table_of}
+use Rattle.boot_machine.specs.Serving.{ServedEvent, block_served, info_status, info_words, is_like, served_event, table_of_found}
 
 -- the info command is served, asks for the target of a family, and the words of its reply are those
 -- of this target
@@ -42,9 +42,9 @@ pub record AnswersTarget (c : Content) (cpu : Cpu) (host : Host) (command payloa
   pub words : info_words c cpu host.found (ask_in cmd) ≡ target_words answer
 
 -- no download is current, or the block is not of its family and count
-abbrev pub IsNew : Option Placing → Uf2 → Type 0
-IsNew None b = ⊤
-IsNew (Some placing) b = is_like placing.blocks b ≡ false
+abbrev pub IsNewDownload : Option Placing → Uf2 → Type 0
+IsNewDownload None b = ⊤
+IsNewDownload (Some placing) b = is_like placing.blocks b ≡ false
 
 -- the bytes are a block of this family which is not skipped in a flash of n bytes and begins a
 -- download
@@ -53,11 +53,11 @@ pub record BeginsDownload (n : ℕ) (host : Host) (family : ℕ) (bytes : List �
   pub is : uf2_of bytes ≡ Ok b
   pub same : b.family ≡ family
   pub kept : is_skipped n b ≡ false
-  pub new : IsNew host.placing b
+  pub new : IsNewDownload host.placing b
 
 -- what is served where the block is taken or refused by a target
-abbrev pub served_by : Host → Option Target → Uf2 → Served
-served_by host target b = block_served host b (begun (table_of host.found) b target)
+abbrev pub served_by : Host → Option Target → Uf2 → ServedEvent
+served_by host target b = block_served host b (begun (table_of_found host.found) b target)
 
 -- the write of a command, where it is a RAM command that writes and is served
 abbrev pub ram_writes : Content → Cpu → Host → Cmd → List ℕ → List RamWrite
@@ -71,43 +71,44 @@ command_writes c cpu host (Ok cmd) payload = ram_writes c cpu host cmd payload
 command_writes c cpu host (Err fault) payload = []
 
 -- the writes since BOOTSEL was entered, by those before an event in it: a boot begins anew
-abbrev pub host_writes : Content → Cpu → Host → List RamWrite → Happening → List RamWrite
-host_writes c cpu host writes (Happening.Command command payload) =
-    if is_some (served c cpu host (Happening.Command command payload)).boot then []
+abbrev pub host_writes : Content → Cpu → Host → List RamWrite → EventView → List RamWrite
+host_writes c cpu host writes (EventView.Command command payload) =
+    if is_some (served_event c cpu host (EventView.Command command payload)).boot then []
     else writes ++ command_writes c cpu host (command_in command) payload
-host_writes c cpu host writes (Happening.Uf2 block) =
-    if is_some (served c cpu host (Happening.Uf2 block)).boot then [] else writes
-host_writes c cpu host writes (Happening.Reset kind) = []
+host_writes c cpu host writes (EventView.Uf2 block) =
+    if is_some (served_event c cpu host (EventView.Uf2 block)).boot then [] else writes
+host_writes c cpu host writes (EventView.Reset kind) = []
 host_writes c cpu host writes event = writes
 
--- outside BOOTSEL there are none
-abbrev pub place_writes : Content → Cpu → Place → List RamWrite → Happening → List RamWrite
+-- the writes since BOOTSEL was entered, by those before an event in this place; outside BOOTSEL
+-- there are none
+abbrev pub place_writes : Content → Cpu → StateView → List RamWrite → EventView → List RamWrite
 place_writes c cpu Off writes event = []
 place_writes c cpu (InBootsel host) writes event = host_writes c cpu host writes event
 place_writes c cpu (Running program) writes event = []
 
-abbrev pub writes_behind : Machine → List RamWrite → Happening → List RamWrite
+abbrev pub writes_behind : MachineView → List RamWrite → EventView → List RamWrite
 writes_behind m writes event = place_writes m.content m.cpu m.place writes event
 
 -- Plays, with the writes to the SRAM since BOOTSEL was entered, before the events and behind them
-abbrev pub PlaysWriting : Machine → List RamWrite → List Happening → Machine → List (List ℕ)
+abbrev pub PlaysWriting : MachineView → List RamWrite → List EventView → MachineView → List (List ℕ)
     → List RamWrite → Type 0
 PlaysWriting m before [] n texts behind = (n ≡ m) × (texts ≡ []) × (behind ≡ before)
 PlaysWriting m before (event ∷ events) n texts behind =
-    (mid : Machine) × (text : List ℕ) × (others : List (List ℕ))
+    (mid : MachineView) × (text : List ℕ) × (others : List (List ℕ))
     × Moves m event mid text
     × PlaysWriting mid (writes_behind m before event) events n others behind
     × (texts ≡ (text ∷ others))
 
 -- a run begins without power, or in BOOTSEL as it is entered: without a download, and with an SRAM
 -- of zeros
-abbrev pub IsFresh : Place → Type 0
+abbrev pub IsFresh : StateView → Type 0
 IsFresh Off = ⊤
 IsFresh (InBootsel host) = (host.placing ≡ None) × (host.ram ≡ zero_ram)
 IsFresh (Running program) = ⊥
 
 -- an event takes a machine that does not run this image in RAM to one that does
-pub record StartsRam (m : Machine) (event : Happening) (n : Machine) (text : List ℕ)
+pub record StartsRam (m : MachineView) (event : EventView) (n : MachineView) (text : List ℕ)
     (s : Started) : Type 0 where
   pub moves : Moves m event n text
   pub former : m.place ≢ Running (FromRam s)
@@ -115,12 +116,12 @@ pub record StartsRam (m : Machine) (event : Happening) (n : Machine) (text : Lis
 
 -- the event is a reboot command that names words in SRAM, which these writes have left there; they
 -- hold this valid image, which is not below its rollback rows
-pub record IsBootIntoRam (c : Content) (cpu : Cpu) (event : Happening) (writes : List RamWrite)
+pub record IsBootIntoRam (c : Content) (cpu : Cpu) (event : EventView) (writes : List RamWrite)
     (s : Started) : Type 0 where
   pub command : List ℕ
   pub payload : List ℕ
   pub cmd : Cmd
-  pub came : event ≡ Happening.Command command payload
+  pub came : event ≡ EventView.Command command payload
   pub is : command_in command ≡ Ok cmd
   pub asks : asks_reboot cmd ≡ true
   pub range : is_range cmd ≡ true
@@ -128,8 +129,8 @@ pub record IsBootIntoRam (c : Content) (cpu : Cpu) (event : Happening) (writes :
   pub rows : NotBelow c.otp s
 
 -- the machine with this cut armed, where its board tells its armed cut
-abbrev pub with_cut : Machine → ℕ → Bool → List ℕ → Machine
-with_cut m left within pattern = record {
+abbrev pub machine_with_cut : MachineView → ℕ → Bool → List ℕ → MachineView
+machine_with_cut m left within pattern = record {
   content = m.content;
   armed = option_map (λ former. Some (cut_with left within pattern)) m.armed;
   cpu = m.cpu;

@@ -23,13 +23,13 @@ use Rattle.pico_board.specs.declared.board.PowerLost.{PowerLost}
 use Rattle.uf2_place.specs.declared.answer.Ruling.{Ruling}
 use Rattle.uf2_place.specs.declared.answer.Ruling.TheVariants.{Answered, Begins, Continues}
 use Rattle.uf2_place.specs.Blocks.{uf2_of}
-use Rattle.uf2_place.specs.Placement.{grown, is_whole, numbers_of}
+use Rattle.uf2_place.specs.Placement.{grown, is_whole_download, numbers_of}
 use Rattle.uf2_place.specs.Rulings.{aimed, begun, is_skipped}
 use Rattle.picoboot_cmd.specs.declared.cmd.Cmd.{Cmd}
 use Rattle.picoboot_cmd.specs.declared.cmd.CmdFault.{CmdFault}
 use Rattle.picoboot_cmd.specs.Commands.{command_in}
 use Rattle.picoboot_cmd.specs.Checks.{first_failing}
-use Rattle.picoboot_cmd.specs.Served.{Served as Command, command_of}
+use Rattle.picoboot_cmd.specs.Served.{ServedCommand as Command, served_on}
 use Rattle.info_reply.specs.declared.kinds.TheConstants.{INFO}
 use Rattle.info_reply.specs.declared.ask.Ask.{Ask}
 use Rattle.info_reply.specs.declared.ask.Ask.TheVariants as asks
@@ -42,24 +42,24 @@ use Rattle.ram_start.specs.Serving.{RamServed, is_ram_command, ram_command}
 use Rattle.image_def.specs.declared.started.Started.{Started}
 use Rattle.boot_rules.specs.declared.tables.Found.{Found}
 use Rattle.boot_rules.specs.Targets.{is_executable, target_of}
-use Rattle.boot_script.specs.Events.{Happening}
-use Rattle.boot_machine.specs.Machines.{Host, Placing, Place, InBootsel, Running, FromRam}
+use Rattle.boot_script.specs.Events.{EventView}
+use Rattle.boot_machine.specs.Machines.{Host, Placing, StateView, InBootsel, Running, FromRam}
 use Rattle.boot_machine.specs.Boots.{Effect, booted}
-use Rattle.boot_lines.specs.Texts.{accepted_text, command_text, form_text, ram_start_text, refused_text}
+use Rattle.text_lines.specs.Texts.{accepted_text, command_text, form_text, ram_start_text, refused_text}
 
 -- what an event does before the boot that it asks for, if it asks for one
-pub record Served : Type 0 where
+pub record ServedEvent : Type 0 where
   pub steps : List Step
-  pub place : Place
+  pub place : StateView
   pub text : List ℕ
   pub boot : Option BootKind
 
 -- nothing is done but a line
-abbrev pub line_only : Host → List ℕ → Served
+abbrev pub line_only : Host → List ℕ → ServedEvent
 line_only host text = record { steps = []; place = InBootsel host; text = text; boot = None }
 
-abbrev pub table_of : Option Found → Option Table
-table_of found = option_map (λ (f : Found). f.table) found
+abbrev pub table_of_found : Option Found → Option Table
+table_of_found found = option_map (λ (f : Found). f.table) found
 
 -- the slot of the table that was found, 0 where there is none
 abbrev pub table_slot_of : Option Found → ℕ
@@ -94,29 +94,29 @@ asked_target c t cpu (Some (asks.Partition i)) = None
 abbrev pub info_words : Content → Cpu → Option Found → Option Ask → List ℕ
 info_words c cpu found None = []
 info_words c cpu found (Some ask) =
-    info_of (device_of c cpu) (table_slot_of found) (table_of found)
-    (asked_target c (table_of found) cpu (Some ask)) ask
+    info_of (device_of c cpu) (table_slot_of found) (table_of_found found)
+    (asked_target c (table_of_found found) cpu (Some ask)) ask
 
 -- an info command: its status and its reply
 unfoldable pub info_status : Content → Cpu → Option Found → Cmd → List ℕ → ℕ
 info_status c cpu found cmd payload =
-    first_failing (info_checks (device_of c cpu) (table_slot_of found) (table_of found)
-    (asked_target c (table_of found) cpu (ask_in cmd)) cmd payload)
+    first_failing (info_checks (device_of c cpu) (table_slot_of found) (table_of_found found)
+    (asked_target c (table_of_found found) cpu (ask_in cmd)) cmd payload)
 
 unfoldable pub info_reply : ℕ → Content → Cpu → Option Found → Cmd → List ℕ
 info_reply status c cpu found cmd =
     if status == 0 then bytes_of (info_words c cpu found (ask_in cmd)) else []
 
-abbrev pub info_text : ℕ → Content → Cpu → Option Found → Cmd → List ℕ
-info_text status c cpu found cmd =
+abbrev pub info_line : ℕ → Content → Cpu → Option Found → Cmd → List ℕ
+info_line status c cpu found cmd =
     command_text cmd status (info_reply status c cpu found cmd)
 
-abbrev pub serves_info : Content → Cpu → Host → Cmd → List ℕ → Served
+abbrev pub serves_info : Content → Cpu → Host → Cmd → List ℕ → ServedEvent
 serves_info c cpu host cmd payload =
-    line_only host (info_text (info_status c cpu host.found cmd payload) c cpu host.found cmd)
+    line_only host (info_line (info_status c cpu host.found cmd payload) c cpu host.found cmd)
 
 -- a RAM command: it stores and reads, or starts an image, which drops the download
-abbrev pub ram_place : Host → Option Started → List ℕ → Place
+abbrev pub ram_place : Host → Option Started → List ℕ → StateView
 ram_place host None ram = InBootsel (with_ram host ram)
 ram_place host (Some image) ram = Running (FromRam image)
 
@@ -124,7 +124,7 @@ abbrev pub ram_text : Cmd → ℕ → List ℕ → Option Started → List ℕ
 ram_text cmd status reply None = command_text cmd status reply
 ram_text cmd status reply (Some image) = command_text cmd status reply ++ ram_start_text image
 
-abbrev pub ram_result : Host → Cmd → RamServed → Served
+abbrev pub ram_result : Host → Cmd → RamServed → ServedEvent
 ram_result host cmd r = record {
   steps = [];
   place = ram_place host r.start r.ram;
@@ -132,12 +132,12 @@ ram_result host cmd r = record {
   boot = None;
 }
 
-abbrev pub serves_ram : Content → Cpu → Host → Cmd → List ℕ → Served
+abbrev pub serves_ram : Content → Cpu → Host → Cmd → List ℕ → ServedEvent
 serves_ram c cpu host cmd payload =
     ram_result host cmd (ram_command c host.ram cpu (is_some host.placing) cmd payload)
 
 -- a command of the host for the board
-abbrev pub host_result : Host → Cmd → Command → Served
+abbrev pub host_result : Host → Cmd → Command → ServedEvent
 host_result host cmd r = record {
   steps = r.steps;
   place = InBootsel host;
@@ -145,18 +145,19 @@ host_result host cmd r = record {
   boot = r.boot;
 }
 
-abbrev pub serves_host : Content → Host → Cmd → List ℕ → Served
+abbrev pub serves_host : Content → Host → Cmd → List ℕ → ServedEvent
 serves_host c host cmd payload =
-    host_result host cmd (command_of c (table_of host.found) (is_some host.placing) cmd payload)
+    host_result host cmd (served_on c (table_of_found host.found)
+    (is_some host.placing) cmd payload)
 
-abbrev pub serves : Content → Cpu → Host → Cmd → List ℕ → Served
+abbrev pub serves : Content → Cpu → Host → Cmd → List ℕ → ServedEvent
 serves c cpu host cmd payload =
     if cmd.id == INFO then serves_info c cpu host cmd payload
     else if is_ram_command cmd then serves_ram c cpu host cmd payload
     else serves_host c host cmd payload
 
 -- 32 bytes that may be a command
-abbrev pub command_served : Content → Cpu → Host → Result Cmd CmdFault → List ℕ → Served
+abbrev pub command_served : Content → Cpu → Host → Result Cmd CmdFault → List ℕ → ServedEvent
 command_served c cpu host (Ok cmd) payload = serves c cpu host cmd payload
 command_served c cpu host (Err fault) payload = line_only host (codes "cmd bad-magic")
 
@@ -202,12 +203,12 @@ boot_of_accepted family Taken = None
 boot_of_accepted family (Done target) = done_boot family target
 
 -- what is answered of what came of a block: the boot that it asks for, where power was not lost
-abbrev pub answer_of : ℕ → Result Accepted PlaceFault → Result (Option BootKind) PowerLost
-answer_of family (Ok accepted) = Ok (boot_of_accepted family accepted)
-answer_of family (Err NoTarget) = Ok None
-answer_of family (Err Outside) = Ok None
-answer_of family (Err NotPermitted) = Ok None
-answer_of family (Err Lost) = Err (record {})
+abbrev pub boot_after_block : ℕ → Result Accepted PlaceFault → Result (Option BootKind) PowerLost
+boot_after_block family (Ok accepted) = Ok (boot_of_accepted family accepted)
+boot_after_block family (Err NoTarget) = Ok None
+boot_after_block family (Err Outside) = Ok None
+boot_after_block family (Err NotPermitted) = Ok None
+boot_after_block family (Err Lost) = Err (record {})
 
 -- the target of a family that a block wants
 abbrev pub wanted_in : Content → Option Table → Cpu → Option ℕ → Option Target
@@ -215,9 +216,9 @@ wanted_in c t cpu None = None
 wanted_in c t cpu (Some family) = target_of c t cpu family
 
 -- a block that is taken into a download
-abbrev pub taken_in : Host → Target → List Uf2 → Uf2 → List Step → Served
+abbrev pub taken_in : Host → Target → List Uf2 → Uf2 → List Step → ServedEvent
 taken_in host target blocks b steps =
-    if is_whole blocks then record {
+    if is_whole_download blocks then record {
       steps = steps;
       place = InBootsel (with_placing host None);
       text = accepted_text b.number (Done target);
@@ -236,7 +237,7 @@ blocks_of (Some placing) = placing.blocks
 
 -- a block with its ruling: a block that begins a download is its first, and one that continues it
 -- is added behind the others
-abbrev pub block_served : Host → Uf2 → Ruling → Served
+abbrev pub block_served : Host → Uf2 → Ruling → ServedEvent
 block_served host b (Answered answer) = line_only host (block_text b.number answer)
 block_served host b (Begins target) =
     taken_in host target (b ∷ []) b (grown target [] (b ∷ []))
@@ -244,39 +245,39 @@ block_served host b (Continues target) =
     taken_in host target (blocks_of host.placing ++ b ∷ []) b
     (grown target (blocks_of host.placing) (blocks_of host.placing ++ b ∷ []))
 
-abbrev pub places : Content → Cpu → Host → Uf2 → Served
+abbrev pub places : Content → Cpu → Host → Uf2 → ServedEvent
 places c cpu host b =
-    block_served host b (ruling_on (length c.flash) (table_of host.found)
-    (target_of c (table_of host.found) cpu b.family) host.placing b)
+    block_served host b (ruling_on (length c.flash) (table_of_found host.found)
+    (target_of c (table_of_found host.found) cpu b.family) host.placing b)
 
 -- 512 bytes that may be a UF2 block
-abbrev pub uf2_served : Content → Cpu → Host → Result Uf2 Uf2Fault → Served
+abbrev pub uf2_served : Content → Cpu → Host → Result Uf2 Uf2Fault → ServedEvent
 uf2_served c cpu host (Ok b) = places c cpu host b
 uf2_served c cpu host (Err fault) = line_only host (form_text fault)
 
 -- the events of a host
-abbrev pub is_hosted : Happening → Bool
-is_hosted (Happening.Command command payload) = true
-is_hosted (Happening.Uf2 block) = true
+abbrev pub is_hosted : EventView → Bool
+is_hosted (EventView.Command command payload) = true
+is_hosted (EventView.Uf2 block) = true
 is_hosted event = false
 
 -- an event for a host
-abbrev pub served : Content → Cpu → Host → Happening → Served
-served c cpu host (Happening.Command command payload) =
+abbrev pub served_event : Content → Cpu → Host → EventView → ServedEvent
+served_event c cpu host (EventView.Command command payload) =
     command_served c cpu host (command_in command) payload
-served c cpu host (Happening.Uf2 block) = uf2_served c cpu host (uf2_of block)
-served c cpu host event = line_only host []
+served_event c cpu host (EventView.Uf2 block) = uf2_served c cpu host (uf2_of block)
+served_event c cpu host event = line_only host []
 
--- the same without the boot
-abbrev pub before_boot : Served → Effect
+-- what a served event does before the boot that it may ask for
+abbrev pub before_boot : ServedEvent → Effect
 before_boot s = record { steps = s.steps; place = s.place; text = s.text }
 
 -- what was served, and the boot that it asks for
-abbrev pub followed_by : Content → Cpu → Served → Option BootKind → Effect
+abbrev pub followed_by : Content → Cpu → ServedEvent → Option BootKind → Effect
 followed_by c cpu s None = before_boot s
 followed_by c cpu s (Some kind) =
     let boot = booted (after_all c s.steps) cpu kind (s.text ++ codes " boot ") in
     record { steps = s.steps ++ boot.steps; place = boot.place; text = boot.text }
 
-abbrev pub followed : Content → Cpu → Served → Effect
+abbrev pub followed : Content → Cpu → ServedEvent → Effect
 followed c cpu s = followed_by c cpu s s.boot

@@ -1,4 +1,4 @@
--- What the parts of a machine stand for, and what holds of them between events. This project's own.
+-- What the parts of a machine stand for, and what holds of them between events.
 use Rattle.std.specs.Prelude.{◌≡◌, ◌≢◌, ◌⊎◌, ⊤, ℕ, ◌/◌, ◌^◌, ◌<◌, Result, IfOk, OnOk, OnErr, is_ok, Bool, true, false, IsTrue, List, [], length, ◌≤◌, slice_get, Option, Some, None}
 use Rattle.std.specs.Option.{ForSome}
 use Rattle.std.specs.Bool.{OnTrue, OnFalse}
@@ -14,27 +14,27 @@ use Rattle.pico_board.specs.Histories.{Extends}
 use Rattle.sector_pool.specs.Keeping.{HandsOver}
 use Rattle.sector_pool.specs.Pool.{Pool}
 use Rattle.part_table.specs.Sound.{IsSoundTable}
-use Rattle.uf2_place.specs.Accepting.{Kept, StandsFor}
+use Rattle.uf2_place.specs.Accepting.{DownloadView, StandsFor}
 use Rattle.uf2_place.specs.Downloads.{IsOut, IsTargetIn, lease_of}
 use Rattle.image_check.specs.Valid.{Valid}
 use Rattle.image_def.specs.declared.started.Started.{Started}
 use Rattle.slot_choice.specs.declared.choice.Choice.{Choice}
 use Rattle.trial_buy.specs.Windows.{IsPlacedChoice}
 use Rattle.boot_rules.specs.declared.tables.Found.{Found}
-use Rattle.boot_script.specs.Events.{Happening}
+use Rattle.boot_script.specs.Events.{EventView}
 use Rattle.boot_machine.specs.declared.state.State.{State}
 use Rattle.boot_machine.specs.declared.state.State.TheVariants as states
 use Rattle.boot_machine.specs.declared.state.Membership.{Membership}
 use Rattle.boot_machine.specs.declared.parts.Parts.{Parts}
-use Rattle.boot_machine.specs.Machines.{Machine, Host, Placing, Place, Off, InBootsel, Running, FromFlash, FromRam}
+use Rattle.boot_machine.specs.Machines.{MachineView, Host, Placing, StateView, Off, InBootsel, Running, FromFlash, FromRam}
 use Rattle.ram_start.specs.Sram.{zero_ram}
 use Rattle.boot_machine.specs.Boots.{Effect}
 use Rattle.boot_machine.specs.Moves.{Moves, effect, effect_in, lost_text}
-use Rattle.boot_machine.specs.Serving.{Served, before_boot}
+use Rattle.boot_machine.specs.Serving.{ServedEvent, before_boot}
 
 -- a choice that runs: its windows are placed, and a trial image is still valid in its window, so
 -- that it can buy itself
-pub record IsHeld (c : Content) (cpu : Cpu) (choice : Choice) : Type 0 where
+pub record IsHeldChoice (c : Content) (cpu : Cpu) (choice : Choice) : Type 0 where
   pub placed : IsPlacedChoice c choice
   pub trial : choice.image.trial ≡ true → Valid c choice.image.window cpu true choice.image
 
@@ -72,7 +72,7 @@ membership_of choice =
     record { member = choice.member; other = choice.other; updated = choice.updated }
 
 -- the download stands for the placing, or there is none
-abbrev pub Carries : Kept → Pool → Option Placing → Type 0
+abbrev pub Carries : DownloadView → Pool → Option Placing → Type 0
 Carries d pool None = d.current ≡ None
 Carries d pool (Some placing) = StandsFor d pool placing.target placing.blocks
 
@@ -89,7 +89,7 @@ module _ {B : Type 0} where
     pub state : p.state ≡ states.Running image
     pub membership : p.membership ≡ from
 
-  abbrev pub StandsAt : Parts B → Place → Type 0
+  abbrev pub StandsAt : Parts B → StateView → Type 0
   StandsAt p Off = p.state ≡ states.Off
   StandsAt p (InBootsel host) = IsHost p host
   StandsAt p (Running (FromFlash choice)) = IsRunning p choice.image (Some (membership_of choice))
@@ -121,7 +121,7 @@ module _ {B : Type 0} where
     found = found;
   }
 
-  -- the same parts, without power
+  -- the parts of a machine once it has no power
   abbrev pub powerless : Parts B → Parts B
   powerless p = record {
     board = p.board;
@@ -135,7 +135,7 @@ module _ {B : Type 0} where
   }
 
   -- the parts with another download and another pool
-  abbrev pub with_download : Parts B → Kept → Pool → Parts B
+  abbrev pub with_download : Parts B → DownloadView → Pool → Parts B
   with_download p download pool = record {
     board = p.board;
     pool = pool;
@@ -172,7 +172,7 @@ module _ {B : Type 0} where
 
   module _ (state : B → BoardState) where
     -- the parts stand for the machine
-    pub record Stands (p : Parts B) (m : Machine) : Type 0 where
+    pub record Stands (p : Parts B) (m : MachineView) : Type 0 where
       pub content : m.content ≡ (state p.board).content
       pub armed : m.armed ≡ (state p.board).armed
       pub cpu : m.cpu ≡ p.cpu
@@ -189,7 +189,7 @@ module _ {B : Type 0} where
       pub found : is_bootsel p.state ≡ true → ForSome p.found
           (λ f. IsSoundTable f.table (length (state p.board).content.flash / 4096))
       pub held : (choice : Choice) → IsRunning p choice.image (Some (membership_of choice))
-          → IsHeld (state p.board).content p.cpu choice
+          → IsHeldChoice (state p.board).content p.cpu choice
 
     module _ (history : B → List Step → Type 0) where
       -- the parts did what an effect says, or power was lost in its steps, with this line
@@ -202,13 +202,15 @@ module _ {B : Type 0} where
         pub off : OnFalse ok (new.state ≡ states.Off)
         pub lost : OnFalse ok (line ≡ lost_text)
 
-      -- the same, whether power was lost or not
+      -- the parts did what an effect says, or power was lost in its steps, with this line,
+      -- whichever it was
       abbrev pub Comes : Parts B → Effect → Parts B → List ℕ → Type 0
       Comes old e new line = (ok : Bool) × IsBy old e ok new line
 
       -- what an event does before the boot that it asks for was done, and that boot is answered; or
       -- power was lost, and no boot is asked for
-      pub record IsServed (old : Parts B) (s : Served) (answer : Option BootKind) (new : Parts B)
+      pub record IsServed (old : Parts B) (s : ServedEvent) (answer : Option BootKind)
+          (new : Parts B)
           (line : List ℕ) : Type 0 where
         pub ok : Bool
         pub by : IsBy old (before_boot s) ok new line
@@ -216,7 +218,7 @@ module _ {B : Type 0} where
         pub silent : OnFalse ok (answer ≡ None)
 
       -- what is served, for each machine that the parts stand for
-      abbrev pub Serves : Parts B → (Content → Cpu → Host → Served) → Option BootKind → Parts B
+      abbrev pub Serves : Parts B → (Content → Cpu → Host → ServedEvent) → Option BootKind → Parts B
           → List ℕ → Type 0
       Serves old s answer new line = (host : Host) → IsHost old host
           → IsServed old (s (state old.board).content old.cpu host) answer new line
@@ -229,8 +231,8 @@ module _ {B : Type 0} where
         pub text : line ≡ e.text
 
       -- an event in a state, for each machine that the parts stand for
-      abbrev pub Advances : Parts B → Happening → Parts B → List ℕ → Type 0
-      Advances old event new line = (m : Machine) → Stands old m
+      abbrev pub Advances : Parts B → EventView → Parts B → List ℕ → Type 0
+      Advances old event new line = (m : MachineView) → Stands old m
           → IsIdle old (effect_in m.content m.cpu m.place event) new line
           ⊎ Comes old (effect_in m.content m.cpu m.place event) new line
 
@@ -243,9 +245,9 @@ module _ {B : Type 0} where
     -- The event takes m to a machine that the parts then stand for, with the text of its line. The
     -- count of cuts never falls. The event's steps are appended to the history, but where power was
     -- lost; the line says so only where it was.
-    pub record IsStep (history : B → List Step → Type 0) (old : Parts B) (m : Machine)
-        (event : Happening) (new : Parts B) (line : List ℕ) : Type 0 where
-      pub next : Machine
+    pub record IsStep (history : B → List Step → Type 0) (old : Parts B) (m : MachineView)
+        (event : EventView) (new : Parts B) (line : List ℕ) : Type 0 where
+      pub next : MachineView
       pub moves : Moves m event next line
       pub stands : Stands new next
       pub later : (state old.board).cuts ≤ (state new.board).cuts
@@ -254,7 +256,7 @@ module _ {B : Type 0} where
       pub lost : line ≡ lost_text → IsLostIn old new
 
 -- the download that a place has
-abbrev pub placing_at : Place → Option Placing
+abbrev pub placing_at : StateView → Option Placing
 placing_at Off = None
 placing_at (InBootsel host) = host.placing
 placing_at (Running program) = None
@@ -270,7 +272,8 @@ IsDoneIn (Done target) = target.window.start < 2 ^ 24
 -- that it asks for is answered, its text stands in the line, and the download stands for the new
 -- list. No download is current where power was lost.
 pub record IsServedBlock {B : Type 0} (state : B → BoardState) (history : B → List Step → Type 0)
-    (s : Served) (old : B) (answer : Result (Option BootKind) PowerLost) (new : B) (d : Kept)
+    (s : ServedEvent) (old : B) (answer : Result (Option BootKind) PowerLost) (new : B)
+    (d : DownloadView)
     (pool : Pool) (line : List ℕ) : Type 0 where
   pub steps : DoesAll state history old s.steps (is_ok answer) new
   pub boot : IfOk answer (λ boot. boot ≡ s.boot)

@@ -6,14 +6,14 @@ ghost use Rattle.sector_pool.specs.Keeping.{KeepsOut};
 ghost use Rattle.sector_pool.specs.Pool.{HasFree};
 ghost use Rattle.boot_rules.specs.Choosing.{decision_in};
 ghost use Rattle.boot_machine.specs.Boots.{choice_in, decided_steps};
-ghost use Rattle.boot_machine.specs.Standing.{IsHeld};
-ghost use Rattle.boot_lines.specs.Texts.{decision_text};
+ghost use Rattle.boot_machine.specs.Standing.{IsHeldChoice};
+ghost use Rattle.text_lines.specs.Texts.{decision_text};
 
 use arrayvec::ArrayString;
-use boot_lines::put_decision;
 use boot_rules::{Choice, Decision, decide};
 use pico_board::{Board, BootKind, Cpu, PowerLost};
 use sector_pool::SectorPool;
+use text_lines::put_decision;
 use trial_buy::settle;
 
 /// Decides a boot, puts the decision behind the line, and does what the decision writes. The
@@ -36,7 +36,7 @@ pub fn boot<B: Board>(
     ensures text { OnOk result (line.new.bytes
         ≡ line.old.bytes ++ decision_text (decision_in (B.state board.old).content cpu kind)) }
     ensures held { IfOk result (λ choice.
-        IfSome choice (IsHeld (B.state board.new).content cpu)) }
+        IfSome choice (IsHeldChoice (B.state board.new).content cpu)) }
     ensures kept { KeepsOut pool.old pool.new }
 {
     let decision = decide(board, pool, cpu, kind);

@@ -6,19 +6,19 @@ ghost use Rattle.pico_board.specs.Board.{DoesAll};
 ghost use Rattle.sector_pool.specs.Keeping.{KeepsOut};
 ghost use Rattle.sector_pool.specs.Pool.{HasFree};
 ghost use Rattle.part_table.specs.Sound.{IsSoundTable};
-ghost use Rattle.picoboot_cmd.specs.Served.{command_of};
+ghost use Rattle.picoboot_cmd.specs.Served.{served_on};
 ghost use Rattle.ram_start.specs.Serving.{is_ram_command, ram_command};
-ghost use Rattle.boot_machine.specs.Serving.{ram_text, table_of};
-ghost use Rattle.boot_lines.specs.Texts.{command_text};
+ghost use Rattle.boot_machine.specs.Serving.{ram_text, table_of_found};
+ghost use Rattle.text_lines.specs.Texts.{command_text};
 
-use crate::found::table_of;
+use crate::found::table_of_found;
 use arrayvec::ArrayString;
-use boot_lines::{put_ram_start, set_answer};
 use boot_rules::{Found, Started};
 use pico_board::{Board, BootKind, Cpu, PowerLost};
 use picoboot_cmd::{Cmd, HashReply, apply};
 use ram_start::{Ram, ram_apply};
 use sector_pool::SectorPool;
+use text_lines::{put_ram_start, set_answer};
 
 /// Serves a RAM command. The answer is the image that it starts.
 pub fn serve_ram<B: Board>(
@@ -68,19 +68,19 @@ pub fn serve_host<B: Board>(
     requires power { IsTrue (B.state board.old).powered }
     requires sound { ForSome found.now (λ f. IsSoundTable f.table
         (length (B.state board.old).content.flash / 4096)) }
-    ensures steps { DoesAll B.state B.history board.old (command_of (B.state board.old).content
-        (table_of found.now) busy cmd.now payload.now).steps (is_ok result) board.new }
-    ensures boot { IfOk result (λ boot. boot ≡ (command_of (B.state board.old).content
-        (table_of found.now) busy cmd.now payload.now).boot) }
+    ensures steps { DoesAll B.state B.history board.old (served_on (B.state board.old).content
+        (table_of_found found.now) busy cmd.now payload.now).steps (is_ok result) board.new }
+    ensures boot { IfOk result (λ boot. boot ≡ (served_on (B.state board.old).content
+        (table_of_found found.now) busy cmd.now payload.now).boot) }
     ensures text { OnOk result (line.new.bytes ≡ command_text cmd.now
-        (command_of (B.state board.old).content (table_of found.now) busy cmd.now
+        (served_on (B.state board.old).content (table_of_found found.now) busy cmd.now
         payload.now).status
-        (command_of (B.state board.old).content (table_of found.now) busy cmd.now
+        (served_on (B.state board.old).content (table_of_found found.now) busy cmd.now
         payload.now).reply) }
     ensures short { OnOk result (length line.new.bytes ≤ 132) }
 {
     let mut reply = HashReply::new();
-    let done = apply(board, table_of(found), busy, cmd, payload, &mut reply)?;
+    let done = apply(board, table_of_found(found), busy, cmd, payload, &mut reply)?;
     set_answer(line, cmd, done.status, reply);
     Ok(done.boot)
 }

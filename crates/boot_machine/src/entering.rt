@@ -11,9 +11,9 @@ use crate::booting::boot;
 use crate::parts::Parts;
 use crate::state::{Membership, State};
 use arrayvec::ArrayString;
-use boot_lines::set_text;
 use boot_rules::{Choice, find_table};
 use pico_board::{Board, BootKind, PowerLost};
+use text_lines::set_text;
 
 /// Runs the image of a choice.
 pub fn run<B: Board>(parts: &mut Parts<B>, choice: Choice)

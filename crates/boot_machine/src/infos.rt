@@ -6,16 +6,15 @@ ghost use Rattle.sector_pool.specs.Keeping.{KeepsOut};
 ghost use Rattle.sector_pool.specs.Pool.{HasFree};
 ghost use Rattle.part_table.specs.Sound.{IsSoundTable};
 ghost use Rattle.slot_choice.specs.Units.{IsSoundFor};
-ghost use Rattle.picoboot_cmd.specs.Replies.{HasTaken};
+ghost use Rattle.picoboot_cmd.specs.Replies.{HasTakenBytes};
 ghost use Rattle.info_reply.specs.declared.kinds.TheConstants.{INFO as INFO_ID};
 ghost use Rattle.picoboot_cmd.specs.Checks.{first_failing};
 ghost use Rattle.block_codec.specs.Words.{bytes_of};
 ghost use Rattle.info_reply.specs.Asks.{reply_checks};
-ghost use Rattle.boot_machine.specs.Serving.{info_words, asked_target, device_of, info_reply, info_status, info_text, table_slot_of, table_of};
+ghost use Rattle.boot_machine.specs.Serving.{info_words, asked_target, device_of, info_reply, info_status, info_line, table_slot_of, table_of_found};
 
-use crate::found::{table_of, table_slot_of};
+use crate::found::{table_of_found, table_slot_of};
 use arrayvec::ArrayString;
-use boot_lines::set_answer;
 use boot_rules::{Found, Target, target};
 use info_reply::{Ask, Device, info_ask, info_put};
 use otp_roll::{BOOT_FLAGS, slot_size};
@@ -23,6 +22,7 @@ use part_table::Table;
 use pico_board::{Board, Cpu};
 use picoboot_cmd::{Cmd, HashReply};
 use sector_pool::SectorPool;
+use text_lines::set_answer;
 
 /// What is told of the board.
 fn device_of<B: Board>(board: &B, cpu: Cpu) -> Device
@@ -73,9 +73,9 @@ fn put_info<B: Board>(
     requires lease { HasFree pool.old }
     requires sound { ForSome found.now (λ f. IsSoundTable f.table
         (length (B.state board.now).content.flash / 4096)) }
-    ensures status { result ≡ first_failing (reply_checks (table_of found.now) ask
+    ensures status { result ≡ first_failing (reply_checks (table_of_found found.now) ask
         (info_words (B.state board.now).content cpu found.now (Some ask)) cmd.now) }
-    ensures reply { HasTaken reply.old [] → HasTaken reply.new (if result == 0
+    ensures reply { HasTakenBytes reply.old [] → HasTakenBytes reply.new (if result == 0
         then bytes_of (info_words (B.state board.now).content cpu found.now (Some ask)) else []) }
     ensures few { result ≡ 0 → 4 * length
         (info_words (B.state board.now).content cpu found.now (Some ask)) < 2 ^ 32 }
@@ -84,7 +84,7 @@ fn put_info<B: Board>(
     // The prover takes the range of this field from its reading here: a reply is no longer than
     // the transfer length, which has 32 bits.
     let _most = cmd.transfer;
-    let table = table_of(found);
+    let table = table_of_found(found);
     let target = asked_target(board, pool, table, cpu, ask);
     let device = device_of(board, cpu);
     info_put(
@@ -115,7 +115,7 @@ fn info_reply<B: Board>(
     requires info { cmd.now.id ≡ INFO_ID }
     ensures status { result
         ≡ info_status (B.state board.now).content cpu found.now cmd.now payload.now }
-    ensures reply { HasTaken reply.old [] → HasTaken reply.new
+    ensures reply { HasTakenBytes reply.old [] → HasTakenBytes reply.new
         (info_reply result (B.state board.now).content cpu found.now cmd.now) }
     ensures few { length (info_reply result (B.state board.now).content cpu found.now cmd.now)
         < 2 ^ 32 }
@@ -142,7 +142,7 @@ pub fn serve_info<B: Board>(
     requires sound { ForSome found.now (λ f. IsSoundTable f.table
         (length (B.state board.now).content.flash / 4096)) }
     requires info { cmd.now.id ≡ INFO_ID }
-    ensures text { line.new.bytes ≡ info_text
+    ensures text { line.new.bytes ≡ info_line
         (info_status (B.state board.now).content cpu found.now cmd.now payload.now)
         (B.state board.now).content cpu found.now cmd.now }
     ensures kept { KeepsOut pool.old pool.new }

@@ -7,18 +7,15 @@
 #![tactic(auto)]
 
 mod booting;
-pub mod command_examples;
 mod commands;
-pub mod download_examples;
 mod entering;
+pub mod examples;
 mod found;
 mod infos;
+pub mod laws;
 mod machine;
 mod parts;
 mod placing;
-pub mod play_examples;
-pub mod run_examples;
-pub mod run_laws;
 mod serving;
 mod state;
 mod stepping;

@@ -2,10 +2,10 @@
 
 ghost use Rattle.std.specs.Prelude.{◌≡◌, ◌≤◌, IsTrue, None, length, true};
 ghost use Rattle.sector_pool.specs.Pool.{free_count};
-ghost use Rattle.boot_script.specs.Events.{IsWritable, event_from};
+ghost use Rattle.boot_script.specs.Events.{IsWritableEvent, event_from};
 ghost use Rattle.boot_machine.specs.Boots.{entered};
-ghost use Rattle.boot_machine.specs.Machines.{Machine as Model};
-ghost use Rattle.boot_machine.specs.Serving.{is_hosted, served};
+ghost use Rattle.boot_machine.specs.Machines.{MachineView as Model};
+ghost use Rattle.boot_machine.specs.Serving.{is_hosted, served_event};
 ghost use Rattle.boot_machine.specs.Standing.{IsStep, Serves, Stands, StandsAt};
 ghost use Rattle.boot_machine.specs.declared.state.State.TheVariants.{Off as POWERLESS, Bootsel as SERVING};
 
@@ -115,9 +115,9 @@ impl<B: Bench> Machine<B> {
     pub fn serve(&mut self, event: &Event<'_>, line: &mut ArrayString<320>) -> Option<BootKind>
         requires bootsel { self.old.state ≡ SERVING }
         requires hosted { is_hosted (event_from event.now) ≡ true }
-        requires writable { IsWritable (event_from event.now) }
+        requires writable { IsWritableEvent (event_from event.now) }
         ensures serves { Serves B.state B.history self.old
-            (λ c cpu host. served c cpu host (event_from event.now)) result self.new
+            (λ c cpu host. served_event c cpu host (event_from event.now)) result self.new
             line.new.bytes }
     {
         serve(&mut self.parts, event, line)
@@ -128,7 +128,7 @@ impl<B: Bench> Machine<B> {
     /// Lost power is the only thing that stops a step; it takes no memory. (RP2350 Datasheet,
     /// chapter 5, Bootrom; the profile and the texts are this project's own.)
     pub fn step(&mut self, event: &Event<'_>, line: &mut ArrayString<320>)
-        requires { IsWritable (event_from event.now) }
+        requires { IsWritableEvent (event_from event.now) }
         ensures { (m : Model) → Stands B.state self.old m
             → IsStep B.state B.history self.old m (event_from event.now) self.new line.new.bytes }
     {

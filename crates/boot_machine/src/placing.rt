@@ -10,16 +10,16 @@ ghost use Rattle.uf2_place.specs.Blocks.{IsUf2};
 ghost use Rattle.uf2_place.specs.Downloads.{IsTargetIn, lease_of};
 ghost use Rattle.uf2_place.specs.Rulings.{wanted};
 ghost use Rattle.boot_machine.specs.Machines.{Host, Placing};
-ghost use Rattle.boot_machine.specs.Serving.{answer_of, block_text, boot_of_accepted, done_boot, places, table_of, wanted_in};
+ghost use Rattle.boot_machine.specs.Serving.{boot_after_block, block_text, boot_of_accepted, done_boot, places, table_of_found, wanted_in};
 ghost use Rattle.boot_machine.specs.Standing.{Carries, HasRoom, IsDoneIn, IsServedBlock};
 
-use crate::found::table_of;
+use crate::found::table_of_found;
 use arrayvec::ArrayString;
-use boot_lines::{set_accepted, set_refusal};
 use boot_rules::{Found, Target, is_executable, target};
 use part_table::Table;
 use pico_board::{Board, BootKind, Cpu, FLASH_BASE, PowerLost};
 use sector_pool::SectorPool;
+use text_lines::{set_accepted, set_refusal};
 use uf2_place::{Accepted, Download, PlaceFault, Uf2};
 
 /// The boot that a download into this target asks for once it is done.
@@ -55,7 +55,7 @@ fn tell(
     answer: Result<Accepted, PlaceFault>,
 ) -> Result<Option<BootKind>, PowerLost>
     requires { IfOk answer IsDoneIn }
-    ensures answer { result ≡ answer_of block.now.family answer }
+    ensures answer { result ≡ boot_after_block block.now.family answer }
     ensures text { OnOk result (line.new.bytes ≡ block_text block.now.number answer) }
     ensures short { OnOk result (length line.new.bytes ≤ 132) }
 {
@@ -127,7 +127,7 @@ pub fn place_block<B: Board>(
     ensures target { ForSome download.new.current
         (λ c. IsTargetIn (length (B.state board.new).content.flash) c.target) }
 {
-    let table = table_of(found);
+    let table = table_of_found(found);
     let target = wanted_target(board, pool, download, table, cpu, block);
     let answer = download.accept(board, pool, table, target, block);
     tell(line, block, answer)

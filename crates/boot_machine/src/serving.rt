@@ -8,7 +8,7 @@ ghost use Rattle.info_reply.specs.declared.kinds.TheConstants.{INFO as INFO_ID};
 ghost use Rattle.ram_start.specs.Serving.{is_ram_command};
 ghost use Rattle.boot_script.specs.Events.{event_from};
 ghost use Rattle.boot_machine.specs.Moves.{lost_text};
-ghost use Rattle.boot_machine.specs.Serving.{command_served, is_hosted, places, served, serves, serves_host, serves_info, serves_ram, uf2_served};
+ghost use Rattle.boot_machine.specs.Serving.{command_served, is_hosted, places, served_event, serves, serves_host, serves_info, serves_ram, uf2_served};
 ghost use Rattle.boot_machine.specs.Standing.{HasRoom, IsLeft, IsRamStart, IsSteady, Serves};
 ghost use Rattle.boot_machine.specs.declared.state.State.TheVariants.{Bootsel as SERVING};
 
@@ -19,13 +19,13 @@ use crate::parts::Parts;
 use crate::placing::place_block;
 use crate::state::State;
 use arrayvec::ArrayString;
-use boot_lines::{set_form_fault, set_text};
 use boot_rules::Started;
 use boot_script::Event;
 use info_reply::kinds::INFO;
 use pico_board::{Board, BootKind, PowerLost};
 use picoboot_cmd::{Cmd, read_cmd};
 use ram_start::ram_asks;
+use text_lines::{set_form_fault, set_text};
 use uf2_place::{Uf2, read_uf2};
 
 /// Serves an info command.
@@ -236,7 +236,8 @@ pub fn serve<B: Board>(
     requires bootsel { parts.old.state ≡ SERVING }
     requires hosted { is_hosted (event_from event.now) ≡ true }
     ensures serves { Serves B.state B.history parts.old
-        (λ c cpu host. served c cpu host (event_from event.now)) result parts.new line.new.bytes }
+        (λ c cpu host. served_event c cpu host
+        (event_from event.now)) result parts.new line.new.bytes }
     ensures short { IfSome result (λ kind. length line.new.bytes ≤ 132) }
     ensures steady { IsSteady B.state parts.new }
 {

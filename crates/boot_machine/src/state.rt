@@ -7,9 +7,9 @@ use slot_choice::Member;
 /// What the machine is doing.
 #[derive(PartialEq, Eq, Debug, Drop)]
 pub enum State {
-    /// It has no power.
+    /// The machine has no power.
     Off,
-    /// It serves a host.
+    /// The machine is in BOOTSEL and serves a host.
     Bootsel,
     /// This image runs.
     Running(Started),

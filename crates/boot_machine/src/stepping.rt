@@ -5,10 +5,10 @@ ghost use Rattle.pico_board.specs.Cuts.{IsPattern};
 ghost use Rattle.uf2_place.specs.Downloads.{lease_of};
 ghost use Rattle.slot_choice.specs.declared.choice.Choice.{Choice};
 ghost use Rattle.boot_machine.specs.Serving.{is_hosted};
-ghost use Rattle.boot_script.specs.Events.{Happening, IsWritable, event_from};
-ghost use Rattle.boot_machine.specs.Machines.{FromFlash, Machine};
-ghost use Rattle.boot_machine.specs.Moves.{bought, buy_effect, reset};
-ghost use Rattle.boot_machine.specs.Standing.{Advances, Comes, HasRoom, IsHeld, IsRunning, IsStep, IsSteady, Stands, is_running, powerless, membership_of};
+ghost use Rattle.boot_script.specs.Events.{EventView, IsWritableEvent, event_from};
+ghost use Rattle.boot_machine.specs.Machines.{FromFlash, MachineView};
+ghost use Rattle.boot_machine.specs.Moves.{bought_choice, buy_effect, reset};
+ghost use Rattle.boot_machine.specs.Standing.{Advances, Comes, HasRoom, IsHeldChoice, IsRunning, IsStep, IsSteady, Stands, is_running, powerless, membership_of};
 ghost use Rattle.boot_machine.specs.declared.state.State.TheVariants.{Off as POWERLESS, Bootsel as SERVING};
 
 use crate::entering::{boot_into, lose, run};
@@ -16,11 +16,11 @@ use crate::parts::Parts;
 use crate::serving::serve;
 use crate::state::State;
 use arrayvec::ArrayString;
-use boot_lines::{put_text, set_text};
 use boot_rules::Choice;
 use boot_script::Event;
 use pico_board::{Bench, Board, BootKind, PowerLost};
 use std::mem;
+use text_lines::{put_text, set_text};
 use trial_buy::buy;
 
 /// A boot of this kind.
@@ -83,8 +83,8 @@ fn step_bootsel<B: Board>(parts: &mut Parts<B>, event: &Event<'_>, line: &mut Ar
 }
 
 /// The choice with its image bought.
-fn bought(choice: Choice) -> Choice
-    ensures { result ≡ bought choice }
+fn bought_choice(choice: Choice) -> Choice
+    ensures { result ≡ bought_choice choice }
 {
     let mut choice = choice;
     choice.image.trial = false;
@@ -96,7 +96,7 @@ fn buy_choice<B: Board>(parts: &mut Parts<B>, choice: Choice, line: &mut ArraySt
     requires power { IsTrue (B.state parts.old.board).powered }
     requires room { HasRoom parts.old.pool None }
     requires none { parts.old.download.current ≡ None }
-    requires held { IsHeld (B.state parts.old.board).content parts.old.cpu choice }
+    requires held { IsHeldChoice (B.state parts.old.board).content parts.old.cpu choice }
     ensures comes { Comes B.state B.history parts.old
         (buy_effect (B.state parts.old.board).content parts.old.cpu (FromFlash choice))
         parts.new line.new.bytes }
@@ -110,7 +110,7 @@ fn buy_choice<B: Board>(parts: &mut Parts<B>, choice: Choice, line: &mut ArraySt
     match buy(&mut parts.board, &mut parts.pool, parts.cpu, &choice) {
         Ok(()) => {
             set_text(line, "buy done");
-            run(parts, bought(choice));
+            run(parts, bought_choice(choice));
         }
         Err(PowerLost) => lose(parts, line),
     }
@@ -148,7 +148,7 @@ fn take_choice<B: Board>(parts: &mut Parts<B>) -> Option<Choice>
 fn step_buy<B: Board>(parts: &mut Parts<B>, line: &mut ArrayString<320>)
     requires steady { IsSteady B.state parts.old }
     requires running { is_running parts.old.state ≡ true }
-    ensures advances { Advances B.state B.history parts.old Happening.Buy parts.new line.new.bytes }
+    ensures advances { Advances B.state B.history parts.old EventView.Buy parts.new line.new.bytes }
     ensures steady { IsSteady B.state parts.new }
 {
     match take_choice(parts) {
@@ -196,8 +196,9 @@ fn arm<B: Bench>(
 )
     requires steady { IsSteady B.state parts.old }
     requires pattern { IsPattern within pattern.now }
-    ensures step { (m : Machine) → Stands B.state parts.old m → IsStep B.state B.history parts.old m
-        (Happening.Cut left within pattern.now) parts.new line.new.bytes }
+    ensures step { (m : MachineView) → Stands B.state parts.old m
+        → IsStep B.state B.history parts.old m
+        (EventView.Cut left within pattern.now) parts.new line.new.bytes }
     ensures steady { IsSteady B.state parts.new }
 {
     parts.board.arm_cut(left, within, pattern);
@@ -207,8 +208,9 @@ fn arm<B: Bench>(
 /// An event.
 pub fn step<B: Bench>(parts: &mut Parts<B>, event: &Event<'_>, line: &mut ArrayString<320>)
     requires steady { IsSteady B.state parts.old }
-    requires writable { IsWritable (event_from event.now) }
-    ensures step { (m : Machine) → Stands B.state parts.old m → IsStep B.state B.history parts.old m
+    requires writable { IsWritableEvent (event_from event.now) }
+    ensures step { (m : MachineView) → Stands B.state parts.old m
+        → IsStep B.state B.history parts.old m
         (event_from event.now) parts.new line.new.bytes }
     ensures steady { IsSteady B.state parts.new }
 {

@@ -1,4 +1,3 @@
-pub mod SlotLemmas
 pub mod TableReasonLemmas
 pub mod TookLemmas
 pub mod LookLemmas

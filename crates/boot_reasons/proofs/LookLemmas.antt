@@ -1,4 +1,4 @@
--- The looks of a boot at its units, by the function and in the words of the rules, and the choice that they make.
+-- The reports of a boot on its units, by the function and in the words of the rules, and the choice that they make.
 use Rattle.std.proofs.Common.{◌≡◌, ◌⊎◌, ℕ, zero, suc, ◌+◌, ◌-◌, Bool, true, false, cond, if◌then◌else◌, List, [], ◌∷◌, length, Option, Some, None, Result, Ok, Err, is_some, refl, sym, ap, ◌∙◌, subst, inl, inr, arith, option_and_then, option_map}
 use Rattle.std.specs.Option.{option_or}
 use Rattle.std.specs.Result.{result_ok}
@@ -20,25 +20,25 @@ use Rattle.boot_rules.specs.Choosing.{choice_of, images_in, member_image, of_bet
 use Rattle.boot_rules.specs.Chosen.{is_member}
 use Rattle.boot_rules.proofs.DecisionLemmas.{found-valid, valid-found}
 use Rattle.boot_rules.proofs.UnitLemmas.{counting, image-window, window-image}
-use Rattle.boot_reasons.specs.declared.looks.Look.{Look}
-use Rattle.boot_reasons.specs.declared.looks.Took.{Took}
+use Rattle.boot_reasons.specs.declared.looks.UnitReport.{UnitReport}
+use Rattle.boot_reasons.specs.declared.looks.TakenImage.{TakenImage}
 use Rattle.boot_reasons.specs.declared.looks.UnitReason.TheVariants.{Updated, Only, Version, Tie}
-use Rattle.boot_reasons.specs.Looks.{better_took, counted, first_choice, look_at, look_choice, looks_of, second_image, seen_image, took, took_choice, took_of}
-use Rattle.boot_reasons.specs.LookRules.{AreLooks, CountsIn, IsImageTold, IsLook, IsSecondTold, IsTook}
+use Rattle.boot_reasons.specs.Looks.{better_image, second_counted, first_choice, report_on, reported_choice, reports_of, second_image, reported_image, taken_image, taken_choice_of, taken_of}
+use Rattle.boot_reasons.specs.LookRules.{AreUnitReports, CountsIn, IsImageReported, IsUnitReport, IsSecondReported, IsTakenBy}
 use Rattle.boot_reasons.specs.Reasons.{results_in}
 use Rattle.boot_reasons.proofs.TookLemmas.{Tells, took-right, took-only}
 
 -- the image of a window
 pub image-told : (c : Content) (cpu : Cpu) (w : Window) (trial : Bool)
-    → IsImageTold c cpu w trial (image_at c w cpu trial)
+    → IsImageReported c cpu w trial (image_at c w cpu trial)
 image-told c cpu w trial = go (image_at c w cpu trial) refl
   where
-    go : (r : Result Started Why) → image_at c w cpu trial ≡ r → IsImageTold c cpu w trial r
+    go : (r : Result Started Why) → image_at c w cpu trial ≡ r → IsImageReported c cpu w trial r
     go (Ok s) is = valid-at c w cpu trial s is
     go (Err y) is = answered-why in_flash w cpu trial c.otp (window_bytes c w) y is
 
 pub told-image : (c : Content) (cpu : Cpu) (w : Window) (trial : Bool) (r : Result Started Why)
-    → IsImageTold c cpu w trial r → r ≡ image_at c w cpu trial
+    → IsImageReported c cpu w trial r → r ≡ image_at c w cpu trial
 told-image c cpu w trial (Ok s) is = sym (at-valid c w cpu trial s is)
 told-image c cpu w trial (Err y) is = sym ((why-exactly in_flash w cpu trial c.otp (window_bytes c w) y).0 is)
 
@@ -62,54 +62,56 @@ module _ (c : Content) (cpu : Cpu) (u : SlotUnit) (updated : Option Member) wher
       place : (m : Member) (s : Started) → CountsIn c cpu u updated m s → member_window m u ≡ Some s.window
       place m s k = k.stands ∙ ap Some (sym (valid-window c k.window cpu (is_member updated m) s k.valid))
 
-  pub second-counted : (o : Option Window) → counted (second_image (results_in c cpu) updated o)
+  pub second-counted : (o : Option Window) → second_counted (second_image (results_in c cpu) updated o)
       ≡ option_and_then (λ w. images_in c cpu w (is_member updated B)) o
   second-counted None = refl
   second-counted (Some w) = refl
 
-  second-told : (o : Option Window) → IsSecondTold c cpu updated o (second_image (results_in c cpu) updated o)
+  second-told : (o : Option Window) → IsSecondReported c cpu updated o (second_image (results_in c cpu) updated o)
   second-told None = refl
   second-told (Some w) = image-told c cpu w (is_member updated B)
 
-  told-second : (o : Option Window) (r : Option (Result Started Why)) → IsSecondTold c cpu updated o r
+  told-second : (o : Option Window) (r : Option (Result Started Why)) → IsSecondReported c cpu updated o r
       → r ≡ second_image (results_in c cpu) updated o
   told-second None r is = is
   told-second (Some w) None is = absurd is
   told-second (Some w) (Some r) is = ap Some (told-image c cpu w (is_member updated B) r is)
 
-  -- a look is right by the rules
-  pub look-right : IsLook c cpu u updated (look_at (results_in c cpu) u updated)
+  -- the report on a unit is right by the rules
+  pub look-right : IsUnitReport c cpu u updated (report_on (results_in c cpu) u updated)
   look-right = record {
     unit = refl;
     first = image-told c cpu u.a (is_member updated A);
     second = second-told u.b;
-    taken = subst (λ (o : Option Started). IsTook (CountsIn c cpu u updated) u updated (took_of updated (image A) o))
+    taken = subst (λ (o : Option Started). IsTakenBy (CountsIn c cpu u updated) u updated
+        (taken_of updated (image A) o))
         (sym (second-counted u.b)) (took-right (CountsIn c cpu u updated) u image tells updated);
   }
 
-  same-look : (x y : Look) → x.unit ≡ y.unit → x.first ≡ y.first → x.second ≡ y.second → x.taken ≡ y.taken → x ≡ y
+  same-look : (x y : UnitReport) → x.unit ≡ y.unit → x.first ≡ y.first → x.second ≡ y.second → x.taken ≡ y.taken → x ≡ y
   same-look x y e f g h =
       ap (λ v. record { unit = v; first = x.first; second = x.second; taken = x.taken }) e
       ∙ (ap (λ v. record { unit = y.unit; first = v; second = x.second; taken = x.taken }) f
       ∙ (ap (λ v. record { unit = y.unit; first = y.first; second = v; taken = x.taken }) g
       ∙ ap (λ v. record { unit = y.unit; first = y.first; second = y.second; taken = v }) h))
 
-  -- and no other one is
-  pub look-only : (look : Look) → IsLook c cpu u updated look → look ≡ look_at (results_in c cpu) u updated
+  -- no other one than that of the function is right by the rules
+  pub look-only : (look : UnitReport) → IsUnitReport c cpu u updated look
+      → look ≡ report_on (results_in c cpu) u updated
   look-only look is =
-      same-look look (look_at (results_in c cpu) u updated) is.unit
+      same-look look (report_on (results_in c cpu) u updated) is.unit
       (told-image c cpu u.a (is_member updated A) look.first is.first) (told-second u.b look.second is.second)
       (took-only (CountsIn c cpu u updated) u image tells updated look.taken is.taken
-      ∙ ap (took_of updated (image A)) (sym (second-counted u.b)))
+      ∙ ap (taken_of updated (image A)) (sym (second-counted u.b)))
 
--- the choice of a look is that of its unit
+-- the choice of a report is that of its unit
 module _ (u : SlotUnit) where
-  abbrev seen : Option Member → Result Started Why → Option (Result Started Why) → Look
+  abbrev seen : Option Member → Result Started Why → Option (Result Started Why) → UnitReport
   seen updated first second = record {
     unit = u;
     first = first;
     second = second;
-    taken = took_of updated (result_ok first) (counted second);
+    taken = taken_of updated (result_ok first) (second_counted second);
   }
 
   abbrev plain : Option Started → Option Started → Option Choice
@@ -118,17 +120,17 @@ module _ (u : SlotUnit) where
   abbrev updating : Member → Member → Option Started → Option Started → Option Choice
   updating m other a b = option_or (option_map (choice_of u m true) a) (option_map (choice_of u other false) b)
 
-  -- of two images by two tests
+  -- the choice of the report on a unit with two images, by two tests
   two-taken : (updated : Option Member) (s t : Started) (lower higher : Bool)
-      → took_choice (seen updated (Ok s) (Some (Ok t)))
-      (if lower then took B Version t else (if higher then took A Version s else took A Tie s))
+      → taken_choice_of (seen updated (Ok s) (Some (Ok t)))
+      (if lower then taken_image B Version t else (if higher then taken_image A Version s else taken_image A Tie s))
       ≡ of_better u (Some (if lower then B else A)) (Some s) (Some t)
   two-taken updated s t true higher = refl
   two-taken updated s t false true = refl
   two-taken updated s t false false = refl
 
   plain-choice : (first : Result Started Why) (second : Option (Result Started Why))
-      → look_choice (seen None first second) ≡ plain (result_ok first) (counted second)
+      → reported_choice (seen None first second) ≡ plain (result_ok first) (second_counted second)
   plain-choice (Ok s) None = refl
   plain-choice (Ok s) (Some (Ok t)) =
       two-taken None s t (is_below s.version t.version) (is_below t.version s.version)
@@ -138,7 +140,7 @@ module _ (u : SlotUnit) where
   plain-choice (Err x) (Some (Err y)) = refl
 
   first-choice : (first : Result Started Why) (second : Option (Result Started Why))
-      → look_choice (seen (Some A) first second) ≡ updating A B (result_ok first) (counted second)
+      → reported_choice (seen (Some A) first second) ≡ updating A B (result_ok first) (second_counted second)
   first-choice (Ok s) None = refl
   first-choice (Ok s) (Some (Ok t)) = refl
   first-choice (Ok s) (Some (Err y)) = refl
@@ -147,7 +149,7 @@ module _ (u : SlotUnit) where
   first-choice (Err x) (Some (Err y)) = refl
 
   second-choice : (first : Result Started Why) (second : Option (Result Started Why))
-      → look_choice (seen (Some B) first second) ≡ updating B A (counted second) (result_ok first)
+      → reported_choice (seen (Some B) first second) ≡ updating B A (second_counted second) (result_ok first)
   second-choice (Ok s) None = refl
   second-choice (Ok s) (Some (Ok t)) = refl
   second-choice (Ok s) (Some (Err y)) = refl
@@ -155,16 +157,17 @@ module _ (u : SlotUnit) where
   second-choice (Err x) (Some (Ok t)) = refl
   second-choice (Err x) (Some (Err y)) = refl
 
-  -- a look takes an image exactly where it makes a choice
+  -- a report has an image that is taken exactly where it makes a choice
   two-takes : (updated : Option Member) (s t : Started) (lower higher : Bool)
-      → (let o : Option Took = if lower then took B Version t else (if higher then took A Version s else took A Tie s)
-      in is_some o ≡ is_some (took_choice (seen updated (Ok s) (Some (Ok t))) o))
+      → (let o : Option TakenImage = if lower then taken_image B Version t else
+      (if higher then taken_image A Version s else taken_image A Tie s)
+      in is_some o ≡ is_some (taken_choice_of (seen updated (Ok s) (Some (Ok t))) o))
   two-takes updated s t true higher = refl
   two-takes updated s t false true = refl
   two-takes updated s t false false = refl
 
   pub takes-choice : (updated : Option Member) (first : Result Started Why) (second : Option (Result Started Why))
-      → is_some (seen updated first second).taken ≡ is_some (look_choice (seen updated first second))
+      → is_some (seen updated first second).taken ≡ is_some (reported_choice (seen updated first second))
   takes-choice None (Ok s) None = refl
   takes-choice None (Ok s) (Some (Ok t)) =
       two-takes None s t (is_below s.version t.version) (is_below t.version s.version)
@@ -186,7 +189,7 @@ module _ (u : SlotUnit) where
   takes-choice (Some B) (Err x) (Some (Err y)) = refl
 
 pub choice-of-unit : (c : Content) (cpu : Cpu) (u : SlotUnit) (updated : Option Member)
-    → look_choice (look_at (results_in c cpu) u updated) ≡ unit_choice (images_in c cpu) u updated
+    → reported_choice (report_on (results_in c cpu) u updated) ≡ unit_choice (images_in c cpu) u updated
 choice-of-unit c cpu u None =
     plain-choice u (image_at c u.a cpu false) (second_image (results_in c cpu) None u.b)
     ∙ ap (plain u (images_in c cpu u.a false)) (second-counted c cpu u None u.b)
@@ -197,19 +200,19 @@ choice-of-unit c cpu u (Some B) =
     second-choice u (image_at c u.a cpu false) (second_image (results_in c cpu) (Some B) u.b)
     ∙ ap (λ o. updating u B A o (images_in c cpu u.a false)) (second-counted c cpu u (Some B) u.b)
 
--- the choice of the first look that takes an image is that of the units
+-- the choice of the first report with an image that is taken is that of the units
 pub choice-of-units : (c : Content) (cpu : Cpu) (us : List SlotUnit) (updated : Option Member)
-    → first_choice (looks_of (results_in c cpu) us updated) ≡ ordered_choice (images_in c cpu) us updated
+    → first_choice (reports_of (results_in c cpu) us updated) ≡ ordered_choice (images_in c cpu) us updated
 choice-of-units c cpu [] updated = refl
 choice-of-units c cpu (u ∷ us) updated =
-    go (choice-of-units c cpu us None) (look_choice look) (choice-of-unit c cpu u updated) (is_some look.taken)
+    go (choice-of-units c cpu us None) (reported_choice look) (choice-of-unit c cpu u updated) (is_some look.taken)
     (takes-choice u updated look.first look.second)
   where
-    look : Look
-    look = look_at (results_in c cpu) u updated
+    look : UnitReport
+    look = report_on (results_in c cpu) u updated
 
-    rest : List Look
-    rest = looks_of (results_in c cpu) us None
+    rest : List UnitReport
+    rest = reports_of (results_in c cpu) us None
 
     go : first_choice rest ≡ ordered_choice (images_in c cpu) us None → (o : Option Choice)
         → o ≡ unit_choice (images_in c cpu) u updated
@@ -229,43 +232,44 @@ some-true o x e = ap is_some e
 one-less : (a b : ℕ) → suc a - suc b ≡ a - b
 one-less a b = omega arith
 
--- the looks are right by the rules
+-- the reports on units are right by the rules
 pub looks-right : (c : Content) (cpu : Cpu) (us : List SlotUnit) (updated : Option Member)
-    → AreLooks c cpu us updated (looks_of (results_in c cpu) us updated)
-    (length us - length (looks_of (results_in c cpu) us updated))
+    → AreUnitReports c cpu us updated (reports_of (results_in c cpu) us updated)
+    (length us - length (reports_of (results_in c cpu) us updated))
 looks-right c cpu [] updated = (refl, refl)
 looks-right c cpu (u ∷ us) updated = go (looks-right c cpu us None) look.taken refl
   where
-    look : Look
-    look = look_at (results_in c cpu) u updated
+    look : UnitReport
+    look = report_on (results_in c cpu) u updated
 
-    rest : List Look
-    rest = looks_of (results_in c cpu) us None
+    rest : List UnitReport
+    rest = reports_of (results_in c cpu) us None
 
-    go : AreLooks c cpu us None rest (length us - length rest) → (o : Option Took) → look.taken ≡ o
-        → AreLooks c cpu (u ∷ us) updated (look ∷ (if is_some o then [] else rest))
+    go : AreUnitReports c cpu us None rest (length us - length rest) → (o : Option TakenImage) → look.taken ≡ o
+        → AreUnitReports c cpu (u ∷ us) updated (look ∷ (if is_some o then [] else rest))
         (length (u ∷ us) - length (look ∷ (if is_some o then [] else rest)))
     go others (Some x) e =
         (look-right c cpu u updated, inl (some-true look.taken x e, refl, omega arith))
     go others None e = (
       look-right c cpu u updated,
-      inr (e, subst (λ n. AreLooks c cpu us None rest n) (sym (one-less (length us) (length rest))) others),
+      inr (e, subst (λ n. AreUnitReports c cpu us None rest n) (sym (one-less (length us) (length rest))) others),
     )
 
--- and no other ones are
-pub looks-only : (c : Content) (cpu : Cpu) (us : List SlotUnit) (updated : Option Member) (ls : List Look) (n : ℕ)
-    → AreLooks c cpu us updated ls n
-    → (ls ≡ looks_of (results_in c cpu) us updated) × (n ≡ length us - length (looks_of (results_in c cpu) us updated))
+-- no others than those of the function are right by the rules
+pub looks-only : (c : Content) (cpu : Cpu) (us : List SlotUnit) (updated : Option Member) (ls : List UnitReport) (n : ℕ)
+    → AreUnitReports c cpu us updated ls n
+    → (ls ≡ reports_of (results_in c cpu) us updated)
+    × (n ≡ length us - length (reports_of (results_in c cpu) us updated))
 looks-only c cpu [] updated ls n is = (is.0, is.1)
 looks-only c cpu (u ∷ us) updated [] n is = absurd is
 looks-only c cpu (u ∷ us) updated (l ∷ ls) n is =
     go (looks-only c cpu us None ls n) (look-only c cpu u updated l is.0) is.1
   where
-    look : Look
-    look = look_at (results_in c cpu) u updated
+    look : UnitReport
+    look = report_on (results_in c cpu) u updated
 
-    rest : List Look
-    rest = looks_of (results_in c cpu) us None
+    rest : List UnitReport
+    rest = reports_of (results_in c cpu) us None
 
     both : (o : Bool) → is_some look.taken ≡ o → l ≡ look → ls ≡ (if o then [] else rest)
         → n ≡ length (u ∷ us) - length (look ∷ (if o then [] else rest))
@@ -276,15 +280,15 @@ looks-only c cpu (u ∷ us) updated (l ∷ ls) n is =
       count ∙ ap (λ b. length (u ∷ us) - length (look ∷ (if b then [] else rest))) (sym e),
     )
 
-    go : (AreLooks c cpu us None ls n → (ls ≡ rest) × (n ≡ length us - length rest)) → l ≡ look
+    go : (AreUnitReports c cpu us None ls n → (ls ≡ rest) × (n ≡ length us - length rest)) → l ≡ look
         → ((is_some l.taken ≡ true) × (ls ≡ []) × (n ≡ length us))
-        ⊎ ((l.taken ≡ None) × AreLooks c cpu us None ls n)
+        ⊎ ((l.taken ≡ None) × AreUnitReports c cpu us None ls n)
         → (l ∷ ls ≡ look ∷ (if is_some look.taken then [] else rest))
         × (n ≡ length (u ∷ us) - length (look ∷ (if is_some look.taken then [] else rest)))
     go others same (inl (takes, none, count)) =
-        both true (ap (λ (x : Look). is_some x.taken) (sym same) ∙ takes) same none
+        both true (ap (λ (x : UnitReport). is_some x.taken) (sym same) ∙ takes) same none
         (count ∙ (let e : length us ≡ suc (length us) - 1 = omega arith in e))
     go others same (inr (none, are)) =
         let r = others are in
-        both false (ap (λ (x : Look). is_some x.taken) (sym same) ∙ ap is_some none) same r.0
+        both false (ap (λ (x : UnitReport). is_some x.taken) (sym same) ∙ ap is_some none) same r.0
         (r.1 ∙ sym (one-less (length us) (length rest)))

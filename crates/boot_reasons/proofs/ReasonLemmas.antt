@@ -14,21 +14,22 @@ use Rattle.boot_rules.specs.declared.decision.Fall.TheVariants.{FlashOff}
 use Rattle.boot_rules.specs.Choosing.{Order, boot_units_in, decision_in, decision_of, images_in, order_of, ordered_choice}
 use Rattle.boot_rules.specs.Chosen.{Chosen}
 use Rattle.boot_rules.proofs.DecisionLemmas.{chosen-decision, decision-chosen}
-use Rattle.boot_reasons.specs.declared.slots.SlotFault.{SlotFault}
-use Rattle.boot_reasons.specs.declared.slots.ToldTable.{ToldTable}
-use Rattle.boot_reasons.specs.declared.looks.Look.{Look}
+use Rattle.boot_rules.specs.declared.slots.SlotFault.{SlotFault}
+use Rattle.boot_reasons.specs.declared.slots.TableInForce.{TableInForce}
+use Rattle.boot_reasons.specs.declared.looks.UnitReport.{UnitReport}
 use Rattle.boot_reasons.specs.declared.reasons.Reasons.{Reasons}
 use Rattle.slot_choice.specs.declared.choice.Choice.{Choice}
-use Rattle.boot_reasons.specs.Slots.{slot_answer_in, told_table}
-use Rattle.boot_reasons.specs.Looks.{first_choice, looks_of}
-use Rattle.boot_reasons.specs.Reasons.{does_look, looked_decision, looks_in, order_in, order_where, reasons_in, results_in, told_table_in, unreached_in}
-use Rattle.boot_reasons.specs.Rules.{AreUnitsTold, FallsBefore, IsExplained}
-use Rattle.boot_reasons.proofs.SlotLemmas.{answer-right, answer-only}
+use Rattle.boot_rules.specs.Tables.{slot_answer_in}
+use Rattle.boot_reasons.specs.Slots.{table_in_force}
+use Rattle.boot_reasons.specs.Looks.{first_choice, reports_of}
+use Rattle.boot_reasons.specs.Reasons.{does_report, reported_decision, reports_in, order_in, order_where, reasons_in, results_in, table_in_force_in, unreached_in}
+use Rattle.boot_reasons.specs.Rules.{AreUnitsReported, FallsBefore, IsExplained}
+use Rattle.boot_rules.proofs.SlotLemmas.{answer-right, answer-only}
 use Rattle.boot_reasons.proofs.TableReasonLemmas.{told-from, told-only, told-right}
 use Rattle.boot_reasons.proofs.LookLemmas.{choice-of-units, looks-right, looks-only}
 
 -- a boot looks at units exactly where it does not fall before
-pub looks-reach : (c : Content) (kind : BootKind) → does_look kind (flash_off c.otp) ≡ true → FallsBefore c kind → ⊥
+pub looks-reach : (c : Content) (kind : BootKind) → does_report kind (flash_off c.otp) ≡ true → FallsBefore c kind → ⊥
 looks-reach c AskBootsel e falls = cc
 looks-reach c Normal e (inl never) = cc
 looks-reach c Normal e (inr off) = absurd (apart (flash_off c.otp) off e)
@@ -47,15 +48,15 @@ off-of : (b : Bool) → not b ≡ false → b ≡ true
 off-of true e = refl
 off-of false e = cc
 
-pub falls-before : (c : Content) (kind : BootKind) → does_look kind (flash_off c.otp) ≡ false → FallsBefore c kind
+pub falls-before : (c : Content) (kind : BootKind) → does_report kind (flash_off c.otp) ≡ false → FallsBefore c kind
 falls-before c AskBootsel e = inl refl
 falls-before c Normal e = inr (off-of (flash_off c.otp) e)
 falls-before c (Update base) e = inr (off-of (flash_off c.otp) e)
 
--- the looks, by whether a boot looks at units
-abbrev pub looks_where : Content → Cpu → BootKind → Bool → List Look
+-- the reports, by whether a boot looks at units
+abbrev pub looks_where : Content → Cpu → BootKind → Bool → List UnitReport
 looks_where c cpu kind does =
-    looks_of (results_in c cpu) (order_where does kind c cpu).units (order_where does kind c cpu).updated
+    reports_of (results_in c cpu) (order_where does kind c cpu).units (order_where does kind c cpu).updated
 
 abbrev unreached_where : Content → Cpu → BootKind → Bool → ℕ
 unreached_where c cpu kind does =
@@ -63,22 +64,23 @@ unreached_where c cpu kind does =
 
 -- what the units tell is right by the rules
 units-right : (c : Content) (cpu : Cpu) (kind : BootKind)
-    → AreUnitsTold c cpu kind (looks_in c cpu kind) (unreached_in c cpu kind)
-units-right c cpu kind = go (does_look kind (flash_off c.otp)) refl
+    → AreUnitsReported c cpu kind (reports_in c cpu kind) (unreached_in c cpu kind)
+units-right c cpu kind = go (does_report kind (flash_off c.otp)) refl
   where
-    go : (does : Bool) → does_look kind (flash_off c.otp) ≡ does
-        → AreUnitsTold c cpu kind (looks_where c cpu kind does) (unreached_where c cpu kind does)
+    go : (does : Bool) → does_report kind (flash_off c.otp) ≡ does
+        → AreUnitsReported c cpu kind (looks_where c cpu kind does) (unreached_where c cpu kind does)
     go true e = inr (
       looks-reach c kind e,
       looks-right c cpu (order_of kind (boot_units_in c cpu)).units (order_of kind (boot_units_in c cpu)).updated,
     )
     go false e = inl (falls-before c kind e, refl, refl)
 
-pub units-only : (c : Content) (cpu : Cpu) (kind : BootKind) (ls : List Look) (n : ℕ) → AreUnitsTold c cpu kind ls n
-    → (ls ≡ looks_in c cpu kind) × (n ≡ unreached_in c cpu kind)
-units-only c cpu kind ls n is = go (does_look kind (flash_off c.otp)) refl is
+pub units-only : (c : Content) (cpu : Cpu) (kind : BootKind) (ls : List UnitReport) (n : ℕ)
+    → AreUnitsReported c cpu kind ls n
+    → (ls ≡ reports_in c cpu kind) × (n ≡ unreached_in c cpu kind)
+units-only c cpu kind ls n is = go (does_report kind (flash_off c.otp)) refl is
   where
-    go : (does : Bool) → does_look kind (flash_off c.otp) ≡ does → AreUnitsTold c cpu kind ls n
+    go : (does : Bool) → does_report kind (flash_off c.otp) ≡ does → AreUnitsReported c cpu kind ls n
         → (ls ≡ looks_where c cpu kind does) × (n ≡ unreached_where c cpu kind does)
     go true e (inl told) = absurd (looks-reach c kind e told.0)
     go true e (inr told) =
@@ -87,9 +89,9 @@ units-only c cpu kind ls n is = go (does_look kind (flash_off c.otp)) refl is
     go false e (inl told) = (told.1, told.2)
     go false e (inr told) = absurd (told.0 (falls-before c kind e))
 
--- the decision is that of the first look that takes an image
+-- the decision is that of the first report with an image that is taken
 pub decision-is : (c : Content) (cpu : Cpu) (kind : BootKind)
-    → looked_decision kind (flash_off c.otp) (first_choice (looks_in c cpu kind)) ≡ decision_in c cpu kind
+    → reported_decision kind (flash_off c.otp) (first_choice (reports_in c cpu kind)) ≡ decision_in c cpu kind
 unfolding decision_in
 decision-is c cpu AskBootsel = refl
 decision-is c cpu Normal = by (flash_off c.otp) refl
@@ -133,7 +135,7 @@ same-reasons : (a b : Reasons) → a.decision ≡ b.decision → a.required ≡ 
 same-reasons a b e1 e2 e3 e4 e5 e6 e7 e8 e9 = joined _ _ _ _ _ _ _ _ _ _ _ _ _ _ _ _ _ _ e1 e2 e3 e4 e5 e6 e7 e8 e9
   where
     joined : (d d' : Decision) (q q' o o' : Bool) (s s' : ℕ) (f f' g g' : Result Table SlotFault)
-        (t t' : Option ToldTable) (l l' : ArrayVec Look) (n n' : ℕ)
+        (t t' : Option TableInForce) (l l' : ArrayVec UnitReport) (n n' : ℕ)
         → d ≡ d' → q ≡ q' → o ≡ o' → s ≡ s' → f ≡ f' → g ≡ g' → t ≡ t' → l ≡ l' → n ≡ n'
         → (let x : Reasons = record {
           decision = d;
@@ -159,10 +161,10 @@ same-reasons a b e1 e2 e3 e4 e5 e6 e7 e8 e9 = joined _ _ _ _ _ _ _ _ _ _ _ _ _ _
         } in x ≡ y)
     joined d d' q q' o o' s s' f f' g g' t t' l l' n n' e1 e2 e3 e4 e5 e6 e7 e8 e9 = cc
 
-same-looks : (a : ArrayVec Look) (ls : List Look) → a.items ≡ ls → a ≡ record { items = ls }
+same-looks : (a : ArrayVec UnitReport) (ls : List UnitReport) → a.items ≡ ls → a ≡ record { items = ls }
 same-looks a ls e = ap (λ xs. record { items = xs }) e
 
--- and no other ones are
+-- no others than those of the function are right by the rules
 pub reasons-only : (c : Content) (cpu : Cpu) (kind : BootKind) (r : Reasons) → IsExplained c cpu kind r
     → r ≡ reasons_in c cpu kind
 unfolding reasons_in
@@ -171,14 +173,14 @@ reasons-only c cpu kind r is =
     same-reasons r (reasons_in c cpu kind)
     (chosen-decision c cpu kind r.decision is.decision ∙ sym (decision-is c cpu kind)) is.required is.off is.size
     (answer-only c 0 r.first is.first) (answer-only c 1 r.second is.second) (told-only c r.table is.table)
-    (same-looks r.looks (looks_in c cpu kind) units.0) units.1
+    (same-looks r.looks (reports_in c cpu kind) units.0) units.1
 
 -- the reasons by what the parts of the code answer
 pub reasons-from : (c : Content) (cpu : Cpu) (kind : BootKind) (choice : Option Choice) (d : Decision) (q o : Bool)
-    (s : ℕ) (f g : Result Table SlotFault) (t : Option ToldTable) (l : ArrayVec Look) (n : ℕ)
-    → choice ≡ first_choice l.items → d ≡ looked_decision kind o choice → q ≡ rollback_required c.otp
+    (s : ℕ) (f g : Result Table SlotFault) (t : Option TableInForce) (l : ArrayVec UnitReport) (n : ℕ)
+    → choice ≡ first_choice l.items → d ≡ reported_decision kind o choice → q ≡ rollback_required c.otp
     → o ≡ flash_off c.otp → s ≡ slot_size c.otp (length c.flash) → f ≡ slot_answer_in c 0 → g ≡ slot_answer_in c 1
-    → t ≡ told_table (result_ok f) (result_ok g) → l.items ≡ looks_in c cpu kind → n ≡ unreached_in c cpu kind
+    → t ≡ table_in_force (result_ok f) (result_ok g) → l.items ≡ reports_in c cpu kind → n ≡ unreached_in c cpu kind
     → (let r : Reasons = record {
       decision = d;
       required = q;
@@ -203,6 +205,6 @@ reasons-from c cpu kind choice d q o s f g t l n e0 e1 e2 e3 e4 e5 e6 e7 e8 e9 =
       looks = l;
       unreached = n;
     } in same-reasons r (reasons_in c cpu kind)
-    (e1 ∙ (ap (looked_decision kind o) (e0 ∙ ap first_choice e8)
-    ∙ ap (λ x. looked_decision kind x (first_choice (looks_in c cpu kind))) e3)) e2 e3 e4 e5 e6
-    (told-from c f g t e5 e6 e7) (same-looks l (looks_in c cpu kind) e8) e9
+    (e1 ∙ (ap (reported_decision kind o) (e0 ∙ ap first_choice e8)
+    ∙ ap (λ x. reported_decision kind x (first_choice (reports_in c cpu kind))) e3)) e2 e3 e4 e5 e6
+    (told-from c f g t e5 e6 e7) (same-looks l (reports_in c cpu kind) e8) e9

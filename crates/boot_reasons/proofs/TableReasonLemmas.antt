@@ -1,10 +1,8 @@
 -- Whose table is that of the flash, and why, by the function and in the words of the rules.
 use Rattle.std.proofs.Common.{◌≡◌, ◌≢◌, ◌⊎◌, ◌↔◌, ℕ, zero, suc, Bool, true, false, ◌||◌, not, if◌then◌else◌, Option, Some, None, refl, sym, ap, ◌∙◌, subst, inl, inr}
-use Rattle.std.specs.Prelude.{IfSome, Result, length, option_map, ◌/◌}
-use Rattle.part_table.specs.Sound.{IsSoundFor, IsSoundTable}
-use Rattle.boot_rules.proofs.TableLemmas.{found-some}
-use Rattle.boot_reasons.specs.declared.slots.SlotFault.{SlotFault}
-use Rattle.boot_reasons.specs.Reasons.{told_table_in}
+use Rattle.std.specs.Prelude.{Result, option_map}
+use Rattle.boot_rules.specs.declared.slots.SlotFault.{SlotFault}
+use Rattle.boot_reasons.specs.Reasons.{table_in_force_in}
 use Rattle.std.specs.Result.{result_ok}
 use Rattle.std.proofs.lemmas.Option.{same_Some}
 use Rattle.pico_board.specs.Content.{Content}
@@ -13,28 +11,28 @@ use Rattle.part_table.specs.declared.table.Table.{Table}
 use Rattle.slot_choice.specs.Versions.{is_below}
 use Rattle.slot_choice.proofs.VersionLemmas.{irreflexive, total}
 use Rattle.boot_rules.specs.declared.tables.Found.{Found}
-use Rattle.boot_rules.specs.Tables.{found_of, table_in}
+use Rattle.boot_rules.specs.Tables.{found_of, slot_answer_in, table_in}
 use Rattle.boot_rules.specs.TableRules.{IsSlotTable, IsTableIn}
 use Rattle.boot_rules.proofs.TableRuleLemmas.{table-words}
 use Rattle.boot_reasons.specs.declared.slots.TableReason.{TableReason}
 use Rattle.boot_reasons.specs.declared.slots.TableReason.TheVariants.{Only, Singleton, Version, Tie}
-use Rattle.boot_reasons.specs.declared.slots.ToldTable.{ToldTable}
-use Rattle.boot_reasons.specs.Slots.{slot_answer_in, taken_table, told, told_table}
-use Rattle.boot_reasons.specs.SlotRules.{IsOnlyTable, HasSingleton, AreOfTwoVersions, AreOfOneVersion, IsTableReason, IsTableTold}
-use Rattle.boot_reasons.proofs.SlotLemmas.{has-table, table-has, table-found}
+use Rattle.boot_reasons.specs.declared.slots.TableInForce.{TableInForce}
+use Rattle.boot_reasons.specs.Slots.{taken_table, in_force, table_in_force}
+use Rattle.boot_reasons.specs.SlotRules.{IsOnlyTable, HasSingleton, AreOfTwoVersions, AreOfOneVersion, IsTableReason, IsTableInForce}
+use Rattle.boot_rules.proofs.SlotLemmas.{has-table, table-has, table-found}
 
--- of two tables by the three tests
-abbrev told_by : Bool → Bool → Bool → Option ToldTable
+-- the table in force of two tables, by the three tests
+abbrev told_by : Bool → Bool → Bool → Option TableInForce
 told_by singleton lower higher =
-    if singleton then told 0 Singleton
-    else (if lower then told 1 Version else (if higher then told 0 Version else told 0 Tie))
+    if singleton then in_force 0 Singleton
+    else (if lower then in_force 1 Version else (if higher then in_force 0 Version else in_force 0 Tie))
 
 abbrev found_by : Bool → Bool → Table → Table → Option Found
 found_by singleton lower t u =
     if singleton || not lower then Some (record { slot = 0; table = t })
     else Some (record { slot = 1; table = u })
 
--- the table that is told is the one that is found
+-- the table in force is the one that is found
 taken-by : (singleton lower higher : Bool) (t u : Table)
     → taken_table (told_by singleton lower higher) (Some t) (Some u)
     ≡ option_map (λ (f : Found). f.table) (found_by singleton lower t u)
@@ -43,7 +41,7 @@ taken-by false true higher t u = refl
 taken-by false false true t u = refl
 taken-by false false false t u = refl
 
-pub taken-found : (a b : Option Table) → taken_table (told_table a b) a b
+pub taken-found : (a b : Option Table) → taken_table (table_in_force a b) a b
     ≡ option_map (λ (f : Found). f.table) (found_of a b)
 taken-found None None = refl
 taken-found None (Some u) = refl
@@ -52,7 +50,7 @@ taken-found (Some t) (Some u) =
     taken-by t.singleton (is_below t.version u.version) (is_below u.version t.version) t u
 
 pub taken-in : (c : Content)
-    → taken_table (told_table (result_ok (slot_answer_in c 0)) (result_ok (slot_answer_in c 1)))
+    → taken_table (table_in_force (result_ok (slot_answer_in c 0)) (result_ok (slot_answer_in c 1)))
     (result_ok (slot_answer_in c 0)) (result_ok (slot_answer_in c 1))
     ≡ option_map (λ (f : Found). f.table) (table_in c)
 taken-in c = taken-found (result_ok (slot_answer_in c 0)) (result_ok (slot_answer_in c 1))
@@ -83,7 +81,7 @@ none-some x e = cc
 true-false : (x : Bool) → x ≡ true → x ≡ false → ⊥
 true-false x e f = cc
 
--- of two tables
+-- the table in force of two tables
 module _ (c : Content) (t u : Table) (are : AreSlotTables c (Some t) (Some u)) where
   one : IsSlotTable c 0 t
   one = are.one_is t refl
@@ -118,7 +116,7 @@ module _ (c : Content) (t u : Table) (are : AreSlotTables c (Some t) (Some u)) w
       ∙ ap (λ x. found_by singleton x t u) l
 
   pair-right : (singleton lower higher : Bool) → t.singleton ≡ singleton → is_below t.version u.version ≡ lower
-      → is_below u.version t.version ≡ higher → IsTableTold c (told_by singleton lower higher)
+      → is_below u.version t.version ≡ higher → IsTableInForce c (told_by singleton lower higher)
   pair-right true lower higher s l h = ((t, are.found_is _ (at true lower s l)), ((λ only. only u two), (t, one, s)))
   pair-right false true higher s l h = (
     (u, are.found_is _ (at false true s l)),
@@ -134,18 +132,18 @@ module _ (c : Content) (t u : Table) (are : AreSlotTables c (Some t) (Some u)) w
         ((λ only. only u two), single s, agree same, (t, u, one, two, same)),
       )
 
-right-of : (c : Content) (a b : Option Table) → AreSlotTables c a b → IsTableTold c (told_table a b)
+right-of : (c : Content) (a b : Option Table) → AreSlotTables c a b → IsTableInForce c (table_in_force a b)
 right-of c None None are = λ found is. none-some found (are.is_found found is)
 right-of c None (Some u) are = ((u, are.found_is _ refl), λ v is. none-some v (are.is_one v is))
 right-of c (Some t) None are = ((t, are.found_is _ refl), λ v is. none-some v (are.is_two v is))
 right-of c (Some t) (Some u) are = pair-right c t u are _ _ _ refl refl refl
 
--- what is told is right by the rules
+-- the table in force, and why it is, are right by the rules
 pub told-right : (c : Content)
-    → IsTableTold c (told_table (result_ok (slot_answer_in c 0)) (result_ok (slot_answer_in c 1)))
+    → IsTableInForce c (table_in_force (result_ok (slot_answer_in c 0)) (result_ok (slot_answer_in c 1)))
 told-right c = right-of c _ _ (slot-tables c)
 
--- and nothing else is
+-- no two different reasons are right by the rules
 reason-once : (c : Content) (slot : ℕ) (r q : TableReason) → IsTableReason c slot r → IsTableReason c slot q → r ≡ q
 reason-once c slot Only Only x y = refl
 reason-once c slot Only Singleton x y = absurd (y.0 x)
@@ -164,11 +162,11 @@ reason-once c slot Tie Singleton x y = absurd (x.1 y.1)
 reason-once c slot Tie Version x y = absurd (x.2 y.2)
 reason-once c slot Tie Tie x y = refl
 
-same-told : (x y : ToldTable) → x.slot ≡ y.slot → x.because ≡ y.because → x ≡ y
+same-told : (x y : TableInForce) → x.slot ≡ y.slot → x.because ≡ y.because → x ≡ y
 same-told x y e f = ap (λ s. record { slot = s; because = x.because }) e
     ∙ ap (λ r. record { slot = y.slot; because = r }) f
 
-told-once : (c : Content) (x y : Option ToldTable) → IsTableTold c x → IsTableTold c y → x ≡ y
+told-once : (c : Content) (x y : Option TableInForce) → IsTableInForce c x → IsTableInForce c y → x ≡ y
 told-once c None None p q = refl
 told-once c None (Some y) p q = absurd (p _ q.0.1)
 told-once c (Some x) None p q = absurd (q _ p.0.1)
@@ -179,33 +177,24 @@ told-once c (Some x) (Some y) p q =
     ap Some (same-told x y slot (reason-once c y.slot x.because y.because
     (subst (λ (s : ℕ). IsTableReason c s x.because) slot p.1) q.1))
 
-pub told-only : (c : Content) (x : Option ToldTable) → IsTableTold c x
-    → x ≡ told_table (result_ok (slot_answer_in c 0)) (result_ok (slot_answer_in c 1))
+pub told-only : (c : Content) (x : Option TableInForce) → IsTableInForce c x
+    → x ≡ table_in_force (result_ok (slot_answer_in c 0)) (result_ok (slot_answer_in c 1))
 told-only c x is = told-once c x _ is (told-right c)
 
--- the table of a content is sound
-sound-of : (n : ℕ) (o : Option Found) → IfSome o (λ f. IsSoundTable f.table (n / 4096))
-    → IsSoundFor (option_map (λ (f : Found). f.table) o) n
-sound-of n None sound = tt
-sound-of n (Some f) sound = sound
-
-pub sound-in : (c : Content) → IsSoundFor (option_map (λ (f : Found). f.table) (table_in c)) (length c.flash)
-sound-in c = sound-of (length c.flash) (table_in c) (found-some c (table_in c) refl)
-
--- the table that is told by the answers of the slots
-pub told-from : (c : Content) (a b : Result Table SlotFault) (k : Option ToldTable) → a ≡ slot_answer_in c 0
-    → b ≡ slot_answer_in c 1 → k ≡ told_table (result_ok a) (result_ok b)
-    → k ≡ told_table (result_ok (slot_answer_in c 0)) (result_ok (slot_answer_in c 1))
+-- the table in force by the answers of the slots
+pub told-from : (c : Content) (a b : Result Table SlotFault) (k : Option TableInForce) → a ≡ slot_answer_in c 0
+    → b ≡ slot_answer_in c 1 → k ≡ table_in_force (result_ok a) (result_ok b)
+    → k ≡ table_in_force (result_ok (slot_answer_in c 0)) (result_ok (slot_answer_in c 1))
 told-from c a b k ea eb ek =
-    ek ∙ (ap (λ (x : Result Table SlotFault). told_table (result_ok x) (result_ok b)) ea
-    ∙ ap (λ (x : Result Table SlotFault). told_table (result_ok (slot_answer_in c 0)) (result_ok x)) eb)
+    ek ∙ (ap (λ (x : Result Table SlotFault). table_in_force (result_ok x) (result_ok b)) ea
+    ∙ ap (λ (x : Result Table SlotFault). table_in_force (result_ok (slot_answer_in c 0)) (result_ok x)) eb)
 
-pub taken-from : (c : Content) (a b : Result Table SlotFault) (k : Option ToldTable) → a ≡ slot_answer_in c 0
-    → b ≡ slot_answer_in c 1 → k ≡ told_table (result_ok a) (result_ok b)
+pub taken-from : (c : Content) (a b : Result Table SlotFault) (k : Option TableInForce) → a ≡ slot_answer_in c 0
+    → b ≡ slot_answer_in c 1 → k ≡ table_in_force (result_ok a) (result_ok b)
     → taken_table k (result_ok a) (result_ok b) ≡ option_map (λ (f : Found). f.table) (table_in c)
 taken-from c a b k ea eb ek =
     ap (λ x. taken_table x (result_ok a) (result_ok b)) (told-from c a b k ea eb ek)
-    ∙ (ap (λ (x : Result Table SlotFault). taken_table (told_table_in c) (result_ok x) (result_ok b)) ea
+    ∙ (ap (λ (x : Result Table SlotFault). taken_table (table_in_force_in c) (result_ok x) (result_ok b)) ea
     ∙ (ap (λ (x : Result Table SlotFault).
-    taken_table (told_table_in c) (result_ok (slot_answer_in c 0)) (result_ok x)) eb
+    taken_table (table_in_force_in c) (result_ok (slot_answer_in c 0)) (result_ok x)) eb
     ∙ taken-in c))

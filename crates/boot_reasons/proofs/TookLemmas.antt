@@ -11,11 +11,11 @@ use Rattle.slot_choice.specs.Versions.{is_below}
 use Rattle.slot_choice.proofs.VersionLemmas.{irreflexive, total}
 use Rattle.boot_rules.specs.Choosing.{other_of}
 use Rattle.boot_rules.specs.Chosen.{is_member, IsBetter}
-use Rattle.boot_reasons.specs.declared.looks.Took.{Took}
+use Rattle.boot_reasons.specs.declared.looks.TakenImage.{TakenImage}
 use Rattle.boot_reasons.specs.declared.looks.UnitReason.{UnitReason}
 use Rattle.boot_reasons.specs.declared.looks.UnitReason.TheVariants.{Updated, Only, Version, Tie}
-use Rattle.boot_reasons.specs.Looks.{better_took, took, took_of}
-use Rattle.boot_reasons.specs.LookRules.{IsUpdatedOne, IsOnlyOne, IsGreaterOne, IsFirstOfEqual, IsReason, IsTaken, IsTook}
+use Rattle.boot_reasons.specs.Looks.{better_image, taken_image, taken_of}
+use Rattle.boot_reasons.specs.LookRules.{IsUpdatedOne, IsOnlyOne, IsGreaterOne, IsFirstOfEqual, IsReason, IsTakenImage, IsTakenBy}
 
 true-false : (x : Bool) → x ≡ true → x ≡ false → ⊥
 true-false x e f = cc
@@ -34,7 +34,7 @@ module _ (Has : Member → Started → Type 0) (u : SlotUnit) (image : Member �
   made : (updated : Option Member) (m : Member) (s : Started) (r : UnitReason) → Has m s
       → IsUpdatedOne updated m
       ⊎ ((t : Started) → Has (other_of m) t → (IsUpdatedOne updated (other_of m) → ⊥) × IsBetter m s.version t.version)
-      → IsReason Has updated m s r → IsTook Has u updated (took m r s)
+      → IsReason Has updated m s r → IsTakenBy Has u updated (taken_image m r s)
   made updated m s r has best reason =
       (s, record { counts = has; best = best }, tells.place m s has, reason)
 
@@ -47,7 +47,7 @@ module _ (Has : Member → Started → Type 0) (u : SlotUnit) (image : Member �
 
   -- where no image is the updated member's
   better-right : (updated : Option Member) → ((m : Member) (s : Started) → Has m s → IsUpdatedOne updated m → ⊥)
-      → (a b : Option Started) → image A ≡ a → image B ≡ b → IsTook Has u updated (better_took a b)
+      → (a b : Option Started) → image A ≡ a → image B ≡ b → IsTakenBy Has u updated (better_image a b)
   better-right updated never None None ia ib = none
     where
       none : (m : Member) (s : Started) → Has m s → ⊥
@@ -71,8 +71,8 @@ module _ (Has : Member → Started → Type 0) (u : SlotUnit) (image : Member �
       second = tells.from B t ib
 
       by : (lower higher : Bool) → is_below s.version t.version ≡ lower → is_below t.version s.version ≡ higher
-          → IsTook Has u updated
-          (if lower then took B Version t else (if higher then took A Version s else took A Tie s))
+          → IsTakenBy Has u updated
+          (if lower then taken_image B Version t else (if higher then taken_image A Version s else taken_image A Tie s))
       by true higher l h =
           made updated B t Version second
           (inr (λ x held. (
@@ -114,7 +114,7 @@ module _ (Has : Member → Started → Type 0) (u : SlotUnit) (image : Member �
   only-B none B s has is = lacks B none s has
 
   by-images : (updated : Option Member) (a b : Option Started) → image A ≡ a → image B ≡ b
-      → IsTook Has u updated (took_of updated a b)
+      → IsTakenBy Has u updated (taken_of updated a b)
   by-images None a b ia ib = better-right None none-updated a b ia ib
   by-images (Some A) None b ia ib = better-right (Some A) (only-A ia) None b ia ib
   by-images (Some A) (Some s) b ia ib = made (Some A) A s Updated (tells.from A s ia) (inl refl) refl
@@ -122,10 +122,10 @@ module _ (Has : Member → Started → Type 0) (u : SlotUnit) (image : Member �
   by-images (Some B) a (Some t) ia ib = made (Some B) B t Updated (tells.from B t ib) (inl refl) refl
 
   -- what is taken is right by the rules
-  pub took-right : (updated : Option Member) → IsTook Has u updated (took_of updated (image A) (image B))
+  pub took-right : (updated : Option Member) → IsTakenBy Has u updated (taken_of updated (image A) (image B))
   took-right updated = by-images updated (image A) (image B) refl refl
 
-  -- and nothing else is
+  -- no two different reasons are right by the rules
   reason-once : (updated : Option Member) (m : Member) (s : Started) (r q : UnitReason)
       → IsReason Has updated m s r → IsReason Has updated m s q → r ≡ q
   reason-once updated m s Updated Updated x y = refl
@@ -162,8 +162,8 @@ module _ (Has : Member → Started → Type 0) (u : SlotUnit) (image : Member �
   not-both B s t p q = true-false (is_below t.version s.version) p q
 
   -- two members are not both taken
-  not-two : (updated : Option Member) (m : Member) (s t : Started) → IsTaken Has updated m s
-      → IsTaken Has updated (other_of m) t → ⊥
+  not-two : (updated : Option Member) (m : Member) (s t : Started) → IsTakenImage Has updated m s
+      → IsTakenImage Has updated (other_of m) t → ⊥
   not-two updated m s t p q = by p.best q.best
     where
       back : Has (other_of (other_of m)) s
@@ -181,21 +181,22 @@ module _ (Has : Member → Started → Type 0) (u : SlotUnit) (image : Member �
       by (inr best) (inl two) = (best t q.counts).0 two
       by (inr best) (inr more) = not-both m s t (best t q.counts).1 (more s back).1
 
-  same-took : (x y : Took) → x.member ≡ y.member → x.window ≡ y.window → x.because ≡ y.because → x ≡ y
+  same-took : (x y : TakenImage) → x.member ≡ y.member → x.window ≡ y.window → x.because ≡ y.because → x ≡ y
   same-took x y e f g =
       ap (λ m. record { member = m; window = x.window; because = x.because }) e
       ∙ (ap (λ w. record { member = y.member; window = w; because = x.because }) f
       ∙ ap (λ r. record { member = y.member; window = y.window; because = r }) g)
 
-  -- the same member is taken
-  one-member : (updated : Option Member) (m n : Member) (s t : Started) → IsTaken Has updated m s
-      → IsTaken Has updated n t → m ≡ n
+  -- of one unit only one member is taken
+  one-member : (updated : Option Member) (m n : Member) (s t : Started) → IsTakenImage Has updated m s
+      → IsTakenImage Has updated n t → m ≡ n
   one-member updated A A s t p q = refl
   one-member updated A B s t p q = absurd (not-two updated A s t p q)
   one-member updated B A s t p q = absurd (not-two updated B s t p q)
   one-member updated B B s t p q = refl
 
-  took-once : (updated : Option Member) (x y : Option Took) → IsTook Has u updated x → IsTook Has u updated y → x ≡ y
+  took-once : (updated : Option Member) (x y : Option TakenImage) → IsTakenBy Has u updated x
+      → IsTakenBy Has u updated y → x ≡ y
   took-once updated None None p q = refl
   took-once updated None (Some y) p q = absurd (p y.member q.0 q.1.counts)
   took-once updated (Some x) None p q = absurd (q x.member p.0 p.1.counts)
@@ -210,6 +211,6 @@ module _ (Has : Member → Started → Type 0) (u : SlotUnit) (image : Member �
       (subst (λ (n : Member). IsReason Has updated n p.0 x.because) m p.3) in
       ap Some (same-took x y m w (reason-once updated y.member q.0 x.because y.because r q.3))
 
-  pub took-only : (updated : Option Member) (x : Option Took) → IsTook Has u updated x
-      → x ≡ took_of updated (image A) (image B)
+  pub took-only : (updated : Option Member) (x : Option TakenImage) → IsTakenBy Has u updated x
+      → x ≡ taken_of updated (image A) (image B)
   took-only updated x is = took-once updated x _ is (took-right updated)

@@ -1,4 +1,4 @@
--- Tables and images of the worked examples. This project's own.
+-- Tables and images of the worked examples.
 use Rattle.std.specs.Prelude.{ℕ, Bool, false, [], None}
 use Rattle.pico_board.specs.declared.window.Window.{Window}
 use Rattle.block_codec.specs.declared.versions.Version.{Version}
@@ -18,11 +18,11 @@ example_table major minor singleton = record {
 }
 
 -- the windows of A and B
-abbrev pub first_window : Window
-first_window = record { start = 0x2000; len = 0x2000 }
+abbrev pub window_of_a : Window
+window_of_a = record { start = 0x2000; len = 0x2000 }
 
-abbrev pub second_window : Window
-second_window = record { start = 0x4000; len = 0x2000 }
+abbrev pub window_of_b : Window
+window_of_b = record { start = 0x4000; len = 0x2000 }
 
 -- an image of this version in a window
 abbrev pub example_image : Window → ℕ → ℕ → Started

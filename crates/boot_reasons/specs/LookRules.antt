@@ -16,8 +16,8 @@ use Rattle.slot_choice.specs.Units.{member_window}
 use Rattle.slot_choice.specs.Versions.{is_below}
 use Rattle.boot_rules.specs.Choosing.{other_of}
 use Rattle.boot_rules.specs.Chosen.{is_member, IsBetter}
-use Rattle.boot_reasons.specs.declared.looks.Look.{Look}
-use Rattle.boot_reasons.specs.declared.looks.Took.{Took}
+use Rattle.boot_reasons.specs.declared.looks.UnitReport.{UnitReport}
+use Rattle.boot_reasons.specs.declared.looks.TakenImage.{TakenImage}
 use Rattle.boot_reasons.specs.declared.looks.UnitReason.{UnitReason}
 use Rattle.boot_reasons.specs.declared.looks.UnitReason.TheVariants.{Updated, Only, Version, Tie}
 
@@ -59,7 +59,7 @@ IsReason Has updated m s Tie =
 
 -- the image s of a member counts, and it is taken: it is the updated member's, or the other one's
 -- is neither the updated member's nor a better one
-pub record IsTaken (Has : Member → Started → Type 0) (updated : Option Member) (m : Member)
+pub record IsTakenImage (Has : Member → Started → Type 0) (updated : Option Member) (m : Member)
     (s : Started) : Type 0 where
   pub counts : Has m s
   pub best : IsUpdatedOne updated m
@@ -68,41 +68,43 @@ pub record IsTaken (Has : Member → Started → Type 0) (updated : Option Membe
 
 -- of the images that count this one is taken, which stands in a window of the unit, for its reason;
 -- or none counts
-abbrev pub IsTook : (Member → Started → Type 0) → SlotUnit → Option Member → Option Took → Type 0
-IsTook Has u updated None = (m : Member) (s : Started) → Has m s → ⊥
-IsTook Has u updated (Some taken) =
-    (s : Started) × IsTaken Has updated taken.member s
+abbrev pub IsTakenBy : (Member → Started → Type 0) → SlotUnit → Option Member → Option TakenImage
+    → Type 0
+IsTakenBy Has u updated None = (m : Member) (s : Started) → Has m s → ⊥
+IsTakenBy Has u updated (Some taken) =
+    (s : Started) × IsTakenImage Has updated taken.member s
     × (member_window taken.member u ≡ Some taken.window)
     × IsReason Has updated taken.member s taken.because
 
 -- the image of a window is valid, with trial allowed or not, or this rule is the first that fails
-abbrev pub IsImageTold : Content → Cpu → Window → Bool → Result Started Why → Type 0
-IsImageTold c cpu w trial (Ok s) = Valid c w cpu trial s
-IsImageTold c cpu w trial (Err why) = WhyNot c w cpu trial why
+abbrev pub IsImageReported : Content → Cpu → Window → Bool → Result Started Why → Type 0
+IsImageReported c cpu w trial (Ok s) = Valid c w cpu trial s
+IsImageReported c cpu w trial (Err why) = WhyNot c w cpu trial why
 
 -- the second member's image, where there is a second member
-abbrev pub IsSecondTold : Content → Cpu → Option Member → Option Window
+abbrev pub IsSecondReported : Content → Cpu → Option Member → Option Window
     → Option (Result Started Why) → Type 0
-IsSecondTold c cpu updated None image = image ≡ None
-IsSecondTold c cpu updated (Some w) None = ⊥
-IsSecondTold c cpu updated (Some w) (Some image) =
-    IsImageTold c cpu w (is_member updated B) image
+IsSecondReported c cpu updated None image = image ≡ None
+IsSecondReported c cpu updated (Some w) None = ⊥
+IsSecondReported c cpu updated (Some w) (Some image) =
+    IsImageReported c cpu w (is_member updated B) image
 
--- a look at a unit tells the image of each member, with trial allowed exactly in the updated one,
--- and which of those that count is taken
-pub record IsLook (c : Content) (cpu : Cpu) (u : SlotUnit) (updated : Option Member)
-    (look : Look) : Type 0 where
+-- the report on a unit tells the image of each member, with trial allowed exactly in the updated
+-- one, and which of those that count is taken
+pub record IsUnitReport (c : Content) (cpu : Cpu) (u : SlotUnit) (updated : Option Member)
+    (look : UnitReport) : Type 0 where
   pub unit : look.unit ≡ u
-  pub first : IsImageTold c cpu u.a (is_member updated A) look.first
-  pub second : IsSecondTold c cpu updated u.b look.second
-  pub taken : IsTook (CountsIn c cpu u updated) u updated look.taken
+  pub first : IsImageReported c cpu u.a (is_member updated A) look.first
+  pub second : IsSecondReported c cpu updated u.b look.second
+  pub taken : IsTakenBy (CountsIn c cpu u updated) u updated look.taken
 
 -- the units are looked at in this order, the updated member being one of the first of them, up to
 -- the first that takes an image; so many further ones are not reached
-abbrev pub AreLooks : Content → Cpu → List SlotUnit → Option Member → List Look → ℕ → Type 0
-AreLooks c cpu [] updated looks unreached = (looks ≡ []) × (unreached ≡ 0)
-AreLooks c cpu (u ∷ us) updated [] unreached = ⊥
-AreLooks c cpu (u ∷ us) updated (look ∷ rest) unreached =
-    IsLook c cpu u updated look
+abbrev pub AreUnitReports : Content → Cpu → List SlotUnit → Option Member → List UnitReport → ℕ
+    → Type 0
+AreUnitReports c cpu [] updated looks unreached = (looks ≡ []) × (unreached ≡ 0)
+AreUnitReports c cpu (u ∷ us) updated [] unreached = ⊥
+AreUnitReports c cpu (u ∷ us) updated (look ∷ rest) unreached =
+    IsUnitReport c cpu u updated look
     × ((IsSome look.taken × (rest ≡ []) × (unreached ≡ length us))
-    ⊎ ((look.taken ≡ None) × AreLooks c cpu us None rest unreached))
+    ⊎ ((look.taken ≡ None) × AreUnitReports c cpu us None rest unreached))

@@ -1,4 +1,4 @@
--- Why a boot decides as it does, as a function of the content. This project's own.
+-- Why a boot decides as it does, as a function of the content.
 use Rattle.std.specs.Prelude.{ℕ, ◌-◌, Bool, true, false, not, if◌then◌else◌, List, [], length, Option, None, Result, Ok, Err}
 use Rattle.std.specs.Result.{result_ok}
 use Rattle.pico_board.specs.declared.boot.Cpu.{Cpu}
@@ -16,22 +16,22 @@ use Rattle.boot_rules.specs.declared.decision.Decision.{Decision}
 use Rattle.boot_rules.specs.declared.decision.Decision.TheVariants.{Bootsel}
 use Rattle.boot_rules.specs.declared.decision.Fall.TheVariants.{Requested, FlashOff}
 use Rattle.boot_rules.specs.Choosing.{Order, boot_units_in, decision_of, order_of}
-use Rattle.boot_reasons.specs.declared.slots.SlotFault.{SlotFault}
-use Rattle.boot_reasons.specs.declared.slots.ToldTable.{ToldTable}
-use Rattle.boot_reasons.specs.declared.looks.Look.{Look}
+use Rattle.boot_reasons.specs.declared.slots.TableInForce.{TableInForce}
+use Rattle.boot_reasons.specs.declared.looks.UnitReport.{UnitReport}
 use Rattle.boot_reasons.specs.declared.reasons.Reasons.{Reasons}
-use Rattle.boot_reasons.specs.Slots.{slot_answer_in, taken_table, told_table}
-use Rattle.boot_reasons.specs.Looks.{first_choice, looks_of}
+use Rattle.boot_rules.specs.Tables.{slot_answer_in}
+use Rattle.boot_reasons.specs.Slots.{taken_table, table_in_force}
+use Rattle.boot_reasons.specs.Looks.{first_choice, reports_of}
 
 -- the image of each window of a content, or why there is none
 abbrev pub results_in : Content → Cpu → Window → Bool → Result Started Why
 results_in c cpu w trial = image_at c w cpu trial
 
 -- a boot looks at units where it does not ask for BOOTSEL and flash boot is on
-abbrev pub does_look : BootKind → Bool → Bool
-does_look AskBootsel off = false
-does_look Normal off = not off
-does_look (Update base) off = not off
+abbrev pub does_report : BootKind → Bool → Bool
+does_report AskBootsel off = false
+does_report Normal off = not off
+does_report (Update base) off = not off
 
 -- the units that a boot looks at, in their order, where it looks at any
 abbrev pub order_where : Bool → BootKind → Content → Cpu → Order
@@ -39,39 +39,40 @@ order_where true kind c cpu = order_of kind (boot_units_in c cpu)
 order_where false kind c cpu = record { units = []; updated = None }
 
 abbrev pub order_in : Content → Cpu → BootKind → Order
-order_in c cpu kind = order_where (does_look kind (flash_off c.otp)) kind c cpu
+order_in c cpu kind = order_where (does_report kind (flash_off c.otp)) kind c cpu
 
--- the looks of a boot at its units
-abbrev pub looks_in : Content → Cpu → BootKind → List Look
-looks_in c cpu kind =
-    let order = order_in c cpu kind in looks_of (results_in c cpu) order.units order.updated
+-- the reports of a boot on its units
+abbrev pub reports_in : Content → Cpu → BootKind → List UnitReport
+reports_in c cpu kind =
+    let order = order_in c cpu kind in reports_of (results_in c cpu) order.units order.updated
 
 -- how many units are not reached
 abbrev pub unreached_in : Content → Cpu → BootKind → ℕ
 unreached_in c cpu kind =
-    length (order_in c cpu kind).units - length (looks_in c cpu kind)
+    length (order_in c cpu kind).units - length (reports_in c cpu kind)
 
--- the decision by the choice of the first look that takes an image
-abbrev pub looked_decision : BootKind → Bool → Option Choice → Decision
-looked_decision AskBootsel off choice = Bootsel Requested
-looked_decision Normal off choice = if off then Bootsel FlashOff else decision_of choice
-looked_decision (Update base) off choice = if off then Bootsel FlashOff else decision_of choice
+-- the decision by the choice of the first report with an image that is taken
+abbrev pub reported_decision : BootKind → Bool → Option Choice → Decision
+reported_decision AskBootsel off choice = Bootsel Requested
+reported_decision Normal off choice = if off then Bootsel FlashOff else decision_of choice
+reported_decision (Update base) off choice = if off then Bootsel FlashOff else decision_of choice
 
 -- the slot whose table is that of the flash, and why
-abbrev pub told_table_in : Content → Option ToldTable
-told_table_in c = told_table (result_ok (slot_answer_in c 0)) (result_ok (slot_answer_in c 1))
+abbrev pub table_in_force_in : Content → Option TableInForce
+table_in_force_in c = table_in_force (result_ok (slot_answer_in c 0))
+    (result_ok (slot_answer_in c 1))
 
 -- the reasons of a boot
 unfoldable pub reasons_in : Content → Cpu → BootKind → Reasons
 reasons_in c cpu kind = record {
-  decision = looked_decision kind (flash_off c.otp) (first_choice (looks_in c cpu kind));
+  decision = reported_decision kind (flash_off c.otp) (first_choice (reports_in c cpu kind));
   required = rollback_required c.otp;
   off = flash_off c.otp;
   size = slot_size c.otp (length c.flash);
   first = slot_answer_in c 0;
   second = slot_answer_in c 1;
-  table = told_table_in c;
-  looks = record { items = looks_in c cpu kind };
+  table = table_in_force_in c;
+  looks = record { items = reports_in c cpu kind };
   unreached = unreached_in c cpu kind;
 }
 

@@ -1,4 +1,4 @@
--- Why a boot decides as it does, in the words of the rules. This project's own.
+-- Why a boot decides as it does, in the words of the rules.
 use Rattle.std.specs.Prelude.{◌≡◌, ◌⊎◌, ℕ, true, List, [], length, slice_get, Some, None}
 use Rattle.pico_board.specs.declared.boot.Cpu.{Cpu}
 use Rattle.pico_board.specs.declared.boot.BootKind.{BootKind}
@@ -10,12 +10,13 @@ use Rattle.boot_rules.specs.declared.decision.Decision.{Decision}
 use Rattle.boot_rules.specs.declared.decision.Decision.TheVariants.{Start}
 use Rattle.boot_rules.specs.Choosing.{boot_units_in, order_of}
 use Rattle.boot_rules.specs.Chosen.{Chosen}
-use Rattle.boot_reasons.specs.declared.looks.Look.{Look}
-use Rattle.boot_reasons.specs.declared.looks.Took.{Took}
+use Rattle.boot_reasons.specs.declared.looks.UnitReport.{UnitReport}
+use Rattle.boot_reasons.specs.declared.looks.TakenImage.{TakenImage}
 use Rattle.boot_reasons.specs.declared.reasons.Reasons.{Reasons}
-use Rattle.boot_reasons.specs.Looks.{is_update, seen_image}
-use Rattle.boot_reasons.specs.SlotRules.{IsSlotAnswer, IsTableTold}
-use Rattle.boot_reasons.specs.LookRules.{AreLooks}
+use Rattle.boot_reasons.specs.Looks.{is_update, reported_image}
+use Rattle.boot_rules.specs.TableRules.{IsSlotAnswer}
+use Rattle.boot_reasons.specs.SlotRules.{IsTableInForce}
+use Rattle.boot_reasons.specs.LookRules.{AreUnitReports}
 
 -- a boot falls before any unit is looked at: it asks for BOOTSEL, or flash boot is off
 abbrev pub FallsBefore : Content → BootKind → Type 0
@@ -23,11 +24,11 @@ FallsBefore c kind = (kind ≡ AskBootsel) ⊎ (flash_off c.otp ≡ true)
 
 -- no unit is looked at by a boot that falls before; another looks at the boot units of the content,
 -- in table order with the updated member's unit first, up to the first that takes an image
-abbrev pub AreUnitsTold : Content → Cpu → BootKind → List Look → ℕ → Type 0
-AreUnitsTold c cpu kind looks unreached =
+abbrev pub AreUnitsReported : Content → Cpu → BootKind → List UnitReport → ℕ → Type 0
+AreUnitsReported c cpu kind looks unreached =
     (FallsBefore c kind × (looks ≡ []) × (unreached ≡ 0))
     ⊎ ((FallsBefore c kind → ⊥)
-    × AreLooks c cpu (order_of kind (boot_units_in c cpu)).units
+    × AreUnitReports c cpu (order_of kind (boot_units_in c cpu)).units
     (order_of kind (boot_units_in c cpu)).updated looks unreached)
 
 -- the reasons of a boot tell the one decision that the rules name, the flags and the slot size of
@@ -40,17 +41,17 @@ pub record IsExplained (c : Content) (cpu : Cpu) (kind : BootKind) (r : Reasons)
   pub size : r.size ≡ slot_size c.otp (length c.flash)
   pub first : IsSlotAnswer c 0 r.first
   pub second : IsSlotAnswer c 1 r.second
-  pub table : IsTableTold c r.table
-  pub units : AreUnitsTold c cpu kind r.looks.items r.unreached
+  pub table : IsTableInForce c r.table
+  pub units : AreUnitsReported c cpu kind r.looks.items r.unreached
 
--- the decision starts the image that a look takes
-abbrev pub StartsTaken : Look → Took → Decision → Type 0
+-- the decision starts the image that is taken by the report on a unit
+abbrev pub StartsTaken : UnitReport → TakenImage → Decision → Type 0
 StartsTaken look taken d =
     (choice : Choice) × (d ≡ Start choice)
-    × (seen_image look taken.member ≡ Some choice.image)
+    × (reported_image look taken.member ≡ Some choice.image)
     × (choice.image.window ≡ taken.window) × (choice.member ≡ taken.member)
     × (choice.updated ≡ is_update taken.because)
 
--- no look takes an image
-abbrev pub TakeNone : List Look → Type 0
-TakeNone looks = (k : ℕ) (look : Look) → slice_get looks k ≡ Some look → look.taken ≡ None
+-- no report has an image that is taken
+abbrev pub TakeNone : List UnitReport → Type 0
+TakeNone looks = (k : ℕ) (look : UnitReport) → slice_get looks k ≡ Some look → look.taken ≡ None

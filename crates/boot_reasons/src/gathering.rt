@@ -6,28 +6,28 @@ ghost use Rattle.part_table.specs.Sound.{IsSoundTable};
 ghost use Rattle.sector_pool.specs.Keeping.{KeepsOut};
 ghost use Rattle.sector_pool.specs.Pool.{HasFree};
 ghost use Rattle.slot_choice.specs.Units.{units};
-ghost use Rattle.boot_rules.specs.Choosing.{decision_of, order_of};
-ghost use Rattle.boot_rules.specs.Tables.{table_in};
+ghost use Rattle.boot_rules.specs.Choosing.{order_of};
+ghost use Rattle.boot_rules.specs.Tables.{table_of_content};
 ghost use Rattle.boot_rules.specs.Picking.{AreInside};
-ghost use Rattle.boot_reasons.specs.Looks.{first_choice, looks_of};
-ghost use Rattle.boot_reasons.specs.Reasons.{does_look, looked_decision, looks_in, order_in, reasons_in, results_in, unreached_in};
+ghost use Rattle.boot_reasons.specs.Looks.{first_choice, reports_of};
+ghost use Rattle.boot_reasons.specs.Reasons.{does_report, reported_decision, reports_in, order_in, reasons_in, results_in, unreached_in};
 ghost use Rattle.boot_reasons.specs.Rules.{IsExplained};
 
-use crate::looking::{first_choice, looks_at};
-use crate::looks::Look;
+use crate::looking::{first_choice, reports_on};
+use crate::looks::UnitReport;
 use crate::reasons::Reasons;
-use crate::tables::{slot_answer, taken_table, told_table};
+use crate::tables::{table_in_force, taken_table};
 use arrayvec::ArrayVec;
-use boot_rules::{Decision, Fall};
+use boot_rules::{Decision, Fall, boot_units_by, decision_of, order_of, slot_answer};
 use otp_roll::{flash_off, required, slot_size};
 use part_table::Table;
 use pico_board::{Board, BootKind, Cpu};
 use sector_pool::SectorPool;
-use slot_choice::{Choice, Member, SlotUnit, boot_units, update_first};
+use slot_choice::{Choice, SlotUnit};
 
 /// Whether a boot looks at units.
-fn does_look(kind: BootKind, off: bool) -> bool
-    ensures { result ≡ does_look kind off }
+fn does_report(kind: BootKind, off: bool) -> bool
+    ensures { result ≡ does_report kind off }
 {
     match kind {
         BootKind::Bootsel => false,
@@ -35,37 +35,25 @@ fn does_look(kind: BootKind, off: bool) -> bool
     }
 }
 
-/// Brings the units into the order in which a boot of this kind looks at them, and names the
-/// updated member of the first one.
-fn order_of(units: &mut ArrayVec<SlotUnit, 15>, kind: BootKind) -> Option<Member>
-    ensures { order_of kind units.old.items ≡ record { units = units.new.items; updated = result } }
-{
-    match kind {
-        BootKind::Update(base) => update_first(units, base),
-        BootKind::Normal => None,
-        BootKind::Bootsel => None,
-    }
-}
-
-/// The looks of a boot at its units, and how many units are not reached.
+/// The reports of a boot on its units, and how many units are not reached.
 #[derive(Drop)]
-struct Looked {
-    looks: ArrayVec<Look, 15>,
+struct UnitReports {
+    looks: ArrayVec<UnitReport, 15>,
     unreached: u32,
 }
 
-/// The looks at boot units, which a boot of this kind brings into their order.
-fn looks_in_order<B: Board>(
+/// The reports on boot units, which a boot of this kind brings into their order.
+fn reports_in_order<B: Board>(
     board: &B,
     pool: &mut SectorPool,
     units: ArrayVec<SlotUnit, 15>,
     cpu: Cpu,
     kind: BootKind,
-) -> Looked
+) -> UnitReports
     requires power { IsTrue (B.state board.now).powered }
     requires free { HasFree pool.old }
     requires inside { All (AreInside (length (B.state board.now).content.flash)) units.items }
-    ensures looks { result.looks.items ≡ looks_of (results_in (B.state board.now).content cpu)
+    ensures looks { result.looks.items ≡ reports_of (results_in (B.state board.now).content cpu)
         (order_of kind units.items).units (order_of kind units.items).updated }
     ensures unreached { result.unreached
         ≡ length (order_of kind units.items).units - length result.looks.items }
@@ -73,50 +61,40 @@ fn looks_in_order<B: Board>(
 {
     let mut ordered = units;
     let updated = order_of(&mut ordered, kind);
-    let looks = looks_at(board, pool, ordered.as_slice(), updated, cpu);
+    let looks = reports_on(board, pool, ordered.as_slice(), updated, cpu);
     let unreached = (ordered.len() - looks.len()) as u32;
-    Looked { looks, unreached }
+    UnitReports { looks, unreached }
 }
 
-/// The looks of a boot of this kind, by the table of the flash.
-fn looked_in<B: Board>(
+/// The reports of a boot of this kind, by the table of the flash.
+fn reported_in<B: Board>(
     board: &B,
     pool: &mut SectorPool,
     table: Option<&Table>,
     cpu: Cpu,
     kind: BootKind,
-) -> Looked
+) -> UnitReports
     requires power { IsTrue (B.state board.now).powered }
     requires free { HasFree pool.old }
     requires table { option_map (λ t. t.now) table
-        ≡ option_map (λ found. found.table) (table_in (B.state board.now).content) }
-    ensures looks { result.looks.items ≡ looks_in (B.state board.now).content cpu kind }
+        ≡ table_of_content (B.state board.now).content }
+    ensures looks { result.looks.items ≡ reports_in (B.state board.now).content cpu kind }
     ensures unreached { result.unreached ≡ unreached_in (B.state board.now).content cpu kind }
     ensures kept { KeepsOut pool.old pool.new }
 {
-    if !does_look(kind, flash_off(board)) {
-        return Looked {
+    if !does_report(kind, flash_off(board)) {
+        return UnitReports {
             looks: ArrayVec::new(),
             unreached: 0,
         };
     }
-    let units = boot_units(table, board.flash_len(), slot_size(board), cpu);
-    looks_in_order(board, pool, units, cpu, kind)
+    let units = boot_units_by(board, table, cpu);
+    reports_in_order(board, pool, units, cpu, kind)
 }
 
-/// The decision of a choice.
-fn decision_of(choice: Option<Choice>) -> Decision
-    ensures { result ≡ decision_of choice }
-{
-    match choice {
-        Some(choice) => Decision::Start(choice),
-        None => Decision::Bootsel(Fall::NoImage),
-    }
-}
-
-/// The decision by the choice of the first look that takes an image.
-fn looked_decision(kind: BootKind, off: bool, choice: Option<Choice>) -> Decision
-    ensures { result ≡ looked_decision kind off choice }
+/// The decision by the choice of the first report with an image that is taken.
+fn reported_decision(kind: BootKind, off: bool, choice: Option<Choice>) -> Decision
+    ensures { result ≡ reported_decision kind off choice }
 {
     match kind {
         BootKind::Bootsel => Decision::Bootsel(Fall::Requested),
@@ -139,11 +117,11 @@ fn reasons_of<B: Board>(board: &B, pool: &mut SectorPool, cpu: Cpu, kind: BootKi
 {
     let first = slot_answer(board, 0);
     let second = slot_answer(board, 1);
-    let table = told_table(&first, &second);
-    let looked = looked_in(board, pool, taken_table(table, &first, &second), cpu, kind);
+    let table = table_in_force(&first, &second);
+    let looked = reported_in(board, pool, taken_table(table, &first, &second), cpu, kind);
     let off = flash_off(board);
     Reasons {
-        decision: looked_decision(kind, off, first_choice(looked.looks.as_slice())),
+        decision: reported_decision(kind, off, first_choice(looked.looks.as_slice())),
         required: required(board),
         off,
         size: slot_size(board),
@@ -155,10 +133,10 @@ fn reasons_of<B: Board>(board: &B, pool: &mut SectorPool, cpu: Cpu, kind: BootKi
     }
 }
 
-/// Why a boot decides as it does. Each slot is read once, and each member of a unit is judged once:
-/// the decision is that of the first look that takes an image, and nothing is judged twice for it.
-/// It takes no memory, and the pool keeps what is out. (RP2350 Datasheet, chapter 5, Bootrom; the
-/// reasons are this project's own.)
+/// Why a boot decides as it does. Each slot is read once, and each member of a unit is judged
+/// once: the decision is that of the first unit that takes an image, and nothing is judged twice
+/// for it. It takes no memory, and the pool keeps what is out. (RP2350 Datasheet, chapter 5,
+/// Bootrom; the reasons are this project's own.)
 pub fn gather<B: Board>(board: &B, pool: &mut SectorPool, cpu: Cpu, kind: BootKind) -> Reasons
     requires power { IsTrue (B.state board.now).powered }
     requires lease { HasFree pool.old }

@@ -2,9 +2,10 @@
 //! flash, which boot units are looked at in which order, which image each member has or which rule
 //! it fails first, and by which rule an image is taken.
 //!
-//! `specs/Slots` and `specs/Looks` have the reasons as functions, `specs/SlotRules`,
-//! `specs/LookRules` and `specs/Rules` in the words of the rules. The laws say that these are the
-//! same, and that the first unit that takes an image takes that of the decision.
+//! What a slot has or lacks is what `boot_rules` answers of it. `specs/Slots` and `specs/Looks`
+//! have the reasons as functions, `specs/SlotRules`, `specs/LookRules` and `specs/Rules` in the
+//! words of the rules. The laws say that these are the same, and that the first unit that takes an
+//! image takes that of the decision.
 #![tactic(auto)]
 
 pub mod examples;
@@ -16,8 +17,9 @@ mod reasons;
 mod slots;
 mod tables;
 
+pub use boot_rules::{SlotFault, slot_answer};
 pub use gathering::gather;
-pub use looks::{Look, Took, UnitReason};
+pub use looks::{TakenImage, UnitReason, UnitReport};
 pub use reasons::Reasons;
-pub use slots::{SlotFault, TableReason, ToldTable};
-pub use tables::{slot_answer, taken_table, told_table};
+pub use slots::{TableInForce, TableReason};
+pub use tables::{table_in_force, taken_table};

@@ -1,19 +1,18 @@
-//! Looks at boot units.
+//! Reports on boot units.
 
 ghost use Rattle.std.specs.Prelude.{◌≡◌, ◌≤◌, All, IfSome, IsTrue, None, Some, length, option_map};
 ghost use Rattle.std.specs.Result.{result_ok};
 ghost use Rattle.sector_pool.specs.Keeping.{KeepsOut};
 ghost use Rattle.sector_pool.specs.Pool.{HasFree};
 ghost use Rattle.boot_rules.specs.Chosen.{is_member};
-ghost use Rattle.boot_rules.specs.Choosing.{choice_of};
 ghost use Rattle.boot_rules.specs.Picking.{AreInside, IsInside};
-ghost use Rattle.boot_reasons.specs.Looks.{better_took, counted, first_choice, is_update, look_at, look_choice, looks_of, second_image, seen_image, took, took_of};
+ghost use Rattle.boot_reasons.specs.Looks.{better_image, second_counted, first_choice, is_update, report_on, reported_choice, reports_of, second_image, reported_image, taken_image, taken_of};
 ghost use Rattle.boot_reasons.specs.Reasons.{results_in};
 
-use crate::looks::{Look, Took, UnitReason};
+use crate::looks::{TakenImage, UnitReason, UnitReport};
 use arrayvec::ArrayVec;
 use block_codec::copy_rows;
-use boot_rules::{member_window, other_of};
+use boot_rules::choice_of;
 use image_check::{Started, Why, check};
 use pico_board::{Board, Cpu, Window};
 use sector_pool::SectorPool;
@@ -30,10 +29,10 @@ fn is_member(updated: Option<Member>, member: Member) -> bool
 }
 
 /// A member's image is taken.
-fn took(member: Member, because: UnitReason, image: &Started) -> Option<Took>
-    ensures { result ≡ took member because image.now }
+fn taken_image(member: Member, because: UnitReason, image: &Started) -> Option<TakenImage>
+    ensures { result ≡ taken_image member because image.now }
 {
-    Some(Took {
+    Some(TakenImage {
         member,
         window: image.window,
         because,
@@ -41,50 +40,51 @@ fn took(member: Member, because: UnitReason, image: &Started) -> Option<Took>
 }
 
 /// Which of two images that count is taken, and why, where neither is the updated member's.
-fn better_pair(first: &Started, second: &Started) -> Option<Took>
-    ensures { result ≡ better_took (Some first.now) (Some second.now) }
+fn better_pair(first: &Started, second: &Started) -> Option<TakenImage>
+    ensures { result ≡ better_image (Some first.now) (Some second.now) }
 {
     if is_below(first.version, second.version) {
-        return took(Member::B, UnitReason::Version, second);
+        return taken_image(Member::B, UnitReason::Version, second);
     }
     if is_below(second.version, first.version) {
-        return took(Member::A, UnitReason::Version, first);
+        return taken_image(Member::A, UnitReason::Version, first);
     }
-    took(Member::A, UnitReason::Tie, first)
+    taken_image(Member::A, UnitReason::Tie, first)
 }
 
 /// Which image is taken of those of two members that count, and why, where none is the updated
 /// member's.
-fn better_took(first: Option<&Started>, second: Option<&Started>) -> Option<Took>
+fn better_image(first: Option<&Started>, second: Option<&Started>) -> Option<TakenImage>
     ensures { result
-        ≡ better_took (option_map (λ s. s.now) first.entry) (option_map (λ s. s.now) second.entry) }
+        ≡ better_image (option_map (λ s. s.now) first.entry)
+        (option_map (λ s. s.now) second.entry) }
 {
     match (first, second) {
         (Some(first), Some(second)) => better_pair(first, second),
-        (Some(first), None) => took(Member::A, UnitReason::Only, first),
-        (None, Some(second)) => took(Member::B, UnitReason::Only, second),
+        (Some(first), None) => taken_image(Member::A, UnitReason::Only, first),
+        (None, Some(second)) => taken_image(Member::B, UnitReason::Only, second),
         (None, None) => None,
     }
 }
 
 /// Which image is taken of those of two members that count, and why.
-fn took_of(
+fn taken_of(
     updated: Option<Member>,
     first: Option<&Started>,
     second: Option<&Started>,
-) -> Option<Took>
-    ensures { result ≡ took_of updated (option_map (λ s. s.now) first.entry)
+) -> Option<TakenImage>
+    ensures { result ≡ taken_of updated (option_map (λ s. s.now) first.entry)
         (option_map (λ s. s.now) second.entry) }
 {
     match updated {
-        None => better_took(first, second),
+        None => better_image(first, second),
         Some(Member::A) => match first {
-            Some(image) => took(Member::A, UnitReason::Updated, image),
-            None => better_took(first, second),
+            Some(image) => taken_image(Member::A, UnitReason::Updated, image),
+            None => better_image(first, second),
         },
         Some(Member::B) => match second {
-            Some(image) => took(Member::B, UnitReason::Updated, image),
-            None => better_took(first, second),
+            Some(image) => taken_image(Member::B, UnitReason::Updated, image),
+            None => better_image(first, second),
         },
     }
 }
@@ -111,8 +111,8 @@ fn second_image<B: Board>(
 }
 
 /// The image of a second member, where it counts.
-fn counted(image: &Option<Result<Started, Why>>) -> Option<&Started>
-    ensures { option_map (λ s. s.now) result ≡ counted image.now }
+fn second_counted(image: &Option<Result<Started, Why>>) -> Option<&Started>
+    ensures { option_map (λ s. s.now) result ≡ second_counted image.now }
 {
     match image {
         Some(Ok(image)) => Some(image),
@@ -130,26 +130,26 @@ fn counted_first(image: &Result<Started, Why>) -> Option<&Started>
     }
 }
 
-/// A look at a unit: each member's image is judged once, with a trial image allowed exactly in the
-/// updated member.
-fn look_at<B: Board>(
+/// The report on a unit: each member's image is judged once, with a trial image allowed exactly in
+/// the updated member.
+fn report_on<B: Board>(
     board: &B,
     pool: &mut SectorPool,
     unit: &SlotUnit,
     updated: Option<Member>,
     cpu: Cpu,
-) -> Look
+) -> UnitReport
     requires power { IsTrue (B.state board.now).powered }
     requires free { HasFree pool.old }
     requires inside { AreInside (length (B.state board.now).content.flash) unit.now }
     ensures exact { result
-        ≡ look_at (results_in (B.state board.now).content cpu) unit.now updated }
+        ≡ report_on (results_in (B.state board.now).content cpu) unit.now updated }
     ensures kept { KeepsOut pool.old pool.new }
 {
     let first = check(board, pool, unit.a, cpu, is_member(updated, Member::A));
     let second = second_image(board, pool, unit.b, cpu, is_member(updated, Member::B));
-    let taken = took_of(updated, counted_first(&first), counted(&second));
-    Look {
+    let taken = taken_of(updated, counted_first(&first), second_counted(&second));
+    UnitReport {
         unit: *unit,
         first,
         second,
@@ -157,27 +157,27 @@ fn look_at<B: Board>(
     }
 }
 
-/// The looks at units, in their order, up to the first that takes an image.
-pub(crate) fn looks_at<B: Board>(
+/// The reports on units, in their order, up to the first unit that takes an image.
+pub(crate) fn reports_on<B: Board>(
     board: &B,
     pool: &mut SectorPool,
     units: &[SlotUnit],
     updated: Option<Member>,
     cpu: Cpu,
-) -> ArrayVec<Look, 15>
+) -> ArrayVec<UnitReport, 15>
     requires power { IsTrue (B.state board.now).powered }
     requires free { HasFree pool.old }
     requires few { length units.now ≤ 15 }
     requires inside { All (AreInside (length (B.state board.now).content.flash)) units.now }
     ensures exact { result.items
-        ≡ looks_of (results_in (B.state board.now).content cpu) units.now updated }
+        ≡ reports_of (results_in (B.state board.now).content cpu) units.now updated }
     ensures some { length result.items ≤ length units.now }
     ensures kept { KeepsOut pool.old pool.new }
 {
     let mut looks = ArrayVec::new();
     let mut member = updated;
     for unit in units {
-        let look = look_at(board, pool, unit, member, cpu);
+        let look = report_on(board, pool, unit, member, cpu);
         let takes = look.taken.is_some();
         looks.push(look);
         if takes {
@@ -206,18 +206,6 @@ fn copy_image(image: &Started) -> Started
     }
 }
 
-/// The choice of a member's image.
-fn choice_of(unit: &SlotUnit, member: Member, updated: bool, image: &Started) -> Choice
-    ensures { result ≡ choice_of unit.now member updated image.now }
-{
-    Choice {
-        image: copy_image(image),
-        member,
-        other: member_window(unit, other_of(member)),
-        updated,
-    }
-}
-
 /// Whether a member's image is taken as the updated one.
 fn is_update(because: UnitReason) -> bool
     ensures { result ≡ is_update because }
@@ -228,27 +216,27 @@ fn is_update(because: UnitReason) -> bool
     }
 }
 
-/// The member's image by a look.
-fn seen_image(look: &Look, member: Member) -> Option<&Started>
-    ensures { option_map (λ s. s.now) result ≡ seen_image look.now member }
+/// The member's image by the report on its unit.
+fn reported_image(look: &UnitReport, member: Member) -> Option<&Started>
+    ensures { option_map (λ s. s.now) result ≡ reported_image look.now member }
 {
     match member {
         Member::A => counted_first(&look.first),
-        Member::B => counted(&look.second),
+        Member::B => second_counted(&look.second),
     }
 }
 
-/// The choice of a look, if it takes an image.
-fn look_choice(look: &Look) -> Option<Choice>
-    ensures { result ≡ look_choice look.now }
+/// The choice by the report on a unit, if an image is taken there.
+fn reported_choice(look: &UnitReport) -> Option<Choice>
+    ensures { result ≡ reported_choice look.now }
 {
     match look.taken {
-        Some(taken) => match seen_image(look, taken.member) {
+        Some(taken) => match reported_image(look, taken.member) {
             Some(image) => Some(choice_of(
                 &look.unit,
                 taken.member,
                 is_update(taken.because),
-                image,
+                copy_image(image),
             )),
             None => None,
         },
@@ -256,12 +244,12 @@ fn look_choice(look: &Look) -> Option<Choice>
     }
 }
 
-/// The choice of the first look that has one.
-pub(crate) fn first_choice(looks: &[Look]) -> Option<Choice>
+/// The choice of the first report that has one.
+pub(crate) fn first_choice(looks: &[UnitReport]) -> Option<Choice>
     ensures { result ≡ first_choice looks.now }
 {
     for look in looks {
-        if let Some(choice) = look_choice(look) {
+        if let Some(choice) = reported_choice(look) {
             return Some(choice);
         }
     }

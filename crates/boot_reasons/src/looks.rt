@@ -8,30 +8,30 @@ use slot_choice::{Member, SlotUnit};
 /// where it is valid with trial allowed exactly in the updated member.
 #[derive(Clone, Copy, Debug, PartialEq, Eq)]
 pub enum UnitReason {
-    /// It is the updated member.
+    /// The image is the updated member's.
     Updated,
     /// No other image of the unit counts.
     Only,
-    /// Both count, and its version is greater.
+    /// Both members' images count, and this one's version is greater.
     Version,
-    /// Both count, the versions are equal, and it is A.
+    /// Both members' images count, their versions are equal, and this one is A's.
     Tie,
 }
 
 /// The image that is taken in a unit.
 #[derive(Clone, Copy, Debug, PartialEq, Eq)]
-pub struct Took {
-    /// The member that has it.
+pub struct TakenImage {
+    /// The member that has the image.
     pub member: Member,
     /// The member's window.
     pub window: Window,
-    /// Why it is taken.
+    /// Why the image is taken.
     pub because: UnitReason,
 }
 
-/// A look at a boot unit.
+/// The report on a boot unit: each member's image, and the one that is taken.
 #[derive(Debug, Drop)]
-pub struct Look {
+pub struct UnitReport {
     /// The unit.
     pub unit: SlotUnit,
     /// The image of A, or why it has none.
@@ -39,12 +39,12 @@ pub struct Look {
     /// The image of B, or why it has none, where the unit is a pair.
     pub second: Option<Result<Started, Why>>,
     /// The image that is taken, if one counts.
-    pub taken: Option<Took>,
+    pub taken: Option<TakenImage>,
 }
 
-impl Default for Look {
+impl Default for UnitReport {
     fn default() -> Self {
-        Look {
+        UnitReport {
             unit: SlotUnit::default(),
             first: Err(Why::NoBlock),
             second: None,

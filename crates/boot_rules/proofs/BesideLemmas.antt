@@ -22,7 +22,7 @@ use Rattle.boot_rules.specs.declared.decision.Decision.{Decision}
 use Rattle.boot_rules.specs.declared.tables.Found.{Found}
 use Rattle.boot_rules.specs.Choosing.{boot_units_in}
 use Rattle.boot_rules.specs.Chosen.{Chosen}
-use Rattle.boot_rules.specs.Starts.{table_of_content}
+use Rattle.boot_rules.specs.Tables.{table_of_content}
 use Rattle.boot_rules.specs.Tables.{slot_window, table_in}
 use Rattle.boot_rules.proofs.DataLemmas.{same-decision, same-table, slots-apart}
 use Rattle.boot_rules.proofs.DecisionLemmas.{chosen-exactly}

@@ -268,7 +268,7 @@ module _ (c : Content) (cpu : Cpu) (images : Window → Bool → Option Started)
       go None is = absurd (nothing-counts us updated is s.place s.unit choice.member choice.image s.counts)
       go (Some other) is = ap Some (one-start (order us updated) other choice (choice-starts us updated other is) s)
 
-  -- and there is none where no image counts
+  -- there is no choice where no image counts
   pub none-choice : (us : List SlotUnit) (updated : Option Member)
       → ((i : ℕ) (u : SlotUnit) (m : Member) (s : Started) → Counts c cpu (order us updated) i u m s → ⊥)
       → ordered_choice images us updated ≡ None

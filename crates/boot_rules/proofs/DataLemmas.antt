@@ -23,7 +23,7 @@ use Rattle.part_table.specs.Fields.{link_type, link_value}
 use Rattle.part_table.specs.Links.{is_owned, is_second, owner_of, pair_of}
 use Rattle.part_table.specs.Partitions.{no_partition, part_at}
 use Rattle.part_table.specs.Sound.{IsSoundTable}
-use Rattle.part_table.specs.Windows.{IsPlaced, part_window, partition_window}
+use Rattle.part_table.specs.Windows.{IsPlacedWindow, part_window, partition_window}
 use Rattle.part_table.proofs.TableLemmas.{apart_sym, partition_placed, partitions_apart, sound_placed}
 use Rattle.part_table.proofs.TestLemmas.{first_position, mapped_some}
 use Rattle.slot_choice.specs.declared.unit.Member.{Member}
@@ -43,10 +43,10 @@ use Rattle.boot_rules.specs.declared.tables.Found.{Found}
 use Rattle.boot_rules.specs.Choosing.{boot_units_in, choose, decision_in, decision_of, images_in, order_of, other_of}
 use Rattle.boot_rules.specs.Chosen.{Chosen}
 use Rattle.boot_rules.specs.Data.{data_of, first_window, has_window, is_second_member, owner_windows, started_part}
-use Rattle.boot_rules.specs.Starts.{IsOfUnit, IsOwnedPair, load_unit_in, table_of_content}
+use Rattle.boot_rules.specs.Starts.{IsOfUnit, IsOwnedPair, load_unit_in}
 use Rattle.boot_rules.specs.Changes.{HaveSameImages}
 use Rattle.boot_rules.specs.Picking.{taken}
-use Rattle.boot_rules.specs.Tables.{found_of, slot_table, slot_window, table_in}
+use Rattle.boot_rules.specs.Tables.{found_of, slot_window, table_in, table_of_content}
 use Rattle.boot_rules.specs.Targets.{deciding_in, deciding_unit, member_for, pair_target, target_of, unit_target}
 use Rattle.boot_rules.proofs.ChangeLemmas.{choose-same}
 use Rattle.boot_rules.proofs.DecisionLemmas.{chosen-exactly}
@@ -54,7 +54,7 @@ use Rattle.boot_rules.proofs.TargetLemmas.{decided-window, normal-taken, pair-me
 use Rattle.boot_rules.proofs.UnitLemmas.{unit-some}
 use Rattle.boot_rules.proofs.PlaceLemmas.{slot-size}
 use Rattle.boot_rules.proofs.StartLemmas.{is-member, of-unit, start}
-use Rattle.boot_rules.proofs.TableLemmas.{found-in, found-sound}
+use Rattle.boot_rules.proofs.TableLemmas.{found-in, found-sound, slot_table}
 
 -- a window is that of one partition alone
 and-false : (a b : Bool) → a ≡ false → (a && b) ≡ false
@@ -179,7 +179,7 @@ table-by c = refl
 
 -- a window behind the table slots of a content stands apart from both
 pub slots-apart : (c : Content) (w : Window) → IsContent c
-    → IsPlaced w (length c.flash / 4096) (2 * slot_size c.otp (length c.flash) / 4096)
+    → IsPlacedWindow w (length c.flash / 4096) (2 * slot_size c.otp (length c.flash) / 4096)
     → AreApart (slot_window (slot_size c.otp (length c.flash)) 0) w
     × AreApart (slot_window (slot_size c.otp (length c.flash)) 1) w
 slots-apart c w right behind =
@@ -227,7 +227,7 @@ module _ (c d : Content) (w : Window) (same : SameButWindow w c d) where
       (apart_sym (slot_window (slot_size c.otp (length c.flash)) 1) w two))
       ∙ sym (table-by c)
 
-  -- and its decision, where its units stand apart too
+  -- the decision of a content that changes apart from its slots and from its units
   module _ (table : table_in d ≡ table_in c) (cpu : Cpu) where
     same-units : boot_units_in d cpu ≡ boot_units_in c cpu
     same-units =
@@ -289,7 +289,7 @@ module _ (c : Content) (cpu : Cpu) (family : ℕ) (found : Found) (u : SlotUnit)
   in-unit : IsMember u target.window
   in-unit = subst (IsMember u) window-is (pair-member c cpu family (Some found.table) u second owned.pair)
 
-  behind-slots : IsPlaced target.window (n / 4096) (2 * z / 4096)
+  behind-slots : IsPlacedWindow target.window (n / 4096) (2 * z / 4096)
   behind-slots =
       member_placed found.table (n / 4096) (2 * z / 4096)
       (partition_placed found.table (n / 4096) (2 * z / 4096) (found-in c found is).1) owned.part load.within
@@ -336,7 +336,8 @@ module _ (c : Content) (cpu : Cpu) (family : ℕ) (found : Found) (u : SlotUnit)
         (taken-stands c cpu taken-in.1 choice taken-in.3)
         (unit-some (images_in c cpu) taken-in.1 None choice taken-in.3).other
 
-    -- of the partition that has the owner, which is another one or the target's own
+    -- the target stands apart from the data of each partition with the owner, be that partition another one or the
+    -- target's own
     one-apart : (i x : ℕ) → i < length listed → IsDataOf listed boot.0 (is_second_member choice.member) i x
         → AreApart target.window (part_window (part_at listed x))
     one-apart i x lt kept = elim (cases_eq owned.part i) [

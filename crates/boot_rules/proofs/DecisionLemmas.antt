@@ -83,7 +83,7 @@ decision-chosen c cpu AskBootsel = refl
 decision-chosen c cpu Normal = flash-chosen c cpu Normal
 decision-chosen c cpu (Update base) = flash-chosen c cpu (Update base)
 
--- and no other one
+-- no other decision than that of the function is named by the rules
 pub chosen-decision : (c : Content) (cpu : Cpu) (kind : BootKind) (d : Decision) → Chosen c cpu kind d
     → d ≡ decision_in c cpu kind
 unfolding decision_in

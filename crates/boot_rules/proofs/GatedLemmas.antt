@@ -1,4 +1,4 @@
--- A gated target is a home, or stands in a unit of a partition that begins no boot unit.
+-- A gated target is a boot member, or stands in a unit of a partition that begins no boot unit.
 use Rattle.std.proofs.Common.{◌≡◌, ◌⊎◌, ℕ, Bool, true, false, length, slice_get, Option, Some, None, refl, sym, ap, ◌∙◌, subst, inl, inr}
 use Rattle.std.specs.Prelude.{option_map}
 use Rattle.pico_board.specs.declared.boot.Cpu.{Cpu}
@@ -16,9 +16,9 @@ use Rattle.slot_choice.specs.LoadUnits.{load_unit}
 use Rattle.slot_choice.specs.Units.{IsMember, tableless_unit, unit_of, units, whole_flash}
 use Rattle.slot_choice.proofs.PlaceLemmas.{IsLoadUnit, unit_at}
 use Rattle.boot_rules.specs.declared.tables.Found.{Found}
-use Rattle.boot_rules.specs.Chosen.{Home}
-use Rattle.boot_rules.specs.Starts.{IsOfKeptUnit, table_of_content}
-use Rattle.boot_rules.specs.Tables.{table_in}
+use Rattle.boot_rules.specs.Chosen.{IsBootMember}
+use Rattle.boot_rules.specs.Starts.{IsOfKeptUnit}
+use Rattle.boot_rules.specs.Tables.{table_in, table_of_content}
 use Rattle.boot_rules.specs.Targets.{target_of, unit_target}
 use Rattle.boot_rules.proofs.HomeLemmas.{pair-home}
 use Rattle.boot_rules.proofs.PlaceLemmas.{IsLoad, all_flash, load-is, no_table, of_part, target-member}
@@ -43,13 +43,13 @@ module _ (c : Content) (cpu : Cpu) (u : SlotUnit) (second : Window) (pair : u.b 
   abbrev z : ℕ
   z = slot_size c.otp n
 
-  of-slots : table_of_content c ≡ None → u ≡ tableless_unit n z → Home c w cpu
+  of-slots : table_of_content c ≡ None → u ≡ tableless_unit n z → IsBootMember c w cpu
   of-slots none is =
       pair-home c w cpu 0 u second
       (ap (λ t. slice_get (units t n z cpu) 0) none ∙ ap Some (sym is)) pair member
 
   of-partition : (found : Found) (i : ℕ) (family : ℕ) → table_in c ≡ Some found
-      → IsLoadUnit found.table.parts.items family u i → Home c w cpu ⊎ IsOfKeptUnit c cpu w
+      → IsLoadUnit found.table.parts.items family u i → IsBootMember c w cpu ⊎ IsOfKeptUnit c cpu w
   of-partition found i family is load =
       go (is_owned (part_at found.table.parts.items i)) (is_ignored cpu (part_at found.table.parts.items i)) refl refl
     where
@@ -62,7 +62,7 @@ module _ (c : Content) (cpu : Cpu) (u : SlotUnit) (second : Window) (pair : u.b 
           record { found = found; part = i; table = is; within = load.within; member = there; kept = why }
 
       go : (owned ignored : Bool) → is_owned (part_at found.table.parts.items i) ≡ owned
-          → is_ignored cpu (part_at found.table.parts.items i) ≡ ignored → Home c w cpu ⊎ IsOfKeptUnit c cpu w
+          → is_ignored cpu (part_at found.table.parts.items i) ≡ ignored → IsBootMember c w cpu ⊎ IsOfKeptUnit c cpu w
       go true ignored o e = inr (kept (inl o))
       go false true o e = inr (kept (inr e))
       go false false o e =
@@ -73,7 +73,7 @@ module _ (c : Content) (cpu : Cpu) (u : SlotUnit) (second : Window) (pair : u.b 
           inl (pair-home c w cpu at.0 u second
           (ap (λ t. slice_get (units t n z cpu) at.0) table-is ∙ (at.1 ∙ ap Some (sym load.unit))) pair member)
 
-  of-load : (family : ℕ) → IsLoad (table_of_content c) n z family u → Home c w cpu ⊎ IsOfKeptUnit c cpu w
+  of-load : (family : ℕ) → IsLoad (table_of_content c) n z family u → IsBootMember c w cpu ⊎ IsOfKeptUnit c cpu w
   of-load family (all_flash is) = absurd (no-pair n u second is pair)
   of-load family (no_table none is) = inl (of-slots none is)
   of-load family (of_part p i some load) =
@@ -84,7 +84,7 @@ module _ (c : Content) (cpu : Cpu) (u : SlotUnit) (second : Window) (pair : u.b 
 
 pub gated-home : (c : Content) (cpu : Cpu) (family : ℕ) (target : Target)
     → target_of c (table_of_content c) cpu family ≡ Some target → target.gated ≡ true
-    → Home c target.window cpu ⊎ IsOfKeptUnit c cpu target.window
+    → IsBootMember c target.window cpu ⊎ IsOfKeptUnit c cpu target.window
 gated-home c cpu family target targeted gated =
     let t : Option Table = table_of_content c in
     let found : (u : SlotUnit) × (load_unit t (length c.flash) (slot_size c.otp (length c.flash)) family ≡ Some u)

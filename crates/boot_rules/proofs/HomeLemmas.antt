@@ -1,4 +1,4 @@
--- Home is membership in a boot unit that is a pair.
+-- IsBootMember is membership in a boot unit that is a pair.
 use Rattle.std.proofs.Common.{◌≡◌, ◌⊎◌, ℕ, Option, Some, None, refl, sym, ap, inl, inr}
 use Rattle.std.specs.Prelude.{slice_get}
 use Rattle.pico_board.specs.declared.boot.Cpu.{Cpu}
@@ -9,9 +9,9 @@ use Rattle.slot_choice.specs.declared.unit.Member.TheVariants.{A, B}
 use Rattle.slot_choice.specs.declared.unit.SlotUnit.{SlotUnit}
 use Rattle.slot_choice.specs.Units.{member_window, IsMember}
 use Rattle.boot_rules.specs.Choosing.{boot_units_in, other_of}
-use Rattle.boot_rules.specs.Chosen.{Home}
+use Rattle.boot_rules.specs.Chosen.{IsBootMember}
 
-pub home-pair : (c : Content) (w : Window) (cpu : Cpu) → Home c w cpu
+pub home-pair : (c : Content) (w : Window) (cpu : Cpu) → IsBootMember c w cpu
     → (i : ℕ) × (u : SlotUnit) × (second : Window) × (slice_get (boot_units_in c cpu) i ≡ Some u)
     × (u.b ≡ Some second) × IsMember u w
 home-pair c w cpu h = go h.member h.stands h.pair
@@ -23,7 +23,7 @@ home-pair c w cpu h = go h.member h.stands h.pair
     go B stands pair = (h.place, h.unit, w, h.tried, stands, inr stands)
 
 pub pair-home : (c : Content) (w : Window) (cpu : Cpu) (i : ℕ) (u : SlotUnit) (second : Window)
-    → slice_get (boot_units_in c cpu) i ≡ Some u → u.b ≡ Some second → IsMember u w → Home c w cpu
+    → slice_get (boot_units_in c cpu) i ≡ Some u → u.b ≡ Some second → IsMember u w → IsBootMember c w cpu
 pair-home c w cpu i u second tried pair (inl same) = record {
   place = i;
   unit = u;

@@ -12,4 +12,7 @@ pub mod PickLaws
 pub mod HomeLemmas
 pub mod BesideLemmas
 pub mod GatedLemmas
+pub mod SlotLemmas
 pub mod TableRuleLemmas
+pub mod AccidentalImageLemmas
+pub mod SameUnitLemmas

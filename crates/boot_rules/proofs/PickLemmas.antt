@@ -24,13 +24,13 @@ use Rattle.slot_choice.specs.Versions.{better, is_below}
 use Rattle.slot_choice.specs.Units.{member_window}
 use Rattle.boot_rules.specs.Choosing.{choice_of, images_in, member_image, of_better, version_of_image}
 use Rattle.boot_rules.specs.Picking.{taken}
-use Rattle.boot_rules.specs.Stages.{seen_in, seen_version}
+use Rattle.boot_rules.specs.Stages.{candidate_in, candidate_version}
 
 -- the record of what the last two rules let pass
 abbrev pub confirm_in : Content → Window → Candidate → Option Started
 confirm_in c w seen = result_ok (confirmed_in w (window_bytes c w) seen)
 
--- and of a member of which something was seen
+-- the record of a member of which something was seen, where the last two rules let it pass
 abbrev pub confirm_seen : Content → Option Window → Option Candidate → Option Started
 confirm_seen c None seen = None
 confirm_seen c (Some w) seen = option_and_then (confirm_in c w) seen
@@ -42,14 +42,15 @@ after-ok (Err e) f = refl
 
 -- the image of a member is what is seen of it, judged by the last two rules
 window-image-seen : (c : Content) (cpu : Cpu) (o : Option Window)
-    → option_and_then (λ w. images_in c cpu w false) o ≡ confirm_seen c o (seen_in c cpu o)
+    → option_and_then (λ w. images_in c cpu w false) o ≡ confirm_seen c o (candidate_in c cpu o)
 window-image-seen c cpu None = refl
 window-image-seen c cpu (Some w) =
     ap result_ok (sym (examined-image in_flash w cpu false c.otp (window_bytes c w)))
     ∙ after-ok (examined_in in_flash cpu false c.otp (window_bytes c w)) (confirmed_in w (window_bytes c w))
 
 pub image-seen : (c : Content) (cpu : Cpu) (u : SlotUnit) (m : Member)
-    → member_image (images_in c cpu) u m false ≡ confirm_seen c (member_window m u) (seen_in c cpu (member_window m u))
+    → member_image (images_in c cpu) u m false
+    ≡ confirm_seen c (member_window m u) (candidate_in c cpu (member_window m u))
 image-seen c cpu u m = window-image-seen c cpu (member_window m u)
 
 unless-ok : {X F : Type 0} (o : Option F) (r : Result X F) (x : X) → result_ok (and_unless o r) ≡ Some x
@@ -68,7 +69,7 @@ confirm-version c w seen s e =
     sym (ap (λ (x : Started). x.version) same)
 
 seen-version : (c : Content) (o : Option Window) (seen : Option Candidate) (s : Started)
-    → confirm_seen c o seen ≡ Some s → seen_version seen ≡ Some s.version
+    → confirm_seen c o seen ≡ Some s → candidate_version seen ≡ Some s.version
 seen-version c None seen s e = cc
 seen-version c (Some w) None s e = cc
 seen-version c (Some w) (Some x) s e = ap Some (sym (confirm-version c w x s e))
@@ -127,13 +128,13 @@ module _ (u : SlotUnit) where
       go false e = ap (λ z. of_better u (Some (cond z B A)) (Some s) (Some t)) e
 
 pub taken-seen : (c : Content) (cpu : Cpu) (u : SlotUnit) (va vb : Option Version)
-    → va ≡ seen_version (seen_in c cpu (Some u.a)) → vb ≡ seen_version (seen_in c cpu u.b)
+    → va ≡ candidate_version (candidate_in c cpu (Some u.a)) → vb ≡ candidate_version (candidate_in c cpu u.b)
     → by_seen (better va vb) (option_map (choice_of u A false) (member_image (images_in c cpu) u A false))
     (option_map (choice_of u B false) (member_image (images_in c cpu) u B false)) ≡ taken c cpu u
 taken-seen c cpu u va vb one two =
     by-seen u va vb (member_image (images_in c cpu) u A false) (member_image (images_in c cpu) u B false)
-    (λ s e. one ∙ seen-version c (Some u.a) (seen_in c cpu (Some u.a)) s (sym (image-seen c cpu u A) ∙ e))
-    (λ s e. two ∙ seen-version c u.b (seen_in c cpu u.b) s (sym (image-seen c cpu u B) ∙ e))
+    (λ s e. one ∙ seen-version c (Some u.a) (candidate_in c cpu (Some u.a)) s (sym (image-seen c cpu u A) ∙ e))
+    (λ s e. two ∙ seen-version c u.b (candidate_in c cpu u.b) s (sym (image-seen c cpu u B) ∙ e))
 
 -- the three ways of a choice by what is seen
 pub by-none : (o : Option Member) (x y : Option Choice) → o ≡ None → None ≡ by_seen o x y
@@ -154,7 +155,7 @@ or-none x y e = sym (ap (λ o. option_or o y) e)
 -- the choice of a confirmed member
 pub confirmed-choice : (c : Content) (cpu : Cpu) (u : SlotUnit) (m : Member) (w : Window) (seen : Option Candidate)
     (x : Candidate)
-    → member_window m u ≡ Some w → seen ≡ Some x → seen ≡ seen_in c cpu (member_window m u)
+    → member_window m u ≡ Some w → seen ≡ Some x → seen ≡ candidate_in c cpu (member_window m u)
     → (r : Result Started Why) → r ≡ confirmed_in w (window_bytes c w) x
     → option_map (choice_of u m false) (result_ok r)
     ≡ option_map (choice_of u m false) (member_image (images_in c cpu) u m false)
@@ -164,7 +165,7 @@ confirmed-choice c cpu u m w seen x window some is r exact =
     ∙ ap (λ o. confirm_seen c o (Some x)) window))
 
 pub unseen-choice : (c : Content) (cpu : Cpu) (u : SlotUnit) (m : Member) (w : Window) (seen : Option Candidate)
-    → member_window m u ≡ Some w → seen ≡ None → seen ≡ seen_in c cpu (member_window m u)
+    → member_window m u ≡ Some w → seen ≡ None → seen ≡ candidate_in c cpu (member_window m u)
     → None ≡ option_map (choice_of u m false) (member_image (images_in c cpu) u m false)
 unseen-choice c cpu u m w seen window none is =
     ap (option_map (choice_of u m false))

@@ -17,7 +17,7 @@ use Rattle.part_table.specs.Families.{absolute_family, accepts_absolute}
 use Rattle.part_table.specs.Links.{owner_of}
 use Rattle.part_table.specs.Partitions.{part_at}
 use Rattle.part_table.specs.Sound.{IsSoundTable}
-use Rattle.part_table.specs.Windows.{IsPlaced}
+use Rattle.part_table.specs.Windows.{IsPlacedWindow}
 use Rattle.part_table.proofs.LinkLemmas.{right_owner_of}
 use Rattle.part_table.proofs.TableLemmas.{sound_placed}
 use Rattle.slot_choice.specs.declared.unit.Member.{Member}
@@ -63,16 +63,18 @@ pub whole-sectors : (n : ℕ) → n % 4096 ≡ 0 → 4096 * (n / 4096) ≡ n
 whole-sectors n whole = omega arith
 
 -- a placed window stands inside
-pub placed-inside : (n : ℕ) (w : Window) → n % 4096 ≡ 0 → IsPlaced w (n / 4096) 0 → IsInside n w
+pub placed-inside : (n : ℕ) (w : Window) → n % 4096 ≡ 0 → IsPlacedWindow w (n / 4096) 0 → IsInside n w
 placed-inside n w whole placed = let long = whole-sectors n whole in let in_sectors = placed.inside in
     omega (arith, long, in_sectors)
 
--- and so does a unit whose members are placed
+-- the second member of a unit whose members are placed stands inside the flash, where there is one; and so does such a
+-- unit
 second-inside : (n : ℕ) (o : Option Window) → ((w : Window) → o ≡ Some w → IsInside n w) → IfSome o (IsInside n)
 second-inside n None inside = tt
 second-inside n (Some w) inside = inside w refl
 
-pub members-inside : (n : ℕ) (u : SlotUnit) → n % 4096 ≡ 0 → ((w : Window) → IsMember u w → IsPlaced w (n / 4096) 0)
+pub members-inside : (n : ℕ) (u : SlotUnit) → n % 4096 ≡ 0
+    → ((w : Window) → IsMember u w → IsPlacedWindow w (n / 4096) 0)
     → AreInside n u
 members-inside n u whole placed = record {
   first = placed-inside n u.a whole (placed u.a (inl refl));
@@ -81,7 +83,7 @@ members-inside n u whole placed = record {
 
 -- the one unit of a flash without a table
 pub tableless-members : (n z : ℕ) → IsFlashLength n → IsSlotSize n z → (w : Window) → IsMember (tableless_unit n z) w
-    → IsPlaced w (n / 4096) 0
+    → IsPlacedWindow w (n / 4096) 0
 tableless-members n z right slot w member =
     let long = whole-sectors n right.whole in
     let some : 1 ≤ n / 4096 = (let least = right.least in omega arith) in
@@ -95,7 +97,7 @@ only v (suc k) u e = cc
 -- the members of the boot units for a sound table, or none
 pub unit-members : (t : Option Table) (n z : ℕ) (cpu : Cpu) → IsSoundFor t n → IsFlashLength n → IsSlotSize n z
     → (k : ℕ) (u : SlotUnit) → slice_get (units t n z cpu) k ≡ Some u → (w : Window) → IsMember u w
-    → IsPlaced w (n / 4096) 0
+    → IsPlacedWindow w (n / 4096) 0
 unit-members None n z cpu sound right slot k u at w member =
     tableless-members n z right slot w (subst (λ v. IsMember v w) (sym (only (tableless_unit n z) k u at)) member)
 unit-members (Some t) n z cpu sound right slot k u at w member =
@@ -108,7 +110,7 @@ table-sound c (Some found) e = found-sound c found e
 
 pub boot-unit-members : (c : Content) (cpu : Cpu) → IsContent c → (k : ℕ) (u : SlotUnit)
     → slice_get (boot_units_in c cpu) k ≡ Some u
-    → (w : Window) → IsMember u w → IsPlaced w (length c.flash / 4096) 0
+    → (w : Window) → IsMember u w → IsPlacedWindow w (length c.flash / 4096) 0
 boot-unit-members c cpu right k u at w member =
     unit-members (option_map (λ found. found.table) (table_in c)) (length c.flash)
     (slot_size c.otp (length c.flash)) cpu
@@ -129,12 +131,12 @@ order-all P AskBootsel us all = all
 order-all P (Update base) us all = All-permutation P us _ (order_permutes us base) all
 
 -- the members of a load unit, and of the unit that decides on its member
-whole-members : (n : ℕ) → IsFlashLength n → (w : Window) → IsMember (whole_flash n) w → IsPlaced w (n / 4096) 0
+whole-members : (n : ℕ) → IsFlashLength n → (w : Window) → IsMember (whole_flash n) w → IsPlacedWindow w (n / 4096) 0
 whole-members n right w (inl a) =
     let long = whole-sectors n right.whole in
     let least = right.least in
     let whole = right.whole in
-    subst (λ x. IsPlaced x (n / 4096) 0) (sym a)
+    subst (λ x. IsPlacedWindow x (n / 4096) 0) (sym a)
     (record { starts = refl; whole = whole; some = omega arith; inside = omega (arith, long); free = omega arith })
 whole-members n right w (inr b) = cc
 
@@ -165,7 +167,7 @@ load-is t n z family u e = go t (either (family == absolute_family) (absolute_un
 
 pub load-members : (t : Option Table) (n z family : ℕ) → IsSoundFor t n → IsFlashLength n → IsSlotSize n z
     → (u : SlotUnit)
-    → IsLoad t n z family u → (w : Window) → IsMember u w → IsPlaced w (n / 4096) 0
+    → IsLoad t n z family u → (w : Window) → IsMember u w → IsPlacedWindow w (n / 4096) 0
 load-members t n z family sound right slot u (all_flash is) w member =
     whole-members n right w (subst (λ v. IsMember v w) is member)
 load-members t n z family sound right slot u (no_table none is) w member =
@@ -236,7 +238,7 @@ target-member c t cpu family u (Some second) e = go (member_for (taken_member c 
 pub target-placed : (c : Content) (t : Option Table) (cpu : Cpu) (family : ℕ) → IsContent c
     → IsSoundFor t (length c.flash) → (u : SlotUnit)
     → load_unit t (length c.flash) (slot_size c.otp (length c.flash)) family ≡ Some u
-    → IsPlaced (unit_target c t cpu family u u.b).window (length c.flash / 4096) 0
+    → IsPlacedWindow (unit_target c t cpu family u u.b).window (length c.flash / 4096) 0
 target-placed c t cpu family right sound u e =
     let slot = slot-size c.otp (length c.flash) right.flash_length.least in
     load-members t (length c.flash) (slot_size c.otp (length c.flash)) family sound right.flash_length slot u

@@ -25,8 +25,8 @@ use Rattle.boot_rules.specs.declared.decision.Fall.TheVariants.{Requested, Flash
 use Rattle.boot_rules.specs.Choosing.{boot_units_in, order_of, other_of}
 use Rattle.boot_rules.specs.Chosen.{Chosen, ChosenInFlash, IsStart, is_updated}
 use Rattle.part_table.specs.Windows.{IsPlacedIn}
-use Rattle.boot_rules.specs.Starts.{IsOfUnit, table_of_content}
-use Rattle.boot_rules.specs.Tables.{table_in}
+use Rattle.boot_rules.specs.Starts.{IsOfUnit}
+use Rattle.boot_rules.specs.Tables.{table_in, table_of_content}
 use Rattle.boot_rules.proofs.PlaceLemmas.{boot-unit-members, order-all, table-sound}
 
 -- a start is one of the units in the order of its kind
@@ -85,7 +85,7 @@ module _ (c : Content) (cpu : Cpu) (kind : BootKind) (choice : Choice) (h : Chos
         other = start.other;
       }
 
-  -- it is valid there with a trial image allowed, and a trial is updated
+  -- the started image is valid in its window with a trial image allowed, and a trial is updated
   any-trial : (w : Window) (trial : Bool) → Valid c w cpu trial choice.image → Valid c w cpu true choice.image
   any-trial w true v = v
   any-trial w false v = trial-more in_flash w cpu c.otp (window_bytes c w) choice.image v

@@ -21,7 +21,7 @@ use Rattle.part_table.proofs.TableLemmas.{faultless_from_table_of, sound_from_fa
 use Rattle.pico_board.specs.Content.{Content, window_bytes}
 use Rattle.slot_choice.specs.Versions.{is_below}
 use Rattle.boot_rules.specs.declared.tables.Found.{Found}
-use Rattle.boot_rules.specs.Tables.{found_of, slot_table, slot_window, table_in, table_in_block, table_in_loop}
+use Rattle.boot_rules.specs.Tables.{answer_in_block, answer_in_loop, block_answer, found_of, slot_answer, slot_window, table_in}
 
 module _ (w offsets : List ℕ) (are : AreLoop w offsets) where
   -- the last block with a table, with one more block
@@ -54,17 +54,22 @@ module _ (w offsets : List ℕ) (are : AreLoop w offsets) where
       go None e = tt
       go (Some b) e = find-passes has_table (reverse are.blocks.0) b (sym e)
 
--- the table of a slot has no fault
+-- the table of a slot with these bytes: its answer, of which the reason is forgotten
+abbrev pub slot_table : ℕ → ℕ → List ℕ → Option Table
+slot_table sectors first bytes = result_ok (slot_answer sectors first bytes)
+
+-- it has no fault
 from-block : (s m : ℕ) (b : BlockView) (r : Result Table TableFault) → table_of b s m ≡ r → (t : Table)
-    → result_ok r ≡ Some t → table_fault t s m ≡ None
+    → result_ok (block_answer r) ≡ Some t → table_fault t s m ≡ None
 from-block s m b (Ok x) is t e = faultless_from_table_of b s m t (is ∙ ap Ok (same_Some x t e))
 from-block s m b (Err f) is t e = cc
 
-from-option : (s m : ℕ) (o : Option BlockView) (t : Table) → table_in_block s m o ≡ Some t → table_fault t s m ≡ None
+from-option : (s m : ℕ) (o : Option BlockView) (t : Table) → result_ok (answer_in_block s m o) ≡ Some t
+    → table_fault t s m ≡ None
 from-option s m None t e = cc
 from-option s m (Some b) t e = from-block s m b (table_of b s m) refl t e
 
-from-loop : (s m : ℕ) (r : Result (List BlockView) LoopFault) (t : Table) → table_in_loop s m r ≡ Some t
+from-loop : (s m : ℕ) (r : Result (List BlockView) LoopFault) (t : Table) → result_ok (answer_in_loop s m r) ≡ Some t
     → table_fault t s m ≡ None
 from-loop s m (Ok blocks) t e = from-option s m (find has_table (reverse blocks)) t e
 from-loop s m (Err f) t e = cc
@@ -72,7 +77,7 @@ from-loop s m (Err f) t e = cc
 pub slot-faultless : (s m : ℕ) (bytes : List ℕ) (t : Table) → slot_table s m bytes ≡ Some t → table_fault t s m ≡ None
 slot-faultless s m bytes t e = from-loop s m (loop_of bytes) t e
 
--- so has the table that is found, in slot 0 or 1
+-- the table that is found is that of slot 0 or that of slot 1; so it has no fault either
 pub record IsFoundIn (one two : Option Table) (f : Found) : Type 0 where
   pub slot : f.slot ≤ 1
   pub lower : f.slot ≡ 0 → one ≡ Some f.table

@@ -1,73 +1,18 @@
 -- The table that is found is the one that the rules name.
-use Rattle.std.proofs.Common.{◌≡◌, ◌⊎◌, ◌↔◌, ℕ, zero, suc, ◌*◌, ◌/◌, ◌≤◌, Bool, true, false, ◌||◌, not, if◌then◌else◌, List, length, Option, Some, None, Result, Ok, Err, refl, sym, ap, ◌∙◌, subst, inl, inr, arith}
-use Rattle.std.specs.Prelude.{find, reverse}
+use Rattle.std.proofs.Common.{◌≡◌, ◌⊎◌, ◌↔◌, ℕ, zero, suc, ◌≤◌, Bool, true, false, ◌||◌, not, if◌then◌else◌, Option, Some, None, refl, sym, ap, ◌∙◌, subst, inl, inr, arith}
 use Rattle.std.specs.Result.{result_ok}
 use Rattle.std.proofs.lemmas.Option.{same_Some}
-use Rattle.block_codec.specs.Blocks.{BlockView}
-use Rattle.block_loop.specs.Loop.{loop_of}
-use Rattle.block_loop.specs.declared.fault.LoopFault.{LoopFault}
-use Rattle.block_loop.proofs.ChainLemmas.{loop_of-loop}
-use Rattle.block_loop.proofs.SameLoopLemmas.{IsLoop-from_answer}
-use Rattle.image_check.proofs.LastLemmas.{found-last, last-found}
-use Rattle.otp_roll.specs.Flags.{slot_size}
 use Rattle.part_table.specs.declared.table.Table.{Table}
-use Rattle.part_table.specs.declared.table.TableFault.{TableFault}
-use Rattle.part_table.specs.TableOf.{has_table, table_of}
-use Rattle.pico_board.specs.Content.{Content, window_bytes}
+use Rattle.pico_board.specs.Content.{Content}
 use Rattle.slot_choice.specs.Versions.{is_below}
 use Rattle.boot_rules.specs.declared.tables.Found.{Found}
-use Rattle.boot_rules.specs.Tables.{found_of, slot_table, slot_window, table_in, table_in_block, table_in_loop}
+use Rattle.boot_rules.specs.Tables.{found_of, slot_answer_in, table_in}
 use Rattle.boot_rules.specs.TableRules.{IsSlotTable, IsTableIn}
+use Rattle.boot_rules.proofs.SlotLemmas.{has-table, table-found, table-has}
 
 -- the table of a slot
-module _ (c : Content) (number : ℕ) where
-  abbrev bytes : List ℕ
-  bytes = window_bytes c (slot_window (slot_size c.otp (length c.flash)) number)
-
-  abbrev sectors : ℕ
-  sectors = length c.flash / 4096
-
-  abbrev first : ℕ
-  first = 2 * slot_size c.otp (length c.flash) / 4096
-
-  abbrev pub table_at : Option Table
-  table_at = slot_table sectors first bytes
-
-  pub slot-is : (t : Table) → table_at ≡ Some t → IsSlotTable c number t
-  slot-is t e = from-loop (loop_of bytes) refl e
-    where
-      from-read : (loop : List BlockView) → loop_of bytes ≡ Ok loop → (b : BlockView)
-          → find has_table (reverse loop) ≡ Some b → (r : Result Table TableFault) → table_of b sectors first ≡ r
-          → result_ok r ≡ Some t → IsSlotTable c number t
-      from-read loop closes b last (Ok x) read same = record {
-        loop = loop;
-        block = b;
-        closes = IsLoop-from_answer bytes loop closes;
-        last = last-found has_table loop b last;
-        read = read ∙ ap Ok (same_Some x t same);
-      }
-      from-read loop closes b last (Err f) read same = cc
-
-      from-block : (loop : List BlockView) → loop_of bytes ≡ Ok loop → (o : Option BlockView)
-          → find has_table (reverse loop) ≡ o → table_in_block sectors first o ≡ Some t → IsSlotTable c number t
-      from-block loop closes (Some b) last same =
-          from-read loop closes b last (table_of b sectors first) refl same
-      from-block loop closes None last same = cc
-
-      from-loop : (r : Result (List BlockView) LoopFault) → loop_of bytes ≡ r → table_in_loop sectors first r ≡ Some t
-          → IsSlotTable c number t
-      from-loop (Ok loop) closes same = from-block loop closes (find has_table (reverse loop)) refl same
-      from-loop (Err f) closes same = cc
-
-  pub is-slot : (t : Table) → IsSlotTable c number t → table_at ≡ Some t
-  is-slot t is =
-      ap (table_in_loop sectors first) (loop_of-loop bytes is.loop is.closes)
-      ∙ (ap (table_in_block sectors first) (found-last has_table is.loop is.block is.last) ∙ ap result_ok is.read)
-
--- the table of a content by those of its slots
-table-at : (c : Content) → table_in c ≡ found_of (table_at c 0) (table_at c 1)
-unfolding table_in
-table-at c = refl
+abbrev table_at : Content → ℕ → Option Table
+table_at c number = result_ok (slot_answer_in c number)
 
 not-below : (singleton lower : Bool) → (singleton || not lower) ≡ true → (singleton ≡ true) ⊎ (lower ≡ false)
 not-below true lower e = inl refl
@@ -95,7 +40,7 @@ found-at : (slot : ℕ) (t : Table) (f : Found) → f.slot ≡ slot → f.table 
 found-at slot t f at is = ap (λ k. Some (record { slot = k; table = t })) (sym at)
     ∙ ap (λ u. Some (record { slot = f.slot; table = u })) (sym is)
 
--- of the tables of two slots
+-- which of the tables of two slots is found
 module _ (one two : Option Table) (f : Found) where
   abbrev TakesFirst : Type 0
   TakesFirst = (f.slot ≡ 0) × (one ≡ Some f.table)
@@ -165,27 +110,27 @@ second-of (Some t) (Some u) f takes =
 
 pub table-words : (c : Content) (f : Found) → (table_in c ≡ Some f) ↔ IsTableIn c f
 table-words c f = (
-  λ e. elim (taken-of (table_at c 0) (table_at c 1) f (sym (table-at c) ∙ e)) [
+  λ e. elim (taken-of (table_at c 0) (table_at c 1) f (sym (table-found c) ∙ e)) [
     | inl takes ↦ inl (
       takes.0,
       record {
-        stands = slot-is c 0 f.table takes.1;
-        taken = λ u is. takes.2 u (is-slot c 1 u is);
+        stands = has-table c 0 f.table takes.1;
+        taken = λ u is. takes.2 u (table-has c 1 u is);
       },
     )
     | inr takes ↦ inr (
       takes.0,
       record {
-        stands = slot-is c 1 f.table takes.1;
-        taken = λ u is. takes.2 u (is-slot c 0 u is);
+        stands = has-table c 1 f.table takes.1;
+        taken = λ u is. takes.2 u (table-has c 0 u is);
       },
     )
   ],
   λ is. elim is [
-    | inl taken ↦ table-at c ∙ first-of (table_at c 0) (table_at c 1) f
-        (taken.0, is-slot c 0 f.table taken.1.stands, λ u at. taken.1.taken u (slot-is c 1 u at))
-    | inr taken ↦ table-at c ∙ second-of (table_at c 0) (table_at c 1) f
-        (taken.0, is-slot c 1 f.table taken.1.stands, λ u at. taken.1.taken u (slot-is c 0 u at))
+    | inl taken ↦ table-found c ∙ first-of (table_at c 0) (table_at c 1) f
+        (taken.0, table-has c 0 f.table taken.1.stands, λ u at. taken.1.taken u (has-table c 1 u at))
+    | inr taken ↦ table-found c ∙ second-of (table_at c 0) (table_at c 1) f
+        (taken.0, table-has c 1 f.table taken.1.stands, λ u at. taken.1.taken u (has-table c 0 u at))
   ],
 )
 
@@ -214,14 +159,14 @@ present o t none some = nothing t (sym none ∙ some)
 pub no-table-words : (c : Content)
     → (table_in c ≡ None) ↔ ((number : ℕ) (t : Table) → number ≤ 1 → IsSlotTable c number t → ⊥)
 no-table-words c = (
-  λ e number. by number (none-of (table_at c 0) (table_at c 1) (sym (table-at c) ∙ e)),
-  λ never. table-at c ∙ (ap (λ o. found_of o (table_at c 1))
-      (absent (table_at c 0) (λ t at. never 0 t (omega arith) (slot-is c 0 t at)))
-      ∙ ap (found_of None) (absent (table_at c 1) (λ t at. never 1 t (omega arith) (slot-is c 1 t at)))),
+  λ e number. by number (none-of (table_at c 0) (table_at c 1) (sym (table-found c) ∙ e)),
+  λ never. table-found c ∙ (ap (λ o. found_of o (table_at c 1))
+      (absent (table_at c 0) (λ t at. never 0 t (omega arith) (has-table c 0 t at)))
+      ∙ ap (found_of None) (absent (table_at c 1) (λ t at. never 1 t (omega arith) (has-table c 1 t at)))),
 )
   where
     by : (number : ℕ) → (table_at c 0 ≡ None) × (table_at c 1 ≡ None) → (t : Table) → number ≤ 1
         → IsSlotTable c number t → ⊥
-    by zero both t le is = present (table_at c 0) t both.0 (is-slot c 0 t is)
-    by (suc zero) both t le is = present (table_at c 1) t both.1 (is-slot c 1 t is)
+    by zero both t le is = present (table_at c 0) t both.0 (table-has c 0 t is)
+    by (suc zero) both t le is = present (table_at c 1) t both.1 (table-has c 1 t is)
     by (suc (suc n)) both t le is = absurd (omega (arith, le))

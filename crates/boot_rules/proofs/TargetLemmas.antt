@@ -29,8 +29,8 @@ use Rattle.boot_rules.specs.declared.decision.Decision.TheVariants.{Start}
 use Rattle.boot_rules.specs.Choosing.{boot_units_in, images_in, ordered_choice}
 use Rattle.boot_rules.specs.Chosen.{Chosen}
 use Rattle.boot_rules.specs.Picking.{taken, taken_member}
-use Rattle.boot_rules.specs.Starts.{load_unit_in, table_of_content}
-use Rattle.boot_rules.specs.Tables.{table_in}
+use Rattle.boot_rules.specs.Starts.{load_unit_in}
+use Rattle.boot_rules.specs.Tables.{table_in, table_of_content}
 use Rattle.boot_rules.specs.Targets.{deciding_in, deciding_unit, member_for, pair_target, target_of, unit_target}
 use Rattle.boot_rules.proofs.ChangeLemmas.{images-placed}
 use Rattle.boot_rules.proofs.ChoiceLemmas.{start-choice}
@@ -110,7 +110,7 @@ module _ (c : Content) (cpu : Cpu) (family : ℕ) (t : Option Table) (u : SlotUn
 no-owner : (parts : List Partition) (i : ℕ) → is_owned (part_at parts i) ≡ false → owner_of (part_at parts i) ≡ None
 no-owner parts i e = ap (λ yes. if yes then Some (link_value (part_at parts i)) else None) e
 
--- of a table: the target in the pair of partition i, and what is taken in the boot unit of partition j
+-- with a table: the target in the pair of partition i, and what is taken in the boot unit of partition j
 module _ (c : Content) (cpu : Cpu) (family : ℕ) (p : Table) (n : ℕ) (sound : IsSoundTable p n) (u : SlotUnit)
     (second : Window) (b : u.b ≡ Some second)
     (i : ℕ) (load : IsLoadUnit p.parts.items family u i) (j : ℕ) (v : SlotUnit) (k : ℕ)

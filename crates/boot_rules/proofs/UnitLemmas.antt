@@ -112,7 +112,7 @@ module _ (u : SlotUnit) (image : Member → Option Started) where
             updated_is = refl;
           })
 
-  -- and one with an update of this member
+  -- a choice with an update of this member
   abbrev updating : Member → Option Started → Option Started → Option Choice
   updating m a b = option_or (option_map (choice_of u m true) a) (option_map (choice_of u (other_of m) false) b)
 
@@ -169,7 +169,7 @@ unit-none images u (Some A) h B = (updating-none u (counting images u (Some A)) 
 unit-none images u (Some B) h A = (updating-none u (counting images u (Some B)) B _ _ h).1
 unit-none images u (Some B) h B = (updating-none u (counting images u (Some B)) B _ _ h).0
 
--- and one with a choice has it by the rules
+-- a unit with a choice has it by the rules
 pub unit-some : (images : Window → Bool → Option Started) (u : SlotUnit) (updated : Option Member) (choice : Choice)
     → unit_choice images u updated ≡ Some choice → IsUnitChoice (counting images u updated) u updated choice
 unit-some images u None choice h = plain-some u (counting images u None) _ _ refl refl choice h

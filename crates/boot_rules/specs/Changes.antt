@@ -1,4 +1,4 @@
--- What two states have in common as to the images of their windows. This project's own.
+-- What two states have in common as to the images of their windows.
 use Rattle.std.specs.Prelude.{◌≡◌, ◌≢◌, ℕ, Bool, List, slice_get, Option, Some, IfSome}
 use Rattle.pico_board.specs.declared.window.Window.{Window}
 use Rattle.image_def.specs.declared.started.Started.{Started}
@@ -11,12 +11,12 @@ use Rattle.slot_choice.specs.Units.{member_window}
 abbrev pub Images : Type 0
 Images = Window → Bool → Option Started
 
--- both have the same image in each member window of these units
+-- f and g have the same image in each member window of these units
 pub record HaveSameImages (f g : Images) (us : List SlotUnit) : Type 0 where
   pub same : (i : ℕ) (u : SlotUnit) (m : Member) (v : Window) (trial : Bool)
       → slice_get us i ≡ Some u → member_window m u ≡ Some v → f v trial ≡ g v trial
 
--- both have the same image in each of them but w
+-- f and g have the same image in each member window of these units but w
 pub record HaveSameImagesBut (w : Window) (f g : Images) (us : List SlotUnit) : Type 0 where
   pub same : (i : ℕ) (u : SlotUnit) (m : Member) (v : Window) (trial : Bool)
       → slice_get us i ≡ Some u → member_window m u ≡ Some v → v ≢ w → f v trial ≡ g v trial

@@ -24,7 +24,7 @@ use Rattle.image_check.specs.Image.{image_at}
 use Rattle.boot_rules.specs.declared.decision.Decision.{Decision}
 use Rattle.boot_rules.specs.declared.decision.Decision.TheVariants.{Start, Bootsel}
 use Rattle.boot_rules.specs.declared.decision.Fall.TheVariants.{Requested, FlashOff, NoImage}
-use Rattle.boot_rules.specs.Tables.{table_in}
+use Rattle.boot_rules.specs.Tables.{table_of_content}
 
 -- the other member of a pair
 abbrev pub other_of : Member → Member
@@ -89,8 +89,7 @@ order_of AskBootsel us = record { units = us; updated = None }
 -- the boot units of a content, in table order
 abbrev pub boot_units_in : Content → Cpu → List SlotUnit
 boot_units_in c cpu =
-    units (option_map (λ found. found.table) (table_in c)) (length c.flash)
-    (slot_size c.otp (length c.flash)) cpu
+    units (table_of_content c) (length c.flash) (slot_size c.otp (length c.flash)) cpu
 
 -- the images of a content
 abbrev pub images_in : Content → Cpu → Window → Bool → Option Started

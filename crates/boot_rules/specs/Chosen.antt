@@ -1,6 +1,6 @@
 -- The decision of a boot as the rules name it (RP2350 Datasheet, chapter 5, Bootrom; this project's
 -- own where the datasheet is open; the order of versions and the update rule as a whole): Chosen,
--- and Home.
+-- and IsBootMember.
 use Rattle.std.specs.Prelude.{◌≡◌, ◌⊎◌, ℕ, zero, suc, ◌<◌, Bool, true, false, IsTrue, slice_get, Option, Some, None, MatchBool}
 use Rattle.pico_board.specs.declared.boot.Cpu.{Cpu}
 use Rattle.pico_board.specs.declared.boot.BootKind.{BootKind}
@@ -91,8 +91,8 @@ Chosen c cpu AskBootsel d = d ≡ Bootsel Requested
 Chosen c cpu Normal d = ChosenInFlash c cpu Normal d
 Chosen c cpu (Update base) d = ChosenInFlash c cpu (Update base) d
 
--- Home: the window is a member of a boot unit that is a pair
-pub record Home (c : Content) (w : Window) (cpu : Cpu) : Type 0 where
+-- IsBootMember: the window is a member of a boot unit that is a pair
+pub record IsBootMember (c : Content) (w : Window) (cpu : Cpu) : Type 0 where
   pub place : ℕ
   pub unit : SlotUnit
   pub member : Member

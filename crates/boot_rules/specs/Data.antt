@@ -1,4 +1,4 @@
--- DataOf: the data windows of a started image (this project's own).
+-- The data windows of a started image: `data_of`.
 use Rattle.std.specs.Prelude.{ℕ, Bool, true, false, ◌==◌, ◌&&◌, List, [], map, position, Option, Some, None, option_and_then}
 use Rattle.pico_board.specs.declared.window.Window.{Window}
 use Rattle.part_table.specs.declared.partition.Partition.{Partition}
@@ -34,8 +34,9 @@ owner_windows t second None = []
 owner_windows t second (Some owner) =
     map (partition_window t) (data_parts t.parts.items owner second)
 
--- DataOf: of each partition whose owner is the A of the started unit, in table order, the window of
--- its B where B was started and it has one, and its own otherwise; nothing without a table
+-- the data windows of a started image: of each partition whose owner is the A of the started unit,
+-- in table order, the window of its B where B was started and it has one, and its own otherwise;
+-- nothing without a table
 abbrev pub data_of : Option Table → Choice → List Window
 data_of None choice = []
 data_of (Some t) choice = owner_windows t (is_second_member choice.member) (started_part t choice)

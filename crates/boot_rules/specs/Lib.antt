@@ -1,3 +1,4 @@
+-- These definitions are this project's own, except where a comment names a public source.
 pub mod Tables
 pub mod TableRules
 pub mod Choosing
@@ -9,3 +10,4 @@ pub mod Stages
 pub mod Targets
 pub mod Data
 pub mod Starts
+pub mod AccidentalImages

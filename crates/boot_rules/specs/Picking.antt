@@ -1,4 +1,4 @@
--- Pick: the image of a unit that a normal boot would take (this project's own).
+-- The image of a unit that a normal boot would take: `pick`.
 use Rattle.std.specs.Prelude.{◌≡◌, ℕ, ◌≤◌, ◌+◌, false, Option, Some, None, option_map, IfSome}
 use Rattle.pico_board.specs.declared.boot.Cpu.{Cpu}
 use Rattle.pico_board.specs.declared.window.Window.{Window}
@@ -20,7 +20,7 @@ taken c cpu u = unit_choice (images_in c cpu) u None
 abbrev pub taken_member : Content → Cpu → SlotUnit → Option Member
 taken_member c cpu u = option_map (λ (choice : Choice). choice.member) (taken c cpu u)
 
--- Pick: its image
+-- the image of a unit that a normal boot would take, if there is one
 abbrev pub pick : Content → SlotUnit → Cpu → Option Started
 pick c u cpu = option_map (λ (choice : Choice). choice.image) (taken c cpu u)
 

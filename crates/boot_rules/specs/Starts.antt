@@ -1,5 +1,5 @@
--- What a start says of the content that it is chosen on. This project's own.
-use Rattle.std.specs.Prelude.{◌≡◌, ◌⊎◌, ℕ, ◌<◌, length, slice_get, true, Option, Some, option_map}
+-- What a start says of the content that it is chosen on.
+use Rattle.std.specs.Prelude.{◌≡◌, ◌⊎◌, ℕ, ◌<◌, length, slice_get, true, Option, Some}
 use Rattle.pico_board.specs.declared.boot.Cpu.{Cpu}
 use Rattle.pico_board.specs.declared.window.Window.{Window}
 use Rattle.pico_board.specs.Content.{Content}
@@ -15,10 +15,7 @@ use Rattle.slot_choice.specs.Units.{IsMember, member_window, unit_of}
 use Rattle.boot_rules.specs.declared.tables.Found.{Found}
 use Rattle.boot_rules.specs.Choosing.{boot_units_in, other_of}
 use Rattle.boot_rules.specs.Tables.{table_in}
-
--- the table of a content without its slot, if there is one
-abbrev pub table_of_content : Content → Option Table
-table_of_content c = option_map (λ (found : Found). found.table) (table_in c)
+pub use Rattle.boot_rules.specs.Tables.{table_of_content}
 
 -- the unit that a download of a family goes to, for the content's own table
 abbrev pub load_unit_in : Content → ℕ → Option SlotUnit

@@ -1,4 +1,4 @@
--- TargetOf: where a download of a UF2 family goes (this project's own).
+-- Where a download of a UF2 family goes: `target_of`.
 use Rattle.std.specs.Prelude.{ℕ, ◌<◌, Bool, false, IfSome, ◌==◌, ◌||◌, List, length, Option, Some, None, option_map}
 use Rattle.std.specs.Option.{option_map_or}
 use Rattle.pico_board.specs.declared.boot.Cpu.{Cpu}
@@ -42,25 +42,25 @@ member_for (Some B) = A
 member_for None = A
 
 -- bit 13 of a partition's flags; what is no partition has none
-abbrev pub stays : Option Table → Option ℕ → Bool
-stays None i = false
-stays (Some t) None = false
-stays (Some t) (Some i) = is_staying (part_at t.parts.items i)
+abbrev pub is_staying_target : Option Table → Option ℕ → Bool
+is_staying_target None i = false
+is_staying_target (Some t) None = false
+is_staying_target (Some t) (Some i) = is_staying (part_at t.parts.items i)
 
 -- a target in the member of a pair, whose B has this window
 abbrev pub pair_target : Option Table → ℕ → SlotUnit → Window → Member → Target
 pair_target t family u second A =
-    record { window = u.a; gated = is_executable family; stay = stays t u.a_part }
+    record { window = u.a; gated = is_executable family; stay = is_staying_target t u.a_part }
 pair_target t family u second B =
-    record { window = second; gated = is_executable family; stay = stays t u.b_part }
+    record { window = second; gated = is_executable family; stay = is_staying_target t u.b_part }
 
 -- the target in a load unit whose B is given, where it has one
 abbrev pub unit_target : Content → Option Table → Cpu → ℕ → SlotUnit → Option Window → Target
-unit_target c t cpu family u None = record { window = u.a; gated = false; stay = stays t u.a_part }
+unit_target c t cpu family u None = record { window = u.a; gated = false; stay = is_staying_target t u.a_part }
 unit_target c t cpu family u (Some second) =
     pair_target t family u second (member_for (taken_member c cpu (deciding_unit t u)))
 
--- TargetOf: the target of a family for a table, or none
+-- the target of a family for a table, or none
 abbrev pub target_of : Content → Option Table → Cpu → ℕ → Option Target
 target_of c t cpu family =
     option_map (λ (u : SlotUnit). unit_target c t cpu family u u.b)

@@ -3,42 +3,17 @@
 ghost use Rattle.std.specs.Prelude.{◌≡◌, All, IsTrue, None, length};
 ghost use Rattle.sector_pool.specs.Keeping.{KeepsOut};
 ghost use Rattle.sector_pool.specs.Pool.{HasFree};
-ghost use Rattle.boot_rules.specs.Choosing.{boot_units_in, decision_in, decision_of, flash_decision, images_in, order_of, ordered_choice};
+ghost use Rattle.boot_rules.specs.Choosing.{decision_in, flash_decision, images_in, ordered_choice};
 ghost use Rattle.boot_rules.specs.Chosen.{Chosen};
 ghost use Rattle.boot_rules.specs.Picking.{AreInside};
 
-use crate::decision::{Decision, Fall};
+use crate::decision::{Decision, Fall, decision_of};
 use crate::picking::{taken, unit_choice};
-use crate::tables::find_table;
-use arrayvec::ArrayVec;
-use otp_roll::{flash_off, slot_size};
+use crate::units::{boot_units_in, order_of};
+use otp_roll::flash_off;
 use pico_board::{Board, BootKind, Cpu};
 use sector_pool::SectorPool;
-use slot_choice::{Choice, Member, SlotUnit, boot_units, update_first};
-
-/// The boot units of the board's flash, in table order.
-fn boot_units_in<B: Board>(board: &B, cpu: Cpu) -> ArrayVec<SlotUnit, 15>
-    requires power { IsTrue (B.state board.now).powered }
-    ensures { result.items ≡ boot_units_in (B.state board.now).content cpu }
-{
-    let size = slot_size(board);
-    match find_table(board) {
-        Some(found) => boot_units(Some(&found.table), board.flash_len(), size, cpu),
-        None => boot_units(None, board.flash_len(), size, cpu),
-    }
-}
-
-/// Brings the units into the order in which a boot of this kind tries them, and names the updated
-/// member of the first one.
-fn order_of(units: &mut ArrayVec<SlotUnit, 15>, kind: BootKind) -> Option<Member>
-    ensures { order_of kind units.old.items ≡ record { units = units.new.items; updated = result } }
-{
-    match kind {
-        BootKind::Update(base) => update_first(units, base),
-        BootKind::Normal => None,
-        BootKind::Bootsel => None,
-    }
-}
+use slot_choice::{Choice, Member, SlotUnit};
 
 /// The choice of the first unit that has one, where none is updated.
 fn first_taken<B: Board>(
@@ -83,16 +58,6 @@ fn ordered_choice<B: Board>(
     match unit_choice(board, pool, first, updated, cpu) {
         Some(choice) => Some(choice),
         None => first_taken(board, pool, others, cpu),
-    }
-}
-
-/// The decision of a choice.
-fn decision_of(choice: Option<Choice>) -> Decision
-    ensures { result ≡ decision_of choice }
-{
-    match choice {
-        Some(choice) => Decision::Start(choice),
-        None => Decision::Bootsel(Fall::NoImage),
     }
 }
 

@@ -1,5 +1,8 @@
 //! What a boot decides.
 
+ghost use Rattle.std.specs.Prelude.{◌≡◌};
+ghost use Rattle.boot_rules.specs.Choosing.{decision_of};
+
 use slot_choice::Choice;
 
 /// Why a boot falls to BOOTSEL, in the order of the checks (RP2350 Datasheet, chapter 5, Bootrom).
@@ -20,4 +23,14 @@ pub enum Decision {
     Start(Choice),
     /// No image starts.
     Bootsel(Fall),
+}
+
+/// The decision of a choice.
+pub fn decision_of(choice: Option<Choice>) -> Decision
+    ensures { result ≡ decision_of choice }
+{
+    match choice {
+        Some(choice) => Decision::Start(choice),
+        None => Decision::Bootsel(Fall::NoImage),
+    }
 }

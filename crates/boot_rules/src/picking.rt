@@ -11,7 +11,7 @@ ghost use Rattle.sector_pool.specs.Pool.{HasFree};
 ghost use Rattle.slot_choice.specs.Units.{member_window};
 ghost use Rattle.boot_rules.specs.Choosing.{choice_of, images_in, member_image, other_of, unit_choice};
 ghost use Rattle.boot_rules.specs.Picking.{taken, AreInside, IsInside};
-ghost use Rattle.boot_rules.specs.Stages.{seen_in, seen_version};
+ghost use Rattle.boot_rules.specs.Stages.{candidate_in, candidate_version};
 
 use block_codec::Version;
 use image_check::{Addressing, Candidate, Started, check, confirm, examine};
@@ -40,7 +40,7 @@ pub fn member_window(unit: &SlotUnit, member: Member) -> Option<Window>
 }
 
 /// The choice of a member's image.
-fn choice_of(unit: &SlotUnit, member: Member, updated: bool, image: Started) -> Choice
+pub fn choice_of(unit: &SlotUnit, member: Member, updated: bool, image: Started) -> Choice
     ensures { result ≡ choice_of unit.now member updated image }
 {
     Choice {
@@ -101,10 +101,10 @@ fn updated_choice<B: Board>(
 }
 
 /// The image of a window before its digest is made, where no trial image is allowed.
-fn seen_in<B: Board>(board: &B, window: Option<Window>, cpu: Cpu) -> Option<Candidate>
+fn candidate_in<B: Board>(board: &B, window: Option<Window>, cpu: Cpu) -> Option<Candidate>
     requires power { IsTrue (B.state board.now).powered }
     requires inside { IfSome window (IsInside (length (B.state board.now).content.flash)) }
-    ensures exact { result ≡ seen_in (B.state board.now).content cpu window }
+    ensures exact { result ≡ candidate_in (B.state board.now).content cpu window }
     ensures sound { IfSome result (λ c. IsDefinition c.block c.def) }
     ensures stored { (w : Window) → window ≡ Some w → IfSome result
         (λ c. AreStoredIn (length (window_bytes (B.state board.now).content w)) c.loads.items) }
@@ -118,9 +118,9 @@ fn seen_in<B: Board>(board: &B, window: Option<Window>, cpu: Cpu) -> Option<Cand
     }
 }
 
-/// The version that is seen.
+/// The version of the image that was seen of a member.
 fn version_of(seen: &Option<Candidate>) -> Option<Version>
-    ensures { result ≡ seen_version seen.now }
+    ensures { result ≡ candidate_version seen.now }
 {
     match seen {
         Some(candidate) => Some(candidate.def.version),
@@ -143,7 +143,7 @@ fn confirmed<B: Board>(
     requires stored { (w : Window) → member_window member unit.now ≡ Some w → IfSome seen.now
         (λ c. AreStoredIn (length (window_bytes (B.state board.now).content w)) c.loads.items) }
     ensures exact { (cpu : Cpu) → seen.now
-        ≡ seen_in (B.state board.now).content cpu (member_window member unit.now)
+        ≡ candidate_in (B.state board.now).content cpu (member_window member unit.now)
         → result ≡ option_map (choice_of unit.now member false)
         (member_image (images_in (B.state board.now).content cpu) unit.now member false) }
     ensures kept { KeepsOut pool.old pool.new }
@@ -175,8 +175,8 @@ pub(crate) fn taken<B: Board>(
     ensures exact { result ≡ taken (B.state board.now).content cpu unit.now }
     ensures kept { KeepsOut pool.old pool.new }
 {
-    let first = seen_in(board, Some(unit.a), cpu);
-    let second = seen_in(board, unit.b, cpu);
+    let first = candidate_in(board, Some(unit.a), cpu);
+    let second = candidate_in(board, unit.b, cpu);
     match better(version_of(&first), version_of(&second)) {
         None => None,
         Some(Member::A) => match confirmed(board, pool, unit, Member::A, &first) {

@@ -1,15 +1,16 @@
-//! The partition table of a flash.
+//! The table of each slot, or why it has none, and the partition table of a flash.
 
-ghost use Rattle.std.specs.Prelude.{◌≡◌, ◌+◌, ◌*◌, ◌/◌, ◌≤◌, List, IfSome, IsTrue, Ok, Some, find, length, reverse, true};
+ghost use Rattle.std.specs.Prelude.{◌≡◌, ◌+◌, ◌*◌, ◌/◌, ◌≤◌, List, IfOk, IfSome, IsTrue, Ok, Some, find, length, reverse, true};
 ghost use Rattle.block_codec.specs.Blocks.{BlockView};
 ghost use Rattle.block_loop.specs.Loop.{loop_of};
 ghost use Rattle.block_loop.specs.Offsets.{AreLoop};
-ghost use Rattle.part_table.specs.Faults.{table_fault};
 ghost use Rattle.part_table.specs.Sound.{IsSoundTable};
-ghost use Rattle.part_table.specs.TableOf.{has_table};
+ghost use Rattle.part_table.specs.TableOf.{has_table, table_of};
 ghost use Rattle.pico_board.specs.Content.{window_bytes};
-ghost use Rattle.boot_rules.specs.Tables.{found_of, slot_table, table_in};
+ghost use Rattle.boot_rules.specs.TableRules.{IsSlotAnswer};
+ghost use Rattle.boot_rules.specs.Tables.{block_answer, found_of, slot_answer, slot_answer_in, table_in};
 
+use crate::slots::SlotFault;
 use block_codec::Block;
 use block_loop::{BlockLoop, block_of, walk};
 use otp_roll::slot_size;
@@ -27,7 +28,7 @@ pub struct Found {
 }
 
 /// The last block of the view's loop that has a PARTITION_TABLE item.
-pub fn table_block<V: View>(view: &V, found: &BlockLoop) -> Option<Block>
+fn table_block<V: View>(view: &V, found: &BlockLoop) -> Option<Block>
     requires loop_ { AreLoop (V.bytes view.now) found.now }
     ensures last { (loop : List BlockView) → loop_of (V.bytes view.now) ≡ Ok loop
         → result ≡ find has_table (reverse loop) }
@@ -43,38 +44,80 @@ pub fn table_block<V: View>(view: &V, found: &BlockLoop) -> Option<Block>
     last
 }
 
-/// The table of a slot of a flash of so many sectors, whose first free one is given.
-fn slot_table<V: View>(view: &V, sectors: u32, first: u32) -> Option<Table>
-    ensures { result ≡ slot_table sectors first (V.bytes view.now) }
+/// What is read of a block that has a table, in a flash of so many sectors whose first free one is
+/// given.
+fn block_answer(block: &Block, sectors: u32, first: u32) -> Result<Table, SlotFault>
+    requires { has_table block.now ≡ true }
+    ensures exact { result ≡ block_answer (table_of block.now sectors first) }
+    ensures sound { IfOk result (λ t. IsSoundTable t sectors) }
 {
-    let found = match walk(view) {
-        Ok(found) => found,
-        Err(_) => return None,
-    };
-    match table_block(view, &found) {
-        Some(block) => read_table(&block, sectors, first).ok(),
-        None => None,
+    match read_table(block, sectors, first) {
+        Ok(table) => Ok(table),
+        Err(fault) => Err(SlotFault::Table(fault)),
     }
 }
 
-/// The table of the slot of this size and number.
-fn table_of_slot<B: Board>(board: &B, size: u32, number: u32) -> Option<Table>
+/// The table of a slot of a flash of so many sectors, whose first free one is given, or why the
+/// slot has none.
+fn view_answer<V: View>(view: &V, sectors: u32, first: u32) -> Result<Table, SlotFault>
+    ensures exact { result ≡ slot_answer sectors first (V.bytes view.now) }
+    ensures sound { IfOk result (λ t. IsSoundTable t sectors) }
+{
+    let found = match walk(view) {
+        Ok(found) => found,
+        Err(fault) => return Err(SlotFault::Loop(fault)),
+    };
+    match table_block(view, &found) {
+        Some(block) => block_answer(&block, sectors, first),
+        None => Err(SlotFault::NoTable),
+    }
+}
+
+/// The table of the slot of this size and number, or why it has none.
+fn answer_of_slot<B: Board>(board: &B, size: u32, number: u32) -> Result<Table, SlotFault>
     requires power { IsTrue (B.state board.now).powered }
     requires number { number ≤ 1 }
     requires inside { 2 * size ≤ length (B.state board.now).content.flash }
-    ensures { result ≡ slot_table (length (B.state board.now).content.flash / 4096)
+    ensures exact { result ≡ slot_answer (length (B.state board.now).content.flash / 4096)
         (2 * size / 4096)
         (window_bytes (B.state board.now).content (record { start = number * size; len = size })) }
+    ensures sound { IfOk result
+        (λ t. IsSoundTable t (length (B.state board.now).content.flash / 4096)) }
 {
     let window = Window {
         start: number * size,
         len: size,
     };
-    slot_table(
+    view_answer(
         &FlashView { board, window },
         board.flash_len() / 4096,
         2 * size / 4096,
     )
+}
+
+/// The table of slot 0 or 1 of the board's flash, or why it has none.
+fn slot_answer_in<B: Board>(board: &B, number: u32) -> Result<Table, SlotFault>
+    requires power { IsTrue (B.state board.now).powered }
+    requires number { number ≤ 1 }
+    ensures exact { result ≡ slot_answer_in (B.state board.now).content number }
+    ensures sound { IfOk result
+        (λ t. IsSoundTable t (length (B.state board.now).content.flash / 4096)) }
+{
+    answer_of_slot(board, slot_size(board), number)
+}
+
+/// The table of slot 0 or 1, or why it has none: its loop has a fault; or no block of its loop has
+/// a PARTITION_TABLE item; or the last block that has one is read to a fault. (RP2350 Datasheet,
+/// chapter 5, "Partition tables".)
+pub fn slot_answer<B: Board>(board: &B, number: u32) -> Result<Table, SlotFault>
+    requires power { IsTrue (B.state board.now).powered }
+    requires number { number ≤ 1 }
+    ensures exact { result ≡ slot_answer_in (B.state board.now).content number }
+    ensures rules { IsSlotAnswer (B.state board.now).content number result }
+    ensures sound { IfOk result
+        (λ t. IsSoundTable t (length (B.state board.now).content.flash / 4096)) }
+{
+    slot_answer_in(board, number)
 }
 
 /// Which of the tables of the two slots is the one of the flash.
@@ -98,14 +141,13 @@ fn found_of(first: Option<Table>, second: Option<Table>) -> Option<Found>
     }
 }
 
-/// The partition table of the board's flash.
+/// The partition table of the board's flash. Why a slot has none is forgotten.
 #[tactic(auto, unfolding(crate::specs::Tables::table_in))]
 fn table_in<B: Board>(board: &B) -> Option<Found>
     requires power { IsTrue (B.state board.now).powered }
     ensures { result ≡ table_in (B.state board.now).content }
 {
-    let size = slot_size(board);
-    found_of(table_of_slot(board, size, 0), table_of_slot(board, size, 1))
+    found_of(slot_answer_in(board, 0).ok(), slot_answer_in(board, 1).ok())
 }
 
 /// The partition table of a board's flash and the slot that it stands in, 0 or 1. None exactly

@@ -5,8 +5,8 @@ ghost use Rattle.part_table.specs.Sound.{IsSoundTable};
 ghost use Rattle.sector_pool.specs.Keeping.{KeepsOut};
 ghost use Rattle.sector_pool.specs.Pool.{HasFree};
 ghost use Rattle.slot_choice.specs.Units.{IsSoundFor};
-ghost use Rattle.part_table.specs.Windows.{IsPlaced};
-ghost use Rattle.boot_rules.specs.Targets.{deciding_in, deciding_unit, is_executable, member_for, pair_target, stays, target_of, unit_target, AreLoadsOf};
+ghost use Rattle.part_table.specs.Windows.{IsPlacedWindow};
+ghost use Rattle.boot_rules.specs.Targets.{deciding_in, deciding_unit, is_executable, member_for, pair_target, is_staying_target, target_of, unit_target, AreLoadsOf};
 
 use crate::picking::taken;
 use otp_roll::slot_size;
@@ -24,8 +24,8 @@ pub fn is_executable(family: u32) -> bool
 }
 
 /// Bit 13 of a partition's flags; what is no partition has none.
-fn stays(table: Option<&Table>, part: Option<u32>) -> bool
-    ensures { result ≡ stays (option_map (λ t. t.now) table.entry) part }
+fn is_staying_target(table: Option<&Table>, part: Option<u32>) -> bool
+    ensures { result ≡ is_staying_target (option_map (λ t. t.now) table.entry) part }
 {
     let (Some(table), Some(i)) = (table, part) else {
         return false;
@@ -81,12 +81,12 @@ fn pair_target(
         Member::A => Target {
             window: unit.a,
             gated,
-            stay: stays(table, unit.a_part),
+            stay: is_staying_target(table, unit.a_part),
         },
         Member::B => Target {
             window: second,
             gated,
-            stay: stays(table, unit.b_part),
+            stay: is_staying_target(table, unit.b_part),
         },
     }
 }
@@ -128,7 +128,7 @@ fn unit_target<B: Board>(
         return Target {
             window: unit.a,
             gated: false,
-            stay: stays(table, unit.a_part),
+            stay: is_staying_target(table, unit.a_part),
         };
     };
     let deciding = deciding_unit(table, unit);
@@ -136,12 +136,12 @@ fn unit_target<B: Board>(
     pair_target(table, family, &unit, second, member)
 }
 
-/// Where a download of a UF2 family goes. None exactly where the family has no load unit. In a pair
-/// whose A has an owner it is B where a normal boot would take A of the owner's unit, and A
+/// Where a download of a UF2 family goes. None exactly where the family has no load unit. In a
+/// pair whose A has an owner it is B where a normal boot would take A of the owner's unit, and A
 /// otherwise; in another pair it is the member that a normal boot would not take, A where it would
-/// take none. The target is gated where it is a member of a pair and the family is one of the three
-/// of executables, and it stays where bit 13 of its partition's flags says so. It takes no memory,
-/// and the pool keeps what is out. (This project's own.)
+/// take none. The target is gated where it is a member of a pair and the family is one of the
+/// three of executables, and it stays where bit 13 of its partition's flags says so. It takes no
+/// memory, and the pool keeps what is out.
 pub fn target<B: Board>(
     board: &B,
     pool: &mut SectorPool,
@@ -156,7 +156,7 @@ pub fn target<B: Board>(
     ensures exact { result ≡ target_of (B.state board.now).content
         (option_map (λ t. t.now) table.entry) cpu family }
     ensures placed { IfSome result
-        (λ t. IsPlaced t.window (length (B.state board.now).content.flash / 4096) 0) }
+        (λ t. IsPlacedWindow t.window (length (B.state board.now).content.flash / 4096) 0) }
     ensures kept { KeepsOut pool.old pool.new }
 {
     match load_unit(table, board.flash_len(), slot_size(board), family) {

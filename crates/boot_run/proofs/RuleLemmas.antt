@@ -9,34 +9,34 @@ use Rattle.boot_rules.specs.declared.decision.Decision.TheVariants.{Start, Boots
 use Rattle.boot_rules.specs.Choosing.{decision_in}
 use Rattle.boot_rules.specs.Chosen.{Chosen}
 use Rattle.boot_rules.proofs.DecisionLemmas.{decision-chosen, chosen-decision}
-use Rattle.run_course.specs.declared.status.Status.TheVariants.{Input as Refused, Bootsel}
-use Rattle.run_course.specs.Outcomes.{AreOfBytes, Outcome, Answers, found, outcome_found}
-use Rattle.run_course.proofs.ReadLemmas.{found-long}
-use Rattle.run_words.specs.Commands.{Command, Boot, Info, OwnedData, Explain, Map, Replay, Sweep, Chart, Seal, Elf, Firm, Table, Usage, Release, Uf2, Plan, Copy, ListScript, WriteScript, Gen}
-use Rattle.run_words.specs.Usages.{usage_text, release_line}
-use Rattle.run_forms.specs.declared.forms.Form.TheVariants.{Flash, Otp}
-use Rattle.run_forms.specs.Forms.{HasForm, content_of}
-use Rattle.run_forms.specs.Inputs.{flash_and_otp, readings, first_fault, unless_refused}
-use Rattle.run_forms.specs.Rules.{WorksBy}
-use Rattle.run_forms.proofs.InputLemmas.{Judged, all_formed, one_faulty, judged-first, formed-none, readings-long}
-use Rattle.run_forms.proofs.WorkLemmas.{work-obeys, work-only, work-refused, none-works}
-use Rattle.board_work.specs.Rules.{decided_status}
-use Rattle.board_work.proofs.BoardWorkLemmas.{boot-works, info-works, data-works}
-use Rattle.reason_work.proofs.ReasonWorkLemmas.{explain-works}
-use Rattle.map_work.proofs.MapWorkLemmas.{map-works}
-use Rattle.script_work.proofs.ReplayRuleLemmas.{replay-works}
-use Rattle.picture_work.proofs.ChartRuleLemmas.{chart-works}
-use Rattle.sweep_work.proofs.FirmRuleLemmas.{firm-works}
-use Rattle.sweep_work.proofs.SweepRuleLemmas.{sweep-works}
-use Rattle.text_work.proofs.CopyRuleLemmas.{copy-works}
-use Rattle.text_work.proofs.TextRuleLemmas.{list-works, write-works}
-use Rattle.tool_work.proofs.ElfLemmas.{elf-works}
-use Rattle.tool_work.proofs.SealCaseLemmas.{seal-works, table-works}
-use Rattle.tool_work.proofs.ToolLemmas.{uf2-works, plan-works, gen-works}
-use Rattle.boot_run.specs.Commands.{inputs_of, work_of, command_outcome, outcome_on, IsRefused, NeedsBytes, IsRefusedWork, IsRight, Tells, Obeys, FallsOn}
+use Rattle.cli_course.specs.declared.status.Status.TheVariants.{Input as Refused, Bootsel}
+use Rattle.cli_course.specs.Outcomes.{AreOfBytes, AnswerView, Answers, found, outcome_found}
+use Rattle.cli_course.proofs.ReadLemmas.{found-long}
+use Rattle.cli_words.specs.Commands.{CommandLineView, Boot, Info, OwnedData, Explain, Map, Replay, Sweep, Chart, Seal, Elf, Firm, Table, Usage, Release, Uf2, Plan, Copy, ListScript, WriteScript, Gen}
+use Rattle.cli_words.specs.Usages.{usage_text, release_line}
+use Rattle.cli_inputs.specs.declared.forms.Form.TheVariants.{Flash, Otp}
+use Rattle.cli_inputs.specs.Forms.{HasForm, content_of_files}
+use Rattle.cli_inputs.specs.Inputs.{flash_and_otp, readings, first_input_fault, unless_refused}
+use Rattle.cli_inputs.specs.Rules.{WorksBy}
+use Rattle.cli_inputs.proofs.InputLemmas.{Judged, all_formed, one_faulty, judged-first, formed-none, readings-long}
+use Rattle.cli_inputs.proofs.WorkLemmas.{work-obeys, work-only, work-refused, none-works}
+use Rattle.cli_boot.specs.Rules.{decided_status}
+use Rattle.cli_boot.proofs.BoardWorkLemmas.{boot-works, info-works, data-works}
+use Rattle.cli_explain.proofs.ReasonWorkLemmas.{explain-works}
+use Rattle.cli_map.proofs.MapWorkLemmas.{map-works}
+use Rattle.cli_scripts.proofs.ReplayRuleLemmas.{replay-works}
+use Rattle.cli_sweep.proofs.ChartRuleLemmas.{chart-works}
+use Rattle.cli_sweep.proofs.FirmRuleLemmas.{firm-works}
+use Rattle.cli_sweep.proofs.SweepRuleLemmas.{sweep-works}
+use Rattle.cli_scripts.proofs.CopyRuleLemmas.{copy-works}
+use Rattle.cli_scripts.proofs.TextRuleLemmas.{list-works, write-works}
+use Rattle.cli_tools.proofs.ElfLemmas.{elf-works}
+use Rattle.cli_tools.proofs.SealCaseLemmas.{seal-works, table-works}
+use Rattle.cli_tools.proofs.ToolLemmas.{uf2-works, plan-works, gen-works}
+use Rattle.boot_run.specs.Commands.{inputs_of, work_of, command_outcome, outcome_on, IsRefusedCommand, NeedsBytes, IsRefusedWork, IsRight, Tells, Obeys, FallsOn}
 
 -- the work of each command is right by the rules
-works : (command : Command)
+works : (command : CommandLineView)
     → WorksBy (inputs_of command) (NeedsBytes command) (work_of command) (IsRefusedWork command) (IsRight command)
 works (Boot flash otp cpu kind) = boot-works flash otp cpu kind
 works (Info flash otp cpu) = info-works flash otp cpu
@@ -62,28 +62,28 @@ works Release =
     none-works (λ read. ⊤) (Answers false release_line []) (Tells release_line) refl (λ o right. right) (λ h. cc)
 
 -- the outcome of each command on the bytes of its inputs is right by the rules
-pub obeys : (command : Command) (read : List (List ℕ)) → length read ≡ length (inputs_of command)
+pub obeys : (command : CommandLineView) (read : List (List ℕ)) → length read ≡ length (inputs_of command)
     → NeedsBytes command read → Obeys command read (command_outcome command read)
 obeys command =
     work-obeys (inputs_of command) (NeedsBytes command) (work_of command) (IsRefusedWork command) (IsRight command)
     (works command)
 
 -- only the outcome of a command is right
-pub only : (command : Command) (read : List (List ℕ)) (o : Outcome) → Obeys command read o
+pub only : (command : CommandLineView) (read : List (List ℕ)) (o : AnswerView) → Obeys command read o
     → o ≡ command_outcome command read
 only command =
     work-only (inputs_of command) (NeedsBytes command) (work_of command) (IsRefusedWork command) (IsRight command)
     (works command)
 
 -- the status is Input exactly where an input breaks its form, or the work refuses one
-pub refused-exactly : (command : Command) (read : List (List ℕ)) → length read ≡ length (inputs_of command)
-    → ((command_outcome command read).status ≡ Refused) ↔ IsRefused command read
+pub refused-exactly : (command : CommandLineView) (read : List (List ℕ)) → length read ≡ length (inputs_of command)
+    → ((command_outcome command read).status ≡ Refused) ↔ IsRefusedCommand command read
 refused-exactly command =
     work-refused (inputs_of command) (NeedsBytes command) (work_of command) (IsRefusedWork command) (IsRight command)
     (works command)
 
 -- inputs of bytes serve every command
-pub bytes-serve : (command : Command) (read : List (List ℕ)) → AreOfBytes read → NeedsBytes command read
+pub bytes-serve : (command : CommandLineView) (read : List (List ℕ)) → AreOfBytes read → NeedsBytes command read
 bytes-serve (Boot flash otp cpu kind) read small = tt
 bytes-serve (Info flash otp cpu) read small = tt
 bytes-serve (OwnedData flash otp cpu kind) read small = tt
@@ -106,7 +106,7 @@ bytes-serve Usage read small = tt
 bytes-serve Release read small = tt
 
 -- the outcome on files that have all inputs is right
-pub whole-right : (command : Command) (files : List File) (read : List (List ℕ))
+pub whole-right : (command : CommandLineView) (files : List File) (read : List (List ℕ))
     → found files (readings (inputs_of command)) ≡ Some read → NeedsBytes command read
     → Obeys command read (outcome_on (Some command) files)
 whole-right command files read there small =
@@ -114,7 +114,8 @@ whole-right command files read there small =
     (obeys command read
     (found-long files (readings (inputs_of command)) read there ∙ readings-long (inputs_of command)) small)
 
-fall-then : (f g : List ℕ) (cpu : Cpu) (kind : BootKind) (d : Decision) → decision_in (content_of f g) cpu kind ≡ d
+fall-then : (f g : List ℕ) (cpu : Cpu) (kind : BootKind) (d : Decision)
+    → decision_in (content_of_files f g) cpu kind ≡ d
     → decided_status d ≡ Bootsel
     → HasForm Flash f → HasForm Otp g → FallsOn f g cpu kind
 fall-then f g cpu kind (Start choice) is h flash otp = cc
@@ -122,32 +123,35 @@ fall-then f g cpu kind (FallsToBootsel fall) is h flash otp = record {
   fall = fall;
   flash = flash;
   otp = otp;
-  chosen = subst (λ (d : Decision). Chosen (content_of f g) cpu kind d) is (decision-chosen (content_of f g) cpu kind);
+  chosen = subst (λ (d : Decision). Chosen (content_of_files f g) cpu kind d) is
+      (decision-chosen (content_of_files f g) cpu kind);
 }
 
-falls-then : (flash otp f g : List ℕ) (cpu : Cpu) (kind : BootKind) (w : Outcome)
-    → w.status ≡ decided_status (decision_in (content_of f g) cpu kind)
-    → (o : Option Outcome) → Judged (flash_and_otp flash otp) (f ∷ g ∷ []) o → (unless_refused o w).status ≡ Bootsel
+falls-then : (flash otp f g : List ℕ) (cpu : Cpu) (kind : BootKind) (w : AnswerView)
+    → w.status ≡ decided_status (decision_in (content_of_files f g) cpu kind)
+    → (o : Option AnswerView) → Judged (flash_and_otp flash otp) (f ∷ g ∷ []) o → (unless_refused o w).status ≡ Bootsel
     → FallsOn f g cpu kind
 falls-then flash otp f g cpu kind w is None (all_formed all) h =
-    fall-then f g cpu kind (decision_in (content_of f g) cpu kind) refl (sym is ∙ h) all.0 all.1.0
+    fall-then f g cpu kind (decision_in (content_of_files f g) cpu kind) refl (sym is ∙ h) all.0 all.1.0
 falls-then flash otp f g cpu kind w is (Some _) (one_faulty name fault first) h = cc
 
-then-falls : (flash otp f g : List ℕ) (cpu : Cpu) (kind : BootKind) (w : Outcome)
-    → w.status ≡ decided_status (decision_in (content_of f g) cpu kind)
-    → FallsOn f g cpu kind → (unless_refused (first_fault (flash_and_otp flash otp) (f ∷ g ∷ [])) w).status ≡ Bootsel
+then-falls : (flash otp f g : List ℕ) (cpu : Cpu) (kind : BootKind) (w : AnswerView)
+    → w.status ≡ decided_status (decision_in (content_of_files f g) cpu kind)
+    → FallsOn f g cpu kind → (unless_refused (first_input_fault (flash_and_otp flash otp) (f ∷ g ∷ [])) w).status
+    ≡ Bootsel
 then-falls flash otp f g cpu kind w is falls =
     ap (λ o. (unless_refused o w).status)
     (formed-none (flash_and_otp flash otp) (f ∷ g ∷ []) (falls.flash, (falls.otp, tt)))
     ∙ (is ∙ ap decided_status
-    (sym (chosen-decision (content_of f g) cpu kind (FallsToBootsel falls.fall) falls.chosen)))
+    (sym (chosen-decision (content_of_files f g) cpu kind (FallsToBootsel falls.fall) falls.chosen)))
 
 -- a boot ends with Bootsel exactly where the rules name a fall
-pub falls-exactly : (flash otp f g : List ℕ) (cpu : Cpu) (kind : BootKind) (w : Outcome)
-    → w.status ≡ decided_status (decision_in (content_of f g) cpu kind)
-    → ((unless_refused (first_fault (flash_and_otp flash otp) (f ∷ g ∷ [])) w).status ≡ Bootsel) ↔ FallsOn f g cpu kind
+pub falls-exactly : (flash otp f g : List ℕ) (cpu : Cpu) (kind : BootKind) (w : AnswerView)
+    → w.status ≡ decided_status (decision_in (content_of_files f g) cpu kind)
+    → ((unless_refused (first_input_fault (flash_and_otp flash otp) (f ∷ g ∷ [])) w).status
+    ≡ Bootsel) ↔ FallsOn f g cpu kind
 falls-exactly flash otp f g cpu kind w is = (
-  falls-then flash otp f g cpu kind w is (first_fault (flash_and_otp flash otp) (f ∷ g ∷ []))
+  falls-then flash otp f g cpu kind w is (first_input_fault (flash_and_otp flash otp) (f ∷ g ∷ []))
       (judged-first (flash_and_otp flash otp) (f ∷ g ∷ []) refl),
   then-falls flash otp f g cpu kind w is,
 )

@@ -19,38 +19,38 @@ use Rattle.boot_rules.specs.declared.decision.Decision.{Decision}
 use Rattle.boot_rules.specs.declared.decision.Decision.TheVariants.{Start}
 use Rattle.boot_rules.specs.Chosen.{Chosen}
 use Rattle.boot_rules.proofs.DecisionLemmas.{chosen-decision, chosen-not_below}
-use Rattle.run_course.specs.declared.status.Status.{Status}
-use Rattle.run_course.specs.declared.status.Status.TheVariants.{Words, Input as Refused, ReadFault, WriteFault, OutputFault, Memory}
-use Rattle.run_forms.specs.declared.forms.Form.TheVariants.{Flash, Otp}
-use Rattle.run_words.specs.Commands.{Command, Boot}
-use Rattle.run_forms.specs.Forms.{HasForm, content_of}
-use Rattle.run_texts.specs.Texts.{decision_line}
-use Rattle.board_work.specs.Works.{boot_work}
-use Rattle.run_course.specs.Outcomes.{Outcome, outcome_found, found, found_next, worked, is_finished}
-use Rattle.boot_run.specs.Commands.{inputs_of, work_of, inputs_in, outcome_in, outcome_on, command_outcome, Names, Obeys, IsRefused}
-use Rattle.run_forms.specs.Inputs.{flash_and_otp, unless_refused, readings}
-use Rattle.board_work.specs.Rules.{decided_status}
-use Rattle.run_course.specs.Courses.{Runs}
-use Rattle.run_course.specs.Ends.{AreRead, LacksOne, Does, ShowsOutcome, LeftAt}
+use Rattle.cli_course.specs.declared.status.Status.{Status}
+use Rattle.cli_course.specs.declared.status.Status.TheVariants.{Words, Input as Refused, ReadFault, WriteFault, OutputFault, Memory}
+use Rattle.cli_inputs.specs.declared.forms.Form.TheVariants.{Flash, Otp}
+use Rattle.cli_words.specs.Commands.{CommandLineView, Boot}
+use Rattle.cli_inputs.specs.Forms.{HasForm, content_of_files}
+use Rattle.text_lines.specs.Texts.{decision_line}
+use Rattle.cli_boot.specs.Works.{boot_work}
+use Rattle.cli_course.specs.Outcomes.{AnswerView, outcome_found, found, found_next, worked, is_finished}
+use Rattle.boot_run.specs.Commands.{inputs_of, work_of, inputs_in, outcome_in, outcome_on, command_outcome, Names, Obeys, IsRefusedCommand}
+use Rattle.cli_inputs.specs.Inputs.{flash_and_otp, unless_refused, readings}
+use Rattle.cli_boot.specs.Rules.{decided_status}
+use Rattle.cli_course.specs.Courses.{Runs}
+use Rattle.cli_course.specs.Ends.{AreRead, LacksOne, DoesRun, ShowsOutcome, LeftAt}
 use Rattle.boot_run.proofs.RuleLemmas.{bytes-serve, obeys, refused-exactly}
-use Rattle.run_course.proofs.ReadLemmas.{are-found, not-lacking, read-bytes}
-use Rattle.run_forms.proofs.InputLemmas.{outcome-text, outcome-cut, formed-none, readings-long}
-use Rattle.board_work.proofs.BoardWorkLemmas.{decided, worked-decided}
-use Rattle.run_course.proofs.EndLemmas.{RunEnd, run-end, room, unread, cut_short, whole, put_fault, put_memory, Finished, end-finished}
+use Rattle.cli_course.proofs.ReadLemmas.{are-found, not-lacking, read-bytes}
+use Rattle.cli_inputs.proofs.InputLemmas.{outcome-text, outcome-cut, formed-none, readings-long}
+use Rattle.cli_boot.proofs.BoardWorkLemmas.{decided, worked-decided}
+use Rattle.cli_course.proofs.EndLemmas.{RunEnd, run-end, room, unread, cut_short, whole, put_fault, put_memory, Finished, end-finished}
 
 -- each outcome ends with a text
-pub outcome-finished : (command : Option Command) (read : List (List ℕ))
+pub outcome-finished : (command : Option CommandLineView) (read : List (List ℕ))
     → is_finished (outcome_in command read).status ≡ true
 outcome-finished None read = refl
 outcome-finished (Some command) read = (outcome-text (inputs_of command) (work_of command) read).0
 
-pub outcome-words : (command : Option Command) (read : List (List ℕ)) → (outcome_in command read).status ≡ Words
+pub outcome-words : (command : Option CommandLineView) (read : List (List ℕ)) → (outcome_in command read).status ≡ Words
     → command ≡ None
 outcome-words None read h = refl
 outcome-words (Some command) read h = absurd ((outcome-text (inputs_of command) (work_of command) read).1 h)
 
 -- the outcome of what is read of told files is that of the files
-pub outcome-told : (command : Option Command) (files : List File) (read : List (List ℕ))
+pub outcome-told : (command : Option CommandLineView) (files : List File) (read : List (List ℕ))
     → AreRead (Some files) (inputs_in command) read
     → outcome_in command read ≡ outcome_on command files
 outcome-told None files [] are = refl
@@ -63,32 +63,32 @@ outcome-told (Some command) files read are =
 
 -- the outcome of a boot on told files that have their forms is the decision that the rules name
 pub boot-told : (flash otp f g : List ℕ) (cpu : Cpu) (kind : BootKind) (files : List File) (d : Decision)
-    (command : Option Command)
+    (command : Option CommandLineView)
     → command ≡ Some (Boot flash otp cpu kind) → file_of files flash ≡ Some f → file_of files otp ≡ Some g
-    → HasForm Flash f → HasForm Otp g → Chosen (content_of f g) cpu kind d → outcome_on command files ≡ decided d
+    → HasForm Flash f → HasForm Otp g → Chosen (content_of_files f g) cpu kind d → outcome_on command files ≡ decided d
 boot-told flash otp f g cpu kind files d command asks is_f is_g flash_form otp_form chosen =
-    let boot : Command = Boot flash otp cpu kind in
+    let boot : CommandLineView = Boot flash otp cpu kind in
     let there : found files (readings (flash_and_otp flash otp)) ≡ Some (f ∷ g ∷ []) =
     ap (λ h. found_next h (found_next (file_of files otp) (Some []))) is_f ∙ ap
     (λ h. found_next (Some f) (found_next h (Some []))) is_g in
     ap (λ c. outcome_on c files) asks
     ∙ (ap (outcome_found (command_outcome boot)) there
-    ∙ (ap (λ o. unless_refused o (worked (boot_work (content_of f g) cpu kind)))
+    ∙ (ap (λ o. unless_refused o (worked (boot_work (content_of_files f g) cpu kind)))
     (formed-none (flash_and_otp flash otp) (f ∷ g ∷ []) (flash_form, (otp_form, tt)))
-    ∙ (worked-decided (content_of f g) cpu kind ∙ ap decided
-    (sym (chosen-decision (content_of f g) cpu kind d chosen)))))
+    ∙ (worked-decided (content_of_files f g) cpu kind ∙ ap decided
+    (sym (chosen-decision (content_of_files f g) cpu kind d chosen)))))
 
 -- how a run of this command, or of other words, ends
 pub run-ends : {S : Type 0} {state : S → StoreState} {history : S → List Access → Type 0} {K : Type 0}
     {shown : K → SinkState} {taken : K → List Put → Type 0} {old new : S} {before after : K} {status : Status}
-    (command : Option Command)
+    (command : Option CommandLineView)
     → Runs state history shown taken (inputs_in command) (outcome_in command) old before status new after
     → RunEnd state history shown taken (inputs_in command) (outcome_in command) old before status new after
 run-ends command runs = run-end _ _ _ _ (inputs_in command) (outcome_in command) _ _ _ _ _ runs
 
 module _ {S : Type 0} (state : S → StoreState) (history : S → List Access → Type 0) {K : Type 0} (shown : K → SinkState)
     (taken : K → List Put → Type 0)
-    (command : Option Command) (old new : S) (before after : K) (status : Status) where
+    (command : Option CommandLineView) (old new : S) (before after : K) (status : Status) where
   abbrev pub Ends : Type 0
   Ends = RunEnd state history shown taken (inputs_in command) (outcome_in command) old before status new after
 
@@ -111,34 +111,34 @@ module _ {S : Type 0} (state : S → StoreState) (history : S → List Access �
   pub run-boot : Ends → (flash otp f g : List ℕ) (cpu : Cpu) (kind : BootKind) (files : List File) (d : Decision)
       → command ≡ Some (Boot flash otp cpu kind) → (state old).files ≡ Some files → file_of files flash ≡ Some f
       → file_of files otp ≡ Some g
-      → HasForm Flash f → HasForm Otp g → is_finished status ≡ true → Chosen (content_of f g) cpu kind d
+      → HasForm Flash f → HasForm Otp g → is_finished status ≡ true → Chosen (content_of_files f g) cpu kind d
       → (status ≡ decided_status d) × IsPut (shown before).bytes (decision_line d) (shown after).bytes
-      × ((choice : Choice) → d ≡ Start choice → NotBelow (content_of f g).otp choice.image)
+      × ((choice : Choice) → d ≡ Start choice → NotBelow (content_of_files f g).otp choice.image)
   run-boot ends flash otp f g cpu kind files d asks told is_f is_g flash_form otp_form h chosen =
       let same = boot-told flash otp f g cpu kind files d command asks is_f is_g flash_form otp_form chosen in
       let t = subst (λ o. ShowsOutcome o (state old) (shown before) status (state new) (shown after)) same
       (run-told ends files told h) in (
         t.answer,
         t.text,
-        λ choice starts. chosen-not_below (content_of f g) cpu kind choice
-            (subst (λ (e : Decision). Chosen (content_of f g) cpu kind e) starts chosen),
+        λ choice starts. chosen-not_below (content_of_files f g) cpu kind choice
+            (subst (λ (e : Decision). Chosen (content_of_files f g) cpu kind e) starts chosen),
       )
 
   pub run-session : Ends → (flash otp f g : List ℕ) (cpu : Cpu) (files : List File) (c : Content) (w : Window)
       (steps : List Step) (former : Decision)
       → command ≡ Some (Boot flash otp cpu Normal) → (state old).files ≡ Some files → file_of files flash ≡ Some f
       → file_of files otp ≡ Some g → HasForm Flash f → HasForm Otp g → is_finished status ≡ true
-      → CutSession c w cpu steps (content_of f g) former
+      → CutSession c w cpu steps (content_of_files f g) former
       → Names former status (shown before) (shown after)
-      ⊎ ((whole : StartsFinished (after_all c steps) (content_of f g) cpu)
+      ⊎ ((whole : StartsFinished (after_all c steps) (content_of_files f g) cpu)
       × Names (Start whole.choice) status (shown before) (shown after))
   run-session ends flash otp f g cpu files c w steps former asks told is_f is_g flash_form otp_form h lost =
-      elim (gated-decision c w cpu steps (content_of f g) former lost) [
+      elim (gated-decision c w cpu steps (content_of_files f g) former lost) [
         | inl same ↦ inl (named former same)
         | inr finished ↦ inr (finished, named (Start finished.choice) finished.here)
       ]
     where
-      named : (d : Decision) → Chosen (content_of f g) cpu Normal d → Names d status (shown before) (shown after)
+      named : (d : Decision) → Chosen (content_of_files f g) cpu Normal d → Names d status (shown before) (shown after)
       named d chosen =
           let is = run-boot ends flash otp f g cpu Normal files d asks told is_f is_g flash_form otp_form h chosen in
           (is.0, is.1)
@@ -147,17 +147,17 @@ module _ {S : Type 0} (state : S → StoreState) (history : S → List Access �
       (steps : List Step) (former : Decision)
       → command ≡ Some (Boot flash otp cpu Normal) → (state old).files ≡ Some files → file_of files flash ≡ Some f
       → file_of files otp ≡ Some g → HasForm Flash f → HasForm Otp g → is_finished status ≡ true
-      → ConfinedSession c w cpu steps (content_of f g) former
+      → ConfinedSession c w cpu steps (content_of_files f g) former
       → Names former status (shown before) (shown after)
-      ⊎ ((there : StartsThere (content_of f g) w cpu)
+      ⊎ ((there : StartsThere (content_of_files f g) w cpu)
       × Names (Start there.choice) status (shown before) (shown after))
   run-confined ends flash otp f g cpu files c w steps former asks told is_f is_g flash_form otp_form h session =
-      elim (confined-session c w cpu steps (content_of f g) former session) [
+      elim (confined-session c w cpu steps (content_of_files f g) former session) [
         | inl same ↦ inl (named former same)
         | inr there ↦ inr (there, named (Start there.choice) there.chosen)
       ]
     where
-      named : (d : Decision) → Chosen (content_of f g) cpu Normal d → Names d status (shown before) (shown after)
+      named : (d : Decision) → Chosen (content_of_files f g) cpu Normal d → Names d status (shown before) (shown after)
       named d chosen =
           let is = run-boot ends flash otp f g cpu Normal files d asks told is_f is_g flash_form otp_form h chosen in
           (is.0, is.1)
@@ -224,15 +224,15 @@ module _ {S : Type 0} (state : S → StoreState) (history : S → List Access �
   run-steady (put_memory short is) s k lacks = inr is
 
   -- what the rules say of a command's run that puts its whole text
-  pub record RunObeys (c : Command) : Type 0 where
+  pub record RunObeys (c : CommandLineView) : Type 0 where
     pub read : List (List ℕ)
-    pub o : Outcome
+    pub o : AnswerView
     pub right : Obeys c read o
     pub answer : status ≡ o.status
-    pub input : (status ≡ Refused) ↔ IsRefused c read
-    pub does : Does state history shown taken (readings (inputs_of c)) read o old before new after
+    pub input : (status ≡ Refused) ↔ IsRefusedCommand c read
+    pub does : DoesRun state history shown taken (readings (inputs_of c)) read o old before new after
 
-  pub run-obeys : Ends → (c : Command) → command ≡ Some c → is_finished status ≡ true → RunObeys c
+  pub run-obeys : Ends → (c : CommandLineView) → command ≡ Some c → is_finished status ≡ true → RunObeys c
   run-obeys ends c asks h =
       let f = done ends h in
       let long : length f.read ≡ length (inputs_of c) =
@@ -247,6 +247,6 @@ module _ {S : Type 0} (state : S → StoreState) (history : S → List Access �
         answer = is;
         input = (λ e. exactly.0 (sym is ∙ e), λ r. is ∙ exactly.1 r);
         does = subst
-            (λ x. Does state history shown taken (inputs_in x) f.read
+            (λ x. DoesRun state history shown taken (inputs_in x) f.read
             (outcome_in x f.read) old before new after) asks f.does;
       }

@@ -3,24 +3,24 @@
 -- of a boot.
 use Rattle.std.specs.Prelude.{ℕ, false, List, [], Option, Some, None, ◌≡◌, ⊤}
 use Rattle.pico_board.specs.Files.{File}
-use Rattle.run_course.specs.Outcomes.{Input, Outcome, Work, Answers, not_understood, found, outcome_found, AreOfBytes}
-use Rattle.run_words.specs.Commands.{Command, Boot, Info, OwnedData, Explain, Map, Replay, Sweep, Chart, Seal, Elf, Firm, Table, Usage, Release, Uf2, Plan, Copy, ListScript, WriteScript, Gen}
-use Rattle.run_words.specs.Usages.{usage_text, release_line}
-use Rattle.run_forms.specs.Forms.{content_of, HasForm}
-use Rattle.run_forms.specs.Jsons.{spec_read, table_read}
-use Rattle.run_forms.specs.Inputs.{InputFile, readings, flash_and_otp, flash_otp_script, flash_otp_script_pattern, flash_otp_image, binary_and_spec, elf_and_spec, one_json, image_alone, uf2_alone, script_alone, text_alone, of_one, of_two, of_three, of_four, outcome_by}
-use Rattle.board_work.specs.Works.{boot_work, info_work, data_work}
-use Rattle.reason_work.specs.Works.{explain_work}
-use Rattle.map_work.specs.Works.{map_work}
-use Rattle.script_work.specs.Works.{replay_work}
-use Rattle.picture_work.specs.ChartWorks.{chart_work}
-use Rattle.sweep_work.specs.FirmWorks.{firm_work}
-use Rattle.text_work.specs.Copies.{copy_work}
-use Rattle.text_work.specs.TextWorks.{list_work, write_work}
-use Rattle.sweep_work.specs.SweepWorks.{sweep_work}
-use Rattle.tool_work.specs.Elfs.{elf_work, IsElfOf, IsElfRefused}
-use Rattle.tool_work.specs.Tools.{seal_work, table_work}
-use Rattle.tool_work.specs.ToolWorks.{uf2_work, plan_work, gen_work}
+use Rattle.cli_course.specs.Outcomes.{LimitedInputView, AnswerView, Work, Answers, not_understood, found, outcome_found, AreOfBytes}
+use Rattle.cli_words.specs.Commands.{CommandLineView, Boot, Info, OwnedData, Explain, Map, Replay, Sweep, Chart, Seal, Elf, Firm, Table, Usage, Release, Uf2, Plan, Copy, ListScript, WriteScript, Gen}
+use Rattle.cli_words.specs.Usages.{usage_text, release_line}
+use Rattle.cli_inputs.specs.Forms.{content_of_files, HasForm}
+use Rattle.cli_inputs.specs.Jsons.{spec_read, table_read}
+use Rattle.cli_inputs.specs.Inputs.{FormInputView, readings, flash_and_otp, flash_otp_script, flash_otp_script_pattern, flash_otp_image, binary_and_spec, elf_and_spec, one_json, image_alone, uf2_alone, script_alone, text_alone, of_one, of_two, of_three, of_four, outcome_by}
+use Rattle.cli_boot.specs.Works.{boot_work, info_work, data_work}
+use Rattle.cli_explain.specs.Works.{explain_work}
+use Rattle.cli_map.specs.Works.{map_work}
+use Rattle.cli_scripts.specs.ReplayWorks.{replay_work}
+use Rattle.cli_sweep.specs.ChartWorks.{chart_work}
+use Rattle.cli_sweep.specs.FirmWorks.{firm_work}
+use Rattle.cli_scripts.specs.Copies.{copy_work}
+use Rattle.cli_scripts.specs.TextWorks.{list_work, write_work}
+use Rattle.cli_sweep.specs.SweepWorks.{sweep_work}
+use Rattle.cli_tools.specs.Elfs.{elf_work, IsElfOf, IsElfRefused}
+use Rattle.cli_tools.specs.Tools.{seal_work, table_work}
+use Rattle.cli_tools.specs.ToolWorks.{uf2_work, plan_work, gen_work}
 use Rattle.pico_board.specs.declared.boot.Cpu.{Cpu}
 use Rattle.pico_board.specs.declared.boot.BootKind.{BootKind}
 use Rattle.pico_board.specs.Puts.{IsPut, SinkState}
@@ -28,24 +28,24 @@ use Rattle.boot_rules.specs.declared.decision.Decision.{Decision}
 use Rattle.boot_rules.specs.declared.decision.Decision.TheVariants.{Bootsel as FallsToBootsel}
 use Rattle.boot_rules.specs.declared.decision.Fall.{Fall}
 use Rattle.boot_rules.specs.Chosen.{Chosen}
-use Rattle.run_course.specs.declared.status.Status.{Status}
-use Rattle.run_course.specs.declared.status.Status.TheVariants.{Done}
-use Rattle.run_texts.specs.Texts.{decision_line}
-use Rattle.run_forms.specs.declared.forms.Form.TheVariants.{Flash, Otp}
-use Rattle.run_forms.specs.Rules.{OfOne, OfTwo, OfThree, OfFour, IsRefusedFor, IsWorked}
-use Rattle.board_work.specs.Rules.{decided_status, IsBootOf, IsInfoOf, IsDataOf}
-use Rattle.reason_work.specs.Rules.{IsExplainOf}
-use Rattle.map_work.specs.Rules.{IsMapOf}
-use Rattle.script_work.specs.Rules.{IsReplayOf}
-use Rattle.text_work.specs.Rules.{IsCopyOf, IsListOf, IsTextRefused, IsWrittenOf}
-use Rattle.picture_work.specs.Rules.{IsChartOf}
-use Rattle.sweep_work.specs.Rules.{IsFirmOf, IsFirmRefused, IsSweepOf, IsSweepRefused}
-use Rattle.tool_work.specs.Seals.{IsUnsealed}
-use Rattle.tool_work.specs.SealRules.{IsSealedOf, IsTableOf}
-use Rattle.tool_work.specs.ToolRules.{IsUf2Refused, IsUf2Of, IsPlanRefused, IsPlanOf, IsGenOf}
+use Rattle.cli_course.specs.declared.status.Status.{Status}
+use Rattle.cli_course.specs.declared.status.Status.TheVariants.{Done}
+use Rattle.text_lines.specs.Texts.{decision_line}
+use Rattle.cli_inputs.specs.declared.forms.Form.TheVariants.{Flash, Otp}
+use Rattle.cli_inputs.specs.Rules.{OfOne, OfTwo, OfThree, OfFour, IsRefusedFor, IsWorked}
+use Rattle.cli_boot.specs.Rules.{decided_status, IsBootOutcome, IsInfoOutcome, IsDataOutcome}
+use Rattle.cli_explain.specs.Rules.{IsExplainOf}
+use Rattle.cli_map.specs.Rules.{IsMapOf}
+use Rattle.cli_scripts.specs.ReplayRules.{IsReplayOf}
+use Rattle.cli_scripts.specs.TextRules.{IsCopyOf, IsListOf, IsTextRefused, IsWrittenOf}
+use Rattle.cli_sweep.specs.ChartRules.{IsChartOf}
+use Rattle.cli_sweep.specs.SweepRules.{IsFirmOf, IsFirmRefused, IsSweepOf, IsSweepRefused}
+use Rattle.cli_tools.specs.Seals.{IsUnsealed}
+use Rattle.cli_tools.specs.SealRules.{IsSealedOf, IsTableOf}
+use Rattle.cli_tools.specs.ToolRules.{IsUf2Refused, IsUf2Of, IsPlanRefused, IsPlanOf, IsGenOf}
 
 -- the inputs of a command, in word order
-abbrev pub inputs_of : Command → List InputFile
+abbrev pub inputs_of : CommandLineView → List FormInputView
 inputs_of (Boot flash otp cpu kind) = flash_and_otp flash otp
 inputs_of (Info flash otp cpu) = flash_and_otp flash otp
 inputs_of (OwnedData flash otp cpu kind) = flash_and_otp flash otp
@@ -70,26 +70,26 @@ inputs_of Usage = []
 inputs_of Release = []
 
 -- the work of a command on the bytes of its inputs
-abbrev pub work_of : Command → List (List ℕ) → Work
-work_of (Boot flash otp cpu kind) = of_two (λ f g. boot_work (content_of f g) cpu kind)
-work_of (Info flash otp cpu) = of_two (λ f g. info_work (content_of f g) cpu)
-work_of (OwnedData flash otp cpu kind) = of_two (λ f g. data_work (content_of f g) cpu kind)
+abbrev pub work_of : CommandLineView → List (List ℕ) → Work
+work_of (Boot flash otp cpu kind) = of_two (λ f g. boot_work (content_of_files f g) cpu kind)
+work_of (Info flash otp cpu) = of_two (λ f g. info_work (content_of_files f g) cpu)
+work_of (OwnedData flash otp cpu kind) = of_two (λ f g. data_work (content_of_files f g) cpu kind)
 work_of (Explain flash otp cpu kind) =
-    of_two (λ f g. explain_work (content_of f g) cpu kind)
-work_of (Map flash otp cpu out) = of_two (λ f g. map_work (content_of f g) cpu out)
+    of_two (λ f g. explain_work (content_of_files f g) cpu kind)
+work_of (Map flash otp cpu out) = of_two (λ f g. map_work (content_of_files f g) cpu out)
 work_of (Replay flash otp cpu script out_flash out_otp) =
-    of_three (λ f g s. replay_work (content_of f g) cpu s out_flash out_otp)
+    of_three (λ f g s. replay_work (content_of_files f g) cpu s out_flash out_otp)
 work_of (Sweep flash otp cpu script pattern) =
-    of_four (λ f g s p. sweep_work (content_of f g) cpu script s p)
+    of_four (λ f g s p. sweep_work (content_of_files f g) cpu script s p)
 work_of (Chart flash otp cpu script pattern out) =
-    of_four (λ f g s p. chart_work (content_of f g) cpu script out s p)
+    of_four (λ f g s p. chart_work (content_of_files f g) cpu script out s p)
 work_of (Seal binary spec out) = of_two (λ b s. seal_work binary spec out b (spec_read s))
 work_of (Elf elf spec out) = of_two (λ e s. elf_work elf spec out e (spec_read s))
 work_of (Firm image cpu) = of_one (λ i. firm_work image i cpu)
 work_of (Table json out) = of_one (λ j. table_work out (table_read j))
 work_of (Uf2 image family out) = of_one (uf2_work image family out)
 work_of (Plan flash otp cpu image out) =
-    of_three (λ f g i. plan_work (content_of f g) cpu image out i)
+    of_three (λ f g i. plan_work (content_of_files f g) cpu image out i)
 work_of (Copy uf2 out) = of_one (copy_work out)
 work_of (ListScript script) = of_one list_work
 work_of (WriteScript text out) = of_one (write_work text out)
@@ -98,29 +98,29 @@ work_of Usage = λ read. Answers false usage_text []
 work_of Release = λ read. Answers false release_line []
 
 -- the outcome of a command on the bytes of its inputs
-abbrev pub command_outcome : Command → List (List ℕ) → Outcome
+abbrev pub command_outcome : CommandLineView → List (List ℕ) → AnswerView
 command_outcome command read = outcome_by (inputs_of command) (work_of command) read
 
 -- what is read for the words: nothing where they are no command
-abbrev pub inputs_in : Option Command → List Input
+abbrev pub inputs_in : Option CommandLineView → List LimitedInputView
 inputs_in None = []
 inputs_in (Some command) = readings (inputs_of command)
 
 -- the outcome of the words on the bytes of the inputs
-abbrev pub outcome_in : Option Command → List (List ℕ) → Outcome
+abbrev pub outcome_in : Option CommandLineView → List (List ℕ) → AnswerView
 outcome_in None read = not_understood
 outcome_in (Some command) read = command_outcome command read
 
 -- the outcome of the words on these files
-abbrev pub outcome_on : Option Command → List File → Outcome
+abbrev pub outcome_on : Option CommandLineView → List File → AnswerView
 outcome_on command files = outcome_found (outcome_in command) (found files (inputs_in command))
 
 -- the work of a command refuses the input of this name with this fault
-abbrev pub IsRefusedWork : Command → List (List ℕ) → List ℕ → List ℕ → Type 0
+abbrev pub IsRefusedWork : CommandLineView → List (List ℕ) → List ℕ → List ℕ → Type 0
 IsRefusedWork (Sweep flash otp cpu script pattern) read name fault =
-    OfFour (λ f g s p. IsSweepRefused script (content_of f g) cpu s name fault) read
+    OfFour (λ f g s p. IsSweepRefused script (content_of_files f g) cpu s name fault) read
 IsRefusedWork (Chart flash otp cpu script pattern out) read name fault =
-    OfFour (λ f g s p. IsSweepRefused script (content_of f g) cpu s name fault) read
+    OfFour (λ f g s p. IsSweepRefused script (content_of_files f g) cpu s name fault) read
 IsRefusedWork (Seal binary spec out) read name fault =
     OfTwo (λ b s. IsUnsealed binary spec b s name fault) read
 IsRefusedWork (Elf elf spec out) read name fault =
@@ -132,41 +132,42 @@ IsRefusedWork (Uf2 image family out) read name fault =
 IsRefusedWork (WriteScript text out) read name fault =
     OfOne (λ t. IsTextRefused text t name fault) read
 IsRefusedWork (Plan flash otp cpu image out) read name fault =
-    OfThree (λ f g i. IsPlanRefused (content_of f g) cpu image i name fault) read
+    OfThree (λ f g i. IsPlanRefused (content_of_files f g) cpu image i name fault) read
 IsRefusedWork _ read name fault = ⊥
 
 -- an input of the command is refused
-abbrev pub IsRefused : Command → List (List ℕ) → Type 0
-IsRefused command read = (name : List ℕ) × (fault : List ℕ)
+abbrev pub IsRefusedCommand : CommandLineView → List (List ℕ) → Type 0
+IsRefusedCommand command read = (name : List ℕ) × (fault : List ℕ)
     × IsRefusedFor (inputs_of command) (IsRefusedWork command read) read name fault
 
 -- the outcome tells a text, is no fall and writes no file
-abbrev pub Tells : List ℕ → Outcome → Type 0
+abbrev pub Tells : List ℕ → AnswerView → Type 0
 Tells text o = o ≡ record { status = Done; text = text; files = [] }
 
 -- the outcome is right for a command on inputs that have their forms
-abbrev pub IsRight : Command → List (List ℕ) → Outcome → Type 0
-IsRight (Boot flash otp cpu kind) read o = OfTwo (λ f g. IsBootOf (content_of f g) cpu kind o) read
-IsRight (Info flash otp cpu) read o = OfTwo (λ f g. IsInfoOf (content_of f g) cpu o) read
+abbrev pub IsRight : CommandLineView → List (List ℕ) → AnswerView → Type 0
+IsRight (Boot flash otp cpu kind) read o = OfTwo
+    (λ f g. IsBootOutcome (content_of_files f g) cpu kind o) read
+IsRight (Info flash otp cpu) read o = OfTwo (λ f g. IsInfoOutcome (content_of_files f g) cpu o) read
 IsRight (OwnedData flash otp cpu kind) read o =
-    OfTwo (λ f g. IsDataOf (content_of f g) cpu kind o) read
+    OfTwo (λ f g. IsDataOutcome (content_of_files f g) cpu kind o) read
 IsRight (Explain flash otp cpu kind) read o =
-    OfTwo (λ f g. IsExplainOf (content_of f g) cpu kind o) read
+    OfTwo (λ f g. IsExplainOf (content_of_files f g) cpu kind o) read
 IsRight (Map flash otp cpu out) read o =
-    OfTwo (λ f g. IsMapOf (content_of f g) cpu out o) read
+    OfTwo (λ f g. IsMapOf (content_of_files f g) cpu out o) read
 IsRight (Replay flash otp cpu script out_flash out_otp) read o =
-    OfThree (λ f g s. IsReplayOf (content_of f g) cpu s out_flash out_otp o) read
+    OfThree (λ f g s. IsReplayOf (content_of_files f g) cpu s out_flash out_otp o) read
 IsRight (Sweep flash otp cpu script pattern) read o =
-    OfFour (λ f g s p. IsSweepOf (content_of f g) cpu s p o) read
+    OfFour (λ f g s p. IsSweepOf (content_of_files f g) cpu s p o) read
 IsRight (Chart flash otp cpu script pattern out) read o =
-    OfFour (λ f g s p. IsChartOf (content_of f g) cpu out s p o) read
+    OfFour (λ f g s p. IsChartOf (content_of_files f g) cpu out s p o) read
 IsRight (Seal binary spec out) read o = OfTwo (λ b s. IsSealedOf out b s o) read
 IsRight (Elf elf spec out) read o = OfTwo (λ e s. IsElfOf out e s o) read
 IsRight (Firm image cpu) read o = OfOne (λ i. IsFirmOf i cpu o) read
 IsRight (Table json out) read o = OfOne (λ j. IsTableOf out j o) read
 IsRight (Uf2 image family out) read o = OfOne (λ i. IsUf2Of i family out o) read
 IsRight (Plan flash otp cpu image out) read o =
-    OfThree (λ f g i. IsPlanOf (content_of f g) cpu i out o) read
+    OfThree (λ f g i. IsPlanOf (content_of_files f g) cpu i out o) read
 IsRight (Copy uf2 out) read o = OfOne (λ u. IsCopyOf u out o) read
 IsRight (ListScript script) read o = OfOne (λ s. IsListOf s o) read
 IsRight (WriteScript text out) read o = OfOne (λ t. IsWrittenOf t out o) read
@@ -177,14 +178,14 @@ IsRight Release read o = Tells release_line o
 -- The outcome is right for a command on the bytes of its inputs: it names the first input that
 -- breaks its form, or where each has its form the one that the work refuses; otherwise it is right
 -- by the command's own rules.
-abbrev pub Obeys : Command → List (List ℕ) → Outcome → Type 0
+abbrev pub Obeys : CommandLineView → List (List ℕ) → AnswerView → Type 0
 Obeys command read o =
     IsWorked (inputs_of command) (IsRefusedWork command read) (IsRight command read) read o
 
 -- the picture of a flash asks that its inputs are of bytes, since a content is; so do a replay, a
 -- sweep and its picture, since power that is lost in an erase leaves bytes, and the packing of an
 -- ELF file, since its entry is a word; the other commands ask nothing
-abbrev pub NeedsBytes : Command → List (List ℕ) → Type 0
+abbrev pub NeedsBytes : CommandLineView → List (List ℕ) → Type 0
 NeedsBytes (Map flash otp cpu out) read = AreOfBytes read
 NeedsBytes (Replay flash otp cpu script out_flash out_otp) read = AreOfBytes read
 NeedsBytes (Sweep flash otp cpu script pattern) read = AreOfBytes read
@@ -202,4 +203,4 @@ pub record FallsOn (f g : List ℕ) (cpu : Cpu) (kind : BootKind) : Type 0 where
   pub fall : Fall
   pub flash : HasForm Flash f
   pub otp : HasForm Otp g
-  pub chosen : Chosen (content_of f g) cpu kind (FallsToBootsel fall)
+  pub chosen : Chosen (content_of_files f g) cpu kind (FallsToBootsel fall)

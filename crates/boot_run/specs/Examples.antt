@@ -1,4 +1,4 @@
--- Worked sinks and decisions. This project's own.
+-- Worked sinks and decisions.
 use Rattle.std.specs.Prelude.{ℕ, true, List, Some}
 use Rattle.pico_board.specs.Puts.{SinkState}
 use Rattle.boot_rules.specs.declared.decision.Decision.{Decision}

@@ -8,8 +8,8 @@ pub mod laws;
 mod program;
 mod work;
 
-pub use program::run;
-pub use run_course::Status;
-pub use run_forms::{
+pub use cli_course::Status;
+pub use cli_inputs::{
     BINARY_LIMIT, FLASH_LIMIT, Form, IMAGE_LIMIT, JSON_LIMIT, OTP_LIMIT, RECORD_LIMIT, SCRIPT_LIMIT,
 };
+pub use program::run;

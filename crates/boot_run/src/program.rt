@@ -17,27 +17,27 @@ ghost use Rattle.slot_choice.specs.declared.choice.Choice.{Choice};
 ghost use Rattle.boot_rules.specs.declared.decision.Decision.{Decision};
 ghost use Rattle.boot_rules.specs.declared.decision.Decision.TheVariants.{Start};
 ghost use Rattle.boot_rules.specs.Chosen.{Chosen};
-ghost use Rattle.run_words.specs.Commands.{Command, Boot, asked, command_from};
-ghost use Rattle.run_forms.specs.Forms.{HasForm, content_of};
-ghost use Rattle.run_texts.specs.Texts.{decision_line};
-ghost use Rattle.run_forms.specs.Inputs.{readings};
-ghost use Rattle.run_course.specs.Outcomes.{Outcome, is_finished};
-ghost use Rattle.boot_run.specs.Commands.{inputs_of, inputs_in, outcome_in, outcome_on, command_outcome, Names, Obeys, IsRefused};
-ghost use Rattle.run_course.specs.Courses.{Runs};
-ghost use Rattle.board_work.specs.Rules.{decided_status};
-ghost use Rattle.run_course.specs.Ends.{Does, ShowsOutcome, LacksOne, IsCutShort, IsPutShort};
+ghost use Rattle.cli_words.specs.Commands.{CommandLineView, Boot, asked, command_from};
+ghost use Rattle.cli_inputs.specs.Forms.{HasForm, content_of_files};
+ghost use Rattle.text_lines.specs.Texts.{decision_line};
+ghost use Rattle.cli_inputs.specs.Inputs.{readings};
+ghost use Rattle.cli_course.specs.Outcomes.{AnswerView, is_finished};
+ghost use Rattle.boot_run.specs.Commands.{inputs_of, inputs_in, outcome_in, outcome_on, command_outcome, Names, Obeys, IsRefusedCommand};
+ghost use Rattle.cli_course.specs.Courses.{Runs};
+ghost use Rattle.cli_boot.specs.Rules.{decided_status};
+ghost use Rattle.cli_course.specs.Ends.{DoesRun, ShowsOutcome, LacksOne, IsCutShort, IsPutShort};
 
 use crate::work::{answer, inputs};
+use cli_course::{Status, finish, put_text, read_all};
+use cli_inputs::{Form, readings};
+use cli_words::{CommandLine, command};
 use pico_board::{Sink, SinkFail, Store};
-use run_course::{Status, finish, put_text, read_all};
-use run_forms::{Form, readings};
-use run_words::{CommandWords, command};
 use std::alloc::Global;
 
 /// Runs a command.
 fn run_command<S: Store, K: Sink>(
     alloc: Global,
-    command: &CommandWords<'_>,
+    command: &CommandLine<'_>,
     store: &mut S,
     out: &mut K,
 ) -> Status
@@ -103,10 +103,11 @@ pub fn run<S: Store, K: Sink>(
         → asked words.now ≡ Some (Boot flash otp cpu kind) → (S.state store.old).files ≡ Some files
         → file_of files flash ≡ Some f → file_of files otp ≡ Some g → HasForm Form.Flash f
         → HasForm Form.Otp g
-        → is_finished result ≡ true → Chosen (content_of f g) cpu kind d
+        → is_finished result ≡ true → Chosen (content_of_files f g) cpu kind d
         → (result ≡ decided_status d)
         × IsPut (K.state out.old).bytes (decision_line d) (K.state out.new).bytes
-        × ((choice : Choice) → d ≡ Start choice → NotBelow (content_of f g).otp choice.image) }
+        × ((choice : Choice) → d ≡ Start choice
+        → NotBelow (content_of_files f g).otp choice.image) }
 
     // The second half of the headline, on told files of what lost power left: after a gated session
     // on one slot of a pair, cut before or within any erase or page program, a normal boot names
@@ -117,32 +118,34 @@ pub fn run<S: Store, K: Sink>(
         → (S.state store.old).files ≡ Some files
         → file_of files flash ≡ Some f → file_of files otp ≡ Some g → HasForm Form.Flash f
         → HasForm Form.Otp g
-        → is_finished result ≡ true → CutSession c w cpu steps (content_of f g) former
+        → is_finished result ≡ true → CutSession c w cpu steps (content_of_files f g) former
         → Names former result (K.state out.old) (K.state out.new)
-        ⊎ ((whole : StartsFinished (after_all c steps) (content_of f g) cpu)
+        ⊎ ((whole : StartsFinished (after_all c steps) (content_of_files f g) cpu)
         × Names (Start whole.choice) result (K.state out.old) (K.state out.new)) }
 
-    // The same of any session that writes only one slot of a pair, done or cut anywhere, where the
-    // former answer is not in that slot: a normal boot names the former answer, or an image that is
-    // valid in the written slot. No luck is asked, and of the table only that none came.
+    // A session that writes only one slot of a pair, done or cut anywhere, where the former answer
+    // is not in that slot: a normal boot names the former answer, or an image that is valid in the
+    // written slot. It is not asked that the cut leaves no accidental image, and of the table only
+    // that none came.
     ensures confined { (flash otp f g : List ℕ) (cpu : Cpu) (files : List File) (c : Content)
         (w : Window) (steps : List Step) (former : Decision)
         → asked words.now ≡ Some (Boot flash otp cpu Normal)
         → (S.state store.old).files ≡ Some files
         → file_of files flash ≡ Some f → file_of files otp ≡ Some g → HasForm Form.Flash f
         → HasForm Form.Otp g
-        → is_finished result ≡ true → ConfinedSession c w cpu steps (content_of f g) former
+        → is_finished result ≡ true → ConfinedSession c w cpu steps (content_of_files f g) former
         → Names former result (K.state out.old) (K.state out.new)
-        ⊎ ((there : StartsThere (content_of f g) w cpu)
+        ⊎ ((there : StartsThere (content_of_files f g) w cpu)
         × Names (Start there.choice) result (K.state out.old) (K.state out.new)) }
 
     // What the rules say, on every store: the run read some bytes, and the text that it put, its
     // files and its status are right for the command on those bytes. `Input` comes exactly where
     // one of them breaks its form, or each has its form and the work refuses one.
-    ensures obeys { (command : Command) → asked words.now ≡ Some command → is_finished result ≡ true
-        → (read : List (List ℕ)) × (o : Outcome) × Obeys command read o × (result ≡ o.status)
-        × ((result ≡ Status.Input) ↔ IsRefused command read)
-        × Does S.state S.history K.state K.history
+    ensures obeys { (command : CommandLineView) → asked words.now ≡ Some command
+        → is_finished result ≡ true
+        → (read : List (List ℕ)) × (o : AnswerView) × Obeys command read o × (result ≡ o.status)
+        × ((result ≡ Status.Input) ↔ IsRefusedCommand command read)
+        × DoesRun S.state S.history K.state K.history
         (readings (inputs_of command)) read o store.old out.old store.new out.new }
 
     // The calls of a run in their order, how it ends, and its outcome by the bytes that were read.

@@ -11,38 +11,38 @@ use Rattle.pico_board.specs.Cuts.{IsPattern}
 use Rattle.pico_board.specs.declared.boot.BootKind.{BootKind}
 use Rattle.boot_script.specs.declared.event.ScriptFault.{ScriptFault}
 use Rattle.boot_script.specs.declared.event.ScriptFault.TheVariants.{Kind, Short, Pattern}
-use Rattle.boot_script.specs.Events.{Happening, End, Command, Uf2, Cut, PowerOn, Reset, Buy, IsWellFormed, IsWritable, base_of}
-use Rattle.boot_script.specs.Written.{written, part_of, kind_of}
-use Rattle.boot_script.specs.Reading.{with_rest, payload_in, command_in, uf2_in, cut_in, is_cut, reset_in, reset_of, reset_event, event_in, and_next, event_at}
+use Rattle.boot_script.specs.Events.{EventView, End, Command, Uf2, Cut, PowerOn, Reset, Buy, IsWellFormed, IsWritableEvent, base_of}
+use Rattle.boot_script.specs.Written.{written_event, cut_part_byte, reset_byte}
+use Rattle.boot_script.specs.Reading.{with_rest, payload_in, command_event_in, uf2_in, cut_event_in, is_cut, reset_in, reset_of, reset_event, event_in, and_next, event_at}
 use Rattle.boot_script.proofs.NumberLemmas.{AreBytes, bytes-drop, word-back, word-cells, half-cells}
 use Rattle.boot_script.proofs.ReadBackLemmas.{with_rest-is, payload_in-is, command_in-is, uf2_in-is, cut_in-is, reset_in-is}
 
 -- the bytes are those of the event, and then others
-pub record IsSpelled (bs : List ℕ) (e : Happening) : Type 0 where
+pub record IsSpelled (bs : List ℕ) (e : EventView) : Type 0 where
   pub rest : List ℕ
-  pub bytes : bs ≡ written e ++ rest
+  pub bytes : bs ≡ written_event e ++ rest
   pub well : IsWellFormed e
 
 -- what is read where the bytes are not there
-pub with_rest-short : (at size : ℕ) (rest : List ℕ) (event : List ℕ → Happening) → length rest < size
+pub with_rest-short : (at size : ℕ) (rest : List ℕ) (event : List ℕ → EventView) → length rest < size
     → with_rest at size rest event ≡ Err (Short at)
 with_rest-short at size rest event short = rw (lt-ltb (length rest) size short) refl
 
 pub payload_in-short : (at : ℕ) (command bs : List ℕ) → length bs < 4 → payload_in at command bs ≡ Err (Short at)
 payload_in-short at command bs short = rw (lt-ltb (length bs) 4 short) refl
 
-pub command_in-short : (at : ℕ) (bs : List ℕ) → length bs < 32 → command_in at bs ≡ Err (Short at)
+pub command_in-short : (at : ℕ) (bs : List ℕ) → length bs < 32 → command_event_in at bs ≡ Err (Short at)
 command_in-short at bs short = rw (lt-ltb (length bs) 32 short) refl
 
 pub uf2_in-short : (at : ℕ) (bs : List ℕ) → length bs < 512 → uf2_in at bs ≡ Err (Short at)
 uf2_in-short at bs short = rw (lt-ltb (length bs) 512 short) refl
 
-pub cut_in-short : (at : ℕ) (bs : List ℕ) → length bs < 7 → cut_in at bs ≡ Err (Short at)
+pub cut_in-short : (at : ℕ) (bs : List ℕ) → length bs < 7 → cut_event_in at bs ≡ Err (Short at)
 cut_in-short at bs short = rw (lt-ltb (length bs) 7 short) refl
 
 pub cut_in-bad : (at : ℕ) (bs : List ℕ) → 7 ≤ length bs
     → is_cut (slice_index bs 4) (little_number 2 (drop 5 bs)) ≡ false
-    → cut_in at bs ≡ Err (Pattern at)
+    → cut_event_in at bs ≡ Err (Pattern at)
 cut_in-bad at bs long bad = rw (le-ltb (length bs) 7 long, bad) refl
 
 pub reset_in-short : (at : ℕ) (bs : List ℕ) → length bs < 5 → reset_in at bs ≡ Err (Short at)
@@ -62,7 +62,7 @@ no-kind at kind rest past =
     ) refl
 
 -- a payload or a pattern that is read is there
-with_rest-found : (at size : ℕ) (rest : List ℕ) (event : List ℕ → Happening) (e : Happening)
+with_rest-found : (at size : ℕ) (rest : List ℕ) (event : List ℕ → EventView) (e : EventView)
     → with_rest at size rest event ≡ Ok e
     → (size ≤ length rest) × (e ≡ event (take size rest))
 with_rest-found at size rest event e read = by_size (cases_lt (length rest) size)
@@ -94,7 +94,7 @@ command-spelled command bs n long bytes there is inside =
       well = (long, omega (arith, size, is, little_from-lt 0 4 bs bytes));
     }
 
-payload-found : (at : ℕ) (command bs : List ℕ) (e : Happening) → length command ≡ 32 → AreBytes bs
+payload-found : (at : ℕ) (command bs : List ℕ) (e : EventView) → length command ≡ 32 → AreBytes bs
     → payload_in at command bs ≡ Ok e
     → IsSpelled (1 ∷ (command ++ bs)) e
 payload-found at command bs e long bytes read = by_size (cases_lt (length bs) 4)
@@ -107,7 +107,8 @@ payload-found at command bs e long bytes read = by_size (cases_lt (length bs) 4)
         subst (λ x. IsSpelled (1 ∷ (command ++ bs)) x) (sym found.1)
         (command-spelled command bs (little_number 4 bs) long bytes there refl found.0)
 
-command-found : (at : ℕ) (bs : List ℕ) (e : Happening) → AreBytes bs → command_in at bs ≡ Ok e → IsSpelled (1 ∷ bs) e
+command-found : (at : ℕ) (bs : List ℕ) (e : EventView) → AreBytes bs → command_event_in at bs ≡ Ok e
+    → IsSpelled (1 ∷ bs) e
 command-found at bs e bytes read = by_size (cases_lt (length bs) 32)
   where
     by_size : (length bs < 32) ⊎ (32 ≤ length bs) → IsSpelled (1 ∷ bs) e
@@ -117,7 +118,7 @@ command-found at bs e bytes read = by_size (cases_lt (length bs) 32)
         (payload-found at (take 32 bs) (drop 32 bs) e (length-take-le 32 bs there) (bytes-drop 32 bs bytes)
         (sym (command_in-is at bs there) ∙ read))
 
-uf2-found : (at : ℕ) (bs : List ℕ) (e : Happening) → uf2_in at bs ≡ Ok e → IsSpelled (2 ∷ bs) e
+uf2-found : (at : ℕ) (bs : List ℕ) (e : EventView) → uf2_in at bs ≡ Ok e → IsSpelled (2 ∷ bs) e
 uf2-found at bs e read = by_size (cases_lt (length bs) 512)
   where
     by_size : (length bs < 512) ⊎ (512 ≤ length bs) → IsSpelled (2 ∷ bs) e
@@ -148,7 +149,7 @@ pub is_cut-none : (part size : ℕ) → 2 ≤ part → is_cut part size ≡ fals
 is_cut-none part size more = rw (ne_eqb part 0 (omega arith), ne_eqb part 1 (omega arith)) refl
 
 cut-pattern : (part size : ℕ) (pattern : List ℕ) → is_cut part size ≡ true → length pattern ≡ size
-    → IsPattern (part == 1) pattern × (part_of (part == 1) ≡ part)
+    → IsPattern (part == 1) pattern × (cut_part_byte (part == 1) ≡ part)
 cut-pattern zero size pattern fits is = (is ∙ is_cut-before size fits, refl)
 cut-pattern (suc zero) size pattern fits is =
     let bounds = is_cut-within size fits in ((omega (arith, is, bounds.0), omega (arith, is, bounds.1)), refl)
@@ -179,11 +180,11 @@ cut-spelled (a ∷ b ∷ c ∷ d ∷ p ∷ x ∷ y ∷ bs) n bytes there is fits
           ∙ ap (λ q. 3 ∷ (little_bytes 4 (little_number 4 (a ∷ b ∷ c ∷ d ∷ []))
           ++ (q ∷ x ∷ y ∷ (take n bs ++ drop n bs)))) (sym pattern.1)
           ∙ ap (λ h. 3 ∷ (little_bytes 4 (little_number 4 (a ∷ b ∷ c ∷ d ∷ []))
-          ++ (part_of (p == 1) ∷ (h ++ (take n bs ++ drop n bs))))) (sym two);
+          ++ (cut_part_byte (p == 1) ∷ (h ++ (take n bs ++ drop n bs))))) (sym two);
       well = (little_from-lt 0 4 (a ∷ b ∷ c ∷ d ∷ p ∷ x ∷ y ∷ bs) bytes, pattern.0);
     }
 
-cut-found : (at : ℕ) (bs : List ℕ) (e : Happening) → AreBytes bs → cut_in at bs ≡ Ok e → IsSpelled (3 ∷ bs) e
+cut-found : (at : ℕ) (bs : List ℕ) (e : EventView) → AreBytes bs → cut_event_in at bs ≡ Ok e → IsSpelled (3 ∷ bs) e
 cut-found at bs e bytes read = by_size (cases_lt (length bs) 7)
   where
     by_fit : 7 ≤ length bs → (b : Bool) → is_cut (slice_index bs 4) (little_number 2 (drop 5 bs)) ≡ b
@@ -201,10 +202,10 @@ cut-found at bs e bytes read = by_size (cases_lt (length bs) 7)
 
 -- the boot that is found of a reset's kind byte and base has these
 pub reset_of-found : (kind base : ℕ) (boot : BootKind) → reset_of kind base ≡ Some boot
-    → (kind_of boot ≡ kind) × (base_of boot ≡ base)
+    → (reset_byte boot ≡ kind) × (base_of boot ≡ base)
 reset_of-found kind base boot is = grind (arith, common_steps, nat_tests)
 
-reset-spelled : (bs : List ℕ) (boot : BootKind) → AreBytes bs → 5 ≤ length bs → kind_of boot ≡ slice_index bs 0
+reset-spelled : (bs : List ℕ) (boot : BootKind) → AreBytes bs → 5 ≤ length bs → reset_byte boot ≡ slice_index bs 0
     → base_of boot ≡ little_number 4 (drop 1 bs)
     → IsSpelled (5 ∷ bs) (Reset boot)
 reset-spelled [] boot bytes there kind base = absurd (omega arith)
@@ -218,7 +219,7 @@ reset-spelled (k ∷ bs) boot bytes there kind base =
       well = omega (arith, base, little_from-lt 0 4 bs (λ i. bytes (suc i)));
     }
 
-reset-found : (at : ℕ) (bs : List ℕ) (e : Happening) → AreBytes bs → reset_in at bs ≡ Ok e → IsSpelled (5 ∷ bs) e
+reset-found : (at : ℕ) (bs : List ℕ) (e : EventView) → AreBytes bs → reset_in at bs ≡ Ok e → IsSpelled (5 ∷ bs) e
 reset-found at bs e bytes read = by_size (cases_lt (length bs) 5)
   where
     by_boot : 5 ≤ length bs → (found : Option BootKind)
@@ -234,15 +235,15 @@ reset-found at bs e bytes read = by_size (cases_lt (length bs) 5)
     by_size (inl short) = let none = reset_in-short at bs short in absurd (cc)
     by_size (inr there) = by_boot there _ refl (sym (reset_in-is at bs there) ∙ read)
 
-ok-same : (x e : Happening) → ◌≡◌ {A = Result Happening ScriptFault} (Ok x) (Ok e) → x ≡ e
+ok-same : (x e : EventView) → ◌≡◌ {A = Result EventView ScriptFault} (Ok x) (Ok e) → x ≡ e
 ok-same x e same = cc
 
-bare-found : (kind : ℕ) (bs : List ℕ) (x e : Happening) → x ≡ e → written x ≡ kind ∷ [] → IsWellFormed x
+bare-found : (kind : ℕ) (bs : List ℕ) (x e : EventView) → x ≡ e → written_event x ≡ kind ∷ [] → IsWellFormed x
     → IsSpelled (kind ∷ bs) e
 bare-found kind bs x e same is well =
     subst (λ y. IsSpelled (kind ∷ bs) y) same (record { rest = bs; bytes = ap (λ w. w ++ bs) (sym is); well = well })
 
-pub event-spelled : (at : ℕ) (bs : List ℕ) (e : Happening) → AreBytes bs → event_in at bs ≡ Ok e → IsSpelled bs e
+pub event-spelled : (at : ℕ) (bs : List ℕ) (e : EventView) → AreBytes bs → event_in at bs ≡ Ok e → IsSpelled bs e
 event-spelled at [] e bytes read = absurd (cc)
 event-spelled at (zero ∷ bs) e bytes read = bare-found 0 bs End e (ok-same End e read) refl tt
 event-spelled at (suc zero ∷ bs) e bytes read = command-found at bs e (λ i. bytes (suc i)) read
@@ -257,15 +258,15 @@ event-spelled at (suc (suc (suc (suc (suc (suc (suc kind)))))) ∷ bs) e bytes r
     let none = no-kind at (suc (suc (suc (suc (suc (suc (suc kind))))))) bs (omega arith) in absurd (cc)
 
 -- so it lies inside the bytes
-pub spelled-inside : (bs : List ℕ) (e : Happening) → IsSpelled bs e → length (written e) ≤ length bs
-spelled-inside bs e spelled = omega (arith, ap length spelled.bytes, length-append (written e) spelled.rest)
+pub spelled-inside : (bs : List ℕ) (e : EventView) → IsSpelled bs e → length (written_event e) ≤ length bs
+spelled-inside bs e spelled = omega (arith, ap length spelled.bytes, length-append (written_event e) spelled.rest)
 
-pub event-inside : (at : ℕ) (bs : List ℕ) (e : Happening) → AreBytes bs → event_in at bs ≡ Ok e
-    → length (written e) ≤ length bs
+pub event-inside : (at : ℕ) (bs : List ℕ) (e : EventView) → AreBytes bs → event_in at bs ≡ Ok e
+    → length (written_event e) ≤ length bs
 event-inside at bs e bytes read = spelled-inside bs e (event-spelled at bs e bytes read)
 
 -- and each event has a byte at least
-pub event-some : (e : Happening) → 1 ≤ length (written e)
+pub event-some : (e : EventView) → 1 ≤ length (written_event e)
 event-some End = omega arith
 event-some (Command command payload) = omega arith
 event-some (Uf2 block) = omega arith
@@ -275,7 +276,7 @@ event-some (Reset kind) = omega arith
 event-some Buy = omega arith
 
 -- what is read of a script of the greatest length can be written
-pub spelled-writable : (bs : List ℕ) (e : Happening) → length bs ≤ 2 ^ 26 → IsSpelled bs e → IsWritable e
+pub spelled-writable : (bs : List ℕ) (e : EventView) → length bs ≤ 2 ^ 26 → IsSpelled bs e → IsWritableEvent e
 spelled-writable bs End few spelled = tt
 spelled-writable bs (Command command payload) few spelled =
     omega (
@@ -298,19 +299,19 @@ are-bytes bytes small i = by_place (cases_lt i (length bytes))
     by_place (inl inside) = small i 0 inside
     by_place (inr past) = rw (get_or_past bytes i 0 past) (lit< tt)
 
-next-read : (at : ℕ) (r : Result Happening ScriptFault) (e : Happening) (next : ℕ) → and_next at r ≡ Ok (e, next)
-    → (r ≡ Ok e) × (next ≡ at + length (written e))
+next-read : (at : ℕ) (r : Result EventView ScriptFault) (e : EventView) (next : ℕ) → and_next at r ≡ Ok (e, next)
+    → (r ≡ Ok e) × (next ≡ at + length (written_event e))
 next-read at (Err fault) e next read = absurd (cc)
 next-read at (Ok x) e next read =
-    let pair : (x, at + length (written x)) ≡ (e, next) = cc in
-    let same : x ≡ e = ap (λ (p : Happening × ℕ). p.0) pair in
-    (ap (λ y. Ok y) same, sym (ap (λ (p : Happening × ℕ). p.1) pair) ∙ ap (λ y. at + length (written y)) same)
+    let pair : (x, at + length (written_event x)) ≡ (e, next) = cc in
+    let same : x ≡ e = ap (λ (p : EventView × ℕ). p.0) pair in
+    (ap (λ y. Ok y) same, sym (ap (λ (p : EventView × ℕ). p.1) pair) ∙ ap (λ y. at + length (written_event y)) same)
 
-pub read-at : (bytes : List ℕ) (at : ℕ) (e : Happening) (next : ℕ) → event_at bytes at ≡ Ok (e, next)
-    → (event_in at (drop at bytes) ≡ Ok e) × (next ≡ at + length (written e))
+pub read-at : (bytes : List ℕ) (at : ℕ) (e : EventView) (next : ℕ) → event_at bytes at ≡ Ok (e, next)
+    → (event_in at (drop at bytes) ≡ Ok e) × (next ≡ at + length (written_event e))
 read-at bytes at e next read = next-read at (event_in at (drop at bytes)) e next read
 
-next-fault : (at : ℕ) (r : Result Happening ScriptFault) (f : ScriptFault) → and_next at r ≡ Err f → r ≡ Err f
+next-fault : (at : ℕ) (r : Result EventView ScriptFault) (f : ScriptFault) → and_next at r ≡ Err f → r ≡ Err f
 next-fault at (Err fault) f read = let same : fault ≡ f = cc in ap (λ g. Err g) same
 next-fault at (Ok e) f read = absurd (cc)
 

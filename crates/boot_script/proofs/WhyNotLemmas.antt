@@ -10,8 +10,8 @@ use Rattle.pico_board.specs.declared.boot.BootKind.{BootKind}
 use Rattle.boot_script.specs.declared.event.ScriptFault.{ScriptFault}
 use Rattle.boot_script.specs.declared.event.ScriptFault.TheVariants.{Kind, Short, Pattern}
 use Rattle.boot_script.specs.Events.{Command, Cut}
-use Rattle.boot_script.specs.Reading.{with_rest, payload_in, command_in, uf2_in, cut_in, is_cut, reset_in, reset_of, reset_event, event_in}
-use Rattle.boot_script.specs.Faults.{HasNoKind, LacksFixed, IsReset, IsCut, HasBadReset, HasBadCut, LacksRest, IsFault}
+use Rattle.boot_script.specs.Reading.{with_rest, payload_in, command_event_in, uf2_in, cut_event_in, is_cut, reset_in, reset_of, reset_event, event_in}
+use Rattle.boot_script.specs.Faults.{HasNoKind, LacksFixed, IsReset, IsCut, HasBadReset, HasBadCut, LacksRest, IsEventFault}
 use Rattle.boot_script.proofs.ReadBackLemmas.{with_rest-is, payload_in-is, command_in-is, uf2_in-is, cut_in-is, reset_in-is}
 use Rattle.boot_script.proofs.SpelledLemmas.{with_rest-short, payload_in-short, command_in-short, uf2_in-short, cut_in-short, cut_in-bad, reset_in-short, no-kind, is_cut-before, is_cut-within, is_cut-none}
 
@@ -34,7 +34,7 @@ false-true : ◌≡◌ {A = Bool} false true → ⊥
 false-true same = cc
 
 -- the faults of a command behind its first byte
-command-fault : (at : ℕ) (bs : List ℕ) (f : ScriptFault) → command_in at bs ≡ Err f
+command-fault : (at : ℕ) (bs : List ℕ) (f : ScriptFault) → command_event_in at bs ≡ Err f
     → (f ≡ Short at) × ((length bs < 36) ⊎ ((36 ≤ length bs) × (length bs < 36 + little_number 4 (drop 32 bs))))
 command-fault at bs f read = by_front (cases_lt (length bs) 32)
   where
@@ -66,16 +66,16 @@ command-fault at bs f read = by_front (cases_lt (length bs) 32)
     by_front (inl short) = let one = command_in-short at bs short in (cc, inl (omega arith))
     by_front (inr there) = by_size there (cases_lt (length (drop 32 bs)) 4) (sym (command_in-is at bs there) ∙ read)
 
-pub command-lacks : (at : ℕ) (bs : List ℕ) → length bs < 36 → command_in at bs ≡ Err (Short at)
+pub command-lacks : (at : ℕ) (bs : List ℕ) → length bs < 36 → command_event_in at bs ≡ Err (Short at)
 command-lacks at bs short = by_front (cases_lt (length bs) 32)
   where
-    by_front : (length bs < 32) ⊎ (32 ≤ length bs) → command_in at bs ≡ Err (Short at)
+    by_front : (length bs < 32) ⊎ (32 ≤ length bs) → command_event_in at bs ≡ Err (Short at)
     by_front (inl few) = command_in-short at bs few
     by_front (inr there) = command_in-is at bs there
         ∙ payload_in-short at (take 32 bs) (drop 32 bs) (omega (arith, length-drop 32 bs))
 
 command-runs_out : (at : ℕ) (bs : List ℕ) → 36 ≤ length bs → length bs < 36 + little_number 4 (drop 32 bs)
-    → command_in at bs ≡ Err (Short at)
+    → command_event_in at bs ≡ Err (Short at)
 command-runs_out at bs there short =
     command_in-is at bs (omega arith) ∙ payload_in-is at (take 32 bs) (drop 32 bs) (omega (arith, length-drop 32 bs))
     ∙ with_rest-short at (little_number 4 (drop 32 bs)) (drop 4 (drop 32 bs)) (Command (take 32 bs))
@@ -96,7 +96,7 @@ CutFault at bs f =
     ⊎ ((f ≡ Short at) × (7 ≤ length bs) × (is_cut (slice_index bs 4) (little_number 2 (drop 5 bs)) ≡ true)
     × (length bs < 7 + little_number 2 (drop 5 bs))))
 
-cut-fault : (at : ℕ) (bs : List ℕ) (f : ScriptFault) → cut_in at bs ≡ Err f → CutFault at bs f
+cut-fault : (at : ℕ) (bs : List ℕ) (f : ScriptFault) → cut_event_in at bs ≡ Err f → CutFault at bs f
 cut-fault at bs f read = by_size (cases_lt (length bs) 7)
   where
     by_rest : 7 ≤ length bs → is_cut (slice_index bs 4) (little_number 2 (drop 5 bs)) ≡ true
@@ -141,13 +141,13 @@ reset-fault at bs f read = by_size (cases_lt (length bs) 5)
     by_size (inr there) = by_boot there _ refl (sym (reset_in-is at bs there) ∙ read)
 
 -- a fault comes only by its rule
-pub fault-why : (at : ℕ) (bs : List ℕ) (f : ScriptFault) → event_in at bs ≡ Err f → IsFault at bs f
+pub fault-why : (at : ℕ) (bs : List ℕ) (f : ScriptFault) → event_in at bs ≡ Err f → IsEventFault at bs f
 fault-why at [] f read =
-    let same : Short at ≡ f = cc in subst (λ g. IsFault at [] g) same (refl, inl refl)
+    let same : Short at ≡ f = cc in subst (λ g. IsEventFault at [] g) same (refl, inl refl)
 fault-why at (zero ∷ bs) f read = absurd (cc)
 fault-why at (suc zero ∷ bs) f read =
     let why = command-fault at bs f read in
-    subst (λ g. IsFault at (1 ∷ bs) g) (sym why.0) (
+    subst (λ g. IsEventFault at (1 ∷ bs) g) (sym why.0) (
       refl,
       inr (elim why.1 [
         | inl short ↦ inl (record { some = omega arith; kind = omega arith; short = omega arith })
@@ -160,12 +160,12 @@ fault-why at (suc zero ∷ bs) f read =
     )
 fault-why at (suc (suc zero) ∷ bs) f read =
     let why = uf2-fault at bs f read in
-    subst (λ g. IsFault at (2 ∷ bs) g) (sym why.0)
+    subst (λ g. IsEventFault at (2 ∷ bs) g) (sym why.0)
     (refl, inr (inl (record { some = omega arith; kind = omega arith; short = omega (arith, why.1) })))
 fault-why at (suc (suc (suc zero)) ∷ bs) f read = elim (cut-fault at bs f read) [
-  | inl why ↦ subst (λ g. IsFault at (3 ∷ bs) g) (sym why.0)
+  | inl why ↦ subst (λ g. IsEventFault at (3 ∷ bs) g) (sym why.0)
       (refl, inr (inl (record { some = omega arith; kind = omega arith; short = omega (arith, why.1) })))
-  | inr (inl why) ↦ subst (λ g. IsFault at (3 ∷ bs) g) (sym why.0) (
+  | inr (inl why) ↦ subst (λ g. IsEventFault at (3 ∷ bs) g) (sym why.0) (
     refl,
     record {
       fixed = record { some = omega arith; kind = omega arith; long = omega (arith, why.1) };
@@ -173,7 +173,7 @@ fault-why at (suc (suc (suc zero)) ∷ bs) f read = elim (cut-fault at bs f read
       bad = λ is. let fits = IsCut-fits _ _ is in absurd (false-true (sym why.2 ∙ fits));
     },
   )
-  | inr (inr why) ↦ subst (λ g. IsFault at (3 ∷ bs) g) (sym why.0) (
+  | inr (inr why) ↦ subst (λ g. IsEventFault at (3 ∷ bs) g) (sym why.0) (
     refl,
     inr (inr (record {
       fixed = record { some = omega arith; kind = omega arith; long = omega (arith, why.1) };
@@ -184,9 +184,9 @@ fault-why at (suc (suc (suc zero)) ∷ bs) f read = elim (cut-fault at bs f read
 ]
 fault-why at (suc (suc (suc (suc zero))) ∷ bs) f read = absurd (cc)
 fault-why at (suc (suc (suc (suc (suc zero)))) ∷ bs) f read = elim (reset-fault at bs f read) [
-  | inl why ↦ subst (λ g. IsFault at (5 ∷ bs) g) (sym why.0)
+  | inl why ↦ subst (λ g. IsEventFault at (5 ∷ bs) g) (sym why.0)
       (refl, inr (inl (record { some = omega arith; kind = omega arith; short = omega (arith, why.1) })))
-  | inr why ↦ subst (λ g. IsFault at (5 ∷ bs) g) (sym why.0) (
+  | inr why ↦ subst (λ g. IsEventFault at (5 ∷ bs) g) (sym why.0) (
     refl,
     inr (record {
       fixed = record { some = omega arith; kind = omega arith; long = omega (arith, why.1) };
@@ -199,23 +199,23 @@ fault-why at (suc (suc (suc (suc (suc (suc zero))))) ∷ bs) f read = absurd (cc
 fault-why at (suc (suc (suc (suc (suc (suc (suc kind)))))) ∷ bs) f read =
     let one = no-kind at (suc (suc (suc (suc (suc (suc (suc kind))))))) bs (omega arith) in
     let same : Kind at ≡ f = cc in
-    subst (λ g. IsFault at (suc (suc (suc (suc (suc (suc (suc kind)))))) ∷ bs) g) same
+    subst (λ g. IsEventFault at (suc (suc (suc (suc (suc (suc (suc kind)))))) ∷ bs) g) same
     (refl, inl (record { some = omega arith; kind = omega arith }))
 
 -- and comes wherever its rule says so
 cut-runs_out : (at : ℕ) (bs : List ℕ) → 7 ≤ length bs → is_cut (slice_index bs 4) (little_number 2 (drop 5 bs)) ≡ true
-    → length bs < 7 + little_number 2 (drop 5 bs) → cut_in at bs ≡ Err (Short at)
+    → length bs < 7 + little_number 2 (drop 5 bs) → cut_event_in at bs ≡ Err (Short at)
 cut-runs_out at bs there fits short =
     cut_in-is at bs there fits
     ∙ with_rest-short at (little_number 2 (drop 5 bs)) (drop 7 bs) (Cut (little_number 4 bs) (slice_index bs 4 == 1))
     (omega (arith, length-drop 7 bs))
 
 cut-bad : (at : ℕ) (bs : List ℕ) → 7 ≤ length bs → ¬ (IsCut (slice_index bs 4) (little_number 2 (drop 5 bs)))
-    → cut_in at bs ≡ Err (Pattern at)
+    → cut_event_in at bs ≡ Err (Pattern at)
 cut-bad at bs there bad = by_fit _ refl
   where
     by_fit : (b : Bool) → is_cut (slice_index bs 4) (little_number 2 (drop 5 bs)) ≡ b
-        → cut_in at bs ≡ Err (Pattern at)
+        → cut_event_in at bs ≡ Err (Pattern at)
     by_fit false wrong = cut_in-bad at bs there wrong
     by_fit true fits = absurd (bad (IsCut-true _ _ fits))
 
@@ -269,7 +269,7 @@ rest-fault at (suc (suc (suc (suc (suc zero)))) ∷ bs) lacks = absurd (omega (a
 rest-fault at (suc (suc (suc (suc (suc (suc zero))))) ∷ bs) lacks = absurd (omega (arith, lacks.short))
 rest-fault at (suc (suc (suc (suc (suc (suc (suc kind)))))) ∷ bs) lacks = absurd (omega (arith, lacks.fixed.kind))
 
-pub fault-comes : (at : ℕ) (bs : List ℕ) (f : ScriptFault) → IsFault at bs f → event_in at bs ≡ Err f
+pub fault-comes : (at : ℕ) (bs : List ℕ) (f : ScriptFault) → IsEventFault at bs f → event_in at bs ≡ Err f
 fault-comes at bs (Kind place) (same, inl none) = kind-fault at bs none ∙ ap (λ p. Err (Kind p)) (sym same)
 fault-comes at bs (Kind place) (same, inr bad) = reset-fault_of at bs bad ∙ ap (λ p. Err (Kind p)) (sym same)
 fault-comes at bs (Short place) (same, inl empty) =

@@ -1,4 +1,4 @@
--- The events of a script as plain data. This project's own.
+-- The events of a script as plain data.
 use Rattle.std.specs.Prelude.{ℕ, Bool, List, ◌≡◌, ◌<◌, ◌^◌, ⊤, length}
 use Rattle.pico_board.specs.Cuts.{IsPattern}
 use Rattle.pico_board.specs.declared.boot.BootKind.{BootKind}
@@ -7,17 +7,17 @@ use Rattle.boot_script.specs.declared.event.Event.{Event}
 use Rattle.boot_script.specs.declared.event.Event.TheVariants as rust
 
 -- what happens to a board in a script
-pub data Happening : Type 0 where
-  End : Happening
-  Command : (command payload : List ℕ) → Happening
-  Uf2 : (block : List ℕ) → Happening
-  Cut : (left : ℕ) → (within : Bool) → (pattern : List ℕ) → Happening
-  PowerOn : Happening
-  Reset : (kind : BootKind) → Happening
-  Buy : Happening
+pub data EventView : Type 0 where
+  End : EventView
+  Command : (command payload : List ℕ) → EventView
+  Uf2 : (block : List ℕ) → EventView
+  Cut : (left : ℕ) → (within : Bool) → (pattern : List ℕ) → EventView
+  PowerOn : EventView
+  Reset : (kind : BootKind) → EventView
+  Buy : EventView
 
 -- an event as plain data
-abbrev pub event_from : Event → Happening
+abbrev pub event_from : Event → EventView
 event_from rust.End = End
 event_from (rust.Command command payload) = Command command.now payload.now
 event_from (rust.Uf2 block) = Uf2 block.now
@@ -33,7 +33,7 @@ base_of Bootsel = 0
 base_of (Update base) = base
 
 -- the parts of an event have the sizes of its record
-abbrev pub IsWellFormed : Happening → Type 0
+abbrev pub IsWellFormed : EventView → Type 0
 IsWellFormed End = ⊤
 IsWellFormed (Command command payload) = (length command ≡ 32) × (length payload < 2 ^ 32)
 IsWellFormed (Uf2 block) = length block ≡ 512
@@ -44,11 +44,11 @@ IsWellFormed Buy = ⊤
 
 -- an event that is written to a script, and that the machine serves: a payload is shorter than a
 -- script may be, and a pattern is as a bench asks
-abbrev pub IsWritable : Happening → Type 0
-IsWritable End = ⊤
-IsWritable (Command command payload) = length payload < 2 ^ 26
-IsWritable (Uf2 block) = ⊤
-IsWritable (Cut left within pattern) = IsPattern within pattern
-IsWritable PowerOn = ⊤
-IsWritable (Reset kind) = ⊤
-IsWritable Buy = ⊤
+abbrev pub IsWritableEvent : EventView → Type 0
+IsWritableEvent End = ⊤
+IsWritableEvent (Command command payload) = length payload < 2 ^ 26
+IsWritableEvent (Uf2 block) = ⊤
+IsWritableEvent (Cut left within pattern) = IsPattern within pattern
+IsWritableEvent PowerOn = ⊤
+IsWritableEvent (Reset kind) = ⊤
+IsWritableEvent Buy = ⊤

@@ -1,4 +1,4 @@
--- Why bytes begin with no event, and the order in which that is judged. This project's own.
+-- Why bytes begin with no event, and the order in which that is judged.
 use Rattle.std.specs.Prelude.{ℕ, ◌≡◌, ◌⊎◌, ◌+◌, ◌<◌, ◌≤◌, ◌==◌, List, [], if◌then◌else◌, length, drop, slice_index}
 use Rattle.byteorder.specs.Endian.{little_number}
 use Rattle.boot_script.specs.declared.event.ScriptFault.{ScriptFault}
@@ -67,7 +67,7 @@ pub record LacksRest (bs : List ℕ) : Type 0 where
 
 -- the fault of the bytes that stand at the offset: the first byte is judged first, then whether
 -- the fixed bytes are there, then their values, and whether a payload or a pattern is there last
-abbrev pub IsFault : ℕ → List ℕ → ScriptFault → Type 0
-IsFault at bs (Kind place) = (place ≡ at) × (HasNoKind bs ⊎ HasBadReset bs)
-IsFault at bs (Short place) = (place ≡ at) × ((bs ≡ []) ⊎ (LacksFixed bs ⊎ LacksRest bs))
-IsFault at bs (Pattern place) = (place ≡ at) × HasBadCut bs
+abbrev pub IsEventFault : ℕ → List ℕ → ScriptFault → Type 0
+IsEventFault at bs (Kind place) = (place ≡ at) × (HasNoKind bs ⊎ HasBadReset bs)
+IsEventFault at bs (Short place) = (place ≡ at) × ((bs ≡ []) ⊎ (LacksFixed bs ⊎ LacksRest bs))
+IsEventFault at bs (Pattern place) = (place ≡ at) × HasBadCut bs

@@ -1,5 +1,7 @@
 //! What happens to a board in a script, and why a script is not read.
 
+ghost use Rattle.std.specs.Prelude.{◌≡◌, length};
+
 use pico_board::BootKind;
 use thiserror::Error;
 
@@ -23,6 +25,49 @@ pub enum Event<'a> {
     Buy,
 }
 
+impl<'a> Event<'a> {
+    ghost use Rattle.std.specs.Prelude.{◌≡◌, length};
+    ghost use Rattle.boot_script.specs.Events.{event_from};
+    ghost use Rattle.boot_script.specs.Scripts.{is_end};
+    ghost use Rattle.boot_script.specs.Written.{written_event};
+
+    /// The number of its bytes in a script.
+    pub fn size(&self) -> usize
+        ensures { result ≡ length (written_event (event_from self.now)) }
+    {
+        match self {
+            Event::End | Event::PowerOn | Event::Buy => 1,
+            Event::Command(command, payload) => 5 + whole(command).len() + payload.len(),
+            Event::Uf2(block) => 1 + whole(block).len(),
+            Event::Cut(_, _, pattern) => 8 + pattern.len(),
+            Event::Reset(_) => 6,
+        }
+    }
+
+    /// Whether a script ends with the event.
+    pub fn is_end(&self) -> bool
+        ensures { result ≡ is_end (event_from self.now) }
+    {
+        match self {
+            Event::End => true,
+            Event::Command(..)
+            | Event::Uf2(_)
+            | Event::Cut(..)
+            | Event::PowerOn
+            | Event::Reset(_)
+            | Event::Buy => false,
+        }
+    }
+}
+
+/// All the bytes of an array.
+fn whole<const N: usize>(array: &[u8; N]) -> &[u8]
+    ensures value { result.now ≡ array.now }
+    ensures size { length array.now ≡ N }
+{
+    array
+}
+
 /// Why no event is read. Each names the offset of the event.
 #[derive(Clone, Copy, Debug, PartialEq, Eq, Error)]
 pub enum ScriptFault {
@@ -37,4 +82,18 @@ pub enum ScriptFault {
     /// 0, and 1 to 4096 bytes for 1.
     #[error("the cut at {0:#x} has no pattern that fits")]
     Pattern(u32),
+}
+
+/// Why bytes are no script within the limits.
+#[derive(Clone, Copy, Debug, PartialEq, Eq, Error)]
+pub enum ScriptError {
+    /// There are more than 67,108,864 bytes.
+    #[error("the script is too large")]
+    TooLarge,
+    /// A record before the end has a fault.
+    #[error("{0}")]
+    Record(ScriptFault),
+    /// None of the first 524,288 records is an end.
+    #[error("the script has too many records")]
+    TooMany,
 }

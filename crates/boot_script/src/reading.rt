@@ -2,9 +2,8 @@
 
 ghost use Rattle.std.specs.Prelude.{◌≡◌, ◌+◌, ◌^◌, ◌<◌, ◌≤◌, IfOk, drop, length};
 ghost use Rattle.byteorder.specs.Endian.{little_number};
-ghost use Rattle.boot_script.specs.Events.{IsWritable, event_from};
-ghost use Rattle.boot_script.specs.Written.{written};
-ghost use Rattle.boot_script.specs.Reading.{command_in, cut_in, event_at, event_in, read_from, read_next_from, is_cut, payload_in, reset_in, reset_of, uf2_in};
+ghost use Rattle.boot_script.specs.Events.{IsWritableEvent, event_from};
+ghost use Rattle.boot_script.specs.Reading.{command_event_in, cut_event_in, event_at, event_in, read_from, read_next_from, is_cut, payload_in, reset_in, reset_of, uf2_in};
 
 use crate::event::{Event, ScriptFault};
 use crate::kinds::{
@@ -20,31 +19,11 @@ pub fn next_event<'a>(bytes: &'a [u8], at: u32) -> Result<(Event<'a>, u32), Scri
     ensures exact { read_next_from result ≡ event_at bytes.now at }
     ensures forward { IfOk result (λ r. at < r.1) }
     ensures inside { IfOk result (λ r. r.1 ≤ length bytes.now) }
-    ensures writable { length bytes.now ≤ 2 ^ 26 → IfOk result (λ r. IsWritable (event_from r.0)) }
+    ensures writable { length bytes.now ≤ 2 ^ 26
+        → IfOk result (λ r. IsWritableEvent (event_from r.0)) }
 {
     let event = read_event(&bytes[at as usize..], at)?;
-    Ok((event, at + size(&event) as u32))
-}
-
-/// The number of bytes of an event.
-fn size(event: &Event<'_>) -> usize
-    ensures { result ≡ length (written (event_from event.now)) }
-{
-    match event {
-        Event::End | Event::PowerOn | Event::Buy => 1,
-        Event::Command(command, payload) => 5 + whole(command).len() + payload.len(),
-        Event::Uf2(block) => 1 + whole(block).len(),
-        Event::Cut(_, _, pattern) => 8 + pattern.len(),
-        Event::Reset(_) => 6,
-    }
-}
-
-/// All the bytes of an array.
-fn whole<const N: usize>(array: &[u8; N]) -> &[u8]
-    ensures value { result.now ≡ array.now }
-    ensures size { length array.now ≡ N }
-{
-    array
+    Ok((event, at + event.size() as u32))
 }
 
 /// The event that the bytes from the offset `at` on begin with.
@@ -68,7 +47,7 @@ fn read_event<'a>(bytes: &'a [u8], at: u32) -> Result<Event<'a>, ScriptFault>
 
 /// The command behind its first byte.
 fn read_command<'a>(bytes: &'a [u8], at: u32) -> Result<Event<'a>, ScriptFault>
-    ensures { read_from result ≡ command_in at bytes.now }
+    ensures { read_from result ≡ command_event_in at bytes.now }
 {
     match bytes.split_first_chunk::<32>() {
         Some((command, rest)) => read_payload(command, rest, at),
@@ -106,7 +85,7 @@ fn read_uf2<'a>(bytes: &'a [u8], at: u32) -> Result<Event<'a>, ScriptFault>
 
 /// The cut behind its first byte.
 fn read_cut<'a>(bytes: &'a [u8], at: u32) -> Result<Event<'a>, ScriptFault>
-    ensures { read_from result ≡ cut_in at bytes.now }
+    ensures { read_from result ≡ cut_event_in at bytes.now }
 {
     let Some((fixed, rest)) = bytes.split_first_chunk::<7>() else {
         return Err(ScriptFault::Short(at));

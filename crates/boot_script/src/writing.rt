@@ -2,8 +2,8 @@
 
 ghost use Rattle.std.specs.Prelude.{◌≡◌, ℕ, ◌^◌, ◌<◌, List, ◌++◌, Ok, OnErr, OnOk, length};
 ghost use Rattle.pico_board.specs.Cuts.{IsPattern};
-ghost use Rattle.boot_script.specs.Events.{Command, Cut, IsWellFormed, IsWritable, Reset, Uf2, base_of, event_from};
-ghost use Rattle.boot_script.specs.Written.{IsKept, kind_of, written};
+ghost use Rattle.boot_script.specs.Events.{Command, Cut, IsWellFormed, IsWritableEvent, Reset, Uf2, base_of, event_from};
+ghost use Rattle.boot_script.specs.Written.{IsKept, reset_byte, written_event};
 ghost use Rattle.boot_script.specs.Reading.{event_at};
 
 use crate::event::Event;
@@ -17,8 +17,9 @@ use std::alloc::{AllocError, Global};
 /// Where there is no memory for them, the former bytes stay, and a part of the event may stand
 /// behind them.
 pub fn write_event(alloc: Global, event: &Event<'_>, out: &mut Vec<u8>) -> Result<(), AllocError>
-    requires { IsWritable (event_from event.now) }
-    ensures ok { OnOk result (out.new.items ≡ out.old.items ++ written (event_from event.now)) }
+    requires { IsWritableEvent (event_from event.now) }
+    ensures ok { OnOk result (out.new.items
+        ≡ out.old.items ++ written_event (event_from event.now)) }
     ensures again { (rest : List ℕ)
         → OnOk result (event_at (out.new.items ++ rest) (length out.old.items)
         ≡ Ok (event_from event.now, length out.new.items)) }
@@ -32,8 +33,9 @@ pub fn write_event(alloc: Global, event: &Event<'_>, out: &mut Vec<u8>) -> Resul
 
 /// Appends the bytes of an event.
 fn append(event: &Event<'_>, out: &mut Vec<u8>) -> Result<(), AllocError>
-    requires { IsWritable (event_from event.now) }
-    ensures ok { OnOk result (out.new.items ≡ out.old.items ++ written (event_from event.now)) }
+    requires { IsWritableEvent (event_from event.now) }
+    ensures ok { OnOk result (out.new.items
+        ≡ out.old.items ++ written_event (event_from event.now)) }
     ensures err { OnErr result (IsKept out.old.items out.new.items) }
     ensures well { IsWellFormed (event_from event.now) }
 {
@@ -50,7 +52,7 @@ fn append(event: &Event<'_>, out: &mut Vec<u8>) -> Result<(), AllocError>
 
 /// Appends the bytes of a UF2 block.
 fn write_uf2(block: &[u8; 512], out: &mut Vec<u8>) -> Result<(), AllocError>
-    ensures ok { OnOk result (out.new.items ≡ out.old.items ++ written (Uf2 block.now)) }
+    ensures ok { OnOk result (out.new.items ≡ out.old.items ++ written_event (Uf2 block.now)) }
     ensures err { OnErr result (IsKept out.old.items out.new.items) }
     ensures size { length block.now ≡ 512 }
 {
@@ -60,9 +62,9 @@ fn write_uf2(block: &[u8; 512], out: &mut Vec<u8>) -> Result<(), AllocError>
 
 /// Appends the bytes of a command.
 fn write_command(command: &[u8; 32], payload: &[u8], out: &mut Vec<u8>) -> Result<(), AllocError>
-    requires { IsWritable (Command command.now payload.now) }
+    requires { IsWritableEvent (Command command.now payload.now) }
     ensures ok { OnOk result (out.new.items
-        ≡ out.old.items ++ written (Command command.now payload.now)) }
+        ≡ out.old.items ++ written_event (Command command.now payload.now)) }
     ensures err { OnErr result (IsKept out.old.items out.new.items) }
     ensures size { length command.now ≡ 32 }
 {
@@ -76,7 +78,7 @@ fn write_command(command: &[u8; 32], payload: &[u8], out: &mut Vec<u8>) -> Resul
 fn write_cut(left: u32, within: bool, pattern: &[u8], out: &mut Vec<u8>) -> Result<(), AllocError>
     requires { IsPattern within pattern.now }
     ensures ok { OnOk result (out.new.items
-        ≡ out.old.items ++ written (Cut left within pattern.now)) }
+        ≡ out.old.items ++ written_event (Cut left within pattern.now)) }
     ensures err { OnErr result (IsKept out.old.items out.new.items) }
 {
     out.extend_from_slice(&[CUT])?;
@@ -88,7 +90,7 @@ fn write_cut(left: u32, within: bool, pattern: &[u8], out: &mut Vec<u8>) -> Resu
 
 /// Appends the bytes of a reset.
 fn write_reset(kind: BootKind, out: &mut Vec<u8>) -> Result<(), AllocError>
-    ensures ok { OnOk result (out.new.items ≡ out.old.items ++ written (Reset kind)) }
+    ensures ok { OnOk result (out.new.items ≡ out.old.items ++ written_event (Reset kind)) }
     ensures err { OnErr result (IsKept out.old.items out.new.items) }
     ensures size { base_of kind < 2 ^ 32 }
 {
@@ -99,7 +101,7 @@ fn write_reset(kind: BootKind, out: &mut Vec<u8>) -> Result<(), AllocError>
 
 /// The kind byte and the base of a reset.
 fn reset_bytes(kind: BootKind) -> (u8, u32)
-    ensures byte { result.0 ≡ kind_of kind }
+    ensures byte { result.0 ≡ reset_byte kind }
     ensures base { result.1 ≡ base_of kind }
 {
     match kind {

@@ -23,21 +23,21 @@ use Rattle.boot_rules.specs.declared.decision.Fall.TheVariants.{FlashOff}
 use Rattle.boot_rules.specs.declared.tables.Found.{Found}
 use Rattle.boot_rules.specs.Changes.{HaveSameImages, HaveSameImagesBut, Images, IsIn, IsNotIn}
 use Rattle.boot_rules.specs.Choosing.{Order, boot_units_in, choose, decision_in, decision_of, images_in, order_of, ordered_choice, unit_choice}
-use Rattle.boot_rules.specs.Chosen.{Chosen, Home, is_updated}
+use Rattle.boot_rules.specs.Chosen.{Chosen, IsBootMember, is_updated}
 use Rattle.boot_rules.specs.Tables.{table_in}
 use Rattle.boot_rules.proofs.ChangeLemmas.{changed, changed-then-none, choose-same, images-placed}
 use Rattle.boot_rules.proofs.DataLemmas.{same-bytes, same-length, same-table}
 use Rattle.boot_rules.proofs.DecisionLemmas.{chosen-exactly}
 use Rattle.boot_rules.proofs.StartLemmas.{chosen-start}
-use Rattle.boot_writes.proofs.LeftImageLemmas.{units-same}
-use Rattle.boot_session.specs.CutSessions.{ConfinedSession, StartsElsewhere, StartsThere}
+use Rattle.boot_rules.proofs.SameUnitLemmas.{units-same}
+use Rattle.boot_session.specs.CutSessions.{ConfinedSession, StartsOutside, StartsThere}
 use Rattle.boot_session.proofs.NeighbourLemmas.{here-or-apart, slots-apart}
 
 -- the images of a normal boot, which allows no trial image
 abbrev pub normal_images : Content → Cpu → Images
 normal_images c cpu v trial = images_in c cpu v false
 
--- they are all that a choice without an update asks for
+-- the images of a normal boot are all that a choice without an update asks for
 normal-choice : (f : Images) (us : List SlotUnit)
     → ordered_choice f us None ≡ ordered_choice (λ v trial. f v false) us None
 normal-choice f [] = refl
@@ -68,12 +68,12 @@ normal-valid d cpu choice h =
     (subst (λ trial. Valid d start.counts.window cpu trial choice.image)
     (not-updated (boot_units_in d cpu) start.place choice.member) start.counts.valid)
 
-module _ (c : Content) (w : Window) (cpu : Cpu) (right : IsContent c) (home : Home c w cpu) (d : Content)
+module _ (c : Content) (w : Window) (cpu : Cpu) (right : IsContent c) (boot_member : IsBootMember c w cpu) (d : Content)
     (same : SameButWindow w c d) where
   -- a table stays
   pub table-stays : (found : Found) → table_in c ≡ Some found → table_in d ≡ Some found
   table-stays found is =
-      let apart = slots-apart c w cpu right home found is in same-table c d w same apart.0 apart.1 ∙ is
+      let apart = slots-apart c w cpu right boot_member found is in same-table c d w same apart.0 apart.1 ∙ is
 
   abbrev us : List SlotUnit
   us = boot_units_in c cpu
@@ -93,7 +93,7 @@ module _ (c : Content) (w : Window) (cpu : Cpu) (right : IsContent c) (home : Ho
 
   images-but : HaveSameImagesBut w before after us
   images-but = record {
-    same = λ k v m x trial at stands differ. go x differ (here-or-apart c w cpu right home k v m x at stands);
+    same = λ k v m x trial at stands differ. go x differ (here-or-apart c w cpu right boot_member k v m x at stands);
   }
     where
       go : (x : Window) → x ≢ w → (x ≡ w) ⊎ AreApart w x → images_in c cpu x false ≡ images_in d cpu x false
@@ -116,22 +116,22 @@ module _ (c : Content) (w : Window) (cpu : Cpu) (right : IsContent c) (home : Ho
         ∙ ap (decided (flash_off c.otp)) (normal-choice (images_in d cpu) us)
 
     -- where no image of the window started before
-    out : (off : Bool) → StartsElsewhere w (decided off (choose before order)) → off ≡ false
+    out : (off : Bool) → StartsOutside w (decided off (choose before order)) → off ≡ false
         → IsNotIn w (choose before order)
     out true elsewhere e = cc
     out false elsewhere e = go (choose before order) elsewhere
       where
-        go : (o : Option Choice) → StartsElsewhere w (decision_of o) → IsNotIn w o
+        go : (o : Option Choice) → StartsOutside w (decision_of o) → IsNotIn w o
         go None h = tt
         go (Some choice) h = h
 
     -- where the window has no image then
-    pub empty-decision : StartsElsewhere w (decision_in c cpu Normal) → images_in d cpu w false ≡ None
+    pub empty-decision : StartsOutside w (decision_in c cpu Normal) → images_in d cpu w false ≡ None
         → decision_in d cpu Normal ≡ decision_in c cpu Normal
     empty-decision elsewhere none =
-        next-is ∙ go (flash_off c.otp) (subst (StartsElsewhere w) former-is elsewhere) refl ∙ sym former-is
+        next-is ∙ go (flash_off c.otp) (subst (StartsOutside w) former-is elsewhere) refl ∙ sym former-is
       where
-        go : (off : Bool) → StartsElsewhere w (decided off (choose before order)) → off ≡ off
+        go : (off : Bool) → StartsOutside w (decided off (choose before order)) → off ≡ off
             → decided off (choose after order) ≡ decided off (choose before order)
         go true h e = refl
         go false h e =
@@ -139,9 +139,9 @@ module _ (c : Content) (w : Window) (cpu : Cpu) (right : IsContent c) (home : Ho
             (λ v trial s is. images-placed c cpu v false s is) (out false h refl) (λ trial. none))
 
     -- in any case
-    pub next-decision : StartsElsewhere w (decision_in c cpu Normal)
+    pub next-decision : StartsOutside w (decision_in c cpu Normal)
         → (decision_in d cpu Normal ≡ decision_in c cpu Normal) ⊎ StartsThere d w cpu
-    next-decision elsewhere = go (flash_off c.otp) (subst (StartsElsewhere w) former-is elsewhere) next-is former-is
+    next-decision elsewhere = go (flash_off c.otp) (subst (StartsOutside w) former-is elsewhere) next-is former-is
       where
         there : IsIn w (choose after order) → decision_in d cpu Normal ≡ decision_of (choose after order)
             → StartsThere d w cpu
@@ -156,7 +156,7 @@ module _ (c : Content) (w : Window) (cpu : Cpu) (right : IsContent c) (home : Ho
                   (normal-valid d cpu inside.start chosen);
             }
 
-        go : (off : Bool) → StartsElsewhere w (decided off (choose before order))
+        go : (off : Bool) → StartsOutside w (decided off (choose before order))
             → decision_in d cpu Normal ≡ decided off (choose after order)
             → decision_in c cpu Normal ≡ decided off (choose before order)
             → (decision_in d cpu Normal ≡ decision_in c cpu Normal) ⊎ StartsThere d w cpu
@@ -170,62 +170,62 @@ module _ (c : Content) (w : Window) (cpu : Cpu) (right : IsContent c) (home : Ho
             ]
 
 -- two contents that differ from one in the window alone, and have the same image there
-pub same-image-decision : (c : Content) (w : Window) (cpu : Cpu) → IsContent c → Home c w cpu → (d z : Content)
+pub same-image-decision : (c : Content) (w : Window) (cpu : Cpu) → IsContent c → IsBootMember c w cpu → (d z : Content)
     → SameButWindow w c d → SameButWindow w c z → table_in d ≡ table_in c → table_in z ≡ table_in c
     → images_in d cpu w false ≡ images_in z cpu w false → decision_in d cpu Normal ≡ decision_in z cpu Normal
-same-image-decision c w cpu right home d z one two table done mine =
-    next-is c w cpu right home d one table
+same-image-decision c w cpu right boot_member d z one two table done mine =
+    next-is c w cpu right boot_member d one table
     ∙ ap (decided (flash_off c.otp)) (choose-same (normal_images d cpu) (normal_images z cpu)
     (order_of Normal (boot_units_in c cpu)) images)
-    ∙ sym (next-is c w cpu right home z two done)
+    ∙ sym (next-is c w cpu right boot_member z two done)
   where
     go : (x : Window) → (x ≡ w) ⊎ AreApart w x → images_in d cpu x false ≡ images_in z cpu x false
     go x (inl e) = ap (λ v. images_in d cpu v false) e ∙ mine ∙ ap (λ v. images_in z cpu v false) (sym e)
     go x (inr apart) =
-        image-apart c w cpu right home d one x false apart
-        ∙ sym (image-apart c w cpu right home z two x false apart)
+        image-apart c w cpu right boot_member d one x false apart
+        ∙ sym (image-apart c w cpu right boot_member z two x false apart)
 
     images : HaveSameImages (normal_images d cpu) (normal_images z cpu) (boot_units_in c cpu)
     images = record {
-      same = λ k v m x trial at stands. go x (here-or-apart c w cpu right home k v m x at stands);
+      same = λ k v m x trial at stands. go x (here-or-apart c w cpu right boot_member k v m x at stands);
     }
 
 -- what a confined session leaves
 pub confined-decision : (c : Content) (w : Window) (cpu : Cpu) (steps : List Step) (d : Content) (e : Decision)
-    → IsContent c → Home c w cpu → Confined steps w → MayLeave c steps d → table_in d ≡ table_in c
-    → Chosen c cpu Normal e → StartsElsewhere w e → Chosen d cpu Normal e ⊎ StartsThere d w cpu
-confined-decision c w cpu steps d e right home confined leaves table former elsewhere =
+    → IsContent c → IsBootMember c w cpu → Confined steps w → MayLeave c steps d → table_in d ≡ table_in c
+    → Chosen c cpu Normal e → StartsOutside w e → Chosen d cpu Normal e ⊎ StartsThere d w cpu
+confined-decision c w cpu steps d e right boot_member confined leaves table former elsewhere =
     let is = (chosen-exactly c cpu Normal e).0 former in
-    elim (next-decision c w cpu right home d (confined-MayLeave c w steps d confined leaves) table
-    (subst (StartsElsewhere w) is elsewhere)) [
+    elim (next-decision c w cpu right boot_member d (confined-MayLeave c w steps d confined leaves) table
+    (subst (StartsOutside w) is elsewhere)) [
       | inl same ↦ inl ((chosen-exactly d cpu Normal e).1 (is ∙ sym same))
       | inr there ↦ inr there
     ]
 
 pub confined-start : (c : Content) (w : Window) (cpu : Cpu) (steps : List Step) (d : Content) (choice : Choice)
-    → IsContent c → Home c w cpu → Confined steps w → MayLeave c steps d → table_in d ≡ table_in c
-    → Chosen c cpu Normal (Start choice) → StartsElsewhere w (Start choice)
+    → IsContent c → IsBootMember c w cpu → Confined steps w → MayLeave c steps d → table_in d ≡ table_in c
+    → Chosen c cpu Normal (Start choice) → StartsOutside w (Start choice)
     → (next : Choice) × Chosen d cpu Normal (Start next)
-confined-start c w cpu steps d choice right home confined leaves table former elsewhere =
-    elim (confined-decision c w cpu steps d (Start choice) right home confined leaves table former elsewhere) [
+confined-start c w cpu steps d choice right boot_member confined leaves table former elsewhere =
+    elim (confined-decision c w cpu steps d (Start choice) right boot_member confined leaves table former elsewhere) [
       | inl same ↦ (choice, same)
       | inr there ↦ (there.choice, there.chosen)
     ]
 
 pub confined-table : (c : Content) (w : Window) (cpu : Cpu) (steps : List Step) (d : Content) (found : Found)
-    → IsContent c → Home c w cpu → Confined steps w → MayLeave c steps d → table_in c ≡ Some found
+    → IsContent c → IsBootMember c w cpu → Confined steps w → MayLeave c steps d → table_in c ≡ Some found
     → table_in d ≡ Some found
-confined-table c w cpu steps d found right home confined leaves is =
-    table-stays c w cpu right home d (confined-MayLeave c w steps d confined leaves) found is
+confined-table c w cpu steps d found right boot_member confined leaves is =
+    table-stays c w cpu right boot_member d (confined-MayLeave c w steps d confined leaves) found is
 
--- the same by the record of its premises
+-- what a confined session leaves, by the record of its premises
 pub confined-session : (c : Content) (w : Window) (cpu : Cpu) (steps : List Step) (d : Content) (e : Decision)
     → ConfinedSession c w cpu steps d e → Chosen d cpu Normal e ⊎ StartsThere d w cpu
 confined-session c w cpu steps d e s =
-    confined-decision c w cpu steps d e s.right s.home s.confined s.leaves (same (table_in c) refl) s.former
+    confined-decision c w cpu steps d e s.right s.boot_member s.confined s.leaves (same (table_in c) refl) s.former
     s.elsewhere
   where
     same : (o : Option Found) → table_in c ≡ o → table_in d ≡ table_in c
     same None none = s.table none ∙ sym none
     same (Some found) is =
-        confined-table c w cpu steps d found s.right s.home s.confined s.leaves is ∙ sym is
+        confined-table c w cpu steps d found s.right s.boot_member s.confined s.leaves is ∙ sym is

@@ -21,9 +21,11 @@ use Rattle.image_check.proofs.LawLemmas.{valid-at, valid-holds}
 use Rattle.boot_rules.specs.declared.decision.Decision.TheVariants.{Start}
 use Rattle.boot_rules.specs.Choosing.{decision_in}
 use Rattle.boot_rules.specs.Tables.{table_in}
-use Rattle.boot_writes.specs.Luck.{Lucky}
-use Rattle.boot_writes.proofs.ExampleLemmas.{torn-before}
-use Rattle.boot_session.specs.Examples.{small_with, beside_small, data_page, small_finished, mapped_page, mapped_steps, small_slot, vector_page}
+use Rattle.boot_rules.specs.AccidentalImages.{HasNoAccidentalImage}
+use Rattle.worked_flashes.proofs.ContentLemmas.{torn-before}
+use Rattle.worked_flashes.specs.Flashes.{small_with, beside_small, data_page, mapped_page, vector_page}
+use Rattle.worked_flashes.specs.Choices.{small_finished, small_slot}
+use Rattle.worked_flashes.specs.Writes.{mapped_steps}
 use Rattle.boot_session.proofs.ExampleLemmas.{small_before, differ}
 
 abbrev pub cut_short : Content
@@ -84,8 +86,8 @@ same-image =
     (same-range one two 0x100 32 (lit≤ tt) (lit≤ tt) refl, tt)
     tt
 
-pub lucky : Lucky small_before finished cut_short small_slot Arm
-lucky = record {
+pub accident_free : HasNoAccidentalImage small_before finished cut_short small_slot Arm
+accident_free = record {
   table = same-table;
   image = inr (
     small_finished.image,

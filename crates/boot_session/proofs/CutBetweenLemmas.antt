@@ -18,15 +18,17 @@ use Rattle.block_codec.specs.Reading.{block_at, front_block, item_words}
 use Rattle.block_loop.specs.Loop.{block_from, follow, loop_of}
 use Rattle.image_def.specs.Definition.{def_of}
 use Rattle.image_check.specs.Image.{image_in}
-use Rattle.part_table.specs.Examples.{pair_items}
-use Rattle.boot_rules.specs.Examples.{arm_member, bare, framed, region, rows_with}
+use Rattle.worked_flashes.specs.Tables.{pair_items}
+use Rattle.worked_flashes.specs.Flashes.{arm_member, bare, framed, region, rows_with}
 use Rattle.boot_rules.specs.declared.decision.Decision.TheVariants.{Start}
 use Rattle.boot_rules.specs.Choosing.{decision_in, images_in}
 use Rattle.boot_rules.specs.Tables.{table_in}
 use Rattle.boot_rules.proofs.DecisionLemmas.{valid-found}
-use Rattle.boot_writes.proofs.ExampleLemmas.{torn-before}
-use Rattle.boot_writes.specs.Luck.{Lucky}
-use Rattle.boot_session.specs.Examples.{begins_with, beside_former, block_page, plain_steps, slot, vector_page, finished_start, former_start}
+use Rattle.worked_flashes.proofs.ContentLemmas.{torn-before}
+use Rattle.boot_rules.specs.AccidentalImages.{HasNoAccidentalImage}
+use Rattle.worked_flashes.specs.Flashes.{begins_with, beside_former, block_page, vector_page}
+use Rattle.worked_flashes.specs.Writes.{plain_steps, slot}
+use Rattle.worked_flashes.specs.Choices.{finished_start, former_start}
 use Rattle.boot_session.proofs.ChangedPieceLemmas.{changed-behind, changed-piece, changed_from-erased}
 use Rattle.boot_session.proofs.ExampleLemmas.{before, differ, none-some}
 
@@ -202,7 +204,7 @@ unfolding table_in decision_in image_in def_of loop_of follow block_from block_a
     word_of word_bytes
 finished-start = refl
 
--- the tables, and that the cut is lucky
+-- the tables before and after the cut, and that it leaves no accidental image
 pub same-table : table_in halfway ≡ table_in before
 unfolding table_in loop_of follow block_from block_at front_block item_words frame size_of word_of word_bytes
 same-table = refl
@@ -215,8 +217,8 @@ pub no-image : images_in halfway Arm slot false ≡ None
 unfolding image_in def_of loop_of follow block_from block_at front_block item_words frame size_of word_of word_bytes
 no-image = refl
 
-pub lucky : Lucky before finished halfway slot Arm
-lucky = record {
+pub accident_free : HasNoAccidentalImage before finished halfway slot Arm
+accident_free = record {
   table = same-table;
   image = inl (λ s valid. none-some _ s no-image (valid-found halfway Arm slot false s valid));
 }

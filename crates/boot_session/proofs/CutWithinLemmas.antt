@@ -21,11 +21,13 @@ use Rattle.image_check.specs.SameImage.{SameImage}
 use Rattle.image_check.proofs.SameLemmas.{same-storage}
 use Rattle.boot_rules.specs.declared.decision.Decision.TheVariants.{Start}
 use Rattle.boot_rules.specs.Choosing.{decision_in, images_in}
-use Rattle.boot_rules.specs.Examples.{arm_slot}
+use Rattle.worked_flashes.specs.Flashes.{arm_slot}
 use Rattle.boot_rules.specs.Tables.{table_in}
 use Rattle.boot_rules.proofs.DecisionLemmas.{found-valid, valid-found}
-use Rattle.boot_writes.specs.Luck.{IsKnownImage, IsSameImageIn, Lucky}
-use Rattle.boot_session.specs.Examples.{small_with, beside_small, block_page, data_page, small_finished, longer_steps, small_slot, vector_page}
+use Rattle.boot_rules.specs.AccidentalImages.{IsKnownImage, IsSameImageIn, HasNoAccidentalImage}
+use Rattle.worked_flashes.specs.Flashes.{small_with, beside_small, block_page, data_page, vector_page}
+use Rattle.worked_flashes.specs.Choices.{small_finished, small_slot}
+use Rattle.worked_flashes.specs.Writes.{longer_steps}
 use Rattle.boot_session.proofs.ExampleLemmas.{small_before, differ, none-some}
 
 abbrev pub cut_short : Content
@@ -93,8 +95,8 @@ never-known s known =
     go is (inl former) = none-some _ s image-before (valid-found small_before Arm small_slot false s former.valid)
     go is (inr after) = other-byte (subst (λ (t : Started). SameImage cut_short finished t Arm) is after.same)
 
-pub never-lucky : Lucky small_before finished cut_short small_slot Arm → ⊥
-never-lucky lucky = elim lucky.image [
+pub never-lucky : HasNoAccidentalImage small_before finished cut_short small_slot Arm → ⊥
+never-lucky accident_free = elim accident_free.image [
   | inl none ↦ none small_finished.image (found-valid cut_short Arm small_slot false small_finished.image image-short)
   | inr some ↦ never-known some.0 some.1
 ]

@@ -18,16 +18,19 @@ use Rattle.block_loop.specs.Loop.{block_from, follow, loop_of}
 use Rattle.image_def.specs.Definition.{def_of}
 use Rattle.image_check.specs.Image.{image_in}
 use Rattle.slot_choice.specs.declared.unit.Member.TheVariants.{B}
-use Rattle.slot_choice.specs.Examples.{pair_unit, the_pair, window_at}
+use Rattle.worked_flashes.specs.Tables.{pair_unit, the_pair}
+use Rattle.slot_choice.specs.Examples.{window_at}
 use Rattle.boot_rules.specs.declared.decision.Decision.{Decision}
 use Rattle.boot_rules.specs.declared.decision.Decision.TheVariants.{Bootsel, Start}
 use Rattle.boot_rules.specs.Choosing.{decision_in}
-use Rattle.boot_rules.specs.Chosen.{Chosen, Home}
-use Rattle.boot_rules.specs.Examples.{bare, bare_slot}
+use Rattle.boot_rules.specs.Chosen.{Chosen, IsBootMember}
+use Rattle.worked_flashes.specs.Flashes.{bare, bare_slot}
 use Rattle.boot_rules.specs.Tables.{table_in}
 use Rattle.boot_rules.proofs.DecisionLemmas.{chosen-exactly}
-use Rattle.boot_writes.proofs.ExampleLemmas.{all_below, content-by}
-use Rattle.boot_session.specs.Examples.{beside_former, beside_small, finished_start, former_start, slot, small_finished, small_first, small_former, small_slot}
+use Rattle.worked_flashes.proofs.ContentLemmas.{all_below, content-by}
+use Rattle.worked_flashes.specs.Flashes.{beside_former, beside_small}
+use Rattle.worked_flashes.specs.Choices.{finished_start, former_start, small_finished, small_first, small_former, small_slot}
+use Rattle.worked_flashes.specs.Writes.{slot}
 
 pub chosen-by : (c : Content) (e : Decision) → decision_in c Arm Normal ≡ e → Chosen c Arm Normal e
 chosen-by c e is = (chosen-exactly c Arm Normal e).1 (sym is)
@@ -50,7 +53,7 @@ none-some o x none some = let e : None ≡ Some x = sym none ∙ some in cc
 pub differ : (a b : Content) (i x y : ℕ) → slice_index a.flash i ≡ x → slice_index b.flash i ≡ y → x ≢ y → a ≢ b
 differ a b i x y one two ne same = ne (sym one ∙ ap (λ (c : Content). slice_index c.flash i) same ∙ two)
 
--- the content before each session
+-- the content before each session, and what the laws ask of it
 abbrev pub before : Content
 before = beside_former bare
 
@@ -58,9 +61,9 @@ pub right : IsContent before
 unfolding all_below word_bytes
 right = content-by before 0x40000 refl refl refl refl refl refl refl
 
-pub home : Home before slot Arm
+pub boot_member : IsBootMember before slot Arm
 unfolding table_in loop_of follow block_from block_at front_block item_words frame size_of word_of word_bytes
-home = record {
+boot_member = record {
   place = 0;
   unit = the_pair;
   member = B;
@@ -78,7 +81,7 @@ former-before = refl
 pub elsewhere : former_start.image.window ≢ slot
 elsewhere e = let starts : 0x2000 ≡ 0x20000 = ap (λ (w : Window). w.start) e in absurd (omega (arith, starts))
 
--- the same of the small pair
+-- the content before each session on the small pair, and what the laws ask of it
 abbrev pub small_before : Content
 small_before = beside_small bare_slot
 
@@ -86,7 +89,7 @@ pub small-right : IsContent small_before
 unfolding all_below word_bytes
 small-right = content-by small_before 0x6000 refl refl refl refl refl refl refl
 
-pub small-home : Home small_before small_slot Arm
+pub small-home : IsBootMember small_before small_slot Arm
 unfolding table_in loop_of follow block_from block_at front_block item_words frame size_of word_of word_bytes
 small-home = record {
   place = 0;

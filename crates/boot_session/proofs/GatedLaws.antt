@@ -33,13 +33,14 @@ use Rattle.boot_rules.specs.declared.decision.Decision.{Decision}
 use Rattle.boot_rules.specs.declared.decision.Decision.TheVariants.{Start}
 use Rattle.boot_rules.specs.declared.tables.Found.{Found}
 use Rattle.boot_rules.specs.Choosing.{decision_in, images_in, other_of}
-use Rattle.boot_rules.specs.Chosen.{Chosen, Home}
-use Rattle.boot_rules.specs.Tables.{found_of, slot_table, slot_window, table_in, table_in_loop}
+use Rattle.boot_rules.specs.Chosen.{Chosen, IsBootMember}
+use Rattle.boot_rules.specs.Tables.{answer_in_loop, found_of, slot_window, table_in}
+use Rattle.boot_rules.proofs.TableLemmas.{slot_table}
 use Rattle.boot_rules.proofs.DataLemmas.{same-bytes, same-length, same-slot}
 use Rattle.boot_rules.proofs.DecisionLemmas.{chosen-exactly, found-valid, valid-found}
-use Rattle.boot_writes.specs.Luck.{HasNoImage, IsKnownImage, Lucky}
-use Rattle.boot_writes.proofs.LuckLaws.{same-there}
-use Rattle.boot_session.specs.CutSessions.{CutSession, StartsElsewhere, StartsFinished, StartsThere}
+use Rattle.boot_rules.specs.AccidentalImages.{HasNoImage, IsKnownImage, HasNoAccidentalImage}
+use Rattle.boot_rules.proofs.AccidentalImageLemmas.{same-there}
+use Rattle.boot_session.specs.CutSessions.{CutSession, StartsOutside, StartsFinished, StartsThere}
 use Rattle.boot_session.proofs.ConfinedLaws.{empty-decision, next-decision, same-image-decision, table-stays}
 use Rattle.boot_session.proofs.NeighbourLemmas.{placed}
 
@@ -90,7 +91,8 @@ decide-blank bytes start (suc count) =
 
 -- a flash without a table has none where one slot's first sector is erased and the other one is kept
 slot-blank : (sectors first : ℕ) (bytes : List ℕ) → IsErasedFrom bytes 0 4096 → slot_table sectors first bytes ≡ None
-slot-blank sectors first bytes erased = ap (table_in_loop sectors first) (loop_of-blank bytes erased)
+slot-blank sectors first bytes erased = ap (λ r. result_ok (answer_in_loop sectors first r))
+    (loop_of-blank bytes erased)
 
 abbrev none_found : Option Found
 none_found = None
@@ -157,7 +159,7 @@ only v (suc k) u e = cc
 slots-differ : (z : ℕ) → AreApart (slot_window z 0) (slot_window z 1)
 slots-differ z = inl (omega arith)
 
-module _ (c : Content) (w : Window) (cpu : Cpu) (right : IsContent c) (home : Home c w cpu) (d : Content)
+module _ (c : Content) (w : Window) (cpu : Cpu) (right : IsContent c) (boot_member : IsBootMember c w cpu) (d : Content)
     (same : SameButWindow w c d) (erased : IsErasedFrom (window_bytes d w) 0 4096) where
   abbrev n : ℕ
   n = length c.flash
@@ -168,11 +170,14 @@ module _ (c : Content) (w : Window) (cpu : Cpu) (right : IsContent c) (home : Ho
   -- the window of a member without a table
   home-slot : table_in c ≡ None → (w ≡ slot_window z 0) ⊎ (w ≡ slot_window z 1)
   home-slot none =
-      let tried : slice_get (units None n z cpu) home.place ≡ Some home.unit =
-      sym (ap (λ o. slice_get (units (option_map (λ (f : Found). f.table) o) n z cpu) home.place) none) ∙ home.tried in
-      let is : tableless_unit n z ≡ home.unit = only (tableless_unit n z) home.place home.unit tried in
-      slot-member (nat_lt 4096 z) n z home.member w home.other
-      (ap (member_window home.member) is ∙ home.stands) (ap (member_window (other_of home.member)) is ∙ home.pair)
+      let tried : slice_get (units None n z cpu) boot_member.place ≡ Some boot_member.unit =
+      sym (ap (λ o. slice_get (units (option_map (λ (f : Found). f.table) o) n z cpu) boot_member.place) none)
+      ∙ boot_member.tried in
+      let is : tableless_unit n z ≡ boot_member.unit = only
+      (tableless_unit n z) boot_member.place boot_member.unit tried in
+      slot-member (nat_lt 4096 z) n z boot_member.member w boot_member.other
+      (ap (member_window boot_member.member) is ∙ boot_member.stands)
+      (ap (member_window (other_of boot_member.member)) is ∙ boot_member.pair)
 
   no-table : table_in c ≡ None → table_in d ≡ None
   no-table none = go (home-slot none)
@@ -202,13 +207,13 @@ module _ (c : Content) (w : Window) (cpu : Cpu) (right : IsContent c) (home : Ho
           (theirs 0 (subst (λ v. AreApart v (slot_window z 0)) (sym is)
           (apart_sym (slot_window z 0) (slot_window z 1) (slots-differ z))) before.0) (mine 1 is)
 
-  -- so the table is the former one
+  -- while the slot's first sector is erased the table is the former one
   pub blank-table : table_in d ≡ table_in c
   blank-table = go (table_in c) refl
     where
       go : (o : Option Found) → table_in c ≡ o → table_in d ≡ o
       go None none = no-table none
-      go (Some found) is = table-stays c w cpu right home d same found is
+      go (Some found) is = table-stays c w cpu right boot_member d same found is
 
   pub blank-image : images_in d cpu w false ≡ None
   blank-image = ap result_ok (erased-none in_flash w cpu false d.otp (window_bytes d w) erased)
@@ -220,9 +225,10 @@ no-image d w cpu none = go (images_in d cpu w false) refl
     go None e = refl
     go (Some s) e = absurd (none s (found-valid d cpu w false s e))
 
-module _ (c : Content) (w : Window) (cpu : Cpu) (right : IsContent c) (home : Home c w cpu) (steps : List Step)
+module _ (c : Content) (w : Window) (cpu : Cpu) (right : IsContent c) (boot_member : IsBootMember c w cpu)
+    (steps : List Step)
     (d : Content) (confined : Confined steps w) (cut : CutOf c steps d)
-    (elsewhere : StartsElsewhere w (decision_in c cpu Normal)) (done : table_in (after_all c steps) ≡ table_in c) where
+    (elsewhere : StartsOutside w (decision_in c cpu Normal)) (done : table_in (after_all c steps) ≡ table_in c) where
   abbrev end : Content
   end = after_all c steps
 
@@ -237,7 +243,7 @@ module _ (c : Content) (w : Window) (cpu : Cpu) (right : IsContent c) (home : Ho
 
   -- the whole session's decision is the former one, or a start of the window's image
   finished-decision : (decision_in end cpu Normal ≡ decision_in c cpu Normal) ⊎ StartsThere end w cpu
-  finished-decision = next-decision c w cpu right home end all done elsewhere
+  finished-decision = next-decision c w cpu right boot_member end all done elsewhere
 
   finished : d ≡ end → Result'
   finished is = elim finished-decision [
@@ -252,25 +258,28 @@ module _ (c : Content) (w : Window) (cpu : Cpu) (right : IsContent c) (home : Ho
 
   blank : ((i : ℕ) → i < 4096 → slice_index d.flash (w.start + i) ≡ 255) → Result'
   blank each =
-      inl (empty-decision c w cpu right home d left (blank-table c w cpu right home d left erased) elsewhere
-      (blank-image c w cpu right home d left erased))
+      inl (empty-decision c w cpu right boot_member d left
+      (blank-table c w cpu right boot_member d left erased) elsewhere
+      (blank-image c w cpu right boot_member d left erased))
     where
       erased : IsErasedFrom (window_bytes d w) 0 4096
       erased i low lt =
-          let some = (placed c w cpu right home).some in
+          let some = (placed c w cpu right boot_member).some in
           get_or-window_bytes d w i (omega (arith, some, lt)) ∙ each i lt
 
-  lucky : Lucky c end d w cpu → Result'
-  lucky luck = go luck.image
+  accident_free : HasNoAccidentalImage c end d w cpu → Result'
+  accident_free no_accident = go no_accident.image
     where
       go : HasNoImage d w cpu ⊎ ((s : Started) × IsKnownImage c end d w cpu s) → Result'
-      go (inl none) = inl (empty-decision c w cpu right home d left luck.table elsewhere (no-image d w cpu none))
+      go (inl none) = inl (empty-decision c w cpu right boot_member d left no_accident.table elsewhere
+          (no-image d w cpu none))
       go (inr (s, known)) = elim known.known [
-        | inl former ↦ inl (same-image-decision c w cpu right home d c left (SameButWindow-refl w c) luck.table refl
+        | inl former ↦ inl (same-image-decision c w cpu right boot_member d c left
+            (SameButWindow-refl w c) no_accident.table refl
             (valid-found d cpu w false s known.valid ∙ sym (valid-found c cpu w false s former.valid)))
         | inr after ↦
             let same : decision_in d cpu Normal ≡ decision_in end cpu Normal =
-            same-image-decision c w cpu right home d end left all luck.table done
+            same-image-decision c w cpu right boot_member d end left all no_accident.table done
             (valid-found d cpu w false s known.valid ∙ sym (valid-found end cpu w false s after.valid)) in
             elim finished-decision [
               | inl e ↦ inl (same ∙ e)
@@ -287,14 +296,14 @@ module _ (c : Content) (w : Window) (cpu : Cpu) (right : IsContent c) (home : Ho
             ]
       ]
 
-  cut-decision : (Unfinished c steps w d → Lucky c end d w cpu) → Result'
-  cut-decision luck = elim (decide-content d c) [
+  cut-decision : (Unfinished c steps w d → HasNoAccidentalImage c end d w cpu) → Result'
+  cut-decision no_accident = elim (decide-content d c) [
     | inl is ↦ inl (ap (λ x. decision_in x cpu Normal) is)
     | inr moved ↦ elim (decide-content d end) [
       | inl is ↦ finished is
       | inr short ↦ elim (decide-blank d.flash w.start 4096) [
         | inl each ↦ blank each
-        | inr touched ↦ lucky (luck (record { moved = moved; short = short; touched = touched }))
+        | inr touched ↦ accident_free (no_accident (record { moved = moved; short = short; touched = touched }))
       ]
     ]
   ]
@@ -310,17 +319,18 @@ gated-decision c w cpu steps d e lost = go lost.gated
     go : Gated steps w → Chosen d cpu Normal e ⊎ StartsFinished (after_all c steps) d cpu
     go (inl none) = absurd (subst (λ xs. CutOf c xs d) none lost.cut)
     go (inr (s, others, last, whole)) =
-        elim (cut-decision c w cpu lost.right lost.home steps d whole.confined lost.cut
-        (subst (StartsElsewhere w) is lost.elsewhere) lost.table lost.luck) [
+        elim (cut-decision c w cpu lost.right lost.boot_member steps d whole.confined lost.cut
+        (subst (StartsOutside w) is lost.elsewhere) lost.table lost.no_accident) [
           | inl same ↦ inl ((chosen-exactly d cpu Normal e).1 (is ∙ sym same))
           | inr finished ↦ inr finished
         ]
 
 pub gated-table : (c : Content) (w : Window) (cpu : Cpu) (steps : List Step) (found : Found) → IsContent c
-    → Home c w cpu → Gated steps w → table_in c ≡ Some found → table_in (after_all c steps) ≡ table_in c
-gated-table c w cpu steps found right home (inl none) is = ap (λ xs. table_in (after_all c xs)) none
-gated-table c w cpu steps found right home (inr (s, others, last, whole)) is =
-    table-stays c w cpu right home (after_all c steps) (confined-after_all c w steps whole.confined) found is ∙ sym is
+    → IsBootMember c w cpu → Gated steps w → table_in c ≡ Some found → table_in (after_all c steps) ≡ table_in c
+gated-table c w cpu steps found right boot_member (inl none) is = ap (λ xs. table_in (after_all c xs)) none
+gated-table c w cpu steps found right boot_member (inr (s, others, last, whole)) is =
+    table-stays c w cpu right boot_member (after_all c steps) (confined-after_all c w steps whole.confined) found is
+    ∙ sym is
 
 pub never-unfinished : (c : Content) (w : Window) (steps : List Step) (d : Content)
     → ((d ≡ c) ⊎ (d ≡ after_all c steps)) ⊎ ((i : ℕ) → i < 4096 → slice_index d.flash (w.start + i) ≡ 255)

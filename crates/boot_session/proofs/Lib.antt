@@ -20,4 +20,3 @@ mod SessionLemmas
 mod PoolLemmas
 pub mod SlotLemmas
 mod StepBoundLemmas
-mod ScriptLemmas

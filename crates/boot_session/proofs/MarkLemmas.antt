@@ -12,7 +12,7 @@ use Rattle.pico_board.specs.MemBoard.{state_of}
 use Rattle.pico_board.specs.Content.{Content}
 use Rattle.pico_board.specs.Steps.{after_all}
 use Rattle.boot_rules.specs.Choosing.{boot_units_in}
-use Rattle.boot_script.specs.Events.{Happening}
+use Rattle.boot_script.specs.Events.{EventView}
 use Rattle.boot_session.specs.Playing.{HasServed}
 use Rattle.boot_session.specs.Sessions.{entered_host, session, session_from}
 use Rattle.boot_session.specs.declared.recorder.Recorder.{Recorder}
@@ -89,7 +89,7 @@ recorder-after r t c cpu steps units none start served few =
     }
 
 -- the session on a board that was given to a recorder, which was given to a machine
-pub session-recorded : (board : MemBoard) (r m t u : Recorder MemBoard) (cpu k : Cpu) (es : List Happening)
+pub session-recorded : (board : MemBoard) (r m t u : Recorder MemBoard) (cpu k : Cpu) (es : List EventView)
     → r.bench ≡ board → r.units.items ≡ boot_units_in (state_of board).content cpu → HasRecorded r [] → m ≡ r → k ≡ cpu
     → HasServed (λ (x : Recorder MemBoard). state_of x.bench) (λ x. IsHistoryOf x) m
     (session_from (state_of m.bench).content k (entered_host (state_of r.bench).content) es) t → u ≡ t

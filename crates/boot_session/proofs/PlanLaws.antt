@@ -18,12 +18,12 @@ use Rattle.picoboot_cmd.specs.Pages.{programs}
 use Rattle.picoboot_cmd.specs.Sectors.{erases}
 use Rattle.picoboot_cmd.specs.WellFormed.{MayWrite}
 use Rattle.boot_script.specs.declared.event.ScriptFault.{ScriptFault}
-use Rattle.boot_script.specs.Events.{Happening, PowerOn, Reset}
+use Rattle.boot_script.specs.Events.{EventView, PowerOn, Reset}
 use Rattle.boot_script.specs.Scripts.{events}
 use Rattle.boot_rules.specs.Tables.{table_in}
 use Rattle.boot_machine.specs.Machines.{Host}
-use Rattle.boot_machine.specs.Serving.{table_of}
-use Rattle.image_plan.specs.Plans.{erase_cmd, in_sectors, plan_text, sent, update_cmd, write_cmd}
+use Rattle.boot_machine.specs.Serving.{table_of_found}
+use Rattle.script_plan.specs.Plans.{erase_cmd, in_sectors, plan_text, sent, update_cmd, write_cmd}
 use Rattle.boot_session.specs.Sessions.{IsSlotOf, entered_host, session}
 use Rattle.boot_session.proofs.PlanServedLemmas.{Known, erase-done, erase-refused, event, reboot-event, write-done, write-refused}
 use Rattle.boot_session.proofs.PlanSlotLemmas.{IsSlot, slot-is}
@@ -51,14 +51,14 @@ module _ (known : Known) (c : Content) (cpu : Cpu) (w : Window) (right : IsConte
   small = right.flash_length.most
 
   may-write : slot.may ≡ true → (at n : ℕ) → w.start ≤ at → at + n ≤ w.start + w.len
-      → MayWrite (table_of (table_in c)) at n
+      → MayWrite (table_of_found (table_in c)) at n
   may-write is_so at n low high i lt = slot.rights (at + i) (omega (arith, low)) (omega (arith, high, lt)) ∙ is_so
 
   barred : slot.may ≡ false → (sector : ℕ) → w.start ≤ 4096 * sector → 4096 * sector < w.start + w.len
-      → allowed_by (table_of (table_in c)) sector BootWrite ≡ false
+      → allowed_by (table_of_found (table_in c)) sector BootWrite ≡ false
   barred never sector low high =
       let same : 4096 * sector / 4096 ≡ sector = omega arith in
-      ap (λ k. allowed_by (table_of (table_in c)) k BootWrite) (sym same) ∙ slot.rights (4096 * sector) low high
+      ap (λ k. allowed_by (table_of_found (table_in c)) k BootWrite) (sym same) ∙ slot.rights (4096 * sector) low high
       ∙ never
 
   -- confined steps keep the length of the flash
@@ -74,13 +74,13 @@ module _ (known : Known) (c : Content) (cpu : Cpu) (w : Window) (right : IsConte
   -- an image of at most a sector
   module _ (few : length image ≤ 4096) where
     -- the events from the third one on, from the second one on, and all
-    abbrev reboot : List Happening
+    abbrev reboot : List EventView
     reboot = event c cpu (update_cmd 3 w.start) [] ∷ []
 
-    abbrev write : List Happening
+    abbrev write : List EventView
     write = event c cpu (write_cmd 2 (256 * (16 * s)) (length image)) image ∷ reboot
 
-    abbrev pub short_list : List Happening
+    abbrev pub short_list : List EventView
     short_list = PowerOn ∷ Reset Bootsel ∷ event c cpu (erase_cmd 1 (4096 * s) (4096 * 1)) [] ∷ write
 
     abbrev pages : List Step
@@ -115,7 +115,7 @@ module _ (known : Known) (c : Content) (cpu : Cpu) (w : Window) (right : IsConte
         (omega (arith, starts, inside, least)) off
         ∙ write-refused c cpu known c refl small 2 (16 * s) image reboot (omega arith) some
         (omega (arith, starts, inside, room))
-        (ap (λ k. allowed_by (table_of (table_in c)) k BootWrite) page ∙ off)
+        (ap (λ k. allowed_by (table_of_found (table_in c)) k BootWrite) page ∙ off)
         ∙ reboot-event c cpu known c 3 w.start (omega arith)
 
     short-gated : Gated (session c cpu short_list) w
@@ -138,7 +138,7 @@ module _ (known : Known) (c : Content) (cpu : Cpu) (w : Window) (right : IsConte
           },
         )
 
-    abbrev sent_short : ℕ → ℕ → List Happening
+    abbrev sent_short : ℕ → ℕ → List EventView
     sent_short a b =
         PowerOn ∷ Reset Bootsel ∷ sent (erase_cmd 1 a 4096) [] ∷ sent (write_cmd 2 b (length image)) image
         ∷ sent (update_cmd 3 w.start) [] ∷ []
@@ -161,19 +161,19 @@ module _ (known : Known) (c : Content) (cpu : Cpu) (w : Window) (right : IsConte
     k = (length rest + 4095) / 4096
 
     -- the events from the fifth one on, from the fourth one on, and so forth
-    abbrev reboot' : List Happening
+    abbrev reboot' : List EventView
     reboot' = event c cpu (update_cmd 5 w.start) [] ∷ []
 
-    abbrev write_first : List Happening
+    abbrev write_first : List EventView
     write_first = event c cpu (write_cmd 4 (256 * (16 * s)) (length first)) first ∷ reboot'
 
-    abbrev write_rest : List Happening
+    abbrev write_rest : List EventView
     write_rest = event c cpu (write_cmd 3 (256 * (16 * (s + 1))) (length rest)) rest ∷ write_first
 
-    abbrev erase_rest : List Happening
+    abbrev erase_rest : List EventView
     erase_rest = event c cpu (erase_cmd 2 (4096 * (s + 1)) (4096 * k)) [] ∷ write_rest
 
-    abbrev pub long_list : List Happening
+    abbrev pub long_list : List EventView
     long_list = PowerOn ∷ Reset Bootsel ∷ event c cpu (erase_cmd 1 (4096 * s) (4096 * 1)) [] ∷ erase_rest
 
     abbrev others : List Step
@@ -251,10 +251,10 @@ module _ (known : Known) (c : Content) (cpu : Cpu) (w : Window) (right : IsConte
         ∙ write-refused c cpu known c refl small 3 (16 * (s + 1)) rest write_first (omega arith)
         (omega (arith, left, more))
         (omega (arith, starts, inside, room, left, more))
-        (ap (λ x. allowed_by (table_of (table_in c)) x BootWrite) next ∙ off')
+        (ap (λ x. allowed_by (table_of_found (table_in c)) x BootWrite) next ∙ off')
         ∙ write-refused c cpu known c refl small 4 (16 * s) first reboot' (omega arith) (omega (arith, full))
         (omega (arith, starts, inside, least, full))
-        (ap (λ x. allowed_by (table_of (table_in c)) x BootWrite) page ∙ off)
+        (ap (λ x. allowed_by (table_of_found (table_in c)) x BootWrite) page ∙ off)
         ∙ reboot-event c cpu known c 5 w.start (omega arith)
 
     long-gated : Gated (session c cpu long_list) w
@@ -281,7 +281,7 @@ module _ (known : Known) (c : Content) (cpu : Cpu) (w : Window) (right : IsConte
           },
         )
 
-    abbrev sent_long : ℕ → ℕ → ℕ → ℕ → ℕ → List Happening
+    abbrev sent_long : ℕ → ℕ → ℕ → ℕ → ℕ → List EventView
     sent_long a b d e n =
         PowerOn ∷ Reset Bootsel ∷ sent (erase_cmd 1 a 4096) [] ∷ sent (erase_cmd 2 b (4096 * k)) []
         ∷ sent (write_cmd 3 d (length rest)) rest ∷ sent (write_cmd 4 e n) first
@@ -299,7 +299,7 @@ module _ (known : Known) (c : Content) (cpu : Cpu) (w : Window) (right : IsConte
         ∙ ap (λ e. sent_long (4096 * s) (4096 * (s + 1)) (256 * (16 * (s + 1))) e 4096) page
         ∙ ap (sent_long (4096 * s) (4096 * (s + 1)) (256 * (16 * (s + 1))) (256 * (16 * s))) (sym full)
 
-same-ok : (xs ys : List Happening) → ◌≡◌ {A = Result (List Happening) ScriptFault} (Ok xs) (Ok ys) → xs ≡ ys
+same-ok : (xs ys : List EventView) → ◌≡◌ {A = Result (List EventView) ScriptFault} (Ok xs) (Ok ys) → xs ≡ ys
 same-ok xs ys e = cc
 
 -- what the law on the events of a plan says
@@ -317,7 +317,7 @@ pub record KnownEvents : Type 0 where
       ∷ sent (write_cmd 3 (w.start + 4096) (length (drop 4096 image))) (drop 4096 image)
       ∷ sent (write_cmd 4 w.start 4096) (take 4096 image) ∷ sent (update_cmd 5 w.start) [] ∷ [])
 
-pub plan-gated : Known → KnownEvents → (c : Content) (cpu : Cpu) (w : Window) (image : List ℕ) (es : List Happening)
+pub plan-gated : Known → KnownEvents → (c : Content) (cpu : Cpu) (w : Window) (image : List ℕ) (es : List EventView)
     → IsContent c → IsSlotOf c cpu w → 0 < length image → length image ≤ w.len
     → events (plan_text w.start image) ≡ Ok es → Gated (session c cpu es) w
 plan-gated known says c cpu w image es right of some room is = go (cases_lt 4096 (length image))

@@ -18,27 +18,27 @@ use Rattle.picoboot_cmd.specs.declared.cmd.Cmd.{Cmd}
 use Rattle.picoboot_cmd.specs.declared.kinds.TheConstants.{ADDRESS, ALIGNMENT, COMMAND_LENGTH, ERASE, INVALID_STATE, NOT_PERMITTED, TRANSFER_LENGTH, WRITE}
 use Rattle.picoboot_cmd.specs.Arguments.{address, offset, reboot_flags, reboot_p0, size}
 use Rattle.picoboot_cmd.specs.ByCommand.{erase_checks, write_checks}
-use Rattle.picoboot_cmd.specs.Checks.{check, first_failing, is_in_flash, status_of}
-use Rattle.picoboot_cmd.specs.Commands.{command_in, written}
+use Rattle.picoboot_cmd.specs.Checks.{check, first_failing, is_range_in_flash, status_of}
+use Rattle.picoboot_cmd.specs.Commands.{command_in, written_command}
 use Rattle.picoboot_cmd.specs.Pages.{programs}
 use Rattle.picoboot_cmd.specs.Sectors.{erases, range_allowed}
-use Rattle.picoboot_cmd.specs.Served.{Served as Command, boot_by, command_of, served as answered}
+use Rattle.picoboot_cmd.specs.Served.{ServedCommand as Command, boot_by, served_on, served_by_status as answered}
 use Rattle.picoboot_cmd.specs.WellFormed.{IsErase, IsReboot, IsWrite, MayWrite}
 use Rattle.ram_start.specs.Serving.{is_ram_command}
 use Rattle.boot_rules.specs.Tables.{table_in}
 use Rattle.boot_script.specs.Events as events
-use Rattle.boot_script.specs.Events.{Happening}
-use Rattle.boot_machine.specs.Machines.{Host, Place, InBootsel, Off, Running}
-use Rattle.boot_machine.specs.Serving.{Served, command_served, serves, serves_host, serves_ram, table_of}
-use Rattle.image_plan.specs.Plans.{erase_cmd, update_cmd, write_cmd}
+use Rattle.boot_script.specs.Events.{EventView}
+use Rattle.boot_machine.specs.Machines.{Host, StateView, InBootsel, Off, Running}
+use Rattle.boot_machine.specs.Serving.{ServedEvent, command_served, serves, serves_host, serves_ram, table_of_found}
+use Rattle.script_plan.specs.Plans.{erase_cmd, update_cmd, write_cmd}
 use Rattle.boot_session.specs.Sessions.{entered_host, going_on, session_from}
 
 -- what the laws below say of commands and of those of a plan
 pub record Known : Type 0 where
   pub read : (token at size : ℕ) → token < 2 ^ 32 → size < 2 ^ 32
-      → (command_in (written (erase_cmd token at size)) ≡ Ok (erase_cmd token at size))
-      × (command_in (written (write_cmd token at size)) ≡ Ok (write_cmd token at size))
-      × (command_in (written (update_cmd token at)) ≡ Ok (update_cmd token at))
+      → (command_in (written_command (erase_cmd token at size)) ≡ Ok (erase_cmd token at size))
+      × (command_in (written_command (write_cmd token at size)) ≡ Ok (write_cmd token at size))
+      × (command_in (written_command (update_cmd token at)) ≡ Ok (update_cmd token at))
   pub is_erase : (n token s k : ℕ) (t : Option Table) → n ≤ MOST_FLASH_BYTES → 4096 * (s + k) ≤ n
       → MayWrite t (4096 * s) (4096 * k) → IsErase n t s k (erase_cmd token (4096 * s) (4096 * k))
   pub is_write : (n token p : ℕ) (t : Option Table) (payload : List ℕ) → n ≤ MOST_FLASH_BYTES
@@ -46,18 +46,18 @@ pub record Known : Type 0 where
       → IsWrite n t p payload (write_cmd token (256 * p) (length payload))
   pub is_reboot : (token at : ℕ) → IsReboot (update_cmd token at)
   pub erased : (c : Content) (t : Option Table) (cmd : Cmd) (s k : ℕ) → IsErase (length c.flash) t s k cmd
-      → command_of c t false cmd [] ≡ record { status = 0; steps = erases s k; reply = []; boot = None }
+      → served_on c t false cmd [] ≡ record { status = 0; steps = erases s k; reply = []; boot = None }
   pub wrote : (c : Content) (t : Option Table) (cmd : Cmd) (p : ℕ) (payload : List ℕ)
       → IsWrite (length c.flash) t p payload cmd
-      → command_of c t false cmd payload
+      → served_on c t false cmd payload
       ≡ record { status = 0; steps = programs p payload; reply = []; boot = None }
   pub rebooted : (c : Content) (t : Option Table) (busy : Bool) (cmd : Cmd) → IsReboot cmd
-      → command_of c t busy cmd []
+      → served_on c t busy cmd []
       ≡ record { status = 0; steps = []; reply = []; boot = Some (boot_by (reboot_flags cmd) (reboot_p0 cmd)) }
   pub refused : (c : Content) (t : Option Table) (busy : Bool) (cmd : Cmd) (payload : List ℕ)
-      → (command_of c t busy cmd payload).status ≢ 0
-      → ((command_of c t busy cmd payload).steps ≡ []) × ((command_of c t busy cmd payload).reply ≡ [])
-      × ((command_of c t busy cmd payload).boot ≡ None)
+      → (served_on c t busy cmd payload).status ≢ 0
+      → ((served_on c t busy cmd payload).steps ≡ []) × ((served_on c t busy cmd payload).reply ≡ [])
+      × ((served_on c t busy cmd payload).boot ≡ None)
   pub erase_status : (n : ℕ) (otp : List ℕ) (t : Option Table) (busy : Bool) (cmd : Cmd) (payload : List ℕ)
       → cmd.id ≡ ERASE → status_of n otp t busy cmd payload ≡ first_failing (erase_checks n t busy cmd payload)
   pub write_status : (n : ℕ) (otp : List ℕ) (t : Option Table) (busy : Bool) (cmd : Cmd) (payload : List ℕ)
@@ -84,14 +84,14 @@ erase-fails : (n : ℕ) (t : Option Table) (cmd : Cmd) → range_allowed t BootW
     → first_failing (erase_checks n t false cmd []) ≢ 0
 erase-fails n t cmd off =
     failing (cmd.arg_size == 8) (cmd.transfer == 0 && true) (address cmd % 4096 == 0 && size cmd % 4096 == 0)
-    (is_in_flash cmd n) (range_allowed t BootWrite (offset cmd) (size cmd)) off
+    (is_range_in_flash cmd n) (range_allowed t BootWrite (offset cmd) (size cmd)) off
 
 write-fails : (n : ℕ) (t : Option Table) (cmd : Cmd) (payload : List ℕ)
     → range_allowed t BootWrite (offset cmd) (size cmd) ≡ false
     → first_failing (write_checks n t false cmd payload) ≢ 0
 write-fails n t cmd payload off =
     failing (cmd.arg_size == 8) (cmd.transfer == size cmd && length payload == cmd.transfer)
-    (address cmd % 256 == 0) (is_in_flash cmd n) (range_allowed t BootWrite (offset cmd) (size cmd)) off
+    (address cmd % 256 == 0) (is_range_in_flash cmd n) (range_allowed t BootWrite (offset cmd) (size cmd)) off
 
 same-number : (a b : ℕ) → (a == b) ≡ true → a ≡ b
 same-number a b e = grind (arith, nat_tests)
@@ -112,10 +112,10 @@ module _ (c : Content) (cpu : Cpu) where
   host = entered_host c
 
   abbrev pub table : Option Table
-  table = table_of (table_in c)
+  table = table_of_found (table_in c)
 
-  abbrev pub event : Cmd → List ℕ → Happening
-  event cmd payload = events.Command (written cmd) payload
+  abbrev pub event : Cmd → List ℕ → EventView
+  event cmd payload = events.Command (written_command cmd) payload
 
   -- an erase and a write are served as commands for the board
   erase-served : (d : Content) (token at size : ℕ) (payload : List ℕ)
@@ -133,29 +133,29 @@ module _ (c : Content) (cpu : Cpu) where
       (lt-leb SRAM_START (address (write_cmd token at size)) low)
 
   -- what an event of a command adds to the session, where it asks for no boot
-  abbrev rest_of : List Happening → Content → Served → List Step
+  abbrev rest_of : List EventView → Content → ServedEvent → List Step
   rest_of es d s = s.steps ++ going_on (λ next. session_from (after_all d s.steps) cpu next es) s.boot s.place
 
-  pub one-event : (d : Content) (cmd : Cmd) (payload : List ℕ) (es : List Happening) (steps : List Step)
-      → command_in (written cmd) ≡ Ok cmd → serves d cpu host cmd payload ≡ serves_host d host cmd payload
-      → (command_of d table false cmd payload).steps ≡ steps → (command_of d table false cmd payload).boot ≡ None
+  pub one-event : (d : Content) (cmd : Cmd) (payload : List ℕ) (es : List EventView) (steps : List Step)
+      → command_in (written_command cmd) ≡ Ok cmd → serves d cpu host cmd payload ≡ serves_host d host cmd payload
+      → (served_on d table false cmd payload).steps ≡ steps → (served_on d table false cmd payload).boot ≡ None
       → session_from d cpu host (event cmd payload ∷ es) ≡ steps ++ session_from (after_all d steps) cpu host es
   one-event d cmd payload es steps read hosted does boot =
       ap (λ r. rest_of es d (command_served d cpu host r payload)) read
       ∙ ap (rest_of es d) hosted
-      ∙ ap (λ b. (command_of d table false cmd payload).steps
-      ++ going_on (λ next. session_from (after_all d (command_of d table false cmd payload).steps) cpu next es) b
+      ∙ ap (λ b. (served_on d table false cmd payload).steps
+      ++ going_on (λ next. session_from (after_all d (served_on d table false cmd payload).steps) cpu next es) b
       (InBootsel host)) boot
       ∙ ap (λ xs. xs ++ session_from (after_all d xs) cpu host es) does
 
   -- the reboot behind them does no step
-  going-nothing : (boot : Option BootKind) (place : Place) → going_on (λ next. []) boot place ≡ []
+  going-nothing : (boot : Option BootKind) (place : StateView) → going_on (λ next. []) boot place ≡ []
   going-nothing (Some kind) place = refl
   going-nothing None Off = refl
   going-nothing None (Running program) = refl
   going-nothing None (InBootsel next) = refl
 
-  no-steps : (b : Bool) (one two : Served) → one.steps ≡ [] → two.steps ≡ [] → (if b then one else two).steps ≡ []
+  no-steps : (b : Bool) (one two : ServedEvent) → one.steps ≡ [] → two.steps ≡ [] → (if b then one else two).steps ≡ []
   no-steps true one two p q = p
   no-steps false one two p q = q
 
@@ -194,7 +194,7 @@ module _ (c : Content) (cpu : Cpu) where
             sym (ap (λ k. allowed_by table (k / 4096) BootWrite) (sym same) ∙ first) ∙ barred in
             cc
 
-    pub erase-refused : (token s k : ℕ) (es : List Happening) → token < 2 ^ 32 → 0 < k → 4096 * (s + k) ≤ n
+    pub erase-refused : (token s k : ℕ) (es : List EventView) → token < 2 ^ 32 → 0 < k → 4096 * (s + k) ≤ n
         → allowed_by table s BootWrite ≡ false
         → session_from d cpu host (event (erase_cmd token (4096 * s) (4096 * k)) [] ∷ es) ≡ session_from d cpu host es
     erase-refused token s k es token_small some inside barred =
@@ -213,7 +213,7 @@ module _ (c : Content) (cpu : Cpu) where
         one-event d cmd [] es [] (known.read token (4096 * s) (4096 * k) token_small (omega (arith, inside, fits))).0
         (erase-served d token (4096 * s) (4096 * k) []) no_steps.0 no_steps.2
 
-    pub write-refused : (token p : ℕ) (payload : List ℕ) (es : List Happening) → token < 2 ^ 32 → 0 < length payload
+    pub write-refused : (token p : ℕ) (payload : List ℕ) (es : List EventView) → token < 2 ^ 32 → 0 < length payload
         → 256 * p + length payload ≤ n → allowed_by table (256 * p / 4096) BootWrite ≡ false
         → session_from d cpu host (event (write_cmd token (256 * p) (length payload)) payload ∷ es)
         ≡ session_from d cpu host es
@@ -233,8 +233,8 @@ module _ (c : Content) (cpu : Cpu) where
         (known.read token (256 * p) (length payload) token_small (omega (arith, inside, fits))).1
         (write-served d token (256 * p) (length payload) payload low) no_steps.0 no_steps.2
 
-    -- those of bytes that may be written are done
-    pub erase-done : (token s k : ℕ) (es : List Happening) → token < 2 ^ 32 → 4096 * (s + k) ≤ n
+    -- an erase and a write of bytes that may be written do their steps
+    pub erase-done : (token s k : ℕ) (es : List EventView) → token < 2 ^ 32 → 4096 * (s + k) ≤ n
         → MayWrite table (4096 * s) (4096 * k)
         → session_from d cpu host (event (erase_cmd token (4096 * s) (4096 * k)) [] ∷ es)
         ≡ erases s k ++ session_from (after_all d (erases s k)) cpu host es
@@ -246,7 +246,7 @@ module _ (c : Content) (cpu : Cpu) where
         (erase-served d token (4096 * s) (4096 * k) []) (ap (λ (r : Command). r.steps) done)
         (ap (λ (r : Command). r.boot) done)
 
-    pub write-done : (token p : ℕ) (payload : List ℕ) (es : List Happening) → token < 2 ^ 32 → 0 < length payload
+    pub write-done : (token p : ℕ) (payload : List ℕ) (es : List EventView) → token < 2 ^ 32 → 0 < length payload
         → 256 * p + length payload ≤ n → MayWrite table (256 * p) (length payload)
         → session_from d cpu host (event (write_cmd token (256 * p) (length payload)) payload ∷ es)
         ≡ programs p payload ++ session_from (after_all d (programs p payload)) cpu host es

@@ -10,20 +10,20 @@ use Rattle.part_table.specs.Fields.{first_sector, has_bit, last_sector}
 use Rattle.part_table.specs.Partitions.{no_partition, part_at}
 use Rattle.part_table.specs.Rights.{allowed_by}
 use Rattle.part_table.specs.Sound.{IsSoundTable}
-use Rattle.part_table.specs.Windows.{IsPlaced, has_sector, partition_window}
+use Rattle.part_table.specs.Windows.{IsPlacedWindow, has_sector, partition_window}
 use Rattle.part_table.proofs.TableLemmas.{partition_right, sound_placed}
 use Rattle.boot_rules.specs.Tables.{table_in}
 use Rattle.boot_rules.proofs.TableLemmas.{found-sound}
-use Rattle.boot_machine.specs.Serving.{table_of}
+use Rattle.boot_machine.specs.Serving.{table_of_found}
 use Rattle.boot_session.specs.Sessions.{IsSlotOf}
 use Rattle.boot_session.proofs.NeighbourLemmas as near
 
--- it stands in whole sectors inside the flash, which may all be written, or none
+-- the slot stands in whole sectors inside the flash, which may all be written, or none
 pub record IsSlot (c : Content) (w : Window) : Type 0 where
-  pub placed : IsPlaced w (length c.flash / 4096) 0
+  pub placed : IsPlacedWindow w (length c.flash / 4096) 0
   pub may : Bool
   pub rights : (k : ℕ) → w.start ≤ k → k < w.start + w.len
-      → allowed_by (table_of (table_in c)) (k / 4096) BootWrite ≡ may
+      → allowed_by (table_of_found (table_in c)) (k / 4096) BootWrite ≡ may
 
 both-true : (a b : Bool) → a ≡ true → b ≡ true → (a && b) ≡ true
 both-true a b p q = ap₂ (λ x y. x && y) p q
@@ -49,17 +49,17 @@ pub slot-is : (c : Content) (cpu : Cpu) (w : Window) → IsContent c → IsSlotO
 slot-is c cpu w right (inl (found, i, is, lt, same)) =
     let sound = found-sound c found is in
     record {
-      placed = subst (λ v. IsPlaced v (length c.flash / 4096) 0) (sym same)
+      placed = subst (λ v. IsPlacedWindow v (length c.flash / 4096) 0) (sym same)
           (sound_placed found.table (length c.flash / 4096) sound i lt);
       may = has_bit (part_at found.table.parts.items i).location 31;
       rights = λ k low high.
-          ap (λ o. allowed_by (table_of o) (k / 4096) BootWrite) is
+          ap (λ o. allowed_by (table_of_found o) (k / 4096) BootWrite) is
           ∙ part-right found.table (length c.flash / 4096) i sound lt k
           (subst (λ (v : Window). v.start ≤ k) same low)
           (subst (λ (v : Window). k < v.start + v.len) same high);
     }
-slot-is c cpu w right (inr (none, home)) = record {
-  placed = near.placed c w cpu right home;
+slot-is c cpu w right (inr (none, boot_member)) = record {
+  placed = near.placed c w cpu right boot_member;
   may = true;
-  rights = λ k low high. ap (λ o. allowed_by (table_of o) (k / 4096) BootWrite) none;
+  rights = λ k low high. ap (λ o. allowed_by (table_of_found o) (k / 4096) BootWrite) none;
 }

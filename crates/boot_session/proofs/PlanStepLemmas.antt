@@ -48,7 +48,7 @@ programs-in s (suc n) page bytes low high = (
   programs-in s n (page + 1) (drop 256 bytes) (omega (arith, low)) (omega (arith, high)),
 )
 
--- they are different pages
+-- programs of pages in a row are programs of different pages
 pages-above : (x n page : ℕ) (bytes : List ℕ) → x < page
     → AllByRecursion (λ y. nat_eq x y ≡ false) (pages_of (programs_of n page bytes))
 pages-above x zero page bytes lt = tt

@@ -8,34 +8,34 @@ use Rattle.pico_board.specs.declared.boot.Cpu.{Cpu}
 use Rattle.pico_board.specs.Content.{Content}
 use Rattle.pico_board.specs.Steps.{CutOf, after_all}
 use Rattle.pico_board.proofs.StepLemmas.{CutOf-append_cases, CutOf-append_left, CutOf-append_right, after_all-append}
-use Rattle.boot_script.specs.Events.{Happening}
+use Rattle.boot_script.specs.Events.{EventView}
 use Rattle.boot_machine.specs.Boots.{Effect, booted}
-use Rattle.boot_machine.specs.Machines.{Host, Machine, Place, Off, InBootsel, Running}
+use Rattle.boot_machine.specs.Machines.{Host, MachineView, StateView, Off, InBootsel, Running}
 use Rattle.boot_machine.specs.Moves.{Moves, MovesBy, Plays, effect, effect_in}
-use Rattle.boot_machine.specs.Serving.{Served, followed_by, is_hosted, served}
+use Rattle.boot_machine.specs.Serving.{ServedEvent, followed_by, is_hosted, served_event}
 use Rattle.boot_machine.proofs.MovePlaceLemmas.{cut-moves, end-moves, off-lost, off-stays}
 use Rattle.boot_session.specs.Sessions.{IsCutBoot, StaysIn, going_on, makes_boot, session_from, stays_on}
 
 -- no event makes a boot by itself
-abbrev MakeNone : List Happening → Type 0
+abbrev MakeNone : List EventView → Type 0
 MakeNone events = AllByRecursion (λ event. makes_boot event ≡ false) events
 
-none-staying : (events : List Happening) (rest : Host → Type 0) (boot : Option BootKind) (place : Place)
+none-staying : (events : List EventView) (rest : Host → Type 0) (boot : Option BootKind) (place : StateView)
     → ((next : Host) → rest next → MakeNone events) → stays_on rest boot place → MakeNone events
 none-staying events rest (Some kind) place ih stays = absurd stays
 none-staying events rest None Off ih stays = absurd stays
 none-staying events rest None (Running program) ih stays = absurd stays
 none-staying events rest None (InBootsel next) ih stays = ih next stays
 
-none-made : (events : List Happening) (c : Content) (cpu : Cpu) (host : Host) → StaysIn c cpu host events
+none-made : (events : List EventView) (c : Content) (cpu : Cpu) (host : Host) → StaysIn c cpu host events
     → MakeNone events
 none-made [] c cpu host stays = tt
 none-made (event ∷ events) c cpu host stays = (
   stays.0,
-  go (served c cpu host event) (is_hosted event) stays.1 (λ d next. none-made events d cpu next),
+  go (served_event c cpu host event) (is_hosted event) stays.1 (λ d next. none-made events d cpu next),
 )
   where
-    go : (s : Served) (hosted : Bool)
+    go : (s : ServedEvent) (hosted : Bool)
         → MatchBool hosted (stays_on (λ next. StaysIn (after_all c s.steps) cpu next events) s.boot s.place)
         (StaysIn c cpu host events)
         → ((d : Content) (next : Host) → StaysIn d cpu next events → MakeNone events) → MakeNone events
@@ -45,53 +45,53 @@ none-made (event ∷ events) c cpu host stays = (
     go s false stays ih = ih c host stays
 
 -- without power nothing is done
-off-rest : (events : List Happening) (m n : Machine) (texts : List (List ℕ)) → m.place ≡ Off → MakeNone events
+off-rest : (events : List EventView) (m n : MachineView) (texts : List (List ℕ)) → m.place ≡ Off → MakeNone events
     → Plays m events n texts → (n.content ≡ m.content) × (n.place ≡ Off)
 off-rest [] m n texts off none plays =
-    (ap (λ (x : Machine). x.content) plays.0, ap (λ (x : Machine). x.place) plays.0 ∙ off)
+    (ap (λ (x : MachineView). x.content) plays.0, ap (λ (x : MachineView). x.place) plays.0 ∙ off)
 off-rest (event ∷ events) m n texts off none (mid, text, others, moves, rest, all) =
     let stayed = still event none.0 moves in
     let end = off-rest events mid n others (stayed.1 ∙ off) none.1 rest in (end.0 ∙ stayed.0, end.1)
   where
     same : mid ≡ m → (mid.content ≡ m.content) × (mid.place ≡ m.place)
-    same e = (ap (λ (x : Machine). x.content) e, ap (λ (x : Machine). x.place) e)
+    same e = (ap (λ (x : MachineView). x.content) e, ap (λ (x : MachineView). x.place) e)
 
-    still : (e : Happening) → makes_boot e ≡ false → Moves m e mid text
+    still : (e : EventView) → makes_boot e ≡ false → Moves m e mid text
         → (mid.content ≡ m.content) × (mid.place ≡ m.place)
-    still Happening.PowerOn makes moves = absurd (true≢false makes)
-    still (Happening.Reset kind) makes moves = absurd (true≢false makes)
-    still Happening.End makes moves = same (end-moves m mid text moves).0
-    still Happening.Buy makes moves =
-        same (off-stays m mid text off Happening.Buy (λ e. cc e) (λ l w p e. cc e) moves)
-    still (Happening.Command command payload) makes moves =
-        same (off-stays m mid text off (Happening.Command command payload) (λ e. cc e) (λ l w p e. cc e) moves)
-    still (Happening.Uf2 block) makes moves =
-        same (off-stays m mid text off (Happening.Uf2 block) (λ e. cc e) (λ l w p e. cc e) moves)
-    still (Happening.Cut left within pattern) makes moves =
+    still EventView.PowerOn makes moves = absurd (true≢false makes)
+    still (EventView.Reset kind) makes moves = absurd (true≢false makes)
+    still EventView.End makes moves = same (end-moves m mid text moves).0
+    still EventView.Buy makes moves =
+        same (off-stays m mid text off EventView.Buy (λ e. cc e) (λ l w p e. cc e) moves)
+    still (EventView.Command command payload) makes moves =
+        same (off-stays m mid text off (EventView.Command command payload) (λ e. cc e) (λ l w p e. cc e) moves)
+    still (EventView.Uf2 block) makes moves =
+        same (off-stays m mid text off (EventView.Uf2 block) (λ e. cc e) (λ l w p e. cc e) moves)
+    still (EventView.Cut left within pattern) makes moves =
         let e = (cut-moves m mid left within pattern text moves).0 in
-        (ap (λ (x : Machine). x.content) e, ap (λ (x : Machine). x.place) e)
+        (ap (λ (x : MachineView). x.content) e, ap (λ (x : MachineView). x.place) e)
 
 -- The machine n is in BOOTSEL behind the session of some events, or it has no power, and lost it in
 -- that session; by the sessions of these events with others behind them.
-record IsBehind (c : Content) (cpu : Cpu) (joined : List Happening → List Step) (n : Machine) : Type 0 where
+record IsBehind (c : Content) (cpu : Cpu) (joined : List EventView → List Step) (n : MachineView) : Type 0 where
   next : Host
   place : n.place ≡ InBootsel next
   content : n.content ≡ after_all c (joined [])
   processor : n.cpu ≡ cpu
-  more : (rest : List Happening) → joined rest ≡ joined [] ++ session_from n.content cpu next rest
+  more : (rest : List EventView) → joined rest ≡ joined [] ++ session_from n.content cpu next rest
 
-record IsLostIn (c : Content) (joined : List Happening → List Step) (n : Machine) : Type 0 where
+record IsLostIn (c : Content) (joined : List EventView → List Step) (n : MachineView) : Type 0 where
   off : n.place ≡ Off
-  content : (rest : List Happening) → CutOf c (joined rest) n.content
+  content : (rest : List EventView) → CutOf c (joined rest) n.content
 
-abbrev Ends : Content → Cpu → (List Happening → List Step) → Machine → Type 0
+abbrev Ends : Content → Cpu → (List EventView → List Step) → MachineView → Type 0
 Ends c cpu joined n = IsBehind c cpu joined n ⊎ IsLostIn c joined n
 
-abbrev before : Content → Cpu → Host → List Happening → List Happening → List Step
+abbrev before : Content → Cpu → Host → List EventView → List EventView → List Step
 before c cpu host events rest = session_from c cpu host (events ++ rest)
 
 -- steps that are done before
-ends-behind : (c : Content) (cpu : Cpu) (xs : List Step) (joined : List Happening → List Step) (n : Machine)
+ends-behind : (c : Content) (cpu : Cpu) (xs : List Step) (joined : List EventView → List Step) (n : MachineView)
     → Ends (after_all c xs) cpu joined n → Ends c cpu (λ rest. xs ++ joined rest) n
 ends-behind c cpu xs joined n (inl b) = inl (record {
   next = b.next;
@@ -107,26 +107,26 @@ ends-behind c cpu xs joined n (inr lost) = inr (record {
 })
 
 -- from a machine of the same content and processor
-ends-from : (m mid n : Machine) (c : Content) (host : Host) (events : List Happening) → mid.content ≡ c
+ends-from : (m mid n : MachineView) (c : Content) (host : Host) (events : List EventView) → mid.content ≡ c
     → mid.cpu ≡ m.cpu → Ends mid.content mid.cpu (before mid.content mid.cpu host events) n
     → Ends c m.cpu (before c m.cpu host events) n
 ends-from m mid n c host events content cpu ends =
     subst (λ x. Ends x m.cpu (before x m.cpu host events) n) content
     (subst (λ p. Ends mid.content p (before mid.content p host events) n) cpu ends)
 
-stays-at : (m mid : Machine) (c : Content) (host : Host) (events : List Happening) → mid.content ≡ c
+stays-at : (m mid : MachineView) (c : Content) (host : Host) (events : List EventView) → mid.content ≡ c
     → mid.cpu ≡ m.cpu → StaysIn c m.cpu host events → StaysIn mid.content mid.cpu host events
 stays-at m mid c host events content cpu stays =
     subst (λ x. StaysIn x mid.cpu host events) (sym content)
     (subst (λ p. StaysIn c p host events) (sym cpu) stays)
 
 -- what is known of the events behind the first one
-abbrev Known : List Happening → Machine → Type 0
-Known events n = (m : Machine) (host : Host) (texts : List (List ℕ)) → m.place ≡ InBootsel host
+abbrev Known : List EventView → MachineView → Type 0
+Known events n = (m : MachineView) (host : Host) (texts : List (List ℕ)) → m.place ≡ InBootsel host
     → StaysIn m.content m.cpu host events → Plays m events n texts
     → Ends m.content m.cpu (before m.content m.cpu host events) n
 
-module _ (events : List Happening) (m mid n : Machine) (host : Host) (text : List ℕ) (others : List (List ℕ))
+module _ (events : List EventView) (m mid n : MachineView) (host : Host) (text : List ℕ) (others : List (List ℕ))
     (known : Known events n) (rest : Plays mid events n others) where
   -- an event that leaves the machine where it is
   passed : mid.content ≡ m.content → mid.cpu ≡ m.cpu → mid.place ≡ InBootsel host
@@ -136,15 +136,15 @@ module _ (events : List Happening) (m mid n : Machine) (host : Host) (text : Lis
       (known mid host others place (stays-at m mid m.content host events content cpu stays) rest)
 
   -- an event that is served
-  module _ (s : Served) where
+  module _ (s : ServedEvent) where
     abbrev z : Content
     z = after_all m.content s.steps
 
-    abbrev joined : Option BootKind → Place → List Happening → List Step
+    abbrev joined : Option BootKind → StateView → List EventView → List Step
     joined boot place behind =
         s.steps ++ going_on (λ next. session_from z m.cpu next (events ++ behind)) boot place
 
-    hosted : (boot : Option BootKind) (place : Place) → s.place ≡ place
+    hosted : (boot : Option BootKind) (place : StateView) → s.place ≡ place
         → stays_on (λ next. StaysIn z m.cpu next events) boot place
         → MovesBy m m.armed (followed_by m.content m.cpu s boot) mid text → Ends m.content m.cpu (joined boot place) n
     hosted (Some kind) place at stays moves = absurd stays
@@ -163,53 +163,53 @@ module _ (events : List Happening) (m mid n : Machine) (host : Host) (text : Lis
         })
 
 -- what BOOTSEL does by an event, at the place where it is
-at-host : (m mid : Machine) (host : Host) (event : Happening) (text : List ℕ) → m.place ≡ InBootsel host
+at-host : (m mid : MachineView) (host : Host) (event : EventView) (text : List ℕ) → m.place ≡ InBootsel host
     → MovesBy m m.armed (effect_in m.content m.cpu m.place event) mid text
     → MovesBy m m.armed (effect_in m.content m.cpu (InBootsel host) event) mid text
 at-host m mid host event text at moves =
-    subst (λ (p : Place). MovesBy m m.armed (effect_in m.content m.cpu p event) mid text) at moves
+    subst (λ (p : StateView). MovesBy m m.armed (effect_in m.content m.cpu p event) mid text) at moves
 
-plays-end : (events : List Happening) (n : Machine) → Known events n
+plays-end : (events : List EventView) (n : MachineView) → Known events n
 plays-end [] n m host texts at stays plays = inl (record {
   next = host;
-  place = ap (λ (x : Machine). x.place) plays.0 ∙ at;
-  content = ap (λ (x : Machine). x.content) plays.0;
-  processor = ap (λ (x : Machine). x.cpu) plays.0;
-  more = λ rest. ap (λ x. session_from x m.cpu host rest) (sym (ap (λ (x : Machine). x.content) plays.0));
+  place = ap (λ (x : MachineView). x.place) plays.0 ∙ at;
+  content = ap (λ (x : MachineView). x.content) plays.0;
+  processor = ap (λ (x : MachineView). x.cpu) plays.0;
+  more = λ rest. ap (λ x. session_from x m.cpu host rest) (sym (ap (λ (x : MachineView). x.content) plays.0));
 })
-plays-end (Happening.PowerOn ∷ events) n m host texts at stays plays = absurd (true≢false stays.0)
-plays-end (Happening.Reset kind ∷ events) n m host texts at stays plays = absurd (true≢false stays.0)
-plays-end (Happening.End ∷ events) n m host texts at stays (mid, text, others, moves, rest, all) =
+plays-end (EventView.PowerOn ∷ events) n m host texts at stays plays = absurd (true≢false stays.0)
+plays-end (EventView.Reset kind ∷ events) n m host texts at stays plays = absurd (true≢false stays.0)
+plays-end (EventView.End ∷ events) n m host texts at stays (mid, text, others, moves, rest, all) =
     let e = (end-moves m mid text moves).0 in
-    passed events m mid n host text others (plays-end events n) rest (ap (λ (x : Machine). x.content) e)
-    (ap (λ (x : Machine). x.cpu) e) (ap (λ (x : Machine). x.place) e ∙ at) stays.1
-plays-end (Happening.Cut left within pattern ∷ events) n m host texts at stays (mid, text, others, moves, rest, all) =
+    passed events m mid n host text others (plays-end events n) rest (ap (λ (x : MachineView). x.content) e)
+    (ap (λ (x : MachineView). x.cpu) e) (ap (λ (x : MachineView). x.place) e ∙ at) stays.1
+plays-end (EventView.Cut left within pattern ∷ events) n m host texts at stays (mid, text, others, moves, rest, all) =
     let e = (cut-moves m mid left within pattern text moves).0 in
-    passed events m mid n host text others (plays-end events n) rest (ap (λ (x : Machine). x.content) e)
-    (ap (λ (x : Machine). x.cpu) e) (ap (λ (x : Machine). x.place) e ∙ at) stays.1
-plays-end (Happening.Buy ∷ events) n m host texts at stays (mid, text, others, moves, rest, all) =
-    go (at-host m mid host Happening.Buy text at moves) (plays-end events n)
+    passed events m mid n host text others (plays-end events n) rest (ap (λ (x : MachineView). x.content) e)
+    (ap (λ (x : MachineView). x.cpu) e) (ap (λ (x : MachineView). x.place) e ∙ at) stays.1
+plays-end (EventView.Buy ∷ events) n m host texts at stays (mid, text, others, moves, rest, all) =
+    go (at-host m mid host EventView.Buy text at moves) (plays-end events n)
   where
-    go : MovesBy m m.armed (effect_in m.content m.cpu (InBootsel host) Happening.Buy) mid text → Known events n
-        → Ends m.content m.cpu (before m.content m.cpu host (Happening.Buy ∷ events)) n
+    go : MovesBy m m.armed (effect_in m.content m.cpu (InBootsel host) EventView.Buy) mid text → Known events n
+        → Ends m.content m.cpu (before m.content m.cpu host (EventView.Buy ∷ events)) n
     go (inl done) known =
         passed events m mid n host text others known rest done.content done.cpu done.place stays.1
     go (inr lost) known = absurd lost.content
-plays-end (Happening.Command command payload ∷ events) n m host texts at stays (mid, text, others, moves, rest, all) =
-    let s = served m.content m.cpu host (Happening.Command command payload) in
+plays-end (EventView.Command command payload ∷ events) n m host texts at stays (mid, text, others, moves, rest, all) =
+    let s = served_event m.content m.cpu host (EventView.Command command payload) in
     hosted events m mid n host text others (plays-end events n) rest s s.boot s.place refl stays.1
-    (at-host m mid host (Happening.Command command payload) text at moves)
-plays-end (Happening.Uf2 block ∷ events) n m host texts at stays (mid, text, others, moves, rest, all) =
-    let s = served m.content m.cpu host (Happening.Uf2 block) in
+    (at-host m mid host (EventView.Command command payload) text at moves)
+plays-end (EventView.Uf2 block ∷ events) n m host texts at stays (mid, text, others, moves, rest, all) =
+    let s = served_event m.content m.cpu host (EventView.Uf2 block) in
     hosted events m mid n host text others (plays-end events n) rest s s.boot s.place refl stays.1
-    (at-host m mid host (Happening.Uf2 block) text at moves)
+    (at-host m mid host (EventView.Uf2 block) text at moves)
 
 -- the session of the events alone
-alone : (c : Content) (cpu : Cpu) (host : Host) (events : List Happening)
+alone : (c : Content) (cpu : Cpu) (host : Host) (events : List EventView)
     → before c cpu host events [] ≡ session_from c cpu host events
 alone c cpu host events = ap (session_from c cpu host) (append-nil events)
 
-pub plays-whole : (m n : Machine) (host : Host) (events : List Happening) (texts : List (List ℕ))
+pub plays-whole : (m n : MachineView) (host : Host) (events : List EventView) (texts : List (List ℕ))
     → m.place ≡ InBootsel host → StaysIn m.content m.cpu host events → Plays m events n texts → n.place ≢ Off
     → n.content ≡ after_all m.content (session_from m.content m.cpu host events)
 plays-whole m n host events texts at stays plays on = go (plays-end events n m host texts at stays plays)
@@ -219,7 +219,7 @@ plays-whole m n host events texts at stays plays on = go (plays-end events n m h
     go (inl b) = b.content ∙ ap (after_all m.content) (alone m.content m.cpu host events)
     go (inr lost) = absurd (on lost.off)
 
-pub plays-lost : (m n : Machine) (host : Host) (events : List Happening) (texts : List (List ℕ))
+pub plays-lost : (m n : MachineView) (host : Host) (events : List EventView) (texts : List (List ℕ))
     → m.place ≡ InBootsel host → StaysIn m.content m.cpu host events → Plays m events n texts → n.place ≡ Off
     → CutOf m.content (session_from m.content m.cpu host events) n.content
 plays-lost m n host events texts at stays plays off = go (plays-end events n m host texts at stays plays)
@@ -231,23 +231,24 @@ plays-lost m n host events texts at stays plays off = go (plays-end events n m h
         subst (λ xs. CutOf m.content xs n.content) (alone m.content m.cpu host events) (lost.content [])
 
 -- a play of one more event
-split : (events : List Happening) (m n : Machine) (event : Happening) (texts : List (List ℕ))
+split : (events : List EventView) (m n : MachineView) (event : EventView) (texts : List (List ℕ))
     → Plays m (events ++ event ∷ []) n texts
-    → (mid : Machine) × (text : List ℕ) × (others : List (List ℕ)) × Plays m events mid others × Moves mid event n text
+    → (mid : MachineView) × (text : List ℕ) × (others : List (List ℕ)) × Plays m events mid others
+    × Moves mid event n text
 split [] m n event texts (mid, text, others, moves, rest, all) =
-    (m, text, [], (refl, refl), subst (λ (x : Machine). Moves m event x text) (sym rest.0) moves)
+    (m, text, [], (refl, refl), subst (λ (x : MachineView). Moves m event x text) (sym rest.0) moves)
 split (first ∷ events) m n event texts (mid, text, others, moves, rest, all) =
     let behind = split events mid n event others rest in
     (behind.0, behind.1, text ∷ behind.2, (mid, text, behind.2, moves, behind.3, refl), behind.4)
 
-going-nothing : (boot : Option BootKind) (place : Place) → going_on (λ next. []) boot place ≡ []
+going-nothing : (boot : Option BootKind) (place : StateView) → going_on (λ next. []) boot place ≡ []
 going-nothing (Some kind) place = refl
 going-nothing None Off = refl
 going-nothing None (Running program) = refl
 going-nothing None (InBootsel next) = refl
 
 -- power is lost in what is served, or in the boot that follows
-cut-served : (c : Content) (cpu : Cpu) (s : Served) (boot : Option BootKind) (d : Content)
+cut-served : (c : Content) (cpu : Cpu) (s : ServedEvent) (boot : Option BootKind) (d : Content)
     → CutOf c (followed_by c cpu s boot).steps d → CutOf c s.steps d ⊎ IsCutBoot (after_all c s.steps) cpu d
 cut-served c cpu s None d cut = inl cut
 cut-served c cpu s (Some kind) d cut =
@@ -256,7 +257,7 @@ cut-served c cpu s (Some kind) d cut =
       | inr later ↦ inr (kind, later)
     ]
 
-module _ (m n : Machine) (host : Host) (events : List Happening) (event : Happening)
+module _ (m n : MachineView) (host : Host) (events : List EventView) (event : EventView)
     (hosted_event : is_hosted event ≡ true) where
   abbrev whole : List Step
   whole = session_from m.content m.cpu host (events ++ event ∷ [])
@@ -266,13 +267,13 @@ module _ (m n : Machine) (host : Host) (events : List Happening) (event : Happen
 
   -- the session of the last event alone
   last-steps : (c : Content) (cpu : Cpu) (next : Host)
-      → session_from c cpu next (event ∷ []) ≡ (served c cpu next event).steps
+      → session_from c cpu next (event ∷ []) ≡ (served_event c cpu next event).steps
   last-steps c cpu next =
-      let s = served c cpu next event in
+      let s = served_event c cpu next event in
       ap (λ b. if b then s.steps ++ going_on (λ later. []) s.boot s.place else []) hosted_event
       ∙ ap (λ xs. s.steps ++ xs) (going-nothing s.boot s.place) ∙ append-nil s.steps
 
-  behind-left : (mid : Machine) (text : List ℕ) → Moves mid event n text → n.place ≡ Off
+  behind-left : (mid : MachineView) (text : List ℕ) → Moves mid event n text → n.place ≡ Off
       → IsBehind m.content m.cpu (before m.content m.cpu host events) mid → Left
   behind-left mid text moves off b =
       let lost = off-lost mid n event text moves
@@ -290,24 +291,24 @@ module _ (m n : Machine) (host : Host) (events : List Happening) (event : Happen
         )
       ]
     where
-      s : Served
-      s = served mid.content mid.cpu b.next event
+      s : ServedEvent
+      s = served_event mid.content mid.cpu b.next event
 
       first : List Step
       first = before m.content m.cpu host events []
 
       -- the effect of the event in BOOTSEL
-      is : (e : Happening) → is_hosted e ≡ true
-          → effect mid e ≡ followed_by mid.content mid.cpu (served mid.content mid.cpu b.next e)
-          (served mid.content mid.cpu b.next e).boot
-      is (Happening.Command command payload) h =
-          ap (λ p. effect_in mid.content mid.cpu p (Happening.Command command payload)) b.place
-      is (Happening.Uf2 block) h = ap (λ p. effect_in mid.content mid.cpu p (Happening.Uf2 block)) b.place
-      is Happening.PowerOn h = absurd (true≢false (sym h))
-      is (Happening.Reset kind) h = absurd (true≢false (sym h))
-      is Happening.End h = absurd (true≢false (sym h))
-      is Happening.Buy h = absurd (true≢false (sym h))
-      is (Happening.Cut left within pattern) h = absurd (true≢false (sym h))
+      is : (e : EventView) → is_hosted e ≡ true
+          → effect mid e ≡ followed_by mid.content mid.cpu (served_event mid.content mid.cpu b.next e)
+          (served_event mid.content mid.cpu b.next e).boot
+      is (EventView.Command command payload) h =
+          ap (λ p. effect_in mid.content mid.cpu p (EventView.Command command payload)) b.place
+      is (EventView.Uf2 block) h = ap (λ p. effect_in mid.content mid.cpu p (EventView.Uf2 block)) b.place
+      is EventView.PowerOn h = absurd (true≢false (sym h))
+      is (EventView.Reset kind) h = absurd (true≢false (sym h))
+      is EventView.End h = absurd (true≢false (sym h))
+      is EventView.Buy h = absurd (true≢false (sym h))
+      is (EventView.Cut left within pattern) h = absurd (true≢false (sym h))
 
       all : whole ≡ first ++ s.steps
       all =
@@ -320,21 +321,21 @@ module _ (m n : Machine) (host : Host) (events : List Happening) (event : Happen
           ap (λ x. after_all x s.steps) b.content ∙ sym (after_all-append m.content first s.steps)
           ∙ ap (after_all m.content) (sym all)
 
-  lost-left : (mid : Machine) (text : List ℕ) → Moves mid event n text
+  lost-left : (mid : MachineView) (text : List ℕ) → Moves mid event n text
       → IsLostIn m.content (before m.content m.cpu host events) mid → Left
   lost-left mid text moves lost =
       inl (subst (CutOf m.content whole)
       (sym (off-rest (event ∷ []) mid n (text ∷ []) lost.off (none event hosted_event, tt)
       (n, text, [], moves, (refl, refl), refl)).0) (lost.content (event ∷ [])))
     where
-      none : (e : Happening) → is_hosted e ≡ true → makes_boot e ≡ false
-      none (Happening.Command command payload) h = refl
-      none (Happening.Uf2 block) h = refl
-      none Happening.PowerOn h = absurd (true≢false (sym h))
-      none (Happening.Reset kind) h = absurd (true≢false (sym h))
-      none Happening.End h = refl
-      none Happening.Buy h = refl
-      none (Happening.Cut left within pattern) h = refl
+      none : (e : EventView) → is_hosted e ≡ true → makes_boot e ≡ false
+      none (EventView.Command command payload) h = refl
+      none (EventView.Uf2 block) h = refl
+      none EventView.PowerOn h = absurd (true≢false (sym h))
+      none (EventView.Reset kind) h = absurd (true≢false (sym h))
+      none EventView.End h = refl
+      none EventView.Buy h = refl
+      none (EventView.Cut left within pattern) h = refl
 
   pub plays-last : (texts : List (List ℕ)) → m.place ≡ InBootsel host → StaysIn m.content m.cpu host events
       → Plays m (events ++ event ∷ []) n texts → n.place ≡ Off → Left

@@ -3,7 +3,7 @@ use Rattle.std.proofs.Common.{◌≡◌, ℕ, ◌≤◌, Bool, false, cond, All,
 use Rattle.std.specs.Prelude.{not, count_by}
 use Rattle.std.proofs.lemmas.List.Sums.{sum_by-cons}
 use Rattle.std.proofs.lemmas.List.Elements.{All-head, All-tail}
-use Rattle.sector_pool.specs.Pool.{Pool, IsNew, free_count}
+use Rattle.sector_pool.specs.Pool.{Pool, IsNewPool, free_count}
 
 abbrev one_if_free : Bool → ℕ
 one_if_free is_out = cond (not is_out) 1 0
@@ -15,6 +15,6 @@ count-free (x ∷ xs) all =
     let rest = count-free xs (All-tail (λ b. b ≡ false) x xs all) in
     rw (sum_by-cons one_if_free x xs, here) (omega (arith, rest))
 
-pub two_free : (pool : Pool) → IsNew 2 pool → 2 ≤ free_count pool
+pub two_free : (pool : Pool) → IsNewPool 2 pool → 2 ≤ free_count pool
 two_free pool new =
     let all = count-free pool.out new.free in let long = new.numbers in omega (arith, all, long)

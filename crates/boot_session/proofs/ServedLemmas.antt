@@ -9,10 +9,10 @@ use Rattle.pico_board.specs.Content.{Content}
 use Rattle.pico_board.specs.Cuts.{Cut, CutOutcome, cut_steps}
 use Rattle.pico_board.specs.Steps.{after, after_all}
 use Rattle.pico_board.proofs.StepLemmas.{after_all-append}
-use Rattle.boot_script.specs.Events.{Happening}
+use Rattle.boot_script.specs.Events.{EventView}
 use Rattle.boot_machine.specs.declared.parts.Parts.{Parts}
-use Rattle.boot_machine.specs.Machines.{Host, Place, Off, InBootsel, Running, FromFlash, FromRam}
-use Rattle.boot_machine.specs.Serving.{served}
+use Rattle.boot_machine.specs.Machines.{Host, StateView, Off, InBootsel, Running, FromFlash, FromRam}
+use Rattle.boot_machine.specs.Serving.{served_event}
 use Rattle.boot_machine.specs.Standing.{IsServed, StandsAt, is_bootsel}
 use Rattle.boot_session.specs.Playing.{GoesOnWith, HasServed, IsServedOn}
 
@@ -65,7 +65,7 @@ module _ {B : Type 0} (state : B → BoardState) (history : B → List Step → 
     recorded = λ h is. subst (history new) (append_assoc h xs ys) (second.recorded (h ++ xs) (first.recorded h is));
   }
 
-goes-next : {B : Type 0} (new : Parts B) (boot : Option BootKind) (place : Place) (asked : Option BootKind)
+goes-next : {B : Type 0} (new : Parts B) (boot : Option BootKind) (place : StateView) (asked : Option BootKind)
     (goes : Bool) → asked ≡ boot → goes ≡ (is_none asked && is_bootsel new.state) → StandsAt new place
     → GoesOnWith goes new boot place
 goes-next new (Some kind) place asked goes is g stands = g ∙ ap (λ a. is_none a && is_bootsel new.state) is
@@ -80,12 +80,12 @@ goes-next new None (Running (FromRam image)) asked goes is g stands =
 
 -- an event that was served, where no cut is armed
 pub served-on : {B : Type 0} (state : B → BoardState) (history : B → List Step → Type 0) (old new : Parts B)
-    (host : Host) (event : Happening) (asked : Option BootKind) (goes : Bool) (line : List ℕ)
+    (host : Host) (event : EventView) (asked : Option BootKind) (goes : Bool) (line : List ℕ)
     → (state old.board).armed ≡ Some None
-    → IsServed state history old (served (state old.board).content old.cpu host event) asked new line
+    → IsServed state history old (served_event (state old.board).content old.cpu host event) asked new line
     → goes ≡ (is_none asked && is_bootsel new.state) → IsServedOn state history old event goes new host
 served-on state history old new host event asked goes line none is g =
-    let s = served (state old.board).content old.cpu host event in
+    let s = served_event (state old.board).content old.cpu host event in
     let whole = all-served state history old.board new.board s.steps is.ok none is.by.board in record {
       board = whole.1;
       cpu = is.by.cpu;

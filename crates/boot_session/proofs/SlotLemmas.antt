@@ -167,7 +167,7 @@ pub slot-found : (c : Content) (cpu : Cpu) (steps : List Step) (w : Window) → 
 slot-found c cpu [] w e = cc
 slot-found c cpu (step ∷ steps) w e =
     let m = among-member (boot_units_in c cpu) step w e in record {
-      home = record {
+      boot_member = record {
         place = m.place;
         unit = m.unit;
         member = m.member;
@@ -185,7 +185,7 @@ slot-found c cpu (step ∷ steps) w e =
 pub one-slot : (c : Content) (cpu : Cpu) (steps : List Step) (w v : Window) → IsContent c → IsSlot c cpu steps w
     → IsSlot c cpu steps v → w ≡ v
 one-slot c cpu steps w v right a b =
-    elim (here-or-apart c w cpu right a.home b.home.place b.home.unit b.home.member v b.home.tried b.home.stands) [
+    elim (here-or-apart c w cpu right a.boot_member b.boot_member.place b.boot_member.unit b.boot_member.member v b.boot_member.tried b.boot_member.stands) [
       | inl same ↦ sym same
       | inr apart ↦
           let whole : (a.first ∷ a.others) ≡ b.first ∷ b.others = sym a.whole ∙ b.whole in
@@ -199,7 +199,7 @@ slot-is c cpu [] w right is = let e = is.whole in cc
 slot-is c cpu (step ∷ steps) w right is =
     let whole : (step ∷ steps) ≡ is.first ∷ is.others = is.whole in
     let same : is.first ≡ step = cc in
-    let h = is.home in
+    let h = is.boot_member in
     let f = member-among (boot_units_in c cpu) h.place h.unit h.member step w h.other h.tried h.stands h.pair
     (subst (IsConfined w) same is.holds) in
     f.1 ∙ ap (λ x. Some x) (one-slot c cpu (step ∷ steps) f.0 w right (slot-found c cpu (step ∷ steps) f.0 f.1) is)

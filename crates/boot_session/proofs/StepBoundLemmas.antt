@@ -21,31 +21,32 @@ use Rattle.part_table.specs.declared.table.Table.{Table}
 use Rattle.part_table.specs.declared.Target.{Target}
 use Rattle.uf2_place.specs.declared.block.Uf2.{Uf2}
 use Rattle.uf2_place.specs.Blocks.{uf2_of}
-use Rattle.uf2_place.specs.Placement.{final_steps, first_in, fresh_steps, gated_steps, grown, in_turn, is_whole, last_for, later_steps, lies_in, own_steps, page_in, placed, program_of, programs_in, sector_in}
+use Rattle.uf2_place.specs.Placement.{final_steps, first_in, fresh_steps, gated_steps, grown, in_turn, is_whole_download, last_for, later_steps, lies_in, own_steps, page_in, download_steps, program_of, programs_in, sector_in}
 use Rattle.uf2_place.proofs.GrowingLemmas.{in_turn-append}
 use Rattle.picoboot_cmd.specs.declared.cmd.Cmd.{Cmd}
 use Rattle.picoboot_cmd.specs.declared.kinds.TheConstants.{ERASE, WRITE, OTP_WRITE, INVALID_STATE, UNKNOWN_COMMAND, COMMAND_LENGTH, TRANSFER_LENGTH, ALIGNMENT, ADDRESS}
 use Rattle.picoboot_cmd.specs.Arguments.{address, first_row, offset, size}
-use Rattle.picoboot_cmd.specs.Checks.{Check, check, checks, first_failing, has_arg_size, has_transfer, is_aligned, is_free, is_inside, is_known, status_of}
+use Rattle.picoboot_cmd.specs.Checks.{Check, check, checks, first_failing, has_arg_size, has_transfer, is_aligned, is_served_while_busy, is_inside, is_known, status_of}
 use Rattle.picoboot_cmd.specs.Commands.{command_in}
 use Rattle.picoboot_cmd.specs.Pages.{programs_of}
-use Rattle.picoboot_cmd.specs.Rows.{raises}
+use Rattle.picoboot_cmd.specs.Rows.{word_raises}
 use Rattle.picoboot_cmd.specs.Sectors.{erases}
-use Rattle.picoboot_cmd.specs.Served.{steps_of}
+use Rattle.picoboot_cmd.specs.Served.{command_steps}
 use Rattle.picoboot_cmd.specs.declared.cmd.CmdFault.{CmdFault}
 use Rattle.ram_start.specs.Serving.{is_ram_command}
 use Rattle.uf2_place.specs.declared.block.Uf2Fault.{Uf2Fault}
 use Rattle.uf2_place.specs.declared.answer.Ruling.{Ruling}
 use Rattle.uf2_place.specs.declared.answer.Ruling.TheVariants.{Answered, Begins, Continues}
 use Rattle.boot_rules.specs.Targets.{target_of}
-use Rattle.boot_script.specs.Events.{Happening, End, Command, Uf2 as Block, Cut, PowerOn, Reset, Buy}
-use Rattle.boot_script.specs.Written.{written}
-use Rattle.boot_script.specs.Scripts.{events}
+use Rattle.boot_script.specs.Events.{EventView, End, Command, Uf2 as Block, Cut, PowerOn, Reset, Buy}
+use Rattle.boot_script.specs.Written.{written_event}
+use Rattle.boot_script.specs.Scripts.{events, script_events}
+use Rattle.boot_script.specs.Judging.{IsScript}
+use Rattle.boot_script.proofs.WalkLemmas.{events-read, few-records}
 use Rattle.boot_script.proofs.NumberLemmas.{AreBytes}
 use Rattle.boot_script.proofs.FollowingLemmas.{script-spelled}
-use Rattle.boot_machine.specs.Machines.{Host, Place, Off, InBootsel, Running}
-use Rattle.boot_machine.specs.Serving.{Served, block_served, blocks_of, command_served, is_hosted, ruling_on, served, serves_host, serves_info, serves_ram, table_of, taken_in, uf2_served}
-use Rattle.boot_session.specs.Scripts.{IsScript, events_read, script_events}
+use Rattle.boot_machine.specs.Machines.{Host, StateView, Off, InBootsel, Running}
+use Rattle.boot_machine.specs.Serving.{ServedEvent, block_served, blocks_of, command_served, is_hosted, ruling_on, served_event, serves_host, serves_info, serves_ram, table_of_found, taken_in, uf2_served}
 use Rattle.boot_session.specs.Sessions.{entered_host, going_on, session, session_from}
 
 length-erases : (first n : ℕ) → length (erases first n) ≡ n
@@ -56,7 +57,7 @@ length-programs : (n page : ℕ) (bytes : List ℕ) → length (programs_of n pa
 length-programs zero page bytes = refl
 length-programs (suc n) page bytes = ap (λ k. suc k) (length-programs n (page + 1) (drop 256 bytes))
 
-length-raises : (row : ℕ) (words : List ℕ) → length (raises row words) ≡ length words
+length-raises : (row : ℕ) (words : List ℕ) → length (word_raises row words) ≡ length words
 length-raises row [] = refl
 length-raises row (w ∷ words) = ap (λ k. suc k) (length-raises (row + 1) words)
 
@@ -78,7 +79,7 @@ module _ (n : ℕ) (otp : List ℕ) (t : Option Table) (busy : Bool) (cmd : Cmd)
   inside-of : status_of n otp t busy cmd payload ≡ 0 → is_inside cmd n ≡ true
   inside-of none =
       let all = checks n otp t busy cmd payload in
-      let a = passes-next (check INVALID_STATE (is_free busy cmd)) (drop 1 all) (omega arith) none in
+      let a = passes-next (check INVALID_STATE (is_served_while_busy busy cmd)) (drop 1 all) (omega arith) none in
       let b = passes-next (check UNKNOWN_COMMAND (is_known cmd)) (drop 2 all) (omega arith) a.1 in
       let c = passes-next (check COMMAND_LENGTH (has_arg_size cmd)) (drop 3 all) (omega arith) b.1 in
       let d = passes-next (check TRANSFER_LENGTH (has_transfer cmd payload)) (drop 4 all) (omega arith) c.1 in
@@ -93,26 +94,26 @@ module _ (n : ℕ) (otp : List ℕ) (t : Option Table) (busy : Bool) (cmd : Cmd)
       let high = leb-true (address cmd + size cmd) (flash_base + n) p.1 in omega (arith, low, high, short)
 
   -- the steps of a command that passes its checks
-  few-steps_of : is_inside cmd n ≡ true → n ≤ 2 ^ 24 → length (steps_of cmd payload) ≤ 4096 + length payload
+  few-steps_of : is_inside cmd n ≡ true → n ≤ 2 ^ 24 → length (command_steps cmd payload) ≤ 4096 + length payload
   few-steps_of inside short = elim (cases_eq cmd.id ERASE) [
     | inl erase ↦
         let k = few-sectors erase inside short in
         let long = length-erases (offset cmd / 4096) (size cmd / 4096) in
-        subst (λ id. length (steps_of (with_id cmd id) payload) ≤ 4096 + length payload) (sym erase)
+        subst (λ id. length (command_steps (with_id cmd id) payload) ≤ 4096 + length payload) (sym erase)
         (omega (arith, k, long))
     | inr no_erase ↦ elim (cases_eq cmd.id WRITE) [
       | inl write ↦
           let long = length-programs ((length payload + 255) / 256) (offset cmd / 256) payload in
-          subst (λ id. length (steps_of (with_id cmd id) payload) ≤ 4096 + length payload) (sym write)
+          subst (λ id. length (command_steps (with_id cmd id) payload) ≤ 4096 + length payload) (sym write)
           (omega (arith, long))
       | inr no_write ↦ elim (cases_eq cmd.id OTP_WRITE) [
         | inl otp_write ↦
             let long = length-raises (first_row cmd) (words_of payload) in
             let words = length-words_of payload in
-            subst (λ id. length (steps_of (with_id cmd id) payload) ≤ 4096 + length payload) (sym otp_write)
+            subst (λ id. length (command_steps (with_id cmd id) payload) ≤ 4096 + length payload) (sym otp_write)
             (omega (arith, long, words))
         | inr no_otp_write ↦
-            let none : steps_of cmd payload ≡ [] = grind (arith, nat_tests, no_erase, no_write, no_otp_write) in
+            let none : command_steps cmd payload ≡ [] = grind (arith, nat_tests, no_erase, no_write, no_otp_write) in
             subst (λ (steps : List Step). length steps ≤ 4096 + length payload) (sym none) (omega arith)
       ]
     ]
@@ -170,13 +171,13 @@ gated-more : (w : Window) (xs : List Uf2) (b : Uf2)
     → length (gated_steps w (xs ++ b ∷ [])) ≤ 1 + (length (in_turn (later_steps w) [] xs) + 18)
 gated-more w xs b =
     let turn = turn-more (later_steps w) (later-few w) xs b in
-    let last = final-few w (xs ++ b ∷ []) (is_whole (xs ++ b ∷ [])) in
+    let last = final-few w (xs ++ b ∷ []) (is_whole_download (xs ++ b ∷ [])) in
     let long = length-append (in_turn (later_steps w) [] (xs ++ b ∷ []))
-    (if is_whole (xs ++ b ∷ []) then final_steps w (xs ++ b ∷ []) else []) in omega (arith, turn, last, long)
+    (if is_whole_download (xs ++ b ∷ []) then final_steps w (xs ++ b ∷ []) else []) in omega (arith, turn, last, long)
 
 gated-least : (w : Window) (xs : List Uf2) → 1 + length (in_turn (later_steps w) [] xs) ≤ length (gated_steps w xs)
 gated-least w xs =
-    let long = length-append (in_turn (later_steps w) [] xs) (if is_whole xs then final_steps w xs else []) in
+    let long = length-append (in_turn (later_steps w) [] xs) (if is_whole_download xs then final_steps w xs else []) in
     omega (arith, long)
 
 -- a block that is taken does few steps
@@ -190,7 +191,7 @@ grown-few : (t : Target) (former : List Uf2) (b : Uf2) → length (grown t forme
 grown-few t [] b =
     let by = grown-by t.gated t.window [] b in
     let none = none-few t.gated in
-    let long = length-drop 0 (placed t (b ∷ [])) in omega (arith, by, none, long)
+    let long = length-drop 0 (download_steps t (b ∷ [])) in omega (arith, by, none, long)
   where
     none-few : (gated : Bool)
         → length (if gated then gated_steps t.window [] else in_turn (own_steps t.window) [] []) ≤ 1
@@ -198,13 +199,14 @@ grown-few t [] b =
     none-few false = omega arith
 grown-few t (x ∷ xs) b =
     let by = grown-by t.gated t.window (x ∷ xs) b in
-    let long = length-drop (length (placed t (x ∷ xs))) (placed t ((x ∷ xs) ++ b ∷ [])) in omega (arith, by, long)
+    let long = length-drop (length (download_steps t (x ∷ xs))) (download_steps t ((x ∷ xs) ++ b ∷ [])) in omega
+    (arith, by, long)
 
 taken-steps : (host : Host) (t : Target) (blocks : List Uf2) (b : Uf2) (steps : List Step)
     → (taken_in host t blocks b steps).steps ≡ steps
-taken-steps host t blocks b steps = go (is_whole blocks) refl
+taken-steps host t blocks b steps = go (is_whole_download blocks) refl
   where
-    go : (whole : Bool) → is_whole blocks ≡ whole → (taken_in host t blocks b steps).steps ≡ steps
+    go : (whole : Bool) → is_whole_download blocks ≡ whole → (taken_in host t blocks b steps).steps ≡ steps
     go true is = rw is refl
     go false is = rw is refl
 
@@ -223,7 +225,8 @@ few-uf2 : (c : Content) (cpu : Cpu) (host : Host) (r : Result Uf2 Uf2Fault)
     → length (uf2_served c cpu host r).steps ≤ 19
 few-uf2 c cpu host (Err fault) = omega arith
 few-uf2 c cpu host (Ok b) =
-    few-block host b (ruling_on (length c.flash) (table_of host.found) (target_of c (table_of host.found) cpu b.family)
+    few-block host b (ruling_on (length c.flash) (table_of_found host.found)
+    (target_of c (table_of_found host.found) cpu b.family)
     host.placing b)
 
 few-host : (c : Content) (host : Host) (cmd : Cmd) (payload : List ℕ) → length c.flash ≤ 2 ^ 24
@@ -234,17 +237,17 @@ few-host c host cmd payload short = go (status == 0) refl
     busy = is_some host.placing
 
     status : ℕ
-    status = status_of (length c.flash) c.otp (table_of host.found) (is_some host.placing) cmd payload
+    status = status_of (length c.flash) c.otp (table_of_found host.found) (is_some host.placing) cmd payload
 
     go : (b : Bool) → (status == 0) ≡ b → length (serves_host c host cmd payload).steps ≤ 4096 + length payload
     go true is =
-        let inside = inside-of (length c.flash) c.otp (table_of host.found) (is_some host.placing) cmd payload
+        let inside = inside-of (length c.flash) c.otp (table_of_found host.found) (is_some host.placing) cmd payload
         (eqb-true status 0 is) in
-        rw is (few-steps_of (length c.flash) c.otp (table_of host.found) (is_some host.placing) cmd payload
+        rw is (few-steps_of (length c.flash) c.otp (table_of_found host.found) (is_some host.placing) cmd payload
         inside short)
     go false is = rw is (omega arith)
 
-one-of : (b d : Bool) (x y z : Served) (n : ℕ) → length x.steps ≤ n → length y.steps ≤ n → length z.steps ≤ n
+one-of : (b d : Bool) (x y z : ServedEvent) (n : ℕ) → length x.steps ≤ n → length y.steps ≤ n → length z.steps ≤ n
     → length (if b then x else if d then y else z).steps ≤ n
 one-of true d x y z n first second third = first
 one-of false true x y z n first second third = second
@@ -266,12 +269,12 @@ behind kind command middle payload whole is =
     let b = length-append middle payload in omega (arith, same, a, b)
 
 -- an event does at most 4096 steps, and one for each of its bytes
-few-served : (c : Content) (cpu : Cpu) (host : Host) (e : Happening) → length c.flash ≤ 2 ^ 24
-    → length (served c cpu host e).steps ≤ 4096 + length (written e)
+few-served : (c : Content) (cpu : Cpu) (host : Host) (e : EventView) → length c.flash ≤ 2 ^ 24
+    → length (served_event c cpu host e).steps ≤ 4096 + length (written_event e)
 few-served c cpu host (Command command payload) short =
     let few = few-command c cpu host (command_in command) payload short in
     let long = behind 1 command (bytes_low_first 0 4 (length payload)) payload
-    (written (Command command payload)) refl in
+    (written_event (Command command payload)) refl in
     omega (arith, few, long)
 few-served c cpu host (Block block) short = let few = few-uf2 c cpu host (uf2_of block) in omega (arith, few)
 few-served c cpu host End short = omega arith
@@ -280,61 +283,59 @@ few-served c cpu host PowerOn short = omega arith
 few-served c cpu host (Reset kind) short = omega arith
 few-served c cpu host Buy short = omega arith
 
-going-few : (rest : Host → List Step) (boot : Option BootKind) (place : Place) (n : ℕ)
+going-few : (rest : Host → List Step) (boot : Option BootKind) (place : StateView) (n : ℕ)
     → ((host : Host) → length (rest host) ≤ n) → length (going_on rest boot place) ≤ n
 going-few rest (Some kind) place n few = omega arith
 going-few rest None Off n few = omega arith
 going-few rest None (Running program) n few = omega arith
 going-few rest None (InBootsel host) n few = few host
 
-few-session : (c : Content) (cpu : Cpu) (host : Host) (es : List Happening) → length c.flash ≤ 2 ^ 24
-    → length (session_from c cpu host es) ≤ 4096 * length es + length (flat_map written es)
+few-session : (c : Content) (cpu : Cpu) (host : Host) (es : List EventView) → length c.flash ≤ 2 ^ 24
+    → length (session_from c cpu host es) ≤ 4096 * length es + length (flat_map written_event es)
 few-session c cpu host [] short = omega arith
 few-session c cpu host (e ∷ es) short =
     go (λ d next few. few-session d cpu next es few) (is_hosted e)
   where
     bound : ℕ
-    bound = 4096 * length es + length (flat_map written es)
+    bound = 4096 * length es + length (flat_map written_event es)
 
-    s : Served
-    s = served c cpu host e
+    s : ServedEvent
+    s = served_event c cpu host e
 
-    whole : length (flat_map written (e ∷ es)) ≡ length (written e) + length (flat_map written es)
+    whole : length (flat_map written_event (e ∷ es)) ≡ length (written_event e) + length (flat_map written_event es)
     whole =
-        ap (λ (xs : List ℕ). length xs) (flat_map-cons written e es)
-        ∙ length-append (written e) (flat_map written es)
+        ap (λ (xs : List ℕ). length xs) (flat_map-cons written_event e es)
+        ∙ length-append (written_event e) (flat_map written_event es)
 
     go : ((d : Content) (next : Host) → length d.flash ≤ 2 ^ 24
-        → length (session_from d cpu next es) ≤ 4096 * length es + length (flat_map written es)) → (hosted : Bool)
+        → length (session_from d cpu next es) ≤ 4096 * length es + length (flat_map written_event es)) → (hosted : Bool)
         → length (if hosted then (s.steps
         ++ going_on (λ next. session_from (after_all c s.steps) cpu next es) s.boot s.place)
-        else session_from c cpu host es) ≤ 4096 * length (e ∷ es) + length (flat_map written (e ∷ es))
+        else session_from c cpu host es) ≤ 4096 * length (e ∷ es) + length (flat_map written_event (e ∷ es))
     go ih false = let rest = ih c host short in omega (arith, rest, whole)
     go ih true =
         let same = length-after_all c s.steps in
         let here = few-served c cpu host e short in
         let rest = going-few (λ next. session_from (after_all c s.steps) cpu next es) s.boot s.place
-        (4096 * length es + length (flat_map written es))
+        (4096 * length es + length (flat_map written_event es))
         (λ next. ih (after_all c s.steps) next (omega (arith, same, short))) in
         let long = length-append s.steps
         (going_on (λ next. session_from (after_all c s.steps) cpu next es) s.boot s.place) in
         omega (arith, here, rest, long, whole)
 
-few-bytes : (script : List ℕ) (es : List Happening) → AreBytes script → events script ≡ Ok es
-    → length (flat_map written es) ≤ length script
+few-bytes : (script : List ℕ) (es : List EventView) → AreBytes script → events script ≡ Ok es
+    → length (flat_map written_event es) ≤ length script
 few-bytes script es bytes read =
     let is = script-spelled (suc (length script - 0)) 0 script es bytes read in
     let whole = ap (λ (xs : List ℕ). length xs) is.bytes in
-    let long = length-append (flat_map written es) (written End ++ is.rest) in omega (arith, whole, long)
+    let long = length-append (flat_map written_event es) (written_event End ++ is.rest) in omega (arith, whole, long)
 
 -- a script within its limits does fewer steps than a u32 counts
 pub few-steps : (c : Content) (cpu : Cpu) (script : List ℕ) → length c.flash ≤ 2 ^ 24 → AreBytes script
     → IsScript script → length (session c cpu (script_events script)) < 2 ^ 32 - 1
 few-steps c cpu script short bytes is =
-    let read = is.read in
-    let count = is.few in
+    let count = few-records script is in
     let size = is.short in
-    let some = few-bytes script is.happened bytes is.read in
-    let few = few-session c cpu (entered_host c) is.happened short in
-    let same = ap (λ r. length (session_from c cpu (entered_host c) (events_read r))) is.read in
-    omega (arith, count, size, some, few, same)
+    let some = few-bytes script (script_events script) bytes (events-read script is) in
+    let few = few-session c cpu (entered_host c) (script_events script) short in
+    omega (arith, count, size, some, few)

@@ -78,7 +78,7 @@ module _ (c : Content) (cpu : Cpu) (family : ℕ) where
         at.2 ∙ ap (λ (x : Table). partition_window x at.0) found.2,
       )
 
-  -- without a table a member of the pair of slots is a home
+  -- without a table a member of the pair of slots is a boot member
   none-found : t ≡ None → table_in c ≡ None
   none-found none = go (table_in c) none
     where

@@ -1,5 +1,5 @@
--- Sessions on one slot of a pair in which power is lost, and what a normal boot decides after them.
--- This project's own.
+-- Sessions on one slot of a pair in which power is lost, and what a normal boot decides after
+-- them.
 use Rattle.std.specs.Prelude.{◌≡◌, ◌≢◌, ⊤, ℕ, false, List, None, Some, slice_get}
 use Rattle.pico_board.specs.declared.Step.{Step}
 use Rattle.pico_board.specs.declared.boot.Cpu.{Cpu}
@@ -16,14 +16,14 @@ use Rattle.slot_choice.specs.Units.{IsMember}
 use Rattle.boot_rules.specs.declared.decision.Decision.{Decision}
 use Rattle.boot_rules.specs.declared.decision.Decision.TheVariants.{Start, Bootsel}
 use Rattle.boot_rules.specs.Choosing.{boot_units_in}
-use Rattle.boot_rules.specs.Chosen.{Chosen, Home}
+use Rattle.boot_rules.specs.Chosen.{Chosen, IsBootMember}
 use Rattle.boot_rules.specs.Tables.{table_in}
-use Rattle.boot_writes.specs.Luck.{Lucky}
+use Rattle.boot_rules.specs.AccidentalImages.{HasNoAccidentalImage}
 
 -- the decision is no start of an image in the window
-abbrev pub StartsElsewhere : Window → Decision → Type 0
-StartsElsewhere w (Start choice) = choice.image.window ≢ w
-StartsElsewhere w (Bootsel fall) = ⊤
+abbrev pub StartsOutside : Window → Decision → Type 0
+StartsOutside w (Start choice) = choice.image.window ≢ w
+StartsOutside w (Bootsel fall) = ⊤
 
 -- a normal boot on d starts an image of the window, which is valid there with trial not allowed
 pub record StartsThere (d : Content) (w : Window) (cpu : Cpu) : Type 0 where
@@ -40,31 +40,32 @@ pub record StartsFinished (z d : Content) (cpu : Cpu) : Type 0 where
   pub same : SameImage d z choice.image cpu
 
 -- a gated session on the content c writes one slot w of a pair, and power is lost in it, which
--- leaves d. The decision e of a normal boot on c starts no image of the slot (elsewhere); the whole
--- session leaves the table that there was, or leaves none (same table); and where d is unfinished,
--- it is lucky (luck).
+-- leaves d. The decision e of a normal boot on c starts no image of the slot (elsewhere); the
+-- whole session leaves the table that there was, or leaves none (same table); and where d is
+-- unfinished, it has the former table and no accidental image in the slot.
 pub record CutSession (c : Content) (w : Window) (cpu : Cpu) (steps : List Step) (d : Content)
     (e : Decision) : Type 0 where
   pub right : IsContent c
-  pub home : Home c w cpu
+  pub boot_member : IsBootMember c w cpu
   pub gated : Gated steps w
   pub cut : CutOf c steps d
   pub former : Chosen c cpu Normal e
-  pub elsewhere : StartsElsewhere w e
+  pub elsewhere : StartsOutside w e
   pub table : table_in (after_all c steps) ≡ table_in c
-  pub luck : Unfinished c steps w d → Lucky c (after_all c steps) d w cpu
+  pub no_accident : Unfinished c steps w d → HasNoAccidentalImage c (after_all c steps) d w cpu
 
 -- a session on the content c writes only one slot w of a pair, and it is done, or power is lost in
--- it, which leaves d. The decision e of a normal boot on c starts no image of the slot (elsewhere);
--- and where c has no table, d has none (same table). It asks for no luck.
+-- it, which leaves d. The decision e of a normal boot on c starts no image of the slot
+-- (elsewhere); and where c has no table, d has none (same table). That d has no accidental image
+-- in the slot is not asked.
 pub record ConfinedSession (c : Content) (w : Window) (cpu : Cpu) (steps : List Step) (d : Content)
     (e : Decision) : Type 0 where
   pub right : IsContent c
-  pub home : Home c w cpu
+  pub boot_member : IsBootMember c w cpu
   pub confined : Confined steps w
   pub leaves : MayLeave c steps d
   pub former : Chosen c cpu Normal e
-  pub elsewhere : StartsElsewhere w e
+  pub elsewhere : StartsOutside w e
   pub table : table_in c ≡ None → table_in d ≡ None
 
 -- the window is no member of a boot unit

@@ -1,4 +1,4 @@
--- What a recorder knows of the steps that its board has done. This project's own.
+-- What a recorder knows of the steps that its board has done.
 use Rattle.std.specs.Prelude.{◌≡◌, ℕ, ◌-◌, ◌^◌, ◌<◌, ◌==◌, nat_lt, min, if◌then◌else◌, option_map, Option, Some, None, List, [], ◌∷◌, ◌++◌, length, take}
 use Rattle.pico_board.specs.declared.Step.{Step}
 use Rattle.pico_board.specs.declared.step.Step.TheVariants.{Program}
@@ -17,7 +17,7 @@ use Rattle.boot_session.specs.Slots.{is_in_slot, outside_from, session_slot, slo
 unfoldable pub step_limit : ℕ
 step_limit = 262144
 
--- as many of the steps
+-- the first steps of a session, as many as are swept at most
 unfoldable pub kept_steps : List Step → List Step
 kept_steps steps = take step_limit steps
 

@@ -1,5 +1,4 @@
--- The slot that a session writes: the member of a pair that its first step lies in. This project's
--- own.
+-- The slot that a session writes: the member of a pair that its first step lies in.
 use Rattle.std.specs.Prelude.{◌≡◌, ℕ, ◌+◌, ◌*◌, ◌&&◌, nat_le, Bool, false, if◌then◌else◌, List, [], ◌∷◌, Option, Some, None}
 use Rattle.std.specs.Option.{option_or}
 use Rattle.pico_board.specs.declared.Step.{Step}
@@ -10,11 +9,11 @@ use Rattle.pico_board.specs.Content.{Content}
 use Rattle.pico_board.specs.Sessions.{IsConfined}
 use Rattle.slot_choice.specs.declared.unit.SlotUnit.{SlotUnit}
 use Rattle.boot_rules.specs.Choosing.{boot_units_in}
-use Rattle.boot_rules.specs.Chosen.{Home}
+use Rattle.boot_rules.specs.Chosen.{IsBootMember}
 
 -- the window is that of a member of a pair, and the first step's range lies in it
 pub record IsSlot (c : Content) (cpu : Cpu) (steps : List Step) (w : Window) : Type 0 where
-  pub home : Home c w cpu
+  pub boot_member : IsBootMember c w cpu
   pub first : Step
   pub others : List Step
   pub whole : steps ≡ first ∷ others
@@ -32,7 +31,7 @@ slot_in_unit a None step = None
 slot_in_unit a (Some b) step =
     if is_confined a step then Some a else if is_confined b step then Some b else None
 
--- the same of the first unit that has such a member
+-- the member in which the step lies, of the first of the units that is a pair with such a member
 abbrev pub slot_among : List SlotUnit → Step → Option Window
 slot_among [] step = None
 slot_among (unit ∷ units) step = option_or (slot_in_unit unit.a unit.b step) (slot_among units step)

@@ -1,4 +1,4 @@
--- A board that is ready for the cuts of a sweep. This project's own.
+-- A board that is ready for the cuts of a sweep.
 use Rattle.std.specs.Prelude.{◌≡◌, IsTrue, Some, None}
 use Rattle.pico_board.specs.Board.{State}
 

@@ -7,14 +7,12 @@
 //! `boot_rules`, and what a host's events do is that of `boot_machine`.
 #![tactic(auto)]
 
-mod judging;
+pub mod examples;
 pub mod laws;
 mod recorder;
 mod recording;
 mod session;
-pub mod session_examples;
 
-pub use judging::is_script;
 pub use recorder::{Recorder, STEP_LIMIT};
 pub use recording::{is_confined, slot_among};
-pub use session::{boot_units_in, session_on};
+pub use session::session_on;

@@ -17,7 +17,7 @@ pub const STEP_LIMIT: usize = 262_144;
 pub struct Recorder<B> {
     /// The bench that does the steps.
     pub bench: B,
-    /// The boot units of its flash.
+    /// The boot units of the bench's flash.
     pub units: ArrayVec<SlotUnit, 15>,
     /// The first steps.
     pub steps: Vec<Step>,

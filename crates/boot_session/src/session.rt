@@ -2,29 +2,26 @@
 
 ghost use Rattle.std.specs.Prelude.{◌≡◌, ◌&&◌, IfOk, IsTrue, None, Some, false, is_none, true};
 ghost use Rattle.pico_board.specs.MemBoard.{state_of};
-ghost use Rattle.boot_rules.specs.Choosing.{boot_units_in};
-ghost use Rattle.boot_script.specs.Events.{IsWritable, event_from};
+ghost use Rattle.boot_script.specs.Events.{IsWritableEvent, event_from};
+ghost use Rattle.boot_script.specs.Judging.{IsScript};
+ghost use Rattle.boot_script.specs.Scripts.{script_events};
 ghost use Rattle.boot_machine.specs.Machines.{Host};
 ghost use Rattle.boot_machine.specs.Serving.{is_hosted};
 ghost use Rattle.boot_machine.specs.Standing.{IsHost, is_bootsel};
 ghost use Rattle.boot_machine.specs.declared.state.State.TheVariants.{Bootsel as SERVING};
 ghost use Rattle.boot_session.specs.Playing.{GoesOn, HasServed};
 ghost use Rattle.boot_session.specs.Recordings.{IsRecorderOf};
-ghost use Rattle.boot_session.specs.Scripts.{IsScript, script_events};
 ghost use Rattle.boot_session.specs.Sessions.{entered_host, session, session_from};
 ghost use Rattle.boot_session.specs.Standing.{IsUnarmed};
 
-use crate::judging::{RECORD_LIMIT, is_end};
 use crate::recorder::Recorder;
-use arrayvec::{ArrayString, ArrayVec};
+use arrayvec::ArrayString;
 use boot_machine::{Machine, State};
-use boot_rules::find_table;
-use boot_script::{Event, next_event};
-use otp_roll::slot_size;
+use boot_rules::boot_units_in;
+use boot_script::{Event, Script};
 use pico_board::{Bench, Board, BootKind, Cpu, MemBoard};
 use ram_start::Ram;
 use sector_pool::SectorPool;
-use slot_choice::{SlotUnit, boot_units};
 use std::alloc::{AllocError, Global};
 use uf2_place::Download;
 
@@ -54,7 +51,7 @@ fn goes_on(asked: &Option<BootKind>, state: &State) -> bool
 fn serve<B: Bench>(machine: &mut Machine<B>, event: &Event<'_>) -> bool
     requires bootsel { machine.old.state ≡ SERVING }
     requires hosted { is_hosted (event_from event.now) ≡ true }
-    requires writable { IsWritable (event_from event.now) }
+    requires writable { IsWritableEvent (event_from event.now) }
     requires unarmed { (B.state machine.old.board).armed ≡ Some None }
     ensures { GoesOn B.state B.history machine.old (event_from event.now) result machine.new }
 {
@@ -67,7 +64,7 @@ fn serve<B: Bench>(machine: &mut Machine<B>, event: &Event<'_>) -> bool
 /// goes on.
 fn follow<B: Bench>(machine: &mut Machine<B>, event: &Event<'_>) -> bool
     requires bootsel { machine.old.state ≡ SERVING }
-    requires writable { IsWritable (event_from event.now) }
+    requires writable { IsWritableEvent (event_from event.now) }
     requires unarmed { (B.state machine.old.board).armed ≡ Some None }
     ensures hosted { is_hosted (event_from event.now) ≡ true
         → GoesOn B.state B.history machine.old (event_from event.now) result machine.new }
@@ -83,41 +80,19 @@ fn follow<B: Bench>(machine: &mut Machine<B>, event: &Event<'_>) -> bool
 
 /// Serves the host's events of a script up to its end, or to the first one that asks for a boot or
 /// leaves BOOTSEL. Other events are passed over.
-fn play<B: Bench>(machine: &mut Machine<B>, script: &[u8])
-    requires script { IsScript script.now }
+fn play<B: Bench>(machine: &mut Machine<B>, script: &Script<'_>)
     requires hosted { (host : Host) × IsHost machine.old host }
     requires power { IsTrue (B.state machine.old.board).powered }
     requires unarmed { (B.state machine.old.board).armed ≡ Some None }
     ensures { (host : Host) → IsHost machine.old host
         → HasServed B.state B.history machine.old.board
         (session_from (B.state machine.old.board).content machine.old.cpu host
-        (script_events script.now)) machine.new.board }
+        (script_events script.now.bytes.now)) machine.new.board }
 {
-    let mut at = 0;
-    for number in 0..RECORD_LIMIT {
-        let (event, next) = match next_event(script, at) {
-            Ok(read) => read,
-            Err(_) => return,
-        };
-        if is_end(&event) {
-            return;
-        }
+    for event in script.events() {
         if !follow(machine, &event) {
             return;
         }
-        at = next;
-    }
-}
-
-/// The boot units of the board's flash, in table order.
-pub fn boot_units_in<B: Board>(board: &B, cpu: Cpu) -> ArrayVec<SlotUnit, 15>
-    requires power { IsTrue (B.state board.now).powered }
-    ensures { result.items ≡ boot_units_in (B.state board.now).content cpu }
-{
-    let size = slot_size(board);
-    match find_table(board) {
-        Some(found) => boot_units(Some(&found.table), board.flash_len(), size, cpu),
-        None => boot_units(None, board.flash_len(), size, cpu),
     }
 }
 
@@ -149,9 +124,10 @@ pub fn session_on(
     ensures { IfOk result (λ r. IsRecorderOf r (state_of board).content cpu
         (session (state_of board).content cpu (script_events script.now))) }
 {
+    let judged = Script { bytes: script };
     let units = boot_units_in(&board, cpu);
     let recorder = Recorder::make(alloc, board, units)?;
     let mut machine = machine_of(alloc, recorder, cpu)?;
-    play(&mut machine, script);
+    play(&mut machine, &judged);
     Ok(machine.into_board())
 }

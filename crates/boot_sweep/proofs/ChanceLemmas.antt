@@ -1,4 +1,5 @@
--- A line says chance only where its cut leaves an unfinished content that is not lucky.
+-- A line says `chance` only where its cut leaves an unfinished content with another table or with an accidental image
+-- in the slot.
 use Rattle.std.proofs.Common.{◌≡◌, inl, inr, ℕ, zero, suc, ◌+◌, ◌<◌, ◌≤◌, List, [], ◌∷◌, All, length, take, slice_get, Some, None, sym, ◌∙◌, subst, arith}
 use Rattle.std.specs.List.{AllByRecursion}
 use Rattle.pico_board.specs.declared.Step.{Step}
@@ -14,13 +15,13 @@ use Rattle.pico_board.specs.declared.step.Step.TheVariants.{Erase, Program, Rais
 use Rattle.pico_board.specs.Steps.{CutOf, IsCutAt, IsStepIn, after_all}
 use Rattle.boot_rules.specs.Choosing.{decision_in}
 use Rattle.boot_rules.proofs.DecisionLemmas.{decision-chosen}
-use Rattle.boot_writes.specs.Luck.{Lucky}
+use Rattle.boot_rules.specs.AccidentalImages.{HasNoAccidentalImage}
 use Rattle.boot_sweep.specs.declared.results.CutResult.TheVariants.{Chance}
 use Rattle.boot_sweep.specs.Comparing.{result_of}
 use Rattle.boot_sweep.specs.Refusals.{sweep_refusal}
 use Rattle.boot_sweep.specs.Results.{IsCutResult}
 use Rattle.boot_session.specs.Slots.{IsSlot}
-use Rattle.boot_sweep.specs.Sweeps.{Line, cut_of}
+use Rattle.boot_sweep.specs.Sweeps.{Line, content_at_line}
 use Rattle.boot_session.proofs.GatedLaws.{decide-blank, gated-decision}
 use Rattle.boot_session.proofs.NeighbourLemmas.{placed}
 use Rattle.boot_sweep.proofs.RefusalLemmas.{IsSweepable, sweepable}
@@ -30,25 +31,25 @@ use Rattle.boot_sweep.proofs.ResultLemmas.{judged-exactly}
 module _ (c : Content) (cpu : Cpu) (steps : List Step) (w : Window) (right : IsContent c)
     (is : IsSweepable c cpu steps w) (d : Content) (cut : CutOf c steps d)
     (chance : IsCutResult c (after_all c steps) d cpu Chance) where
-  -- it is not so that it is lucky wherever it is unfinished
-  not-lucky : (Unfinished c steps w d → Lucky c (after_all c steps) d w cpu) → ⊥
-  not-lucky luck =
+  -- it is not so that the content, wherever it is unfinished, has the former table and no accidental image in the slot
+  not-lucky : (Unfinished c steps w d → HasNoAccidentalImage c (after_all c steps) d w cpu) → ⊥
+  not-lucky no_accident =
       elim (gated-decision c w cpu steps d (decision_in c cpu Normal) (record {
         right = right;
-        home = is.slot.home;
+        boot_member = is.slot.boot_member;
         gated = is.gated;
         cut = cut;
         former = decision-chosen c cpu Normal;
         elsewhere = is.elsewhere;
         table = is.table;
-        luck = luck;
+        no_accident = no_accident;
       })) [
         | inl former ↦ chance.0 (decision_in c cpu Normal, decision-chosen c cpu Normal, former)
         | inr finished ↦ chance.1 finished
       ]
 
-  no-luck : Lucky c (after_all c steps) d w cpu → ⊥
-  no-luck lucky = not-lucky (λ u. lucky)
+  no-luck : HasNoAccidentalImage c (after_all c steps) d w cpu → ⊥
+  no-luck accident_free = not-lucky (λ u. accident_free)
 
   unfinished : Unfinished c steps w d
   unfinished = record {
@@ -60,7 +61,7 @@ module _ (c : Content) (cpu : Cpu) (steps : List Step) (w : Window) (right : IsC
     ];
   }
 
-  pub bad-luck : Unfinished c steps w d × (Lucky c (after_all c steps) d w cpu → ⊥)
+  pub bad-luck : Unfinished c steps w d × (HasNoAccidentalImage c (after_all c steps) d w cpu → ⊥)
   bad-luck = (unfinished, no-luck)
 
 all-take : (P : Step → Type 0) (n : ℕ) (xs : List Step) → AllByRecursion P xs → AllByRecursion P (take n xs)
@@ -86,7 +87,7 @@ gated-confined w steps (inr (s, e, l, g)) = g.confined
 pub line-cut : (c : Content) (pattern : List ℕ) (steps : List Step) (w : Window) (line : Line) → IsContent c
     → All (λ b. b < 256) pattern → Gated steps w → w.start + w.len ≤ length c.flash
     → slice_get steps line.number ≡ Some line.step
-    → IsCutAt c steps line.number line.step (cut_of c pattern steps line)
+    → IsCutAt c steps line.number line.step (content_at_line c pattern steps line)
 line-cut c pattern steps w line right small gated inside stands =
     let ranges = steps-in w (length c.flash) steps inside (gated-confined w steps gated) in
     let before = take line.number steps in record {
@@ -99,17 +100,17 @@ line-cut c pattern steps w line right small gated inside stands =
 pub slot-inside : (c : Content) (cpu : Cpu) (steps : List Step) (w : Window) → IsContent c → IsSlot c cpu steps w
     → w.start + w.len ≤ length c.flash
 slot-inside c cpu steps w right slot =
-    let is = placed c w cpu right slot.home in let inside = is.inside in omega (arith, inside)
+    let is = placed c w cpu right slot.boot_member in let inside = is.inside in omega (arith, inside)
 
 pub line-luck : (c : Content) (cpu : Cpu) (pattern : List ℕ) (steps : List Step) (line : Line) (w : Window)
     → IsContent c → All (λ b. b < 256) pattern → sweep_refusal c cpu steps ≡ None → IsSlot c cpu steps w
     → slice_get steps line.number ≡ Some line.step
-    → line.result ≡ result_of c (after_all c steps) (cut_of c pattern steps line) cpu → line.result ≡ Chance
-    → Unfinished c steps w (cut_of c pattern steps line)
-    × (Lucky c (after_all c steps) (cut_of c pattern steps line) w cpu → ⊥)
+    → line.result ≡ result_of c (after_all c steps) (content_at_line c pattern steps line) cpu → line.result ≡ Chance
+    → Unfinished c steps w (content_at_line c pattern steps line)
+    × (HasNoAccidentalImage c (after_all c steps) (content_at_line c pattern steps line) w cpu → ⊥)
 line-luck c cpu pattern steps line w right small none slot stands is chance =
     let able = sweepable c cpu steps w right none slot in
-    let d = cut_of c pattern steps line in
+    let d = content_at_line c pattern steps line in
     let at = line-cut c pattern steps w line right small able.gated (slot-inside c cpu steps w right slot) stands in
     bad-luck c cpu steps w right able d (CutOf-from c steps d (line.number, line.step, at))
     ((judged-exactly c (after_all c steps) d cpu Chance).1 (sym chance ∙ is))

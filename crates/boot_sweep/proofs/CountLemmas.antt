@@ -19,7 +19,7 @@ use Rattle.boot_sweep.specs.declared.results.CutResult.TheVariants.{Former, Fini
 use Rattle.boot_sweep.specs.Comparing.{result_of}
 use Rattle.boot_sweep.specs.Refusals.{sweep_refusal}
 use Rattle.boot_session.specs.Slots.{IsSlot, outside_from, session_slot}
-use Rattle.boot_sweep.specs.Sweeps.{Line, cut_in, cut_of, is_chance, is_chance_result, line_of, lines_from, sweep_lines}
+use Rattle.boot_sweep.specs.Sweeps.{Line, content_after_cut, content_at_line, is_chance, is_chance_result, swept_line, lines_from, sweep_lines}
 use Rattle.boot_sweep.proofs.ChanceLemmas.{line-cut, line-luck, slot-inside}
 use Rattle.boot_sweep.proofs.LineLemmas.{IsLineOf, all-by, all-lines}
 use Rattle.boot_sweep.proofs.RefusalLemmas.{no-reason, sweepable}
@@ -60,8 +60,8 @@ module _ (judge : Content → CutResult) (pattern : List ℕ) (e : ℕ) where
 
   abbrev pair : ℕ → Content → Step → ℕ
   pair k b step =
-      cond (may_chance e (line_of judge b pattern k step false)) 1 0
-      + cond (may_chance e (line_of judge b pattern k step true)) 1 0
+      cond (may_chance e (swept_line judge b pattern k step false)) 1 0
+      + cond (may_chance e (swept_line judge b pattern k step true)) 1 0
 
   sums : (x y z : ℕ) → x + (y + z) ≡ x + y + z
   sums x y z = omega arith
@@ -69,8 +69,8 @@ module _ (judge : Content → CutResult) (pattern : List ℕ) (e : ℕ) where
   counted-more : (k : ℕ) (b : Content) (step : Step) (steps : List Step)
       → counted k b (step ∷ steps) ≡ pair k b step + counted (k + 1) (after b step) steps
   counted-more k b step steps =
-      let first = line_of judge b pattern k step false in
-      let second = line_of judge b pattern k step true in
+      let first = swept_line judge b pattern k step false in
+      let second = swept_line judge b pattern k step true in
       let rest = lines_from judge pattern (k + 1) (after b step) steps in
       let one : count_by (may_chance e) (first ∷ (second ∷ rest))
       ≡ cond (may_chance e first) 1 0 + count_by (may_chance e) (second ∷ rest) =
@@ -98,7 +98,8 @@ module _ (judge : Content → CutResult) (pattern : List ℕ) (e : ℕ) where
 
   pair-most : (k : ℕ) (b : Content) (step : Step) → pair k b step ≤ 2
   pair-most k b step =
-      go (may_chance e (line_of judge b pattern k step false)) (may_chance e (line_of judge b pattern k step true))
+      go (may_chance e (swept_line judge b pattern k step false))
+      (may_chance e (swept_line judge b pattern k step true))
     where
       go : (x y : Bool) → cond x 1 0 + cond y 1 0 ≤ 2
       go true true = omega arith
@@ -180,7 +181,7 @@ module _ (c : Content) (cpu : Cpu) (pattern : List ℕ) (steps : List Step) (w :
 
   -- before a step nothing has changed
   cut-before : (line : Line) → line.within ≡ false
-      → cut_of c pattern steps line ≡ after_all c (take line.number steps)
+      → content_at_line c pattern steps line ≡ after_all c (take line.number steps)
   cut-before line is =
       let b = after_all c (take line.number steps) in
       ap (λ x. if x then torn_by pattern b line.step else b) is
@@ -201,10 +202,11 @@ module _ (c : Content) (cpu : Cpu) (pattern : List ℕ) (steps : List Step) (w :
       stands : slice_get steps line.number ≡ Some line.step
       stands = ap (slice_get steps) (sym same) ∙ is.step
 
-      unfinished : Unfinished c steps w (cut_of c pattern steps line)
+      unfinished : Unfinished c steps w (content_at_line c pattern steps line)
       unfinished =
           (line-luck c cpu pattern steps line w right small none slot stands
-          (is.result ∙ ap (λ p. judge (cut_in (after_all c (take p steps)) pattern line.step line.within)) same)
+          (is.result ∙ ap (λ p. judge (content_after_cut
+          (after_all c (take p steps)) pattern line.step line.within)) same)
           (chance-is line.result chance)).0
 
       go : (a b d x : Bool) → (line.number == 0) ≡ a → nat_le line.number (length elsewhere) ≡ b
@@ -217,7 +219,8 @@ module _ (c : Content) (cpu : Cpu) (pattern : List ℕ) (steps : List Step) (w :
       go false true d x p q r t =
           let few = leb-true line.number (length elsewhere) q in
           let some = eqb-false line.number 0 p in
-          absurd (cut_elsewhere c steps w s elsewhere last line.number line.step (cut_of c pattern steps line) g inside
+          absurd (cut_elsewhere c steps w s elsewhere last line.number line.step
+          (content_at_line c pattern steps line) g inside
           (omega (arith, some)) few
           (line-cut c pattern steps w line right small (inr (s, elsewhere, last, g)) inside stands) unfinished)
       go false false true true p q r t = refl

@@ -35,13 +35,13 @@ use Rattle.load_map.specs.Covered.{covered, covered_digest, covered_load, covere
 use Rattle.load_map.specs.declared.load.Load.{Load}
 use Rattle.image_check.specs.Addressing.{in_flash}
 use Rattle.image_check.specs.Rules.{map_loads}
-use Rattle.image_check.specs.SameImage.{Holds}
+use Rattle.image_check.specs.SameImage.{HoldsImage}
 use Rattle.image_check.specs.Valid.{IsLastWith, IsSound}
 use Rattle.image_check.specs.declared.examining.Defined.{Defined}
-use Rattle.boot_rules.specs.Chosen.{Home}
+use Rattle.boot_rules.specs.Chosen.{IsBootMember}
 use Rattle.boot_rules.specs.Tables.{table_in}
 use Rattle.boot_rules.specs.declared.tables.Found.{Found}
-use Rattle.boot_writes.specs.Luck.{HasNoImage, Lucky}
+use Rattle.boot_rules.specs.AccidentalImages.{HasNoImage, HasNoAccidentalImage}
 use Rattle.boot_sweep.specs.Firms.{Firm, HasOwnDigests, IsFirm, LoadsFront, Stray, covered_by}
 use Rattle.boot_sweep.proofs.ChanceLemmas.{gated-confined}
 use Rattle.boot_session.proofs.ConfinedLaws.{confined-table}
@@ -260,7 +260,7 @@ module _ (cpu : Cpu) (u v : List ℕ) (s : Started) (firm : IsFirm cpu u s) (lon
         (map_loads in_flash (length v) firm.held.image.block firm.held.image.def) here.map
         (ap (λ n. map_loads in_flash n firm.held.image.block firm.held.image.def) long ∙ firm.held.sound.map)
 
-    -- and so its digest
+    -- the digest of an image of v is that of the finished one
     digests-same : sha256 (covered_by v firm.held.image firm.held.sound.loads)
         ≡ sha256 (covered_by u firm.held.image firm.held.sound.loads)
     digests-same =
@@ -367,7 +367,7 @@ closing-of c steps w s elsewhere last k step d g inside at some unfinished =
               (found.0, subst (λ z. IsClosing z s found.0 d) finished found.1)
         ]
 
--- so a firm image leaves none by chance
+-- a gated list whose finished image is firm leaves no image by chance
 pub firm-none : (c : Content) (w : Window) (cpu : Cpu) (steps : List Step) (s : Started) (k : ℕ) (step : Step)
     (d : Content) → w.start + w.len ≤ length c.flash → Gated steps w → Firm (after_all c steps) w cpu s
     → IsCutAt c steps k step d → 1 ≤ k → (Stray (after_all c steps) d w → ⊥)
@@ -397,7 +397,7 @@ firm-none c w cpu steps s k step d inside (inr (sector, elsewhere, last, g)) fir
     v : List ℕ
     v = window_bytes d w
 
-    held : Holds cpu u s
+    held : HoldsImage cpu u s
     held = firm.firm.held
 
     closing : (p : ℕ) × IsClosing z sector p d
@@ -414,14 +414,14 @@ firm-none c w cpu steps s k step d inside (inr (sector, elsewhere, last, g)) fir
         omega (arith, f, high)
 
 pub firm-lucky : (c : Content) (w : Window) (cpu : Cpu) (steps : List Step) (s : Started) (k : ℕ) (step : Step)
-    (d : Content) (found : Found) → IsContent c → table_in c ≡ Some found → Home c w cpu → Gated steps w
+    (d : Content) (found : Found) → IsContent c → table_in c ≡ Some found → IsBootMember c w cpu → Gated steps w
     → Firm (after_all c steps) w cpu s → IsCutAt c steps k step d → 1 ≤ k
     → (Stray (after_all c steps) d w → ⊥) → HasOwnDigests (after_all c steps) d w cpu s → Unfinished c steps w d
-    → Lucky c (after_all c steps) d w cpu
-firm-lucky c w cpu steps s k step d found right table home gated firm at some clean own unfinished =
-    let inside = (placed c w cpu right home).inside in
+    → HasNoAccidentalImage c (after_all c steps) d w cpu
+firm-lucky c w cpu steps s k step d found right table boot_member gated firm at some clean own unfinished =
+    let inside = (placed c w cpu right boot_member).inside in
     let cut = CutOf-from c steps d (k, step, at) in record {
-      table = confined-table c w cpu steps d found right home (gated-confined w steps gated) (inr cut) table
+      table = confined-table c w cpu steps d found right boot_member (gated-confined w steps gated) (inr cut) table
           ∙ sym table;
       image = inl (firm-none c w cpu steps s k step d (omega (arith, inside)) gated firm at some clean own unfinished);
     }

@@ -17,7 +17,7 @@ use Rattle.image_check.specs.declared.examining.Defined.{Defined}
 use Rattle.image_check.specs.Addressing.{in_flash}
 use Rattle.image_check.specs.Image.{defined_in}
 use Rattle.image_check.specs.Rules.{map_answer}
-use Rattle.image_check.specs.SameImage.{Holds}
+use Rattle.image_check.specs.SameImage.{HoldsImage}
 use Rattle.image_check.proofs.SameLemmas.{held-loop, the-image, the-loads}
 use Rattle.boot_sweep.specs.Firms.{HasNoOtherBlock, IsFirm, LoadsFront}
 
@@ -32,7 +32,7 @@ module _ (cpu : Cpu) (bytes : List ℕ) (s : Started) (image : Defined) (loads :
     abbrev pub Alone : Type 0
     Alone = (loop : List BlockView) → loop_of bytes ≡ Ok loop → HasNoOtherBlock bytes loop
 
-    pub firm-is : Holds cpu bytes s → 4096 ≤ s.block → IsSome image.def.digest → LoadsFront s.block loads → Alone
+    pub firm-is : HoldsImage cpu bytes s → 4096 ≤ s.block → IsSome image.def.digest → LoadsFront s.block loads → Alone
         → IsFirm cpu bytes s
     firm-is h late hashed front alone = record {
       held = h;

@@ -248,7 +248,7 @@ none-gated w (step ∷ steps) confined none = go step refl (begins_gated w step)
           },
         )
 
--- of a gated list none may not follow
+-- a gated list has no step up to which it begins no gated list
 pub gated-none : (w : Window) (steps : List Step) → Gated steps w → ungated_in w steps ≡ None
 gated-none w steps (inl none) = ap (ungated_in w) none
 gated-none w steps (inr (s, e, l, g)) =

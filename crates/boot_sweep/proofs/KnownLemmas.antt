@@ -30,7 +30,7 @@ use Rattle.boot_sweep.specs.declared.results.Verdict.{Verdict}
 use Rattle.boot_sweep.specs.declared.slots.Slot.{Slot}
 use Rattle.boot_sweep.specs.declared.slots.Last.{Last}
 use Rattle.boot_session.specs.Slots.{is_confined, session_slot, slot_among, slot_of}
-use Rattle.boot_sweep.specs.Verdicts.{IsBeside, IsKnown, IsLast, IsSlotOf, Knows, LiesIn, verdict_by}
+use Rattle.boot_sweep.specs.Verdicts.{IsBeside, IsKnown, IsLastVerdict, IsSweptSlot, Knows, LiesIn, verdict_by}
 use Rattle.boot_session.proofs.ConfinedLaws.{same-image-decision, table-stays}
 use Rattle.boot_session.proofs.GatedLaws.{blank-table}
 use Rattle.boot_session.proofs.NeighbourLemmas.{placed}
@@ -52,27 +52,27 @@ first-slot units given (step ∷ steps) first o w at are found is =
 
 pub slot-is-of : (c : Content) (cpu : Cpu) (steps : List Step) (slot : Slot)
     → session_slot c cpu steps ≡ Some slot.window → list_all (is_confined slot.window) steps ≡ true
-    → (slot.has_table ≡ true → IsSome (table_in c)) → IsSlotOf c cpu steps slot
+    → (slot.has_table ≡ true → IsSome (table_in c)) → IsSweptSlot c cpu steps slot
 slot-is-of c cpu steps slot found all table = record {
-  home = (slot-found c cpu steps slot.window found).home;
+  boot_member = (slot-found c cpu steps slot.window found).boot_member;
   table = table;
   confined = all-confined slot.window steps all;
 }
 
 pub first-known : (c : Content) (cpu : Cpu) (former finished : Decision) (steps : List Step) (o : Option Slot)
-    → IsContent c → IfSome o (IsSlotOf c cpu steps) → Knows c cpu former finished o None c
+    → IsContent c → IfSome o (IsSweptSlot c cpu steps) → Knows c cpu former finished o None c
 first-known c cpu former finished steps None right is = tt
 first-known c cpu former finished steps (Some slot) right is = record {
   beside = record {
     right = right;
-    home = is.home;
+    boot_member = is.boot_member;
     table = is.table;
     same = SameButWindow-refl slot.window c;
   };
   before = tt;
 }
 
-pub lies-in : (c : Content) (cpu : Cpu) (steps : List Step) (o : Option Slot) → IfSome o (IsSlotOf c cpu steps)
+pub lies-in : (c : Content) (cpu : Cpu) (steps : List Step) (o : Option Slot) → IfSome o (IsSweptSlot c cpu steps)
     → AllByRecursion (LiesIn o) steps
 lies-in c cpu steps None is = go steps
   where
@@ -101,7 +101,7 @@ module _ (c : Content) (cpu : Cpu) (former finished : Decision) where
   moved slot last d e step known = record {
     beside = record {
       right = known.beside.right;
-      home = known.beside.home;
+      boot_member = known.beside.boot_member;
       table = known.beside.table;
       same = SameButWindow-then known.beside.same step;
     };
@@ -124,22 +124,22 @@ module _ (c : Content) (cpu : Cpu) (former finished : Decision) where
   -- the decision is that of the content before, where the slot has the same image and there is the
   -- same table
   pub recalled-is : (slot : Slot) (last : Last) (d : Content) → IsBeside c cpu slot d
-      → IsLast c cpu former finished slot.window last → table_in d ≡ table_in c
+      → IsLastVerdict c cpu former finished slot.window last → table_in d ≡ table_in c
       → images_in d cpu slot.window false ≡ last.image
       → verdict_by former finished (decision_in d cpu Normal) ≡ last.verdict
   recalled-is slot last d beside is table image =
       ap (verdict_by former finished)
-      (same-image-decision c slot.window cpu beside.right beside.home d is.content beside.same is.same table is.table
+      (same-image-decision c slot.window cpu beside.right beside.boot_member d is.content beside.same is.same table is.table
       (image ∙ sym is.image))
       ∙ is.verdict
 
-  -- the same in the words of the call
+  -- the verdict that is recalled is that of the decision, in the words of the call
   pub recalled-verdict : (slot : Slot) (old : Option Last) (last : Last) (d : Content) (verdict : Verdict)
       (image : Option Started) → IsKnown c cpu former finished slot old d → old ≡ Some last → last.image ≡ image
       → last.verdict ≡ verdict → table_in d ≡ table_in c → image ≡ images_in d cpu slot.window false
       → verdict ≡ verdict_by former finished (decision_in d cpu Normal)
   recalled-verdict slot old last d verdict image known is seen told table shown =
-      let before = subst (λ o. IfSome o (IsLast c cpu former finished slot.window)) is known.before in
+      let before = subst (λ o. IfSome o (IsLastVerdict c cpu former finished slot.window)) is known.before in
       sym (recalled-is slot last d known.beside before table (sym (seen ∙ shown)) ∙ told)
 
 -- the table and the image on a content that differs in the slot alone
@@ -149,7 +149,7 @@ module _ (c : Content) (cpu : Cpu) (slot : Slot) (d : Content) (beside : IsBesid
       let long = beside.same.outside.long in
       let whole = beside.right.flash_length.whole in
       let inside = placed-inside (length c.flash) slot.window whole
-      (placed c slot.window cpu beside.right beside.home) in
+      (placed c slot.window cpu beside.right beside.boot_member) in
       omega (arith, inside, long)
 
   none-some : (o : Option Found) → o ≡ None → IsSome o → ⊥
@@ -161,17 +161,17 @@ module _ (c : Content) (cpu : Cpu) (slot : Slot) (d : Content) (beside : IsBesid
     where
       go : (o : Option Found) → table_in c ≡ o → IsSome o → table_in d ≡ o
       go None is some = absurd (none-some None refl some)
-      go (Some found) is some = table-stays c slot.window cpu beside.right beside.home d beside.same found is
+      go (Some found) is some = table-stays c slot.window cpu beside.right beside.boot_member d beside.same found is
 
   pub table-none : table_in d ≡ None → table_in d ≡ table_in c
   table-none none = go (table_in c) refl
     where
       go : (o : Option Found) → table_in c ≡ o → table_in d ≡ o
       go None is = none
-      go (Some found) is = table-stays c slot.window cpu beside.right beside.home d beside.same found is
+      go (Some found) is = table-stays c slot.window cpu beside.right beside.boot_member d beside.same found is
 
   pub table-erased : IsErasedFrom (window_bytes d slot.window) 0 4096 → table_in d ≡ table_in c
-  table-erased erased = blank-table c slot.window cpu beside.right beside.home d beside.same erased
+  table-erased erased = blank-table c slot.window cpu beside.right beside.boot_member d beside.same erased
 
 pub image-erased : (d : Content) (cpu : Cpu) (w : Window) → IsErasedFrom (window_bytes d w) 0 4096
     → None ≡ images_in d cpu w false

@@ -9,7 +9,7 @@ use Rattle.pico_board.specs.Content.{Content}
 use Rattle.pico_board.specs.Steps.{after, after_all}
 use Rattle.boot_sweep.specs.declared.results.CutResult.{CutResult}
 use Rattle.boot_sweep.specs.Comparing.{result_of}
-use Rattle.boot_sweep.specs.Sweeps.{Line, cut_in, cut_of, lines_from, sweep_lines}
+use Rattle.boot_sweep.specs.Sweeps.{Line, content_after_cut, content_at_line, lines_from, sweep_lines}
 
 -- the line is that of a step at a place of the list
 pub record IsLineOf (judge : Content → CutResult) (b : Content) (pattern : List ℕ) (k : ℕ) (steps : List Step)
@@ -17,7 +17,7 @@ pub record IsLineOf (judge : Content → CutResult) (b : Content) (pattern : Lis
   pub place : ℕ
   pub number : line.number ≡ k + place
   pub step : slice_get steps place ≡ Some line.step
-  pub result : line.result ≡ judge (cut_in (after_all b (take place steps)) pattern line.step line.within)
+  pub result : line.result ≡ judge (content_after_cut (after_all b (take place steps)) pattern line.step line.within)
 
 pub all-by : {X : Type 0} (P Q : X → Type 0) (xs : List X) → ((x : X) → P x → Q x) → AllByRecursion P xs
     → AllByRecursion Q xs
@@ -30,7 +30,7 @@ module _ (judge : Content → CutResult) (pattern : List ℕ) where
         number = k;
         step = step;
         within = within;
-        result = judge (cut_in b pattern step within);
+        result = judge (content_after_cut b pattern step within);
       } in
       IsLineOf judge b pattern k (step ∷ steps) line)
   line-here b k step steps within =
@@ -63,7 +63,7 @@ module _ (judge : Content → CutResult) (pattern : List ℕ) where
 pub line-of-sweep : (c : Content) (cpu : Cpu) (pattern : List ℕ) (steps : List Step) (line : Line)
     → Contains (sweep_lines c cpu pattern steps) line
     → (slice_get steps line.number ≡ Some line.step)
-    × (line.result ≡ result_of c (after_all c steps) (cut_of c pattern steps line) cpu)
+    × (line.result ≡ result_of c (after_all c steps) (content_at_line c pattern steps line) cpu)
 line-of-sweep c cpu pattern steps line has =
     let judge : Content → CutResult = λ d. result_of c (after_all c steps) d cpu in
     let is : IsLineOf judge c pattern 0 steps line =
@@ -72,5 +72,5 @@ line-of-sweep c cpu pattern steps line has =
     (all-lines judge pattern c 0 steps)) has in
     let same : is.place ≡ line.number = let n = is.number in omega (arith, n) in (
       ap (slice_get steps) (sym same) ∙ is.step,
-      is.result ∙ ap (λ p. judge (cut_in (after_all c (take p steps)) pattern line.step line.within)) same,
+      is.result ∙ ap (λ p. judge (content_after_cut (after_all c (take p steps)) pattern line.step line.within)) same,
     )

@@ -9,7 +9,7 @@ use Rattle.pico_board.specs.Content.{Content}
 use Rattle.pico_board.specs.Steps.{after, after_all}
 use Rattle.boot_sweep.specs.declared.results.CutResult.{CutResult}
 use Rattle.boot_sweep.specs.Comparing.{result_of}
-use Rattle.boot_sweep.specs.Sweeps.{Line, cut_of, end_text, line_of, line_text, lines_from, sweep_lines, sweep_text}
+use Rattle.boot_sweep.specs.Sweeps.{Line, content_at_line, end_text, swept_line, line_text, lines_from, sweep_lines, sweep_text}
 use Rattle.boot_sweep.specs.Swept.{HasLineAt, IsLineOf, IsSweep}
 use Rattle.boot_sweep.proofs.ResultLemmas.{judged-exactly}
 
@@ -17,8 +17,8 @@ use Rattle.boot_sweep.proofs.ResultLemmas.{judged-exactly}
 abbrev AreLinesOf : (Content → CutResult) → List ℕ → ℕ → Content → List Step → List Line → Type 0
 AreLinesOf judge pattern k b steps lines =
     (j : ℕ) (step : Step) → slice_get steps j ≡ Some step
-    → (slice_get lines (2 * j) ≡ Some (line_of judge (after_all b (take j steps)) pattern (k + j) step false))
-    × (slice_get lines (2 * j + 1) ≡ Some (line_of judge (after_all b (take j steps)) pattern (k + j) step true))
+    → (slice_get lines (2 * j) ≡ Some (swept_line judge (after_all b (take j steps)) pattern (k + j) step false))
+    × (slice_get lines (2 * j + 1) ≡ Some (swept_line judge (after_all b (take j steps)) pattern (k + j) step true))
 
 same-lines : (judge : Content → CutResult) (pattern : List ℕ) (k : ℕ) (b : Content) (steps : List Step)
     (lines : List Line) → length lines ≡ 2 * length steps → AreLinesOf judge pattern k b steps lines
@@ -30,15 +30,15 @@ same-lines judge pattern k b (x ∷ xs) (l ∷ []) long are = absurd (omega (ari
 same-lines judge pattern k b (x ∷ xs) (l ∷ m ∷ lines) long are =
     let here = are 0 x refl in
     let number : k + 0 ≡ k = omega arith in
-    let first : l ≡ line_of judge b pattern k x false =
-    same_Some l _ (here.0 ∙ ap (λ n. Some (line_of judge b pattern n x false)) number) in
-    let second : m ≡ line_of judge b pattern k x true =
-    same_Some m _ (here.1 ∙ ap (λ n. Some (line_of judge b pattern n x true)) number) in
+    let first : l ≡ swept_line judge b pattern k x false =
+    same_Some l _ (here.0 ∙ ap (λ n. Some (swept_line judge b pattern n x false)) number) in
+    let second : m ≡ swept_line judge b pattern k x true =
+    same_Some m _ (here.1 ∙ ap (λ n. Some (swept_line judge b pattern n x true)) number) in
     let rest : lines ≡ lines_from judge pattern (k + 1) (after b x) xs =
     same-lines judge pattern (k + 1) (after b x) xs lines (omega (arith, long)) others in
     ap (λ y. y ∷ m ∷ lines) first
-    ∙ (ap (λ y. line_of judge b pattern k x false ∷ y ∷ lines) second
-    ∙ ap (λ ys. line_of judge b pattern k x false ∷ line_of judge b pattern k x true ∷ ys) rest)
+    ∙ (ap (λ y. swept_line judge b pattern k x false ∷ y ∷ lines) second
+    ∙ ap (λ ys. swept_line judge b pattern k x false ∷ swept_line judge b pattern k x true ∷ ys) rest)
   where
     others : AreLinesOf judge pattern (k + 1) (after b x) xs lines
     others j step is =
@@ -48,9 +48,9 @@ same-lines judge pattern k b (x ∷ xs) (l ∷ m ∷ lines) long are =
         let three : suc (suc (2 * j + 1)) ≡ 2 * suc j + 1 = omega arith in
         let number : k + suc j ≡ k + 1 + j = omega arith in (
           ap (slice_get (l ∷ m ∷ lines)) two
-              ∙ (at.0 ∙ ap (λ n. Some (line_of judge d pattern n step false)) number),
+              ∙ (at.0 ∙ ap (λ n. Some (swept_line judge d pattern n step false)) number),
           ap (slice_get (l ∷ m ∷ lines)) three
-              ∙ (at.1 ∙ ap (λ n. Some (line_of judge d pattern n step true)) number),
+              ∙ (at.1 ∙ ap (λ n. Some (swept_line judge d pattern n step true)) number),
         )
 
 module _ (c : Content) (cpu : Cpu) (pattern : List ℕ) (steps : List Step) where
@@ -59,23 +59,23 @@ module _ (c : Content) (cpu : Cpu) (pattern : List ℕ) (steps : List Step) wher
 
   -- a line of a step is the one that the function gives
   is-line-of : (j : ℕ) (step : Step) (within : Bool) (line : Line) → IsLineOf c cpu pattern steps j step within line
-      → line ≡ line_of judge (after_all c (take j steps)) pattern j step within
+      → line ≡ swept_line judge (after_all c (take j steps)) pattern j step within
   is-line-of j step within line is =
       let b = after_all c (take j steps) in
-      let judged : line.result ≡ judge (cut_of c pattern steps line) =
-      (judged-exactly c (after_all c steps) (cut_of c pattern steps line) cpu line.result).0 is.result in
+      let judged : line.result ≡ judge (content_at_line c pattern steps line) =
+      (judged-exactly c (after_all c steps) (content_at_line c pattern steps line) cpu line.result).0 is.result in
       ap (λ r. record { number = line.number; step = line.step; within = line.within; result = r }) judged
-      ∙ (ap (λ n. line_of judge (after_all c (take n steps)) pattern n line.step line.within) is.number
-      ∙ (ap (λ s. line_of judge b pattern j s line.within) is.step_is
-      ∙ ap (λ p. line_of judge b pattern j step p) is.part))
+      ∙ (ap (λ n. swept_line judge (after_all c (take n steps)) pattern n line.step line.within) is.number
+      ∙ (ap (λ s. swept_line judge b pattern j s line.within) is.step_is
+      ∙ ap (λ p. swept_line judge b pattern j step p) is.part))
 
   has-line : (lines : List Line) (place j : ℕ) (step : Step) (within : Bool)
       → HasLineAt c cpu pattern steps lines place j step within
-      → slice_get lines place ≡ Some (line_of judge (after_all c (take j steps)) pattern (0 + j) step within)
+      → slice_get lines place ≡ Some (swept_line judge (after_all c (take j steps)) pattern (0 + j) step within)
   has-line lines place j step within (line, at, is) =
       let number : j ≡ 0 + j = omega arith in
       at ∙ (ap Some (is-line-of j step within line is)
-      ∙ ap (λ n. Some (line_of judge (after_all c (take j steps)) pattern n step within)) number)
+      ∙ ap (λ n. Some (swept_line judge (after_all c (take j steps)) pattern n step within)) number)
 
   -- the text of a sweep in the rules' words is that of the function
   pub only-sweep : (text : List ℕ) → IsSweep c cpu pattern steps text → text ≡ sweep_text c cpu pattern steps

@@ -22,7 +22,7 @@ use Rattle.boot_rules.specs.Tables.{table_in}
 use Rattle.boot_rules.proofs.DecisionLemmas.{chosen-decision, decision-chosen}
 use Rattle.boot_sweep.specs.declared.error.SweepError.{SweepError}
 use Rattle.boot_sweep.specs.declared.error.SweepError.TheVariants.{NotConfined, NotGated, TooManySteps, FormerInSlot, Memory, TableChanged}
-use Rattle.boot_sweep.specs.Refusals.{IsFirstOutside, IsFirstUngated, IsGatedSession, IsRefused, KeepsToSlot, LeavesSlot, StartsIn, gains_table, is_start_in, starts_in_slot, sweep_refusal, ungated, where_}
+use Rattle.boot_sweep.specs.Refusals.{IsFirstOutside, IsFirstUngated, IsGatedSession, IsRefusedSession, KeepsToSlot, LeavesSlot, StartsIn, gains_table, is_start_in, starts_in_slot, sweep_refusal, ungated, where_}
 use Rattle.boot_session.specs.Recordings.{kept_steps, step_limit}
 use Rattle.boot_session.specs.Slots.{IsSlot, outside_from, session_slot}
 use Rattle.boot_sweep.proofs.GateLemmas.{gated-none, none-gated}
@@ -235,7 +235,7 @@ module _ (c : Content) (cpu : Cpu) (steps : List Step) (right : IsContent c) whe
   gated_part = option_or (option_map NotGated (ungated slot (kept_steps steps))) many_part
 
   refused-former : (e : SweepError) → outside_from 0 slot steps ≡ None → ungated slot (kept_steps steps) ≡ None
-      → nat_lt step_limit (length steps) ≡ false → former_part ≡ Some e → IsRefused c cpu steps e
+      → nat_lt step_limit (length steps) ≡ false → former_part ≡ Some e → IsRefusedSession c cpu steps e
   refused-former e inside gated few is =
       elim (or-some (where_ (starts_in_slot slot (decision_in c cpu Normal)) FormerInSlot) last_part e is) [
         | inl f ↦
@@ -247,39 +247,39 @@ module _ (c : Content) (cpu : Cpu) (steps : List Step) (right : IsContent c) whe
               subst (λ x. Chosen c cpu Normal x) start.1 (decision-chosen c cpu Normal),
               start.2,
             ) in
-            let refused : IsRefused c cpu steps FormerInSlot =
+            let refused : IsRefusedSession c cpu steps FormerInSlot =
             (at.0, gated-session at.0 at.1 inside gated few, starts) in
-            subst (λ x. IsRefused c cpu steps x) m.1 refused
+            subst (λ x. IsRefusedSession c cpu steps x) m.1 refused
         | inr f ↦
             let m = where-some (gains_table (table_in c) (table_in (after_all c steps))) TableChanged e f.1 in
             let at = some-slot inside (gains-some m.0) in
             let none = where-none (starts_in_slot slot (decision_in c cpu Normal)) FormerInSlot f.0 in
-            let refused : IsRefused c cpu steps TableChanged = (
+            let refused : IsRefusedSession c cpu steps TableChanged = (
               at.0,
               gated-session at.0 at.1 inside gated few,
               not-starting at.0 at.1 none,
               gains-other (table_in c) (table_in (after_all c steps)) m.0,
             ) in
-            subst (λ x. IsRefused c cpu steps x) m.1 refused
+            subst (λ x. IsRefusedSession c cpu steps x) m.1 refused
       ]
 
   refused-many : (e : SweepError) → outside_from 0 slot steps ≡ None → ungated slot (kept_steps steps) ≡ None
-      → many_part ≡ Some e → IsRefused c cpu steps e
+      → many_part ≡ Some e → IsRefusedSession c cpu steps e
   refused-many e inside gated is =
       elim (or-some (where_ (nat_lt step_limit (length steps)) TooManySteps) former_part e is) [
         | inl d ↦
             let m = where-some (nat_lt step_limit (length steps)) TooManySteps e d in
             let lt = ltb-true step_limit (length steps) m.0 in
             let at = some-slot inside (many-some lt) in
-            let refused : IsRefused c cpu steps TooManySteps =
+            let refused : IsRefusedSession c cpu steps TooManySteps =
             (at.0, keeps at.0 at.1 inside, kept-gated at.0 at.1 inside gated, lt) in
-            subst (λ x. IsRefused c cpu steps x) m.1 refused
+            subst (λ x. IsRefusedSession c cpu steps x) m.1 refused
         | inr d ↦
             refused-former e inside gated (where-none (nat_lt step_limit (length steps)) TooManySteps d.0) d.1
       ]
 
   refused-gated : (e : SweepError) → outside_from 0 slot steps ≡ None → gated_part ≡ Some e
-      → IsRefused c cpu steps e
+      → IsRefusedSession c cpu steps e
   refused-gated e inside is =
       elim (or-some (option_map NotGated (ungated slot (kept_steps steps))) many_part e is) [
         | inl b ↦
@@ -288,20 +288,20 @@ module _ (c : Content) (cpu : Cpu) (steps : List Step) (right : IsContent c) whe
             let keep = keeps at.0 at.1 inside in
             let first = kept-first at.0 m.0 (named-first at.0 (kept_steps steps) m.0
             (kept-confined at.0 keep.confined) (ap (λ o. ungated o (kept_steps steps)) (sym at.1) ∙ m.1)) in
-            let refused : IsRefused c cpu steps (NotGated m.0) = (at.0, keep, first.0, first.1) in
-            subst (λ x. IsRefused c cpu steps x) m.2 refused
+            let refused : IsRefusedSession c cpu steps (NotGated m.0) = (at.0, keep, first.0, first.1) in
+            subst (λ x. IsRefusedSession c cpu steps x) m.2 refused
         | inr b ↦
             refused-many e inside (map-none NotGated (ungated slot (kept_steps steps)) b.0) b.1
       ]
 
-  refused-is : (e : SweepError) → sweep_refusal c cpu steps ≡ Some e → IsRefused c cpu steps e
+  refused-is : (e : SweepError) → sweep_refusal c cpu steps ≡ Some e → IsRefusedSession c cpu steps e
   unfolding sweep_refusal
   refused-is e is =
       elim (or-some (option_map NotConfined (outside_from 0 slot steps)) gated_part e is) [
         | inl a ↦
             let m = map-some NotConfined (outside_from 0 slot steps) e a in
-            let refused : IsRefused c cpu steps (NotConfined m.0) = leaves m.0 m.1 in
-            subst (λ x. IsRefused c cpu steps x) m.2 refused
+            let refused : IsRefusedSession c cpu steps (NotConfined m.0) = leaves m.0 m.1 in
+            subst (λ x. IsRefusedSession c cpu steps x) m.2 refused
         | inr a ↦ refused-gated e (map-none NotConfined (outside_from 0 slot steps) a.0) a.1
       ]
 
@@ -381,7 +381,7 @@ module _ (c : Content) (cpu : Cpu) (steps : List Step) (right : IsContent c) whe
       go true e = e
       go false e = absurd (other (table-stays c cpu steps w right is.slot is.gated e))
 
-  is-refused : (e : SweepError) → IsRefused c cpu steps e → sweep_refusal c cpu steps ≡ Some e
+  is-refused : (e : SweepError) → IsRefusedSession c cpu steps e → sweep_refusal c cpu steps ≡ Some e
   is-refused (NotConfined k) leaving =
       reasons (Some k) (ungated slot (kept_steps steps)) (nat_lt step_limit (length steps))
       (starts_in_slot slot (decision_in c cpu Normal)) (gains_table (table_in c) (table_in (after_all c steps)))
@@ -405,5 +405,5 @@ module _ (c : Content) (cpu : Cpu) (steps : List Step) (right : IsContent c) whe
       reasons None None false false true (inside-none w (gated-keeps w is)) (gated-ungated w is)
       (le-ltb step_limit (length steps) is.few) (starting-not w is.slot no_) (gaining w is other)
 
-  pub refused-exactly : (e : SweepError) → (sweep_refusal c cpu steps ≡ Some e) ↔ IsRefused c cpu steps e
+  pub refused-exactly : (e : SweepError) → (sweep_refusal c cpu steps ≡ Some e) ↔ IsRefusedSession c cpu steps e
   refused-exactly e = (refused-is e, is-refused e)

@@ -20,7 +20,7 @@ use Rattle.boot_sweep.specs.declared.error.SweepError.{SweepError}
 use Rattle.boot_sweep.specs.Refusals.{gains_table, is_start_in, starts_in_slot, sweep_refusal, ungated, where_}
 use Rattle.boot_session.specs.Recordings.{kept_steps, step_limit}
 use Rattle.boot_session.specs.Slots.{IsSlot, is_confined, outside_from, session_slot}
-use Rattle.boot_session.specs.CutSessions.{StartsElsewhere}
+use Rattle.boot_session.specs.CutSessions.{StartsOutside}
 use Rattle.boot_sweep.proofs.GateLemmas.{none-gated}
 use Rattle.boot_session.proofs.GatedLaws.{gated-table}
 use Rattle.boot_session.proofs.SlotLemmas.{confined-is, is-confined, slot-is}
@@ -79,7 +79,7 @@ window-of-parts : (a b c d : ℕ) → a ≡ c → b ≡ d
     → (let v : Window = record { start = a; len = b } in let w : Window = record { start = c; len = d } in v ≡ w)
 window-of-parts a b c d e f = cc
 
-starts-elsewhere : (w : Window) (d : Decision) → is_start_in w d ≡ false → StartsElsewhere w d
+starts-elsewhere : (w : Window) (d : Decision) → is_start_in w d ≡ false → StartsOutside w d
 starts-elsewhere w (Bootsel f) e = tt
 starts-elsewhere w (Start choice) e = λ same.
     let start : (choice.image.window.start == w.start) ≡ true =
@@ -99,7 +99,7 @@ pub record IsSweepable (c : Content) (cpu : Cpu) (steps : List Step) (w : Window
   pub slot : IsSlot c cpu steps w
   pub gated : Gated steps w
   pub few : length steps ≤ step_limit
-  pub elsewhere : StartsElsewhere w (decision_in c cpu Normal)
+  pub elsewhere : StartsOutside w (decision_in c cpu Normal)
   pub table : table_in (after_all c steps) ≡ table_in c
 
 pub table-stays : (c : Content) (cpu : Cpu) (steps : List Step) (w : Window) → IsContent c → IsSlot c cpu steps w
@@ -109,7 +109,7 @@ table-stays c cpu steps w right slot gated no_ = go (table_in c) (table_in (afte
   where
     go : (a b : Option Found) → table_in c ≡ a → table_in (after_all c steps) ≡ b
         → table_in (after_all c steps) ≡ table_in c
-    go (Some found) b is e = gated-table c w cpu steps found right slot.home gated is
+    go (Some found) b is e = gated-table c w cpu steps found right slot.boot_member gated is
     go None None is e = e ∙ sym is
     go None (Some found) is e =
         let f : gains_table (table_in c) (table_in (after_all c steps)) ≡ true =

@@ -12,7 +12,7 @@ use Rattle.pico_board.specs.declared.window.Window.{Window}
 use Rattle.pico_board.specs.Content.{Content, IsContent, window_bytes}
 use Rattle.image_def.specs.declared.started.Started.{Started}
 use Rattle.image_check.specs.Image.{defined_in}
-use Rattle.image_check.specs.SameImage.{AgreeOnBlocks, AgreeOnLoad, AgreeOnLoads, AgreeOnStorage, Holds, HoldSameImage}
+use Rattle.image_check.specs.SameImage.{AgreeOnBlocks, AgreeOnLoad, AgreeOnLoads, AgreeOnStorage, HoldsImage, HoldSameImage}
 use Rattle.image_check.proofs.SameLemmas.{held-image, held-loop}
 use Rattle.slot_choice.specs.declared.unit.Member.{Member}
 use Rattle.slot_choice.specs.declared.unit.Member.TheVariants.{A, B}
@@ -94,7 +94,7 @@ is-storage one two None ls agree = is-agree one two 0 (length one) (λ i low hig
 is-storage one two (Some item) ls agree = is-loads one two ls agree
 
 -- the function on a window that holds an image
-same-of : (cpu : Cpu) (one two : List ℕ) (s : Started) (h : Holds cpu one s)
+same-of : (cpu : Cpu) (one two : List ℕ) (s : Started) (h : HoldsImage cpu one s)
     → is_same_image cpu one two ≡ (length two == length one && (agree_on_blocks one two h.sound.loop
     && agree_on_map one two h.image.def.map_item (Ok h.sound.loads)))
 same-of cpu one two s h =
@@ -105,7 +105,7 @@ same-of cpu one two s h =
     ∙ ap (λ r. length two == length one && (agree_on_blocks one two h.sound.loop
     && agree_on_map one two h.image.def.map_item r)) h.sound.map)
 
-pub same-is : (cpu : Cpu) (one two : List ℕ) (s : Started) → Holds cpu one s → is_same_image cpu one two ≡ true
+pub same-is : (cpu : Cpu) (one two : List ℕ) (s : Started) → HoldsImage cpu one s → is_same_image cpu one two ≡ true
     → HoldSameImage cpu one two s
 same-is cpu one two s h e =
     let p = and_parts _ _ (sym (same-of cpu one two s h) ∙ e) in
@@ -320,12 +320,12 @@ finished-is z d cpu f =
 
 -- a window whose image starts holds it
 pub start-holds : (d : Content) (cpu : Cpu) (choice : Choice) → Chosen d cpu Normal (Start choice)
-    → Holds cpu (window_bytes d choice.image.window) choice.image
+    → HoldsImage cpu (window_bytes d choice.image.window) choice.image
 start-holds d cpu choice chosen =
     let v = start-valid d cpu Normal choice chosen in
     record { image = v.image; entry = v.entry; sound = v.sound; started = v.started }
 
--- and lies inside the flash
+-- the window of an image that a normal boot starts lies inside the flash
 pub start-inside : (d : Content) (cpu : Cpu) (choice : Choice) → IsContent d → Chosen d cpu Normal (Start choice)
     → choice.image.window.start + choice.image.window.len ≤ length d.flash
 start-inside d cpu choice right chosen =
@@ -333,7 +333,7 @@ start-inside d cpu choice right chosen =
     (start-placed d cpu Normal choice right chosen)
 
 -- whether two windows hold the same image, by the comparison
-pub same-exactly : (cpu : Cpu) (one two : List ℕ) (s : Started) (b : Bool) → Holds cpu one s
+pub same-exactly : (cpu : Cpu) (one two : List ℕ) (s : Started) (b : Bool) → HoldsImage cpu one s
     → (b ≡ true) ↔ HoldSameImage cpu one two s → b ≡ is_same_image cpu one two
 same-exactly cpu one two s b held is =
     bool-by b (is_same_image cpu one two) (λ e. is-same cpu one two s (is.0 e))

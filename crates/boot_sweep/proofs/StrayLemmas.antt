@@ -4,7 +4,7 @@ use Rattle.std.specs.List.{AllByRecursion}
 use Rattle.std.proofs.lemmas.Bool.{cases_lt}
 use Rattle.std.proofs.lemmas.List.{get_or_past}
 use Rattle.std.proofs.lemmas.List.Edits.{length-between}
-use Rattle.block_codec.specs.Pages.{IsBlankPage as IsBlankPageOf, IsPartlyWritten, IsSamePage as IsSamePageOf}
+use Rattle.block_codec.specs.Pages.{IsBlankWindowPage as IsBlankPageOf, IsPartlyWritten, IsSameWindowPage as IsSamePageOf}
 use Rattle.block_codec.proofs.PageLemmas.{block_written}
 use Rattle.pico_board.specs.declared.Step.{Step}
 use Rattle.pico_board.specs.declared.window.Window.{Window}

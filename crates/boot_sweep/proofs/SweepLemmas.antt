@@ -6,7 +6,7 @@ use Rattle.pico_board.specs.declared.boot.Cpu.{Cpu}
 use Rattle.pico_board.specs.Content.{Content, IsContent}
 use Rattle.boot_sweep.specs.declared.error.SweepError.{SweepError}
 use Rattle.boot_sweep.specs.declared.error.SweepError.TheVariants.{Memory}
-use Rattle.boot_sweep.specs.Refusals.{IsRefused, IsSwept, sweep_refusal}
+use Rattle.boot_sweep.specs.Refusals.{IsRefusedSession, IsSwept, sweep_refusal}
 use Rattle.boot_sweep.specs.Swept.{IsSweep}
 use Rattle.boot_sweep.specs.Sweeps.{sweep_text}
 use Rattle.boot_sweep.proofs.RefusalCaseLemmas.{refused-exactly}
@@ -28,13 +28,13 @@ module _ (c : Content) (cpu : Cpu) (pattern : List ℕ) (steps : List Step) (rig
   some-none e is = cc
 
   pub says-taken : {T : Type 0} (r : Result T SweepError) → IsSwept (sweep_refusal c cpu steps) r
-      → OnOk r ((e : SweepError) → IsRefused c cpu steps e → ⊥)
+      → OnOk r ((e : SweepError) → IsRefusedSession c cpu steps e → ⊥)
   says-taken (Ok done) none =
       λ e is. some-none e (sym ((refused-exactly c cpu steps right e).1 is) ∙ none)
   says-taken (Err e) why = tt
 
   pub says-refused : {T : Type 0} (r : Result T SweepError) (e : SweepError) → IsSwept (sweep_refusal c cpu steps) r
-      → r ≡ Err e → e ≢ Memory → IsRefused c cpu steps e
+      → r ≡ Err e → e ≢ Memory → IsRefusedSession c cpu steps e
   says-refused (Ok done) e none is other = cc
   says-refused (Err f) e why is other =
       elim (subst (λ x. (x ≡ Memory) ⊎ (sweep_refusal c cpu steps ≡ Some x)) (same-error f e (Err f) refl is) why) [

@@ -9,7 +9,7 @@ use Rattle.pico_board.specs.Steps.{after, after_all}
 use Rattle.boot_sweep.specs.declared.results.CutResult.{CutResult}
 use Rattle.boot_sweep.specs.Comparing.{result_of}
 use Rattle.boot_sweep.specs.Refusals.{sweep_refusal}
-use Rattle.boot_sweep.specs.Sweeps.{cut_in, line_of, lines_from, sweep_lines, sweep_text}
+use Rattle.boot_sweep.specs.Sweeps.{content_after_cut, swept_line, lines_from, sweep_lines, sweep_text}
 use Rattle.boot_sweep.specs.Swept.{HasLineAt, IsLineOf, IsSweep}
 use Rattle.boot_sweep.proofs.ChanceLemmas.{line-luck}
 use Rattle.boot_sweep.proofs.CountLemmas.{few-chances}
@@ -21,17 +21,17 @@ lines-at : (judge : Content → CutResult) (pattern : List ℕ) (k : ℕ) (b : C
     (j : ℕ) (step : Step)
     → slice_get steps j ≡ Some step
     → (slice_get (lines_from judge pattern k b steps) (2 * j)
-    ≡ Some (line_of judge (after_all b (take j steps)) pattern (k + j) step false))
+    ≡ Some (swept_line judge (after_all b (take j steps)) pattern (k + j) step false))
     × (slice_get (lines_from judge pattern k b steps) (2 * j + 1)
-    ≡ Some (line_of judge (after_all b (take j steps)) pattern (k + j) step true))
+    ≡ Some (swept_line judge (after_all b (take j steps)) pattern (k + j) step true))
 lines-at judge pattern k b [] j step is = let e : None ≡ Some step = is in cc
 lines-at judge pattern k b (x ∷ xs) zero step is =
     let same = same_Some x step is in
     let none : k ≡ k + 0 = omega arith in (
-      ap (λ y. Some (line_of judge b pattern k y false)) same
-          ∙ ap (λ n. Some (line_of judge b pattern n step false)) none,
-      ap (λ y. Some (line_of judge b pattern k y true)) same
-          ∙ ap (λ n. Some (line_of judge b pattern n step true)) none,
+      ap (λ y. Some (swept_line judge b pattern k y false)) same
+          ∙ ap (λ n. Some (swept_line judge b pattern n step false)) none,
+      ap (λ y. Some (swept_line judge b pattern k y true)) same
+          ∙ ap (λ n. Some (swept_line judge b pattern n step true)) none,
     )
 lines-at judge pattern k b (x ∷ xs) (suc j) step is =
     let rest = lines-at judge pattern (k + 1) (after b x) xs j step is in
@@ -40,9 +40,9 @@ lines-at judge pattern k b (x ∷ xs) (suc j) step is =
     let three : 2 * suc j + 1 ≡ suc (suc (2 * j + 1)) = omega arith in
     let number : k + 1 + j ≡ k + suc j = omega arith in (
       ap (slice_get (lines_from judge pattern k b (x ∷ xs))) two
-          ∙ (rest.0 ∙ ap (λ n. Some (line_of judge d pattern n step false)) number),
+          ∙ (rest.0 ∙ ap (λ n. Some (swept_line judge d pattern n step false)) number),
       ap (slice_get (lines_from judge pattern k b (x ∷ xs))) three
-          ∙ (rest.1 ∙ ap (λ n. Some (line_of judge d pattern n step true)) number),
+          ∙ (rest.1 ∙ ap (λ n. Some (swept_line judge d pattern n step true)) number),
     )
 
 module _ (c : Content) (cpu : Cpu) (pattern : List ℕ) (steps : List Step) where
@@ -50,13 +50,14 @@ module _ (c : Content) (cpu : Cpu) (pattern : List ℕ) (steps : List Step) wher
   judge d = result_of c (after_all c steps) d cpu
 
   is-line : (j : ℕ) (step : Step) (within : Bool)
-      → IsLineOf c cpu pattern steps j step within (line_of judge (after_all c (take j steps)) pattern j step within)
+      → IsLineOf c cpu pattern steps j step within (swept_line judge (after_all c (take j steps)) pattern j step within)
   is-line j step within = record {
     number = refl;
     step_is = refl;
     part = refl;
-    result = (judged-exactly c (after_all c steps) (cut_in (after_all c (take j steps)) pattern step within) cpu
-        (judge (cut_in (after_all c (take j steps)) pattern step within))).1 refl;
+    result = (judged-exactly c (after_all c steps)
+        (content_after_cut (after_all c (take j steps)) pattern step within) cpu
+        (judge (content_after_cut (after_all c (take j steps)) pattern step within))).1 refl;
   }
 
   each-line : (j : ℕ) (step : Step) → slice_get steps j ≡ Some step
@@ -67,13 +68,13 @@ module _ (c : Content) (cpu : Cpu) (pattern : List ℕ) (steps : List Step) wher
       let b = after_all c (take j steps) in
       let number : 0 + j ≡ j = omega arith in (
         (
-          line_of judge b pattern j step false,
-          at.0 ∙ ap (λ n. Some (line_of judge b pattern n step false)) number,
+          swept_line judge b pattern j step false,
+          at.0 ∙ ap (λ n. Some (swept_line judge b pattern n step false)) number,
           is-line j step false,
         ),
         (
-          line_of judge b pattern j step true,
-          at.1 ∙ ap (λ n. Some (line_of judge b pattern n step true)) number,
+          swept_line judge b pattern j step true,
+          at.1 ∙ ap (λ n. Some (swept_line judge b pattern n step true)) number,
           is-line j step true,
         ),
       )
@@ -88,7 +89,7 @@ module _ (c : Content) (cpu : Cpu) (pattern : List ℕ) (steps : List Step) wher
     count = two-each judge pattern c 0 steps;
     each = each-line;
     whole = (judged-exactly c (after_all c steps) (after_all c steps) cpu (judge (after_all c steps))).1 refl;
-    luck = λ line w has chance slot.
+    no_accident = λ line w has chance slot.
         let is = line-of-sweep c cpu pattern steps line has in
         line-luck c cpu pattern steps line w right small none slot is.0 is.1 chance;
     few = few-chances c cpu pattern steps right small none;

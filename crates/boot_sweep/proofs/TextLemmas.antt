@@ -22,7 +22,8 @@ use Rattle.boot_sweep.specs.Comparing.{result_by}
 use Rattle.boot_session.specs.Recordings.{IsRecorderOf, step_limit}
 use Rattle.boot_sweep.specs.Refusals.{sweep_refusal}
 use Rattle.boot_session.specs.Slots.{outside_from, session_slot}
-use Rattle.boot_session.specs.Scripts.{content_of, script_events, script_session}
+use Rattle.boot_script.specs.Scripts.{script_events}
+use Rattle.boot_session.specs.Scripts.{content_of, script_session}
 use Rattle.boot_session.specs.Sessions.{session}
 use Rattle.boot_sweep.specs.declared.results.StepResults.{StepResults}
 use Rattle.boot_sweep.specs.declared.results.SweepResults.{SweepResults}

@@ -14,14 +14,14 @@ use Rattle.boot_sweep.specs.declared.results.SweepResults.{SweepResults}
 use Rattle.boot_sweep.specs.Comparing.{result_of}
 use Rattle.boot_sweep.specs.StepResults.{HasCutResults, IsResultsOf, results_from, step_results, sweep_results, told_line, told_lines}
 use Rattle.boot_sweep.proofs.ResultLemmas.{judged-exactly}
-use Rattle.boot_sweep.specs.Sweeps.{cut_in, end_text, line_of, line_text, lines_from, sweep_text}
+use Rattle.boot_sweep.specs.Sweeps.{content_after_cut, end_text, swept_line, line_text, lines_from, sweep_text}
 
 module _ (judge : Content → CutResult) (pattern : List ℕ) where
   pub told-are-lines : (k : ℕ) (b : Content) (steps : List Step)
       → told_lines k steps (results_from judge pattern b steps) ≡ lines_from judge pattern k b steps
   told-are-lines k b [] = refl
   told-are-lines k b (step ∷ steps) =
-      ap (λ lines. line_of judge b pattern k step false ∷ line_of judge b pattern k step true ∷ lines)
+      ap (λ lines. swept_line judge b pattern k step false ∷ swept_line judge b pattern k step true ∷ lines)
       (told-are-lines (k + 1) (after b step) steps)
 
   pub results-length : (b : Content) (steps : List Step)
@@ -96,7 +96,9 @@ cut-results c cpu pattern steps j step is =
       step_results judge b pattern step,
       results-at judge pattern c steps j step is,
       record {
-        before = (judged-exactly c z (cut_in b pattern step false) cpu (judge (cut_in b pattern step false))).1 refl;
-        within = (judged-exactly c z (cut_in b pattern step true) cpu (judge (cut_in b pattern step true))).1 refl;
+        before = (judged-exactly c z (content_after_cut b pattern step false) cpu
+            (judge (content_after_cut b pattern step false))).1 refl;
+        within = (judged-exactly c z (content_after_cut b pattern step true) cpu
+            (judge (content_after_cut b pattern step true))).1 refl;
       },
     )

@@ -16,7 +16,7 @@ use Rattle.boot_sweep.specs.Comparing.{is_same_decision, is_whole, result_by}
 use Rattle.boot_sweep.specs.Verdicts.{verdict_by}
 use Rattle.boot_sweep.proofs.ResultLemmas.{same-decision}
 
--- the two tests
+-- the decision that is made, by the two tests
 abbrev verdict_of : Bool → Bool → Verdict
 verdict_of x y = if x then Before else if y then After else Other
 

@@ -1,4 +1,4 @@
--- The result of a cut as a function, by comparing decisions and images. This project's own.
+-- The result of a cut as a function, by comparing decisions and images.
 use Rattle.std.specs.Prelude.{ℕ, zero, suc, ◌+◌, ◌==◌, ◌&&◌, Bool, true, false, not, if◌then◌else◌, bytes_eq, List, length, slice_index, Option, Some, None, Result, Ok, Err}
 use Rattle.std.specs.List.{list_all}
 use Rattle.block_codec.specs.Blocks.{BlockView, block_size}

@@ -1,5 +1,4 @@
--- Images of which a sector that is programmed in part makes no other image: Firm, and Stray. This
--- project's own.
+-- Images of which a sector that is programmed in part makes no other image: Firm, and Stray.
 use Rattle.std.specs.Prelude.{◌≡◌, ◌≢◌, ℕ, ◌<◌, ◌≤◌, IsSome, List, [], ◌∷◌, Contains, Some, true}
 use Rattle.pico_board.specs.declared.boot.Cpu.{Cpu}
 use Rattle.pico_board.specs.declared.window.Window.{Window}
@@ -11,7 +10,7 @@ use Rattle.load_map.specs.Covered.{covered}
 use Rattle.sha2.specs.Sha256.{sha256}
 use Rattle.image_check.specs.declared.examining.Defined.{Defined}
 use Rattle.image_def.specs.declared.started.Started.{Started}
-use Rattle.image_check.specs.SameImage.{Holds}
+use Rattle.image_check.specs.SameImage.{HoldsImage}
 use Rattle.image_check.specs.Valid.{Valid}
 
 -- the first of the loads is stored from the window's start to the offset e
@@ -28,7 +27,7 @@ HasNoOtherBlock bytes loop =
 -- at least 4096, and has a digest. The first entry of its load map has all bytes before that, and
 -- each block in the window's first sector is one of its loop.
 pub record IsFirm (cpu : Cpu) (bytes : List ℕ) (s : Started) : Type 0 where
-  pub held : Holds cpu bytes s
+  pub held : HoldsImage cpu bytes s
   pub late : 4096 ≤ s.block
   pub hashed : IsSome held.image.def.digest
   pub front : LoadsFront s.block held.sound.loads
@@ -58,7 +57,7 @@ covered_by bytes image loads =
 -- what the definition of the image s covers has different SHA-256 in z and in d, where it differs
 abbrev pub HasOwnDigests : Content → Content → Window → Cpu → Started → Type 0
 HasOwnDigests z d w cpu s =
-    (held : Holds cpu (window_bytes z w) s)
+    (held : HoldsImage cpu (window_bytes z w) s)
     → covered_by (window_bytes d w) held.image held.sound.loads
     ≢ covered_by (window_bytes z w) held.image held.sound.loads
     → sha256 (covered_by (window_bytes d w) held.image held.sound.loads)

@@ -1,4 +1,4 @@
--- Why a session is not swept: the first of five reasons. This project's own.
+-- Why a session is not swept: the first of five reasons.
 use Rattle.std.specs.Prelude.{◌≡◌, ◌≢◌, ◌⊎◌, ℕ, suc, ◌+◌, ◌*◌, ◌/◌, ◌<◌, ◌≤◌, ◌==◌, ◌&&◌, not, nat_lt, Bool, true, false, if◌then◌else◌, is_none, is_some, option_map, List, [], ◌∷◌, ◌++◌, length, slice_get, take, Option, Some, None, Result, Ok, Err}
 use Rattle.std.specs.List.{list_any}
 use Rattle.std.specs.Option.{option_or}
@@ -46,7 +46,7 @@ pub record KeepsToSlot (c : Content) (cpu : Cpu) (steps : List Step) (w : Window
   pub slot : IsSlot c cpu steps w
   pub confined : Confined steps w
 
--- it writes its slot's first sector last, and is not too long
+-- the session writes its slot's first sector last, and is not too long
 pub record IsGatedSession (c : Content) (cpu : Cpu) (steps : List Step) (w : Window)
     : Type 0 where
   pub slot : IsSlot c cpu steps w
@@ -61,21 +61,21 @@ StartsIn c cpu w =
 -- The session is refused for this reason: that it leaves its slot; or that a step among those that
 -- may be swept makes it ungated; or that it has too many steps; or that a normal boot before it
 -- starts an image of the slot; or that the flash has another table after it
-abbrev pub IsRefused : Content → Cpu → List Step → SweepError → Type 0
-IsRefused c cpu steps (NotConfined k) = LeavesSlot c cpu steps k
-IsRefused c cpu steps (NotGated k) =
+abbrev pub IsRefusedSession : Content → Cpu → List Step → SweepError → Type 0
+IsRefusedSession c cpu steps (NotConfined k) = LeavesSlot c cpu steps k
+IsRefusedSession c cpu steps (NotGated k) =
     (w : Window) × KeepsToSlot c cpu steps w × IsFirstUngated steps w k × (k < step_limit)
-IsRefused c cpu steps TooManySteps =
+IsRefusedSession c cpu steps TooManySteps =
     (w : Window) × KeepsToSlot c cpu steps w × Gated (kept_steps steps) w
     × (step_limit < length steps)
-IsRefused c cpu steps FormerInSlot =
+IsRefusedSession c cpu steps FormerInSlot =
     (w : Window) × IsGatedSession c cpu steps w × StartsIn c cpu w
-IsRefused c cpu steps Memory = ⊥
-IsRefused c cpu steps TableChanged =
+IsRefusedSession c cpu steps Memory = ⊥
+IsRefusedSession c cpu steps TableChanged =
     (w : Window) × IsGatedSession c cpu steps w × (StartsIn c cpu w → ⊥)
     × (table_in (after_all c steps) ≢ table_in c)
 
--- there is none
+-- the list of pages is empty
 abbrev pub has_none : List ℕ → Bool
 has_none [] = true
 has_none (page ∷ pages) = false

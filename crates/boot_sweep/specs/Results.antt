@@ -1,4 +1,4 @@
--- What a normal boot makes of a session in which power is lost. This project's own.
+-- What a normal boot makes of a session in which power is lost.
 use Rattle.pico_board.specs.declared.boot.Cpu.{Cpu}
 use Rattle.pico_board.specs.declared.boot.BootKind.TheVariants.{Normal}
 use Rattle.pico_board.specs.Content.{Content}

@@ -1,5 +1,5 @@
 -- What a sweep finds: of each step the results of a loss of power before it and within it, and the
--- result of the whole session. This project's own.
+-- result of the whole session.
 use Rattle.std.specs.Prelude.{◌≡◌, ℕ, ◌+◌, Bool, true, false, List, [], ◌∷◌, take}
 use Rattle.pico_board.specs.declared.Step.{Step}
 use Rattle.pico_board.specs.declared.boot.Cpu.{Cpu}
@@ -10,13 +10,13 @@ use Rattle.boot_sweep.specs.declared.results.StepResults.{StepResults}
 use Rattle.boot_sweep.specs.declared.results.SweepResults.{SweepResults}
 use Rattle.boot_sweep.specs.Comparing.{result_of}
 use Rattle.boot_sweep.specs.Results.{IsCutResult}
-use Rattle.boot_sweep.specs.Sweeps.{Line, cut_in}
+use Rattle.boot_sweep.specs.Sweeps.{Line, content_after_cut}
 
 -- the results of a step on the content b
 abbrev pub step_results : (Content → CutResult) → Content → List ℕ → Step → StepResults
 step_results judge b pattern step = record {
-  before = judge (cut_in b pattern step false);
-  within = judge (cut_in b pattern step true);
+  before = judge (content_after_cut b pattern step false);
+  within = judge (content_after_cut b pattern step true);
 }
 
 -- the results of steps, of which the first is done on the content b
@@ -46,9 +46,9 @@ pub record IsResultsOf (c : Content) (cpu : Cpu) (pattern : List ℕ) (steps : L
 pub record HasCutResults (c : Content) (cpu : Cpu) (pattern : List ℕ) (steps : List Step) (j : ℕ)
     (step : Step) (found : StepResults) : Type 0 where
   pub before : IsCutResult c (after_all c steps)
-      (cut_in (after_all c (take j steps)) pattern step false) cpu found.before
+      (content_after_cut (after_all c (take j steps)) pattern step false) cpu found.before
   pub within : IsCutResult c (after_all c steps)
-      (cut_in (after_all c (take j steps)) pattern step true) cpu found.within
+      (content_after_cut (after_all c (take j steps)) pattern step true) cpu found.within
 
 -- the line that says this result
 abbrev pub told_line : ℕ → Step → Bool → CutResult → Line

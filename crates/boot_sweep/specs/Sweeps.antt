@@ -1,5 +1,5 @@
 -- The lines of a sweep: for each step of a session what a normal boot makes of a loss of power
--- before it and within it. This project's own.
+-- before it and within it.
 use Rattle.std.specs.Prelude.{ℕ, ◌+◌, ◌*◌, Bool, true, false, if◌then◌else◌, List, [], ◌∷◌, ◌++◌, length, take, codes, decimal}
 use Rattle.std.specs.List.{flat_map}
 use Rattle.pico_board.specs.declared.Step.{Step}
@@ -8,7 +8,7 @@ use Rattle.pico_board.specs.declared.boot.Cpu.{Cpu}
 use Rattle.pico_board.specs.Content.{Content}
 use Rattle.pico_board.specs.Cuts.{cut_by, cut_with}
 use Rattle.pico_board.specs.Steps.{after, after_all}
-use Rattle.boot_lines.specs.Texts.{hex_word}
+use Rattle.text_words.specs.Writing.{hex_word}
 use Rattle.boot_sweep.specs.declared.results.CutResult.{CutResult}
 use Rattle.boot_sweep.specs.declared.results.CutResult.TheVariants.{Former, Finished, Chance}
 use Rattle.boot_sweep.specs.Comparing.{result_of}
@@ -23,22 +23,22 @@ pub record Line : Type 0 where
 
 -- what the loss of power leaves of a content in the step, on a board in memory: before it nothing
 -- has changed, and within it the pattern decides
-abbrev pub cut_in : Content → List ℕ → Step → Bool → Content
-cut_in b pattern step within = cut_by (cut_with 0 within pattern) b step
+abbrev pub content_after_cut : Content → List ℕ → Step → Bool → Content
+content_after_cut b pattern step within = cut_by (cut_with 0 within pattern) b step
 
-abbrev pub line_of : (Content → CutResult) → Content → List ℕ → ℕ → Step → Bool → Line
-line_of judge b pattern k step within = record {
+abbrev pub swept_line : (Content → CutResult) → Content → List ℕ → ℕ → Step → Bool → Line
+swept_line judge b pattern k step within = record {
   number = k;
   step = step;
   within = within;
-  result = judge (cut_in b pattern step within);
+  result = judge (content_after_cut b pattern step within);
 }
 
 -- the lines of steps from the content b on, of which the first is number k
 abbrev pub lines_from : (Content → CutResult) → List ℕ → ℕ → Content → List Step → List Line
 lines_from judge pattern k b [] = []
 lines_from judge pattern k b (step ∷ steps) =
-    line_of judge b pattern k step false ∷ line_of judge b pattern k step true
+    swept_line judge b pattern k step false ∷ swept_line judge b pattern k step true
     ∷ lines_from judge pattern (k + 1) (after b step) steps
 
 -- the lines of a session on the content c
@@ -47,9 +47,9 @@ sweep_lines c cpu pattern steps =
     lines_from (λ d. result_of c (after_all c steps) d cpu) pattern 0 c steps
 
 -- the content that the cut of a line leaves, in a session on the content c
-abbrev pub cut_of : Content → List ℕ → List Step → Line → Content
-cut_of c pattern steps line =
-    cut_in (after_all c (take line.number steps)) pattern line.step line.within
+abbrev pub content_at_line : Content → List ℕ → List Step → Line → Content
+content_at_line c pattern steps line =
+    content_after_cut (after_all c (take line.number steps)) pattern line.step line.within
 
 abbrev pub is_chance_result : CutResult → Bool
 is_chance_result Former = false

@@ -1,5 +1,5 @@
--- Which decision a normal boot makes on a content that a cut left, and what is known of it from the
--- one before. This project's own.
+-- Which decision a normal boot makes on a content that a cut left, and what is known of it from
+-- the one before.
 use Rattle.std.specs.Prelude.{◌≡◌, ⊤, true, false, if◌then◌else◌, IfSome, IsSome, List, Option, Some, None}
 use Rattle.pico_board.specs.declared.Step.{Step}
 use Rattle.pico_board.specs.declared.boot.Cpu.{Cpu}
@@ -9,7 +9,7 @@ use Rattle.pico_board.specs.Content.{Content, IsContent}
 use Rattle.pico_board.specs.Sessions.{Confined, IsConfined, SameButWindow}
 use Rattle.boot_rules.specs.declared.decision.Decision.{Decision}
 use Rattle.boot_rules.specs.Choosing.{decision_in, images_in}
-use Rattle.boot_rules.specs.Chosen.{Home}
+use Rattle.boot_rules.specs.Chosen.{IsBootMember}
 use Rattle.boot_rules.specs.Tables.{table_in}
 use Rattle.boot_sweep.specs.declared.results.Verdict.{Verdict}
 use Rattle.boot_sweep.specs.declared.results.Verdict.TheVariants.{Before, After, Other}
@@ -26,21 +26,21 @@ verdict_by former finished e =
 
 -- the slot is a member of a pair of the content c, in which all the steps lie, and it says where c
 -- has a table
-pub record IsSlotOf (c : Content) (cpu : Cpu) (steps : List Step) (slot : Slot) : Type 0 where
-  pub home : Home c slot.window cpu
+pub record IsSweptSlot (c : Content) (cpu : Cpu) (steps : List Step) (slot : Slot) : Type 0 where
+  pub boot_member : IsBootMember c slot.window cpu
   pub table : slot.has_table ≡ true → IsSome (table_in c)
   pub confined : Confined steps slot.window
 
 -- d differs from the content c in the slot alone
 pub record IsBeside (c : Content) (cpu : Cpu) (slot : Slot) (d : Content) : Type 0 where
   pub right : IsContent c
-  pub home : Home c slot.window cpu
+  pub boot_member : IsBootMember c slot.window cpu
   pub table : slot.has_table ≡ true → IsSome (table_in c)
   pub same : SameButWindow slot.window c d
 
 -- some content that differs from c in the window alone, and has its table, had this image in the
 -- window, and this was the decision on it
-pub record IsLast (c : Content) (cpu : Cpu) (former finished : Decision) (w : Window)
+pub record IsLastVerdict (c : Content) (cpu : Cpu) (former finished : Decision) (w : Window)
     (last : Last) : Type 0 where
   pub content : Content
   pub same : SameButWindow w c content
@@ -53,7 +53,7 @@ pub record IsLast (c : Content) (cpu : Cpu) (former finished : Decision) (w : Wi
 pub record IsKnown (c : Content) (cpu : Cpu) (former finished : Decision) (slot : Slot)
     (last : Option Last) (d : Content) : Type 0 where
   pub beside : IsBeside c cpu slot d
-  pub before : IfSome last (IsLast c cpu former finished slot.window)
+  pub before : IfSome last (IsLastVerdict c cpu former finished slot.window)
 
 abbrev pub Knows : Content → Cpu → Decision → Decision → Option Slot → Option Last → Content
     → Type 0

@@ -4,7 +4,7 @@ ghost use Rattle.std.specs.Prelude.{◌≡◌, ◌↔◌, Contains, List, Ok, tr
 ghost use Rattle.block_codec.specs.Blocks.{BlockAt, BlockView};
 ghost use Rattle.block_loop.specs.Loop.{loop_of};
 ghost use Rattle.block_loop.specs.Offsets.{AreLoop};
-ghost use Rattle.image_check.specs.SameImage.{Holds};
+ghost use Rattle.image_check.specs.SameImage.{HoldsImage};
 ghost use Rattle.boot_sweep.specs.Firms.{HasNoOtherBlock, IsFirm, LoadsFront};
 
 use block_loop::{BlockLoop, block_at, walk};
@@ -64,9 +64,9 @@ fn has_no_other_block<V: View>(view: &V, found: &BlockLoop) -> bool
 
 /// Whether the image that a view holds is firm: its definition stands behind the first sector and
 /// has a digest, the first entry of its load map has all bytes before it, and each block of the
-/// first sector is one of its loop. It takes no memory. (This project's own.)
+/// first sector is one of its loop. It takes no memory.
 pub fn firm<V: View>(view: &V, started: &Started, cpu: Cpu) -> bool
-    requires held { Holds cpu (V.bytes view.now) started.now }
+    requires held { HoldsImage cpu (V.bytes view.now) started.now }
     ensures { (result ≡ true) ↔ IsFirm cpu (V.bytes view.now) started.now }
 {
     let found = match walk(view) {

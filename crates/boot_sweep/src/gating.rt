@@ -89,7 +89,7 @@ fn ungated_in(window: Window, steps: &[Step]) -> Option<u32>
     }
 }
 
-/// The same of the slot, where there is one.
+/// The answer of the function above for the window of the slot, where there is one.
 pub fn ungated(slot: Option<Window>, steps: &[Step]) -> Option<u32>
     requires few { length steps.now ≤ step_limit }
     ensures { result ≡ ungated slot steps.now }

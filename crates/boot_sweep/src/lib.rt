@@ -8,16 +8,16 @@
 
 mod comparing;
 mod error;
-pub mod firm_laws;
 mod firmness;
 mod gating;
+pub mod laws;
 mod lines;
 mod results;
 mod script;
 mod slots;
-pub mod sweep_laws;
 mod sweeping;
 
+pub use boot_session::Recorder;
 pub use error::SweepError;
 pub use firmness::firm;
 pub use results::{CutResult, StepResults, SweepResults};

@@ -18,9 +18,9 @@ use sector_pool::SectorPool;
 /// What a normal boot makes of a content that a cut of a session left.
 #[derive(Clone, Copy, Debug, PartialEq, Eq)]
 pub enum CutResult {
-    /// It decides as before the session.
+    /// The boot decides as before the session.
     Former,
-    /// It starts the image that it starts after the whole session, with the same bytes.
+    /// The boot starts the image that it starts after the whole session, with the same bytes.
     Finished,
     /// Neither.
     Chance,
@@ -49,9 +49,9 @@ pub struct SweepResults {
 /// Which decision a normal boot makes.
 #[derive(Clone, Copy)]
 pub enum Verdict {
-    /// The one before the session.
+    /// The decision before the session.
     Before,
-    /// Another one, which is that after the whole session.
+    /// Another decision, which is that after the whole session.
     After,
     /// Neither.
     Other,

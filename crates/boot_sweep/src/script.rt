@@ -9,11 +9,12 @@ ghost use Rattle.pico_board.specs.MemBoard.{new_state, state_of};
 ghost use Rattle.sector_pool.specs.Keeping.{KeepsOut};
 ghost use Rattle.sector_pool.specs.Pool.{HasFree, free_count};
 ghost use Rattle.boot_rules.specs.Choosing.{decision_in};
+ghost use Rattle.boot_script.specs.Judging.{IsScript};
 ghost use Rattle.boot_script.specs.Written.{IsKept};
 ghost use Rattle.boot_sweep.specs.declared.error.SweepError.TheVariants.{Memory};
 ghost use Rattle.boot_session.specs.Recordings.{IsRecorderOf};
-ghost use Rattle.boot_sweep.specs.Refusals.{IsRefused, IsSwept, is_start_in, starts_in_slot, sweep_refusal};
-ghost use Rattle.boot_session.specs.Scripts.{IsScript, content_of, script_session};
+ghost use Rattle.boot_sweep.specs.Refusals.{IsRefusedSession, IsSwept, is_start_in, starts_in_slot, sweep_refusal};
+ghost use Rattle.boot_session.specs.Scripts.{content_of, script_session};
 ghost use Rattle.boot_session.specs.Standing.{IsUnarmed};
 ghost use Rattle.boot_sweep.specs.StepResults.{HasResults, IsResultsOf};
 ghost use Rattle.boot_sweep.specs.Swept.{IsSweep};
@@ -63,7 +64,7 @@ fn is_start_in(window: Window, decision: &Decision) -> bool
     }
 }
 
-/// The same of the slot, where there is one.
+/// The answer of the function above for the window of the slot, where there is one.
 fn starts_in_slot(slot: Option<Window>, decision: &Decision) -> bool
     ensures { result ≡ starts_in_slot slot decision.now }
 {
@@ -178,7 +179,7 @@ fn all_results(
 
 /// Sweeps the session of a script: its steps, what a normal boot makes of a loss of power before
 /// each and within it, and of the whole session. [`sweep`] writes a line for each of these, and
-/// refuses the same sessions. The pool keeps what is out. (This project's own.)
+/// refuses the same sessions. The pool keeps what is out.
 pub fn swept(
     alloc: Global,
     flash: &Vec<u8>,
@@ -214,7 +215,7 @@ pub fn swept(
 }
 
 /// The text of the sweep of a script's session, which [`sweep`] appends to bytes. It is refused as
-/// there. The pool keeps what is out. (This project's own.)
+/// there. The pool keeps what is out.
 pub fn swept_text(
     alloc: Global,
     flash: &Vec<u8>,
@@ -277,19 +278,17 @@ fn push_sweep(
     }
 }
 
-/// Sweeps the session of a script: the steps that its host's events do on a board with this content
-/// that has entered BOOTSEL. For each step, and for a loss of power before it and within it, which
-/// leaves what the pattern says, a line says what the next normal boot makes of it: it decides as
-/// before the session (`former`), or it starts the image that it starts after the whole session,
-/// with the same bytes (`finished`), or neither (`chance`). The end line says the same of the whole
-/// session. `chance` comes only where the cut leaves an unfinished content that is not lucky, on at
-/// most 32 lines.
-///
-/// A session is refused for the first of these: a step leaves the member of a pair in which the
-/// first one lies; a step up to which the steps do not write that member's first sector last; more
-/// than 262,144 steps; an image of that member starts before the session; the session leaves
-/// another partition table. A refusal leaves `out`, and want of memory leaves its bytes in front.
-/// The pool keeps what is out. (This project's own.)
+/// Sweeps the session of a script: the steps that its host's events do on a board with this
+/// content that has entered BOOTSEL. For each step, and for a loss of power before it and within
+/// it, which leaves what the pattern says, a line says what the next normal boot makes of it: it
+/// decides as before the session (`former`), or it starts the image that it starts after the whole
+/// session, with the same bytes (`finished`), or neither (`chance`). The end line says the same of
+/// the whole session. `chance` comes only where the cut leaves an unfinished content with another
+/// table or with an accidental image in that member, on at most 32 lines.  A session is refused
+/// for the first of these: a step leaves the member of a pair in which the first one lies; a step
+/// up to which the steps do not write that member's first sector last; more than 262,144 steps; an
+/// image of that member starts before the session; the session leaves another partition table. A
+/// refusal leaves `out`, and want of memory leaves its bytes in front. The pool keeps what is out.
 pub fn sweep(
     alloc: Global,
     flash: &Vec<u8>,
@@ -308,10 +307,10 @@ pub fn sweep(
         × IsSweep (content_of flash.now.items otp.now.items) cpu pattern.now
         (script_session (content_of flash.now.items otp.now.items) cpu script.now) text) }
     ensures taken { OnOk result ((e : SweepError)
-        → IsRefused (content_of flash.now.items otp.now.items) cpu
+        → IsRefusedSession (content_of flash.now.items otp.now.items) cpu
         (script_session (content_of flash.now.items otp.now.items) cpu script.now) e → ⊥) }
     ensures refused { (e : SweepError) → IsErrOf result e → e ≢ Memory
-        → IsRefused (content_of flash.now.items otp.now.items) cpu
+        → IsRefusedSession (content_of flash.now.items otp.now.items) cpu
         (script_session (content_of flash.now.items otp.now.items) cpu script.now) e
         × (out.new.items ≡ out.old.items) }
     ensures judged { IsSwept (sweep_refusal (content_of flash.now.items otp.now.items) cpu

@@ -13,12 +13,12 @@ ghost use Rattle.boot_rules.specs.Choosing.{decision_in, images_in};
 ghost use Rattle.boot_rules.specs.Tables.{table_in};
 ghost use Rattle.boot_sweep.specs.Comparing.{result_by};
 ghost use Rattle.boot_session.specs.Slots.{is_confined};
-ghost use Rattle.boot_sweep.specs.Verdicts.{IsBeside, IsKnown, IsSlotOf, Knows, verdict_by};
+ghost use Rattle.boot_sweep.specs.Verdicts.{IsBeside, IsKnown, IsSweptSlot, Knows, verdict_by};
 
 use crate::comparing::is_same_started;
 use crate::results::{CutResult, Ends, Verdict, result_from, result_on, verdict_on};
-use boot_rules::find_table;
-use boot_session::{boot_units_in, is_confined, slot_among};
+use boot_rules::{boot_units_in, find_table};
+use boot_session::{is_confined, slot_among};
 use image_check::{Started, check};
 use pico_board::{Board, Cpu, FlashView, Step, View, Window};
 use sector_pool::SectorPool;
@@ -29,7 +29,7 @@ const SECTOR: u32 = 4096;
 /// A member of a pair, in which the steps of a session lie.
 #[derive(Clone, Copy)]
 pub struct Slot {
-    /// Its window.
+    /// The member's window.
     pub window: Window,
     /// Whether the flash has a partition table.
     pub has_table: bool,
@@ -54,7 +54,7 @@ fn are_confined(window: Window, steps: &[Step]) -> bool
 /// The member of a pair in which the steps lie, where they lie in one.
 pub fn slot_of<B: Board>(board: &B, cpu: Cpu, steps: &[Step]) -> Option<Slot>
     requires power { IsTrue (B.state board.now).powered }
-    ensures { IfSome result (IsSlotOf (B.state board.now).content cpu steps.now) }
+    ensures { IfSome result (IsSweptSlot (B.state board.now).content cpu steps.now) }
 {
     let first = steps.first()?;
     let units = boot_units_in(board, cpu);

@@ -10,7 +10,7 @@ use Rattle.load_map.proofs.LastLoadLemmas.{none-last}
 use Rattle.elf_pack.specs.declared.segment.Segment.{Segment}
 use Rattle.elf_pack.specs.Binaries.{are_in_flash, elf_binary, flash_binary, greatest_end, sram_binary}
 use Rattle.elf_pack.specs.Faults.{HasBinary, HasAddress, IsInFlash}
-use Rattle.elf_pack.specs.Segments.{byte_of, holds, segments}
+use Rattle.elf_pack.specs.Segments.{byte_of, segment_has_address, segments}
 use Rattle.elf_pack.proofs.ListLemmas.{all-at}
 use Rattle.elf_pack.proofs.PlacingLemmas.{flash-at, length-flash}
 use Rattle.elf_pack.proofs.TogetherLemmas.{all-in-flash, ends-below, flash-byte, held-true}
@@ -70,11 +70,12 @@ module _ (cpu : Cpu) (elf : List ℕ) (has : HasBinary cpu elf) (flash : are_in_
       ap (λ ys. get_or ys k 0) binary-is
       ∙ flash-at elf xs (greatest_end xs - flash_base) k (omega (arith, lt, long))
       ∙ ap (λ o. unwrap_or (option_map (byte_of elf (flash_base + k)) o) 255)
-      (none-last (holds (flash_base + k)) xs (λ i s at. not-held s (all-at
-      (λ (t : Segment). HasAddress (flash_base + k) t → ⊥) xs i s at none) (holds (flash_base + k) s) refl))
+      (none-last (segment_has_address (flash_base + k)) xs (λ i s at. not-held s (all-at
+      (λ (t : Segment). HasAddress (flash_base + k) t → ⊥) xs i s at none)
+      (segment_has_address (flash_base + k) s) refl))
     where
       not-held : (s : Segment) → (HasAddress (flash_base + k) s → ⊥) → (t : Bool)
-          → holds (flash_base + k) s ≡ t → holds (flash_base + k) s ≡ false
+          → segment_has_address (flash_base + k) s ≡ t → segment_has_address (flash_base + k) s ≡ false
       not-held s no_one true e = absurd (no_one (held-true (flash_base + k) s e))
       not-held s no_one false e = e
 

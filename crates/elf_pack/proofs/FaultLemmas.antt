@@ -11,9 +11,9 @@ use Rattle.pico_board.specs.declared.boot.Cpu.{Cpu}
 use Rattle.elf_pack.specs.declared.fault.ElfFault.{ElfFault}
 use Rattle.elf_pack.specs.declared.fault.ElfFault.TheVariants.{NotElf, FileType, Processor, Headers, Segment, Empty, TooMany, Mixed, Overlap, Seal, Memory}
 use Rattle.elf_pack.specs.declared.segment.Segment.{Segment as OneSegment}
-use Rattle.elf_pack.specs.Faults.{AreAllTogether, AreSegmentsApart, AreHeadersInside, AreTogether, HasBinary, IsElf, IsElfFault, IsFirstMixed, IsFirstNot, IsFirstOverlap, IsLaidOut, IsPlaced, IsRightHead, IsTogether, Share}
+use Rattle.elf_pack.specs.Faults.{AreAllTogether, AreSegmentsApart, AreHeadersInside, AreTogether, HasBinary, IsElf, IsElfFault, IsFirstMixed, IsFirstNot, IsFirstOverlap, IsLaidOut, IsPlacedSegment, IsRightHead, IsTogether, Share}
 use Rattle.elf_pack.specs.Fields.{file_type, header_count, header_size, headers_at, identification, machine, machine_of}
-use Rattle.elf_pack.specs.Judging.{are_headers_inside, are_mixed, count_fault, do_overlap, elf_fault, head_fault, is_elf, is_misplaced, misplaced_fault, mixed_fault, overlap_fault, segments_fault}
+use Rattle.elf_pack.specs.Judging.{are_headers_inside, are_mixed, count_fault, do_overlap, elf_fault, head_fault, is_elf, is_misplaced_segment, misplaced_fault, mixed_fault, segment_overlap_fault, segments_fault}
 use Rattle.elf_pack.specs.Segments.{segments}
 use Rattle.elf_pack.proofs.ListLemmas.{all-map, find-first, find-none, first-found, none-found}
 use Rattle.elf_pack.proofs.SegmentLemmas.{HasBytes, IsSomewhere, all-have-bytes, apart-right, apart-wrong, placed-right, placed-wrong, together-right, together-wrong}
@@ -174,11 +174,12 @@ or-none : {X : Type 0} (a b : Option X) → option_or a b ≡ None → (a ≡ No
 or-none None b is = (refl, is)
 or-none (Some x) b is = absurd (none-some x (sym is))
 
-pub overlap-none : (xs : List OneSegment) → AllByRecursion HasBytes xs → overlap_fault xs ≡ None → AreSegmentsApart xs
-unfolding overlap_fault
+pub overlap-none : (xs : List OneSegment) → AllByRecursion HasBytes xs → segment_overlap_fault xs ≡ None
+    → AreSegmentsApart xs
+unfolding segment_overlap_fault
 overlap-none [] some is = tt
 overlap-none (s ∷ xs) some is =
-    let both = or-none (option_map (named s) (find (do_overlap s) xs)) (overlap_fault xs) is in (
+    let both = or-none (option_map (named s) (find (do_overlap s) xs)) (segment_overlap_fault xs) is in (
       none-found (do_overlap s) (KeepsOff s) HasBytes (apart-right s some.0) (apart-wrong s some.0) xs some.1
           (mapped-none (named s) (find (do_overlap s) xs) both.0),
       overlap-none xs some.1 both.1,
@@ -188,8 +189,8 @@ abbrev OverlapSays : List OneSegment → ElfFault → Type 0
 OverlapSays xs e = (s : OneSegment) × (t : OneSegment) × IsFirstOverlap xs s t × (named s t ≡ e)
 
 overlap-step : (s : OneSegment) (xs : List OneSegment) (e : ElfFault) → HasBytes s → AllByRecursion HasBytes xs
-    → (overlap_fault xs ≡ Some e → OverlapSays xs e) → (o : Option OneSegment) → find (do_overlap s) xs ≡ o
-    → option_or (option_map (named s) o) (overlap_fault xs) ≡ Some e → OverlapSays (s ∷ xs) e
+    → (segment_overlap_fault xs ≡ Some e → OverlapSays xs e) → (o : Option OneSegment) → find (do_overlap s) xs ≡ o
+    → option_or (option_map (named s) o) (segment_overlap_fault xs) ≡ Some e → OverlapSays (s ∷ xs) e
 overlap-step s xs e one some rest (Some t) found is = (
   s,
   t,
@@ -204,31 +205,33 @@ overlap-step s xs e one some rest None found is =
       r.3,
     )
 
-pub overlap-some : (xs : List OneSegment) (e : ElfFault) → AllByRecursion HasBytes xs → overlap_fault xs ≡ Some e
+pub overlap-some : (xs : List OneSegment) (e : ElfFault) → AllByRecursion HasBytes xs
+    → segment_overlap_fault xs ≡ Some e
     → OverlapSays xs e
-unfolding overlap_fault
+unfolding segment_overlap_fault
 overlap-some [] e some is = absurd (none-some e is)
 overlap-some (s ∷ xs) e some is =
     overlap-step s xs e some.0 some.1 (overlap-some xs e some.1) (find (do_overlap s) xs) refl is
 
 pub overlap-first : (xs : List OneSegment) (s t : OneSegment) → AllByRecursion HasBytes xs → IsFirstOverlap xs s t
-    → overlap_fault xs ≡ Some (named s t)
-unfolding overlap_fault
+    → segment_overlap_fault xs ≡ Some (named s t)
+unfolding segment_overlap_fault
 overlap-first [] s t some is = absurd is
 overlap-first (x ∷ xs) s t some (inl both) =
-    ap (λ o. option_or (option_map (named x) o) (overlap_fault xs))
+    ap (λ o. option_or (option_map (named x) o) (segment_overlap_fault xs))
     (find-first (do_overlap x) (KeepsOff x) HasBytes (apart-right x some.0) (apart-wrong x some.0) xs t some.1 both.1)
     ∙ ap (λ y. Some (named y t)) both.0
 overlap-first (x ∷ xs) s t some (inr both) =
-    ap (λ o. option_or (option_map (named x) o) (overlap_fault xs))
+    ap (λ o. option_or (option_map (named x) o) (segment_overlap_fault xs))
     (find-none (do_overlap x) (KeepsOff x) HasBytes (apart-right x some.0) (apart-wrong x some.0) xs some.1 both.0)
     ∙ overlap-first xs s t some.1 both.1
 
-pub apart-none : (xs : List OneSegment) → AllByRecursion HasBytes xs → AreSegmentsApart xs → overlap_fault xs ≡ None
-unfolding overlap_fault
+pub apart-none : (xs : List OneSegment) → AllByRecursion HasBytes xs → AreSegmentsApart xs
+    → segment_overlap_fault xs ≡ None
+unfolding segment_overlap_fault
 apart-none [] some is = refl
 apart-none (x ∷ xs) some is =
-    ap (λ o. option_or (option_map (named x) o) (overlap_fault xs))
+    ap (λ o. option_or (option_map (named x) o) (segment_overlap_fault xs))
     (find-none (do_overlap x) (KeepsOff x) HasBytes (apart-right x some.0) (apart-wrong x some.0) xs some.1 is.0)
     ∙ apart-none xs some.1 is.1
 
@@ -283,38 +286,42 @@ anything [] = tt
 anything (x ∷ xs) = (tt, anything xs)
 
 module _ (n : ℕ) (xs : List OneSegment) where
-  placed-none : misplaced_fault n xs ≡ None → AllByRecursion (IsPlaced n) xs
+  placed-none : misplaced_fault n xs ≡ None → AllByRecursion (IsPlacedSegment n) xs
   unfolding misplaced_fault
   placed-none is =
-      none-found (is_misplaced n) (IsPlaced n) Anything (λ s q. placed-right n s) (λ s q. placed-wrong n s) xs
-      (anything xs) (mapped-none outside (find (is_misplaced n) xs) is)
+      none-found (is_misplaced_segment n) (IsPlacedSegment n) Anything (λ s q. placed-right n s)
+      (λ s q. placed-wrong n s) xs
+      (anything xs) (mapped-none outside (find (is_misplaced_segment n) xs) is)
 
   placed-some : (e : ElfFault) → misplaced_fault n xs ≡ Some e
-      → (s : OneSegment) × IsFirstNot (IsPlaced n) xs s × (outside s ≡ e)
+      → (s : OneSegment) × IsFirstNot (IsPlacedSegment n) xs s × (outside s ≡ e)
   unfolding misplaced_fault
   placed-some e is =
-      let found = mapped-some outside (find (is_misplaced n) xs) e is in (
+      let found = mapped-some outside (find (is_misplaced_segment n) xs) e is in (
         found.0,
-        first-found (is_misplaced n) (IsPlaced n) Anything (λ s q. placed-right n s) (λ s q. placed-wrong n s) xs
+        first-found (is_misplaced_segment n) (IsPlacedSegment n) Anything (λ s q. placed-right n s)
+            (λ s q. placed-wrong n s) xs
             found.0 (anything xs) found.1,
         found.2,
       )
 
-  placed-first : (s : OneSegment) → IsFirstNot (IsPlaced n) xs s → misplaced_fault n xs ≡ Some (outside s)
+  placed-first : (s : OneSegment) → IsFirstNot (IsPlacedSegment n) xs s → misplaced_fault n xs ≡ Some (outside s)
   unfolding misplaced_fault
   placed-first s is =
       ap (option_map outside)
-      (find-first (is_misplaced n) (IsPlaced n) Anything (λ s q. placed-right n s) (λ s q. placed-wrong n s) xs s
+      (find-first (is_misplaced_segment n) (IsPlacedSegment n) Anything (λ s q. placed-right n s)
+      (λ s q. placed-wrong n s) xs s
       (anything xs) is)
 
-  all-placed : AllByRecursion (IsPlaced n) xs → misplaced_fault n xs ≡ None
+  all-placed : AllByRecursion (IsPlacedSegment n) xs → misplaced_fault n xs ≡ None
   unfolding misplaced_fault
   all-placed is =
       ap (option_map outside)
-      (find-none (is_misplaced n) (IsPlaced n) Anything (λ s q. placed-right n s) (λ s q. placed-wrong n s) xs
+      (find-none (is_misplaced_segment n) (IsPlacedSegment n) Anything (λ s q. placed-right n s)
+      (λ s q. placed-wrong n s) xs
       (anything xs) is)
 
--- their number
+-- the rule on the number of segments
 abbrev count_chain : Bool → Bool → ℕ → Option ElfFault
 count_chain a b n = if a then Some Empty else (if b then Some (TooMany n) else None)
 
@@ -353,10 +360,10 @@ module _ (cpu : Cpu) (elf : List ℕ) where
   or-says None b none some = none refl
   or-says (Some e) b none some = some e refl
 
-  somewhere : AllByRecursion (IsPlaced size) xs → AllByRecursion IsSomewhere xs
-  somewhere placed = all-map (IsPlaced size) IsSomewhere (λ s is. is.1) xs placed
+  somewhere : AllByRecursion (IsPlacedSegment size) xs → AllByRecursion IsSomewhere xs
+  somewhere placed = all-map (IsPlacedSegment size) IsSomewhere (λ s is. is.1) xs placed
 
-  overlap-says : IsTogether cpu elf → (o : Option ElfFault) → overlap_fault xs ≡ o → ElfSays cpu elf o
+  overlap-says : IsTogether cpu elf → (o : Option ElfFault) → segment_overlap_fault xs ≡ o → ElfSays cpu elf o
   overlap-says together None is =
       record { all = together; apart = overlap-none xs (all-have-bytes elf) is }
   overlap-says together (Some e) is =
@@ -364,17 +371,18 @@ module _ (cpu : Cpu) (elf : List ℕ) where
       subst (IsElfFault cpu elf) r.3 (together, (r.0, r.1, r.2, refl, refl))
 
   mixed-says : IsLaidOut cpu elf → length xs ≤ 29 → xs ≢ []
-      → ElfSays cpu elf (option_or (mixed_fault xs) (overlap_fault xs))
+      → ElfSays cpu elf (option_or (mixed_fault xs) (segment_overlap_fault xs))
   mixed-says laid few some =
-      or-says (mixed_fault xs) (overlap_fault xs)
+      or-says (mixed_fault xs) (segment_overlap_fault xs)
       (λ none. overlap-says
       (record { laid = laid; some = some; few = few; together = mixed-none xs (somewhere laid.placed) none })
-      (overlap_fault xs) refl)
+      (segment_overlap_fault xs) refl)
       (λ e is. let r = mixed-some xs e (somewhere laid.placed) is in
       subst (IsElfFault cpu elf) r.2 (laid, few, (r.0, r.1, refl)))
 
   count-by : IsLaidOut cpu elf → (a b : Bool) → (length xs == 0) ≡ a → nat_lt 29 (length xs) ≡ b
-      → ElfSays cpu elf (option_or (count_chain a b (length xs)) (option_or (mixed_fault xs) (overlap_fault xs)))
+      → ElfSays cpu elf (option_or (count_chain a b (length xs))
+      (option_or (mixed_fault xs) (segment_overlap_fault xs)))
   count-by laid true b one two = (laid, length-none xs (eqb-same (length xs) 0 one))
   count-by laid false true one two = (laid, many-true (length xs) two, refl)
   count-by laid false false one two =
@@ -382,9 +390,9 @@ module _ (cpu : Cpu) (elf : List ℕ) where
       (λ none. eqb-other (length xs) 0 one (ap (λ (ys : List OneSegment). length ys) none))
 
   count-says : IsLaidOut cpu elf
-      → ElfSays cpu elf (option_or (count_fault xs) (option_or (mixed_fault xs) (overlap_fault xs)))
+      → ElfSays cpu elf (option_or (count_fault xs) (option_or (mixed_fault xs) (segment_overlap_fault xs)))
   count-says laid =
-      subst (λ o. ElfSays cpu elf (option_or o (option_or (mixed_fault xs) (overlap_fault xs))))
+      subst (λ o. ElfSays cpu elf (option_or o (option_or (mixed_fault xs) (segment_overlap_fault xs))))
       (sym (count-is xs (length xs == 0) (nat_lt 29 (length xs)) refl refl))
       (count-by laid (length xs == 0) (nat_lt 29 (length xs)) refl refl)
 
@@ -392,7 +400,7 @@ module _ (cpu : Cpu) (elf : List ℕ) where
   unfolding segments_fault
   segments-say head =
       or-says (misplaced_fault size xs)
-      (option_or (count_fault xs) (option_or (mixed_fault xs) (overlap_fault xs)))
+      (option_or (count_fault xs) (option_or (mixed_fault xs) (segment_overlap_fault xs)))
       (λ none. count-says (record { head = head; placed = placed-none size xs none }))
       (λ e is. let r = placed-some size xs e is in
       subst (IsElfFault cpu elf) r.2 (head, (r.0, r.1, refl)))
@@ -407,28 +415,28 @@ module _ (cpu : Cpu) (elf : List ℕ) where
   -- a fault whose condition holds is found
   behind-head : IsRightHead cpu elf → (o : Option ElfFault)
       → option_or (misplaced_fault size xs)
-      (option_or (count_fault xs) (option_or (mixed_fault xs) (overlap_fault xs))) ≡ o → elf_fault cpu elf ≡ o
+      (option_or (count_fault xs) (option_or (mixed_fault xs) (segment_overlap_fault xs))) ≡ o → elf_fault cpu elf ≡ o
   unfolding segments_fault
   behind-head head o is = ap (λ h. option_or h (segments_fault size xs)) (head-none cpu elf head) ∙ is
 
   behind-placed : IsLaidOut cpu elf → (o : Option ElfFault)
-      → option_or (count_fault xs) (option_or (mixed_fault xs) (overlap_fault xs)) ≡ o → elf_fault cpu elf ≡ o
+      → option_or (count_fault xs) (option_or (mixed_fault xs) (segment_overlap_fault xs)) ≡ o → elf_fault cpu elf ≡ o
   behind-placed laid o is =
       behind-head laid.head o
-      (ap (λ h. option_or h (option_or (count_fault xs) (option_or (mixed_fault xs) (overlap_fault xs))))
+      (ap (λ h. option_or h (option_or (count_fault xs) (option_or (mixed_fault xs) (segment_overlap_fault xs))))
       (all-placed size xs laid.placed)
       ∙ is)
 
   behind-count : IsLaidOut cpu elf → xs ≢ [] → length xs ≤ 29 → (o : Option ElfFault)
-      → option_or (mixed_fault xs) (overlap_fault xs) ≡ o → elf_fault cpu elf ≡ o
+      → option_or (mixed_fault xs) (segment_overlap_fault xs) ≡ o → elf_fault cpu elf ≡ o
   behind-count laid some few o is =
       behind-placed laid o
-      (ap (λ h. option_or h (option_or (mixed_fault xs) (overlap_fault xs))) (count-none xs some few) ∙ is)
+      (ap (λ h. option_or h (option_or (mixed_fault xs) (segment_overlap_fault xs))) (count-none xs some few) ∙ is)
 
-  behind-mixed : IsTogether cpu elf → (o : Option ElfFault) → overlap_fault xs ≡ o → elf_fault cpu elf ≡ o
+  behind-mixed : IsTogether cpu elf → (o : Option ElfFault) → segment_overlap_fault xs ≡ o → elf_fault cpu elf ≡ o
   behind-mixed t o is =
       behind-count t.laid t.some t.few o
-      (ap (λ h. option_or h (overlap_fault xs)) (together-none xs (somewhere t.laid.placed) t.together) ∙ is)
+      (ap (λ h. option_or h (segment_overlap_fault xs)) (together-none xs (somewhere t.laid.placed) t.together) ∙ is)
 
   mixed-some_there : (s : OneSegment) → (ys : List OneSegment) → IsFirstMixed ys s → ys ≢ []
   mixed-some_there s [] is = absurd is
@@ -446,24 +454,24 @@ module _ (cpu : Cpu) (elf : List ℕ) where
       ap (λ h. option_or h (segments_fault size xs)) (head-is-headers cpu elf is.0 is.1 is.2 is.3)
   elf-fault-is (Segment i) is =
       behind-head is.0 (Some (Segment i))
-      (ap (λ h. option_or h (option_or (count_fault xs) (option_or (mixed_fault xs) (overlap_fault xs))))
+      (ap (λ h. option_or h (option_or (count_fault xs) (option_or (mixed_fault xs) (segment_overlap_fault xs))))
       (placed-first size xs is.1.0 is.1.1)
       ∙ ap (λ k. Some (Segment k)) (sym is.1.2))
   elf-fault-is Empty is =
       behind-placed is.0 (Some Empty)
-      (ap (λ h. option_or h (option_or (mixed_fault xs) (overlap_fault xs)))
+      (ap (λ h. option_or h (option_or (mixed_fault xs) (segment_overlap_fault xs)))
       (count-is xs true (nat_lt 29 (length xs))
       (eq-eqb (length xs) 0 (ap (λ (ys : List OneSegment). length ys) is.1)) refl))
   elf-fault-is (TooMany n) is =
       behind-placed is.0 (Some (TooMany n))
-      (ap (λ h. option_or h (option_or (mixed_fault xs) (overlap_fault xs)))
+      (ap (λ h. option_or h (option_or (mixed_fault xs) (segment_overlap_fault xs)))
       (count-is xs false true
       (ne_eqb (length xs) 0 (λ none. omega (arith, none, is.1, is.2)))
       (lt-ltb 29 (length xs) (omega (arith, is.1, is.2))))
       ∙ ap (λ k. Some (TooMany k)) (sym is.2))
   elf-fault-is (Mixed i) is =
       behind-count is.0 (mixed-some_there is.2.0 xs is.2.1) is.1 (Some (Mixed i))
-      (ap (λ h. option_or h (overlap_fault xs)) (mixed-first xs is.2.0 (somewhere is.0.placed) is.2.1)
+      (ap (λ h. option_or h (segment_overlap_fault xs)) (mixed-first xs is.2.0 (somewhere is.0.placed) is.2.1)
       ∙ ap (λ k. Some (Mixed k)) (sym is.2.2))
   elf-fault-is (Overlap i j) is =
       behind-mixed is.0 (Some (Overlap i j))

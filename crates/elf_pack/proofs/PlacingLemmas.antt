@@ -9,7 +9,7 @@ use Rattle.std.proofs.lemmas.List.FromFn.{get_or-map-range_with_len, length-map-
 use Rattle.pico_board.specs.Content.{flash_base}
 use Rattle.elf_pack.specs.declared.segment.Segment.{Segment}
 use Rattle.elf_pack.specs.Binaries.{FitsIn, byte_in, flash_bytes}
-use Rattle.elf_pack.specs.Segments.{byte_of, holds, segment_bytes}
+use Rattle.elf_pack.specs.Segments.{byte_of, segment_has_address, segment_bytes}
 
 abbrev byte_or_erased : List ℕ → List Segment → ℕ → ℕ
 byte_or_erased elf xs k = unwrap_or (byte_in elf xs (flash_base + k)) 255
@@ -24,11 +24,11 @@ unfolding flash_bytes
 flash-at elf xs n k lt = get_or-map-range_with_len (byte_or_erased elf xs) 0 n k k 0 lt (omega arith)
 
 -- the byte at an address of the last segment, and at another one
-pub byte-here : (elf : List ℕ) (xs : List Segment) (s : Segment) (a : ℕ) → holds a s ≡ true
+pub byte-here : (elf : List ℕ) (xs : List Segment) (s : Segment) (a : ℕ) → segment_has_address a s ≡ true
     → byte_in elf (xs ++ s ∷ []) a ≡ Some (byte_of elf a s)
 byte-here elf xs s a is = rw (reverse-append xs (s ∷ [])) (rw is refl)
 
-pub byte-elsewhere : (elf : List ℕ) (xs : List Segment) (s : Segment) (a : ℕ) → holds a s ≡ false
+pub byte-elsewhere : (elf : List ℕ) (xs : List Segment) (s : Segment) (a : ℕ) → segment_has_address a s ≡ false
     → byte_in elf (xs ++ s ∷ []) a ≡ byte_in elf xs a
 byte-elsewhere elf xs s a is = rw (reverse-append xs (s ∷ [])) (rw is refl)
 
@@ -70,7 +70,7 @@ module _ (elf : List ℕ) (xs : List Segment) (n : ℕ) (s : Segment) (placed : 
   room : from + length part ≤ length old
   room = omega (arith, long, length-flash elf xs n, placed.1, placed.2)
 
-  outside : (k : ℕ) → (k < from) ⊎ (from + s.size ≤ k) → holds (flash_base + k) s ≡ false
+  outside : (k : ℕ) → (k < from) ⊎ (from + s.size ≤ k) → segment_has_address (flash_base + k) s ≡ false
   outside k out = not-held s.address s.size (flash_base + k) (elim out [
     | inl lt ↦ inl (omega (arith, lt, placed.1))
     | inr le ↦ inr (omega (arith, le, placed.1))
@@ -79,7 +79,7 @@ module _ (elf : List ℕ) (xs : List Segment) (n : ℕ) (s : Segment) (placed : 
       not-held : (a m x : ℕ) → (x < a) ⊎ (a + m ≤ x) → (nat_le a x && nat_lt x (a + m)) ≡ false
       not-held a m x out = grind (arith, nat_tests, out)
 
-  inside : (k : ℕ) → from ≤ k → k < from + s.size → holds (flash_base + k) s ≡ true
+  inside : (k : ℕ) → from ≤ k → k < from + s.size → segment_has_address (flash_base + k) s ≡ true
   inside k le lt = held s.address s.size (flash_base + k) (omega (arith, le, placed.1)) (omega (arith, lt, placed.1))
     where
       held : (a m x : ℕ) → a ≤ x → x < a + m → (nat_le a x && nat_lt x (a + m)) ≡ true

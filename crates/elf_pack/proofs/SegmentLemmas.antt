@@ -8,10 +8,10 @@ use Rattle.std.proofs.lemmas.Option.{same_Some, none-some}
 use Rattle.load_map.specs.declared.addresses.TheConstants.{SRAM_END, SRAM_START}
 use Rattle.pico_board.specs.Content.{flash_base}
 use Rattle.elf_pack.specs.declared.segment.Segment.{Segment}
-use Rattle.elf_pack.specs.Faults.{AreTogether, IsInFlash, IsInSram, IsPlaced, Share}
-use Rattle.elf_pack.specs.Judging.{are_mixed, do_overlap, is_misplaced}
+use Rattle.elf_pack.specs.Faults.{AreTogether, IsInFlash, IsInSram, IsPlacedSegment, Share}
+use Rattle.elf_pack.specs.Judging.{are_mixed, do_overlap, is_misplaced_segment}
 use Rattle.elf_pack.specs.Fields.{header_count, word_at}
-use Rattle.elf_pack.specs.Segments.{flash_end, header_at, is_in_flash, is_in_sram, is_segment, segment_at, segment_of, segments}
+use Rattle.elf_pack.specs.Segments.{flash_end, header_at, is_segment_in_flash, is_in_sram, is_segment, segment_at, segment_of, segments}
 use Rattle.elf_pack.proofs.ListLemmas.{all-made}
 
 -- a segment has a byte at least
@@ -41,13 +41,13 @@ range-test a b low high is = (grind (arith, nat_tests, common_steps), grind (ari
 range-true : (a b low high : ℕ) → low ≤ a → b ≤ high → (nat_le low a && nat_le b high) ≡ true
 range-true a b low high from to = rw (le-leb low a from, le-leb b high to) refl
 
-pub in-flash : (s : Segment) → is_in_flash s ≡ true → IsInFlash s
+pub in-flash : (s : Segment) → is_segment_in_flash s ≡ true → IsInFlash s
 in-flash s is = range-test s.address (s.address + s.size) flash_base flash_end is
 
 pub in-sram : (s : Segment) → is_in_sram s ≡ true → IsInSram s
 in-sram s is = range-test s.address (s.address + s.size) SRAM_START SRAM_END is
 
-pub flash-is : (s : Segment) → IsInFlash s → is_in_flash s ≡ true
+pub flash-is : (s : Segment) → IsInFlash s → is_segment_in_flash s ≡ true
 flash-is s is = range-true s.address (s.address + s.size) flash_base flash_end is.0 is.1
 
 pub sram-is : (s : Segment) → IsInSram s → is_in_sram s ≡ true
@@ -56,7 +56,7 @@ sram-is s is = range-true s.address (s.address + s.size) SRAM_START SRAM_END is.
 pub not-both : (s : Segment) → IsInFlash s → IsInSram s → ⊥
 not-both s flash sram = omega (arith, flash.1, sram.0)
 
-pub sram-no_flash : (s : Segment) → IsInSram s → (t : Bool) → is_in_flash s ≡ t → is_in_flash s ≡ false
+pub sram-no_flash : (s : Segment) → IsInSram s → (t : Bool) → is_segment_in_flash s ≡ t → is_segment_in_flash s ≡ false
 sram-no_flash s sram true e = absurd (not-both s (in-flash s e) sram)
 sram-no_flash s sram false e = e
 
@@ -71,20 +71,20 @@ le-true : (a b : ℕ) → nat_le a b ≡ true → a ≤ b
 le-true a b is = grind (arith, nat_tests)
 
 module _ (n : ℕ) where
-  pub placed-right : (s : Segment) → is_misplaced n s ≡ false → IsPlaced n s
+  pub placed-right : (s : Segment) → is_misplaced_segment n s ≡ false → IsPlacedSegment n s
   placed-right s is =
-      let t = placed-test (nat_le (s.offset + s.size) n) (is_in_flash s) (is_in_sram s) is in (
+      let t = placed-test (nat_le (s.offset + s.size) n) (is_segment_in_flash s) (is_in_sram s) is in (
         le-true (s.offset + s.size) n t.0,
         elim t.1 [ inl flash ↦ inl (in-flash s flash) | inr sram ↦ inr (in-sram s sram) ],
       )
 
-  pub placed-wrong : (s : Segment) → is_misplaced n s ≡ true → IsPlaced n s → ⊥
+  pub placed-wrong : (s : Segment) → is_misplaced_segment n s ≡ true → IsPlacedSegment n s → ⊥
   placed-wrong s is placed =
       elim placed.1 [
         | inl flash ↦ true≢false (sym is ∙ rw (le-leb (s.offset + s.size) n placed.0, flash-is s flash) refl)
         | inr sram ↦
             true≢false
-            (sym is ∙ rw (le-leb (s.offset + s.size) n placed.0, sram-is s sram) (all-in (is_in_flash s)))
+            (sym is ∙ rw (le-leb (s.offset + s.size) n placed.0, sram-is s sram) (all-in (is_segment_in_flash s)))
       ]
     where
       all-in : (f : Bool) → not (true && (f || true)) ≡ false
@@ -96,7 +96,8 @@ abbrev pub IsSomewhere : Segment → Type 0
 IsSomewhere s = IsInFlash s ⊎ IsInSram s
 
 module _ (first : Segment) (somewhere : IsSomewhere first) where
-  together-right-by : (s : Segment) → IsSomewhere s → (f g : Bool) → is_in_flash first ≡ f → is_in_flash s ≡ g
+  together-right-by : (s : Segment) → IsSomewhere s → (f g : Bool) → is_segment_in_flash first ≡ f
+      → is_segment_in_flash s ≡ g
       → (if f then not g else g) ≡ false → AreTogether first s
   together-right-by s here true true e h is = inl (in-flash first e, in-flash s h)
   together-right-by s here true false e h is = absurd (true≢false is)
@@ -110,14 +111,18 @@ module _ (first : Segment) (somewhere : IsSomewhere first) where
   ]
 
   pub together-right : (s : Segment) → IsSomewhere s → are_mixed first s ≡ false → AreTogether first s
-  together-right s here is = together-right-by s here (is_in_flash first) (is_in_flash s) refl refl is
+  together-right s here is = together-right-by s here (is_segment_in_flash first) (is_segment_in_flash s) refl refl is
 
   pub together-wrong : (s : Segment) → IsSomewhere s → are_mixed first s ≡ true → AreTogether first s → ⊥
   together-wrong s here is (inl both) =
       true≢false (sym is ∙ rw (flash-is first both.0, flash-is s both.1) refl)
   together-wrong s here is (inr both) =
       true≢false (sym is
-      ∙ rw (sram-no_flash first both.0 (is_in_flash first) refl, sram-no_flash s both.1 (is_in_flash s) refl) refl)
+      ∙ rw (
+        sram-no_flash first both.0 (is_segment_in_flash first) refl,
+        sram-no_flash s both.1
+            (is_segment_in_flash s) refl,
+      ) refl)
 
 -- where two segments overlap
 over-true : (a b m n : ℕ) → (nat_lt a (b + n) && nat_lt b (a + m)) ≡ true → (a < b + n) × (b < a + m)

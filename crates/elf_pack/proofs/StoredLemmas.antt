@@ -50,7 +50,7 @@ module _ (elf : List ℕ) where
       (omega (arith, lt, long_segment s inside))
       ∙ get_or-between elf s.offset (s.offset + s.size) k 0 (omega (arith, lt))
 
-  -- all of them, one behind the other
+  -- the bytes of all segments in whole words, one behind the other
   abbrev pub all_stored : List Segment → List ℕ
   all_stored xs = flat_map (stored elf) xs
 
@@ -95,7 +95,7 @@ module _ (elf : List ℕ) where
             ∙ get_or-append-add (stored elf y) (all_stored ys) (r.x - (at + round_up 4 y.size) + k) 0 ∙ r.gives k lt;
       }
 
-  -- their loads can be read back, by entries of an item that stands before or behind them
+  -- the loads of stored segments can be read back, by entries of an item that stands before or behind their bytes
   pub all-readable : (xs : List Segment) (at place n : ℕ) → AllByRecursion (IsInside (length elf)) xs
       → (place < at) ⊎ (at + length (all_stored xs) < place) → at + length (all_stored xs) ≤ n → n ≤ 2 ^ 30
       → AllByRecursion (IsReadable place n) (loads_from at xs)
@@ -197,7 +197,7 @@ module _ (cpu : Cpu) (entry : ℕ) (xs : List Segment) (few : length xs ≤ 29) 
     fits = omega arith;
   }
 
-  -- it stands at the front of each list that begins with its bytes
+  -- the block stands at the front of each list that begins with its bytes
   pub block-stands : (rest : List ℕ)
       → BlockAt (bytes_of (frame (sram_items cpu entry xs) (pos 0)) ++ rest) 0 (block cpu entry xs few)
   block-stands rest =

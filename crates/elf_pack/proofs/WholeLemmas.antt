@@ -15,7 +15,7 @@ use Rattle.image_def.specs.Definition.{def_of}
 use Rattle.load_map.specs.declared.addresses.TheConstants.{SRAM_START}
 use Rattle.load_map.specs.declared.load.Load.{Load}
 use Rattle.load_map.specs.Addresses.{in_sram}
-use Rattle.load_map.specs.Given.{byte_at, holds as load_holds}
+use Rattle.load_map.specs.Given.{byte_at, load_has_address as load_holds}
 use Rattle.load_map.proofs.GivenLaws.{byte-stored, byte-window}
 use Rattle.image_check.specs.Addressing.{in_flash}
 use Rattle.image_check.specs.Changes.{moved_to}
@@ -288,7 +288,7 @@ entry-fits elf long bytes = little_from-lt 0 4 (slice_range elf 24 28) each
           (sym (get_or_past (slice_range elf 24 28) k 0 (omega (arith, le, four)))) (omega arith)
     ]
 
--- so of each answer
+-- of each answer, the sealed image of an ELF file is whole
 pub whole-told : {T : Type 0} (elf : List ℕ) (spec : SealSpec) (r : Result T ElfFault)
     → OnOk r (HasBinary spec.cpu elf) → OnOk r (IsSealed (elf_binary spec.cpu elf) spec) → IsHalves spec.version
     → ((k : ℕ) → get_or elf k 0 < 256) → OnOk r (IsElfWhole elf spec)

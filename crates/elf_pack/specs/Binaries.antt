@@ -16,12 +16,13 @@ use Rattle.image_pack.specs.Filling.{padded, round_up, whole_words}
 use Rattle.image_pack.specs.Sealing.{image_type_word, load_map_item}
 use Rattle.elf_pack.specs.declared.segment.Segment.{Segment}
 use Rattle.elf_pack.specs.Fields.{entry_address}
-use Rattle.elf_pack.specs.Segments.{byte_of, holds, is_in_flash, segment_bytes, segments}
+use Rattle.elf_pack.specs.Segments.{byte_of, segment_has_address, is_segment_in_flash, segment_bytes, segments}
 
 -- the byte of the segments at an address, which no two of them share: that of the last one that
 -- holds it, and none where none does
 abbrev pub byte_in : List ℕ → List Segment → ℕ → Option ℕ
-byte_in elf xs address = option_map (byte_of elf address) (find (holds address) (reverse xs))
+byte_in elf xs address = option_map (byte_of elf address)
+    (find (segment_has_address address) (reverse xs))
 
 -- the greatest end of the segments; that of none is the first address of flash
 abbrev pub greatest_end : List Segment → ℕ
@@ -77,7 +78,7 @@ sram_binary cpu elf xs =
 -- whether the first segment lies in flash; in a file with a binary all then do
 abbrev pub are_in_flash : List Segment → Bool
 are_in_flash [] = false
-are_in_flash (s ∷ xs) = is_in_flash s
+are_in_flash (s ∷ xs) = is_segment_in_flash s
 
 -- the binary of an ELF file without a fault
 unfoldable pub elf_binary : Cpu → List ℕ → List ℕ

@@ -1,4 +1,4 @@
--- ELF files and segments that stand as worked examples. This project's own.
+-- ELF files and segments that stand as worked examples.
 use Rattle.std.specs.Prelude.{ℕ, ◌+◌, ◌*◌, List, [], ◌∷◌, ◌++◌, replicate}
 use Rattle.block_codec.specs.Words.{bytes_of}
 use Rattle.elf_pack.specs.declared.segment.Segment.{Segment}
@@ -18,8 +18,8 @@ header_of kind offset address size =
     bytes_of (kind ∷ offset ∷ 7 ∷ address ∷ size ∷ 9 ∷ 0 ∷ 0 ∷ [])
 
 -- a file for Arm with program headers, and bytes behind them
-abbrev pub file_of : ℕ → List ℕ → List ℕ → List ℕ
-file_of count headers bytes = head 2 40 32 count ++ (headers ++ bytes)
+abbrev pub arm_elf_file : ℕ → List ℕ → List ℕ → List ℕ
+arm_elf_file count headers bytes = head 2 40 32 count ++ (headers ++ bytes)
 
 -- a segment of this offset, address and size, of program header 7
 abbrev pub one_at : ℕ → ℕ → ℕ → Segment

@@ -1,5 +1,4 @@
 -- Why an ELF file is refused: the first of these conditions, in the order of the fault's variants.
--- This project's own.
 use Rattle.std.specs.Prelude.{◌≡◌, ◌≢◌, ◌⊎◌, ℕ, ◌+◌, ◌*◌, ◌<◌, ◌≤◌, List, [], ◌∷◌, ◌++◌, length, take}
 use Rattle.std.specs.List.{AllByRecursion}
 use Rattle.load_map.specs.declared.addresses.TheConstants.{SRAM_END, SRAM_START}
@@ -42,11 +41,11 @@ IsInFlash s = (flash_base ≤ s.address) × (s.address + s.size ≤ flash_end)
 abbrev pub IsInSram : OneSegment → Type 0
 IsInSram s = (SRAM_START ≤ s.address) × (s.address + s.size ≤ SRAM_END)
 
--- its bytes lie in a file of n bytes, and its addresses in flash or in SRAM
-abbrev pub IsPlaced : ℕ → OneSegment → Type 0
-IsPlaced n s = (s.offset + s.size ≤ n) × (IsInFlash s ⊎ IsInSram s)
+-- a segment's bytes lie in a file of n bytes, and its addresses in flash or in SRAM
+abbrev pub IsPlacedSegment : ℕ → OneSegment → Type 0
+IsPlacedSegment n s = (s.offset + s.size ≤ n) × (IsInFlash s ⊎ IsInSram s)
 
--- both lie in flash, or both in SRAM
+-- two segments both lie in flash, or both in SRAM
 abbrev pub AreTogether : OneSegment → OneSegment → Type 0
 AreTogether s t = (IsInFlash s × IsInFlash t) ⊎ (IsInSram s × IsInSram t)
 
@@ -54,7 +53,7 @@ AreTogether s t = (IsInFlash s × IsInFlash t) ⊎ (IsInSram s × IsInSram t)
 abbrev pub HasAddress : ℕ → OneSegment → Type 0
 HasAddress address s = (s.address ≤ address) × (address < s.address + s.size)
 
--- the two have an address in common
+-- two segments have an address in common
 abbrev pub Share : OneSegment → OneSegment → Type 0
 Share s t = (address : ℕ) × HasAddress address s × HasAddress address t
 
@@ -84,7 +83,7 @@ abbrev pub AreAllTogether : List OneSegment → Type 0
 AreAllTogether [] = Unit {0}
 AreAllTogether (s ∷ xs) = AllByRecursion (AreTogether s) xs
 
--- the first one that does not
+-- the first segment that does not lie where the first one of all does, in flash or in SRAM
 abbrev pub IsFirstMixed : List OneSegment → OneSegment → Type 0
 IsFirstMixed [] t = ⊥
 IsFirstMixed (s ∷ xs) t = IsFirstNot (AreTogether s) xs t
@@ -92,7 +91,7 @@ IsFirstMixed (s ∷ xs) t = IsFirstNot (AreTogether s) xs t
 -- the header is right, and each segment lies in the file and in flash or SRAM
 pub record IsLaidOut (cpu : Cpu) (elf : List ℕ) : Type 0 where
   pub head : IsRightHead cpu elf
-  pub placed : AllByRecursion (IsPlaced (length elf)) (segments elf)
+  pub placed : AllByRecursion (IsPlacedSegment (length elf)) (segments elf)
 
 -- besides there are 1 to 29 segments, all in flash or all in SRAM
 pub record IsTogether (cpu : Cpu) (elf : List ℕ) : Type 0 where
@@ -118,7 +117,8 @@ IsElfFault cpu elf Headers =
     × (AreHeadersInside elf → ⊥)
 IsElfFault cpu elf (Segment i) =
     IsRightHead cpu elf
-    × ((s : OneSegment) × IsFirstNot (IsPlaced (length elf)) (segments elf) s × (i ≡ s.number))
+    × ((s : OneSegment) × IsFirstNot (IsPlacedSegment (length elf)) (segments elf) s
+    × (i ≡ s.number))
 IsElfFault cpu elf Empty = IsLaidOut cpu elf × (segments elf ≡ [])
 IsElfFault cpu elf (TooMany n) =
     IsLaidOut cpu elf × (29 < n) × (n ≡ length (segments elf))

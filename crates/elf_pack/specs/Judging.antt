@@ -1,5 +1,4 @@
 -- The first fault of an ELF file as a function, which judges in the order of the fault's variants.
--- This project's own.
 use Rattle.std.specs.Prelude.{ℕ, ◌+◌, ◌*◌, ◌==◌, ◌&&◌, ◌||◌, not, nat_le, nat_lt, Bool, if◌then◌else◌, List, [], ◌∷◌, length, take, find, bytes_eq, Option, Some, None}
 use Rattle.std.specs.Option.{option_map, option_or}
 use Rattle.pico_board.specs.declared.boot.Cpu.{Cpu}
@@ -7,7 +6,7 @@ use Rattle.elf_pack.specs.declared.fault.ElfFault.{ElfFault}
 use Rattle.elf_pack.specs.declared.fault.ElfFault.TheVariants.{NotElf, FileType, Processor, Headers, Segment, Empty, TooMany, Mixed, Overlap}
 use Rattle.elf_pack.specs.declared.segment.Segment.{Segment as OneSegment}
 use Rattle.elf_pack.specs.Fields.{file_type, header_count, header_size, headers_at, identification, machine, machine_of}
-use Rattle.elf_pack.specs.Segments.{is_in_flash, is_in_sram, segments}
+use Rattle.elf_pack.specs.Segments.{is_segment_in_flash, is_in_sram, segments}
 
 -- the file has an ELF header of 52 bytes, and begins with the identification
 abbrev pub is_elf : List ℕ → Bool
@@ -29,12 +28,14 @@ head_fault cpu elf =
 
 -- the bytes of a segment leave a file of n bytes, or it lies neither wholly in flash nor wholly in
 -- SRAM
-abbrev pub is_misplaced : ℕ → OneSegment → Bool
-is_misplaced n s = not (nat_le (s.offset + s.size) n && (is_in_flash s || is_in_sram s))
+abbrev pub is_misplaced_segment : ℕ → OneSegment → Bool
+is_misplaced_segment n s = not (nat_le (s.offset + s.size) n
+    && (is_segment_in_flash s || is_in_sram s))
 
 -- the least misplaced segment of a file of n bytes
 unfoldable pub misplaced_fault : ℕ → List OneSegment → Option ElfFault
-misplaced_fault n xs = option_map (λ (s : OneSegment). Segment s.number) (find (is_misplaced n) xs)
+misplaced_fault n xs = option_map (λ (s : OneSegment). Segment s.number)
+    (find (is_misplaced_segment n) xs)
 
 -- there is no segment, or there are more than 29
 unfoldable pub count_fault : List OneSegment → Option ElfFault
@@ -44,7 +45,8 @@ count_fault xs =
 
 -- one of two segments lies in flash, and the other does not
 abbrev pub are_mixed : OneSegment → OneSegment → Bool
-are_mixed first s = if is_in_flash first then not (is_in_flash s) else is_in_flash s
+are_mixed first s = if is_segment_in_flash first then not
+    (is_segment_in_flash s) else is_segment_in_flash s
 
 -- the least segment that does not lie where the first one does
 unfoldable pub mixed_fault : List OneSegment → Option ElfFault
@@ -57,18 +59,18 @@ abbrev pub do_overlap : OneSegment → OneSegment → Bool
 do_overlap s t = nat_lt s.address (t.address + t.size) && nat_lt t.address (s.address + s.size)
 
 -- the least segment that shares an address with a later one, and the least such one
-unfoldable pub overlap_fault : List OneSegment → Option ElfFault
-overlap_fault [] = None
-overlap_fault (s ∷ rest) =
+unfoldable pub segment_overlap_fault : List OneSegment → Option ElfFault
+segment_overlap_fault [] = None
+segment_overlap_fault (s ∷ rest) =
     option_or
     (option_map (λ (t : OneSegment). Overlap s.number t.number) (find (do_overlap s) rest))
-    (overlap_fault rest)
+    (segment_overlap_fault rest)
 
 -- the first fault of the segments of a file of n bytes
 unfoldable pub segments_fault : ℕ → List OneSegment → Option ElfFault
 segments_fault n xs =
     option_or (misplaced_fault n xs)
-    (option_or (count_fault xs) (option_or (mixed_fault xs) (overlap_fault xs)))
+    (option_or (count_fault xs) (option_or (mixed_fault xs) (segment_overlap_fault xs)))
 
 -- the first fault of an ELF file for a processor
 abbrev pub elf_fault : Cpu → List ℕ → Option ElfFault

@@ -41,8 +41,8 @@ abbrev pub segment_bytes : List ℕ → Segment → List ℕ
 segment_bytes elf s = slice_range elf s.offset (s.offset + s.size)
 
 -- the segment has a byte at this address
-abbrev pub holds : ℕ → Segment → Bool
-holds address s = nat_le s.address address && nat_lt address (s.address + s.size)
+abbrev pub segment_has_address : ℕ → Segment → Bool
+segment_has_address address s = nat_le s.address address && nat_lt address (s.address + s.size)
 
 -- the segment's byte at an address that it holds
 abbrev pub byte_of : List ℕ → ℕ → Segment → ℕ
@@ -53,9 +53,9 @@ abbrev pub flash_end : ℕ
 flash_end = flash_base + MOST_FLASH_BYTES
 
 -- the segment lies wholly in the addresses of flash
-abbrev pub is_in_flash : Segment → Bool
-is_in_flash s = nat_le flash_base s.address && nat_le (s.address + s.size) flash_end
+abbrev pub is_segment_in_flash : Segment → Bool
+is_segment_in_flash s = nat_le flash_base s.address && nat_le (s.address + s.size) flash_end
 
--- it lies wholly in SRAM
+-- the segment lies wholly in SRAM
 abbrev pub is_in_sram : Segment → Bool
 is_in_sram s = in_sram s.address s.size

@@ -1,5 +1,5 @@
 -- What the sealed image of an ELF file is to the board: it starts, and it gives the bytes of the
--- file's segments. This project's own.
+-- file's segments.
 use Rattle.std.specs.Prelude.{◌≡◌, ℕ, ◌+◌, ◌<◌, ◌≤◌, true, List, ◌++◌, length, slice_get, Some, Ok}
 use Rattle.pico_board.specs.declared.window.Window.{Window}
 use Rattle.pico_board.specs.Content.{Content, flash_base, window_bytes}

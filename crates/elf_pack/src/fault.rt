@@ -12,10 +12,10 @@ pub enum ElfFault {
     /// have the lowest byte first.
     #[error("this is no 32-bit ELF file with the lowest byte first")]
     NotElf,
-    /// It is no executable file.
+    /// The file is no executable file.
     #[error("the ELF file is not executable")]
     FileType,
-    /// It is for another processor.
+    /// The file is for another processor.
     #[error("the ELF file is for another processor")]
     Processor,
     /// There are program headers, and they have not 32 bytes each or leave the file.
@@ -35,8 +35,8 @@ pub enum ElfFault {
     /// segment.
     #[error("segment {0} lies in another memory than the first one")]
     Mixed(u32),
-    /// These segments share an address: the least one that shares an address with a later one, and
-    /// the least such one.
+    /// Two segments share an address: the least one that shares an address with a later one, and
+    /// the least such later one.
     #[error("segments {0} and {1} overlap")]
     Overlap(u32, u32),
     /// The binary of the file is not sealed, for another cause than memory.

@@ -3,11 +3,11 @@
 ghost use Rattle.std.specs.Prelude.{◌≡◌, ◌≤◌, ◌<◌, ◌^◌, length, find, option_map};
 ghost use Rattle.elf_pack.specs.declared.segment.Segment.{Segment};
 ghost use Rattle.elf_pack.specs.Fields.{machine_of};
-ghost use Rattle.elf_pack.specs.Judging.{are_headers_inside, are_mixed, count_fault, do_overlap, head_fault, is_elf, is_misplaced, misplaced_fault, mixed_fault, overlap_fault, segments_fault};
+ghost use Rattle.elf_pack.specs.Judging.{are_headers_inside, are_mixed, count_fault, do_overlap, head_fault, is_elf, is_misplaced_segment, misplaced_fault, mixed_fault, segment_overlap_fault, segments_fault};
 
 use crate::fault::ElfFault;
 use crate::fields::{half_at, word_at};
-use crate::segment::{HEADER, Segment, is_in_flash, is_in_sram};
+use crate::segment::{HEADER, Segment, is_in_sram, is_segment_in_flash};
 use pico_board::Cpu;
 
 /// How a 32-bit ELF file with the lowest byte first begins.
@@ -68,20 +68,20 @@ pub(crate) fn head_fault(elf: &[u8], cpu: Cpu) -> Option<ElfFault>
 }
 
 /// Whether a segment leaves a file of this length, or lies neither in flash nor in SRAM.
-fn is_misplaced(len: usize, segment: &Segment) -> bool
-    ensures { result ≡ is_misplaced len segment.now }
+fn is_misplaced_segment(len: usize, segment: &Segment) -> bool
+    ensures { result ≡ is_misplaced_segment len segment.now }
 {
     let end = u64::from(segment.offset) + u64::from(segment.size);
-    !(end <= len as u64 && (is_in_flash(segment) || is_in_sram(segment)))
+    !(end <= len as u64 && (is_segment_in_flash(segment) || is_in_sram(segment)))
 }
 
 /// The first misplaced segment.
 fn first_misplaced(len: usize, segments: &[Segment]) -> Option<u32>
     ensures { result
-        ≡ option_map (λ (s : Segment). s.number) (find (is_misplaced len) segments.now) }
+        ≡ option_map (λ (s : Segment). s.number) (find (is_misplaced_segment len) segments.now) }
 {
     for segment in segments {
-        if is_misplaced(len, segment) {
+        if is_misplaced_segment(len, segment) {
             return Some(segment.number);
         }
     }
@@ -118,10 +118,10 @@ fn count_fault(segments: &[Segment]) -> Option<ElfFault>
 fn are_mixed(first: &Segment, segment: &Segment) -> bool
     ensures { result ≡ are_mixed first.now segment.now }
 {
-    if is_in_flash(first) {
-        !is_in_flash(segment)
+    if is_segment_in_flash(first) {
+        !is_segment_in_flash(segment)
     } else {
-        is_in_flash(segment)
+        is_segment_in_flash(segment)
     }
 }
 
@@ -175,15 +175,15 @@ fn first_over(one: &Segment, segments: &[Segment]) -> Option<u32>
 }
 
 /// The fault of segments that share an address.
-#[tactic(auto, unfolding(crate::specs::Judging::overlap_fault))]
-fn overlap_fault(segments: &[Segment]) -> Option<ElfFault>
-    ensures { result ≡ overlap_fault segments.now }
+#[tactic(auto, unfolding(crate::specs::Judging::segment_overlap_fault))]
+fn segment_overlap_fault(segments: &[Segment]) -> Option<ElfFault>
+    ensures { result ≡ segment_overlap_fault segments.now }
 {
     match segments {
         [] => None,
         [first, rest @ ..] => match first_over(first, rest) {
             Some(number) => Some(ElfFault::Overlap(first.number, number)),
-            None => overlap_fault(rest),
+            None => segment_overlap_fault(rest),
         },
     }
 }
@@ -202,6 +202,6 @@ pub(crate) fn segments_fault(len: usize, segments: &[Segment]) -> Option<ElfFaul
     }
     match mixed_fault(segments) {
         Some(fault) => Some(fault),
-        None => overlap_fault(segments),
+        None => segment_overlap_fault(segments),
     }
 }

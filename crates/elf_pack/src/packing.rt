@@ -16,7 +16,7 @@ use crate::fault::ElfFault;
 use crate::fields::word_at;
 use crate::judging::{head_fault, segments_fault};
 use crate::placing::flash_binary;
-use crate::segment::{Segment, is_in_flash, segments};
+use crate::segment::{Segment, is_segment_in_flash, segments};
 use crate::storing::sram_binary;
 use image_pack::{SealError, SealSpec, seal};
 use pico_board::Cpu;
@@ -48,7 +48,7 @@ fn are_in_flash(segments: &[Segment]) -> bool
 {
     match segments {
         [] => false,
-        [first, ..] => is_in_flash(first),
+        [first, ..] => is_segment_in_flash(first),
     }
 }
 
@@ -85,7 +85,8 @@ fn made_binary(alloc: Global, elf: &[u8], cpu: Cpu) -> Result<Vec<u8>, ElfFault>
     }
 }
 
-/// The same, with each fault told exactly where its condition holds.
+/// The binary of a file, or its first fault, with each fault told exactly where its condition
+/// holds.
 fn whole_binary(alloc: Global, elf: &[u8], cpu: Cpu) -> Result<Vec<u8>, ElfFault>
     ensures value { IfOk result (λ binary. binary.items ≡ elf_binary cpu elf.now) }
     ensures small { IfOk result (λ binary. length binary.items ≤ MOST_FLASH_BYTES) }

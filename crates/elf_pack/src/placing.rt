@@ -9,11 +9,8 @@ ghost use Rattle.elf_pack.specs.Faults.{IsInFlash};
 ghost use Rattle.elf_pack.specs.Segments.{flash_end, segment_bytes};
 
 use crate::segment::Segment;
-use pico_board::FLASH_BASE;
+use pico_board::{ERASED, FLASH_BASE};
 use std::alloc::{AllocError, Global};
-
-/// The byte of erased flash.
-const ERASED: u8 = 0xff;
 
 /// The greatest end of segments in flash; that of none is the first address of flash.
 fn greatest_end(segments: &[Segment]) -> u32

@@ -2,7 +2,7 @@
 
 ghost use Rattle.std.specs.Prelude.{◌≡◌, ◌⊎◌, ◌+◌, ◌*◌, ◌≤◌, IfOk, length};
 ghost use Rattle.elf_pack.specs.Fields.{header_count, headers_at};
-ghost use Rattle.elf_pack.specs.Segments.{is_in_flash, is_in_sram, segment_at, segments};
+ghost use Rattle.elf_pack.specs.Segments.{is_segment_in_flash, is_in_sram, segment_at, segments};
 
 use crate::fields::{half_at, word_at};
 use load_map::{SRAM_END, SRAM_START};
@@ -25,9 +25,9 @@ pub(crate) struct Segment {
     pub(crate) number: u32,
     /// The offset in the file of the segment's bytes.
     pub(crate) offset: u32,
-    /// Their physical address.
+    /// The physical address of the segment's bytes.
     pub(crate) address: u32,
-    /// Their number in the file.
+    /// The number of the segment's bytes in the file.
     pub(crate) size: u32,
 }
 
@@ -71,8 +71,8 @@ pub(crate) fn segments(alloc: Global, elf: &[u8]) -> Result<Vec<Segment>, AllocE
 }
 
 /// Whether a segment lies wholly in the addresses of flash.
-pub(crate) fn is_in_flash(segment: &Segment) -> bool
-    ensures { result ≡ is_in_flash segment.now }
+pub(crate) fn is_segment_in_flash(segment: &Segment) -> bool
+    ensures { result ≡ is_segment_in_flash segment.now }
 {
     let (first, size) = (u64::from(segment.address), u64::from(segment.size));
     u64::from(FLASH_BASE) <= first && first + size <= FLASH_END

@@ -18,7 +18,7 @@ use arrayvec::ArrayVec;
 use block_codec::kinds::{ENTRY_POINT, IMAGE_TYPE, LOAD_MAP};
 use block_codec::{BlockError, write_block};
 use load_map::SRAM_END;
-use pico_board::Cpu;
+use pico_board::{Cpu, ERASED};
 use std::alloc::{AllocError, Global};
 
 /// The offset from which on the segments are stored.
@@ -26,9 +26,6 @@ const STORED_AT: usize = 0x280;
 
 /// The offset of the LOAD_MAP item.
 const MAP_AT: u32 = 20;
-
-/// The byte of erased flash.
-const ERASED: u8 = 0xff;
 
 /// The item words of the block: 4 before the LOAD_MAP item, its header, and 3 for each of at most
 /// 29 segments.

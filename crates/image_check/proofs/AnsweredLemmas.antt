@@ -175,7 +175,7 @@ module _ (cpu : Cpu) (bytes : List ℕ) where
           (ok-and_then (entered_in a cpu bytes v.image) _ v.entry (Ok s) (entered-ok v.image v.entry v.sound)
           (ap Ok (sym v.started)))
 
-      -- and so is the answer of the first rule that fails
+      -- the first rule that fails is what is answered
       pub why-answered : (y : Why) → IsWhyNot a cpu trial otp bytes y → image_in a window cpu trial otp bytes ≡ Err y
       why-answered NoBlock none =
           undefined NoBlock (err-and_then (loop_answer (loop_of bytes)) _ NoBlock

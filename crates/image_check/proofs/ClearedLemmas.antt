@@ -188,7 +188,7 @@ module _ (a : Addressing) (cpu : Cpu) (w v : List ℕ) (image : Defined) (entry 
   room : b.at + block_size b ≤ length w
   room = BlockAt-room w b.at b stands
 
-  -- its header's bytes and word
+  -- the bytes and the word of the IMAGE_TYPE item's header
   byte-there : (i : ℕ) → i < 4 → slice_index w (place_of image + i) < 256
   byte-there i lt =
       let e : b.at + (4 * k + i) ≡ place_of image + i = omega arith in
@@ -399,7 +399,7 @@ module _ (a : Addressing) (cpu : Cpu) (w v : List ℕ) (image : Defined) (entry 
     delta = s.delta;
   }
 
-  -- and the record is the same but for the trial bit
+  -- the record after the trial bit was cleared is the same but for that bit
   pub cleared-record : (window : Window) → started_of window (untried_image image) entry
       ≡ bought (started_of window image entry)
   cleared-record window = rw (same-block.at, not-trial def.flags) refl

@@ -10,7 +10,7 @@ use Rattle.block_codec.specs.declared.definition.EntryPoint.{EntryPoint}
 use Rattle.block_codec.specs.Blocks.{BlockView, block_size}
 use Rattle.load_map.specs.declared.load.Load.{Load}
 use Rattle.load_map.specs.declared.addresses.TheConstants.{SRAM_START, SRAM_END}
-use Rattle.load_map.specs.Given.{byte_at, word_at, word_if_given}
+use Rattle.load_map.specs.Given.{byte_at, given_word, word_if_given}
 use Rattle.image_check.specs.declared.why.EntryFault.{EntryFault}
 use Rattle.image_check.specs.declared.why.EntryFault.TheVariants.{Table, InBlock, Pc}
 use Rattle.image_check.specs.declared.entry.Source.{Source}
@@ -107,7 +107,7 @@ abbrev source_with : ℕ → ℕ → ℕ → Option ℕ → Source
 source_with pc sp limit table = record { entry = record { pc = pc; sp = sp; limit = limit }; table = table }
 
 module _ (base : ℕ) (bytes : List ℕ) (loads : List Load) where
-  missing : (at : ℕ) → word_at base bytes loads at ≡ None
+  missing : (at : ℕ) → given_word base bytes loads at ≡ None
       → (k : ℕ) × (k < 4) × (byte_at base bytes loads (at + k) ≡ None)
   missing at h =
       elim (missing-of (byte_at base bytes loads at) (byte_at base bytes loads (at + 1))
@@ -134,7 +134,7 @@ module _ (base : ℕ) (bytes : List ℕ) (loads : List Load) where
     | inr rest ↦ elim rest [ inl b ↦ cc | inr more ↦ elim more [ inl c ↦ cc | inr d ↦ cc ] ]
   ]
 
-  lacks : (at k : ℕ) → k < 4 → byte_at base bytes loads (at + k) ≡ None → word_at base bytes loads at ≡ None
+  lacks : (at k : ℕ) → k < 4 → byte_at base bytes loads (at + k) ≡ None → given_word base bytes loads at ≡ None
   lacks at zero lt h =
       not-given (byte_at base bytes loads at) _ _ _
       (inl ((let e : at ≡ at + 0 = omega arith in ap (byte_at base bytes loads) e) ∙ h))
@@ -144,8 +144,8 @@ module _ (base : ℕ) (bytes : List ℕ) (loads : List Load) where
   lacks at (suc (suc (suc (suc k)))) lt h = absurd (omega arith)
 
   -- a table that is found has its words, and one that is not lacks a byte
-  tabled-is : (table : ℕ) (sp pc : Option ℕ) → word_at base bytes loads table ≡ sp
-      → word_at base bytes loads (table + 4) ≡ pc
+  tabled-is : (table : ℕ) (sp pc : Option ℕ) → given_word base bytes loads table ≡ sp
+      → given_word base bytes loads (table + 4) ≡ pc
       → (source : Source) → from_words table sp pc ≡ Ok source → IsTabled base bytes loads table source
   tabled-is table None pc first second source h = cc
   tabled-is table (Some sp) None first second source h = cc
@@ -153,8 +153,8 @@ module _ (base : ℕ) (bytes : List ℕ) (loads : List Load) where
       subst (IsTabled base bytes loads table) (same_source (source_with pc sp 0 (Some table)) source h)
       (record { sp = first; pc = second; limit = refl; from = refl })
 
-  fault-is : (table : ℕ) (sp pc : Option ℕ) → word_at base bytes loads table ≡ sp
-      → word_at base bytes loads (table + 4) ≡ pc
+  fault-is : (table : ℕ) (sp pc : Option ℕ) → given_word base bytes loads table ≡ sp
+      → given_word base bytes loads (table + 4) ≡ pc
       → (fault : EntryFault) → from_words table sp pc ≡ Err fault
       → (fault ≡ Table) × ((k : ℕ) × (k < 8) × (byte_at base bytes loads (table + k) ≡ None))
   fault-is table (Some sp) (Some pc) first second fault h = cc
@@ -181,7 +181,7 @@ module _ (base : ℕ) (bytes : List ℕ) (loads : List Load) where
     | inl low ↦ rw (lacks table k low h) refl
     | inr high ↦
         let e : table + k ≡ table + 4 + (k - 4) = omega arith in
-        second (word_at base bytes loads table) (word_at base bytes loads (table + 4))
+        second (given_word base bytes loads table) (given_word base bytes loads (table + 4))
         (lacks (table + 4) (k - 4) (omega arith) (ap (byte_at base bytes loads) (sym e) ∙ h))
   ]
     where
@@ -255,7 +255,7 @@ module _ (base : ℕ) (bytes : List ℕ) (loads : List Load) where
             subst (IsEntryFault base bytes cpu b def loads) (sym is)
             (record { no_item = no_item; processor = arm; place = k; inside = lt; not_given = none })
 
-    -- and the other way round
+    -- an entry that is runnable and lies outside the block is what is judged
     judged-ok : (source : Source) → (MeetsBlock base b source → ⊥) → IsRunnable base (length bytes) source
         → judged_source base (length bytes) b source ≡ Ok source.entry
     judged-ok source apart runs =

@@ -11,13 +11,13 @@ use Rattle.image_check.specs.declared.examining.Defined.{Defined}
 use Rattle.image_check.specs.Addressing.{in_flash}
 use Rattle.image_check.specs.Image.{defined_in, image_in}
 use Rattle.image_check.specs.Rules.{map_answer}
-use Rattle.image_check.specs.SameImage.{AgreeFrom, AgreeOnBlocks, AgreeOnStorage, Holds, HoldSameImage}
+use Rattle.image_check.specs.SameImage.{AgreeFrom, AgreeOnBlocks, AgreeOnStorage, HoldsImage, HoldSameImage}
 use Rattle.image_check.proofs.LawLemmas.{answered-valid}
 use Rattle.image_check.proofs.SameLemmas.{held-loop, pieces-agree, storage-held}
 
 -- an image that is answered is held
 pub answered-held : (cpu : Cpu) (trial : Bool) (otp bytes : List ℕ) (s : Started)
-    → image_in in_flash s.window cpu trial otp bytes ≡ Ok s → Holds cpu bytes s
+    → image_in in_flash s.window cpu trial otp bytes ≡ Ok s → HoldsImage cpu bytes s
 answered-held cpu trial otp bytes s is =
     let v = answered-valid in_flash s.window cpu trial otp bytes s is in
     record { image = v.image; entry = v.entry; sound = v.sound; started = v.started }
@@ -30,7 +30,7 @@ same-range one two at n in_one in_two same =
 
 pub hold-same : (cpu : Cpu) (one two : List ℕ) (s : Started) (loop : List BlockView) (image : Defined)
     (loads : List Load)
-    → Holds cpu one s → loop_of one ≡ Ok loop → defined_in cpu one ≡ Ok image
+    → HoldsImage cpu one s → loop_of one ≡ Ok loop → defined_in cpu one ≡ Ok image
     → map_answer in_flash (length one) image.block image.def ≡ Ok loads → length two ≡ length one
     → AgreeOnBlocks one two loop → AgreeOnStorage one two image.def.map_item loads → HoldSameImage cpu one two s
 hold-same cpu one two s loop image loads held closes defined loaded long blocks storage = record {

@@ -14,7 +14,7 @@ use Rattle.image_check.specs.declared.why.Why.{Why}
 use Rattle.image_check.specs.Addressing.{in_flash}
 use Rattle.image_check.specs.Image.{image_at, image_in, started_of}
 use Rattle.image_check.specs.NotBelow.{NotBelow}
-use Rattle.image_check.specs.SameImage.{AgreeFrom, AgreeOnBlocks, AgreeOnLoad, AgreeOnLoads, AgreeOnStorage, Holds, SameImage}
+use Rattle.image_check.specs.SameImage.{AgreeFrom, AgreeOnBlocks, AgreeOnLoad, AgreeOnLoads, AgreeOnStorage, HoldsImage, SameImage}
 use Rattle.block_codec.specs.Blocks.{BlockView}
 use Rattle.block_codec.specs.Items.{items_of}
 use Rattle.block_codec.specs.declared.definition.Def.{Def}
@@ -118,7 +118,7 @@ trial-less a w cpu otp bytes s none v = record {
 -- validity by what the window holds, the trial bit and the rollback rows
 pub valid-parts : (w : Window) (cpu : Cpu) (trial : Bool) (otp bytes : List ℕ) (s : Started)
     → IsValidImage in_flash w cpu trial otp bytes s
-    → (s.window ≡ w) × Holds cpu bytes s × (s.trial ≡ true → trial ≡ true) × NotBelow otp s
+    → (s.window ≡ w) × HoldsImage cpu bytes s × (s.trial ≡ true → trial ≡ true) × NotBelow otp s
 valid-parts w cpu trial otp bytes s v =
     let here : s.window ≡ w = ap (λ (t : Started). t.window) v.started in (
       here,
@@ -133,7 +133,7 @@ valid-parts w cpu trial otp bytes s v =
     )
 
 pub parts-valid : (w : Window) (cpu : Cpu) (trial : Bool) (otp bytes : List ℕ) (s : Started) → s.window ≡ w
-    → Holds cpu bytes s
+    → HoldsImage cpu bytes s
     → (s.trial ≡ true → trial ≡ true) → NotBelow otp s → IsValidImage in_flash w cpu trial otp bytes s
 parts-valid w cpu trial otp bytes s here h may not =
     let rows = subst (NotBelow otp) h.started not in
@@ -154,7 +154,7 @@ pub erased-none : (a : Addressing) (w : Window) (cpu : Cpu) (trial : Bool) (otp 
 erased-none a w cpu trial otp bytes erased =
     why-answered cpu bytes a w trial otp NoBlock (IsFault-from_answer bytes NoFirst (loop_of-blank bytes erased))
 
--- the same of a window of a flash
+-- an image that is answered of a window of a flash is valid there
 pub valid-at : (c : Content) (w : Window) (cpu : Cpu) (trial : Bool) (s : Started) → image_at c w cpu trial ≡ Ok s
     → Valid c w cpu trial s
 valid-at c w cpu trial s is = answered-valid in_flash w cpu trial c.otp (window_bytes c w) s is
@@ -172,7 +172,7 @@ image-local c d w cpu trial bytes rows =
 
 -- a valid image is held, and the same bytes hold the same image
 pub valid-held : (c : Content) (w : Window) (cpu : Cpu) (s : Started) → Valid c w cpu true s
-    → Holds cpu (window_bytes c w) s
+    → HoldsImage cpu (window_bytes c w) s
 valid-held c w cpu s v =
     let here : s.window ≡ w = ap (λ (t : Started). t.window) v.started in
     record {
@@ -204,7 +204,7 @@ agree-storage : (one two : List ℕ) → one ≡ two → (item : Option ℕ) (lo
 agree-storage one two same None loads = agree-all one two same _ _
 agree-storage one two same (Some item) loads = agree-loads one two same loads
 
-pub same-image : (c d : Content) (s : Started) (cpu : Cpu) → Holds cpu (window_bytes c s.window) s
+pub same-image : (c d : Content) (s : Started) (cpu : Cpu) → HoldsImage cpu (window_bytes c s.window) s
     → window_bytes c s.window ≡ window_bytes d s.window → SameImage c d s cpu
 same-image c d s cpu held bytes = record {
   held = held;
@@ -215,7 +215,7 @@ same-image c d s cpu held bytes = record {
 
 -- what is held of an image that is valid, whether a trial is allowed or not
 pub valid-holds : (c : Content) (w : Window) (cpu : Cpu) (trial : Bool) (s : Started) → Valid c w cpu trial s
-    → Holds cpu (window_bytes c w) s
+    → HoldsImage cpu (window_bytes c w) s
 valid-holds c w cpu trial s v =
     let here : s.window ≡ w = ap (λ (t : Started). t.window) v.started in
     record {

@@ -81,7 +81,7 @@ listed-some otp def never = go (rollback_required otp) def.rows.items never
     go true (r ∷ rows) n = absurd (n (λ e f. cc))
     go false rows n = absurd (n (λ e. cc))
 
--- its second half
+-- the second half of the rollback rule
 pub reached-none : (otp : List ℕ) (def : Def) → ReachesItsRows otp def
     → below_fault def.rollback (count otp def.rows.items) ≡ None
 reached-none otp def reaches = go def.rollback (count otp def.rows.items) reaches

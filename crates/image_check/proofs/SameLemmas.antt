@@ -25,7 +25,7 @@ use Rattle.image_check.specs.declared.why.Why.TheVariants.{Map}
 use Rattle.image_check.specs.Addressing.{in_flash}
 use Rattle.image_check.specs.Image.{defined_in}
 use Rattle.image_check.specs.Rules.{map_answer, map_loads}
-use Rattle.image_check.specs.SameImage.{AgreeFrom, AgreeOnBlocks, AgreeOnStorage, Holds, HoldSameImage}
+use Rattle.image_check.specs.SameImage.{AgreeFrom, AgreeOnBlocks, AgreeOnStorage, HoldsImage, HoldSameImage}
 use Rattle.image_check.proofs.AnswerLemmas.{ok-fault_as}
 use Rattle.image_check.proofs.AnsweredLemmas.{defined-ok}
 use Rattle.block_loop.proofs.PlaceLemmas.{at-place}
@@ -134,20 +134,22 @@ module _ (one two offsets : List ℕ) (are : AreLoop one offsets) (i x : ℕ) (a
       (agree-here agree)
 
 -- the one loop, definition and list of loads of an image that is held
-pub held-loop : (cpu : Cpu) (bytes : List ℕ) (s : Started) (h : Holds cpu bytes s) → loop_of bytes ≡ Ok h.sound.loop
+pub held-loop : (cpu : Cpu) (bytes : List ℕ) (s : Started) (h : HoldsImage cpu bytes s)
+    → loop_of bytes ≡ Ok h.sound.loop
 held-loop cpu bytes s h = loop_of-loop bytes h.sound.loop h.sound.defined.closes
 
-pub held-image : (cpu : Cpu) (bytes : List ℕ) (s : Started) (h : Holds cpu bytes s) → defined_in cpu bytes ≡ Ok h.image
+pub held-image : (cpu : Cpu) (bytes : List ℕ) (s : Started) (h : HoldsImage cpu bytes s)
+    → defined_in cpu bytes ≡ Ok h.image
 held-image cpu bytes s h = defined-ok cpu bytes h.sound.loop h.image h.sound.defined
 
 same_ok : {A : Type 0} (x y : A) (r : Result A Why) → r ≡ Ok x → r ≡ Ok y → x ≡ y
 same_ok x y r e f = cc
 
-pub the-image : (cpu : Cpu) (bytes : List ℕ) (s : Started) (h : Holds cpu bytes s) (image : Defined)
+pub the-image : (cpu : Cpu) (bytes : List ℕ) (s : Started) (h : HoldsImage cpu bytes s) (image : Defined)
     → defined_in cpu bytes ≡ Ok image → h.image ≡ image
 the-image cpu bytes s h image is = same_ok h.image image (defined_in cpu bytes) (held-image cpu bytes s h) is
 
-pub the-loads : (cpu : Cpu) (bytes : List ℕ) (s : Started) (h : Holds cpu bytes s) (image : Defined)
+pub the-loads : (cpu : Cpu) (bytes : List ℕ) (s : Started) (h : HoldsImage cpu bytes s) (image : Defined)
     → defined_in cpu bytes ≡ Ok image
     → (loads : List Load) → map_answer in_flash (length bytes) image.block image.def ≡ Ok loads → h.sound.loads ≡ loads
 the-loads cpu bytes s h image is loads loaded =
@@ -157,7 +159,7 @@ the-loads cpu bytes s h image is loads loaded =
     ∙ ok-fault_as Map (map_loads in_flash (length bytes) h.image.block h.image.def) h.sound.loads h.sound.map) loaded
 
 -- no fault of the map of an image that is held
-pub no-map-fault : (cpu : Cpu) (bytes : List ℕ) (s : Started) (h : Holds cpu bytes s) (image : Defined)
+pub no-map-fault : (cpu : Cpu) (bytes : List ℕ) (s : Started) (h : HoldsImage cpu bytes s) (image : Defined)
     → defined_in cpu bytes ≡ Ok image
     → (why : Why) → map_answer in_flash (length bytes) image.block image.def ≡ Err why → ⊥
 no-map-fault cpu bytes s h image is why wrong =
@@ -173,7 +175,7 @@ no-map-fault cpu bytes s h image is why wrong =
 module _ (cpu : Cpu) (one two : List ℕ) (s : Started) (image : Defined) (defined : defined_in cpu one
     ≡ Ok image) (loads : List Load)
     (loaded : map_answer in_flash (length one) image.block image.def ≡ Ok loads) where
-  pub storage-held : (h : Holds cpu one s) → AgreeOnStorage one two image.def.map_item loads
+  pub storage-held : (h : HoldsImage cpu one s) → AgreeOnStorage one two image.def.map_item loads
       → AgreeOnStorage one two h.image.def.map_item h.sound.loads
   storage-held h agree =
       subst (λ (ls : List Load). AgreeOnStorage one two h.image.def.map_item ls)
@@ -181,14 +183,14 @@ module _ (cpu : Cpu) (one two : List ℕ) (s : Started) (image : Defined) (defin
       (subst (λ (i : Defined). AgreeOnStorage one two i.def.map_item loads)
       (sym (the-image cpu one s h image defined)) agree)
 
-  pub storage-found : (h : Holds cpu one s) → AgreeOnStorage one two h.image.def.map_item h.sound.loads
+  pub storage-found : (h : HoldsImage cpu one s) → AgreeOnStorage one two h.image.def.map_item h.sound.loads
       → AgreeOnStorage one two image.def.map_item loads
   storage-found h agree =
       subst (λ (i : Defined). AgreeOnStorage one two i.def.map_item loads) (the-image cpu one s h image defined)
       (subst (λ (ls : List Load). AgreeOnStorage one two h.image.def.map_item ls)
       (the-loads cpu one s h image defined loads loaded) agree)
 
-  pub same-exactly : (held : Holds cpu one s) (long : length two ≡ length one) (blocks storage : Bool)
+  pub same-exactly : (held : HoldsImage cpu one s) (long : length two ≡ length one) (blocks storage : Bool)
       → ((loop : List BlockView) → loop_of one ≡ Ok loop → (blocks ≡ true) ↔ AgreeOnBlocks one two loop)
       → (storage ≡ true) ↔ AgreeOnStorage one two image.def.map_item loads
       → ((blocks && storage) ≡ true) ↔ HoldSameImage cpu one two s
@@ -205,15 +207,15 @@ module _ (cpu : Cpu) (one two : List ℕ) (s : Started) (image : Defined) (defin
   same-exactly held long false storage b t =
       (λ e. cc, λ h. (b h.held.sound.loop (held-loop cpu one s h.held)).1 h.blocks)
 
-  -- the same by the code's two answers, of which the second counts where the first is yes
-  pub same-then : (held : Holds cpu one s) (long : length two ≡ length one) (blocks storage : Bool)
+  -- what is the same of the image, by the code's two answers, of which the second counts where the first is yes
+  pub same-then : (held : HoldsImage cpu one s) (long : length two ≡ length one) (blocks storage : Bool)
       → ((loop : List BlockView) → loop_of one ≡ Ok loop → (blocks ≡ true) ↔ AgreeOnBlocks one two loop)
       → (storage ≡ true) ↔ AgreeOnStorage one two image.def.map_item loads
       → blocks ≡ true → (storage ≡ true) ↔ HoldSameImage cpu one two s
   same-then held long true storage b t is = same-exactly held long true storage b t
   same-then held long false storage b t is = cc
 
-  pub same-else : (held : Holds cpu one s) (long : length two ≡ length one) (blocks storage : Bool)
+  pub same-else : (held : HoldsImage cpu one s) (long : length two ≡ length one) (blocks storage : Bool)
       → ((loop : List BlockView) → loop_of one ≡ Ok loop → (blocks ≡ true) ↔ AgreeOnBlocks one two loop)
       → (storage ≡ true) ↔ AgreeOnStorage one two image.def.map_item loads
       → blocks ≡ false → (blocks ≡ true) ↔ HoldSameImage cpu one two s
@@ -229,7 +231,7 @@ no-loop-fault w loop r fault closes is wrong = go r (is ∙ ap loop_offsets clos
     go : (q : Result (List ℕ) LoopFault) → q ≡ Ok (offsets_of loop) → q ≡ Err fault → ⊥
     go q e f = cc
 
-pub not-undefined : (cpu : Cpu) (w : List ℕ) (s : Started) (h : Holds cpu w s) (r : Result Defined Why) (why : Why)
+pub not-undefined : (cpu : Cpu) (w : List ℕ) (s : Started) (h : HoldsImage cpu w s) (r : Result Defined Why) (why : Why)
     → r ≡ defined_in cpu w → r ≡ Err why → ⊥
 not-undefined cpu w s h r why is wrong = go r (is ∙ held-image cpu w s h) wrong
   where

@@ -1,4 +1,4 @@
--- How the addresses of images in flash and of images in RAM are read. This project's own.
+-- How the addresses of images in flash and of images in RAM are read.
 use Rattle.std.specs.Prelude.{ℕ, true, false}
 use Rattle.pico_board.specs.Content.{flash_base}
 use Rattle.image_check.specs.declared.addressing.Addressing.{Addressing}

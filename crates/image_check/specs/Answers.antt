@@ -1,4 +1,4 @@
--- Answers that may be faults, one after another. This project's own.
+-- Answers that may be faults, one after another.
 use Rattle.std.specs.Prelude.{Option, Some, None, Result, Ok, Err}
 
 -- what follows an answer, unless it is a fault

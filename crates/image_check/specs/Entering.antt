@@ -9,7 +9,7 @@ use Rattle.block_codec.specs.declared.definition.EntryPoint.{EntryPoint}
 use Rattle.block_codec.specs.Blocks.{BlockView, block_size}
 use Rattle.load_map.specs.declared.load.Load.{Load}
 use Rattle.load_map.specs.declared.addresses.TheConstants.{SRAM_START, SRAM_END}
-use Rattle.load_map.specs.Given.{byte_at, word_at}
+use Rattle.load_map.specs.Given.{byte_at, given_word}
 use Rattle.image_check.specs.declared.why.EntryFault.{EntryFault}
 use Rattle.image_check.specs.declared.why.EntryFault.TheVariants.{Table, InBlock, Pc}
 use Rattle.image_check.specs.declared.entry.Source.{Source}
@@ -22,8 +22,8 @@ IsAddressIn address at size = (at ≤ address) × (address < at + size)
 -- SP and PC are the two words at the table's address, SP first, and the limit is 0
 pub record IsTabled (base : ℕ) (bytes : List ℕ) (loads : List Load) (table : ℕ)
     (source : Source) : Type 0 where
-  pub sp : word_at base bytes loads table ≡ Some source.entry.sp
-  pub pc : word_at base bytes loads (table + 4) ≡ Some source.entry.pc
+  pub sp : given_word base bytes loads table ≡ Some source.entry.sp
+  pub pc : given_word base bytes loads (table + 4) ≡ Some source.entry.pc
   pub limit : source.entry.limit ≡ 0
   pub from : source.table ≡ Some table
 

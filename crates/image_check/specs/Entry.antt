@@ -9,7 +9,7 @@ use Rattle.block_codec.specs.declared.definition.EntryPoint.{EntryPoint}
 use Rattle.block_codec.specs.Blocks.{BlockView, block_size}
 use Rattle.load_map.specs.declared.load.Load.{Load}
 use Rattle.load_map.specs.declared.addresses.TheConstants.{SRAM_START, SRAM_END}
-use Rattle.load_map.specs.Given.{word_at}
+use Rattle.load_map.specs.Given.{given_word}
 use Rattle.image_check.specs.declared.entry.Source.{Source}
 use Rattle.image_check.specs.declared.why.EntryFault.{EntryFault}
 use Rattle.image_check.specs.declared.why.EntryFault.TheVariants.{Table, InBlock, Pc}
@@ -25,7 +25,7 @@ from_words table None pc = Err Table
 -- the vector table of an image whose window begins at base
 abbrev pub from_table : ℕ → List ℕ → List Load → ℕ → Result Source EntryFault
 from_table base bytes loads table =
-    from_words table (word_at base bytes loads table) (word_at base bytes loads (table + 4))
+    from_words table (given_word base bytes loads table) (given_word base bytes loads (table + 4))
 
 -- an ENTRY_POINT item; or else for Arm the vector table, and for RISC-V the window's start
 abbrev pub source_of : ℕ → List ℕ → Cpu → Def → List Load → Option EntryPoint

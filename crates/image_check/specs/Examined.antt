@@ -1,5 +1,5 @@
 -- The image of a window before its digest is made: what every rule before the digest rule lets
--- pass. This project's own.
+-- pass.
 use Rattle.std.specs.Prelude.{ℕ, Bool, List, length, Result, Ok, Err}
 use Rattle.arrayvec.specs.ArrayVec.{ArrayVec}
 use Rattle.pico_board.specs.declared.boot.Cpu.{Cpu}
@@ -38,7 +38,8 @@ examined_in a cpu trial otp bytes =
     and_then (defined_in cpu bytes) (λ image.
     and_then (admitted_in trial otp image.def) (λ u. loaded_in a cpu bytes image))
 
--- its record, where the last two rules hold, or the answer of the first that fails
+-- the record of a candidate, where the last two rules, on the digest and on the window's delta,
+-- hold of it; or the answer of the first of them that fails
 abbrev pub confirmed_in : Window → List ℕ → Candidate → Result Started Why
 confirmed_in window bytes c =
     and_unless (digest_fault bytes c.block c.def c.loads.items c.def.digest)

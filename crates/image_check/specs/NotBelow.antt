@@ -1,4 +1,4 @@
--- An image is not below its rollback rows. This project's own.
+-- An image is not below its rollback rows.
 use Rattle.std.specs.Prelude.{◌≢◌, ℕ, ◌≤◌, IsTrue, List, [], IfSome}
 use Rattle.image_def.specs.declared.started.Started.{Started}
 use Rattle.otp_roll.specs.Rows.{count}

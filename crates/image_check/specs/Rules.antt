@@ -51,7 +51,7 @@ abbrev pub required_fault : Bool → List ℕ → Option Why
 required_fault true [] = Some RollbackRequired
 required_fault required rows = None
 
--- and its rollback version, where it has one, is not below the count of its rows
+-- rollback: the image's rollback version, where it has one, is not below the count of its rows
 abbrev pub below_fault : Option ℕ → ℕ → Option Why
 below_fault None raised = None
 below_fault (Some version) raised =

@@ -1,4 +1,4 @@
--- When two windows hold the same image (this project's own): SameImage.
+-- When two windows hold the same image: SameImage.
 use Rattle.std.specs.Prelude.{◌≡◌, ⊤, ℕ, ◌+◌, ◌≤◌, ◌<◌, List, length, slice_index, Option, Some, None}
 use Rattle.std.specs.List.{AllByRecursion}
 use Rattle.pico_board.specs.declared.boot.Cpu.{Cpu}
@@ -38,7 +38,7 @@ AgreeOnStorage one two None loads = AgreeFrom one two 0 (length one)
 AgreeOnStorage one two (Some item) loads = AgreeOnLoads one two loads
 
 -- a window with these bytes holds the image s, but for the trial and the rollback rule
-pub record Holds (cpu : Cpu) (bytes : List ℕ) (s : Started) : Type 0 where
+pub record HoldsImage (cpu : Cpu) (bytes : List ℕ) (s : Started) : Type 0 where
   pub image : Defined
   pub entry : EntryPoint
   pub sound : IsSound in_flash cpu bytes image entry
@@ -48,7 +48,7 @@ pub record Holds (cpu : Cpu) (bytes : List ℕ) (s : Started) : Type 0 where
 -- bytes in each block of its loop and in the storage of its load map, or everywhere where it has no
 -- map
 pub record HoldSameImage (cpu : Cpu) (one two : List ℕ) (s : Started) : Type 0 where
-  pub held : Holds cpu one s
+  pub held : HoldsImage cpu one s
   pub long : length two ≡ length one
   pub blocks : AgreeOnBlocks one two held.sound.loop
   pub storage : AgreeOnStorage one two held.image.def.map_item held.sound.loads

@@ -50,7 +50,8 @@ MayBeTried allowed def = is_trial def.flags ≡ true → allowed ≡ true
 abbrev pub ListsRequiredRows : List ℕ → Def → Type 0
 ListsRequiredRows otp def = rollback_required otp ≡ true → def.rows.items ≢ []
 
--- its second half: the rollback version, where there is one, is not below the count of the rows
+-- the second half of the rollback rule: the rollback version, where there is one, is not below the
+-- count of the rows
 abbrev pub ReachesItsRows : List ℕ → Def → Type 0
 ReachesItsRows otp def = IfSome def.rollback (λ version. count otp def.rows.items ≤ version)
 

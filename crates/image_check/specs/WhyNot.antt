@@ -7,7 +7,7 @@ use Rattle.pico_board.specs.declared.window.Window.{Window}
 use Rattle.pico_board.specs.Content.{Content, window_bytes}
 use Rattle.block_codec.specs.declared.definition.EntryPoint.{EntryPoint}
 use Rattle.block_codec.specs.Blocks.{BlockView}
-use Rattle.block_loop.specs.Loop.{IsFault, IsLoop}
+use Rattle.block_loop.specs.Loop.{IsLoopFault, IsLoop}
 use Rattle.block_loop.specs.declared.fault.LoopFault.TheVariants.{NoBlock as NoFirst}
 use Rattle.image_def.specs.Suits.{does_suit, has_image_type}
 use Rattle.image_def.specs.Definition.{def_of}
@@ -61,8 +61,8 @@ pub record IsBelow (otp : List ℕ) (image : Defined) (version raised : ℕ) : T
 
 -- the answer of the first of the rules that fails for a window with these bytes
 abbrev pub IsWhyNot : Addressing → Cpu → Bool → List ℕ → List ℕ → Why → Type 0
-IsWhyNot a cpu trial otp bytes NoBlock = IsFault bytes NoFirst
-IsWhyNot a cpu trial otp bytes (Loop fault) = (fault ≢ NoFirst) × IsFault bytes fault
+IsWhyNot a cpu trial otp bytes NoBlock = IsLoopFault bytes NoFirst
+IsWhyNot a cpu trial otp bytes (Loop fault) = (fault ≢ NoFirst) × IsLoopFault bytes fault
 IsWhyNot a cpu trial otp bytes NoDefinition =
     (loop : List BlockView) × IsLoop bytes loop
     × AllByRecursion (λ b. has_image_type b ≡ false) loop

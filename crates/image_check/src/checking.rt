@@ -10,7 +10,7 @@ ghost use Rattle.image_check.specs.Addressing.{in_flash};
 ghost use Rattle.image_check.specs.Examined.{confirmed_in};
 ghost use Rattle.image_check.specs.Image.{image_at, image_in, started_of};
 ghost use Rattle.image_check.specs.Rules.{delta_fault, digest_fault};
-ghost use Rattle.image_check.specs.SameImage.{Holds};
+ghost use Rattle.image_check.specs.SameImage.{HoldsImage};
 ghost use Rattle.pico_board.specs.Content.{window_bytes};
 ghost use Rattle.image_check.specs.Valid.{IsValidImage, Valid};
 ghost use Rattle.image_check.specs.WhyNot.{IsWhyNot, WhyNot};
@@ -141,7 +141,7 @@ pub fn check<B: Board>(
         ↔ Valid (B.state board.now).content window cpu trial_ok s }
     ensures why_not { (y : Why) → (result ≡ Err y)
         ↔ WhyNot (B.state board.now).content window cpu trial_ok y }
-    ensures held { IfOk result (λ s. Holds cpu
+    ensures held { IfOk result (λ s. HoldsImage cpu
         (window_bytes (B.state board.now).content window) s) }
     ensures window { IfOk result (λ s. s.window ≡ window) }
     ensures kept { KeepsOut pool.old pool.new }

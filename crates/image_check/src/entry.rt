@@ -2,7 +2,7 @@
 
 ghost use Rattle.std.specs.Prelude.{◌≡◌, ◌+◌, ◌≤◌, ◌^◌, false, None, Some, length, unwrap_or};
 ghost use Rattle.std.specs.Option.{option_map_or};
-ghost use Rattle.block_codec.specs.Blocks.{block_size, IsWhole};
+ghost use Rattle.block_codec.specs.Blocks.{block_size, IsWholeBlock};
 ghost use Rattle.load_map.specs.Stored.{AreStoredIn};
 ghost use Rattle.image_check.specs.Entry.{code_address, entry_of, from_table, is_in_block, is_runnable, is_shared, is_within, judged_source, source_of};
 

@@ -2,7 +2,7 @@
 
 ghost use Rattle.std.specs.Prelude.{◌≡◌, ℕ, List, ◌+◌, ◌≤◌, ◌^◌, ◌||◌, if◌then◌else◌, false, true, Ok, Some, None, IsTrue, IfOk, IfSome, length, slice_get};
 ghost use Rattle.std.specs.List.{list_any};
-ghost use Rattle.block_codec.specs.Blocks.{BlockView, IsWhole};
+ghost use Rattle.block_codec.specs.Blocks.{BlockView, IsWholeBlock};
 ghost use Rattle.block_codec.specs.Reading.{block_at};
 ghost use Rattle.block_loop.specs.Loop.{loop_of};
 ghost use Rattle.block_loop.specs.Offsets.{AreLoop};
@@ -31,9 +31,9 @@ pub struct Candidate {
     pub block: Block,
     /// What the definition says.
     pub def: Def,
-    /// What its load map loads; nothing without one.
+    /// What the image's load map loads; nothing without one.
     pub loads: Loads,
-    /// Where it starts.
+    /// Where the image starts.
     pub entry: EntryPoint,
 }
 
@@ -42,13 +42,13 @@ pub struct Candidate {
 pub struct Defined {
     /// The definition's block.
     pub block: Block,
-    /// What its items say.
+    /// What the items of the definition's block say.
     pub def: Def,
 }
 
 /// What was seen of a loop's blocks, in loop order.
 #[derive(Drop)]
-struct Seen {
+struct ScannedBlocks {
     /// Some block has an IMAGE_TYPE item.
     typed: bool,
     /// The last block that suits the processor.
@@ -67,18 +67,18 @@ pub(crate) fn block_there<V: View>(view: &V, at: u32) -> Block
 }
 
 /// What was seen after a further block.
-fn see(seen: Seen, block: Block, cpu: Cpu) -> Seen
+fn scan_block(seen: ScannedBlocks, block: Block, cpu: Cpu) -> ScannedBlocks
     ensures typed { result.typed ≡ (seen.typed || has_image_type block) }
     ensures suiting { result.suiting ≡ (if does_suit cpu block then Some block else seen.suiting) }
 {
     let typed = seen.typed || image_flags(&block).is_some();
     if suits(&block, cpu) {
-        Seen {
+        ScannedBlocks {
             typed,
             suiting: Some(block),
         }
     } else {
-        Seen {
+        ScannedBlocks {
             typed,
             suiting: seen.suiting,
         }
@@ -86,19 +86,19 @@ fn see(seen: Seen, block: Block, cpu: Cpu) -> Seen
 }
 
 /// What is seen of the loop's blocks.
-fn see_all<V: View>(view: &V, found: &BlockLoop, cpu: Cpu) -> Seen
+fn scan_blocks<V: View>(view: &V, found: &BlockLoop, cpu: Cpu) -> ScannedBlocks
     requires loop_ { AreLoop (V.bytes view.now) found.now }
     ensures typed { (loop : List BlockView) → loop_of (V.bytes view.now) ≡ Ok loop
         → result.typed ≡ list_any has_image_type loop }
     ensures suiting { (loop : List BlockView) → loop_of (V.bytes view.now) ≡ Ok loop
         → result.suiting ≡ last_suiting cpu loop }
 {
-    let mut seen = Seen {
+    let mut seen = ScannedBlocks {
         typed: false,
         suiting: None,
     };
     for i in 0..found.count() {
-        seen = see(seen, block_there(view, found.at(i)), cpu);
+        seen = scan_block(seen, block_there(view, found.at(i)), cpu);
     }
     seen
 }
@@ -110,7 +110,7 @@ fn definition_in<V: View>(view: &V, found: &BlockLoop, cpu: Cpu) -> Result<Block
         → result ≡ definition_answer cpu loop }
     ensures typed { IfOk result (λ b. has_image_type b ≡ true) }
 {
-    let seen = see_all(view, found, cpu);
+    let seen = scan_blocks(view, found, cpu);
     if !seen.typed {
         return Err(Why::NoDefinition);
     }
@@ -122,7 +122,7 @@ fn definition_in<V: View>(view: &V, found: &BlockLoop, cpu: Cpu) -> Result<Block
 pub fn defined_in<V: View>(view: &V, cpu: Cpu) -> Result<Defined, Why>
     ensures exact { result ≡ defined_in cpu (V.bytes view.now) }
     ensures sound { IfOk result (λ image. IsDefinition image.block image.def) }
-    ensures whole { IfOk result (λ image. IsWhole image.block) }
+    ensures whole { IfOk result (λ image. IsWholeBlock image.block) }
 {
     let found = match walk(view) {
         Ok(found) => found,

@@ -7,14 +7,11 @@
 
 mod addressing;
 mod checking;
-pub mod digest_examples;
 mod entry;
 mod examining;
 pub mod examples;
 pub mod laws;
-pub mod order_examples;
 mod same;
-pub mod same_image_examples;
 mod why;
 
 pub use addressing::Addressing;

@@ -5,7 +5,7 @@ ghost use Rattle.block_codec.specs.Blocks.{BlockView, block_size};
 ghost use Rattle.block_loop.specs.Loop.{loop_of};
 ghost use Rattle.block_loop.specs.Offsets.{AreLoop};
 ghost use Rattle.load_map.specs.Stored.{AreStoredIn, IsStoredIn};
-ghost use Rattle.image_check.specs.SameImage.{AgreeFrom, AgreeOnBlocks, AgreeOnLoad, AgreeOnLoads, AgreeOnStorage, Holds, HoldSameImage};
+ghost use Rattle.image_check.specs.SameImage.{AgreeFrom, AgreeOnBlocks, AgreeOnLoad, AgreeOnLoads, AgreeOnStorage, HoldsImage, HoldSameImage};
 
 use crate::addressing::Addressing;
 use crate::examining::{block_there, defined_in, loads_of};
@@ -125,7 +125,7 @@ fn same_storage<V: View, W: View>(one: &V, two: &W, def: &Def, loads: &Loads) ->
 /// where it has no map. The views are compared in pieces of whole sectors. It takes no memory.
 pub fn same_content<V: View, W: View>(one: &V, two: &W, started: &Started, cpu: Cpu) -> bool
     requires long { length (W.bytes two.now) ≡ length (V.bytes one.now) }
-    requires held { Holds cpu (V.bytes one.now) started.now }
+    requires held { HoldsImage cpu (V.bytes one.now) started.now }
     ensures { (result ≡ true) ↔ HoldSameImage cpu (V.bytes one.now) (W.bytes two.now) started.now }
 {
     let found = match walk(one) {

@@ -16,7 +16,7 @@ use Rattle.block_codec.specs.FirstFault.{first_fault, AreSound}
 use Rattle.block_codec.proofs.FirstFaultLemmas.{sound_from_none}
 use Rattle.image_def.specs.declared.fault.DefFault.{DefFault}
 use Rattle.image_def.specs.declared.fault.DefFault.TheVariants.{Repeated, BadItem}
-use Rattle.image_def.specs.Found.{is_read_kind, IsHeld, IsVersion}
+use Rattle.image_def.specs.Found.{is_read_kind, IsHeldItem, IsVersion}
 use Rattle.image_def.specs.Rows.{rollback_in, rows_in, row_fault}
 use Rattle.image_def.specs.Faults.{first_item_fault, hashed_fault, hash_count_in, last_fault, is_right_version, is_well_formed, is_well_formed_as, item_fault}
 use Rattle.image_def.proofs.FoundLemmas.{NoneBefore, find-place, find-passes}
@@ -167,19 +167,19 @@ module _ (b : BlockView) (none : first_item_fault b ≡ None) where
   sound : AreSound (item_fault (block_words b)) (items_of b.items) (length (items_of b.items))
   sound = sound_from_none (item_fault (block_words b)) (items_of b.items) none
 
-  pub held-vector : (item : Item) → item_of_kind VECTOR_TABLE (items_of b.items) ≡ Some item → IsHeld b 2 item
+  pub held-vector : (item : Item) → item_of_kind VECTOR_TABLE (items_of b.items) ≡ Some item → IsHeldItem b 2 item
   held-vector item is =
       let s = sound_item (block_words b) (items_of b.items) VECTOR_TABLE item sound refl is in
       let size : item.words ≡ 2 = eqb-true item.words 2 s.right in
       record { of_block = s.of_items; size = omega arith }
 
-  pub held-delta : (item : Item) → item_of_kind WINDOW_DELTA (items_of b.items) ≡ Some item → IsHeld b 2 item
+  pub held-delta : (item : Item) → item_of_kind WINDOW_DELTA (items_of b.items) ≡ Some item → IsHeldItem b 2 item
   held-delta item is =
       let s = sound_item (block_words b) (items_of b.items) WINDOW_DELTA item sound refl is in
       let size : item.words ≡ 2 = eqb-true item.words 2 s.right in
       record { of_block = s.of_items; size = omega arith }
 
-  pub held-entry : (item : Item) → item_of_kind ENTRY_POINT (items_of b.items) ≡ Some item → IsHeld b 3 item
+  pub held-entry : (item : Item) → item_of_kind ENTRY_POINT (items_of b.items) ≡ Some item → IsHeldItem b 3 item
   held-entry item is =
       let s = sound_item (block_words b) (items_of b.items) ENTRY_POINT item sound refl is in
       elim (or_cases (eqb item.words 3) (eqb item.words 4) s.right) [
@@ -189,7 +189,7 @@ module _ (b : BlockView) (none : first_item_fault b ≡ None) where
             record { of_block = s.of_items; size = omega arith }
       ]
 
-  pub held-digest : (item : Item) → item_of_kind HASH_VALUE (items_of b.items) ≡ Some item → IsHeld b 0 item
+  pub held-digest : (item : Item) → item_of_kind HASH_VALUE (items_of b.items) ≡ Some item → IsHeldItem b 0 item
   held-digest item is =
       let s = sound_item (block_words b) (items_of b.items) HASH_VALUE item sound refl is in
       record { of_block = s.of_items; size = omega arith }

@@ -75,7 +75,7 @@ module _ {X : Type 0} (p : X → Bool) where
           rest (λ t. ap (λ c. c || list_any p xs) (sym e) ∙ none t)
           ∙ ap (λ k. cond (p y) (Some k) (position_from p (i + 1) xs)) (omega arith)
 
-  -- the same for its place
+  -- the place of a first element that passes is there where one passes
   pub is_some-position : (xs : List X) → is_some (position p xs) ≡ list_any p xs
   is_some-position xs = ap is_some (position_from-zero p xs) ∙ is_some-from 0 xs
 

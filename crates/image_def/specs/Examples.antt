@@ -1,4 +1,4 @@
--- Blocks for worked examples. This project's own.
+-- Blocks for worked examples.
 use Rattle.std.specs.Prelude.{ℕ, pos, negsuc, List, [], ◌∷◌, replicate, Option, Some, None}
 use Rattle.std.specs.Result.{result_err}
 use Rattle.block_codec.specs.declared.definition.Def.{Def}
@@ -22,7 +22,7 @@ riscv_item = 0x11010142
 abbrev pub arm_block : List ℕ → BlockView
 arm_block words = block_with (arm_item ∷ words)
 
--- the first fault of that block
+-- the first fault of the block of an IMAGE_TYPE item for Arm and then these item words
 abbrev pub arm_fault : List ℕ → Option DefFault
 arm_fault words = result_err (def_of (arm_block words))
 
@@ -73,7 +73,7 @@ digest_bytes =
     0 ∷ 1 ∷ 2 ∷ 3 ∷ 4 ∷ 5 ∷ 6 ∷ 7 ∷ 8 ∷ 9 ∷ 10 ∷ 11 ∷ 12 ∷ 13 ∷ 14 ∷ 15
     ∷ 16 ∷ 17 ∷ 18 ∷ 19 ∷ 20 ∷ 21 ∷ 22 ∷ 23 ∷ 24 ∷ 25 ∷ 26 ∷ 27 ∷ 28 ∷ 29 ∷ 30 ∷ 31 ∷ []
 
--- what that block says
+-- what the block of an item of each kind says
 abbrev pub full_def : Def
 full_def = record {
   flags = 0x9021;

@@ -34,7 +34,7 @@ is_well_formed_as kind words item =
     else if kind == HASH_VALUE then is_some (digest_of words item)
     else true
 
--- the same by the kind that its type byte names
+-- an item has the size, and the header byte, that the kind named by its type byte asks for
 abbrev pub is_well_formed : List ℕ → Item → Bool
 is_well_formed words item = is_well_formed_as (first_spelling item.kind) words item
 

@@ -1,5 +1,4 @@
--- The items that were found so far, as the reader gathers them: one item after another. This
--- project's own.
+-- The items that were found so far, as the reader gathers them: one item after another.
 use Rattle.std.specs.Prelude.{ℕ, ◌==◌, Bool, if◌then◌else◌, Some, is_some}
 use Rattle.block_codec.specs.declared.items.Item.{Item}
 use Rattle.block_codec.specs.declared.kinds.TheConstants.{IMAGE_TYPE, VECTOR_TABLE, ENTRY_POINT, WINDOW_DELTA, LOAD_MAP, HASH_DEF, VERSION, HASH_VALUE}

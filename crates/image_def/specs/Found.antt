@@ -1,4 +1,4 @@
--- The items that an image definition reads, by their kinds. This project's own.
+-- The items that an image definition reads, by their kinds.
 use Rattle.std.specs.Prelude.{◌≡◌, ◌≤◌, Contains, ℕ, ◌==◌, ◌||◌, Bool, List, position}
 use Rattle.block_codec.specs.declared.items.Item.{Item}
 use Rattle.block_codec.specs.declared.kinds.TheConstants.{IMAGE_TYPE, VECTOR_TABLE, ENTRY_POINT, WINDOW_DELTA, LOAD_MAP, HASH_DEF, VERSION, HASH_VALUE}
@@ -27,7 +27,7 @@ found_in items = record {
 }
 
 -- the item is one of the block's, and has at least so many words
-pub record IsHeld (b : BlockView) (words : ℕ) (item : Item) : Type 0 where
+pub record IsHeldItem (b : BlockView) (words : ℕ) (item : Item) : Type 0 where
   pub of_block : Contains (items_of b.items) item
   pub size : words ≤ item.words
 

@@ -1,5 +1,4 @@
--- What is true of each definition that a block gives, for those who rest their own work on it. This
--- project's own.
+-- What is true of each definition that a block gives, for those who rest their own work on it.
 use Rattle.std.specs.Prelude.{◌≡◌, ◌↔◌, ℕ, ◌+◌, ◌*◌, ◌%◌, ◌^◌, ◌<◌, ◌≤◌, true, List, [], length, slice_get, Some, None, IfSome}
 use Rattle.block_codec.specs.declared.items.Item.{Item}
 use Rattle.block_codec.specs.declared.kinds.TheConstants.{LOAD_MAP, HASH_VALUE}

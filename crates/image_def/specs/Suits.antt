@@ -19,7 +19,7 @@ image_type_of b = item_of_kind IMAGE_TYPE (items_of b.items)
 abbrev pub has_image_type : BlockView → Bool
 has_image_type b = is_some (image_type_of b)
 
--- its flags
+-- the flags of a block's first IMAGE_TYPE item, where it has one
 abbrev pub image_flags_of : BlockView → Option ℕ
 image_flags_of b = option_map flags_of (image_type_of b)
 

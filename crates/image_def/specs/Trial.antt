@@ -35,7 +35,7 @@ untried def = record {
   rows = def.rows;
 }
 
--- that definition, or the same fault
+-- the definition without the trial bit where there is a definition, or the fault as it is
 abbrev pub untried_answer : Result Def DefFault → Result Def DefFault
 untried_answer (Ok def) = Ok (untried def)
 untried_answer (Err fault) = Err fault

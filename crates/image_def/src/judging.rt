@@ -2,7 +2,7 @@
 
 ghost use Rattle.std.specs.Prelude.{◌≡◌, List, Contains, length, IfSome};
 ghost use Rattle.block_codec.specs.Items.{items_of};
-ghost use Rattle.block_codec.specs.Blocks.{block_words, IsWhole};
+ghost use Rattle.block_codec.specs.Blocks.{block_words, IsWholeBlock};
 ghost use Rattle.block_codec.specs.FirstFault.{ok_unless};
 ghost use Rattle.image_def.specs.Faults.{is_right_version, is_well_formed, item_fault, first_item_fault, hash_count_in, last_fault};
 ghost use Rattle.image_def.specs.Found.{found_in};
@@ -77,7 +77,7 @@ fn fault_of(block: &Block, found: &Found, item: &Item) -> Option<DefFault>
 pub(crate) fn find_items(block: &Block) -> Result<Found, DefFault>
     ensures value { result
         ≡ ok_unless (first_item_fault block.now) (found_in (items_of block.now.items)) }
-    ensures whole { IsWhole block.now }
+    ensures whole { IsWholeBlock block.now }
 {
     let mut found = Found::new();
     for i in 0..block.count() {

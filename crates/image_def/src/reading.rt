@@ -3,11 +3,11 @@
 ghost use Rattle.std.specs.Prelude.{◌≡◌, ◌≤◌, true, pos, None, option_map, option_and_then, unwrap_or, IfSome, IfOk, IfErr, []};
 ghost use Rattle.std.specs.Option.{option_map_or};
 ghost use Rattle.block_codec.specs.Items.{items_of};
-ghost use Rattle.block_codec.specs.Blocks.{block_words, IsWhole};
+ghost use Rattle.block_codec.specs.Blocks.{block_words, IsWholeBlock};
 ghost use Rattle.block_codec.specs.Kinds.{version_of, digest_of};
 ghost use Rattle.image_def.specs.Suits.{has_image_type};
 ghost use Rattle.image_def.specs.Rows.{rollback_in, rows_in};
-ghost use Rattle.image_def.specs.Found.{found_in, IsHeld, IsVersion};
+ghost use Rattle.image_def.specs.Found.{found_in, IsHeldItem, IsVersion};
 ghost use Rattle.image_def.specs.Faults.{first_item_fault, IsDefFault};
 ghost use Rattle.image_def.specs.Flags.{flags_of};
 ghost use Rattle.image_def.specs.Guarantees.{IsDefinition};
@@ -44,7 +44,7 @@ fn image_word_of(item: Option<Item>) -> u32
 
 /// The address that a VECTOR_TABLE item names.
 fn vector_of(block: &Block, item: Option<Item>) -> Option<u32>
-    requires { IfSome item (λ item. IsHeld block.now 2 item) }
+    requires { IfSome item (λ item. IsHeldItem block.now 2 item) }
     ensures { result ≡ option_map (second_word (block_words block.now)) item }
 {
     match item {
@@ -55,7 +55,7 @@ fn vector_of(block: &Block, item: Option<Item>) -> Option<u32>
 
 /// PC, SP and limit of an ENTRY_POINT item.
 fn entry_point_of(block: &Block, item: Option<Item>) -> Option<EntryPoint>
-    requires { IfSome item (λ item. IsHeld block.now 3 item) }
+    requires { IfSome item (λ item. IsHeldItem block.now 3 item) }
     ensures { result ≡ option_map (entry_point_in (block_words block.now)) item }
 {
     match item {
@@ -74,7 +74,7 @@ fn entry_point_of(block: &Block, item: Option<Item>) -> Option<EntryPoint>
 
 /// The delta of a ROLLING_WINDOW_DELTA item, or 0.
 fn delta_of(block: &Block, item: Option<Item>) -> i32
-    requires { IfSome item (λ item. IsHeld block.now 2 item) }
+    requires { IfSome item (λ item. IsHeldItem block.now 2 item) }
     ensures { result ≡ option_map_or (delta_in (block_words block.now)) item (pos 0) }
 {
     match item {
@@ -85,7 +85,7 @@ fn delta_of(block: &Block, item: Option<Item>) -> i32
 
 /// The digest of a HASH_VALUE item.
 fn digest_of(block: &Block, item: Option<Item>) -> Option<[u8; 32]>
-    requires { IfSome item (λ item. IsHeld block.now 0 item) }
+    requires { IfSome item (λ item. IsHeldItem block.now 0 item) }
     ensures { result ≡ option_and_then (digest_of (block_words block.now)) item }
 {
     match item {
@@ -154,7 +154,7 @@ fn def_from(block: &Block, found: &Found) -> Def
 #[tactic(auto, unfolding(crate::specs::Definition::def_of))]
 fn read_items(block: &Block) -> Result<Def, DefFault>
     ensures value { result ≡ def_of block.now }
-    ensures whole { IsWhole block.now }
+    ensures whole { IsWholeBlock block.now }
 {
     let found = find_items(block)?;
     match fault_after(block, &found) {

@@ -15,7 +15,7 @@ use Rattle.block_codec.specs.Items.{items_of}
 use Rattle.load_map.specs.declared.addresses.TheConstants.{SRAM_START}
 use Rattle.load_map.specs.declared.load.Load.{Load}
 use Rattle.load_map.specs.Addresses.{in_sram}
-use Rattle.load_map.specs.Given.{holds}
+use Rattle.load_map.specs.Given.{load_has_address}
 use Rattle.load_map.specs.Reading.{is_used_in_place}
 use Rattle.load_map.specs.Stored.{AreStoredIn, IsStoredIn}
 use Rattle.load_map.proofs.SoundLoadLemmas.{sound-loads_of}
@@ -74,32 +74,36 @@ module _ (a n at : ℕ) (high : SRAM_START ≤ a) (low : flash_base + n ≤ SRAM
       grind (arith, nat_tests, past)
 
   pub in_place-past : (size : ℕ) (loads : List Load) → size ≤ n
-      → find (holds a) (reverse (load_in_place size ∷ loads)) ≡ find (holds a) (reverse loads)
+      → find (load_has_address a) (reverse (load_in_place size ∷ loads)) ≡ find (load_has_address a) (reverse loads)
   in_place-past size loads le =
       let past : flash_base + size ≤ a = omega (arith, le, low, high) in
       let fails : (nat_le flash_base a && nat_lt a (flash_base + size)) ≡ false = grind (arith, nat_tests, past) in
-      last-more (holds a) (load_in_place size) loads
-      ∙ ap (λ t. option_or (find (holds a) (reverse loads)) (if t then Some (load_in_place size) else None)) fails
-      ∙ or-none (find (holds a) (reverse loads))
+      last-more (load_has_address a) (load_in_place size) loads
+      ∙ ap (λ t. option_or (find (load_has_address a) (reverse loads))
+      (if t then Some (load_in_place size) else None)) fails
+      ∙ or-none (find (load_has_address a) (reverse loads))
 
   pub last-copied : (loads : List Load) → AreStoredIn n loads → ArePlaced loads
-      → find (holds a) (reverse (copied_loads at loads)) ≡ option_map (own_load at) (find (holds a) (reverse loads))
+      → find (load_has_address a) (reverse (copied_loads at loads))
+      ≡ option_map (own_load at) (find (load_has_address a) (reverse loads))
   last-copied [] stored placed = refl
   last-copied (load ∷ loads) stored placed =
       go (in_sram load.runtime load.size) refl (last-copied loads stored.1 placed.1)
     where
       go : (t : Bool) → in_sram load.runtime load.size ≡ t
-          → find (holds a) (reverse (copied_loads at loads)) ≡ option_map (own_load at) (find (holds a) (reverse loads))
-          → find (holds a) (reverse (map (own_load at) (if t then load ∷ sram_loads loads else sram_loads loads)))
-          ≡ option_map (own_load at) (find (holds a) (reverse (load ∷ loads)))
+          → find (load_has_address a) (reverse (copied_loads at loads))
+          ≡ option_map (own_load at) (find (load_has_address a) (reverse loads))
+          → find (load_has_address a) (reverse (map (own_load at)
+          (if t then load ∷ sram_loads loads else sram_loads loads)))
+          ≡ option_map (own_load at) (find (load_has_address a) (reverse (load ∷ loads)))
       go true is rest =
-          last-more (holds a) (own_load at load) (copied_loads at loads)
-          ∙ ap (λ o. option_or o (if holds a load then Some (own_load at load) else None)) rest
-          ∙ or-mapped (own_load at) (holds a load) load (find (holds a) (reverse loads))
-          ∙ sym (ap (option_map (own_load at)) (last-more (holds a) load loads))
+          last-more (load_has_address a) (own_load at load) (copied_loads at loads)
+          ∙ ap (λ o. option_or o (if load_has_address a load then Some (own_load at load) else None)) rest
+          ∙ or-mapped (own_load at) (load_has_address a load) load (find (load_has_address a) (reverse loads))
+          ∙ sym (ap (option_map (own_load at)) (last-more (load_has_address a) load loads))
       go false is rest =
-          let fails : holds a load ≡ false = below load.storage load.runtime load.size stored.0 placed.0 is in
+          let fails : load_has_address a load ≡ false = below load.storage load.runtime load.size stored.0 placed.0 is in
           rest
-          ∙ sym (ap (option_map (own_load at)) (last-more (holds a) load loads
-          ∙ ap (λ t. option_or (find (holds a) (reverse loads)) (if t then Some load else None)) fails
-          ∙ or-none (find (holds a) (reverse loads))))
+          ∙ sym (ap (option_map (own_load at)) (last-more (load_has_address a) load loads
+          ∙ ap (λ t. option_or (find (load_has_address a) (reverse loads)) (if t then Some load else None)) fails
+          ∙ or-none (find (load_has_address a) (reverse loads))))

@@ -99,7 +99,7 @@ module _ (b : List ℕ) (s : SealSpec) where
   differs : (p : Parts) (why : Why) (r : Result Parts Why) → r ≡ Ok p → r ≡ Err why → ⊥
   differs p why r is no_ = cc
 
-  -- and does not pass its own
+  -- a fault does not pass its own place
   failed : (e : SealError) → IsSealFault b s e → Passed (rank e) → ⊥
   unfolding rank
   failed (BadSpec Rows) x p = x p
@@ -193,7 +193,7 @@ module _ (b : List ℕ) (s : SealSpec) where
   fault-by short (BlockTooLong n) x = absurd x
   fault-by short Memory x = absurd x
 
-  -- the same of an answer by that check
+  -- what a check of the sealed image says of it, where the check's answer is given
   pub sealed-when : (text : List ℕ) (r : Result Started Why) (at : ℕ) → IsShort b s → text ≡ sealed_text b s
       → r ≡ image_of text → at ≡ block_offset b → StartsAt r at → IsSealed b s
   sealed-when text r at short text_is r_is at_is starts =

@@ -12,13 +12,13 @@ use Rattle.block_codec.specs.Words.{word_of}
 use Rattle.load_map.specs.declared.addresses.TheConstants.{SRAM_START}
 use Rattle.load_map.specs.declared.load.Load.{Load}
 use Rattle.load_map.specs.Addresses.{is_sram}
-use Rattle.load_map.specs.Given.{byte_at, holds, in_window, loaded_byte, stored_byte, word_at}
+use Rattle.load_map.specs.Given.{byte_at, load_has_address, in_window, loaded_byte, stored_byte, given_word}
 use Rattle.load_map.specs.Stored.{AreStoredIn}
 use Rattle.load_map.proofs.GivenLaws.{byte-elsewhere, byte-window, word-given, word-none}
 use Rattle.image_check.specs.declared.entry.Source.{Source}
 use Rattle.image_check.specs.Entering.{IsRunnable, IsTabled}
 use Rattle.image_pack.specs.Sealing.{copied_loads, load_in_place, own_load, own_storage}
-use Rattle.image_pack.specs.Starts.{AreApart, IsLoadedFrom, LinkIsOutsideTable, Stays, TableIsStoredIn}
+use Rattle.image_pack.specs.Starts.{AreRangesApart, IsLoadedFrom, LinkIsOutsideTable, Stays, TableIsStoredIn}
 use Rattle.image_pack.proofs.CopiedLoadLemmas.{ArePlaced, in_place-past, last-copied}
 
 -- two starts are the same
@@ -37,7 +37,7 @@ word_of-top a b c d = omega arith
 module _ (binary sealed : List ℕ) (loads : List Load) (e at link : ℕ) (room : length binary ≤ length sealed)
     (few : length binary ≤ MOST_FLASH_BYTES) (in_space : flash_base + length sealed ≤ SRAM_START)
     (inside : e ≤ length binary) (before : e < at)
-    (same : (k : ℕ) → k < e → AreApart k 1 link 4 → get_or sealed k 0 ≡ get_or binary k 0)
+    (same : (k : ℕ) → k < e → AreRangesApart k 1 link 4 → get_or sealed k 0 ≡ get_or binary k 0)
     (filled : (k : ℕ) → e ≤ k → k < length binary → get_or binary k 0 ≡ 255)
     (stored : AreStoredIn (length binary) loads) (placed : ArePlaced loads) where
   abbrev pub own : List Load
@@ -47,7 +47,7 @@ module _ (binary sealed : List ℕ) (loads : List Load) (e at link : ℕ) (room 
   abbrev IsKept : ℕ → Type 0
   IsKept k = Stays e link k
 
-  -- so does the byte at an address, in flash or in SRAM
+  -- the byte at this address stays, in flash or in SRAM
   record IsKeptAt (a : ℕ) : Type 0 where
     flash : (k : ℕ) → a ≡ flash_base + k → k < length binary → IsKept k
     loaded : (k : ℕ) → SRAM_START ≤ a → IsLoadedFrom loads a k → IsKept k
@@ -64,7 +64,7 @@ module _ (binary sealed : List ℕ) (loads : List Load) (e at link : ℕ) (room 
       (ne_eqb x at (λ is. omega (arith, is, here.inside, before)))
       ∙ kept-in (x + d) here
 
-  loaded-same : (a : ℕ) (last : Option Load) → find (holds a) (reverse loads) ≡ last
+  loaded-same : (a : ℕ) (last : Option Load) → find (load_has_address a) (reverse loads) ≡ last
       → ((k : ℕ) → IsLoadedFrom loads a k → IsKept k)
       → option_map (loaded_byte sealed a) (option_map (own_load at) last) ≡ option_map (loaded_byte binary a) last
   loaded-same a None is kept = refl
@@ -75,7 +75,7 @@ module _ (binary sealed : List ℕ) (loads : List Load) (e at link : ℕ) (room 
 
   outside : (w : List ℕ) (ls : List Load) (a : ℕ) → flash_base + length w ≤ a
       → byte_at flash_base w ls a
-      ≡ cond (is_sram a) (option_map (loaded_byte w a) (find (holds a) (reverse ls))) None
+      ≡ cond (is_sram a) (option_map (loaded_byte w a) (find (load_has_address a) (reverse ls))) None
   outside w ls a past =
       let test : in_window flash_base (length w) a ≡ false = grind (arith, nat_tests, past) in
       rw test refl
@@ -90,7 +90,7 @@ module _ (binary sealed : List ℕ) (loads : List Load) (e at link : ℕ) (room 
       ∙ ap (λ last. cond (is_sram a) (option_map (loaded_byte sealed a) last) None)
       (in_place-past a (length binary) at high low e (copied_loads at loads) inside
       ∙ last-copied a (length binary) at high low loads stored placed)
-      ∙ ap (λ byte. cond (is_sram a) byte None) (loaded-same a (find (holds a) (reverse loads)) refl kept)
+      ∙ ap (λ byte. cond (is_sram a) byte None) (loaded-same a (find (load_has_address a) (reverse loads)) refl kept)
       ∙ sym (outside binary loads a behind)
 
   kept-byte : (a x : ℕ) → byte_at flash_base binary loads a ≡ Some x → IsKeptAt a
@@ -113,7 +113,7 @@ module _ (binary sealed : List ℕ) (loads : List Load) (e at link : ℕ) (room 
     | inr high ↦ kept-high a high (λ k from. kept.loaded k high from)
   ]
 
-  given-byte : (t w k : ℕ) → k < 4 → word_at flash_base binary loads t ≡ Some w
+  given-byte : (t w k : ℕ) → k < 4 → given_word flash_base binary loads t ≡ Some w
       → (x : ℕ) × (byte_at flash_base binary loads (t + k) ≡ Some x)
   given-byte t w k lt is = go (byte_at flash_base binary loads (t + k)) refl
     where
@@ -122,8 +122,8 @@ module _ (binary sealed : List ℕ) (loads : List Load) (e at link : ℕ) (room 
       go (Some x) has = (x, has)
       go None has = absurd (none-some w (sym (word-none flash_base binary loads t k lt has) ∙ is))
 
-  kept-word : (t w : ℕ) → word_at flash_base binary loads t ≡ Some w → ((k : ℕ) → k < 4 → IsKeptAt (t + k))
-      → word_at flash_base sealed own t ≡ Some w
+  kept-word : (t w : ℕ) → given_word flash_base binary loads t ≡ Some w → ((k : ℕ) → k < 4 → IsKeptAt (t + k))
+      → given_word flash_base sealed own t ≡ Some w
   kept-word t w is kept =
       let byte : (k : ℕ) → k < 4 → byte_at flash_base sealed own (t + k) ≡ byte_at flash_base binary loads (t + k) =
       λ k lt. kept-byte (t + k) (given-byte t w k lt is).0 (given-byte t w k lt is).1 (kept k lt) in
@@ -217,7 +217,7 @@ module _ (binary sealed : List ℕ) (loads : List Load) (e at link : ℕ) (room 
         → LinkIsOutsideTable loads table link → SameStart other.entry source.entry
     flash-table runs low out =
         let last = ends runs low in
-        let apart : (i k : ℕ) → i < 8 → table + i ≡ flash_base + k → AreApart k 1 link 4 =
+        let apart : (i k : ℕ) → i < 8 → table + i ≡ flash_base + k → AreRangesApart k 1 link 4 =
         λ i k lt is. elim out.flash [
           | inl under ↦ inl (omega (arith, lt, is, under))
           | inr over ↦ inr (omega (arith, lt, is, over))

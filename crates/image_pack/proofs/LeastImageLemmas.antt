@@ -20,14 +20,14 @@ use Rattle.otp_roll.specs.Rows.{AreRollbackRows}
 use Rattle.image_check.specs.declared.examining.Defined.{Defined}
 use Rattle.image_check.specs.Addressing.{in_flash}
 use Rattle.image_check.specs.Entering.{table_address}
-use Rattle.image_check.specs.Examples.{def_with, small_block}
+use Rattle.worked_flashes.specs.Images.{def_with_rows, small_block}
 use Rattle.image_check.specs.Image.{defined_in, image_in}
 use Rattle.image_check.specs.Valid.{IsValidImage}
 use Rattle.image_check.proofs.AnsweredLemmas.{defined-ok}
 use Rattle.image_check.proofs.LawLemmas.{answered-valid}
 use Rattle.image_pack.specs.declared.parts.Parts.{Parts}
 use Rattle.image_pack.specs.declared.spec.SealSpec.{SealSpec}
-use Rattle.image_pack.specs.Examples.{erased_sector, first_window, least_image, least_sealed, parts_at, spec_of, table_record}
+use Rattle.image_pack.specs.Examples.{erased_sector, window_of_length, least_image, least_sealed, parts_at, spec_of, table_record}
 use Rattle.image_pack.specs.Faults.{Boots, IsSealed, block_offset, whole_window, zero_otp}
 use Rattle.image_pack.specs.Filling.{whole_sectors}
 use Rattle.image_pack.specs.ReadBack.{IsHalves}
@@ -68,17 +68,17 @@ unfolding def_of loop_of follow block_from block_at front_block item_words frame
 least-parts = refl
 
 pub least-defined : defined_in Arm least_bytes
-    ≡ Ok (record { block = small_block 0x114; def = def_with None None [] })
+    ≡ Ok (record { block = small_block 0x114; def = def_with_rows None None [] })
 unfolding def_of loop_of follow block_from block_at front_block item_words frame size_of word_of word_bytes
 least-defined = refl
 
-pub least-unsealed : image_in in_flash (first_window 8192) Arm false zero_otp least_bytes
+pub least-unsealed : image_in in_flash (window_of_length 8192) Arm false zero_otp least_bytes
     ≡ Ok (table_record 8192 0x114 0 0)
 unfolding zero_otp image_in def_of loop_of follow block_from block_at front_block item_words frame size_of word_of
     word_bytes
 least-unsealed = refl
 
-pub least-answer : image_in in_flash (first_window 4096) Arm false zero_otp (whole_sectors least_sealed)
+pub least-answer : image_in in_flash (window_of_length 4096) Arm false zero_otp (whole_sectors least_sealed)
     ≡ Ok (table_record 4096 0x128 1 9)
 unfolding first_words schedule rounds compress hash_after digest_bytes sha256 covered_digest zero_otp image_in def_of
     loop_of follow block_from block_at front_block item_words frame size_of word_of word_bytes
@@ -123,13 +123,13 @@ pub same-ok : {F : Type 0} (r : Result Defined F) (x y : Defined) → r ≡ Ok x
 same-ok r x y one two = cc
 
 -- the image before it is sealed
-pub least-valid : IsValidImage in_flash (first_window 8192) Arm false zero_otp least_bytes
+pub least-valid : IsValidImage in_flash (window_of_length 8192) Arm false zero_otp least_bytes
     (table_record 8192 0x114 0 0)
 least-valid =
-    answered-valid in_flash (first_window 8192) Arm false zero_otp least_bytes
+    answered-valid in_flash (window_of_length 8192) Arm false zero_otp least_bytes
     (table_record 8192 0x114 0 0) least-unsealed
 
-image-is : least-valid.image ≡ record { block = small_block 0x114; def = def_with None None [] }
+image-is : least-valid.image ≡ record { block = small_block 0x114; def = def_with_rows None None [] }
 image-is =
     same-ok (defined_in Arm least_bytes) _ _
     (defined-ok Arm least_bytes least-valid.sound.loop least-valid.image least-valid.sound.defined)
@@ -149,17 +149,17 @@ least-low =
 pub least-outside : LinkIsOutsideTable least-valid.sound.loads (table_address flash_base least-valid.image.def)
     least_parts.link_at
 least-outside =
-    link-outside least_image erased_sector erased (first_window 8192) false zero_otp
+    link-outside least_image erased_sector erased (window_of_length 8192) false zero_otp
     (table_record 8192 0x114 0 0) least-valid
     least-no_entry least_parts least-parts least-last
 
 pub halves : IsHalves least_spec.version
 halves = record { major = omega arith; minor = omega arith }
 
--- so it starts there sealed
+-- the image, sealed, starts as it did before
 pub least-starts : StartsAs (start_of (table_record 8192 0x114 0 0)) least-is-sealed.started
 least-starts =
-    let there = flash-starts least_image least_spec least-is-sealed halves erased_sector erased (first_window 8192)
+    let there = flash-starts least_image least_spec least-is-sealed halves erased_sector erased (window_of_length 8192)
     false zero_otp (table_record 8192 0x114 0 0) least-valid least-few least_parts least-parts least-low
-    least-outside (first_window 8192) in
+    least-outside (window_of_length 8192) in
     record { pc = there.pc; sp = there.sp; limit = there.limit }

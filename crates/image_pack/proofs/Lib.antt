@@ -1,3 +1,5 @@
+pub mod StreamLemmas
+pub mod FlashLemmas
 pub mod PartLemmas
 pub mod WithinLemmas
 pub mod RangeLemmas

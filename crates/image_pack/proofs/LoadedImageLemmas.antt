@@ -27,7 +27,7 @@ use Rattle.image_check.specs.Valid.{IsValidImage}
 use Rattle.image_check.proofs.AnsweredLemmas.{defined-ok}
 use Rattle.image_check.proofs.LawLemmas.{answered-valid}
 use Rattle.image_pack.specs.declared.parts.Parts.{Parts}
-use Rattle.image_pack.specs.Examples.{eight_bytes, erased_sector, first_window, loaded_image, table_record}
+use Rattle.image_pack.specs.Examples.{eight_bytes, erased_sector, window_of_length, loaded_image, table_record}
 use Rattle.image_pack.specs.Faults.{IsSealed, block_offset, whole_window, zero_otp}
 use Rattle.image_pack.specs.Filling.{whole_sectors}
 use Rattle.image_pack.specs.Sealing.{hashed_items, parts_in, relinked, sealed_items, sealed_text}
@@ -36,7 +36,7 @@ use Rattle.image_pack.proofs.LeastImageLemmas.{erased, halves, least_spec, no-ro
 use Rattle.image_pack.proofs.SameStartLaws.{link-outside, loaded-starts}
 use Rattle.image_pack.proofs.TableExampleLemmas.{stored-at}
 
--- its block, what that says, and what is taken over from it
+-- the block of the loaded image, what it says, and what is taken over from the image
 abbrev loaded_block : BlockView
 loaded_block = record {
   at = 8;
@@ -90,7 +90,7 @@ loaded-defined : defined_in Arm loaded_bytes ≡ Ok (record { block = loaded_blo
 unfolding def_of loop_of follow block_from block_at front_block item_words frame size_of word_of word_bytes
 loaded-defined = refl
 
-pub loaded-unsealed : image_in in_flash (first_window 8192) Arm false zero_otp loaded_bytes
+pub loaded-unsealed : image_in in_flash (window_of_length 8192) Arm false zero_otp loaded_bytes
     ≡ Ok (table_record 8192 8 0 0)
 unfolding zero_otp image_in def_of loop_of follow block_from block_at front_block item_words frame size_of word_of
     word_bytes
@@ -134,10 +134,10 @@ loaded-is-sealed = record {
 }
 
 -- the image before it is sealed
-pub loaded-valid : IsValidImage in_flash (first_window 8192) Arm false zero_otp loaded_bytes
+pub loaded-valid : IsValidImage in_flash (window_of_length 8192) Arm false zero_otp loaded_bytes
     (table_record 8192 8 0 0)
 loaded-valid =
-    answered-valid in_flash (first_window 8192) Arm false zero_otp loaded_bytes
+    answered-valid in_flash (window_of_length 8192) Arm false zero_otp loaded_bytes
     (table_record 8192 8 0 0) loaded-unsealed
 
 image-is : loaded-valid.image ≡ record { block = loaded_block; def = loaded_def }
@@ -182,15 +182,16 @@ loaded-stored =
 pub loaded-outside : LinkIsOutsideTable loaded-valid.sound.loads (table_address flash_base loaded-valid.image.def)
     loaded_parts.link_at
 loaded-outside =
-    link-outside loaded_image erased_sector erased (first_window 8192) false zero_otp
+    link-outside loaded_image erased_sector erased (window_of_length 8192) false zero_otp
     (table_record 8192 8 0 0) loaded-valid
     (ap (λ (i : Defined). i.def.entry_point) image-is) loaded_parts loaded-parts
     (sym (ap (λ (i : Defined). i.block.at) image-is))
 
--- so it starts there sealed
+-- the image, sealed, starts as it did before
 pub loaded-start : StartsAs (start_of (table_record 8192 8 0 0)) loaded-is-sealed.started
 loaded-start =
-    let there = loaded-starts loaded_image least_spec loaded-is-sealed halves erased_sector erased (first_window 8192)
+    let there = loaded-starts loaded_image least_spec loaded-is-sealed halves erased_sector erased
+    (window_of_length 8192)
     false zero_otp (table_record 8192 8 0 0) loaded-valid loaded-few loaded_parts loaded-parts loaded-stored
-    loaded-outside (first_window 8192) in
+    loaded-outside (window_of_length 8192) in
     record { pc = there.pc; sp = there.sp; limit = there.limit }

@@ -21,7 +21,7 @@ abbrev pub IsStorageReadable : ℕ → ℕ → Option ℕ → ℕ → Type 0
 IsStorageReadable at n None size = Unit {0}
 IsStorageReadable at n (Some x) size = (x ≢ at) × (x + size ≤ n) × (x ≤ 2 ^ 30)
 
--- and so can the load
+-- a load by an entry of a map at this offset can be read back in a window of n bytes
 abbrev pub IsReadable : ℕ → ℕ → Load → Type 0
 IsReadable at n load = IsStorageReadable at n load.storage load.size
 
@@ -93,7 +93,7 @@ module _ (base n : ℕ) (in_place : Bool) (b : BlockView) (item : Item) (at : �
       ap (slice_index words) same ∙ there (suc (suc (suc j))) (omega (arith, lt))) in
       rw one (ap (λ xs. load ∷ xs) rest)
 
-  -- so the map's loads are these
+  -- the loads of the map are those that were written
   pub loads-back : (own given : List Load) → AllByRecursion (IsReadable at n) own → entry_count item ≡ length own
       → is_absolute item ≡ false → StandFrom (block_words b) (item.first + 1) own
       → loads_of base in_place n b item ≡ Ok given → given ≡ own

@@ -85,7 +85,7 @@ pub find_first : (kind : ℕ) (x : Item) (xs : List Item) → is_of_kind kind x 
     → item_of_kind kind (x ∷ xs) ≡ Some x
 find_first kind x xs here = rw here refl
 
--- and behind a copied one
+-- a kind is sought behind a copied item of another kind
 pub find_copied : (kind place : ℕ) (entry : List ℕ) (xs : List Item) → IsCopied entry
     → (first_spelling 0x44 == kind) ≡ false → (first_spelling 0x03 == kind) ≡ false
     → item_of_kind kind (copied_items place entry ++ xs) ≡ item_of_kind kind xs

@@ -15,7 +15,7 @@ use Rattle.image_check.specs.Answers.{and_then}
 use Rattle.image_check.specs.Image.{defined_in}
 use Rattle.image_check.specs.Rules.{loop_answer, map_answer}
 use Rattle.image_pack.specs.declared.parts.Parts.{Parts}
-use Rattle.image_pack.specs.Sealing.{copied_words, offset_of, parts_in, parts_of}
+use Rattle.image_pack.specs.Sealing.{copied_words, offset_of_block, parts_in, parts_taken_over}
 
 -- three answers one after another, none of which is a fault
 chained : {A B C D F : Type 0} (r : Result A F) (q : Result B F) (s : B → Result C F) (make : A → B → C → D)
@@ -27,19 +27,19 @@ chained r q s make a b c one two three = rw (one, two, three) refl
 pub parts_in-loop : (w : List ℕ) (cpu : Cpu) (loop : List BlockView) (image : Defined) (loads : List Load)
     → loop_of w ≡ Ok loop → defined_in cpu w ≡ Ok image
     → map_answer in_flash (length w) image.block image.def ≡ Ok loads
-    → parts_in cpu w ≡ Ok (parts_of loop image.block loads)
+    → parts_in cpu w ≡ Ok (parts_taken_over loop image.block loads)
 parts_in-loop w cpu loop image loads closed defined mapped =
     chained (loop_answer (loop_of w)) (defined_in cpu w)
     (λ (i : Defined). map_answer in_flash (length w) i.block i.def)
-    (λ (bs : List BlockView) (i : Defined) (ls : List Load). parts_of bs i.block ls)
+    (λ (bs : List BlockView) (i : Defined) (ls : List Load). parts_taken_over bs i.block ls)
     loop image loads (ap loop_answer closed) defined mapped
 
 -- the first offset is that of the first block
 offset_of-first : (w offsets : List ℕ) (loop : List BlockView) (first : ℕ) → loop_of w ≡ Ok loop
-    → offsets ≡ offsets_of loop → slice_get offsets 0 ≡ Some first → offset_of (slice_get loop 0) ≡ first
+    → offsets ≡ offsets_of loop → slice_get offsets 0 ≡ Some first → offset_of_block (slice_get loop 0) ≡ first
 offset_of-first w offsets loop first closed are at =
     let (b, here, is, found) = loop_block w loop 0 first closed (sym (ap (λ (xs : List ℕ). slice_get xs 0) are) ∙ at) in
-    ap offset_of here ∙ is
+    ap offset_of_block here ∙ is
 
 -- the parts that were read are those of the binary
 pub parts_in-read : (w : List ℕ) (cpu : Cpu) (offsets : List ℕ) (image : Defined) (loads : List Load) (n first : ℕ)
@@ -63,7 +63,7 @@ parts_in-read w cpu offsets image loads n first last walked defined long mapped 
     (subst (λ (k : ℕ). map_answer in_flash k image.block image.def ≡ Ok loads) long (sym mapped))
     ∙ rw (ended, begins) refl)
 
--- the same, as the code has it
+-- the parts that the code has read are those of the binary
 pub parts_in-kept : (w : List ℕ) (cpu : Cpu) (offsets : List ℕ) (image : Defined) (n count first at place size : ℕ)
     (last : BlockView) (entry : ArrayVec ℕ) (loads : ArrayVec Load) → Ok offsets ≡ loop_offsets (loop_of w)
     → Ok image ≡ defined_in cpu w → n ≡ length w → Ok loads.items ≡ map_answer in_flash n image.block image.def

@@ -46,7 +46,7 @@ use Rattle.image_pack.specs.declared.spec.SealSpec.{SealSpec}
 use Rattle.image_pack.specs.Faults.{IsSealed, block_offset}
 use Rattle.image_pack.specs.Filling.{round_up, whole_sectors, whole_words}
 use Rattle.image_pack.specs.ReadBack.{IsHalves, IsReadBack, MeetsRollback, SaysSpec, covered_of, map_place}
-use Rattle.image_pack.specs.Sealing.{block_link, copied_loads, link_offset_of, load_in_place, new_block, parts_in, parts_of, relinked, sealed_from, sealed_items, sealed_text, sram_loads}
+use Rattle.image_pack.specs.Sealing.{block_link, copied_loads, link_offset_of, load_in_place, new_block, parts_in, parts_taken_over, relinked, sealed_from, sealed_items, sealed_text, sram_loads}
 use Rattle.image_pack.specs.Starts.{KeepsStart, StartsAs, StartsBy}
 use Rattle.image_pack.specs.Unsealable.{KeepsRules}
 use Rattle.image_pack.proofs.LoadsBackLemmas.{IsReadable}
@@ -180,10 +180,10 @@ module _ (binary : List ℕ) (spec : SealSpec) (sealed : IsSealed binary spec) w
   pub binary_keeps : KeepsRules spec.cpu (whole_sectors binary)
   binary_keeps = parts-kept spec.cpu (whole_sectors binary) parts sealed.short.sealable.read
 
-  parts-are : parts_of binary_keeps.loop binary_keeps.image.block binary_keeps.loads ≡ parts
+  parts-are : parts_taken_over binary_keeps.loop binary_keeps.image.block binary_keeps.loads ≡ parts
   parts-are =
       same_ok (parts_in spec.cpu (whole_sectors binary)) parts
-      (parts_of binary_keeps.loop binary_keeps.image.block binary_keeps.loads) sealed.short.sealable.read
+      (parts_taken_over binary_keeps.loop binary_keeps.image.block binary_keeps.loads) sealed.short.sealable.read
       (keeps-parts spec.cpu (whole_sectors binary) binary_keeps)
 
   pub loads-are : loads ≡ binary_keeps.loads
@@ -197,7 +197,7 @@ module _ (binary : List ℕ) (spec : SealSpec) (sealed : IsSealed binary spec) w
   copied =
       let bytes = whole_sectors binary in
       let keeps = parts-kept spec.cpu bytes parts sealed.short.sealable.read in
-      let made : Parts = parts_of keeps.loop keeps.image.block keeps.loads in
+      let made : Parts = parts_taken_over keeps.loop keeps.image.block keeps.loads in
       let same : made ≡ parts =
       same_ok (parts_in spec.cpu bytes) parts made sealed.short.sealable.read (keeps-parts spec.cpu bytes keeps) in
       let stands = definition_stands spec.cpu bytes keeps.loop keeps.image keeps.defined in
@@ -256,7 +256,7 @@ module _ (binary : List ℕ) (spec : SealSpec) (sealed : IsSealed binary spec) w
     abbrev pub image : Defined
     image = sealed.boots.image
 
-    -- so it is the definition of the image
+    -- the new block is the definition of the sealed image
     place_is : image.block.at ≡ length (whole_words binary)
     place_is = sym (ap (λ (s : Started). s.block) sealed.boots.started) ∙ sealed.block
 
@@ -285,11 +285,11 @@ module _ (binary : List ℕ) (spec : SealSpec) (sealed : IsSealed binary spec) w
           trial = ap (λ (s : Started). s.trial) is ∙ says.trial;
         }
 
-    -- it keeps the start of the binary
+    -- the sealed image keeps the start of the binary
     pub keeps-start : (own : KeepsRules spec.cpu (whole_sectors binary)) → KeepsStart own.image.def image.def
     keeps-start own =
         let bytes = whole_sectors binary in
-        let made : Parts = parts_of own.loop own.image.block own.loads in
+        let made : Parts = parts_taken_over own.loop own.image.block own.loads in
         let same : made ≡ parts =
         same_ok (parts_in spec.cpu bytes) parts made sealed.short.sealable.read (keeps-parts spec.cpu bytes own) in
         let stands = definition_stands spec.cpu bytes own.loop own.image own.defined in
@@ -299,7 +299,7 @@ module _ (binary : List ℕ) (spec : SealSpec) (sealed : IsSealed binary spec) w
         (subst (λ (q : Parts). Copied own.image.block p stands.stands own.image.def own.defined.items q.entry.items)
         same (copied_of own.image.block p stands.stands own.image.def own.defined.items))
 
-    -- and where that is an ENTRY_POINT, it starts there
+    -- where the start of the binary is an ENTRY_POINT, the sealed image starts there
     pub starts-as : (own : KeepsRules spec.cpu (whole_sectors binary)) (e : EntryPoint)
         → own.image.def.entry_point ≡ Some e → (w : Window) → StartsAs e (moved_to w sealed.started)
     starts-as own e has w =
@@ -315,7 +315,7 @@ module _ (binary : List ℕ) (spec : SealSpec) (sealed : IsSealed binary spec) w
           limit = ap (λ (s : Started). s.limit) is ∙ ap (λ (x : EntryPoint). x.limit) entry_is;
         }
 
-    -- so it is not below its rows for the OTPs that meet the spec's rollback rule
+    -- the sealed image is not below its rows exactly for the OTPs that meet the spec's rollback rule
     pub meets-exactly : (otp : List ℕ) → NotBelow otp sealed.started ↔ MeetsRollback otp spec
     meets-exactly otp =
         let is = says-record sealed.started.window in
@@ -400,7 +400,7 @@ module _ (binary : List ℕ) (spec : SealSpec) (sealed : IsSealed binary spec) w
       kept-loads : (own : KeepsRules spec.cpu (whole_sectors binary))
           → copied_loads mo loads ≡ copied_loads (map_place image) own.loads
       kept-loads own =
-          let made : Parts = parts_of own.loop own.image.block own.loads in
+          let made : Parts = parts_taken_over own.loop own.image.block own.loads in
           let same : made ≡ parts =
           same_ok (parts_in spec.cpu (whole_sectors binary)) parts made sealed.short.sealable.read
           (keeps-parts spec.cpu (whole_sectors binary) own) in
@@ -450,7 +450,7 @@ module _ (binary : List ℕ) (spec : SealSpec) (sealed : IsSealed binary spec) w
         digest = value;
       }
 
-      -- it starts as the binary's definition says
+      -- the sealed image starts as the binary's definition says
       pub starts-by : (own : KeepsRules spec.cpu (whole_sectors binary)) (back : IsReadBack binary spec bytes)
           (w : Window) → StartsBy spec.cpu own.image.def bytes back.loads (moved_to w sealed.started)
       starts-by own back w =

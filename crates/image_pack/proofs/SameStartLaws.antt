@@ -26,7 +26,7 @@ use Rattle.load_map.proofs.LongerWindowLemmas.{loads_of-longer}
 use Rattle.image_def.specs.declared.started.Started.{Started}
 use Rattle.load_map.specs.declared.addresses.TheConstants.{SRAM_START}
 use Rattle.load_map.specs.declared.load.Load.{Load}
-use Rattle.load_map.specs.Given.{byte_at, holds}
+use Rattle.load_map.specs.Given.{byte_at, load_has_address}
 use Rattle.load_map.specs.Stored.{AreStoredIn, IsClearOf}
 use Rattle.load_map.proofs.GivenLaws.{holds-range}
 use Rattle.load_map.proofs.LastLoadLemmas.{last-in}
@@ -44,8 +44,8 @@ use Rattle.image_pack.specs.declared.spec.SealSpec.{SealSpec}
 use Rattle.image_pack.specs.Faults.{IsSealed, block_offset}
 use Rattle.image_pack.specs.Filling.{round_up, whole_sectors, whole_words}
 use Rattle.image_pack.specs.ReadBack.{IsHalves, IsReadBack, map_place}
-use Rattle.image_pack.specs.Sealing.{copied_loads, link_offset_of, load_in_place, offset_of, parts_in, parts_of, sealed_text}
-use Rattle.image_pack.specs.Starts.{AreApart, IsLoadedFrom, LinkIsOutsideTable, StartsAs, StartsBy, Stays, TableIsStoredIn, start_of}
+use Rattle.image_pack.specs.Sealing.{copied_loads, link_offset_of, load_in_place, offset_of_block, parts_in, parts_taken_over, sealed_text}
+use Rattle.image_pack.specs.Starts.{AreRangesApart, IsLoadedFrom, LinkIsOutsideTable, StartsAs, StartsBy, Stays, TableIsStoredIn, start_of}
 use Rattle.image_pack.specs.Unsealable.{KeepsRules}
 use Rattle.image_pack.proofs.CopiedLoadLemmas.{ArePlaced, map-placed}
 use Rattle.image_pack.proofs.KeptTableLemmas.{SameStart, flash-table, kept-high, loaded-table}
@@ -145,7 +145,7 @@ module _ (binary : List ℕ) (spec : SealSpec) (sealed : IsSealed binary spec) w
       link_is =
           ap (λ (q : Parts). q.link_at) (same_parts (parts_in spec.cpu sectors) _ _ sealed.short.sealable.read read)
 
-      kept-at : (k : ℕ) → k < e → AreApart k 1 p.link_at 4 → get_or window k 0 ≡ get_or sectors k 0
+      kept-at : (k : ℕ) → k < e → AreRangesApart k 1 p.link_at 4 → get_or window k 0 ≡ get_or sectors k 0
       kept-at k lt apart =
           let new : List ℕ = bytes_of (frame (items binary spec sealed) (link binary spec sealed)) in
           let fill : List ℕ = replicate (round_up 4096 (length text) - length text) 255 in
@@ -163,7 +163,7 @@ module _ (binary : List ℕ) (spec : SealSpec) (sealed : IsSealed binary spec) w
           (round_up 4096 (length binary) - length binary) k (omega (arith, lt, long_words))
           (omega (arith, lt, inside, long))
         where
-          side : AreApart k 1 p.link_at 4
+          side : AreRangesApart k 1 p.link_at 4
               → (k < (parts binary spec sealed).link_at) ⊎ ((parts binary spec sealed).link_at + 4 ≤ k)
           side (inl under) = inl (omega (arith, under, link_is))
           side (inr over) = inr (omega (arith, over, link_is))
@@ -186,7 +186,7 @@ module _ (binary : List ℕ) (spec : SealSpec) (sealed : IsSealed binary spec) w
         placed : ArePlaced own.loads
         placed = map-placed (length sectors) own.image.block own.image.def own.loads own.map
 
-        -- and one that is loaded into SRAM
+        -- a byte that is loaded into SRAM from bytes that stay
         pub sram-byte : (a : ℕ) → SRAM_START ≤ a
             → ((k : ℕ) → IsLoadedFrom own.loads a k → Stays e p.link_at k)
             → byte_at flash_base window back.loads a ≡ byte_at flash_base sectors own.loads a
@@ -219,7 +219,7 @@ module _ (binary : List ℕ) (spec : SealSpec) (sealed : IsSealed binary spec) w
                 ∙ erased (k - length sectors) (omega (arith, high, to, long))
           ]
 
-          kept-longer : (k : ℕ) → k < e → AreApart k 1 p.link_at 4 → get_or window k 0 ≡ get_or longer k 0
+          kept-longer : (k : ℕ) → k < e → AreRangesApart k 1 p.link_at 4 → get_or window k 0 ≡ get_or longer k 0
           kept-longer k lt apart =
               kept-at k lt apart ∙ sym (get_or_append_left sectors g 0 k (omega (arith, lt, inside)))
 
@@ -302,7 +302,7 @@ module _ (binary : List ℕ) (spec : SealSpec) (sealed : IsSealed binary spec) (
         limit = sym (ap (λ (t : Started). t.limit) is ∙ ap (λ (x : EntryPoint). x.limit) entry);
       }
 
-  -- and that of the sealed image in a window that is erased behind it
+  -- the start of the sealed image in a window that is erased behind it
   module _ (f : List ℕ) (blank : AreErased f) (in_space : flash_base + length (new ++ f) ≤ SRAM_START) where
     back : IsReadBack binary spec (new ++ f)
     back = is-read-back binary spec sealed halves f blank in_space
@@ -405,7 +405,7 @@ module _ (binary g : List ℕ) (erased : AreErased g) (w : Window) (trial : Bool
   mine : KeepsRules Arm (whole_sectors binary)
   mine = parts-kept Arm (whole_sectors binary) p read
 
-  own_parts : p ≡ parts_of mine.loop mine.image.block mine.loads
+  own_parts : p ≡ parts_taken_over mine.loop mine.image.block mine.loads
   own_parts =
       same_parts (parts_in Arm (whole_sectors binary)) _ _ read (keeps-parts Arm (whole_sectors binary) mine)
 
@@ -421,7 +421,7 @@ module _ (binary g : List ℕ) (erased : AreErased g) (w : Window) (trial : Bool
       let z = slice_index_or mine.loop last no_block in
       let here = slice_get-get_or mine.loop last no_block (let some = chain.some in omega (arith, some)) in
       let at : z.at ≡ mine.image.block.at =
-      sym (ap (λ (q : Parts). q.last) own_parts ∙ ap offset_of here) ∙ last_is
+      sym (ap (λ (q : Parts). q.last) own_parts ∙ ap offset_of_block here) ∙ last_is
       ∙ sym (ap (λ (c : BlockView). c.at) same_block) in
       let stands = definition_stands Arm (whole_sectors binary) mine.loop mine.image mine.defined in
       let same : z ≡ mine.image.block =
@@ -438,7 +438,7 @@ module _ (binary g : List ℕ) (erased : AreErased g) (w : Window) (trial : Bool
   abbrev table_at : ℕ
   table_at = table_address flash_base valid.image.def
 
-  apart-in-flash : AreApart table_at 8 (flash_base + p.link_at) 4
+  apart-in-flash : AreRangesApart table_at 8 (flash_base + p.link_at) 4
   apart-in-flash = elim (cases_lt (flash_base + p.link_at) (table_at + 8)) [
     | inr under ↦ inl under
     | inl one ↦ elim (cases_lt table_at (flash_base + p.link_at + 4)) [
@@ -466,23 +466,23 @@ module _ (binary g : List ℕ) (erased : AreErased g) (w : Window) (trial : Bool
 
   apart-stored : (load : Load) (a start : ℕ) → load.storage ≡ Some start → load.runtime ≤ a
       → a < load.runtime + load.size → IsClearOf b load.storage load.size
-      → AreApart (start + (a - load.runtime)) 1 p.link_at 4
+      → AreRangesApart (start + (a - load.runtime)) 1 p.link_at 4
   apart-stored load a start is from to clear =
       side (subst (λ o. IsClearOf b o load.size) is clear)
     where
       side : (load.size ≡ 0) ⊎ ((start + load.size ≤ b.at) ⊎ (b.at + block_size b ≤ start))
-          → AreApart (start + (a - load.runtime)) 1 p.link_at 4
+          → AreRangesApart (start + (a - load.runtime)) 1 p.link_at 4
       side (inl empty) = absurd (omega (arith, empty, from, to))
       side (inr (inl before)) = inl (omega (arith, before, from, to, link_there))
       side (inr (inr behind)) = inr (omega (arith, behind, from, to, link_there))
 
-  apart-loaded : (a offset : ℕ) → IsLoadedFrom valid.sound.loads a offset → AreApart offset 1 p.link_at 4
+  apart-loaded : (a offset : ℕ) → IsLoadedFrom valid.sound.loads a offset → AreRangesApart offset 1 p.link_at 4
   apart-loaded a offset from =
       let loads = valid.sound.loads in
-      let held = last-in (holds a) loads from.load from.last in
+      let held = last-in (load_has_address a) loads from.load from.last in
       let range = (holds-range a from.load).0 held.0 in
       let clear = map-clear in_flash (length (whole_sectors binary ++ g)) b valid.image.def loads valid.sound.map in
-      subst (λ k. AreApart k 1 p.link_at 4) (sym from.place)
+      subst (λ k. AreRangesApart k 1 p.link_at 4) (sym from.place)
       (apart-stored from.load a from.start from.storage range.0 range.1
       (of-all (λ (l : Load). IsClearOf b l.storage l.size) loads from.load clear held.1))
 

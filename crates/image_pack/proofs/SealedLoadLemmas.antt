@@ -134,7 +134,7 @@ module _ (at e : ℕ) where
       go true rest = (storage-kept load.storage load.size stored.0, rest)
       go false rest = rest
 
-  -- and is the same where none is stored at the LOAD_MAP item
+  -- a load's storage is the same in the new map where it is stored before the LOAD_MAP item
   storage-same : e < at → (storage : Option ℕ) (size : ℕ) → IsStoredIn e storage size
       → own_storage at storage ≡ storage
   storage-same before None size is = refl

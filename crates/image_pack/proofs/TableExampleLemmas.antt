@@ -3,7 +3,7 @@ use Rattle.std.proofs.Common.{◌≡◌, ℕ, zero, suc, ◌+◌, ◌-◌, [], �
 use Rattle.std.specs.Prelude.{Contains, find, reverse}
 use Rattle.std.proofs.lemmas.Option.{none-some, same_Some}
 use Rattle.load_map.specs.declared.load.Load.{Load}
-use Rattle.load_map.specs.Given.{holds}
+use Rattle.load_map.specs.Given.{load_has_address}
 use Rattle.load_map.proofs.LastLoadLemmas.{last-in}
 use Rattle.image_pack.specs.Examples.{eight_bytes}
 use Rattle.image_pack.specs.Starts.{IsLoadedFrom}
@@ -20,7 +20,7 @@ only one load (suc k, lt, is) = absurd (omega (arith, lt))
 pub stored-at : (start i offset : ℕ) → IsLoadedFrom (eight_bytes start ∷ []) (0x20000000 + i) offset
     → offset ≡ start + i
 stored-at start i offset from =
-    let held = last-in (holds (0x20000000 + i)) (eight_bytes start ∷ []) from.load from.last in
+    let held = last-in (load_has_address (0x20000000 + i)) (eight_bytes start ∷ []) from.load from.last in
     let same = only (eight_bytes start) from.load held.1 in
     let begins : start ≡ from.start =
     same_Some _ _ (ap (λ (l : Load). l.storage) same ∙ from.storage) in
@@ -28,8 +28,8 @@ stored-at start i offset from =
     let place = from.place in
     omega (arith, begins, runs, place)
 
--- and that they are
-pub loaded-at : (start i : ℕ) → find (holds (0x20000000 + i)) (reverse (eight_bytes start ∷ []))
+-- the bytes of the one load are stored there
+pub loaded-at : (start i : ℕ) → find (load_has_address (0x20000000 + i)) (reverse (eight_bytes start ∷ []))
     ≡ Some (eight_bytes start)
     → IsLoadedFrom (eight_bytes start ∷ []) (0x20000000 + i) (start + i)
 loaded-at start i found = record {

@@ -6,7 +6,7 @@ use Rattle.pico_board.specs.declared.boot.Cpu.{Cpu}
 use Rattle.block_codec.specs.Blocks.{BlockView}
 use Rattle.block_loop.specs.declared.fault.LoopFault.{LoopFault}
 use Rattle.block_loop.specs.declared.fault.LoopFault.TheVariants.{NoBlock as NoFirst, Broken, TooMany, Overlap}
-use Rattle.block_loop.specs.Loop.{IsFault, IsLoop, loop_of}
+use Rattle.block_loop.specs.Loop.{IsLoopFault, IsLoop, loop_of}
 use Rattle.block_loop.proofs.ChainLemmas.{loop_of-fault, loop_of-loop}
 use Rattle.block_loop.proofs.SameLoopLemmas.{IsLoop-from_answer}
 use Rattle.image_def.specs.Definition.{def_of}
@@ -26,10 +26,10 @@ use Rattle.image_check.proofs.LawLemmas.{answered-why}
 use Rattle.image_check.proofs.RuleLemmas.{suits-type}
 use Rattle.image_pack.specs.declared.parts.Parts.{Parts}
 use Rattle.image_pack.specs.Faults.{whole_window, zero_otp}
-use Rattle.image_pack.specs.Sealing.{parts_in, parts_of}
+use Rattle.image_pack.specs.Sealing.{parts_in, parts_taken_over}
 use Rattle.image_pack.proofs.PartLemmas.{parts_in-loop}
 use Rattle.image_pack.proofs.WithinLemmas.{loop_answered}
-use Rattle.image_pack.specs.Unsealable.{FailsFirst, IsUnsealable, KeepsRules}
+use Rattle.image_pack.specs.Unsealable.{FailsRuleFirst, IsUnsealable, KeepsRules}
 
 -- two answers one after another, the whole of which is known
 and_then-ok : {A B F : Type 0} (r : Result A F) (f : A → Result B F) (y : B) → and_then r f ≡ Ok y
@@ -111,13 +111,13 @@ module _ (cpu : Cpu) (bytes : List ℕ) where
   ]
 
   -- the answer of the first five rules is that of the first that fails
-  fails-by : (why : Why) → defined_in cpu bytes ≡ Err why → FailsFirst cpu bytes why
+  fails-by : (why : Why) → defined_in cpu bytes ≡ Err why → FailsRuleFirst cpu bytes why
   unfolding image_in
   fails-by why is =
       answered-why in_flash (whole_window bytes) cpu true zero_otp bytes why
       (err-and_then (defined_in cpu bytes) _ why is)
 
-  early-unsealable : (why : Why) → IsEarly why → FailsFirst cpu bytes why → IsUnsealable cpu bytes why
+  early-unsealable : (why : Why) → IsEarly why → FailsRuleFirst cpu bytes why → IsUnsealable cpu bytes why
   early-unsealable NoBlock early fails = fails
   early-unsealable (Loop fault) early fails = fails
   early-unsealable NoDefinition early fails = fails
@@ -132,7 +132,7 @@ module _ (cpu : Cpu) (bytes : List ℕ) where
   early-unsealable Delta early fails = absurd early
 
   -- where the loop does not close, nothing is defined
-  open-loop : (fault : LoopFault) (why : Why) → IsFault bytes fault → loop_answer (Err fault) ≡ Err why
+  open-loop : (fault : LoopFault) (why : Why) → IsLoopFault bytes fault → loop_answer (Err fault) ≡ Err why
       → defined_in cpu bytes ≡ Err why
   open-loop fault why is answer =
       err-and_then (loop_answer (loop_of bytes)) _ why (ap loop_answer (loop_of-fault bytes fault is) ∙ answer)
@@ -143,7 +143,7 @@ module _ (cpu : Cpu) (bytes : List ℕ) where
       ok-and_then (loop_answer (loop_of bytes)) _ loop (Err why) (ap loop_answer (loop_of-loop bytes loop closes))
       (err-and_then (definition_answer cpu loop) _ why is)
 
-  -- and so is the first that fails answered
+  -- the first rule that the binary fails is answered
   undefined-by : (why : Why) → IsEarly why → IsUnsealable cpu bytes why → defined_in cpu bytes ≡ Err why
   undefined-by NoBlock early none = open-loop NoFirst NoBlock none refl
   undefined-by (Loop NoFirst) early fails = absurd (fails.0 refl)
@@ -219,11 +219,11 @@ module _ (cpu : Cpu) (bytes : List ℕ) where
           let defined = defined-is image found in
           let closed = loop_of-loop bytes defined.0 defined.1.closes in
           let next : and_then (map_answer in_flash (length bytes) image.block image.def)
-          (λ loads. Ok (parts_of defined.0 image.block loads)) ≡ Err why =
+          (λ loads. Ok (parts_taken_over defined.0 image.block loads)) ≡ Err why =
           sym (ok-and_then (loop_answer (loop_of bytes)) _ defined.0 _ (ap loop_answer closed)
           (ok-and_then (defined_in cpu bytes) _ image _ found refl)) ∙ is in
           elim (and_then-err (map_answer in_flash (length bytes) image.block image.def)
-          (λ loads. Ok (parts_of defined.0 image.block loads)) why next) [
+          (λ loads. Ok (parts_taken_over defined.0 image.block loads)) why next) [
             | inl wrong ↦
                 let fault =
                 fault_as-err Map (map_loads in_flash (length bytes) image.block image.def) why wrong in
@@ -234,7 +234,7 @@ module _ (cpu : Cpu) (bytes : List ℕ) where
 
   -- a binary that keeps the rules has parts, and none other has
   pub keeps-parts : (keeps : KeepsRules cpu bytes)
-      → parts_in cpu bytes ≡ Ok (parts_of keeps.loop keeps.image.block keeps.loads)
+      → parts_in cpu bytes ≡ Ok (parts_taken_over keeps.loop keeps.image.block keeps.loads)
   keeps-parts keeps =
       parts_in-loop bytes cpu keeps.loop keeps.image keeps.loads
       (loop_of-loop bytes keeps.loop keeps.defined.closes)
@@ -242,7 +242,7 @@ module _ (cpu : Cpu) (bytes : List ℕ) where
       (ok-fault_as Map (map_loads in_flash (length bytes) keeps.image.block keeps.image.def) keeps.loads keeps.map)
 
   pub kept-parts : KeepsRules cpu bytes → (p : Parts) × (parts_in cpu bytes ≡ Ok p)
-  kept-parts keeps = (parts_of keeps.loop keeps.image.block keeps.loads, keeps-parts keeps)
+  kept-parts keeps = (parts_taken_over keeps.loop keeps.image.block keeps.loads, keeps-parts keeps)
 
   pub parts-kept : (p : Parts) → parts_in cpu bytes ≡ Ok p → KeepsRules cpu bytes
   parts-kept p is =

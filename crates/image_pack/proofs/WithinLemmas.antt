@@ -25,7 +25,7 @@ use Rattle.image_check.specs.Rules.{loop_answer, map_answer, map_loads}
 use Rattle.image_check.proofs.MapLemmas.{map-stored}
 use Rattle.image_pack.specs.declared.parts.Parts.{Parts}
 use Rattle.image_pack.specs.Filling.{round_up, whole_sectors, whole_words}
-use Rattle.image_pack.specs.Sealing.{link_offset_of, offset_of, parts_in, parts_of}
+use Rattle.image_pack.specs.Sealing.{link_offset_of, offset_of_block, parts_in, parts_taken_over}
 use Rattle.image_pack.specs.Within.{IsWithin}
 
 -- the loop that is answered
@@ -114,7 +114,7 @@ IsWithin-parts binary cpu p small is =
     let w = whole_sectors binary in
     let read = answered (loop_answer (loop_of w)) (defined_in cpu w)
     (λ (i : Defined). map_answer in_flash (length w) i.block i.def)
-    (λ (bs : List BlockView) (i : Defined) (ls : List Load). parts_of bs i.block ls) p is in
+    (λ (bs : List BlockView) (i : Defined) (ls : List Load). parts_taken_over bs i.block ls) p is in
     let closed : loop_of w ≡ Ok read.a = loop_answered (loop_of w) read.a read.one in
     let some = loop_count w read.a closed in
     let fill = round_up 4096 (length binary) - length binary in
@@ -123,8 +123,8 @@ IsWithin-parts binary cpu p small is =
     let words = length-append binary (replicate (round_up 4 (length binary) - length binary) 255) in
     let filled = length-replicate {A = ℕ} (round_up 4 (length binary) - length binary) 255 in
     let least = round_up-least (length binary) in
-    let begins : offset_of (slice_get read.a 0) ≡ first.block.at = ap offset_of first.here in
-    let ends : offset_of (slice_get read.a (length read.a - 1)) ≡ last.block.at = ap offset_of last.here in
+    let begins : offset_of_block (slice_get read.a 0) ≡ first.block.at = ap offset_of_block first.here in
+    let ends : offset_of_block (slice_get read.a (length read.a - 1)) ≡ last.block.at = ap offset_of_block last.here in
     let links : link_offset_of (slice_get read.a (length read.a - 1)) ≡ last.block.at + (block_size last.block - 8) =
     ap link_offset_of last.here in
     let mapped = loads_answered (map_loads in_flash (length w) read.b.block read.b.def) read.c read.three in
@@ -137,7 +137,7 @@ IsWithin-parts binary cpu p small is =
       stored = stored-more (length w) MOST_FLASH_BYTES read.c (length-whole_sectors binary small) stored;
     })
 
--- the same of an answer
+-- the parts that are answered of a binary lie in it
 pub IsWithin-answer : (binary : List ℕ) (cpu : Cpu) (r : Result Parts Why) → length binary ≤ MOST_FLASH_BYTES
     → r ≡ parts_in cpu (whole_sectors binary) → IfOk r (λ p. IsWithin p (length (whole_words binary)))
 IsWithin-answer binary cpu (Ok p) small is = IsWithin-parts binary cpu p small (sym is)

@@ -1,4 +1,4 @@
--- A binary and specs that stand as worked examples. This project's own.
+-- A binary and specs that stand as worked examples.
 use Rattle.std.specs.Prelude.{ℕ, ◌+◌, Bool, false, List, [], ◌∷◌, ◌++◌, Option, None, Some, replicate, pos}
 use Rattle.pico_board.specs.declared.boot.Cpu.{Cpu}
 use Rattle.pico_board.specs.declared.window.Window.{Window}
@@ -14,8 +14,8 @@ abbrev pub least_image : List ℕ
 least_image =
     bytes_of (0x20082000 ∷ 0x10000201 ∷ replicate 67 0xffffffff ++ frame (0x10210142 ∷ []) (pos 0))
 
--- the same image sealed with version 1.9: the first block links to the new one at 0x128, and that
--- back to it
+-- the least image for Arm sealed with version 1.9: its first block links to the new one at 0x128,
+-- and that back to it
 abbrev pub least_sealed : List ℕ
 least_sealed =
     bytes_of (0x20082000 ∷ 0x10000201 ∷ replicate 67 0xffffffff
@@ -30,14 +30,14 @@ abbrev pub erased_sector : List ℕ
 erased_sector = replicate 4096 255
 
 -- a window of this length at the start of the flash
-abbrev pub first_window : ℕ → Window
-first_window len = record { start = 0; len = len }
+abbrev pub window_of_length : ℕ → Window
+window_of_length len = record { start = 0; len = len }
 
 -- the record of an image in such a window that starts by the two words of this vector table: its
 -- definition stands at this offset and says this version
 abbrev pub table_record : ℕ → ℕ → ℕ → ℕ → Started
 table_record len block major minor = record {
-  window = first_window len;
+  window = window_of_length len;
   block = block;
   image_at = block + 4;
   pc = 0x10000201;

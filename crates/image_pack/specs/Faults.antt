@@ -1,5 +1,4 @@
 -- Why a binary is not sealed: the first of these conditions, in the order of the error's variants.
--- This project's own.
 use Rattle.std.specs.Prelude.{◌≡◌, ◌≢◌, ℕ, ◌-◌, ◌<◌, ◌≤◌, true, List, [], length, replicate, Option, Some, None, Ok, Err}
 use Rattle.pico_board.specs.declared.window.TheConstants.{MOST_FLASH_BYTES}
 use Rattle.pico_board.specs.declared.boot.Cpu.{Cpu}
@@ -41,8 +40,8 @@ abbrev pub block_offset : List ℕ → ℕ
 block_offset binary = length (whole_words binary)
 
 -- the number of bytes of the new block: those of the sealed image behind its offset
-abbrev pub block_bytes : List ℕ → SealSpec → ℕ
-block_bytes binary spec = length (sealed_text binary spec) - block_offset binary
+abbrev pub new_block_size : List ℕ → SealSpec → ℕ
+new_block_size binary spec = length (sealed_text binary spec) - block_offset binary
 
 -- the spec is right, and the binary keeps the rules of a valid image from the first block to the
 -- items, and that on the load map
@@ -55,7 +54,7 @@ pub record IsSealable (binary : List ℕ) (spec : SealSpec) : Type 0 where
 pub record IsShort (binary : List ℕ) (spec : SealSpec) : Type 0 where
   pub sealable : IsSealable binary spec
   pub image : length (sealed_text binary spec) ≤ MOST_FLASH_BYTES
-  pub block : block_bytes binary spec ≤ MOST_BLOCK_BYTES
+  pub block : new_block_size binary spec ≤ MOST_BLOCK_BYTES
 
 -- an OTP of zeros
 unfoldable pub zero_otp : List ℕ
@@ -70,7 +69,8 @@ abbrev pub Boots : Cpu → List ℕ → Started → Type 0
 Boots cpu image s =
     IsValidImage in_flash (whole_window image) cpu true zero_otp (whole_sectors image) s
 
--- it does not start there, for this reason
+-- alone in a window, with an OTP of zeros and trial images allowed, this image does not start, for
+-- this reason
 abbrev pub FailsToBoot : Cpu → List ℕ → Why → Type 0
 FailsToBoot cpu image why = IsWhyNot in_flash cpu true zero_otp (whole_sectors image) why
 
@@ -91,7 +91,7 @@ IsSealFault binary spec TooLarge =
     IsSealable binary spec × (MOST_FLASH_BYTES < length (sealed_text binary spec))
 IsSealFault binary spec (BlockTooLong size) =
     IsSealable binary spec × (length (sealed_text binary spec) ≤ MOST_FLASH_BYTES)
-    × (MOST_BLOCK_BYTES < size) × (size ≡ block_bytes binary spec)
+    × (MOST_BLOCK_BYTES < size) × (size ≡ new_block_size binary spec)
 IsSealFault binary spec (NotBootable why) =
     IsShort binary spec × FailsToBoot spec.cpu (sealed_text binary spec) why
 IsSealFault binary spec Displaced =

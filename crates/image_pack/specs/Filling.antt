@@ -1,4 +1,4 @@
--- Bytes that are filled with 0xff, as erased flash reads. This project's own.
+-- Bytes that are filled with 0xff, as erased flash reads.
 use Rattle.std.specs.Prelude.{ℕ, ◌+◌, ◌-◌, ◌*◌, ◌/◌, List, ◌++◌, length, replicate}
 
 -- the least multiple of m, which is above 0, that is at least n

@@ -1,3 +1,6 @@
+-- These definitions are this project's own, except where a comment names a public source.
+pub mod Streams
+pub mod Flashes
 pub mod Filling
 pub mod Sealing
 pub mod Within

@@ -1,4 +1,4 @@
--- A sealed image as it is read back from a window that begins with it. This project's own.
+-- A sealed image as it is read back from a window that begins with it.
 use Rattle.std.specs.Prelude.{◌≡◌, ◌≢◌, ℕ, ◌+◌, ◌*◌, ◌∷◌, ◌++◌, ◌^◌, ◌<◌, ◌≤◌, IsTrue, List, [], length, take, slice_get, IfSome, Ok, Some, option_and_then}
 use Rattle.std.specs.Option.{option_map_or}
 use Rattle.block_codec.specs.declared.items.Item.{Item}

@@ -44,31 +44,32 @@ abbrev pub copied_words : BlockView → List ℕ
 copied_words b = item_words_of b (entry_item (items_of b.items))
 
 -- the offset of a block, and of its link word; those of no block are 0
-abbrev pub offset_of : Option BlockView → ℕ
-offset_of block = option_map_or (λ (b : BlockView). b.at) block 0
+abbrev pub offset_of_block : Option BlockView → ℕ
+offset_of_block block = option_map_or (λ (b : BlockView). b.at) block 0
 
 abbrev pub link_offset_of : Option BlockView → ℕ
 link_offset_of block = option_map_or (λ (b : BlockView). b.at + (block_size b - 8)) block 0
 
 -- what a sealed image takes over from its binary, by the blocks of its loop, its definition's block
 -- and the loads of its map
-abbrev pub parts_of : List BlockView → BlockView → List Load → Parts
-parts_of loop b loads = record {
-  first = offset_of (slice_get loop 0);
-  last = offset_of (slice_get loop (length loop - 1));
+abbrev pub parts_taken_over : List BlockView → BlockView → List Load → Parts
+parts_taken_over loop b loads = record {
+  first = offset_of_block (slice_get loop 0);
+  last = offset_of_block (slice_get loop (length loop - 1));
   link_at = link_offset_of (slice_get loop (length loop - 1));
   entry = record { items = copied_words b };
   loads = record { items = loads };
 }
 
--- the same of a binary's bytes, in whole sectors, or the first of the rules of a valid image from
--- the first block to the items, and then of the rule on the load map, that it fails
+-- what a sealed image takes over from a binary's bytes, in whole sectors; or the first rule that
+-- they fail, of the rules of a valid image from the first block to the items and then of the rule
+-- on the load map
 abbrev pub parts_in : Cpu → List ℕ → Result Parts Why
 parts_in cpu bytes =
     and_then (loop_answer (loop_of bytes)) (λ loop.
     and_then (defined_in cpu bytes) (λ image.
     and_then (map_answer in_flash (length bytes) image.block image.def) (λ loads.
-    Ok (parts_of loop image.block loads))))
+    Ok (parts_taken_over loop image.block loads))))
 
 -- the flags of the IMAGE_TYPE item: an executable for the RP2350, for Arm a secure one, and the
 -- trial bit
@@ -115,7 +116,7 @@ load_in_place size = record { storage = Some 0; runtime = flash_base; size = siz
 abbrev pub sram_loads : List Load → List Load
 sram_loads loads = filter (λ (load : Load). in_sram load.runtime load.size) loads
 
--- the same as the new map has them, whose item stands at this offset
+-- the loads that go into SRAM as the new map has them, whose item stands at this offset
 abbrev pub copied_loads : ℕ → List Load → List Load
 copied_loads at loads = map (own_load at) (sram_loads loads)
 
@@ -199,8 +200,8 @@ block_items spec bytes None = sealed_items spec bytes [] []
 block_items spec bytes (Some parts) =
     sealed_items spec bytes parts.entry.items parts.loads.items
 
--- its link to the first block of the binary's loop, from this offset; a binary without parts has
--- none, and the new block links to itself
+-- the new block's link to the first block of the binary's loop, from this offset; a binary without
+-- parts has no loop, and the new block links to itself
 abbrev pub block_link : ℕ → Option Parts → ℤ
 block_link at None = pos 0
 block_link at (Some parts) = pos parts.first -ℤ pos at

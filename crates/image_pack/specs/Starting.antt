@@ -1,5 +1,4 @@
--- How the answer of a check of a sealed image is taken: by its new block or another one. This
--- project's own.
+-- How the answer of a check of a sealed image is taken: by its new block or another one.
 use Rattle.std.specs.Prelude.{◌≡◌, ◌≢◌, ℕ, Result, Ok, Err}
 use Rattle.image_def.specs.declared.started.Started.{Started}
 use Rattle.image_check.specs.declared.why.Why.{Why}

@@ -1,4 +1,4 @@
--- Where a sealed image starts, and which bytes of its binary stay. This project's own.
+-- Where a sealed image starts, and which bytes of its binary stay.
 use Rattle.std.specs.Prelude.{◌≡◌, ◌⊎◌, ℕ, ◌+◌, ◌-◌, ◌<◌, ◌≤◌, List, find, reverse, None, Some}
 use Rattle.pico_board.specs.declared.boot.Cpu.{Cpu}
 use Rattle.pico_board.specs.Content.{flash_base}
@@ -8,7 +8,7 @@ use Rattle.image_check.specs.declared.entry.Source.{Source}
 use Rattle.image_check.specs.Entering.{IsSource}
 use Rattle.image_def.specs.declared.started.Started.{Started}
 use Rattle.load_map.specs.declared.load.Load.{Load}
-use Rattle.load_map.specs.Given.{holds}
+use Rattle.load_map.specs.Given.{load_has_address}
 
 -- a definition keeps the start that another one says: its ENTRY_POINT, and where it has none its
 -- VECTOR_TABLE
@@ -40,27 +40,27 @@ pub record StartsBy (cpu : Cpu) (def : Def) (bytes : List ℕ) (loads : List Loa
 -- holds the address, the last one stores it there
 pub record IsLoadedFrom (loads : List Load) (address offset : ℕ) : Type 0 where
   pub load : Load
-  pub last : find (holds address) (reverse loads) ≡ Some load
+  pub last : find (load_has_address address) (reverse loads) ≡ Some load
   pub start : ℕ
   pub storage : load.storage ≡ Some start
   pub place : offset ≡ start + (address - load.runtime)
 
 -- two ranges of so many bytes share none
-abbrev pub AreApart : ℕ → ℕ → ℕ → ℕ → Type 0
-AreApart x size y other = (x + size ≤ y) ⊎ (y + other ≤ x)
+abbrev pub AreRangesApart : ℕ → ℕ → ℕ → ℕ → Type 0
+AreRangesApart x size y other = (x + size ≤ y) ⊎ (y + other ≤ x)
 
 -- sealing leaves the byte at this offset as it is: it is one of the first `size` bytes, those of
 -- the binary, and none of the four of the link word at that offset
 pub record Stays (size link_at offset : ℕ) : Type 0 where
   pub inside : offset < size
-  pub apart : AreApart offset 1 link_at 4
+  pub apart : AreRangesApart offset 1 link_at 4
 
 -- no byte of the vector table at this address is one of the four of the link word at this offset:
 -- neither where the table lies in flash, nor by where loads store it
 pub record LinkIsOutsideTable (loads : List Load) (table link_at : ℕ) : Type 0 where
-  pub flash : AreApart table 8 (flash_base + link_at) 4
+  pub flash : AreRangesApart table 8 (flash_base + link_at) 4
   pub loaded : (i offset : ℕ) → i < 8 → IsLoadedFrom loads (table + i) offset
-      → AreApart offset 1 link_at 4
+      → AreRangesApart offset 1 link_at 4
 
 -- each byte of the vector table at this address that is loaded comes from the first `size` bytes
 abbrev pub TableIsStoredIn : ℕ → List Load → ℕ → Type 0

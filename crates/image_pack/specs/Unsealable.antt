@@ -1,5 +1,5 @@
 -- Why a binary cannot be sealed, in the words of the rules of a valid image: of the rules from the
--- first block to the items, and the rule on the load map, the first that fails. This project's own.
+-- first block to the items, and the rule on the load map, the first that fails.
 use Rattle.std.specs.Prelude.{◌≡◌, ℕ, true, List, length, Ok, Err}
 use Rattle.pico_board.specs.declared.boot.Cpu.{Cpu}
 use Rattle.block_codec.specs.Blocks.{BlockView}
@@ -16,8 +16,8 @@ use Rattle.image_pack.specs.Faults.{zero_otp}
 
 -- a window with these bytes fails this rule of a valid image first; the rules that are meant here,
 -- from the first block to the items, read neither the OTP nor whether a trial image is allowed
-abbrev pub FailsFirst : Cpu → List ℕ → Why → Type 0
-FailsFirst cpu bytes why = IsWhyNot in_flash cpu true zero_otp bytes why
+abbrev pub FailsRuleFirst : Cpu → List ℕ → Why → Type 0
+FailsRuleFirst cpu bytes why = IsWhyNot in_flash cpu true zero_otp bytes why
 
 -- the rules from the first block to the items hold, and that on the load map fails
 pub record HasWrongMap (cpu : Cpu) (bytes : List ℕ) (fault : MapFault) : Type 0 where
@@ -26,7 +26,7 @@ pub record HasWrongMap (cpu : Cpu) (bytes : List ℕ) (fault : MapFault) : Type 
   pub defined : IsDefined cpu bytes loop image
   pub wrong : map_loads in_flash (length bytes) image.block image.def ≡ Err fault
 
--- all of them hold
+-- the rules from the first block to the items hold, and the rule on the load map
 pub record KeepsRules (cpu : Cpu) (bytes : List ℕ) : Type 0 where
   pub loop : List BlockView
   pub image : Defined
@@ -36,10 +36,10 @@ pub record KeepsRules (cpu : Cpu) (bytes : List ℕ) : Type 0 where
 
 -- the answer of the first of them that fails
 abbrev pub IsUnsealable : Cpu → List ℕ → Why → Type 0
-IsUnsealable cpu bytes NoBlock = FailsFirst cpu bytes NoBlock
-IsUnsealable cpu bytes (Loop fault) = FailsFirst cpu bytes (Loop fault)
-IsUnsealable cpu bytes NoDefinition = FailsFirst cpu bytes NoDefinition
-IsUnsealable cpu bytes NotForProcessor = FailsFirst cpu bytes NotForProcessor
-IsUnsealable cpu bytes (Items fault) = FailsFirst cpu bytes (Items fault)
+IsUnsealable cpu bytes NoBlock = FailsRuleFirst cpu bytes NoBlock
+IsUnsealable cpu bytes (Loop fault) = FailsRuleFirst cpu bytes (Loop fault)
+IsUnsealable cpu bytes NoDefinition = FailsRuleFirst cpu bytes NoDefinition
+IsUnsealable cpu bytes NotForProcessor = FailsRuleFirst cpu bytes NotForProcessor
+IsUnsealable cpu bytes (Items fault) = FailsRuleFirst cpu bytes (Items fault)
 IsUnsealable cpu bytes (Map fault) = HasWrongMap cpu bytes fault
 IsUnsealable cpu bytes why = ⊥

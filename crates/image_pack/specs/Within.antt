@@ -1,4 +1,4 @@
--- What is true of the parts that a sealed image takes over from its binary. This project's own.
+-- What is true of the parts that a sealed image takes over from its binary.
 use Rattle.std.specs.Prelude.{ℕ, ◌+◌, ◌≤◌}
 use Rattle.pico_board.specs.declared.window.TheConstants.{MOST_FLASH_BYTES}
 use Rattle.load_map.specs.Stored.{AreStoredIn}

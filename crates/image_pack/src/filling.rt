@@ -4,10 +4,8 @@ ghost use Rattle.std.specs.Prelude.{◌≡◌, ◌+◌, ◌≤◌, ◌<◌, ◌^
 ghost use Rattle.pico_board.specs.declared.window.TheConstants.{MOST_FLASH_BYTES};
 ghost use Rattle.image_pack.specs.Filling.{padded, round_up, whole_sectors, whole_words};
 
+use pico_board::ERASED;
 use std::alloc::{AllocError, Global};
-
-/// The byte of erased flash.
-const ERASED: u8 = 0xff;
 
 /// The least multiple of m that is at least n.
 fn round_up(m: usize, n: usize) -> usize

@@ -12,22 +12,16 @@ ghost use Rattle.image_pack.specs.Filling.{whole_sectors};
 use crate::filling::fill_sectors;
 use image_check::{Addressing, Why, check_view};
 use image_def::Started;
-use pico_board::{BoardError, Cpu, MemBoard, SliceView, Window};
+use pico_board::{BoardError, Cpu, MemBoard, ROWS, SECTOR, SliceView, Window};
 use sector_pool::SectorPool;
 use std::alloc::{AllocError, Global};
-
-/// The least number of bytes of a flash.
-const LEAST_FLASH: usize = 8192;
-
-/// The number of OTP rows.
-const ROWS: usize = 4096;
 
 /// The rows of an OTP of zeros.
 #[tactic(auto, unfolding(crate::specs::Faults::zero_otp))]
 fn zero_rows(alloc: Global) -> Result<Vec<u32>, AllocError>
     ensures { IfOk result (λ rows. rows.items ≡ zero_otp) }
 {
-    vec![in alloc; 0u32; ROWS]
+    vec![in alloc; 0u32; ROWS as usize]
 }
 
 /// So many bytes of erased flash.
@@ -65,7 +59,7 @@ fn zero_board(alloc: Global) -> Result<MemBoard, AllocError>
     ensures otp { IfOk result (λ board. (state_of board).content.otp ≡ zero_otp) }
     ensures power { IfOk result (λ board. IsTrue (state_of board).powered) }
 {
-    let flash = blank(alloc, LEAST_FLASH)?;
+    let flash = blank(alloc, 2 * SECTOR as usize)?;
     let rows = zero_rows(alloc)?;
     board_of(alloc, flash, rows)
 }

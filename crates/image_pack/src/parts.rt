@@ -2,7 +2,7 @@
 
 ghost use Rattle.std.specs.Prelude.{◌≡◌, ◌+◌, ◌≤◌, Contains, IfOk, IfSome, length, slice_range};
 ghost use Rattle.pico_board.specs.declared.window.TheConstants.{MOST_FLASH_BYTES};
-ghost use Rattle.block_codec.specs.Blocks.{IsWhole, block_words};
+ghost use Rattle.block_codec.specs.Blocks.{IsWholeBlock, block_words};
 ghost use Rattle.block_codec.specs.Items.{IsItemOf, items_of};
 ghost use Rattle.block_codec.specs.Kinds.{item_of_kind};
 ghost use Rattle.image_pack.specs.Filling.{whole_sectors, whole_words};
@@ -39,7 +39,7 @@ fn find_item(block: &Block, kind: u8) -> Option<Item>
     ensures value { result ≡ item_of_kind kind (items_of block.now.items) }
     ensures of_block { IfSome result (λ item. Contains (items_of block.now.items) item) }
     ensures inside { IfSome result (λ item. IsItemOf block.now.items item) }
-    ensures whole { IsWhole block.now }
+    ensures whole { IsWholeBlock block.now }
 {
     let count = block.count();
     for i in 0..count {

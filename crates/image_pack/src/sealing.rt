@@ -3,7 +3,7 @@
 ghost use Rattle.std.specs.Prelude.{◌≡◌, ◌≤◌, ◌++◌, ◌⊎◌, Err, Ok, IfErr, IfOk, IsErrOf, OnErr, OnOk, List, ℕ, length};
 ghost use Rattle.pico_board.specs.declared.window.TheConstants.{MOST_FLASH_BYTES};
 ghost use Rattle.image_pack.specs.declared.spec.SealError.{SealError};
-ghost use Rattle.image_pack.specs.Faults.{IsRightSpec, IsSealFault, IsSealable, IsSealed, IsShort, block_bytes, block_offset};
+ghost use Rattle.image_pack.specs.Faults.{IsRightSpec, IsSealFault, IsSealable, IsSealed, IsShort, new_block_size, block_offset};
 ghost use Rattle.image_pack.specs.Filling.{whole_sectors, whole_words};
 ghost use Rattle.image_pack.specs.Sealing.{parts_in, sealed_text};
 ghost use Rattle.image_pack.specs.Starting.{IsStartFault, StartsAt};
@@ -108,7 +108,8 @@ fn judged_text(alloc: Global, binary: &[u8], spec: &SealSpec) -> Result<Vec<u8>,
     }
 }
 
-/// The same, with each fault told exactly where its condition holds.
+/// The sealed image of a binary by a spec, or why there is none, with each fault told exactly
+/// where its condition holds.
 fn judged_exactly(alloc: Global, binary: &[u8], spec: &SealSpec) -> Result<Vec<u8>, SealError>
     requires { length binary.now ≤ MOST_FLASH_BYTES }
     ensures text { IfOk result (λ text. text.items ≡ sealed_text binary.now spec.now) }

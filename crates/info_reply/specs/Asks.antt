@@ -1,4 +1,4 @@
--- What an info command asks for, and why it is refused. This project's own.
+-- What an info command asks for, and why it is refused.
 use Rattle.std.specs.Prelude.{ℕ, ◌%◌, ◌==◌, ◌&&◌, Bool, false, true, is_some, nat_lt, nat_le, ◌*◌, Option, Some, None, Result, Ok, Err, List, [], ◌∷◌, if◌then◌else◌, length, drop, slice_index}
 use Rattle.byteorder.specs.Endian.{little_number}
 use Rattle.part_table.specs.declared.table.Table.{Table}
@@ -52,5 +52,5 @@ abbrev pub asked_or : Option Ask → ℕ → Result Ask ℕ
 asked_or None status = Err status
 asked_or (Some ask) status = if status == 0 then Ok ask else Err status
 
-abbrev pub asked : Cmd → List ℕ → Result Ask ℕ
-asked cmd payload = asked_or (ask_in cmd) (first_failing (ask_checks cmd payload))
+abbrev pub asked_info : Cmd → List ℕ → Result Ask ℕ
+asked_info cmd payload = asked_or (ask_in cmd) (first_failing (ask_checks cmd payload))

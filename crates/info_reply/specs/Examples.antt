@@ -1,4 +1,4 @@
--- Info commands, and what they are answered by. This project's own.
+-- Info commands, and what they are answered by.
 use Rattle.std.specs.Prelude.{ℕ, Bool, Option, List, ◌∷◌, ◌++◌, replicate}
 use Rattle.byteorder.specs.Endian.{little_bytes}
 use Rattle.pico_board.specs.declared.boot.Cpu.TheVariants.{Arm, Riscv}

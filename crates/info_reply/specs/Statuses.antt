@@ -1,4 +1,4 @@
--- The status of an info command as a whole. This project's own.
+-- The status of an info command as a whole.
 use Rattle.std.specs.Prelude.{ℕ, Option, Some, None, List, [], ◌++◌}
 use Rattle.part_table.specs.declared.table.Table.{Table}
 use Rattle.part_table.specs.declared.target.Target.{Target}

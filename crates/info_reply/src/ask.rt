@@ -1,7 +1,7 @@
 //! What an info command asks for.
 
 ghost use Rattle.std.specs.Prelude.{◌≡◌};
-ghost use Rattle.info_reply.specs.Asks.{ask_of, asked};
+ghost use Rattle.info_reply.specs.Asks.{ask_of, asked_info};
 
 use crate::kinds::{DEVICE, INFO, INFO_SIZE, PARTITION, TABLE, TARGET};
 use byteorder::{ByteOrder, LittleEndian};
@@ -54,7 +54,7 @@ fn ask_of(kind: u8, argument: u32) -> Option<Ask>
 /// kind outside 1 to 4.
 pub fn info_ask(cmd: &Cmd, payload: &[u8]) -> Result<Ask, u32>
     requires { cmd.now.id ≡ INFO }
-    ensures { result ≡ asked cmd.now payload.now }
+    ensures { result ≡ asked_info cmd.now payload.now }
 {
     if cmd.arg_size != INFO_SIZE {
         return Err(COMMAND_LENGTH);

@@ -2,7 +2,7 @@
 
 ghost use Rattle.std.specs.Prelude.{◌≡◌, ◌+◌, ◌*◌, ◌≤◌, ◌<◌, ◌++◌, length};
 ghost use Rattle.block_codec.specs.Words.{bytes_of, word_bytes, words_of};
-ghost use Rattle.part_table.specs.Written.{id_text, name_text, padded_name, partition_text};
+ghost use Rattle.part_table.specs.Written.{written_id, written_name, padded_name, written_partition};
 
 use arrayvec::ArrayVec;
 use part_table::Partition;
@@ -31,7 +31,7 @@ pub(crate) fn put_words(bytes: &mut ArrayVec<u8, 156>, words: &[u32])
 /// Appends the words of an id.
 fn put_id(bytes: &mut ArrayVec<u8, 156>, id: Option<u64>)
     requires { length bytes.old.items + 8 ≤ 156 }
-    ensures value { bytes.new.items ≡ bytes.old.items ++ bytes_of (id_text id) }
+    ensures value { bytes.new.items ≡ bytes.old.items ++ bytes_of (written_id id) }
     ensures long { length bytes.new.items ≤ length bytes.old.items + 8 }
 {
     if let Some(id) = id {
@@ -67,7 +67,7 @@ fn put_name(bytes: &mut ArrayVec<u8, 156>, name: &[u8])
 /// Appends the words of the name, where there is one.
 fn put_any_name(bytes: &mut ArrayVec<u8, 156>, name: &Option<ArrayVec<u8, 127>>)
     requires { length bytes.old.items + 128 ≤ 156 }
-    ensures { bytes.new.items ≡ bytes.old.items ++ bytes_of (name_text name.now) }
+    ensures { bytes.new.items ≡ bytes.old.items ++ bytes_of (written_name name.now) }
 {
     if let Some(name) = name {
         put_name(bytes, name.as_slice());
@@ -76,7 +76,7 @@ fn put_any_name(bytes: &mut ArrayVec<u8, 156>, name: &Option<ArrayVec<u8, 127>>)
 
 /// The bytes of a partition.
 pub(crate) fn part_bytes(part: &Partition) -> ArrayVec<u8, 156>
-    ensures { result.items ≡ bytes_of (partition_text part.now) }
+    ensures { result.items ≡ bytes_of (written_partition part.now) }
 {
     let mut bytes = ArrayVec::new();
     put_words(&mut bytes, &[part.location, part.flags]);

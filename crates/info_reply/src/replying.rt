@@ -4,10 +4,10 @@ ghost use Rattle.std.specs.Prelude.{◌≡◌, ◌≢◌, ◌+◌, ◌*◌, ◌�
 ghost use Rattle.std.specs.Option.{option_map};
 ghost use Rattle.block_codec.specs.Words.{bytes_of};
 ghost use Rattle.part_table.specs.Partitions.{part_at};
-ghost use Rattle.part_table.specs.Written.{partition_text};
+ghost use Rattle.part_table.specs.Written.{written_partition};
 ghost use Rattle.picoboot_cmd.specs.Checks.{first_failing};
 ghost use Rattle.info_reply.specs.Asks.{has_part, is_there, reply_checks};
-ghost use Rattle.info_reply.specs.Infos.{bit, cpu_number, device_words, info_of, part_words, table_words, target_words, two_words};
+ghost use Rattle.info_reply.specs.Infos.{bit, cpu_number, device_words, info_of, part_words, table_words, target_words, location_and_flags};
 
 use crate::ask::{Ask, Device};
 use crate::bytes::{part_bytes, put_words};
@@ -28,7 +28,8 @@ const SINGLETON: u32 = 0x100;
 /// Appends the location word and the flag word of each partition.
 fn put_parts(bytes: &mut ArrayVec<u8, 156>, parts: &[Partition])
     requires { length bytes.old.items + 8 * length parts.now ≤ 156 }
-    ensures { bytes.new.items ≡ bytes.old.items ++ bytes_of (flat_map two_words parts.now) }
+    ensures { bytes.new.items ≡ bytes.old.items
+        ++ bytes_of (flat_map location_and_flags parts.now) }
 {
     for part in parts {
         put_words(bytes, &[part.location, part.flags]);

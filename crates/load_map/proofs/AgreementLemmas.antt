@@ -13,7 +13,7 @@ use Rattle.block_codec.specs.declared.definition.Def.{Def}
 use Rattle.load_map.specs.Addresses.{is_sram}
 use Rattle.load_map.specs.Agree.{AgreeOn, IsStoredAt, SameButTrial}
 use Rattle.load_map.specs.Covered.{covered, covered_digest, covered_load, covered_piece}
-use Rattle.load_map.specs.Given.{byte_at, holds, in_window, loaded_byte, stored_byte, word_at}
+use Rattle.load_map.specs.Given.{byte_at, load_has_address, in_window, loaded_byte, stored_byte, given_word}
 use Rattle.load_map.specs.declared.load.Load.{Load}
 use Rattle.load_map.proofs.LastLoadLemmas.{Contains-later, last-in}
 
@@ -59,15 +59,15 @@ same-loaded : (w v : List ℕ) (storage : Option ℕ) (size k : ℕ) → k < siz
 same-loaded w v None size k lt same = refl
 same-loaded w v (Some x) size k lt same = same (x + k) x refl (omega arith) (omega (arith, lt))
 
-held-within : (address : ℕ) (load : Load) → holds address load ≡ true → address - load.runtime < load.size
+held-within : (address : ℕ) (load : Load) → load_has_address address load ≡ true → address - load.runtime < load.size
 held-within address load held = grind (arith, nat_tests)
 
 same-last : (w v : List ℕ) (loads : List Load) (address : ℕ) → AgreeOn loads w v → (last : Option Load)
-    → find (holds address) (reverse loads) ≡ last
+    → find (load_has_address address) (reverse loads) ≡ last
     → option_map (loaded_byte v address) last ≡ option_map (loaded_byte w address) last
 same-last w v loads address agree None is = refl
 same-last w v loads address agree (Some load) is =
-    let found = last-in (holds address) loads load is in
+    let found = last-in (load_has_address address) loads load is in
     ap (λ byte. Some byte)
     (same-loaded w v load.storage load.size (address - load.runtime) (held-within address load found.0)
     (λ i start at from to. agree.same load i found.1 (start, at, from, to)))
@@ -80,17 +80,20 @@ same-byte base w v loads address agree here = rw agree.long (by_window (in_windo
   where
     by_window : (inside : Bool) → in_window base (length w) address ≡ inside →
         cond inside (Some (slice_index v (address - base)))
-        (cond (is_sram address) (option_map (loaded_byte v address) (find (holds address) (reverse loads))) None)
+        (cond (is_sram address) (option_map (loaded_byte v address)
+        (find (load_has_address address) (reverse loads))) None)
         ≡ cond inside (Some (slice_index w (address - base)))
-        (cond (is_sram address) (option_map (loaded_byte w address) (find (holds address) (reverse loads))) None)
+        (cond (is_sram address) (option_map (loaded_byte w address)
+        (find (load_has_address address) (reverse loads))) None)
     by_window true inside = ap (λ byte. Some byte) (here inside)
-    by_window false outside = rw (same-last w v loads address agree (find (holds address) (reverse loads)) refl) refl
+    by_window false outside = rw (same-last w v loads address agree
+        (find (load_has_address address) (reverse loads)) refl) refl
 
 -- the word at an address
 pub same-word : (base : ℕ) (w v : List ℕ) (loads : List Load) (address : ℕ) → AgreeOn loads w v
     → ((k : ℕ) → k < 4 → in_window base (length w) (address + k) ≡ true
     → slice_index v (address + k - base) ≡ slice_index w (address + k - base))
-    → word_at base v loads address ≡ word_at base w loads address
+    → given_word base v loads address ≡ given_word base w loads address
 same-word base w v loads address agree here =
     let zeroth : address + 0 ≡ address = omega arith in
     let at = subst (λ a. in_window base (length w) a ≡ true

@@ -182,7 +182,7 @@ module _ (s : Setting) (b : BlockView) (absolute : Bool) (entries : List Entry) 
       → loads_or_fault s b absolute entries ≡ Err fault
   first-fault i fault first = rw (fault_from_first (entry_fault s b absolute) entries i fault first) refl
 
-  -- and otherwise the loads of its entries
+  -- a map without a fault has the loads of its entries
   pub loads-sound : (loads : List Load) → loads_or_fault s b absolute entries ≡ Ok loads
       → AreSound (entry_fault s b absolute) entries (length entries) ×
       (loads ≡ filter_map (load_of s absolute) entries)

@@ -8,7 +8,7 @@ use Rattle.block_codec.specs.Words.{bytes_of, word_bytes}
 use Rattle.block_codec.proofs.FrameLemmas.{length-frame}
 use Rattle.load_map.specs.Covered.{masked_words}
 
--- as many words as the block has
+-- a block with its image word masked has as many words as before
 pub length-masked : (b : BlockView) (image_word : ℕ)
     → length (masked_words (block_words b) image_word) ≡ length b.items + 4
 length-masked b image_word = length-set (block_words b) image_word _ ∙ length-frame b.items b.link

@@ -12,7 +12,7 @@ use Rattle.block_codec.specs.Blocks.{BlockView}
 use Rattle.block_codec.specs.declared.definition.Def.{Def}
 use Rattle.load_map.specs.Addresses.{is_sram}
 use Rattle.load_map.specs.Covered.{covered, covered_digest, covered_load, covered_piece}
-use Rattle.load_map.specs.Given.{byte_at, holds, in_window, loaded_byte, stored_byte, word_at, word_if_given}
+use Rattle.load_map.specs.Given.{byte_at, load_has_address, in_window, loaded_byte, stored_byte, given_word, word_if_given}
 use Rattle.load_map.specs.Stored.{AreStoredIn, IsStoredIn}
 use Rattle.load_map.specs.declared.addresses.TheConstants.{SRAM_START}
 use Rattle.load_map.specs.declared.load.Load.{Load}
@@ -63,11 +63,11 @@ window-longer base w f loads a x inside is =
 
 -- what a load gives
 last-longer : (w f : List ℕ) (loads : List Load) (a x : ℕ) → AreStoredIn (length w) loads → (last : Option Load)
-    → find (holds a) (reverse loads) ≡ last → option_map (loaded_byte w a) last ≡ Some x
+    → find (load_has_address a) (reverse loads) ≡ last → option_map (loaded_byte w a) last ≡ Some x
     → option_map (loaded_byte (w ++ f) a) last ≡ Some x
 last-longer w f loads a x stored None found is = absurd (none-some x is)
 last-longer w f loads a x stored (Some load) found is =
-    let held = last-in (holds a) loads load found in
+    let held = last-in (load_has_address a) loads load found in
     let range = (holds-range a load).0 held.0 in
     let here = All-contains (λ (l : Load). IsStoredIn (length w) l.storage l.size) loads load
     (All-from_recursion (λ (l : Load). IsStoredIn (length w) l.storage l.size) loads stored) held.1 in
@@ -78,13 +78,13 @@ last-longer w f loads a x stored (Some load) found is =
 -- what SRAM gives behind a window that ends below it
 sram-longer : (base : ℕ) (w f : List ℕ) (loads : List Load) (a x : ℕ) → AreStoredIn (length w) loads
     → base + length (w ++ f) ≤ SRAM_START → (inside : Bool) → is_sram a ≡ inside
-    → cond inside (option_map (loaded_byte w a) (find (holds a) (reverse loads))) None ≡ Some x
+    → cond inside (option_map (loaded_byte w a) (find (load_has_address a) (reverse loads))) None ≡ Some x
     → byte_at base (w ++ f) loads a ≡ Some x
 sram-longer base w f loads a x stored below false test is = absurd (none-some x is)
 sram-longer base w f loads a x stored below true test is =
     let from : SRAM_START ≤ a = grind (arith, nat_tests) in
     let outside : in_window base (length (w ++ f)) a ≡ false = grind (arith, nat_tests) in
-    rw (outside, test) (last-longer w f loads a x stored (find (holds a) (reverse loads)) refl is)
+    rw (outside, test) (last-longer w f loads a x stored (find (load_has_address a) (reverse loads)) refl is)
 
 pub byte-longer : (base : ℕ) (w f : List ℕ) (loads : List Load) (a x : ℕ) → AreStoredIn (length w) loads
     → base + length (w ++ f) ≤ SRAM_START → byte_at base w loads a ≡ Some x → byte_at base (w ++ f) loads a ≡ Some x
@@ -92,7 +92,7 @@ byte-longer base w f loads a x stored below = by_window (in_window base (length 
   where
     by_window : (inside : Bool) → in_window base (length w) a ≡ inside
         → cond inside (Some (slice_index w (a - base)))
-        (cond (is_sram a) (option_map (loaded_byte w a) (find (holds a) (reverse loads))) None) ≡ Some x
+        (cond (is_sram a) (option_map (loaded_byte w a) (find (load_has_address a) (reverse loads))) None) ≡ Some x
         → byte_at base (w ++ f) loads a ≡ Some x
     by_window true inside is = window-longer base w f loads a x inside (same_Some (slice_index w (a - base)) x is)
     by_window false outside is = sram-longer base w f loads a x stored below (is_sram a) refl is
@@ -109,7 +109,8 @@ word-from (Some a) (Some b) (Some c) (Some d) e g h i x one two three four is =
     rw (one a refl, two b refl, three c refl, four d refl) is
 
 pub word-longer : (base : ℕ) (w f : List ℕ) (loads : List Load) (a x : ℕ) → AreStoredIn (length w) loads
-    → base + length (w ++ f) ≤ SRAM_START → word_at base w loads a ≡ Some x → word_at base (w ++ f) loads a ≡ Some x
+    → base + length (w ++ f) ≤ SRAM_START → given_word base w loads a ≡ Some x
+    → given_word base (w ++ f) loads a ≡ Some x
 word-longer base w f loads a x stored below is =
     word-from (byte_at base w loads a) (byte_at base w loads (a + 1)) (byte_at base w loads (a + 2))
     (byte_at base w loads (a + 3)) (byte_at base (w ++ f) loads a) (byte_at base (w ++ f) loads (a + 1))

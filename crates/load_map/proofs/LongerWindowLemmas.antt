@@ -16,7 +16,7 @@ use Rattle.load_map.specs.Reading.{offset_within, stored_at, relative_load, abso
 use Rattle.load_map.specs.declared.load.Load.{Load}
 use Rattle.load_map.proofs.SoundLoadLemmas.{chosen, no-fault, no-first, ok_unless-Ok, none_load}
 
--- the same setting in a window of m bytes
+-- the setting of a load map in a window of m bytes
 abbrev pub longer : Setting → ℕ → Setting
 longer s m = record { base = s.base; in_place = s.in_place; len = m; item_at = s.item_at }
 

@@ -19,7 +19,7 @@ use Rattle.load_map.specs.declared.load.Load.{Load}
 use Rattle.load_map.specs.declared.load.MapFault.{MapFault}
 use Rattle.load_map.specs.declared.load.MapFault.TheVariants.{Runtime, CoversBlock}
 
--- as many entries as were asked for
+-- as many entries are read as were asked for
 pub length-entries : (words : List ℕ) (place n : ℕ) → length (entries_from words place n) ≡ n
 length-entries words place zero = refl
 length-entries words place (suc n) = ap suc (length-entries words (place + 3) n)

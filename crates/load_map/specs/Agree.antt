@@ -1,5 +1,4 @@
--- What the loads of an image, the bytes that they give and the covered bytes depend on. This
--- project's own.
+-- What the loads of an image, the bytes that they give and the covered bytes depend on.
 use Rattle.std.specs.Prelude.{◌≡◌, ℕ, ◌+◌, ◌*◌, ◌<◌, ◌≤◌, List, length, slice_index, Contains, Some}
 use Rattle.block_codec.specs.Blocks.{BlockView, block_words}
 use Rattle.block_codec.specs.declared.items.Item.{Item}

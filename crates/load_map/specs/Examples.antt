@@ -1,4 +1,4 @@
--- Blocks with load maps that stand as worked examples. This project's own.
+-- Blocks with load maps that stand as worked examples.
 use Rattle.std.specs.Prelude.{ℕ, pos, true, false, List, [], ◌∷◌, Result, Some, None}
 use Rattle.pico_board.specs.Content.{flash_base}
 use Rattle.block_codec.specs.Blocks.{BlockView}
@@ -18,13 +18,14 @@ abbrev pub second_item : ℕ → Item
 second_item header = item_at 2 header
 
 -- what the load map with this header and these entries gives in a window of 8192 bytes in flash
-abbrev pub in_flash : ℕ → List ℕ → Result (List Load) MapFault
-in_flash header entries =
+abbrev pub loads_in_flash : ℕ → List ℕ → Result (List Load) MapFault
+loads_in_flash header entries =
     loads_of flash_base false 8192 (example_block (header ∷ entries)) (second_item header)
 
--- the same for an image that is put at the start of SRAM and runs there
-abbrev pub in_ram : ℕ → List ℕ → Result (List Load) MapFault
-in_ram header entries =
+-- what the load map with this header and these entries gives for an image of 8192 bytes that is
+-- put at the start of SRAM and runs there
+abbrev pub loads_in_ram : ℕ → List ℕ → Result (List Load) MapFault
+loads_in_ram header entries =
     loads_of 0x2000_0000 true 8192 (example_block (header ∷ entries)) (second_item header)
 
 -- a load that is stored at an offset
@@ -32,22 +33,22 @@ abbrev pub stored : ℕ → ℕ → ℕ → Load
 stored x runtime size = record { storage = Some x; runtime = runtime; size = size }
 
 -- a load of zeros
-abbrev pub cleared : ℕ → ℕ → Load
-cleared runtime size = record { storage = None; runtime = runtime; size = size }
+abbrev pub cleared_load : ℕ → ℕ → Load
+cleared_load runtime size = record { storage = None; runtime = runtime; size = size }
 
 -- four bytes cleared at the start of SRAM, and then the second byte of the window loaded over the
 -- first of them
 abbrev pub two_loads : List Load
-two_loads = cleared 0x2000_0000 4 ∷ stored 1 0x2000_0000 1 ∷ []
+two_loads = cleared_load 0x2000_0000 4 ∷ stored 1 0x2000_0000 1 ∷ []
 
--- the same, with the four cleared bytes last
+-- the second byte of the window loaded to the start of SRAM, and then four bytes cleared there
 abbrev pub turned_loads : List Load
-turned_loads = stored 1 0x2000_0000 1 ∷ cleared 0x2000_0000 4 ∷ []
+turned_loads = stored 1 0x2000_0000 1 ∷ cleared_load 0x2000_0000 4 ∷ []
 
 -- four bytes cleared at the start of SRAM, and then two of the window loaded over the middle of
 -- them
 abbrev pub mixed_loads : List Load
-mixed_loads = cleared 0x2000_0000 4 ∷ stored 1 0x2000_0001 2 ∷ []
+mixed_loads = cleared_load 0x2000_0000 4 ∷ stored 1 0x2000_0001 2 ∷ []
 
 -- three bytes of the first four of SRAM
 abbrev pub loads_with_a_hole : List Load

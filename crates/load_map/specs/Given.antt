@@ -8,8 +8,9 @@ use Rattle.load_map.specs.Addresses.{is_sram}
 use Rattle.load_map.specs.declared.load.Load.{Load}
 
 -- the runtime range of a load holds the address
-abbrev pub holds : ℕ → Load → Bool
-holds address load = nat_le load.runtime address && nat_lt address (load.runtime + load.size)
+abbrev pub load_has_address : ℕ → Load → Bool
+load_has_address address load = nat_le load.runtime address
+    && nat_lt address (load.runtime + load.size)
 
 -- the byte at place k of a load's storage, or 0 for a clear entry
 abbrev pub stored_byte : List ℕ → Option ℕ → ℕ → ℕ
@@ -31,7 +32,7 @@ abbrev pub byte_at : ℕ → List ℕ → List Load → ℕ → Option ℕ
 byte_at base window loads address =
     if in_window base (length window) address then Some (slice_index window (address - base))
     else (if is_sram address then option_map (loaded_byte window address)
-    (find (holds address) (reverse loads)) else None)
+    (find (load_has_address address) (reverse loads)) else None)
 
 -- the word of four bytes, where each of them is given
 abbrev pub word_if_given : Option ℕ → Option ℕ → Option ℕ → Option ℕ → Option ℕ
@@ -39,7 +40,7 @@ word_if_given (Some a) (Some b) (Some c) (Some d) = Some (word_of (a ∷ b ∷ c
 word_if_given _ _ _ _ = None
 
 -- the little-endian word at an address, where each of its four bytes is given
-abbrev pub word_at : ℕ → List ℕ → List Load → ℕ → Option ℕ
-word_at base window loads address =
+abbrev pub given_word : ℕ → List ℕ → List Load → ℕ → Option ℕ
+given_word base window loads address =
     word_if_given (byte_at base window loads address) (byte_at base window loads (address + 1))
     (byte_at base window loads (address + 2)) (byte_at base window loads (address + 3))

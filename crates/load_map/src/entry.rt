@@ -10,11 +10,11 @@ use block_codec::{Block, Item};
 /// The three words of an entry of a load map.
 #[derive(Clone, Copy, Debug, PartialEq, Eq)]
 pub(crate) struct Entry {
-    /// The place of its storage, or 0 for a clear entry.
+    /// The place of the entry's storage, or 0 for a clear entry.
     pub(crate) place: u32,
     /// The address at which the image finds the bytes when it runs.
     pub(crate) runtime: u32,
-    /// Its size, or the end of its storage.
+    /// The size of the entry's bytes, or the end of its storage.
     pub(crate) extent: u32,
 }
 

@@ -3,7 +3,7 @@
 ghost use Rattle.std.specs.Prelude.{◌≡◌, ℕ, ◌<◌, IsTrue, length, slice_index, find, reverse, IfSome};
 ghost use Rattle.pico_board.specs.Content.{flash_base};
 ghost use Rattle.load_map.specs.Addresses.{is_sram};
-ghost use Rattle.load_map.specs.Given.{byte_at, holds, in_window, loaded_byte, word_at};
+ghost use Rattle.load_map.specs.Given.{byte_at, load_has_address, in_window, loaded_byte, given_word};
 ghost use Rattle.load_map.specs.Stored.{AreStoredIn, IsStoredIn};
 
 use crate::addresses::{SRAM_END, SRAM_START};
@@ -19,8 +19,8 @@ fn is_sram(address: u64) -> bool
 }
 
 /// Whether the runtime range of the load holds the address.
-fn holds(load: &Load, address: u64) -> bool
-    ensures { result ≡ holds address load.now }
+fn load_has_address(load: &Load, address: u64) -> bool
+    ensures { result ≡ load_has_address address load.now }
 {
     let start = u64::from(load.runtime);
     start <= address && address < start + u64::from(load.size)
@@ -28,14 +28,14 @@ fn holds(load: &Load, address: u64) -> bool
 
 /// The last of the loads whose runtime range holds the address.
 fn last_holding(loads: &[Load], address: u64) -> Option<Load>
-    ensures last { result ≡ find (holds address) (reverse loads.now) }
-    ensures held { IfSome result (λ load. IsTrue (holds address load)) }
+    ensures last { result ≡ find (load_has_address address) (reverse loads.now) }
+    ensures held { IfSome result (λ load. IsTrue (load_has_address address load)) }
     ensures stored { (n : ℕ) → AreStoredIn n loads.now
         → IfSome result (λ load. IsStoredIn n load.storage load.size) }
 {
     let mut last = None;
     for load in loads {
-        if holds(load, address) {
+        if load_has_address(load, address) {
             last = Some(*load);
         }
     }
@@ -55,7 +55,7 @@ fn view_byte<V: View>(view: &V, at: u32) -> u8
 /// The byte that the load gives at an address of its runtime range.
 fn loaded_byte<V: View>(view: &V, load: &Load, address: u64) -> u8
     requires stored { IsStoredIn (length (V.bytes view.now)) load.now.storage load.now.size }
-    requires held { IsTrue (holds address load.now) }
+    requires held { IsTrue (load_has_address address load.now) }
     ensures { result ≡ loaded_byte (V.bytes view.now) address load.now }
 {
     match load.storage {
@@ -85,7 +85,7 @@ fn byte_at<V: View>(view: &V, loads: &[Load], base: u32, address: u64) -> Option
 #[tactic(auto, unfolding(block_codec::specs::Words::word_of))]
 pub fn loaded_word_at<V: View>(view: &V, loads: &Loads, base: u32, address: u32) -> Option<u32>
     requires stored { AreStoredIn (length (V.bytes view.now)) loads.now.items }
-    ensures { result ≡ word_at base (V.bytes view.now) loads.now.items address }
+    ensures { result ≡ given_word base (V.bytes view.now) loads.now.items address }
 {
     let at = u64::from(address);
     let loads = loads.as_slice();
@@ -100,7 +100,7 @@ pub fn loaded_word_at<V: View>(view: &V, loads: &Loads, base: u32, address: u32)
 /// exactly where one of its bytes is not given.
 pub fn loaded_word<V: View>(view: &V, loads: &Loads, address: u32) -> Option<u32>
     requires stored { AreStoredIn (length (V.bytes view.now)) loads.now.items }
-    ensures { result ≡ word_at flash_base (V.bytes view.now) loads.now.items address }
+    ensures { result ≡ given_word flash_base (V.bytes view.now) loads.now.items address }
 {
     loaded_word_at(view, loads, FLASH_BASE, address)
 }

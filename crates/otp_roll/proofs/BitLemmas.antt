@@ -71,7 +71,7 @@ pub lowest-odd : (p n v : ℕ) → (v % 2 ≡ 0 → ⊥)
     → lowest_clear_among (suc p) (suc n) v ≡ 2 * lowest_clear_among p (suc n) (v / 2)
 lowest-odd p n v odd = rw (ne_eqb (v % 2) 0 odd) refl
 
--- they are below 2 ^ p
+-- the lowest clear bits of a number of p bits are below 2 ^ p
 pub lowest-lt : (p n v : ℕ) → lowest_clear_among p n v < 2 ^ p
 lowest-lt zero n v = lit< tt
 lowest-lt (suc p) zero v = omega (arith, pow-suc 2 p, lowest-lt p zero v)
@@ -111,7 +111,7 @@ ones-lowest (suc p) (suc n) v low =
         let both = rw (half, digit) at (ones-or v (lowest_clear_among (suc p) (suc n) v)) in
         omega (arith, both, ones_step v, all, few)
 
--- each of them is clear in the number
+-- each of the lowest clear bits is clear in the number
 pub lowest-clear : (p n v k : ℕ) → bit_at (lowest_clear_among p n v) k ≡ 1 → bit_at v k ≡ 0
 lowest-clear zero n v k set = absurd (omega (arith, bit_at-zero k))
 lowest-clear (suc p) zero v k set = absurd (omega (arith, bit_at-zero k))
@@ -138,7 +138,7 @@ lowest-clear (suc p) (suc n) v (suc k) set =
         omega arith in
         all (rw (bit_at-suc (lowest_clear_among (suc p) (suc n) v) k, lowest-odd p n v odd, half) at set)
 
--- and below each of them every bit is one of them or set in the number
+-- below each of the lowest clear bits every bit is one of them or set in the number
 pub lowest-first : (p n v j k : ℕ) → j < k → bit_at (lowest_clear_among p n v) k ≡ 1
     → (bit_at v j ≡ 1) ⊎ (bit_at (lowest_clear_among p n v) j ≡ 1)
 lowest-first zero n v j k below set = absurd (omega (arith, bit_at-zero k))
@@ -247,7 +247,7 @@ pub ones-mono : (a b : ℕ) → ((i : ℕ) → bit_at a i ≤ bit_at b i) → on
 ones-mono a b covered =
     let large = lt-pow_two (a + b) in ones-mono_below (a + b) a b (omega arith) (omega arith) covered
 
--- the same for the 24 bits of a row
+-- the lowest clear bits of a row are a number below 2^24
 pub lowest_clear-lt : (n v : ℕ) → lowest_clear n v < 2 ^ 24
 unfolding lowest_clear
 lowest_clear-lt n v = lowest-lt 24 n v

@@ -12,7 +12,7 @@ use Rattle.pico_board.specs.Steps.{after_all}
 use Rattle.pico_board.proofs.StepLemmas.{after_all-append}
 use Rattle.otp_roll.specs.Rows.{majority, count, AreRowsApart, IsOutside, AreRollbackRows, IsRollbackVersion}
 use Rattle.otp_roll.specs.declared.rows.TheConstants.{FIRST_ROW, LAST_ROW}
-use Rattle.otp_roll.specs.Raises.{raises, raise_triple, raise_row, raise_each, taken, lowest_clear, clear_count}
+use Rattle.otp_roll.specs.Raises.{raises, raise_triple, raise_row, raise_each, taken_bits, lowest_clear, clear_count}
 use Rattle.otp_roll.proofs.BitLemmas.{majority-or, majority-lt, lowest_clear-lt, ones-lowest_clear}
 use Rattle.otp_roll.proofs.RaisedLemmas.{SameTriple, majority-same, LiftsTriple, after-raise_triple}
 
@@ -105,11 +105,12 @@ majority-lifted b r old new lifts =
     (majority-or (slice_index old r) (slice_index old (r + 1)) (slice_index old (r + 2)) b)
 
 -- one listed row is raised, and then the later ones
-counts-step : (r : ℕ) (rows otp old one new : List ℕ) (wanted taken : ℕ) → taken ≡ min (clear_count otp r) wanted
+counts-step : (r : ℕ) (rows otp old one new : List ℕ) (wanted taken_bits : ℕ)
+    → taken_bits ≡ min (clear_count otp r) wanted
     → ((i : ℕ) → slice_index otp i < 2 ^ 24) → ApartFrom r rows → SameTriple otp old r
-    → LiftsTriple (lowest_clear taken (majority otp r)) r old one → Counts otp (wanted - taken) rows one new
+    → LiftsTriple (lowest_clear taken_bits (majority otp r)) r old one → Counts otp (wanted - taken_bits) rows one new
     → Counts otp wanted (r ∷ rows) old new
-counts-step r rows otp old one new wanted taken is small apart same lifts rest = record {
+counts-step r rows otp old one new wanted taken_bits is small apart same lifts rest = record {
   long = rest.long ∙ lifts.long;
   counted = let now = sum_by-cons (λ s. ones (majority new s)) r rows in
       let before = sum_by-cons (λ s. ones (majority otp s)) r rows in
@@ -117,13 +118,13 @@ counts-step r rows otp old one new wanted taken is small apart same lifts rest =
       majority-lt (slice_index otp r) (slice_index otp (r + 1)) (slice_index otp (r + 2)) (small r)
       (small (r + 1)) in
       let few = ones-le 24 (majority otp r) narrow in
-      let lifted : majority new r ≡ bit_or (majority otp r) (lowest_clear taken (majority otp r)) =
+      let lifted : majority new r ≡ bit_or (majority otp r) (lowest_clear taken_bits (majority otp r)) =
       majority-same (same-from_outside one new r
       (λ k low. rest.others (r + k) (outside-apart r k low rows apart)))
-      ∙ majority-lifted (lowest_clear taken (majority otp r)) r old one lifts
-      ∙ ap (λ m. bit_or m (lowest_clear taken (majority otp r))) (majority-same same) in
-      let counts : ones (majority new r) ≡ ones (majority otp r) + min taken (24 - ones (majority otp r)) =
-      ap (λ m. ones m) lifted ∙ ones-lowest_clear taken (majority otp r) narrow in
+      ∙ majority-lifted (lowest_clear taken_bits (majority otp r)) r old one lifts
+      ∙ ap (λ m. bit_or m (lowest_clear taken_bits (majority otp r))) (majority-same same) in
+      let counts : ones (majority new r) ≡ ones (majority otp r) + min taken_bits (24 - ones (majority otp r)) =
+      ap (λ m. ones m) lifted ∙ ones-lowest_clear taken_bits (majority otp r) narrow in
       omega (arith, now, before, few, counts, is, rest.counted, count-le otp small rows, add-one (length rows));
   others = λ i outside. rest.others i outside.1 ∙ lifts.others i outside.0;
 }
@@ -135,17 +136,17 @@ pub counts-each : (rows : List ℕ) (c : Content) (otp : List ℕ) (wanted : ℕ
 counts-each [] c otp wanted apart inside small same =
     record { long = refl; counted = omega arith; others = λ i outside. refl }
 counts-each (r ∷ rows) c otp wanted apart inside small same =
-    let taken : ℕ = min (clear_count otp r) wanted in
+    let taken_bits : ℕ = min (clear_count otp r) wanted in
     let bits : ℕ = lowest_clear (min (clear_count otp r) wanted) (majority otp r) in
     let one : Content = after_all c (raise_triple otp bits r) in
     let lifts = after-raise_triple c otp bits r
     (lowest_clear-lt (min (clear_count otp r) wanted) (majority otp r)) inside.0 same.0 in
-    let rest = counts-each rows one otp (wanted - taken) apart.1
+    let rest = counts-each rows one otp (wanted - taken_bits) apart.1
     (inside-after c.otp one.otp lifts.long rows inside.1) small
     (same-after bits r otp c.otp one.otp lifts rows apart.0 same.1) in
-    let parts = after_all-append c (raise_triple otp bits r) (raise_each otp (wanted - taken) rows) in
+    let parts = after_all-append c (raise_triple otp bits r) (raise_each otp (wanted - taken_bits) rows) in
     subst (λ (d : Content). Counts otp wanted (r ∷ rows) c.otp d.otp) (sym parts)
-    (counts-step r rows otp c.otp one.otp _ wanted taken refl small apart.0 same.0 lifts rest)
+    (counts-step r rows otp c.otp one.otp _ wanted taken_bits refl small apart.0 same.0 lifts rest)
 
 -- every row has 24 bits, and past the end there is 0
 pub rows-small : (otp : List ℕ) → All (λ v. v < 2 ^ 24) otp → (i : ℕ) → slice_index otp i < 2 ^ 24
@@ -188,15 +189,15 @@ each-append : (otp : List ℕ) → ((i : ℕ) → slice_index otp i < 2 ^ 24) �
 each-append otp small [] ys wanted =
     let none : wanted ≡ wanted - (24 * 0 - 0) = omega arith in ap (λ w. raise_each otp w ys) none
 each-append otp small (r ∷ xs) ys wanted =
-    let rest = each-append otp small xs ys (wanted - taken otp wanted r) in
+    let rest = each-append otp small xs ys (wanted - taken_bits otp wanted r) in
     let few = ones-le 24 (majority otp r) (majority-lt _ _ _ (small r) (small (r + 1))) in
-    let left : (wanted - taken otp wanted r) - (24 * length xs - count otp xs)
+    let left : (wanted - taken_bits otp wanted r) - (24 * length xs - count otp xs)
     ≡ wanted - (24 * length (r ∷ xs) - count otp (r ∷ xs)) =
     omega (arith, sum_by-cons (λ s. ones (majority otp s)) r xs, few, count-le otp small xs, add-one (length xs)) in
     ap (λ steps. raise_row otp wanted r ++ steps) rest
-    ∙ sym (append_assoc (raise_row otp wanted r) (raise_each otp (wanted - taken otp wanted r) xs)
-    (raise_each otp ((wanted - taken otp wanted r) - (24 * length xs - count otp xs)) ys))
-    ∙ ap (λ w. (raise_row otp wanted r ++ raise_each otp (wanted - taken otp wanted r) xs) ++ raise_each otp w ys)
+    ∙ sym (append_assoc (raise_row otp wanted r) (raise_each otp (wanted - taken_bits otp wanted r) xs)
+    (raise_each otp ((wanted - taken_bits otp wanted r) - (24 * length xs - count otp xs)) ys))
+    ∙ ap (λ w. (raise_row otp wanted r ++ raise_each otp (wanted - taken_bits otp wanted r) xs) ++ raise_each otp w ys)
     left
 
 pub raises-append : (otp : List ℕ) (xs ys : List ℕ) (version : ℕ) → All (λ v. v < 2 ^ 24) otp

@@ -45,7 +45,7 @@ taken-all p n k v clear =
     ∙ ap (λ w. 2 ^ k + (2 * 2 ^ k) * lowest_clear_among p n w) (half v k)
     ∙ ap (λ x. 2 ^ k + x * lowest_clear_among p n (v / 2 ^ (k + 1))) (sym (twice k))
 
--- it has a set bit
+-- the place has a set bit
 passed-all : (p n k v : ℕ) → (v / 2 ^ k % 2 ≡ 0 → ⊥)
     → 2 ^ k * lowest_clear_among (suc p) (suc n) (v / 2 ^ k)
     ≡ 2 ^ (k + 1) * lowest_clear_among p (suc n) (v / 2 ^ (k + 1))
@@ -62,7 +62,7 @@ none-all p q k v =
     ap (λ x. 2 ^ k * x) (lowest-zero p (v / 2 ^ k)) ∙ (omega arith)
     ∙ ap (λ x. 2 ^ (k + 1) * x) (sym (lowest-zero q (v / 2 ^ (k + 1))))
 
--- the same of the places that are left
+-- the place is taken, of those that are left of the 24
 left-taken : (k n v : ℕ) → k < 24 → 0 < n → v / 2 ^ k % 2 ≡ 0
     → 2 ^ k * lowest_clear_among (24 - k) n (v / 2 ^ k)
     ≡ 2 ^ k + 2 ^ (k + 1) * lowest_clear_among (24 - (k + 1)) (n - 1) (v / 2 ^ (k + 1))

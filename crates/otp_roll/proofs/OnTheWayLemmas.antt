@@ -8,7 +8,7 @@ use Rattle.pico_board.specs.Board.{State, DoesAll}
 use Rattle.pico_board.specs.declared.Step.{Step}
 use Rattle.pico_board.proofs.StepLemmas.{DoesAll-none, DoesAll-append, DoesAll-append_cut}
 use Rattle.otp_roll.specs.Rows.{majority, count}
-use Rattle.otp_roll.specs.Raises.{raise_lacking, raise_triple, raise_row, raise_each, raises, taken, lowest_clear}
+use Rattle.otp_roll.specs.Raises.{raise_lacking, raise_triple, raise_row, raise_each, raises, taken_bits, lowest_clear}
 use Rattle.otp_roll.proofs.BitLemmas.{lowest_clear-lt}
 use Rattle.otp_roll.proofs.RisingLemmas.{IsElsewhere, all-lacking, row-after_all}
 use Rattle.otp_roll.proofs.RaisedLemmas.{SameTriple, LiftsTriple, after-raise_triple}
@@ -19,7 +19,8 @@ raise_row-same : (old new : List ℕ) (wanted r : ℕ) → SameTriple old new r
     → raise_row new wanted r ≡ raise_row old wanted r
 raise_row-same old new wanted r same = rw (same.first, same.second, same.third) refl
 
-taken-same : (old new : List ℕ) (wanted r : ℕ) → SameTriple old new r → taken new wanted r ≡ taken old wanted r
+taken-same : (old new : List ℕ) (wanted r : ℕ) → SameTriple old new r
+    → taken_bits new wanted r ≡ taken_bits old wanted r
 taken-same old new wanted r same = rw (same.first, same.second, same.third) refl
 
 module _ {B : Type 0} (state : B → State) (history : B → List Step → Type 0) where
@@ -96,7 +97,7 @@ module _ {B : Type 0} (state : B → State) (history : B → List Step → Type 
       → IsOnTheWay first rows version wanted (r ∷ left) now → ApartInTurn (r ∷ left)
       → r + 2 < length (state now).content.otp
       → DoesAll state history now (raise_row (state now).content.otp wanted r) true new
-      → number ≡ taken (state now).content.otp wanted r
+      → number ≡ taken_bits (state now).content.otp wanted r
       → IsOnTheWay first rows version (wanted - number) left new
   way-step first rows version wanted r left now new number way apart inside does is =
       let start : List ℕ = (state first).content.otp in
@@ -104,18 +105,19 @@ module _ {B : Type 0} (state : B → State) (history : B → List Step → Type 
       let one : DoesAll state history now (raise_row (state first).content.otp wanted r) true new =
       subst (λ steps. DoesAll state history now steps true new)
       (raise_row-same (state first).content.otp (state now).content.otp wanted r way.same.0) does in
-      let number_is : number ≡ taken (state first).content.otp wanted r =
+      let number_is : number ≡ taken_bits (state first).content.otp wanted r =
       is ∙ taken-same (state first).content.otp (state now).content.otp wanted r way.same.0 in
-      let bits : ℕ = lowest_clear (taken (state first).content.otp wanted r) (majority (state first).content.otp r) in
+      let bits : ℕ = lowest_clear (taken_bits (state first).content.otp wanted r)
+      (majority (state first).content.otp r) in
       let lifted = after-raise_triple (state now).content (state first).content.otp
-      (lowest_clear (taken (state first).content.otp wanted r) (majority (state first).content.otp r)) r
+      (lowest_clear (taken_bits (state first).content.otp wanted r) (majority (state first).content.otp r)) r
       (lowest_clear-lt _ _) inside way.same.0 in
       let lifts = subst (λ (c : Content). LiftsTriple
-      (lowest_clear (taken (state first).content.otp wanted r) (majority (state first).content.otp r)) r
+      (lowest_clear (taken_bits (state first).content.otp wanted r) (majority (state first).content.otp r)) r
       (state now).content.otp c.otp) (sym one.done) lifted in
       record {
         power = does.power;
-        same = same-after (lowest_clear (taken (state first).content.otp wanted r)
+        same = same-after (lowest_clear (taken_bits (state first).content.otp wanted r)
             (majority (state first).content.otp r)) r (state first).content.otp (state now).content.otp
             (state new).content.otp lifts left apart.0 way.same.1;
         rest = λ ok last after. way.rest ok last (DoesAll-append one

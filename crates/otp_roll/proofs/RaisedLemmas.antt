@@ -32,7 +32,7 @@ after-raise_lacking c b r small = by_need (cases_eq (lacking b (slice_index c.ot
         rw (ne_eqb (lacking b (slice_index c.otp r)) 0 some)
         (ap (λ v. slice_set c.otp r v) (or-lacking (slice_index c.otp r) b small))
 
--- the same where the row's value is given
+-- one row, where its value is given, whether it is raised or has the bits
 after-raise_given : (c : Content) (b v r : ℕ) → b < 2 ^ 24 → slice_index c.otp r ≡ v
     → (after_all c (raise_lacking b v r)).otp ≡ raised c.otp r b
 after-raise_given c b v r small is =

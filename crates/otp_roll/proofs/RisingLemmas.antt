@@ -16,7 +16,7 @@ use Rattle.pico_board.specs.declared.Step.TheVariants.{Erase, Program, Raise}
 use Rattle.pico_board.proofs.RaiseLemmas.{IsRaisedIn-CutOf}
 use Rattle.otp_roll.specs.Rows.{majority, count, Rises, IsOutside}
 use Rattle.otp_roll.specs.declared.rows.TheConstants.{FIRST_ROW, LAST_ROW}
-use Rattle.otp_roll.specs.Raises.{lacking, raise_lacking, raise_triple, raise_row, raise_each, raises, taken, lowest_clear}
+use Rattle.otp_roll.specs.Raises.{lacking, raise_lacking, raise_triple, raise_row, raise_each, raises, taken_bits, lowest_clear}
 use Rattle.otp_roll.proofs.BitLemmas.{ones-mono, majority-mono, lowest_clear-lt}
 
 -- each majority has every bit that it had
@@ -90,13 +90,13 @@ module _ (P : Step → Type 0) where
       → AllByRecursion P (raise_each otp wanted rows)
   all-each otp wanted [] holds = tt
   all-each otp wanted (r ∷ rows) holds =
-      let bits : ℕ = lowest_clear (taken otp wanted r) (majority otp r) in
+      let bits : ℕ = lowest_clear (taken_bits otp wanted r) (majority otp r) in
       all-append (raise_row otp wanted r) _
-      (all-triple otp (lowest_clear (taken otp wanted r) (majority otp r)) r
-      (λ k v few. holds.0 k (lacking (lowest_clear (taken otp wanted r) (majority otp r)) v) few
-      (lacking-lt (lowest_clear (taken otp wanted r) (majority otp r)) v
-      (lowest_clear-lt (taken otp wanted r) (majority otp r)))))
-      (all-each otp (wanted - taken otp wanted r) rows holds.1)
+      (all-triple otp (lowest_clear (taken_bits otp wanted r) (majority otp r)) r
+      (λ k v few. holds.0 k (lacking (lowest_clear (taken_bits otp wanted r) (majority otp r)) v) few
+      (lacking-lt (lowest_clear (taken_bits otp wanted r) (majority otp r)) v
+      (lowest_clear-lt (taken_bits otp wanted r) (majority otp r)))))
+      (all-each otp (wanted - taken_bits otp wanted r) rows holds.1)
 
 all-rows : (P Q : ℕ → Type 0) → ((r : ℕ) → P r → Q r) → (rows : List ℕ) → AllByRecursion P rows
     → AllByRecursion Q rows
@@ -107,12 +107,12 @@ every-row : (Q : ℕ → Type 0) → ((r : ℕ) → Q r) → (rows : List ℕ) �
 every-row Q from [] = tt
 every-row Q from (r ∷ rows) = (from r, every-row Q from rows)
 
--- all of them are raises
+-- all steps that raise the listed rows are raises
 pub raises-raise : (otp rows : List ℕ) (version : ℕ) → AllByRecursion IsRaise (raises otp rows version)
 raises-raise otp rows version =
     all-each IsRaise otp (version - count otp rows) rows (every-row _ (λ r k b few small. tt) rows)
 
--- of rows of the OTP, by bits of a row
+-- the steps that raise the listed rows are of rows of the OTP, by bits of a row
 pub raises-inside : (n : ℕ) (otp rows : List ℕ) (version : ℕ)
     → AllByRecursion (λ r. (FIRST_ROW ≤ r) × (r ≤ LAST_ROW)) rows
     → AllByRecursion (IsStepIn n) (raises otp rows version)
@@ -140,7 +140,7 @@ raises-listed otp rows version i b among =
     (all-rows (Contains rows) _ (λ r listed k bits few small. (r, listed, in-triple r k few)) rows
     (recursion_from_All (Contains rows) rows (All-contains_itself rows))))) among
 
--- and none is one of a row outside the listed triples
+-- no step is a raise of a row outside the listed triples
 pub raises-elsewhere : (i : ℕ) (otp rows : List ℕ) (version : ℕ) → AllByRecursion (IsOutside i) rows
     → AllByRecursion (IsElsewhere i) (raises otp rows version)
 raises-elsewhere i otp rows version outside =
@@ -232,7 +232,7 @@ pub raise_each-none : (otp : List ℕ) (rows : List ℕ) → raise_each otp 0 ro
 unfolding lowest_clear
 raise_each-none otp [] = refl
 raise_each-none otp (r ∷ rows) =
-    let none : taken otp 0 r ≡ 0 = omega arith in rw none (raise_each-none otp rows)
+    let none : taken_bits otp 0 r ≡ 0 = omega arith in rw none (raise_each-none otp rows)
 
 pub raises-none : (otp rows : List ℕ) (version : ℕ) → version ≤ count otp rows → raises otp rows version ≡ []
 raises-none otp rows version reached =

@@ -1,5 +1,5 @@
 -- The raises that take listed rollback rows to a version, as a list of steps over the OTP before
--- the first of them. This project's own.
+-- the first of them.
 use Rattle.std.specs.Prelude.{ℕ, zero, suc, ◌+◌, ◌-◌, ◌*◌, ◌/◌, ◌%◌, ◌==◌, if◌then◌else◌, min, List, [], ◌∷◌, ◌++◌, slice_index, bit_and, bit_xor, count_ones}
 use Rattle.pico_board.specs.declared.Step.{Step}
 use Rattle.pico_board.specs.declared.Step.TheVariants.{Raise}
@@ -30,7 +30,8 @@ lacking b v = bit_and b (bit_xor v 0xff_ffff)
 abbrev pub raise_lacking : ℕ → ℕ → ℕ → List Step
 raise_lacking b v r = if lacking b v == 0 then [] else Raise r (lacking b v) ∷ []
 
--- the same for each of the three rows from r on, ascending
+-- the raises of the three rows from r on, ascending, by the bits of b that each lacks, where it
+-- lacks one
 abbrev pub raise_triple : List ℕ → ℕ → ℕ → List Step
 raise_triple otp b r =
     raise_lacking b (slice_index otp r) r
@@ -39,18 +40,19 @@ raise_triple otp b r =
 
 -- how many bits the listed row r takes of those that are wanted: as many as its majority has
 -- clear ones
-abbrev pub taken : List ℕ → ℕ → ℕ → ℕ
-taken otp wanted r = min (clear_count otp r) wanted
+abbrev pub taken_bits : List ℕ → ℕ → ℕ → ℕ
+taken_bits otp wanted r = min (clear_count otp r) wanted
 
 -- a listed row takes the lowest clear bits of its majority
 abbrev pub raise_row : List ℕ → ℕ → ℕ → List Step
-raise_row otp wanted r = raise_triple otp (lowest_clear (taken otp wanted r) (majority otp r)) r
+raise_row otp wanted r = raise_triple otp
+    (lowest_clear (taken_bits otp wanted r) (majority otp r)) r
 
 -- the listed rows in order, until no bit is wanted any more
 abbrev pub raise_each : List ℕ → ℕ → List ℕ → List Step
 raise_each otp wanted [] = []
 raise_each otp wanted (r ∷ rows) =
-    raise_row otp wanted r ++ raise_each otp (wanted - taken otp wanted r) rows
+    raise_row otp wanted r ++ raise_each otp (wanted - taken_bits otp wanted r) rows
 
 -- the raises that take the count of the rows to the version; none where the count is at the
 -- version already, or no row is listed

@@ -4,15 +4,12 @@
 ghost use Rattle.std.specs.Prelude.{◌≡◌, IsTrue, length};
 ghost use Rattle.otp_roll.specs.Flags.{flash_off, rollback_required, slot_size};
 
-use pico_board::Board;
+use pico_board::{Board, SMALLEST_SLOT};
 
 /// The row of the boot flags.
 pub const BOOT_FLAGS: u16 = 0x048;
 /// The row of the slot size.
 pub const SLOT_SIZE_ROW: u16 = 0x055;
-
-/// The smallest slot, and the size of an erase sector.
-const SMALLEST_SLOT: u32 = 4096;
 
 /// Whether rollback versions are required: bit 0 of the boot flags.
 pub fn required<B: Board>(board: &B) -> bool

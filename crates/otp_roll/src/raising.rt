@@ -3,7 +3,7 @@
 ghost use Rattle.std.specs.Prelude.{◌≡◌, ◌+◌, ◌^◌, ◌<◌, ◌≤◌, max, IfOk, IsTrue, OnOk, is_ok, slice_index};
 ghost use Rattle.pico_board.specs.Board.{DoesAll};
 ghost use Rattle.otp_roll.specs.Rows.{AreRollbackRows, IsRollbackVersion, count};
-ghost use Rattle.otp_roll.specs.Raises.{lowest_clear, raise_lacking, raise_row, raises, taken};
+ghost use Rattle.otp_roll.specs.Raises.{lowest_clear, raise_lacking, raise_row, raises, taken_bits};
 
 use crate::rows::{count, majority};
 use arrayvec::ArrayVec;
@@ -44,7 +44,7 @@ fn raise_row<B: Board>(board: &mut B, row: u16, wanted: u32) -> Result<u32, Powe
     ensures steps { DoesAll B.state B.history board.old
         (raise_row (B.state board.old).content.otp wanted row) (is_ok result) board.new }
     ensures taken { IfOk result
-        (λ number. number ≡ taken (B.state board.old).content.otp wanted row) }
+        (λ number. number ≡ taken_bits (B.state board.old).content.otp wanted row) }
     ensures most { IfOk result (λ number. number ≤ wanted) }
 {
     let former = majority(board, row);

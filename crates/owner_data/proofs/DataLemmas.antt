@@ -85,7 +85,7 @@ taken_of parts i lt None is = (lt, inl refl)
 taken_of parts i lt (Some b) is =
     ((second_found parts i b is).0, inr (ap (λ o. option_map (λ j. (unit_of parts j).a) o) is))
 
--- it is a partition, and a member of the unit of the first
+-- what is taken of a pair is a partition, and a member of the unit of the first
 taken : (parts : List Partition) (second : Bool) (i : ℕ) → i < length parts
     → (taken_part parts second i < length parts)
     × IsMember (unit_of parts i) (unit_of parts (taken_part parts second i)).a
@@ -130,7 +130,7 @@ data_listed parts owner second k j at =
       (of_j.0, of_j.1.within, data_of parts owner second of_j.0 j of_j.1.owned of_j.1.is),
     )
 
--- and each partition that it owns is among those
+-- of each partition that an owner owns a member is among the owner's data
 pub data_whole : (parts : List Partition) (owner : ℕ) (second : Bool) (i : ℕ) → i < length parts
     → owner_of (part_at parts i) ≡ Some owner
     → (k : ℕ) × (j : ℕ) × (slice_get (data_parts parts owner second) k ≡ Some j) × IsDataOf parts owner second i j

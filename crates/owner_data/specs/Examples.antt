@@ -1,5 +1,4 @@
 -- Worked examples of owners and their data, with their answers reckoned by hand from the rules.
--- This project's own.
 use Rattle.std.specs.Prelude.{ℕ, ◌+◌, List, [], ◌∷◌}
 use Rattle.part_table.specs.declared.partition.Partition.{Partition}
 use Rattle.part_table.specs.Examples.{plain_partition, sectors}

@@ -7,27 +7,26 @@ use Rattle.part_table.specs.Links.{is_owned, owner_of, pair_of}
 use Rattle.part_table.specs.Partitions.{part_at}
 use Rattle.slot_choice.specs.Units.{parts_where}
 
--- the owner of a partition, if it has one, and the owner's B, if that has one (this project's own)
+-- the owner of a partition, if it has one, and the owner's B, if that has one
 abbrev pub owner_pair : List Partition → ℕ → Option (ℕ × Option ℕ)
 owner_pair parts i = option_map (λ owner. (owner, pair_of parts owner)) (owner_of (part_at parts i))
 
--- a partition has a certain owner where its owner link names that one (this project's own)
+-- a partition has a certain owner where its owner link names that one
 abbrev pub is_owned_by : ℕ → Partition → Bool
 is_owned_by owner p = is_owned p && link_value p == owner
 
 -- of a pair of data the B is taken where the second is asked for, and a partition without a B
--- itself in any case (this project's own)
+-- itself in any case
 abbrev pub taken_part : List Partition → Bool → ℕ → ℕ
 taken_part parts second i = if second then unwrap_or (pair_of parts i) i else i
 
--- the data of an owner: what is taken of each partition that has this owner, in table order (this
--- project's own)
+-- the data of an owner: what is taken of each partition that has this owner, in table order
 abbrev pub data_parts : List Partition → ℕ → Bool → List ℕ
 data_parts parts owner second =
     map (taken_part parts second) (parts_where (is_owned_by owner) parts)
 
 -- partition j is data of an owner: it is, of a partition i with this owner, the B where the second
--- is asked for and i has one, and i itself otherwise (this project's own)
+-- is asked for and i has one, and i itself otherwise
 pub record IsDataOf (parts : List Partition) (owner : ℕ) (second : Bool) (i j : ℕ) : Type 0 where
   pub owned : owner_of (part_at parts i) ≡ Some owner
   pub first : second ≡ false → j ≡ i

@@ -1,5 +1,5 @@
-//! Data partitions that follow the choice of their owner: the partition that a data partition names
-//! as its owner, and the data that belongs to an image. (This project's own.)
+//! Data partitions that follow the choice of their owner: the partition that a data partition
+//! names as its owner, and the data that belongs to an image.
 #![tactic(auto)]
 
 pub mod examples;

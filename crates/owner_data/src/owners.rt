@@ -9,7 +9,7 @@ use part_table::{Partition, Table};
 use slot_choice::second_of;
 
 /// The owner of a partition, and the owner's B where it has one. None exactly where the partition
-/// has no owner. (This project's own.)
+/// has no owner.
 pub fn owner_pair(table: &Table, part: u32) -> Option<(u32, Option<u32>)>
     requires part { part < length table.now.parts.items }
     requires links { link_fault table.now.parts.items ≡ None }
@@ -63,8 +63,7 @@ fn data_of(parts: &[Partition], owner: u32, second: bool) -> ArrayVec<u32, 14>
 }
 
 /// The data partitions of an owner, in table order: of each partition that has this owner its B
-/// where the second is asked for and it has one, and the partition itself otherwise. (This
-/// project's own.)
+/// where the second is asked for and it has one, and the partition itself otherwise.
 pub fn data_parts(table: &Table, owner: u32, second: bool) -> ArrayVec<u32, 14>
     requires owner { owner < length table.now.parts.items }
     requires links { link_fault table.now.parts.items ≡ None }

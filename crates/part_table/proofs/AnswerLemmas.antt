@@ -9,7 +9,7 @@ use Rattle.part_table.specs.declared.table.TableFault.{TableFault}
 use Rattle.part_table.specs.declared.table.TableFault.TheVariants.{Hash}
 use Rattle.part_table.specs.Contents.{table_of_items, has_wrong_hash}
 use Rattle.part_table.specs.Faults.{parts_fault}
-use Rattle.part_table.specs.Rules.{HasNoFault, IsAnswer, IsReadTo}
+use Rattle.part_table.specs.Rules.{HasNoFault, IsTableAnswer, IsReadTo}
 use Rattle.part_table.specs.TableOf.{table_or_fault, table_of}
 use Rattle.part_table.proofs.RuleLemmas.{first_to_rules, rules_to_first, none_to_rules, rules_to_none}
 
@@ -20,7 +20,7 @@ answer t fault wrong = ok_unless (option_or fault (if wrong then Some Hash else 
 module _ (t : Table) (n m : ℕ) where
   answer_to : (fault : Option TableFault) (wrong : Bool) (r : Result Table TableFault)
       → parts_fault t.parts.items n m ≡ fault → answer t fault wrong ≡ r
-      → IsAnswer (Some t) wrong n m r
+      → IsTableAnswer (Some t) wrong n m r
   answer_to None false (Ok u) is e =
       let same : t ≡ u =
       cc in (
@@ -37,7 +37,7 @@ module _ (t : Table) (n m : ℕ) where
       let same : g ≡ f = cc in inr (inl (t, refl, first_to_rules t.parts.items n m f (is ∙ ap Some same)))
 
 pub read_to_of : (says : Option Table) (wrong : Bool) (n m : ℕ) (r : Result Table TableFault)
-    → table_or_fault says n m (if wrong then Some Hash else None) ≡ r → IsAnswer says wrong n m r
+    → table_or_fault says n m (if wrong then Some Hash else None) ≡ r → IsTableAnswer says wrong n m r
 read_to_of None wrong n m (Ok u) e = cc
 read_to_of None wrong n m (Err f) e = inl (refl, cc)
 read_to_of (Some t) wrong n m r e = answer_to t n m (parts_fault t.parts.items n m) wrong r refl e
@@ -47,7 +47,7 @@ answered : (t : Table) (n m : ℕ) (wrong : Bool) (fault : Option TableFault) �
 answered t n m wrong fault is = ap (λ o. answer t o wrong) is
 
 pub read_back_of : (says : Option Table) (wrong : Bool) (n m : ℕ) (r : Result Table TableFault)
-    → IsAnswer says wrong n m r → table_or_fault says n m (if wrong then Some Hash else None) ≡ r
+    → IsTableAnswer says wrong n m r → table_or_fault says n m (if wrong then Some Hash else None) ≡ r
 read_back_of says wrong n m (Ok t) is =
     ap (λ o. table_or_fault o n m (if wrong then Some Hash else None)) is.0
     ∙ answered t n m wrong None (rules_to_none t.parts.items n m is.1) ∙ ap (λ b. answer t None b) is.2

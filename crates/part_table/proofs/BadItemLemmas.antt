@@ -9,8 +9,8 @@ use Rattle.block_codec.specs.declared.versions.Version.{Version}
 use Rattle.block_codec.specs.Kinds.{digest_of, hash_count_of, is_of_kind, item_of_kind, items_of_kind, version_of, version_words}
 use Rattle.part_table.specs.declared.partition.Partition.{Partition}
 use Rattle.part_table.specs.declared.table.Table.{Table}
-use Rattle.part_table.specs.BadItems.{AreFilled, Fill, HasBadItem, HasItem, HasNone, HasWrong, IsMisplacedHash, IsWrongHashDef, IsWrongHashValue, IsWrongVersion, StandsTwice, told_words}
-use Rattle.part_table.specs.Contents.{body_of, fields_of_items, has_bad_hash, hash_count, is_bad, is_misplaced, is_misread, is_repeated, said, table_from, table_of_items, version_in}
+use Rattle.part_table.specs.BadItems.{AreFilled, Fill, HasBadItem, HasItem, HasNoItem, HasWrong, IsMisplacedHash, IsWrongHashDef, IsWrongHashValue, IsWrongVersion, StandsTwice, told_words}
+use Rattle.part_table.specs.Contents.{body_of, fields_of_items, has_bad_hash, hash_count, is_bad, is_misplaced_digest, is_misread, is_repeated, said, table_from, table_of_items, version_in}
 use Rattle.part_table.specs.Partitions.{partition_from, partition_words, partitions_in}
 use Rattle.part_table.proofs.TestLemmas.{any_of_two, differ, found_place, mapped_none, mapped_some, search_of}
 use Rattle.part_table.proofs.TwiceLemmas.{of-twice, only-found, twice-of, two-from, two-to}
@@ -33,13 +33,13 @@ repeated-back items kind two =
     two-to _ (of-twice (is_of_kind kind) items two.place two.later two.one two.other two.apart two.first two.second)
 
 -- no item is of a kind exactly where none is found
-none-to : (items : List Item) (kind : ℕ) → item_of_kind kind items ≡ None → HasNone items kind
+none-to : (items : List Item) (kind : ℕ) → item_of_kind kind items ≡ None → HasNoItem items kind
 none-to items kind none x has = elim (search_of (is_of_kind kind) items) [
   | inl absent ↦ (let no_way = sym (absent.fails has.0 x has.1.0) ∙ has.1.1 in cc)
   | inr found ↦ none-some found.1 (sym none ∙ found.2.sought)
 ]
 
-none-back : (items : List Item) (kind : ℕ) → HasNone items kind → item_of_kind kind items ≡ None
+none-back : (items : List Item) (kind : ℕ) → HasNoItem items kind → item_of_kind kind items ≡ None
 none-back items kind never = elim (search_of (is_of_kind kind) items) [
   | inl absent ↦ absent.unfound
   | inr found ↦ absurd (never found.1 (found.0, (found.2.at, found.2.passes)))
@@ -183,7 +183,7 @@ module _ (words : List ℕ) (items : List Item) where
   bad_value = is_bad (digest_of words) HASH_VALUE items
 
   abbrev misplaced : Bool
-  misplaced = is_misplaced (length words) (item_of_kind HASH_VALUE items) (hash_count words items)
+  misplaced = is_misplaced_digest (length words) (item_of_kind HASH_VALUE items) (hash_count words items)
 
   abbrev table_in : Item → Option Table
   table_in x = table_from (version_in words items) x.high (body_of words x)
@@ -198,24 +198,24 @@ module _ (words : List ℕ) (items : List Item) where
     where
       go : (v d : Option Item) → item_of_kind HASH_VALUE items ≡ v → item_of_kind HASH_DEF items ≡ d
           → is_misread (hash_count_of words) d ≡ false
-          → is_misplaced (length words) v (option_and_then (hash_count_of words) d) ≡ true
+          → is_misplaced_digest (length words) v (option_and_then (hash_count_of words) d) ≡ true
           → IsMisplacedHash words items
       go None None value def read e = cc
       go (Some v) None value def read e = inl (v, there items HASH_VALUE v value, none-to items HASH_DEF def)
       go None (Some d) value def read e =
           let past = ltb-true (length words) (told_words words d)
-          (sym (ap (is_misplaced (length words) None) (told d read)) ∙ e) in
+          (sym (ap (is_misplaced_digest (length words) None) (told d read)) ∙ e) in
           inr (inr (d, none-to items HASH_VALUE value, there items HASH_DEF d def, past))
       go (Some v) (Some d) value def read e =
           let past = ltb-true v.first (told_words words d)
-          (sym (ap (is_misplaced (length words) (Some v)) (told d read)) ∙ e) in
+          (sym (ap (is_misplaced_digest (length words) (Some v)) (told d read)) ∙ e) in
           inr (inl (v, d, there items HASH_VALUE v value, there items HASH_DEF d def, past))
 
   placed_as : (v d : Option Item) → item_of_kind HASH_VALUE items ≡ v → item_of_kind HASH_DEF items ≡ d
-      → misplaced ≡ is_misplaced (length words) v (option_and_then (hash_count_of words) d)
+      → misplaced ≡ is_misplaced_digest (length words) v (option_and_then (hash_count_of words) d)
   placed_as v d value def =
-      ap (λ o. is_misplaced (length words) o (hash_count words items)) value
-      ∙ ap (λ o. is_misplaced (length words) v (option_and_then (hash_count_of words) o)) def
+      ap (λ o. is_misplaced_digest (length words) o (hash_count words items)) value
+      ∙ ap (λ o. is_misplaced_digest (length words) v (option_and_then (hash_count_of words) o)) def
 
   misplaced-back : bad_def ≡ false → bad_value ≡ false → IsMisplacedHash words items → misplaced ≡ true
   misplaced-back def_right value_right is = go is
@@ -237,11 +237,12 @@ module _ (words : List ℕ) (items : List Item) where
       go (inr (inl (v, d, value, def, past))) =
           let found = the-only items HASH_DEF d no_def def in
           placed_as (Some v) (Some d) (the-only items HASH_VALUE v no_value value) found
-          ∙ ap (is_misplaced (length words) (Some v)) (count d found) ∙ lt-ltb v.first (told_words words d) past
+          ∙ ap (is_misplaced_digest (length words) (Some v)) (count d found) ∙ lt-ltb v.first (told_words words d) past
       go (inr (inr (d, none, def, past))) =
           let found = the-only items HASH_DEF d no_def def in
           placed_as None (Some d) (none-back items HASH_VALUE none) found
-          ∙ ap (is_misplaced (length words) None) (count d found) ∙ lt-ltb (length words) (told_words words d) past
+          ∙ ap (is_misplaced_digest (length words) None) (count d found)
+          ∙ lt-ltb (length words) (told_words words d) past
 
   -- what is bad, by the tests
   version-bad : bad_version ≡ true → HasBadItem words items
@@ -295,7 +296,7 @@ module _ (words : List ℕ) (items : List Item) where
       go true is none = hash-bad is
       go false is none = fields-bad none
 
-  -- and back
+  -- items that are bad by the tests have no table
   by-hash : has_bad_hash words items ≡ true → table_of_items words items ≡ None
   by-hash e = ap (λ h. cond h None (fields_of_items words items)) e
 

@@ -6,7 +6,7 @@ use Rattle.std.proofs.lemmas.List.Elements.{All-replicate}
 use Rattle.std.specs.Prelude.{slice_index}
 use Rattle.std.specs.List.{AllByRecursion}
 use Rattle.part_table.specs.Examples.{widest_partition, named_partition_of, longest_name, plain_partition}
-use Rattle.part_table.specs.Written.{IsReadable, IsWritable}
+use Rattle.part_table.specs.Written.{IsReadablePartition, IsWritablePartition}
 
 abbrev bytes_255 : List ℕ
 bytes_255 = replicate 127 255
@@ -20,7 +20,7 @@ small i = elim (cases_lt i 127) [
   | inr past ↦ subst (λ (b : ℕ). b < 256) (sym (get_or_past bytes_255 i 0 past)) (omega arith)
 ]
 
-pub widest : IsWritable widest_partition
+pub widest : IsWritablePartition widest_partition
 widest = record {
   readable = record {
     agrees = record { id = refl; families = refl; name = refl };
@@ -33,14 +33,14 @@ widest = record {
   families = (omega arith, (omega arith, (omega arith, tt)));
 }
 
-pub named : IsReadable (named_partition_of 0x1000 longest_name.items)
+pub named : IsReadablePartition (named_partition_of 0x1000 longest_name.items)
 named = record {
   agrees = record { id = refl; families = refl; name = refl };
   short = omega arith;
   bytes = small;
 }
 
-pub plain : IsReadable (plain_partition 0 0)
+pub plain : IsReadablePartition (plain_partition 0 0)
 plain = record { agrees = record { id = refl; families = refl; name = refl }; short = tt; bytes = tt }
 
 pub each : {X : Type 0} (P : X → Type 0) (n : ℕ) (x : X) → P x → AllByRecursion P (replicate n x)

@@ -13,7 +13,7 @@ use Rattle.part_table.specs.declared.table.TableFault.{TableFault}
 use Rattle.part_table.specs.declared.table.TableFault.TheVariants.{Permissions, Range}
 use Rattle.part_table.specs.Fields.{first_sector, last_sector, permissions_of}
 use Rattle.part_table.specs.Partitions.{part_at, no_partition}
-use Rattle.part_table.specs.Windows.{IsPlaced, part_window, shares_sector}
+use Rattle.part_table.specs.Windows.{IsPlacedWindow, part_window, shares_sector}
 use Rattle.part_table.specs.Faults.{judge_permissions, judge_range, judge_overlap, is_out_of_range, overlap_fault}
 use Rattle.part_table.proofs.TestLemmas.{fails, holds, mapped_none, none_passes}
 
@@ -32,9 +32,9 @@ pub in_range : (n m : ℕ) (before : List Partition) (p : Partition) → judge_r
 in_range n m before p none =
     range_test n m (first_sector p) (last_sector p) (fails (is_out_of_range n m p) (Range (length before)) none)
 
--- its window
+-- the window of a partition in range
 pub window_placed : (n m : ℕ) (p : Partition) → m ≤ first_sector p → first_sector p ≤ last_sector p → last_sector p < n
-    → IsPlaced (part_window p) n m
+    → IsPlacedWindow (part_window p) n m
 window_placed n m p low some high = record {
   starts = omega arith;
   whole = omega arith;

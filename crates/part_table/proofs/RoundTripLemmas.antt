@@ -27,7 +27,7 @@ use Rattle.part_table.specs.declared.partition.Partition.{Partition}
 use Rattle.part_table.specs.declared.table.TableFault.TheVariants.{Hash}
 use Rattle.block_codec.specs.declared.versions.Version.{Version}
 use Rattle.std.specs.Option.{option_or}
-use Rattle.part_table.specs.Written.{IsReadableTable, header, table_item, table_body, version_item, hash_def_item, hashed_items, partition_text, written_items, written_size}
+use Rattle.part_table.specs.Written.{IsReadableTable, header, table_item, table_body, bare_version_item, hash_def_item, hashed_table_items, written_partition, written_items, written_size}
 use Rattle.part_table.proofs.WrittenLemmas.{bytes_behind, bytes_back, partitions_back}
 
 -- a digest has bytes
@@ -223,20 +223,20 @@ module _ (t : Table) (writable : IsReadableTable t) where
   hashed_count = length (table_item t) + 5
 
   abbrev digest_words : List ℕ
-  digest_words = words_of (sha256 (bytes_of (start_word ∷ hashed_items t)))
+  digest_words = words_of (sha256 (bytes_of (start_word ∷ hashed_table_items t)))
 
   small_size : size_of_item < 144
   small_size = let fits : written_size t ≤ 640 = writable.fits in omega arith
 
   eight : length digest_words ≡ 8
-  eight = length-words_of (sha256 (bytes_of (start_word ∷ hashed_items t)))
-      ∙ ap (λ n. n / 4) (length-sha256 (bytes_of (start_word ∷ hashed_items t)))
+  eight = length-words_of (sha256 (bytes_of (start_word ∷ hashed_table_items t)))
+      ∙ ap (λ n. n / 4) (length-sha256 (bytes_of (start_word ∷ hashed_table_items t)))
 
   -- the items of the block
   items_are : items_of (written_items t) ≡ four_items size_of_item part_of
   items_are =
       ap (λ ws. items_of (header 0x0a size_of_item part_of ∷ ws))
-      (three_joined (table_body t) (version_item t.version) (hash_def_item hashed_count)
+      (three_joined (table_body t) (bare_version_item t.version) (hash_def_item hashed_count)
       (header 0x4b 9 0 ∷ digest_words))
       ∙ four_are size_of_item part_of version_word hashed_count (table_body t) digest_words (omega (arith, small_size))
       (small_part t.singleton count_of writable.few) refl eight
@@ -247,7 +247,7 @@ module _ (t : Table) (writable : IsReadableTable t) where
       (table_body t) version_word hashed_count digest_words end size_of_item refl
   words_are end =
       ap (λ ws. start_word ∷ header 0x0a size_of_item part_of ∷ ws)
-      (four_joined (table_body t) (version_item t.version) (hash_def_item hashed_count)
+      (four_joined (table_body t) (bare_version_item t.version) (hash_def_item hashed_count)
       (header 0x4b 9 0 ∷ digest_words) end)
 
   -- what stands in the block, whatever stands behind its items
@@ -290,7 +290,7 @@ module _ (t : Table) (writable : IsReadableTable t) where
     fields_back : table_from t.version part_of (table_body t) ≡ Some t
     fields_back =
         ap (λ k. option_map (λ ps. rebuilt (has_bit part_of 7) ps)
-        (partitions_in k (flat_map partition_text t.parts.items)))
+        (partitions_in k (flat_map written_partition t.parts.items)))
         (count_back t.singleton count_of writable.few)
         ∙ ap (λ o. option_map (λ ps. rebuilt (has_bit part_of 7) ps) o) (partitions_back t.parts.items writable.parts)
         ∙ ap (λ yes. Some (rebuilt yes t.parts.items)) (singleton_back t.singleton count_of writable.few)
@@ -322,7 +322,7 @@ module _ (t : Table) (writable : IsReadableTable t) where
 
     -- the digest is that of the words before it
     abbrev digest : List ℕ
-    digest = sha256 (bytes_of (start_word ∷ hashed_items t))
+    digest = sha256 (bytes_of (start_word ∷ hashed_table_items t))
 
     kept_digest : bytes_of (slice_range all (1 + size_of_item + 2 + 2 + 1) (1 + size_of_item + 2 + 2 + 9)) ≡ digest
     kept_digest =
@@ -330,15 +330,15 @@ module _ (t : Table) (writable : IsReadableTable t) where
         (digest_inside (header 0x0a size_of_item part_of)
         (table_body t) version_word hashed_count digest_words end size_of_item refl eight
         (1 + size_of_item + 2 + 2 + 1) (1 + size_of_item + 2 + 2 + 9) (omega arith) (omega arith))
-        ∙ bytes_back 8 digest (length-sha256 (bytes_of (start_word ∷ hashed_items t)))
-        (sha256_is_bytes (bytes_of (start_word ∷ hashed_items t)))
+        ∙ bytes_back 8 digest (length-sha256 (bytes_of (start_word ∷ hashed_table_items t)))
+        (sha256_is_bytes (bytes_of (start_word ∷ hashed_table_items t)))
 
     same_hashed : start_word
         ∷ (header 0x0a size_of_item part_of ∷ table_body t
         ++ (header 0x48 2 0 ∷ version_word ∷ header 0x47 2 1 ∷ hashed_count ∷ []))
-        ≡ start_word ∷ hashed_items t
+        ≡ start_word ∷ hashed_table_items t
     same_hashed = ap (λ ws. start_word ∷ header 0x0a size_of_item part_of ∷ ws)
-        (sym (append_assoc (table_body t) (version_item t.version) (hash_def_item hashed_count)))
+        (sym (append_assoc (table_body t) (bare_version_item t.version) (hash_def_item hashed_count)))
 
     made_digest : sha256 (bytes_of (take (low_half (slice_index all (1 + size_of_item + 2 + 1))) all)) ≡ digest
     made_digest =
@@ -384,24 +384,25 @@ pub table_stands : (t : Table) (at : ℕ) → IsReadableTable t
     → has_table (record { at = at; items = written_items t; link = pos 0 }) ≡ true
 table_stands t at readable = ap (λ items. is_some (item_of_kind PARTITION_TABLE items)) (items_are t readable)
 
-hashed_size : (t : Table) → length (hashed_items t) ≡ length (table_item t) + 4
+hashed_size : (t : Table) → length (hashed_table_items t) ≡ length (table_item t) + 4
 hashed_size t =
-    let two : length (table_item t ++ version_item t.version ++ hash_def_item (length (table_item t) + 5))
-    ≡ length (table_item t ++ version_item t.version) + 2 =
-    length-append (table_item t ++ version_item t.version) (hash_def_item (length (table_item t) + 5)) in
-    let one : length (table_item t ++ version_item t.version) ≡ length (table_item t) + 2 =
-    length-append (table_item t) (version_item t.version) in
+    let two : length (table_item t ++ bare_version_item t.version ++ hash_def_item (length (table_item t) + 5))
+    ≡ length (table_item t ++ bare_version_item t.version) + 2 =
+    length-append (table_item t ++ bare_version_item t.version) (hash_def_item (length (table_item t) + 5)) in
+    let one : length (table_item t ++ bare_version_item t.version) ≡ length (table_item t) + 2 =
+    length-append (table_item t) (bare_version_item t.version) in
     omega arith
 
 -- the size of the block that is written for a table
 pub size_written : (t : Table) → 4 * length (written_items t) + 16 ≡ written_size t
 size_written t =
-    let long : length (words_of (sha256 (bytes_of (start_word ∷ hashed_items t)))) ≡ 8 =
-    length-words_of (sha256 (bytes_of (start_word ∷ hashed_items t)))
-    ∙ ap (λ n. n / 4) (length-sha256 (bytes_of (start_word ∷ hashed_items t))) in
+    let long : length (words_of (sha256 (bytes_of (start_word ∷ hashed_table_items t)))) ≡ 8 =
+    length-words_of (sha256 (bytes_of (start_word ∷ hashed_table_items t)))
+    ∙ ap (λ n. n / 4) (length-sha256 (bytes_of (start_word ∷ hashed_table_items t))) in
     let all : length (written_items t)
-    ≡ length (hashed_items t) + length
-    (header 0x4b 9 0 ∷ words_of (sha256 (bytes_of (start_word ∷ hashed_items t)))) =
-    length-append (hashed_items t) (header 0x4b 9 0 ∷ words_of (sha256 (bytes_of (start_word ∷ hashed_items t)))) in
-    let hashed : length (hashed_items t) ≡ length (table_item t) + 4 = hashed_size t in
+    ≡ length (hashed_table_items t) + length
+    (header 0x4b 9 0 ∷ words_of (sha256 (bytes_of (start_word ∷ hashed_table_items t)))) =
+    length-append (hashed_table_items t) (header 0x4b 9 0
+    ∷ words_of (sha256 (bytes_of (start_word ∷ hashed_table_items t)))) in
+    let hashed : length (hashed_table_items t) ≡ length (table_item t) + 4 = hashed_size t in
     omega arith

@@ -17,7 +17,7 @@ use Rattle.part_table.specs.Faults.{judge_permissions, is_out_of_range, judge_ra
 use Rattle.part_table.specs.Links.{is_second, is_second_of}
 use Rattle.part_table.specs.Partitions.{part_at, no_partition}
 use Rattle.part_table.specs.Windows.{shares_sector}
-use Rattle.part_table.specs.Rules.{HasSector, IsWrongPair, IsWrongOwner, HasWrongLink, HasNo, IsLeast, PermissionsFault, RangeFault, OverlapFault, LinkFault, IsFirstFault, HasNoFault}
+use Rattle.part_table.specs.Rules.{HasSector, IsWrongPair, IsWrongOwner, HasWrongLink, HasNo, IsLeast, PermissionsFault, RangeFault, OverlapFault, LinkFault, IsFirstTableFault, HasNoFault}
 use Rattle.part_table.proofs.FaultLemmas.{place_of}
 use Rattle.part_table.proofs.PartLemmas.{part_none}
 use Rattle.part_table.proofs.TestLemmas.{differ, mapped_some, passes_at_position, fails_before_position, first_position, never_true, both_of_two, not_true, first_none, second_none}
@@ -424,7 +424,7 @@ module _ (parts : List Partition) (n m : ℕ) where
   no_link : link_fault parts ≡ None → HasNo parts (LinkFault parts)
   no_link = none_to (judge_link parts) parts (LinkFault parts) (link_to parts) (link_back parts)
 
-  pub first_to_rules : (f : TableFault) → parts_fault parts n m ≡ Some f → IsFirstFault parts n m f
+  pub first_to_rules : (f : TableFault) → parts_fault parts n m ≡ Some f → IsFirstTableFault parts n m f
   first_to_rules f e =
       elim (first_of (permissions_fault parts) _ f e) [
         | inl one ↦ inl
@@ -471,7 +471,7 @@ module _ (parts : List Partition) (n m : ℕ) where
   none_link : HasNo parts (LinkFault parts) → link_fault parts ≡ None
   none_link = none_from (judge_link parts) parts (LinkFault parts) (link_to parts) (link_back parts)
 
-  pub rules_to_first : (f : TableFault) → IsFirstFault parts n m f → parts_fault parts n m ≡ Some f
+  pub rules_to_first : (f : TableFault) → IsFirstTableFault parts n m f → parts_fault parts n m ≡ Some f
   rules_to_first f (inl one) =
       ap (λ o. option_or o (option_or (range_fault n m parts) (option_or (overlap_fault parts) (link_fault parts))))
       (least_to_first judge_permissions parts (PermissionsFault parts) (permissions_to parts)

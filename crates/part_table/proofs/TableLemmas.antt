@@ -17,7 +17,7 @@ use Rattle.part_table.specs.declared.table.Table.{Table}
 use Rattle.part_table.specs.declared.table.TableFault.{TableFault}
 use Rattle.part_table.specs.Fields.{first_sector, last_sector, permissions_of}
 use Rattle.part_table.specs.Partitions.{part_at, no_partition}
-use Rattle.part_table.specs.Windows.{IsPlaced, partition_window, has_sector, shares_sector}
+use Rattle.part_table.specs.Windows.{IsPlacedWindow, partition_window, has_sector, shares_sector}
 use Rattle.part_table.specs.Rights.{right_word}
 use Rattle.part_table.specs.Faults.{judge_permissions, judge_range, permissions_fault, range_fault, overlap_fault, link_fault, parts_fault, table_fault}
 use Rattle.part_table.specs.Contents.{table_of_items, fields_of_items, has_bad_hash, ok_unless_bad, ok_or_bad}
@@ -58,7 +58,7 @@ sectors_in t n m none i lt =
 
 -- each partition of a table without faults is a window of whole sectors inside the flash
 pub partition_placed : (t : Table) (n m : ℕ) → table_fault t n m ≡ None → (i : ℕ) → i < length t.parts.items
-    → IsPlaced (partition_window t i) n m
+    → IsPlacedWindow (partition_window t i) n m
 partition_placed t n m none i lt =
     let sectors : _ = sectors_in t n m none i lt in
     window_placed n m (part_at t.parts.items i) sectors.0 sectors.1 sectors.2
@@ -112,7 +112,7 @@ sound_sectors t n sound i lt = sound.inside i no_partition lt
 
 -- each partition of a sound table is a window of whole sectors inside the flash
 pub sound_placed : (t : Table) (n : ℕ) → IsSoundTable t n → (i : ℕ) → i < length t.parts.items
-    → IsPlaced (partition_window t i) n 0
+    → IsPlacedWindow (partition_window t i) n 0
 sound_placed t n sound i lt =
     let sectors : _ = sound_sectors t n sound i lt in
     window_placed n 0 (part_at t.parts.items i) (omega arith) sectors.0 sectors.1

@@ -10,7 +10,7 @@ use Rattle.block_codec.proofs.WordLemmas.{AreBytes, AreBytes-tail, length-words_
 use Rattle.part_table.specs.declared.partition.Partition.{Partition}
 use Rattle.part_table.specs.Fields.{has_id, family_count, has_name}
 use Rattle.part_table.specs.Partitions.{id_words, name_at, name_length, name_words, tail_words, id_of, families_of, name_of, partition_of, partitions_in}
-use Rattle.part_table.specs.Written.{IsReadable, padded_name, id_text, name_text, partition_text}
+use Rattle.part_table.specs.Written.{IsReadablePartition, padded_name, written_id, written_name, written_partition}
 
 -- bytes behind bytes, and bytes 0
 pub bytes_behind : (xs ys : List ℕ) → AreBytes xs → AreBytes ys → AreBytes (xs ++ ys)
@@ -78,11 +78,11 @@ named_bytes name ws short bytes =
     ∙ take_at name (replicate (3 - length name % 4) 0 ++ bytes_of ws) (length name) refl
 
 -- the id's words, and the id that they are read as
-id_size : (flags : ℕ) (id : Option ℕ) → has_id flags ≡ is_some id → id_words flags ≡ length (id_text id)
+id_size : (flags : ℕ) (id : Option ℕ) → has_id flags ≡ is_some id → id_words flags ≡ length (written_id id)
 id_size flags None e = ap (λ yes. if yes then 2 else 0) e
 id_size flags (Some x) e = ap (λ yes. if yes then 2 else 0) e
 
-id_back : (flags : ℕ) (id : Option ℕ) (ws : List ℕ) → has_id flags ≡ is_some id → id_of flags (id_text id ++ ws) ≡ id
+id_back : (flags : ℕ) (id : Option ℕ) (ws : List ℕ) → has_id flags ≡ is_some id → id_of flags (written_id id ++ ws) ≡ id
 id_back flags None ws e = ap (λ yes. if yes then Some (slice_index ws 0 + 2 ^ 32 * slice_index ws 1) else None) e
 id_back flags (Some x) ws e =
     let whole : x % 2 ^ 32 + 2 ^ 32 * (x / 2 ^ 32) ≡ x = omega arith in
@@ -111,7 +111,7 @@ name_length_back flags name ws rest short at =
 
 name_size : (flags : ℕ) (name : Option (ArrayVec ℕ)) (ws rest : List ℕ) → has_name flags ≡ is_some name
     → IfSome name (λ n. length n.items < 128)
-    → drop (name_at flags) ws ≡ name_text name ++ rest → name_words flags ws ≡ length (name_text name)
+    → drop (name_at flags) ws ≡ written_name name ++ rest → name_words flags ws ≡ length (written_name name)
 name_size flags None ws rest e short at = ap (λ yes. if yes then (name_length flags ws + 4) / 4 else 0) e
 name_size flags (Some name) ws rest e short at =
     ap (λ yes. if yes then (name_length flags ws + 4) / 4 else 0) e
@@ -119,7 +119,8 @@ name_size flags (Some name) ws rest e short at =
 
 name_back : (flags : ℕ) (name : Option (ArrayVec ℕ)) (ws rest : List ℕ) → has_name flags ≡ is_some name
     → IfSome name (λ n. length n.items < 128)
-    → IfSome name (λ n. AreBytes n.items) → drop (name_at flags) ws ≡ name_text name ++ rest → name_of flags ws ≡ name
+    → IfSome name (λ n. AreBytes n.items) → drop (name_at flags) ws ≡ written_name name ++ rest
+    → name_of flags ws ≡ name
 name_back flags None ws rest e short bytes at =
     ap (λ yes. if yes then Some
     (record { items = take (name_length flags ws) (drop 1 (bytes_of (drop (name_at flags) ws))) }) else None) e
@@ -144,45 +145,46 @@ same_parts at flag_word i j f g n m one two three =
 
 -- what follows the flag word of a partition, and others behind it
 abbrev tail_text : Partition → List ℕ
-tail_text p = id_text p.id ++ p.families.items ++ name_text p.name
+tail_text p = written_id p.id ++ p.families.items ++ written_name p.name
 
-module _ (p : Partition) (writable : IsReadable p) (rest : List ℕ) where
+module _ (p : Partition) (writable : IsReadablePartition p) (rest : List ℕ) where
   abbrev behind : List ℕ
   behind = tail_text p ++ rest
 
   -- where the name stands
-  name_begins : length (id_text p.id ++ p.families.items) ≡ name_at p.flags
+  name_begins : length (written_id p.id ++ p.families.items) ≡ name_at p.flags
   name_begins =
-      let before : id_words p.flags ≡ length (id_text p.id) = id_size p.flags p.id writable.agrees.id in
+      let before : id_words p.flags ≡ length (written_id p.id) = id_size p.flags p.id writable.agrees.id in
       let families : family_count p.flags ≡ length p.families.items = writable.agrees.families in
-      length-append (id_text p.id) p.families.items ∙ omega arith
+      length-append (written_id p.id) p.families.items ∙ omega arith
 
-  name_here : drop (name_at p.flags) behind ≡ name_text p.name ++ rest
+  name_here : drop (name_at p.flags) behind ≡ written_name p.name ++ rest
   name_here =
-      ap (λ ys. drop (name_at p.flags) ys) (append_assoc (id_text p.id ++ p.families.items) (name_text p.name) rest)
-      ∙ drop_at (id_text p.id ++ p.families.items) (name_text p.name ++ rest) (name_at p.flags) name_begins
+      ap (λ ys. drop (name_at p.flags) ys) (append_assoc (written_id p.id ++ p.families.items)
+      (written_name p.name) rest)
+      ∙ drop_at (written_id p.id ++ p.families.items) (written_name p.name ++ rest) (name_at p.flags) name_begins
 
   -- the words behind the flag word are all of the partition's
   tail_size : tail_words p.flags behind ≡ length (tail_text p)
   tail_size =
-      let size : name_words p.flags behind ≡ length (name_text p.name) =
+      let size : name_words p.flags behind ≡ length (written_name p.name) =
       name_size p.flags p.name behind rest writable.agrees.name writable.short name_here in
-      let begins : length (id_text p.id ++ p.families.items) ≡ name_at p.flags = name_begins in
-      sym (length-append (id_text p.id ++ p.families.items) (name_text p.name) ∙ omega arith)
+      let begins : length (written_id p.id ++ p.families.items) ≡ name_at p.flags = name_begins in
+      sym (length-append (written_id p.id ++ p.families.items) (written_name p.name) ∙ omega arith)
 
   -- the parts stand one behind the other
-  in_turn : behind ≡ id_text p.id ++ (p.families.items ++ (name_text p.name ++ rest))
-  in_turn = append_assoc (id_text p.id ++ p.families.items) (name_text p.name) rest
-      ∙ append_assoc (id_text p.id) p.families.items (name_text p.name ++ rest)
+  in_turn : behind ≡ written_id p.id ++ (p.families.items ++ (written_name p.name ++ rest))
+  in_turn = append_assoc (written_id p.id ++ p.families.items) (written_name p.name) rest
+      ∙ append_assoc (written_id p.id) p.families.items (written_name p.name ++ rest)
 
   id_read : id_of p.flags behind ≡ p.id
   id_read = ap (λ ys. id_of p.flags ys) in_turn
-      ∙ id_back p.flags p.id (p.families.items ++ (name_text p.name ++ rest)) writable.agrees.id
+      ∙ id_back p.flags p.id (p.families.items ++ (written_name p.name ++ rest)) writable.agrees.id
 
   families_read : families_of p.flags behind ≡ p.families.items
   families_read =
       ap (λ ys. families_of p.flags ys) in_turn
-      ∙ families_back p.flags (id_text p.id) p.families.items (name_text p.name ++ rest)
+      ∙ families_back p.flags (written_id p.id) p.families.items (written_name p.name ++ rest)
       (id_size p.flags p.id writable.agrees.id) writable.agrees.families
 
   name_read : name_of p.flags behind ≡ p.name
@@ -219,16 +221,16 @@ one_more n at flag_word ws k p parts rest size room past one more =
     ∙ ap (λ q. Some (q ∷ parts)) one
 
 -- partitions that were written are read again, where they fill the list
-pub partitions_back : (parts : List Partition) → AllByRecursion IsReadable parts
-    → partitions_in (length parts) (flat_map partition_text parts) ≡ Some parts
+pub partitions_back : (parts : List Partition) → AllByRecursion IsReadablePartition parts
+    → partitions_in (length parts) (flat_map written_partition parts) ≡ Some parts
 partitions_back [] all = refl
 partitions_back (p ∷ parts) all =
-    one_more (length parts) p.location p.flags (tail_text p ++ flat_map partition_text parts)
-    (length (tail_text p)) p parts (flat_map partition_text parts)
-    (tail_size p all.0 (flat_map partition_text parts))
-    (let long : length (tail_text p ++ flat_map partition_text parts)
-    ≡ length (tail_text p) + length (flat_map partition_text parts) =
-    length-append (tail_text p) (flat_map partition_text parts) in omega arith)
-    (drop_at (tail_text p) (flat_map partition_text parts) (length (tail_text p)) refl)
-    (partition_back p all.0 (flat_map partition_text parts))
+    one_more (length parts) p.location p.flags (tail_text p ++ flat_map written_partition parts)
+    (length (tail_text p)) p parts (flat_map written_partition parts)
+    (tail_size p all.0 (flat_map written_partition parts))
+    (let long : length (tail_text p ++ flat_map written_partition parts)
+    ≡ length (tail_text p) + length (flat_map written_partition parts) =
+    length-append (tail_text p) (flat_map written_partition parts) in omega arith)
+    (drop_at (tail_text p) (flat_map written_partition parts) (length (tail_text p)) refl)
+    (partition_back p all.0 (flat_map written_partition parts))
     (partitions_back parts all.1)

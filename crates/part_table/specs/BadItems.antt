@@ -17,8 +17,8 @@ abbrev pub HasItem : List Item → ℕ → Item → Type 0
 HasItem items kind x = (i : ℕ) × IsOfKindAt items kind i x
 
 -- there is no item of this kind
-abbrev pub HasNone : List Item → ℕ → Type 0
-HasNone items kind = (x : Item) → HasItem items kind x → ⊥
+abbrev pub HasNoItem : List Item → ℕ → Type 0
+HasNoItem items kind = (x : Item) → HasItem items kind x → ⊥
 
 -- two items are of this kind
 pub record StandsTwice (items : List Item) (kind : ℕ) : Type 0 where
@@ -56,10 +56,10 @@ told_words words x = low_half (slice_index words (x.first + 1))
 -- none, and they pass the block
 abbrev pub IsMisplacedHash : List ℕ → List Item → Type 0
 IsMisplacedHash words items =
-    ((value : Item) × HasItem items HASH_VALUE value × HasNone items HASH_DEF)
+    ((value : Item) × HasItem items HASH_VALUE value × HasNoItem items HASH_DEF)
     ⊎ ((value : Item) × (def : Item) × HasItem items HASH_VALUE value × HasItem items HASH_DEF def
     × (value.first < told_words words def))
-    ⊎ ((def : Item) × HasNone items HASH_VALUE × HasItem items HASH_DEF def
+    ⊎ ((def : Item) × HasNoItem items HASH_VALUE × HasItem items HASH_DEF def
     × (length words < told_words words def))
 
 -- so many partitions, one behind the other, fill the words exactly
@@ -94,4 +94,4 @@ HasWrongItem items =
 abbrev pub HasBadItem : List ℕ → List Item → Type 0
 HasBadItem words items =
     IsRepeatedKind items ⊎ HasWrongItem items ⊎ IsMisplacedHash words items
-    ⊎ HasWrong items PARTITION_TABLE (IsUnfilled words) ⊎ HasNone items PARTITION_TABLE
+    ⊎ HasWrong items PARTITION_TABLE (IsUnfilled words) ⊎ HasNoItem items PARTITION_TABLE

@@ -33,7 +33,7 @@ table_from v high (word ∷ ws) =
     })
     (partitions_in (high % 16) ws)
 
--- a kind is repeated where the block has two items of it or more (this project's own)
+-- a kind is repeated where the block has two items of it or more
 abbrev pub is_repeated : List Item → ℕ → Bool
 is_repeated items kind = nat_le 2 (length (items_of_kind kind items))
 
@@ -43,7 +43,7 @@ abbrev pub is_misread : {A : Type 0} → (Item → Option A) → Option Item →
 is_misread read None = false
 is_misread read (Some x) = is_none (read x)
 
--- a kind is bad where it is repeated or its item is misread (this project's own)
+-- a kind is bad where it is repeated or its item is misread
 abbrev pub is_bad : {A : Type 0} → (Item → Option A) → ℕ → List Item → Bool
 is_bad read kind items = is_repeated items kind || is_misread read (item_of_kind kind items)
 
@@ -56,39 +56,35 @@ abbrev pub hash_count : List ℕ → List Item → Option ℕ
 hash_count words items = said (hash_count_of words) HASH_DEF items
 
 -- a digest is misplaced where no HASH_DEF tells its words, or these pass the word at which the
--- HASH_VALUE item begins; without a HASH_VALUE item the words may not pass the block (this
--- project's own)
-abbrev pub is_misplaced : ℕ → Option Item → Option ℕ → Bool
-is_misplaced size None None = false
-is_misplaced size None (Some count) = nat_lt size count
-is_misplaced size (Some value) None = true
-is_misplaced size (Some value) (Some count) = nat_lt value.first count
+-- HASH_VALUE item begins; without a HASH_VALUE item the words may not pass the block
+abbrev pub is_misplaced_digest : ℕ → Option Item → Option ℕ → Bool
+is_misplaced_digest size None None = false
+is_misplaced_digest size None (Some count) = nat_lt size count
+is_misplaced_digest size (Some value) None = true
+is_misplaced_digest size (Some value) (Some count) = nat_lt value.first count
 
--- the hash of a block is bad where HASH_DEF or HASH_VALUE is, or the digest is misplaced (this
--- project's own)
+-- the hash of a block is bad where HASH_DEF or HASH_VALUE is, or the digest is misplaced
 abbrev pub has_bad_hash : List ℕ → List Item → Bool
 has_bad_hash words items =
     is_bad (hash_count_of words) HASH_DEF items
     || is_bad (digest_of words) HASH_VALUE items
-    || is_misplaced (length words) (item_of_kind HASH_VALUE items) (hash_count words items)
+    || is_misplaced_digest (length words) (item_of_kind HASH_VALUE items) (hash_count words items)
 
--- a table's version is that of the VERSION item in its block, and 0.0 where there is none (this
--- project's own)
+-- a table's version is that of the VERSION item in its block, and 0.0 where there is none
 abbrev pub version_in : List ℕ → List Item → Version
 version_in words items =
     unwrap_or (said (version_of words) VERSION items) (record { major = 0; minor = 0 })
 
--- the fields of a block's words and items are what its PARTITION_TABLE item says, with the version;
--- there are none where one of these two kinds is bad, there is no such item, or its partitions do
--- not fill it exactly (this project's own)
+-- the fields of a block's words and items are what its PARTITION_TABLE item says, with the
+-- version; there are none where one of these two kinds is bad, there is no such item, or its
+-- partitions do not fill it exactly
 abbrev pub fields_of_items : List ℕ → List Item → Option Table
 fields_of_items words items =
     if is_repeated items PARTITION_TABLE || is_bad (version_of words) VERSION items then None
     else
     said (λ x. table_from (version_in words items) x.high (body_of words x)) PARTITION_TABLE items
 
--- the table of a block's words and items is its fields, where its hash is not bad (this project's
--- own)
+-- the table of a block's words and items is its fields, where its hash is not bad
 abbrev pub table_of_items : List ℕ → List Item → Option Table
 table_of_items words items = if has_bad_hash words items then None else fields_of_items words items
 
@@ -108,12 +104,12 @@ is_wrong_hash words hash = not (bytes_eq hash.digest (sha256 (bytes_of (take has
 abbrev pub has_wrong_hash : List ℕ → List Item → Bool
 has_wrong_hash words items = option_map_or (is_wrong_hash words) (stated_hash words items) false
 
--- the value, or BadItem where something is bad (this project's own)
+-- the value, or BadItem where something is bad
 abbrev pub ok_unless_bad : {A : Type 0} → Bool → A → Result A TableFault
 ok_unless_bad true value = Err BadItem
 ok_unless_bad false value = Ok value
 
--- the value that there is, and BadItem where there is none (this project's own)
+-- the value that there is, and BadItem where there is none
 abbrev pub ok_or_bad : {A : Type 0} → Option A → Result A TableFault
 ok_or_bad None = Err BadItem
 ok_or_bad (Some value) = Ok value

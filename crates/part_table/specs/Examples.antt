@@ -1,5 +1,4 @@
--- Worked examples of tables, with their answers reckoned by hand from the rules. This project's
--- own.
+-- Worked examples of tables, with their answers reckoned by hand from the rules.
 use Rattle.std.specs.Prelude.{drop, ℕ, ◌+◌, ◌*◌, true, false, List, [], ◌∷◌, ◌++◌, pos, replicate, Option, None, Some, Result}
 use Rattle.arrayvec.specs.ArrayVec.{ArrayVec}
 use Rattle.block_codec.specs.Blocks.{BlockView}
@@ -46,12 +45,12 @@ table_with ps = record {
 abbrev pub pair_items : List ℕ
 pair_items = 0x0200060a ∷ 0xfc008000 ∷ 0xfc03e002 ∷ 0xfc020000 ∷ 0xfc07a020 ∷ 0xfc020002 ∷ []
 
--- that table, which has no VERSION item
+-- the table of those two partitions, which has no VERSION item
 abbrev pub pair_table : Table
 pair_table =
     table_with (plain_partition 0xfc03e002 0xfc020000 ∷ plain_partition 0xfc07a020 0xfc020002 ∷ [])
 
--- that table with a version
+-- the table of those two partitions with a version
 abbrev pub pair_version : ℕ → ℕ → Table
 pair_version high low = record {
   version = record { major = high; minor = low };
@@ -86,7 +85,8 @@ linked_parts one two three =
     three_parts (sectors 2 3) (0xfc000000 + one) (sectors 4 5) (0xfc000000 + two) (sectors 6 7)
     (0xfc000000 + three)
 
--- the partitions of that table
+-- the table of three partitions, sectors 2 to 3, 4 to 5 and 6 to 7, with these flag words below
+-- their permissions
 abbrev pub linked_table : ℕ → ℕ → ℕ → Table
 linked_table one two three =
     table_with
@@ -109,7 +109,7 @@ named_items =
     0x81000a0a ∷ 0 ∷ 0xfc006002 ∷ 0xfc001101 ∷ 0x44332211 ∷ 0x88776655 ∷ 0x11111111 ∷ 0xe48bff5a
     ∷ 0x63626184 ∷ 0x00000064 ∷ []
 
--- that partition
+-- the partition of sectors 2 to 3 with an id, two extra families and a name of four bytes
 abbrev pub named_partition : Partition
 named_partition = record {
   location = 0xfc006002;
@@ -119,7 +119,7 @@ named_partition = record {
   name = Some (record { items = 0x61 ∷ 0x62 ∷ 0x63 ∷ 0x64 ∷ [] });
 }
 
--- that table
+-- the table of the item words above
 abbrev pub named_table : Table
 named_table = record {
   version = record { major = 0; minor = 0 };
@@ -138,7 +138,8 @@ partition_with flag_word number extra text = record {
   name = text;
 }
 
--- the same with a name of these bytes, and without an id or extra families
+-- the partition of sectors 2 to 3 with these flags and a name of these bytes, and without an id or
+-- extra families
 abbrev pub named_partition_of : ℕ → List ℕ → Partition
 named_partition_of flag_word bytes =
     partition_with flag_word None [] (Some (record { items = bytes }))
@@ -185,7 +186,7 @@ owned_items =
     ∷ 0xfc010004
     ∷ 0xfc04201a ∷ 0xfc010012 ∷ []
 
--- that table
+-- the table of the item words above
 abbrev pub owned_table : Table
 owned_table =
     table_with
@@ -206,7 +207,8 @@ guarded_table = record {
   };
 }
 
--- the same with the right to read in place of that to write
+-- the table of two partitions in which the bootloader may not read the first, and may not read the
+-- unpartitioned sectors
 abbrev pub unread_table : Table
 unread_table = record {
   version = record { major = 0; minor = 0 };
@@ -228,12 +230,12 @@ pair_digest =
 abbrev pub pair_hashed : List ℕ
 pair_hashed = pair_and (0x00000248 ∷ 0 ∷ 0x01000247 ∷ 11 ∷ 0x0000094b ∷ pair_digest)
 
--- the same with bit 0 of the digest's first byte inverted
+-- the items of the pair's table with bit 0 of the digest's first byte inverted
 abbrev pub pair_misdigested : List ℕ
 pair_misdigested =
     pair_and (0x00000248 ∷ 0 ∷ 0x01000247 ∷ 11 ∷ 0x0000094b ∷ 0xa3e4cc16 ∷ drop 1 pair_digest)
 
--- the same with bit 0 of the digest's last byte inverted
+-- the items of the pair's table with bit 0 of the digest's last byte inverted
 abbrev pub pair_misdigested_last : List ℕ
 pair_misdigested_last =
     pair_and

@@ -30,8 +30,7 @@ riscv_family = 0xe48bff5a
 abbrev pub arm_ns_family : ℕ
 arm_ns_family = 0xe48bff5b
 
--- the six families have the bits 14 to 19 of a flag word, in the order of their numbers (this
--- project's own)
+-- the six families have the bits 14 to 19 of a flag word, in the order of their numbers
 abbrev pub has_family_bit : ℕ → ℕ → Bool
 has_family_bit flags family =
     nat_le rp2040_family family && nat_le family arm_ns_family && has_bit flags
@@ -43,7 +42,6 @@ abbrev pub accepts : Partition → ℕ → Bool
 accepts p family =
     has_family_bit p.flags family || list_any (λ extra. extra == family) p.families.items
 
--- a table accepts the absolute family where bit 15 of its unpartitioned word is set (this project's
--- own)
+-- a table accepts the absolute family where bit 15 of its unpartitioned word is set
 abbrev pub accepts_absolute : Table → Bool
 accepts_absolute t = has_bit t.unpartitioned 15

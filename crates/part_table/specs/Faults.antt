@@ -20,13 +20,12 @@ judge_permissions before p =
     else Some (Permissions (length before))
 
 -- a partition is out of range in a flash of n sectors, of which m stand before the first free one,
--- where its first sector is below m or above its last, or its last is not below n (this project's
--- own)
+-- where its first sector is below m or above its last, or its last is not below n
 abbrev pub is_out_of_range : ℕ → ℕ → Partition → Bool
 is_out_of_range n m p =
     nat_lt (first_sector p) m || nat_lt (last_sector p) (first_sector p) || nat_le n (last_sector p)
 
--- a partition has a fault of range where it is out of range (this project's own)
+-- a partition has a fault of range where it is out of range
 abbrev pub judge_range : ℕ → ℕ → List Partition → Partition → Option TableFault
 judge_range n m before p = if is_out_of_range n m p then Some (Range (length before)) else None
 
@@ -38,7 +37,7 @@ judge_overlap parts before p =
     (position (shares_sector p) (drop (length before + 1) parts))
 
 -- a link "A is" is wrong where the partition that it names is none, is the partition itself or has
--- such a link too, or is the A of a partition before (this project's own)
+-- such a link too, or is the A of a partition before
 abbrev pub is_wrong_pair : List Partition → List Partition → Partition → Bool
 is_wrong_pair parts before p =
     option_map_or is_second (slice_get parts (link_value p)) true
@@ -46,49 +45,48 @@ is_wrong_pair parts before p =
     || list_any (is_second_of (link_value p)) before
 
 -- an owner link is wrong where the partition that it names is none, is the partition itself or has
--- a link (this project's own)
+-- a link
 abbrev pub is_wrong_owner : List Partition → List Partition → Partition → Bool
 is_wrong_owner parts before p =
     option_map_or (λ q. not (link_type q == 0)) (slice_get parts (link_value p)) true
     || link_value p == length before
 
--- a link is wrong where its type is 3, or it is a wrong link "A is" or a wrong owner link (this
--- project's own)
+-- a link is wrong where its type is 3, or it is a wrong link "A is" or a wrong owner link
 abbrev pub is_wrong_link : List Partition → List Partition → Partition → Bool
 is_wrong_link parts before p =
     link_type p == 3
     || link_type p == 1 && is_wrong_pair parts before p
     || link_type p == 2 && is_wrong_owner parts before p
 
--- a partition has a fault of its link where that link is wrong (this project's own)
+-- a partition has a fault of its link where that link is wrong
 abbrev pub judge_link : List Partition → List Partition → Partition → Option TableFault
 judge_link parts before p =
     if is_wrong_link parts before p then Some (Link (length before)) else None
 
--- the first fault of permissions is that of the least partition that has one (this project's own)
+-- the first fault of permissions is that of the least partition that has one
 abbrev pub permissions_fault : List Partition → Option TableFault
 permissions_fault parts = first_fault judge_permissions parts
 
--- the first fault of range is that of the least partition that has one (this project's own)
+-- the first fault of range is that of the least partition that has one
 abbrev pub range_fault : ℕ → ℕ → List Partition → Option TableFault
 range_fault n m parts = first_fault (judge_range n m) parts
 
--- the first overlap is that of the least partition that has one (this project's own)
+-- the first overlap is that of the least partition that has one
 abbrev pub overlap_fault : List Partition → Option TableFault
 overlap_fault parts = first_fault (judge_overlap parts) parts
 
--- the first fault of a link is that of the least partition that has one (this project's own)
+-- the first fault of a link is that of the least partition that has one
 abbrev pub link_fault : List Partition → Option TableFault
 link_fault parts = first_fault (judge_link parts) parts
 
 -- the first fault of a table's partitions in a flash of n sectors, of which m stand before the
 -- first free one, is sought over the whole table for permissions, then range, then overlaps, then
--- links (this project's own)
+-- links
 abbrev pub parts_fault : List Partition → ℕ → ℕ → Option TableFault
 parts_fault parts n m =
     option_or (permissions_fault parts)
     (option_or (range_fault n m parts) (option_or (overlap_fault parts) (link_fault parts)))
 
--- the first fault of a table is that of its partitions (this project's own)
+-- the first fault of a table is that of its partitions
 abbrev pub table_fault : Table → ℕ → ℕ → Option TableFault
 table_fault t n m = parts_fault t.parts.items n m

@@ -7,37 +7,35 @@ use Rattle.block_codec.specs.Words.{bytes_of}
 use Rattle.part_table.specs.declared.partition.Partition.{Partition}
 use Rattle.part_table.specs.Fields.{has_id, family_count, has_name}
 
--- an id takes two words where there is one (this project's own)
+-- an id takes two words where there is one
 abbrev pub id_words : ℕ → ℕ
 id_words flags = if has_id flags then 2 else 0
 
--- the words before a name are those of the id and of the extra families (this project's own)
+-- the words before a name are those of the id and of the extra families
 abbrev pub name_at : ℕ → ℕ
 name_at flags = id_words flags + family_count flags
 
 -- the length of a name is the low seven bits of its first byte, the low byte of its first word
--- (this project's own)
 abbrev pub name_length : ℕ → List ℕ → ℕ
 name_length flags ws = slice_index ws (name_at flags) % 128
 
--- a name takes as many words as hold its length byte and its bytes (this project's own)
+-- a name takes as many words as hold its length byte and its bytes
 abbrev pub name_words : ℕ → List ℕ → ℕ
 name_words flags ws = if has_name flags then (name_length flags ws + 4) / 4 else 0
 
--- the words of a partition after its flag word are its id, its extra families and its name (this
--- project's own)
+-- the words of a partition after its flag word are its id, its extra families and its name
 abbrev pub tail_words : ℕ → List ℕ → ℕ
 tail_words flags ws = name_at flags + name_words flags ws
 
--- an id is two words, the low one first (this project's own)
+-- an id is two words, the low one first
 abbrev pub id_of : ℕ → List ℕ → Option ℕ
 id_of flags ws = if has_id flags then Some (slice_index ws 0 + 2 ^ 32 * slice_index ws 1) else None
 
--- the extra families of a partition are the words after its id (this project's own)
+-- the extra families of a partition are the words after its id
 abbrev pub families_of : ℕ → List ℕ → List ℕ
 families_of flags ws = take (family_count flags) (drop (id_words flags) ws)
 
--- a name is the bytes that follow its length byte (this project's own)
+-- a name is the bytes that follow its length byte
 abbrev pub name_of : ℕ → List ℕ → Option (ArrayVec ℕ)
 name_of flags ws =
     if has_name flags then Some
@@ -46,8 +44,7 @@ name_of flags ws =
           (drop 1 (bytes_of (drop (name_at flags) ws)));
     }) else None
 
--- a partition is its location word, its flag word, and what the words after these say (this
--- project's own)
+-- a partition is its location word, its flag word, and what the words after these say
 abbrev pub partition_of : ℕ → ℕ → List ℕ → Partition
 partition_of at flag_word ws = record {
   location = at;
@@ -58,19 +55,19 @@ partition_of at flag_word ws = record {
 }
 
 -- the partition at the front of a list of words takes its two words and those of its id, its extra
--- families and its name; there is none where these are not all there (this project's own)
+-- families and its name; there is none where these are not all there
 abbrev pub partition_words : List ℕ → Option ℕ
 partition_words [] = None
 partition_words (location ∷ []) = None
 partition_words (location ∷ flags ∷ ws) =
     if nat_le (tail_words flags ws) (length ws) then Some (2 + tail_words flags ws) else None
 
--- the partition at the front of a list of words (this project's own)
+-- the partition at the front of a list of words
 abbrev pub partition_from : List ℕ → Partition
 partition_from ws = partition_of (slice_index ws 0) (slice_index ws 1) (drop 2 ws)
 
 -- a list of words is read as n partitions, one behind the other, where these fill it exactly, and
--- is refused otherwise (this project's own)
+-- is refused otherwise
 abbrev pub partitions_in : ℕ → List ℕ → Option (List Partition)
 partitions_in zero [] = Some []
 partitions_in zero (w ∷ ws) = None
@@ -80,7 +77,6 @@ partitions_in (suc n) ws =
     (partition_words ws)
 
 -- what stands for a partition past a table's end is a partition of no right, no link and no family
--- (this project's own)
 abbrev pub no_partition : Partition
 no_partition =
     record { location = 0; flags = 0; id = None; families = record { items = [] }; name = None }

@@ -81,8 +81,8 @@ pub record IsLeast (parts : List Partition) (Has : ℕ → TableFault → Type 0
 
 -- f is the first fault of a table's partitions in a flash of n sectors, of which m stand before the
 -- first free one: of permissions, else of range, else of overlap, else of a link
-abbrev pub IsFirstFault : List Partition → ℕ → ℕ → TableFault → Type 0
-IsFirstFault parts n m f =
+abbrev pub IsFirstTableFault : List Partition → ℕ → ℕ → TableFault → Type 0
+IsFirstTableFault parts n m f =
     IsLeast parts (PermissionsFault parts) f
     ⊎ (HasNo parts (PermissionsFault parts) × IsLeast parts (RangeFault n m parts) f)
     ⊎ (HasNo parts (PermissionsFault parts) × HasNo parts (RangeFault n m parts)
@@ -100,17 +100,17 @@ pub record HasNoFault (parts : List Partition) (n m : ℕ) : Type 0 where
 
 -- what a block's items and its hash say is answered so: BadItem where they say no table, else the
 -- first fault of the table's partitions, else Hash where the hash is wrong, else the table
-abbrev pub IsAnswer : Option Table → Bool → ℕ → ℕ → Result Table TableFault → Type 0
-IsAnswer says wrong_hash n m (Ok t) = (says ≡ Some t) × HasNoFault t.parts.items n m
+abbrev pub IsTableAnswer : Option Table → Bool → ℕ → ℕ → Result Table TableFault → Type 0
+IsTableAnswer says wrong_hash n m (Ok t) = (says ≡ Some t) × HasNoFault t.parts.items n m
     × (wrong_hash ≡ false)
-IsAnswer says wrong_hash n m (Err f) =
+IsTableAnswer says wrong_hash n m (Err f) =
     ((says ≡ None) × (f ≡ BadItem))
-    ⊎ ((t : Table) × (says ≡ Some t) × IsFirstFault t.parts.items n m f)
+    ⊎ ((t : Table) × (says ≡ Some t) × IsFirstTableFault t.parts.items n m f)
     ⊎ ((t : Table) × (says ≡ Some t) × HasNoFault t.parts.items n m × (wrong_hash ≡ true)
     × (f ≡ Hash))
 
 -- a block is answered with what its items and its hash say
 abbrev pub IsReadTo : BlockView → ℕ → ℕ → Result Table TableFault → Type 0
 IsReadTo b n m result =
-    IsAnswer (table_of_items (block_words b) (items_of b.items))
+    IsTableAnswer (table_of_items (block_words b) (items_of b.items))
     (has_wrong_hash (block_words b) (items_of b.items)) n m result

@@ -18,18 +18,18 @@ use Rattle.part_table.specs.Faults.{table_fault}
 abbrev pub has_table : BlockView → Bool
 has_table b = is_some (item_of_kind PARTITION_TABLE (items_of b.items))
 
--- a digest that is wrong is the last fault (this project's own)
+-- a digest that is wrong is the last fault
 abbrev pub wrong_hash_fault : List ℕ → List Item → Option TableFault
 wrong_hash_fault words items = if has_wrong_hash words items then Some Hash else None
 
 -- a table that was read is judged by its partitions and then by its digest, and one that was not
--- has a bad item (this project's own)
+-- has a bad item
 abbrev pub table_or_fault : Option Table → ℕ → ℕ → Option TableFault → Result Table TableFault
 table_or_fault None n m wrong_hash = Err BadItem
 table_or_fault (Some t) n m wrong_hash = ok_unless (option_or (table_fault t n m) wrong_hash) t
 
 -- the table of a block in a flash of n sectors, of which m stand before the first free one, or its
--- first fault (this project's own)
+-- first fault
 abbrev pub table_of : BlockView → ℕ → ℕ → Result Table TableFault
 table_of b n m =
     let words = block_words b in

@@ -30,8 +30,8 @@ abbrev pub partition_window : Table → ℕ → Window
 partition_window t i = part_window (part_at t.parts.items i)
 
 -- a window is of whole sectors, at least one, stands inside a flash of n sectors, and begins at
--- sector m or behind it (this project's own)
-pub record IsPlaced (w : Window) (n m : ℕ) : Type 0 where
+-- sector m or behind it
+pub record IsPlacedWindow (w : Window) (n m : ℕ) : Type 0 where
   pub starts : w.start % 4096 ≡ 0
   pub whole : w.len % 4096 ≡ 0
   pub some : 4096 ≤ w.len
@@ -40,4 +40,4 @@ pub record IsPlaced (w : Window) (n m : ℕ) : Type 0 where
 
 -- a window is of whole sectors, at least one, inside the flash of a content
 abbrev pub IsPlacedIn : Content → Window → Type 0
-IsPlacedIn c w = IsPlaced w (length c.flash / 4096) 0
+IsPlacedIn c w = IsPlacedWindow w (length c.flash / 4096) 0

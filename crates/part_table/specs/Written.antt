@@ -15,48 +15,47 @@ use Rattle.block_codec.specs.declared.kinds.TheConstants.{HASH_DEF, HASH_VALUE, 
 use Rattle.part_table.specs.Fields.{has_id, family_count, has_name}
 use Rattle.part_table.specs.TableOf.{has_table, table_of}
 
--- a partition agrees with its flag word where this tells of its id, its extra families and its name
--- (this project's own)
+-- a partition agrees with its flag word where this tells of its id, its extra families and its
+-- name
 pub record AgreesWithFlags (p : Partition) : Type 0 where
   pub id : has_id p.flags ≡ is_some p.id
   pub families : family_count p.flags ≡ length p.families.items
   pub name : has_name p.flags ≡ is_some p.name
 
--- what is written for a partition can be read as it where it agrees with its flag word and its name
--- has bytes, at most 127 (this project's own)
-pub record IsReadable (p : Partition) : Type 0 where
+-- what is written for a partition can be read as it where it agrees with its flag word and its
+-- name has bytes, at most 127
+pub record IsReadablePartition (p : Partition) : Type 0 where
   pub agrees : AgreesWithFlags p
   pub short : IfSome p.name (λ name. length name.items < 128)
   pub bytes : IfSome p.name (λ name. (i : ℕ) → slice_index name.items i < 256)
 
--- a partition can be written where besides its words and its id are in their ranges (this project's
--- own)
-pub record IsWritable (p : Partition) : Type 0 where
-  pub readable : IsReadable p
+-- a partition can be written where besides its words and its id are in their ranges
+pub record IsWritablePartition (p : Partition) : Type 0 where
+  pub readable : IsReadablePartition p
   pub location : p.location < 2 ^ 32
   pub flags : p.flags < 2 ^ 32
   pub id : IfSome p.id (λ id. id < 2 ^ 64)
   pub families : AreWords p.families.items
 
--- an id is written as two words, the low one first (this project's own)
-abbrev pub id_text : Option ℕ → List ℕ
-id_text None = []
-id_text (Some id) = id % 2 ^ 32 ∷ id / 2 ^ 32 ∷ []
+-- an id is written as two words, the low one first
+abbrev pub written_id : Option ℕ → List ℕ
+written_id None = []
+written_id (Some id) = id % 2 ^ 32 ∷ id / 2 ^ 32 ∷ []
 
--- a name is written as its length in one byte, its bytes, and bytes 0 up to a whole word (this
--- project's own)
+-- a name is written as its length in one byte, its bytes, and bytes 0 up to a whole word
 abbrev pub padded_name : List ℕ → List ℕ
 padded_name name = length name ∷ name ++ replicate (3 - length name % 4) 0
 
--- a name is written in whole words (this project's own)
-abbrev pub name_text : Option (ArrayVec ℕ) → List ℕ
-name_text None = []
-name_text (Some name) = words_of (padded_name name.items)
+-- a name is written in whole words
+abbrev pub written_name : Option (ArrayVec ℕ) → List ℕ
+written_name None = []
+written_name (Some name) = words_of (padded_name name.items)
 
 -- a partition is written as its location word, its flag word, its id, its extra families and its
--- name (this project's own)
-abbrev pub partition_text : Partition → List ℕ
-partition_text p = p.location ∷ p.flags ∷ id_text p.id ++ p.families.items ++ name_text p.name
+-- name
+abbrev pub written_partition : Partition → List ℕ
+written_partition p = p.location ∷ p.flags ∷ written_id p.id ++ p.families.items
+    ++ written_name p.name
 
 -- the header of an item with a size of one byte and no third byte has the type byte, the size and
 -- the fourth byte (RP2350 Datasheet, chapter 5, Bootrom)
@@ -66,7 +65,7 @@ header kind size high = kind + 256 * size + 16777216 * high
 -- the body of the PARTITION_TABLE item is the unpartitioned word and then the partitions (RP2350
 -- Datasheet, chapter 5, Bootrom)
 abbrev pub table_body : Table → List ℕ
-table_body t = t.unpartitioned ∷ flat_map partition_text t.parts.items
+table_body t = t.unpartitioned ∷ flat_map written_partition t.parts.items
 
 -- the fourth byte of the PARTITION_TABLE item's header has the singleton bit and the number of
 -- partitions (RP2350 Datasheet, chapter 5, Bootrom)
@@ -78,10 +77,10 @@ table_byte t = (if t.singleton then 128 else 0) + length t.parts.items
 abbrev pub table_item : Table → List ℕ
 table_item t = header PARTITION_TABLE (1 + length (table_body t)) (table_byte t) ∷ table_body t
 
--- the VERSION item is written without rows, minor in the low half of its word and major in the high
--- half (this project's own)
-abbrev pub version_item : Version → List ℕ
-version_item v = header VERSION 2 0 ∷ (v.minor + 65536 * v.major) ∷ []
+-- the VERSION item is written without rows, minor in the low half of its word and major in the
+-- high half
+abbrev pub bare_version_item : Version → List ℕ
+bare_version_item v = header VERSION 2 0 ∷ (v.minor + 65536 * v.major) ∷ []
 
 -- the HASH_DEF item counts these words of the block, for SHA-256 (RP2350 Datasheet, chapter 5,
 -- Bootrom)
@@ -89,46 +88,46 @@ abbrev pub hash_def_item : ℕ → List ℕ
 hash_def_item count = header HASH_DEF 2 1 ∷ count ∷ []
 
 -- the words before the HASH_VALUE item are the start word, the table, its version and the HASH_DEF
--- that counts them all (this project's own)
-abbrev pub hashed_items : Table → List ℕ
-hashed_items t = table_item t ++ version_item t.version ++ hash_def_item (length (table_item t) + 5)
+-- that counts them all
+abbrev pub hashed_table_items : Table → List ℕ
+hashed_table_items t = table_item t ++ bare_version_item t.version
+    ++ hash_def_item (length (table_item t) + 5)
 
--- the item words of a table's block are the hashed ones and the HASH_VALUE item with the SHA-256 of
--- these and the start word (this project's own)
+-- the item words of a table's block are the hashed ones and the HASH_VALUE item with the SHA-256
+-- of these and the start word
 abbrev pub written_items : Table → List ℕ
 written_items t =
-    hashed_items t
-    ++ header HASH_VALUE 9 0 ∷ words_of (sha256 (bytes_of (start_word ∷ hashed_items t)))
+    hashed_table_items t
+    ++ header HASH_VALUE 9 0 ∷ words_of (sha256 (bytes_of (start_word ∷ hashed_table_items t)))
 
--- the block that is written for a table has link 0 (this project's own)
-abbrev pub written : Table → List ℕ
-written t = bytes_of (frame (written_items t) (pos 0))
+-- the block that is written for a table has link 0
+abbrev pub written_table : Table → List ℕ
+written_table t = bytes_of (frame (written_items t) (pos 0))
 
 -- the size of that block in bytes counts the table's item, 13 words of the other items and four of
--- the frame (this project's own)
+-- the frame
 abbrev pub written_size : Table → ℕ
 written_size t = 4 * (length (table_item t) + 17)
 
 -- what is written for a table can be read as it where that is so of its partitions, it has at most
--- 15 of them, its version has two halves of a word, and its block has at most 640 bytes (this
--- project's own)
+-- 15 of them, its version has two halves of a word, and its block has at most 640 bytes
 pub record IsReadableTable (t : Table) : Type 0 where
-  pub parts : AllByRecursion IsReadable t.parts.items
+  pub parts : AllByRecursion IsReadablePartition t.parts.items
   pub few : length t.parts.items ≤ 15
   pub major : t.version.major < 2 ^ 16
   pub minor : t.version.minor < 2 ^ 16
   pub fits : written_size t ≤ 640
 
 -- a table can be written where besides its partitions can and its unpartitioned word is in its
--- range (this project's own)
+-- range
 pub record IsWritableTable (t : Table) : Type 0 where
   pub readable : IsReadableTable t
-  pub parts : AllByRecursion IsWritable t.parts.items
+  pub parts : AllByRecursion IsWritablePartition t.parts.items
   pub unpartitioned : t.unpartitioned < 2 ^ 32
 
 -- bytes are read as a table in a flash of n sectors, of which m stand before the first free one,
 -- where a block stands at their front, whatever follows them and wherever they stand, and this
--- block has that table (this project's own)
+-- block has that table
 abbrev pub IsReadAs : List ℕ → Table → ℕ → ℕ → Type 0
 IsReadAs bytes t n m =
     (at : ℕ) (rest : List ℕ)

@@ -8,7 +8,7 @@ ghost use Rattle.sha2.specs.Sha256.{sha256};
 ghost use Rattle.part_table.specs.Contents.{has_bad_hash, stated_hash, is_wrong_hash, ok_unless_bad};
 
 use crate::TableFault;
-use crate::items::{is_misplaced, read_digest, read_hash_count};
+use crate::items::{is_misplaced_digest, read_digest, read_hash_count};
 use block_codec::Block;
 use sha2::{Digest, Sha256};
 
@@ -31,7 +31,7 @@ pub(crate) fn read_hash(block: &Block) -> Result<Option<StatedHash>, TableFault>
 {
     let count = read_hash_count(block)?;
     let digest = read_digest(block)?;
-    if is_misplaced(block, count) {
+    if is_misplaced_digest(block, count) {
         return Err(TableFault::BadItem);
     }
     match digest {

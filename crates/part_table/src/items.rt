@@ -4,7 +4,7 @@ ghost use Rattle.std.specs.Prelude.{◌≡◌, ◌+◌, ◌≤◌, length, Conta
 ghost use Rattle.block_codec.specs.Blocks.{block_words};
 ghost use Rattle.block_codec.specs.Items.{items_of, IsItemOf};
 ghost use Rattle.block_codec.specs.Kinds.{is_of_kind, item_of_kind, items_of_kind, version_of, hash_count_of, digest_of};
-ghost use Rattle.part_table.specs.Contents.{body_of, is_repeated, is_bad, said, version_in, hash_count, is_misplaced, ok_unless_bad};
+ghost use Rattle.part_table.specs.Contents.{body_of, is_repeated, is_bad, said, version_in, hash_count, is_misplaced_digest, ok_unless_bad};
 
 use crate::TableFault;
 use arrayvec::ArrayVec;
@@ -96,9 +96,9 @@ pub(crate) fn read_digest(block: &Block) -> Result<Option<[u8; 32]>, TableFault>
 
 /// Whether this number of hashed words does not fit the block: it passes the word at which the
 /// HASH_VALUE item begins, or the block's end without such an item; or the item has no number.
-pub(crate) fn is_misplaced(block: &Block, count: Option<u32>) -> bool
+pub(crate) fn is_misplaced_digest(block: &Block, count: Option<u32>) -> bool
     ensures { result
-        ≡ is_misplaced (length (block_words block.now))
+        ≡ is_misplaced_digest (length (block_words block.now))
         (item_of_kind HASH_VALUE (items_of block.now.items)) count }
 {
     match (find_item(block, HASH_VALUE), count) {

@@ -82,7 +82,7 @@ fn has_family_bit(flags: u32, family: u32) -> bool
 }
 
 impl Partition {
-    /// The first sector.
+    /// The partition's first sector.
     pub fn first_sector(&self) -> u32
         ensures value { result ≡ first_sector self.now }
         ensures small { result < 2 ^ 13 }
@@ -90,7 +90,7 @@ impl Partition {
         self.location % 0x2000
     }
 
-    /// The last sector.
+    /// The partition's last sector.
     pub fn last_sector(&self) -> u32
         ensures value { result ≡ last_sector self.now }
         ensures small { result < 2 ^ 13 }

@@ -6,7 +6,7 @@ ghost use Rattle.block_codec.specs.Items.{items_of};
 ghost use Rattle.part_table.specs.Contents.{fields_of_items, ok_or_bad};
 ghost use Rattle.part_table.specs.Sound.{IsSoundTable};
 ghost use Rattle.part_table.specs.TableOf.{has_table, table_of};
-ghost use Rattle.part_table.specs.Windows.{IsPlaced, partition_window};
+ghost use Rattle.part_table.specs.Windows.{IsPlacedWindow, partition_window};
 
 use crate::contents::table_from;
 use crate::faults::parts_fault;
@@ -65,7 +65,8 @@ pub fn read_table(block: &Block, sectors: u32, first: u32) -> Result<Table, Tabl
     ensures exact { result ≡ table_of block.now sectors first }
     ensures sound { IfOk result (λ t. IsSoundTable t sectors) }
     ensures placed { IfOk result
-        (λ t. (i : ℕ) → i < length t.parts.items → IsPlaced (partition_window t i) sectors first) }
+        (λ t. (i : ℕ) → i < length t.parts.items
+        → IsPlacedWindow (partition_window t i) sectors first) }
     ensures few { IfOk result (λ t. length t.parts.items ≤ 15) }
 {
     table_of(block, sectors, first)

@@ -6,7 +6,7 @@ ghost use Rattle.block_codec.specs.Words.{bytes_of, words_of};
 ghost use Rattle.sha2.specs.Sha256.{sha256};
 ghost use Rattle.part_table.specs.Faults.{table_fault};
 ghost use Rattle.part_table.specs.Judged.{IsJudgedAs};
-ghost use Rattle.part_table.specs.Written.{AgreesWithFlags, IsReadable, id_text, name_text, padded_name, partition_text, header, table_item, hashed_items, written_items, written, written_size, IsReadAs};
+ghost use Rattle.part_table.specs.Written.{AgreesWithFlags, IsReadablePartition, written_id, written_name, padded_name, written_partition, header, table_item, hashed_table_items, written_items, written_table, written_size, IsReadAs};
 
 use crate::{Partition, Table, TableWriteFault};
 use arrayvec::ArrayVec;
@@ -34,7 +34,7 @@ fn padded_words(name: &[u8]) -> usize
 
 /// How many words the name is written as.
 fn name_size(name: &Option<ArrayVec<u8, 127>>) -> usize
-    ensures value { result ≡ length (name_text name.now) }
+    ensures value { result ≡ length (written_name name.now) }
     ensures few { result ≤ 32 }
     ensures short { IfSome name.now (λ n. length n.items < 128) }
     ensures bytes { IfSome name.now (λ n. (i : ℕ) → slice_index n.items i < 256) }
@@ -48,9 +48,9 @@ fn name_size(name: &Option<ArrayVec<u8, 127>>) -> usize
 /// How many words the partition is written as.
 fn partition_size(part: &Partition) -> usize
     requires { AgreesWithFlags part.now }
-    ensures value { result ≡ length (partition_text part.now) }
+    ensures value { result ≡ length (written_partition part.now) }
     ensures few { result ≤ 39 }
-    ensures readable { IsReadable part.now }
+    ensures readable { IsReadablePartition part.now }
 {
     let id = if part.id.is_some() { 2 } else { 0 };
     2 + id + part.families.len() + name_size(&part.name)
@@ -61,7 +61,7 @@ fn item_size(table: &Table) -> usize
     requires { All AgreesWithFlags table.now.parts.items }
     ensures value { result ≡ length (table_item table.now) }
     ensures few { result ≤ 587 }
-    ensures readable { All IsReadable table.now.parts.items }
+    ensures readable { All IsReadablePartition table.now.parts.items }
     ensures parts { length table.now.parts.items ≤ 15 }
 {
     let mut size = 2;
@@ -97,8 +97,8 @@ fn padded_name(name: &[u8]) -> ArrayVec<u8, 128>
 
 /// Appends the words of an id.
 fn put_id(words: &mut ArrayVec<u32, 156>, id: Option<u64>)
-    requires { length words.old.items + length (id_text id) ≤ 156 }
-    ensures { words.new.items ≡ words.old.items ++ id_text id }
+    requires { length words.old.items + length (written_id id) ≤ 156 }
+    ensures { words.new.items ≡ words.old.items ++ written_id id }
 {
     if let Some(id) = id {
         words.push((id % 0x1_0000_0000) as u32);
@@ -108,8 +108,8 @@ fn put_id(words: &mut ArrayVec<u32, 156>, id: Option<u64>)
 
 /// Appends the words of a name.
 fn put_name(words: &mut ArrayVec<u32, 156>, name: &Option<ArrayVec<u8, 127>>)
-    requires { length words.old.items + length (name_text name.now) ≤ 156 }
-    ensures { words.new.items ≡ words.old.items ++ name_text name.now }
+    requires { length words.old.items + length (written_name name.now) ≤ 156 }
+    ensures { words.new.items ≡ words.old.items ++ written_name name.now }
 {
     if let Some(name) = name {
         put_bytes(words, padded_name(name.as_slice()).as_slice());
@@ -118,8 +118,8 @@ fn put_name(words: &mut ArrayVec<u32, 156>, name: &Option<ArrayVec<u8, 127>>)
 
 /// Appends the words of a partition.
 fn put_partition(words: &mut ArrayVec<u32, 156>, part: &Partition)
-    requires { length words.old.items + length (partition_text part.now) ≤ 156 }
-    ensures { words.new.items ≡ words.old.items ++ partition_text part.now }
+    requires { length words.old.items + length (written_partition part.now) ≤ 156 }
+    ensures { words.new.items ≡ words.old.items ++ written_partition part.now }
 {
     words.push(part.location);
     words.push(part.flags);
@@ -160,10 +160,10 @@ fn table_item(table: &Table, size: usize) -> ArrayVec<u32, 156>
 }
 
 /// The words before the HASH_VALUE item, of which the table's item has this many.
-fn hashed_items(table: &Table, size: usize) -> ArrayVec<u32, 156>
+fn hashed_table_items(table: &Table, size: usize) -> ArrayVec<u32, 156>
     requires size { size ≡ length (table_item table.now) }
     requires few { size ≤ 143 }
-    ensures value { result.items ≡ hashed_items table.now }
+    ensures value { result.items ≡ hashed_table_items table.now }
     ensures len { length result.items ≡ size + 4 }
     ensures major { table.now.version.major < 2 ^ 16 }
     ensures minor { table.now.version.minor < 2 ^ 16 }
@@ -197,7 +197,7 @@ fn written_items(table: &Table, size: usize) -> ArrayVec<u32, 156>
     ensures major { table.now.version.major < 2 ^ 16 }
     ensures minor { table.now.version.minor < 2 ^ 16 }
 {
-    let mut words = hashed_items(table, size);
+    let mut words = hashed_table_items(table, size);
     let digest = digest_of(words.as_slice());
     words.push(header(HASH_VALUE, 9, 0));
     put_bytes(&mut words, digest.as_slice());
@@ -208,10 +208,10 @@ fn written_items(table: &Table, size: usize) -> ArrayVec<u32, 156>
 /// memory for the bytes, the refusal is `Memory`.
 pub fn write_table(alloc: Global, table: &Table, out: &mut Vec<u8>) -> Result<(), TableWriteFault>
     requires { All AgreesWithFlags table.now.parts.items }
-    ensures ok { OnOk result (out.new.items ≡ out.old.items ++ written table.now) }
+    ensures ok { OnOk result (out.new.items ≡ out.old.items ++ written_table table.now) }
     ensures again { (n m : ℕ) → table_fault table.now n m ≡ None
-        → OnOk result (IsReadAs (written table.now) table.now n m) }
-    ensures judged { (n m : ℕ) → OnOk result (IsJudgedAs (written table.now) table.now n m) }
+        → OnOk result (IsReadAs (written_table table.now) table.now n m) }
+    ensures judged { (n m : ℕ) → OnOk result (IsJudgedAs (written_table table.now) table.now n m) }
     ensures too_long { (n : ℕ)
         → IsErrOf result (TableWriteFault.TooLong n) ↔
         ((640 < written_size table.now) × (n ≡ written_size table.now)) }

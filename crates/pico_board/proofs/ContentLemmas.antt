@@ -16,7 +16,7 @@ byte_at xs all k = elim (cases_lt k (length xs)) [
   | inr past ↦ subst (λ (b : ℕ). b < 256) (sym (get_or_past xs k 0 past)) (omega arith)
 ]
 
--- the same of rows
+-- each element of a list of rows, and what is read past its end
 pub row_at : (xs : List ℕ) → All (λ v. v < 2 ^ 24) xs → (k : ℕ) → get_or xs k 0 < 2 ^ 24
 row_at xs all k = elim (cases_lt k (length xs)) [
   | inl lt ↦ all k 0 lt
@@ -131,7 +131,7 @@ IsContent-torn_by pattern c (Raise r b) small is inside =
     IsContent-row c r (bit_or (slice_index c.otp r) (bit_and b m)) is
     (raised_lt c r (bit_and b m) is (omega (arith, inside.1, and_le_l b m)))
 
--- the same of a cut before a step or within it
+-- what a cut before a step or within it leaves is a content
 pub IsContent-cut_by : (cut : Cut) (c : Content) (step : Step) → All (λ b. b < 256) cut.pattern → IsContent c
     → IsStepIn (length c.flash) step
     → IsContent (cut_by cut c step)

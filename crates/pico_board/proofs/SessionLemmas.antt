@@ -7,7 +7,7 @@ use Rattle.pico_board.specs.Content.{Content, IsContent}
 use Rattle.pico_board.specs.Steps.{Erase, Program, CutOf, after, after_all, changed}
 use Rattle.pico_board.specs.Cuts.{pattern_at}
 use Rattle.pico_board.specs.Sessions.{Gated, IsElsewhere, IsGated, IsProgramIn, Unfinished, pages_of}
-use Rattle.pico_board.specs.Examples.{first_sector, half_done, second_sector, two_pages, two_sectors}
+use Rattle.pico_board.specs.Examples.{first_sector_steps, half_done, second_sector, two_pages, two_sectors}
 use Rattle.pico_board.proofs.ChangedLemmas.{changed-at, changed-outside, length-changed}
 use Rattle.pico_board.proofs.ContentLemmas.{flash_bytes-after}
 use Rattle.pico_board.proofs.CuttingLemmas.{CutOf-from}
@@ -15,7 +15,7 @@ use Rattle.pico_board.proofs.GateLemmas.{IsDistinct-first, IsDistinct-more, IsDi
 use Rattle.pico_board.proofs.TornStepLemmas.{Torn-torn_by}
 
 pub IsGated-two_pages : (page other : List ℕ)
-    → IsGated (two_pages page other) two_sectors 2 (second_sector other) (first_sector page)
+    → IsGated (two_pages page other) two_sectors 2 (second_sector other) (first_sector_steps page)
 IsGated-two_pages page other = record {
   whole = refl;
   first = refl;

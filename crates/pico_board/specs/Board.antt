@@ -1,4 +1,4 @@
--- The state of a board, and what a step and a list of steps do to it. This project's own.
+-- The state of a board, and what a step and a list of steps do to it.
 use Rattle.std.specs.Prelude.{◌≡◌, ℕ, ◌+◌, ◌-◌, ◌^◌, ◌≤◌, min, Bool, true, Option, None, Some, List, [], ◌∷◌, length}
 use Rattle.std.specs.Bool.{OnTrue, OnFalse}
 use Rattle.std.specs.Option.{option_map}
@@ -32,7 +32,8 @@ abbrev pub IsCutAsArmed : Option (Option Cut) → Content → Step → Bool → 
 IsCutAsArmed None c step ok t = t.armed ≡ None
 IsCutAsArmed (Some cut) c step ok t = HasCutOutcome (cut_step cut c step) ok t
 
--- the same of a list of steps
+-- a board that tells its armed cut does with a list of steps what the cut says, and tells the cut
+-- that is armed afterwards; a board that does not tell its cut does not tell it afterwards either
 abbrev pub AreCutAsArmed : Option (Option Cut) → Content → List Step → Bool → State → Type 0
 AreCutAsArmed None c steps ok t = t.armed ≡ None
 AreCutAsArmed (Some cut) c steps ok t = HasCutOutcome (cut_steps steps cut c) ok t

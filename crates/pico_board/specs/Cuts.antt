@@ -1,4 +1,4 @@
--- The armed cut of a board that tells it, as a test bench has it. This project's own.
+-- The armed cut of a board that tells it, as a test bench has it.
 use Rattle.std.specs.Prelude.{◌≡◌, ℕ, ◌+◌, ◌-◌, ◌*◌, ◌%◌, ◌≤◌, ◌==◌, Bool, true, false, if◌then◌else◌, Option, None, Some, List, [], ◌∷◌, length, slice_index, slice_set, bit_and, bit_or, bit_xor}
 use Rattle.pico_board.specs.Content.{Content}
 use Rattle.pico_board.specs.Steps.{Step, Erase, Program, Raise, changed, after}

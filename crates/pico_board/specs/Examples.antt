@@ -1,6 +1,5 @@
 -- Worked examples of the lists of steps that a session does: two sectors are written, the first of
--- them last, and power is lost within the last step; and of the files of a store. This project's
--- own.
+-- them last, and power is lost within the last step; and of the files of a store.
 use Rattle.std.specs.Prelude.{⊤, ℕ, Bool, List, [], ◌∷◌, Result, Some, false, true}
 use Rattle.pico_board.specs.declared.window.Window.{Window}
 use Rattle.pico_board.specs.Content.{Content}
@@ -24,8 +23,8 @@ abbrev pub second_sector : List ℕ → List Step
 second_sector other = Erase 3 ∷ Program 48 other ∷ []
 
 -- the programs of the first sector, sector 2: that of its first page, 32
-abbrev pub first_sector : List ℕ → List Step
-first_sector page = Program 32 page ∷ []
+abbrev pub first_sector_steps : List ℕ → List Step
+first_sector_steps page = Program 32 page ∷ []
 
 -- the steps that write a page of sector 3 and then the first page of sector 2
 abbrev pub two_pages : List ℕ → List ℕ → List Step
@@ -56,8 +55,8 @@ abbrev pub of_b : ℕ → File
 of_b byte = record { name = name_b; bytes = byte ∷ [] }
 
 -- a store that tells one file, had so many faults of reads and of writes, and is steady or not
-abbrev pub counting : ℕ → ℕ → Bool → StoreState
-counting reads writes steady = record {
+abbrev pub counting_store : ℕ → ℕ → Bool → StoreState
+counting_store reads writes steady = record {
   files = Some (of_a 1 ∷ []);
   read_faults = reads;
   write_faults = writes;

@@ -1,4 +1,4 @@
--- The files of a store, and what its reads and writes do to them. This project's own.
+-- The files of a store, and what its reads and writes do to them.
 use Rattle.std.specs.Prelude.{◌≡◌, ◌≢◌, ⊤, ℕ, ◌+◌, ◌≤◌, Bool, IsTrue, Option, None, Some, IsSomeAnd, Result, Ok, Err, IfOk, OnOk, OnErr, if◌then◌else◌, List, [], ◌∷◌, length, take}
 use Rattle.std.specs.Bool.{OnTrue}
 use Rattle.std.specs.Str.{bytes_eq}

@@ -1,4 +1,4 @@
--- The calls that an object has answered, one after another. This project's own.
+-- The calls that an object has answered, one after another.
 use Rattle.std.specs.Prelude.{List, ◌++◌}
 
 -- these calls are appended to the history: each list that was the old object's history, with these

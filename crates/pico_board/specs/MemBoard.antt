@@ -1,4 +1,4 @@
--- What a board in memory shows. This project's own.
+-- What a board in memory shows.
 use Rattle.std.specs.Prelude.{ℕ, ◌+◌, ◌-◌, ◌^◌, min, Bool, true, if◌then◌else◌, None, Some, List}
 use Rattle.pico_board.specs.declared.mem_board.MemBoard.{MemBoard}
 use Rattle.pico_board.specs.Steps.{Step}

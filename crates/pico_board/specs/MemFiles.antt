@@ -1,4 +1,4 @@
--- What a store in memory and a sink in memory show. This project's own.
+-- What a store in memory and a sink in memory show.
 use Rattle.std.specs.Prelude.{◌≡◌, ℕ, ◌-◌, ◌^◌, ◌<◌, ◌&&◌, ◌==◌, min, Bool, true, false, None, Some, Result, Ok, Err, List, [], Vec, String, string_bytes, length, map, take, count_by, slice_index_or}
 use Rattle.std.specs.List.{list_any, flat_map}
 use Rattle.std.specs.declared.alloc.Global.{Global}
@@ -97,7 +97,7 @@ appended_by put = appended put.bytes put.answer
 
 -- A sink in memory may have answered these puts: it has counted as many, and its bytes are those of
 -- the ones that succeeded.
-pub record HasTaken (sink : MemSink) (puts : List Put) : Type 0 where
+pub record HasTakenPuts (sink : MemSink) (puts : List Put) : Type 0 where
   pub number : puts_of sink ≡ counted_to (length puts)
   pub bytes : put_bytes sink ≡ flat_map appended_by puts
 

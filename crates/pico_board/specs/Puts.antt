@@ -1,4 +1,4 @@
--- The bytes that were put into a sink. This project's own.
+-- The bytes that were put into a sink.
 use Rattle.std.specs.Prelude.{◌≡◌, ◌≢◌, ℕ, ◌≤◌, Bool, IsTrue, Option, None, Some, Result, Ok, Err, List, [], ◌∷◌, ◌++◌, length, take}
 use Rattle.std.specs.Bool.{OnTrue}
 use Rattle.pico_board.specs.declared.sink.SinkFail.{SinkFail}

@@ -1,4 +1,4 @@
--- Rows of the OTP. This project's own.
+-- Rows of the OTP.
 use Rattle.std.specs.Prelude.{ℕ, ◌^◌, ◌<◌, ◌≤◌, List, All, length, slice_index, take}
 
 -- the least row of more than 24 bits

@@ -1,5 +1,4 @@
--- Lists of steps that keep to one window, and those that write its first sector last. This
--- project's own.
+-- Lists of steps that keep to one window, and those that write its first sector last.
 use Rattle.std.specs.Prelude.{◌≡◌, ◌≢◌, ◌⊎◌, ℕ, ◌+◌, ◌*◌, ◌<◌, ◌≤◌, List, [], ◌∷◌, ◌++◌, slice_index, nat_eq}
 use Rattle.std.specs.List.{AllByRecursion, IsDistinct}
 use Rattle.pico_board.specs.declared.window.Window.{Window}

@@ -1,4 +1,4 @@
--- What a view shows. This project's own.
+-- What a view shows.
 use Rattle.std.specs.Prelude.{ℕ, ◌<◌, ◌≤◌, length, List, All}
 use Rattle.pico_board.specs.declared.window.TheConstants.{MOST_FLASH_BYTES}
 

@@ -27,4 +27,4 @@ pub use sink::{Sink, SinkFail};
 pub use step::{Step, do_step, do_steps};
 pub use store::{Store, StoreFail};
 pub use view::{FlashView, SliceView, View};
-pub use window::{FLASH_BASE, MOST_FLASH_BYTES, Window};
+pub use window::{ERASED, FLASH_BASE, MOST_FLASH_BYTES, PAGE, ROWS, SECTOR, SMALLEST_SLOT, Window};

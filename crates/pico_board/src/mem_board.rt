@@ -8,11 +8,9 @@ ghost use Rattle.pico_board.specs.Cuts.{IsPattern, cut_with};
 ghost use Rattle.pico_board.specs.Board.{Does, Becomes, with_cut, with_power};
 
 use crate::board::{Bench, Board, PowerLost};
-use crate::range::{
-    PAGE, ROWS, SECTOR, cut_erase, cut_program, cut_raise, erase_sector, program_page,
-};
+use crate::range::{cut_erase, cut_program, cut_raise, erase_sector, program_page};
 use crate::supply::Supply;
-use crate::window::MOST_FLASH_BYTES;
+use crate::window::{MOST_FLASH_BYTES, PAGE, ROWS, SECTOR};
 use std::alloc::Global;
 use thiserror::Error;
 
@@ -47,7 +45,7 @@ pub struct MemBoard {
 fn is_flash_length(n: usize) -> bool
     ensures { IsTrue result ↔ IsFlashLength n }
 {
-    n % SECTOR == 0 && n >= 2 * SECTOR && n <= MOST_FLASH_BYTES
+    n % SECTOR as usize == 0 && n >= 2 * SECTOR as usize && n <= MOST_FLASH_BYTES
 }
 
 /// The least row that has more than 24 bits.
@@ -82,7 +80,7 @@ impl MemBoard {
         if !is_flash_length(flash.len()) {
             return Err(BoardError::BadFlashLength);
         }
-        if otp.len() != ROWS {
+        if otp.len() != ROWS as usize {
             return Err(BoardError::BadOtpLength);
         }
         if let Some(row) = first_wide(&otp) {
@@ -140,7 +138,7 @@ impl Board for MemBoard {
         ensures does { Does state_of history_of self.old (Erase sector) (is_ok result) self.new }
         ensures counts { steps_of self.new ≡ counted (steps_of self.old) (is_ok result) }
     {
-        let at = SECTOR * sector as usize;
+        let at = SECTOR as usize * sector as usize;
         match self.supply.due() {
             Some(within) => {
                 cut_erase(&mut self.flash, at, within, &self.supply.pattern);
@@ -162,7 +160,7 @@ impl Board for MemBoard {
             (is_ok result) self.new }
         ensures counts { steps_of self.new ≡ counted (steps_of self.old) (is_ok result) }
     {
-        let at = PAGE * page as usize;
+        let at = PAGE as usize * page as usize;
         match self.supply.due() {
             Some(within) => {
                 cut_program(&mut self.flash, at, bytes, within, &self.supply.pattern);

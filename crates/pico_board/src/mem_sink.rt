@@ -16,7 +16,7 @@ pub struct MemSink {
 }
 
 impl MemSink {
-    ghost use Rattle.pico_board.specs.MemFiles.{sink_state, put_bytes, puts_of, bad_puts_of, HasTaken};
+    ghost use Rattle.pico_board.specs.MemFiles.{sink_state, put_bytes, puts_of, bad_puts_of, HasTakenPuts};
 
     /// An empty sink. Puts are numbered from 0; a put whose number is listed is at fault and
     /// appends nothing.
@@ -26,7 +26,7 @@ impl MemSink {
         ensures puts { puts_of result ≡ 0 }
         ensures listed { bad_puts_of result ≡ bad_puts.items }
         ensures steady { IsTrue (sink_state result).steady ↔ (bad_puts.items ≡ []) }
-        ensures unused { HasTaken result [] }
+        ensures unused { HasTakenPuts result [] }
     {
         MemSink {
             bytes: Vec::new(alloc),
@@ -45,14 +45,14 @@ impl MemSink {
 }
 
 impl Sink for MemSink {
-    ghost use Rattle.pico_board.specs.MemFiles.{sink_state, put_bytes, puts_of, bad_puts_of, is_listed, HasTaken};
+    ghost use Rattle.pico_board.specs.MemFiles.{sink_state, put_bytes, puts_of, bad_puts_of, is_listed, HasTakenPuts};
 
     ghost state = { sink_state };
 
-    ghost history = { HasTaken };
+    ghost history = { HasTakenPuts };
 
     fn put(&mut self, bytes: &[u8]) -> Result<(), SinkFail>
-        ensures taken { Takes sink_state HasTaken self.old
+        ensures taken { Takes sink_state HasTakenPuts self.old
             (record { bytes = bytes.now; answer = result }) self.new }
         // A fault comes exactly at the listed puts, and no failed put appends anything.
         ensures listed { IsErrOf result SinkFail.Fault ↔ IsTrue

@@ -4,14 +4,7 @@ ghost use Rattle.std.specs.Prelude.{◌≡◌, ◌+◌, ◌^◌, ◌<◌, ◌≤
 ghost use Rattle.pico_board.specs.Cuts.{pattern_at, pattern_row};
 ghost use Rattle.pico_board.specs.Steps.{changed};
 
-/// The bytes of a sector, the unit of an erase.
-pub const SECTOR: usize = 4096;
-
-/// The bytes of a page, the unit of a program.
-pub const PAGE: usize = 256;
-
-/// The rows of the OTP.
-pub const ROWS: usize = 4096;
+use crate::window::{ERASED, PAGE, SECTOR};
 
 /// Makes each byte of a sector 0xff.
 #[tactic(auto, using(crate::proofs::ChangedLemmas::changed_steps))]
@@ -19,8 +12,8 @@ pub fn erase_sector(flash: &mut [u8], at: usize)
     requires { at + 4096 ≤ length flash.old }
     ensures { flash.new ≡ changed (λ i b. 255) at 4096 flash.old }
 {
-    for i in 0..SECTOR {
-        flash[at + i] = 0xff;
+    for i in 0..SECTOR as usize {
+        flash[at + i] = ERASED;
     }
 }
 
@@ -30,7 +23,7 @@ pub fn program_page(flash: &mut [u8], at: usize, bytes: &[u8; 256])
     requires { at + 256 ≤ length flash.old }
     ensures { flash.new ≡ changed (λ i b. bit_and b (slice_index bytes.now i)) at 256 flash.old }
 {
-    for i in 0..PAGE {
+    for i in 0..PAGE as usize {
         flash[at + i] &= bytes[i];
     }
 }
@@ -42,7 +35,7 @@ fn paint_sector(flash: &mut [u8], at: usize, pattern: &[u8])
     requires pattern { 1 ≤ length pattern.now }
     ensures { flash.new ≡ changed (λ i b. pattern_at pattern.now i) at 4096 flash.old }
 {
-    for i in 0..SECTOR {
+    for i in 0..SECTOR as usize {
         flash[at + i] = pattern[i % pattern.len()];
     }
 }
@@ -56,7 +49,7 @@ fn paint_page(flash: &mut [u8], at: usize, bytes: &[u8; 256], pattern: &[u8])
         (λ i b. bit_and b (bit_or (slice_index bytes.now i) (pattern_at pattern.now i)))
         at 256 flash.old }
 {
-    for i in 0..PAGE {
+    for i in 0..PAGE as usize {
         flash[at + i] &= bytes[i] | pattern[i % pattern.len()];
     }
 }

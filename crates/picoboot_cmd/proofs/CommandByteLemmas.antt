@@ -9,20 +9,20 @@ use Rattle.picoboot_cmd.specs.declared.cmd.Cmd.{Cmd}
 use Rattle.picoboot_cmd.specs.declared.cmd.CmdFault.{CmdFault}
 use Rattle.picoboot_cmd.specs.declared.cmd.CmdFault.TheVariants.{Magic}
 use Rattle.picoboot_cmd.specs.declared.kinds.TheConstants.{MAGIC}
-use Rattle.picoboot_cmd.specs.Commands.{IsCommand, command_in, fields_of, written}
+use Rattle.picoboot_cmd.specs.Commands.{IsCommand, command_in, command_fields, written_command}
 
 same_fields : (t u i a n m : ℕ) (args : List ℕ) → t ≡ u → n ≡ m
     → ◌≡◌ {A = Result Cmd CmdFault} (Ok (record { token = t; id = i; arg_size = a; transfer = n; args = args }))
     (Ok (record { token = u; id = i; arg_size = a; transfer = m; args = args }))
 same_fields t u i a n m args e f = cc
 
-pub read-back : (cmd : Cmd) → cmd.token < 2 ^ 32 → cmd.transfer < 2 ^ 32 → command_in (written cmd) ≡ Ok cmd
+pub read-back : (cmd : Cmd) → cmd.token < 2 ^ 32 → cmd.transfer < 2 ^ 32 → command_in (written_command cmd) ≡ Ok cmd
 read-back cmd token transfer =
     same_fields _ _ cmd.id cmd.arg_size _ _ cmd.args
     (little_number-reads_back 4 cmd.token [] token) (little_number-reads_back 4 cmd.transfer [] transfer)
 
 -- what is written has 32 bytes
-pub written-long : (cmd : Cmd) → length cmd.args ≡ 16 → length (written cmd) ≡ 32
+pub written-long : (cmd : Cmd) → length cmd.args ≡ 16 → length (written_command cmd) ≡ 32
 written-long cmd long = omega (arith, long)
 
 -- the four bytes of a word, and bytes behind them
@@ -44,7 +44,7 @@ four_small a b rest a_low b_low all (suc (suc (suc (suc i)))) d lt = all i d (om
 
 -- what is written is bytes
 pub written-bytes : (cmd : Cmd) → cmd.id < 256 → cmd.arg_size < 256 → All (λ b. b < 256) cmd.args
-    → All (λ b. b < 256) (written cmd)
+    → All (λ b. b < 256) (written_command cmd)
 written-bytes cmd id size args =
     let last : List ℕ = little_bytes 4 cmd.transfer ++ cmd.args in
     word_small MAGIC (little_bytes 4 cmd.token ++ (cmd.id ∷ cmd.arg_size ∷ 0 ∷ 0 ∷ last))
@@ -61,7 +61,7 @@ small bytes all i = elim (cases_lt i (length bytes)) [
 small_behind : (bytes : List ℕ) (n : ℕ) → All (λ b. b < 256) bytes → (i : ℕ) → get_or (drop n bytes) i 0 < 256
 small_behind bytes n all i = subst (λ (b : ℕ). b < 256) (sym (get_or-drop n bytes i 0)) (small bytes all (n + i))
 
-fields-are : (bytes : List ℕ) → length bytes ≡ 32 → All (λ b. b < 256) bytes → IsCommand (fields_of bytes)
+fields-are : (bytes : List ℕ) → length bytes ≡ 32 → All (λ b. b < 256) bytes → IsCommand (command_fields bytes)
 fields-are bytes long all = record {
   token = little_from-lt 0 4 (drop 4 bytes) (small_behind bytes 4 all);
   id = small bytes all 8;
@@ -79,4 +79,5 @@ by_test false fields cmd e = cc
 
 pub read-is : (bytes : List ℕ) (cmd : Cmd) → length bytes ≡ 32 → All (λ b. b < 256) bytes → command_in bytes ≡ Ok cmd
     → IsCommand cmd
-read-is bytes cmd long all read = subst IsCommand (by_test _ (fields_of bytes) cmd read) (fields-are bytes long all)
+read-is bytes cmd long all read = subst IsCommand (by_test _ (command_fields bytes) cmd read)
+    (fields-are bytes long all)

@@ -1,7 +1,7 @@
 -- A page that bytes are written over the front of.
 use Rattle.std.proofs.Common.{◌≡◌, ℕ, ◌-◌, List, ◌++◌, length, take, drop, replicate, min, ◌∙◌, ap, arith}
 use Rattle.std.proofs.lemmas.List.{drop-replicate, take_min}
-use Rattle.picoboot_cmd.specs.Pages.{filled}
+use Rattle.picoboot_cmd.specs.Pages.{padded_page}
 
 over-zeros : (bytes piece : List ℕ) (m n : ℕ) → m ≡ min (length bytes) n
     → piece ≡ take m bytes ++ drop (length (take m bytes)) (replicate n 0)
@@ -12,6 +12,6 @@ over-zeros bytes piece m n least is =
     ∙ ap (λ zeros. take n bytes ++ zeros) (drop-replicate (length (take n bytes)) n 0)
 
 pub page-filled : (bytes page : List ℕ) (m : ℕ) → m ≡ min (length bytes) 256
-    → page ≡ take m bytes ++ drop (length (take m bytes)) (replicate 256 0) → page ≡ filled (take 256 bytes)
-unfolding filled
+    → page ≡ take m bytes ++ drop (length (take m bytes)) (replicate 256 0) → page ≡ padded_page (take 256 bytes)
+unfolding padded_page
 page-filled bytes page m least is = over-zeros bytes page m 256 least is

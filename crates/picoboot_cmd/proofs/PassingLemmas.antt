@@ -6,7 +6,7 @@ use Rattle.part_table.specs.declared.table.Table.{Table}
 use Rattle.picoboot_cmd.specs.declared.cmd.Cmd.{Cmd}
 use Rattle.picoboot_cmd.specs.declared.kinds.TheConstants.{INVALID_STATE, UNKNOWN_COMMAND, COMMAND_LENGTH, TRANSFER_LENGTH, ALIGNMENT, ADDRESS, INVALID_ARGUMENT, WRITE}
 use Rattle.picoboot_cmd.specs.Arguments.{address, size, offset}
-use Rattle.picoboot_cmd.specs.Checks.{Check, check, is_free, is_known, has_arg_size, status_of, first_failing, is_inside, is_in_flash, is_aligned, has_transfer, has_valid_arguments, checks}
+use Rattle.picoboot_cmd.specs.Checks.{Check, check, is_served_while_busy, is_known, has_arg_size, status_of, first_failing, is_inside, is_range_in_flash, is_aligned, has_transfer, has_valid_arguments, checks}
 use Rattle.picoboot_cmd.specs.Served.{IsReady}
 use Rattle.picoboot_cmd.proofs.ByCommandLemmas.{with_id}
 
@@ -25,7 +25,7 @@ module _ (n : ℕ) (otp : List ℕ) (t : Option Table) (busy : Bool) (cmd : Cmd)
   pub ready : status_of n otp t busy cmd payload ≡ 0 → IsReady n cmd payload
   ready none =
       let all = checks n otp t busy cmd payload in
-      let free = passes-next (check INVALID_STATE (is_free busy cmd)) (drop 1 all) (omega arith) none in
+      let free = passes-next (check INVALID_STATE (is_served_while_busy busy cmd)) (drop 1 all) (omega arith) none in
       let known = passes-next (check UNKNOWN_COMMAND (is_known cmd)) (drop 2 all) (omega arith) (free.1) in
       let arg_size = passes-next (check COMMAND_LENGTH (has_arg_size cmd)) (drop 3 all) (omega arith) (known.1) in
       let transfer = passes-next (check TRANSFER_LENGTH (has_transfer cmd payload)) (drop 4 all)
@@ -38,7 +38,7 @@ module _ (n : ℕ) (otp : List ℕ) (t : Option Table) (busy : Bool) (cmd : Cmd)
 
 -- what the checks of a write say
 module _ (n : ℕ) (cmd : Cmd) (payload : List ℕ) where
-  pub in_flash : is_in_flash cmd n ≡ true → offset cmd + size cmd ≤ n
+  pub in_flash : is_range_in_flash cmd n ≡ true → offset cmd + size cmd ≤ n
   in_flash inside = grind (arith, nat_tests)
 
   inside-write : cmd.id ≡ WRITE → is_inside cmd n ≡ true → offset cmd + size cmd ≤ n

@@ -14,11 +14,11 @@ use Rattle.part_table.specs.declared.table.Table.{Table}
 use Rattle.picoboot_cmd.specs.declared.cmd.Cmd.{Cmd}
 use Rattle.picoboot_cmd.specs.declared.kinds.TheConstants.{ENTER_XIP, ERASE, EXCLUSIVE, EXIT_XIP, OTP_READ, OTP_WRITE, READ, REBOOT, WRITE}
 use Rattle.picoboot_cmd.specs.Arguments.{with_args}
-use Rattle.picoboot_cmd.specs.Checks.{Check, are_reboot_flags, arg_size_of, check, checks, first_failing, has_arg_size, is_free, is_known}
+use Rattle.picoboot_cmd.specs.Checks.{Check, are_reboot_flags, arg_size_of, check, checks, first_failing, has_arg_size, is_served_while_busy, is_known}
 use Rattle.picoboot_cmd.specs.Pages.{programs}
-use Rattle.picoboot_cmd.specs.Rows.{are_row_words, keeps_raised, raises}
+use Rattle.picoboot_cmd.specs.Rows.{are_row_words, keeps_raised, word_raises}
 use Rattle.picoboot_cmd.specs.Sectors.{erases, range_allowed}
-use Rattle.picoboot_cmd.specs.Served.{Served, boot_by, command_of, served}
+use Rattle.picoboot_cmd.specs.Served.{ServedCommand, boot_by, served_on, served_by_status}
 
 -- a word is read of four bytes, and a half word of two
 four-read : (m : ℕ) (xs : List ℕ) → little_number 4 (take (suc (suc (suc (suc m)))) xs) ≡ little_number 4 xs
@@ -57,8 +57,8 @@ module _ (n : ℕ) (one other : List ℕ) (same : take n one ≡ take n other) w
 -- another argument size than that of the id, or an id that is none, is answered before any argument is read
 early : (c : Content) (a b : Cmd) (payload : List ℕ) (free known sized : Bool) (rest other : List Check)
     → known ≡ false ⊎ (sized ≡ false)
-    → served (first_failing (check 9 free ∷ check 1 known ∷ check 2 sized ∷ rest)) c a payload
-    ≡ served (first_failing (check 9 free ∷ check 1 known ∷ check 2 sized ∷ other)) c b payload
+    → served_by_status (first_failing (check 9 free ∷ check 1 known ∷ check 2 sized ∷ rest)) c a payload
+    ≡ served_by_status (first_failing (check 9 free ∷ check 1 known ∷ check 2 sized ∷ other)) c b payload
 early c a b payload false known sized rest other is = refl
 early c a b payload true false sized rest other is = refl
 early c a b payload true true false rest other is = refl
@@ -83,7 +83,7 @@ unknown id a b d e f g h i j =
     ) refl
 
 -- what is done with this status
-abbrev done : ℕ → List Step → List ℕ → Option BootKind → Served
+abbrev done : ℕ → List Step → List ℕ → Option BootKind → ServedCommand
 done status steps reply boot =
     if status == 0 then record { status = 0; steps = steps; reply = reply; boot = boot }
     else record { status = status; steps = []; reply = []; boot = None }
@@ -95,7 +95,7 @@ module _ (c : Content) (t : Option Table) (busy : Bool) (cmd : Cmd) (args payloa
       record { token = cmd.token; id = id; arg_size = cmd.arg_size; transfer = cmd.transfer; args = xs }
 
   abbrev Same : ℕ → Type 0
-  Same id = command_of c t busy (as_id id args) payload ≡ command_of c t busy (as_id id cmd.args) payload
+  Same id = served_on c t busy (as_id id args) payload ≡ served_on c t busy (as_id id cmd.args) payload
 
   -- the checks behind that of the argument size
   abbrev others : Cmd → List Check
@@ -165,7 +165,7 @@ module _ (c : Content) (t : Option Table) (busy : Bool) (cmd : Cmd) (args payloa
       λ u. done (first_failing (check 9 (not busy) ∷ sized 5 ∷ lengths (4 * k u) cmd.transfer
       ∷ check 4 (nat_le (r u + k u) 4096) ∷ check 11 (e u == 0 && are_row_words (words_of payload))
       ∷ check 17 (keeps_raised c.otp (r u) (words_of payload)) ∷ []))
-      (raises (r u) (words_of payload)) [] None
+      (word_raises (r u) (words_of payload)) [] None
 
   -- the argument size is that of the id
   module _ (size_is : cmd.arg_size ≡ arg_size_of cmd.id) (same : take cmd.arg_size args ≡ take cmd.arg_size cmd.args)
@@ -174,7 +174,7 @@ module _ (c : Content) (t : Option Table) (busy : Bool) (cmd : Cmd) (args payloa
       taken id n is e = subst (λ k. take k args ≡ take k cmd.args) (size_is ∙ ap arg_size_of is ∙ e) same
 
       abbrev Goal : Type 0
-      Goal = command_of c t busy (with_args cmd args) payload ≡ command_of c t busy cmd payload
+      Goal = served_on c t busy (with_args cmd args) payload ≡ served_on c t busy cmd payload
 
       here : (id : ℕ) → cmd.id ≡ id → Same id → Goal
       here id is proved = subst Same (sym is) proved
@@ -198,7 +198,8 @@ module _ (c : Content) (t : Option Table) (busy : Bool) (cmd : Cmd) (args payloa
                       | inl is ↦ here OTP_READ is (at-otp_read (taken OTP_READ 5 is refl))
                       | inr i ↦ elim (cases_eq cmd.id OTP_WRITE) [
                         | inl is ↦ here OTP_WRITE is (at-otp_write (taken OTP_WRITE 5 is refl))
-                        | inr j ↦ early c (with_args cmd args) cmd payload (is_free busy cmd) (is_known cmd)
+                        | inr j ↦ early c (with_args cmd args) cmd payload (is_served_while_busy busy cmd)
+                            (is_known cmd)
                             (has_arg_size cmd) (others (with_args cmd args)) (others cmd)
                             (inl (unknown cmd.id a b d e f g h i j))
                       ]
@@ -212,12 +213,12 @@ module _ (c : Content) (t : Option Table) (busy : Bool) (cmd : Cmd) (args payloa
       ]
 
   pub read-alone : take cmd.arg_size args ≡ take cmd.arg_size cmd.args
-      → command_of c t busy (with_args cmd args) payload ≡ command_of c t busy cmd payload
+      → served_on c t busy (with_args cmd args) payload ≡ served_on c t busy cmd payload
   read-alone same = go (has_arg_size cmd) refl
     where
       go : (right : Bool) → has_arg_size cmd ≡ right
-          → command_of c t busy (with_args cmd args) payload ≡ command_of c t busy cmd payload
+          → served_on c t busy (with_args cmd args) payload ≡ served_on c t busy cmd payload
       go true is = by-id (eqb-true cmd.arg_size (arg_size_of cmd.id) is) same
       go false is =
-          early c (with_args cmd args) cmd payload (is_free busy cmd) (is_known cmd) (has_arg_size cmd)
+          early c (with_args cmd args) cmd payload (is_served_while_busy busy cmd) (is_known cmd) (has_arg_size cmd)
           (others (with_args cmd args)) (others cmd) (inr is)

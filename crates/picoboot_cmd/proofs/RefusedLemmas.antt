@@ -7,9 +7,9 @@ use Rattle.pico_board.specs.Content.{Content}
 use Rattle.picoboot_cmd.specs.declared.cmd.Cmd.{Cmd}
 use Rattle.picoboot_cmd.specs.declared.kinds.TheConstants.{REBOOT}
 use Rattle.picoboot_cmd.specs.Arguments.{reboot_flags, reboot_p0}
-use Rattle.picoboot_cmd.specs.Served.{Served, served, steps_of, reply_of, boot_by, boot_of}
+use Rattle.picoboot_cmd.specs.Served.{ServedCommand, served_by_status, command_steps, reply_of, boot_by, boot_of}
 
-refused_by : (b : Bool) (done other : Served) → done.status ≡ 0 → other.steps ≡ [] → other.reply ≡ []
+refused_by : (b : Bool) (done other : ServedCommand) → done.status ≡ 0 → other.steps ≡ [] → other.reply ≡ []
     → other.boot ≡ None
     → (cond b done other).status ≢ 0
     → ((cond b done other).steps ≡ []) × ((cond b done other).reply ≡ []) × ((cond b done other).boot ≡ None)
@@ -17,11 +17,11 @@ refused_by true done other is steps reply boot refused = absurd (refused is)
 refused_by false done other is steps reply boot refused = (steps, reply, boot)
 
 pub refused-nothing : (status : ℕ) (c : Content) (cmd : Cmd) (payload : List ℕ)
-    → (served status c cmd payload).status ≢ 0
-    → ((served status c cmd payload).steps ≡ []) × ((served status c cmd payload).reply ≡ [])
-    × ((served status c cmd payload).boot ≡ None)
+    → (served_by_status status c cmd payload).status ≢ 0
+    → ((served_by_status status c cmd payload).steps ≡ []) × ((served_by_status status c cmd payload).reply ≡ [])
+    × ((served_by_status status c cmd payload).boot ≡ None)
 refused-nothing status c cmd payload =
-    refused_by _ (record { status = 0; steps = steps_of cmd payload; reply = reply_of c cmd; boot = boot_of cmd })
+    refused_by _ (record { status = 0; steps = command_steps cmd payload; reply = reply_of c cmd; boot = boot_of cmd })
     (record { status = status; steps = []; reply = []; boot = None }) refl refl refl refl
 
 same_number : (a b : ℕ) → (a == b) ≡ true → a ≡ b
@@ -40,21 +40,21 @@ boot_tests : (status id : ℕ) (kind : BootKind)
     ↔ ((id ≡ REBOOT) × (cond (status == 0) 0 status ≡ 0))
 boot_tests status id kind = boot_by_tests (status == 0) (id == REBOOT) status id kind refl refl
 
-split_boot : (b : Bool) (done other : Served) → (cond b done other).boot ≡ cond b done.boot other.boot
+split_boot : (b : Bool) (done other : ServedCommand) → (cond b done other).boot ≡ cond b done.boot other.boot
 split_boot true done other = refl
 split_boot false done other = refl
 
-split_status : (b : Bool) (done other : Served) → (cond b done other).status ≡ cond b done.status other.status
+split_status : (b : Bool) (done other : ServedCommand) → (cond b done other).status ≡ cond b done.status other.status
 split_status true done other = refl
 split_status false done other = refl
 
 pub boot-asked : (status : ℕ) (c : Content) (cmd : Cmd) (payload : List ℕ)
-    → (is_some (served status c cmd payload).boot ≡ true)
-    ↔ ((cmd.id ≡ REBOOT) × ((served status c cmd payload).status ≡ 0))
+    → (is_some (served_by_status status c cmd payload).boot ≡ true)
+    ↔ ((cmd.id ≡ REBOOT) × ((served_by_status status c cmd payload).status ≡ 0))
 boot-asked status c cmd payload =
-    let done : Served =
-    record { status = 0; steps = steps_of cmd payload; reply = reply_of c cmd; boot = boot_of cmd } in
-    let other : Served = record { status = status; steps = []; reply = []; boot = None } in
+    let done : ServedCommand =
+    record { status = 0; steps = command_steps cmd payload; reply = reply_of c cmd; boot = boot_of cmd } in
+    let other : ServedCommand = record { status = status; steps = []; reply = []; boot = None } in
     let both = boot_tests status cmd.id (boot_by (reboot_flags cmd) (reboot_p0 cmd)) in
     let boot = split_boot (status == 0) done other in
     let number = split_status (status == 0) done other in (

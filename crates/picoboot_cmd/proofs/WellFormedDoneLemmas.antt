@@ -10,10 +10,10 @@ use Rattle.picoboot_cmd.specs.declared.cmd.Cmd.{Cmd}
 use Rattle.picoboot_cmd.specs.declared.kinds.TheConstants.{COMMAND_LENGTH, TRANSFER_LENGTH, ADDRESS, ALIGNMENT, NOT_PERMITTED}
 use Rattle.picoboot_cmd.specs.Arguments.{address, size, offset}
 use Rattle.picoboot_cmd.specs.ByCommand.{erase_checks, write_checks}
-use Rattle.picoboot_cmd.specs.Checks.{is_in_flash, status_of}
+use Rattle.picoboot_cmd.specs.Checks.{is_range_in_flash, status_of}
 use Rattle.picoboot_cmd.specs.Pages.{programs}
 use Rattle.picoboot_cmd.specs.Sectors.{erases, range_allowed}
-use Rattle.picoboot_cmd.specs.Served.{Served, served, steps_of, reply_of, boot_of, command_of}
+use Rattle.picoboot_cmd.specs.Served.{ServedCommand, served_by_status, command_steps, reply_of, boot_of, served_on}
 use Rattle.picoboot_cmd.specs.WellFormed.{IsErase, IsWrite}
 use Rattle.picoboot_cmd.proofs.ByCommandLemmas.{with_id, at-erase, at-write}
 use Rattle.picoboot_cmd.proofs.FirstFailingLemmas.{passing}
@@ -23,11 +23,11 @@ both_true : (a b : Bool) → a ≡ true → b ≡ true → (a && b) ≡ true
 both_true a b p q = ap₂ (λ x y. x && y) p q
 
 in_flash : (cmd : Cmd) (n : ℕ) → flash_base ≤ address cmd
-    → address cmd + size cmd ≤ flash_base + n → is_in_flash cmd n ≡ true
+    → address cmd + size cmd ≤ flash_base + n → is_range_in_flash cmd n ≡ true
 in_flash cmd n low high = both_true _ _ (le-leb _ _ low) (le-leb _ _ high)
 
 same_served : (xs ys : List Step) (reply : List ℕ) (boot : Option BootKind) → xs ≡ ys → reply ≡ [] → boot ≡ None
-    → ◌≡◌ {A = Served} (record { status = 0; steps = xs; reply = reply; boot = boot })
+    → ◌≡◌ {A = ServedCommand} (record { status = 0; steps = xs; reply = reply; boot = boot })
     (record { status = 0; steps = ys; reply = []; boot = None })
 same_served xs ys reply boot e f g = cc
 
@@ -58,16 +58,16 @@ module _ (n : ℕ) (otp : List ℕ) (t : Option Table) (cmd : Cmd) (s k : ℕ) (
       (passing NOT_PERMITTED _ [] erase-allowed refl))))
 
 pub erase-done : (c : Content) (t : Option Table) (cmd : Cmd) (s k : ℕ) → IsErase (length c.flash) t s k cmd
-    → command_of c t false cmd [] ≡ record { status = 0; steps = erases s k; reply = []; boot = None }
+    → served_on c t false cmd [] ≡ record { status = 0; steps = erases s k; reply = []; boot = None }
 erase-done c t cmd s k is =
     let first = ap (λ at. at / 4096) (erase-offset (length c.flash) c.otp t cmd s k is) in
     let count = ap (λ n. n / 4096) is.size in
-    let steps : steps_of cmd [] ≡ erases s k =
-    subst (λ id. steps_of (with_id cmd id) [] ≡ erases (offset cmd / 4096) (size cmd / 4096)) (sym is.id) refl
+    let steps : command_steps cmd [] ≡ erases s k =
+    subst (λ id. command_steps (with_id cmd id) [] ≡ erases (offset cmd / 4096) (size cmd / 4096)) (sym is.id) refl
     ∙ ap₂ erases (first ∙ omega arith) (count ∙ omega arith) in
     let reply : reply_of c cmd ≡ [] = subst (λ id. reply_of c (with_id cmd id) ≡ []) (sym is.id) refl in
     let boot : boot_of cmd ≡ None = subst (λ id. boot_of (with_id cmd id) ≡ None) (sym is.id) refl in
-    ap (λ status. served status c cmd []) (erase-status (length c.flash) c.otp t cmd s k is)
+    ap (λ status. served_by_status status c cmd []) (erase-status (length c.flash) c.otp t cmd s k is)
     ∙ same_served _ _ _ _ steps reply boot
 
 module _ (n : ℕ) (otp : List ℕ) (t : Option Table) (cmd : Cmd) (p : ℕ) (payload : List ℕ)
@@ -99,13 +99,13 @@ module _ (n : ℕ) (otp : List ℕ) (t : Option Table) (cmd : Cmd) (p : ℕ) (pa
 
 pub write-done : (c : Content) (t : Option Table) (cmd : Cmd) (p : ℕ) (payload : List ℕ)
     → IsWrite (length c.flash) t p payload cmd
-    → command_of c t false cmd payload ≡ record { status = 0; steps = programs p payload; reply = []; boot = None }
+    → served_on c t false cmd payload ≡ record { status = 0; steps = programs p payload; reply = []; boot = None }
 write-done c t cmd p payload is =
     let first = ap (λ at. at / 256) (write-offset (length c.flash) c.otp t cmd p payload is) in
-    let steps : steps_of cmd payload ≡ programs p payload =
-    subst (λ id. steps_of (with_id cmd id) payload ≡ programs (offset cmd / 256) payload) (sym is.id) refl
+    let steps : command_steps cmd payload ≡ programs p payload =
+    subst (λ id. command_steps (with_id cmd id) payload ≡ programs (offset cmd / 256) payload) (sym is.id) refl
     ∙ ap (λ page. programs page payload) (first ∙ omega arith) in
     let reply : reply_of c cmd ≡ [] = subst (λ id. reply_of c (with_id cmd id) ≡ []) (sym is.id) refl in
     let boot : boot_of cmd ≡ None = subst (λ id. boot_of (with_id cmd id) ≡ None) (sym is.id) refl in
-    ap (λ status. served status c cmd payload) (write-status (length c.flash) c.otp t cmd p payload is)
+    ap (λ status. served_by_status status c cmd payload) (write-status (length c.flash) c.otp t cmd p payload is)
     ∙ same_served _ _ _ _ steps reply boot

@@ -6,7 +6,7 @@ use Rattle.part_table.specs.declared.table.Right.TheVariants.{BootRead, BootWrit
 use Rattle.picoboot_cmd.specs.declared.cmd.Cmd.{Cmd}
 use Rattle.picoboot_cmd.specs.declared.kinds.TheConstants.{COMMAND_LENGTH, TRANSFER_LENGTH, ADDRESS, ALIGNMENT, INVALID_STATE, NOT_PERMITTED, INVALID_ARGUMENT, UNSUPPORTED_MODIFICATION}
 use Rattle.picoboot_cmd.specs.Arguments.{address, size, offset, reboot_flags, first_row, row_count, ecc}
-use Rattle.picoboot_cmd.specs.Checks.{Check, check, are_reboot_flags, is_in_flash}
+use Rattle.picoboot_cmd.specs.Checks.{Check, check, are_reboot_flags, is_range_in_flash}
 use Rattle.picoboot_cmd.specs.Rows.{are_row_words, keeps_raised}
 use Rattle.picoboot_cmd.specs.Sectors.{range_allowed}
 
@@ -27,14 +27,14 @@ erase_checks n t busy cmd payload =
     check INVALID_STATE (not busy)
     ∷ lengths 8 0 0 cmd payload
     (check ALIGNMENT (address cmd % 4096 == 0 && size cmd % 4096 == 0)
-    ∷ check ADDRESS (is_in_flash cmd n)
+    ∷ check ADDRESS (is_range_in_flash cmd n)
     ∷ check NOT_PERMITTED (range_allowed t BootWrite (offset cmd) (size cmd)) ∷ [])
 
 -- a read
 abbrev pub read_checks : ℕ → Option Table → Cmd → List ℕ → List Check
 read_checks n t cmd payload =
     lengths 8 (size cmd) 0 cmd payload
-    (check ADDRESS (is_in_flash cmd n)
+    (check ADDRESS (is_range_in_flash cmd n)
     ∷ check NOT_PERMITTED (range_allowed t BootRead (offset cmd) (size cmd)) ∷ [])
 
 -- a write
@@ -43,7 +43,7 @@ write_checks n t busy cmd payload =
     check INVALID_STATE (not busy)
     ∷ lengths 8 (size cmd) cmd.transfer cmd payload
     (check ALIGNMENT (address cmd % 256 == 0)
-    ∷ check ADDRESS (is_in_flash cmd n)
+    ∷ check ADDRESS (is_range_in_flash cmd n)
     ∷ check NOT_PERMITTED (range_allowed t BootWrite (offset cmd) (size cmd)) ∷ [])
 
 -- the exit from XIP, and the entry to it

@@ -17,8 +17,8 @@ abbrev pub does_steps : ℕ → Bool
 does_steps id = id == ERASE || (id == WRITE || id == OTP_WRITE)
 
 -- while a download is busy no command does steps
-abbrev pub is_free : Bool → Cmd → Bool
-is_free busy cmd = not (does_steps cmd.id && busy)
+abbrev pub is_served_while_busy : Bool → Cmd → Bool
+is_served_while_busy busy cmd = not (does_steps cmd.id && busy)
 
 -- the ids that there are
 abbrev pub is_known : Cmd → Bool
@@ -61,14 +61,14 @@ is_aligned cmd =
     else true
 
 -- the range of addresses lies in a flash of n bytes; a size of 0 at either end is inside
-abbrev pub is_in_flash : Cmd → ℕ → Bool
-is_in_flash cmd n =
+abbrev pub is_range_in_flash : Cmd → ℕ → Bool
+is_range_in_flash cmd n =
     nat_le flash_base (address cmd) && nat_le (address cmd + size cmd) (flash_base + n)
 
 -- the range lies in the flash, or in the rows of the OTP
 abbrev pub is_inside : Cmd → ℕ → Bool
 is_inside cmd n =
-    if cmd.id == ERASE || (cmd.id == READ || cmd.id == WRITE) then is_in_flash cmd n
+    if cmd.id == ERASE || (cmd.id == READ || cmd.id == WRITE) then is_range_in_flash cmd n
     else if cmd.id == OTP_READ || cmd.id == OTP_WRITE then
     nat_le (first_row cmd + row_count cmd) 4096
     else true
@@ -113,7 +113,7 @@ check status passes = record { status = status; passes = passes }
 -- the checks of a command, in their order, on a board with a flash of n bytes and these OTP rows
 abbrev pub checks : ℕ → List ℕ → Option Table → Bool → Cmd → List ℕ → List Check
 checks n otp t busy cmd payload =
-    check INVALID_STATE (is_free busy cmd)
+    check INVALID_STATE (is_served_while_busy busy cmd)
     ∷ check UNKNOWN_COMMAND (is_known cmd)
     ∷ check COMMAND_LENGTH (has_arg_size cmd)
     ∷ check TRANSFER_LENGTH (has_transfer cmd payload)
@@ -133,12 +133,12 @@ abbrev pub status_of : ℕ → List ℕ → Option Table → Bool → Cmd → Li
 status_of n otp t busy cmd payload = first_failing (checks n otp t busy cmd payload)
 
 -- the check at place i is the first that fails, and has this status
-pub record FailsFirst (ks : List Check) (i status : ℕ) : Type 0 where
+pub record FailsCheckFirst (ks : List Check) (i status : ℕ) : Type 0 where
   pub here : slice_get ks i ≡ Some (check status false)
   pub before : (j : ℕ) (k : Check) → j < i → slice_get ks j ≡ Some k → k.passes ≡ true
 
 -- the status is that of the first check that fails, or 0 where all pass
-abbrev pub IsAnswer : List Check → ℕ → Type 0
-IsAnswer ks status =
+abbrev pub IsCheckedStatus : List Check → ℕ → Type 0
+IsCheckedStatus ks status =
     ((status ≡ 0) × ((i : ℕ) (k : Check) → slice_get ks i ≡ Some k → k.passes ≡ true))
-    ⊎ ((i : ℕ) × FailsFirst ks i status)
+    ⊎ ((i : ℕ) × FailsCheckFirst ks i status)

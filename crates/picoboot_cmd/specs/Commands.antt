@@ -8,15 +8,15 @@ use Rattle.picoboot_cmd.specs.declared.kinds.TheConstants.{MAGIC}
 
 -- a command is written as the magic word, the token, the id, the argument size, two bytes 0, the
 -- transfer length and the argument bytes; each word has its lowest byte first
-abbrev pub written : Cmd → List ℕ
-written cmd =
+abbrev pub written_command : Cmd → List ℕ
+written_command cmd =
     little_bytes 4 MAGIC
     ++ (little_bytes 4 cmd.token
     ++ (cmd.id ∷ cmd.arg_size ∷ 0 ∷ 0 ∷ (little_bytes 4 cmd.transfer ++ cmd.args)))
 
 -- what the bytes behind the magic word say; bytes 10 and 11 are not read
-abbrev pub fields_of : List ℕ → Cmd
-fields_of bytes = record {
+abbrev pub command_fields : List ℕ → Cmd
+command_fields bytes = record {
   token = little_number 4 (drop 4 bytes);
   id = slice_index bytes 8;
   arg_size = slice_index bytes 9;
@@ -26,7 +26,7 @@ fields_of bytes = record {
 
 -- the command of 32 bytes, or the fault where they do not begin with the magic word
 abbrev pub command_in : List ℕ → Result Cmd CmdFault
-command_in bytes = if little_number 4 bytes == MAGIC then Ok (fields_of bytes) else Err Magic
+command_in bytes = if little_number 4 bytes == MAGIC then Ok (command_fields bytes) else Err Magic
 
 -- the fields of a command are in their ranges
 pub record IsCommand (cmd : Cmd) : Type 0 where

@@ -1,4 +1,4 @@
--- Commands, and a flash of 262,144 bytes on which they are served. This project's own.
+-- Commands, and a flash of 262,144 bytes on which they are served.
 use Rattle.std.specs.Prelude.{ℕ, ◌*◌, true, false, Some, None, List, [], ◌∷◌, ◌++◌, replicate}
 use Rattle.byteorder.specs.Endian.{little_bytes}
 use Rattle.part_table.specs.Examples.{guarded_table, unread_table}
@@ -16,8 +16,8 @@ abbrev pub plain_command : ℕ → ℕ → ℕ → Cmd
 plain_command id arg_size transfer = command id arg_size transfer (replicate 16 0)
 
 -- an address and a size, and bytes that are not read
-abbrev pub range_args : ℕ → ℕ → List ℕ
-range_args at n = little_bytes 4 at ++ (little_bytes 4 n ++ replicate 8 0xaa)
+abbrev pub padded_range_args : ℕ → ℕ → List ℕ
+padded_range_args at n = little_bytes 4 at ++ (little_bytes 4 n ++ replicate 8 0xaa)
 
 -- rows, and bytes that are not read
 abbrev pub row_args : ℕ → ℕ → ℕ → List ℕ
@@ -30,13 +30,13 @@ reboot_args flags p0 =
     ++ (little_bytes 4 p0 ++ little_bytes 4 0x9abcdef0))
 
 abbrev pub erase_command : ℕ → ℕ → Cmd
-erase_command at n = command ERASE 8 0 (range_args at n)
+erase_command at n = command ERASE 8 0 (padded_range_args at n)
 
 abbrev pub read_command : ℕ → ℕ → Cmd
-read_command at n = command READ 8 n (range_args at n)
+read_command at n = command READ 8 n (padded_range_args at n)
 
 abbrev pub write_command : ℕ → ℕ → Cmd
-write_command at n = command WRITE 8 n (range_args at n)
+write_command at n = command WRITE 8 n (padded_range_args at n)
 
 abbrev pub reboot_command : ℕ → ℕ → Cmd
 reboot_command flags p0 = command REBOOT 16 0 (reboot_args flags p0)
@@ -59,14 +59,17 @@ row_of_three = replicate 0x0c0 0 ++ (3 ∷ [])
 abbrev pub answer : Cmd → List ℕ → ℕ
 answer cmd payload = status_of 262144 row_of_three None false cmd payload
 
--- the same while a download is busy
+-- the status on a flash of 262,144 bytes with those rows, whose table allows all, while a download
+-- is busy
 abbrev pub busy_answer : Cmd → List ℕ → ℕ
 busy_answer cmd payload = status_of 262144 row_of_three None true cmd payload
 
--- the same with a table in which sectors 0 to 31 and those from 62 on may not be written
+-- the status on a flash of 262,144 bytes with those rows and a table in which sectors 0 to 31 and
+-- those from 62 on may not be written
 abbrev pub guarded_answer : Cmd → List ℕ → ℕ
 guarded_answer cmd payload = status_of 262144 row_of_three (Some guarded_table) false cmd payload
 
--- the same with a table in which these may not be read
+-- the status on a flash of 262,144 bytes with those rows and a table in which sectors 0 to 31 and
+-- those from 62 on may not be read
 abbrev pub unread_answer : Cmd → List ℕ → ℕ
 unread_answer cmd payload = status_of 262144 row_of_three (Some unread_table) false cmd payload

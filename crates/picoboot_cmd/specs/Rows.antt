@@ -15,6 +15,6 @@ keeps_raised otp row (w ∷ words) =
     (bit_and (slice_index otp row) w == slice_index otp row) && keeps_raised otp (row + 1) words
 
 -- the raises of the rows from `row` on by a word each, ascending
-abbrev pub raises : ℕ → List ℕ → List Step
-raises row [] = []
-raises row (w ∷ words) = Raise row w ∷ raises (row + 1) words
+abbrev pub word_raises : ℕ → List ℕ → List Step
+word_raises row [] = []
+word_raises row (w ∷ words) = Raise row w ∷ word_raises (row + 1) words

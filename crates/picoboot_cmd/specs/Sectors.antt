@@ -7,7 +7,7 @@ use Rattle.part_table.specs.declared.table.Table.{Table}
 use Rattle.part_table.specs.Faults.{permissions_fault, overlap_fault}
 use Rattle.part_table.specs.Rights.{allowed_by}
 
--- a table, where there is one, tells the permissions of each sector in one way (this project's own)
+-- a table, where there is one, tells the permissions of each sector in one way
 abbrev pub TellsRights : Option Table → Type 0
 TellsRights t =
     IfSome t (λ table. (permissions_fault table.parts.items ≡ None)

@@ -12,16 +12,16 @@ use Rattle.picoboot_cmd.specs.declared.kinds.TheConstants.{ERASE, READ, WRITE, R
 use Rattle.picoboot_cmd.specs.Arguments.{size, offset, reboot_flags, reboot_p0, first_row, row_count}
 use Rattle.picoboot_cmd.specs.Checks.{status_of, has_transfer, is_aligned, is_inside, has_valid_arguments}
 use Rattle.picoboot_cmd.specs.Pages.{programs}
-use Rattle.picoboot_cmd.specs.Rows.{raises}
+use Rattle.picoboot_cmd.specs.Rows.{word_raises}
 use Rattle.picoboot_cmd.specs.Sectors.{erases}
 
 -- the steps: an erase is of its sectors, a write of the pages of its payload, and a write of OTP
 -- rows of the words of its payload, ascending
-abbrev pub steps_of : Cmd → List ℕ → List Step
-steps_of cmd payload =
+abbrev pub command_steps : Cmd → List ℕ → List Step
+command_steps cmd payload =
     if cmd.id == ERASE then erases (offset cmd / 4096) (size cmd / 4096)
     else if cmd.id == WRITE then programs (offset cmd / 256) payload
-    else if cmd.id == OTP_WRITE then raises (first_row cmd) (words_of payload)
+    else if cmd.id == OTP_WRITE then word_raises (first_row cmd) (words_of payload)
     else []
 
 -- the reply: the bytes that are read, and of OTP rows each as a word
@@ -42,31 +42,31 @@ boot_of cmd =
     if cmd.id == REBOOT then Some (boot_by (reboot_flags cmd) (reboot_p0 cmd)) else None
 
 -- the status, the steps, the reply and the boot
-pub record Served : Type 0 where
+pub record ServedCommand : Type 0 where
   pub status : ℕ
   pub steps : List Step
   pub reply : List ℕ
   pub boot : Option BootKind
 
 -- a command with this status: with another one than 0 it does nothing
-abbrev pub served : ℕ → Content → Cmd → List ℕ → Served
-served status c cmd payload =
+abbrev pub served_by_status : ℕ → Content → Cmd → List ℕ → ServedCommand
+served_by_status status c cmd payload =
     if status == 0 then
     record {
       status = 0;
-      steps = steps_of cmd payload;
+      steps = command_steps cmd payload;
       reply = reply_of c cmd;
       boot = boot_of cmd;
     }
     else record { status = status; steps = []; reply = []; boot = None }
 
 -- what a command does on a board of this content, with this table, while a download is busy or not
-abbrev pub command_of : Content → Option Table → Bool → Cmd → List ℕ → Served
-command_of c t busy cmd payload =
-    served (status_of (length c.flash) c.otp t busy cmd payload) c cmd payload
+abbrev pub served_on : Content → Option Table → Bool → Cmd → List ℕ → ServedCommand
+served_on c t busy cmd payload =
+    served_by_status (status_of (length c.flash) c.otp t busy cmd payload) c cmd payload
 
--- what the call answers of it
-abbrev pub done_of : Served → Done
+-- what the call answers of a served command
+abbrev pub done_of : ServedCommand → Done
 done_of s = record { status = s.status; boot = s.boot }
 
 -- a command passes those checks that its work rests on, in a flash of n bytes

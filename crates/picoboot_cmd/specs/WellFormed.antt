@@ -1,4 +1,4 @@
--- Commands that a host sends to write an image and to start it. This project's own.
+-- Commands that a host sends to write an image and to start it.
 use Rattle.std.specs.Prelude.{◌≡◌, ℕ, ◌+◌, ◌*◌, ◌/◌, ◌<◌, ◌≤◌, true, Option, List, length}
 use Rattle.pico_board.specs.Content.{flash_base}
 use Rattle.part_table.specs.declared.table.Right.TheVariants.{BootWrite}

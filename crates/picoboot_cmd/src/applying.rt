@@ -4,7 +4,7 @@ ghost use Rattle.std.specs.Prelude.{◌≡◌, ◌≢◌, ◌++◌, ℕ, List, I
 ghost use Rattle.std.specs.Option.{option_map};
 ghost use Rattle.pico_board.specs.Board.{DoesAll};
 ghost use Rattle.part_table.specs.Sound.{IsSoundFor};
-ghost use Rattle.picoboot_cmd.specs.Served.{command_of, done_of};
+ghost use Rattle.picoboot_cmd.specs.Served.{served_on, done_of};
 
 use crate::cmd::Cmd;
 use crate::judging::status_of;
@@ -39,15 +39,15 @@ pub fn apply<B: Board, R: Reply>(
     requires power { IsTrue (B.state board.old).powered }
     requires sound { IsSoundFor (option_map (λ t. t.now) table)
         (length (B.state board.old).content.flash) }
-    ensures steps { DoesAll B.state B.history board.old (command_of (B.state board.old).content
+    ensures steps { DoesAll B.state B.history board.old (served_on (B.state board.old).content
         (option_map (λ t. t.now) table.entry) busy cmd.now payload.now).steps
         (is_ok result) board.new }
-    ensures answer { IfOk result (λ done. done ≡ done_of (command_of (B.state board.old).content
+    ensures answer { IfOk result (λ done. done ≡ done_of (served_on (B.state board.old).content
         (option_map (λ t. t.now) table.entry) busy cmd.now payload.now)) }
     ensures reply { (before : List ℕ) → R.stands_for reply.old before → R.stands_for reply.new
-        (before ++ (command_of (B.state board.old).content
+        (before ++ (served_on (B.state board.old).content
         (option_map (λ t. t.now) table.entry) busy cmd.now payload.now).reply) }
-    ensures refused { (command_of (B.state board.old).content
+    ensures refused { (served_on (B.state board.old).content
         (option_map (λ t. t.now) table.entry) busy cmd.now payload.now).status ≢ 0
         → (board.new ≡ board.old) × (reply.new ≡ reply.old) }
 {

@@ -1,7 +1,7 @@
 //! The 32 bytes of a command.
 
 ghost use Rattle.std.specs.Prelude.{◌≡◌, ◌^◌, ◌<◌, Ok, drop};
-ghost use Rattle.picoboot_cmd.specs.Commands.{command_in, written};
+ghost use Rattle.picoboot_cmd.specs.Commands.{command_in, written_command};
 
 use crate::kinds::MAGIC;
 use byteorder::{ByteOrder, LittleEndian};
@@ -13,7 +13,7 @@ use thiserror::Error;
 pub struct Cmd {
     /// A number of the host's own, by which it tells its commands apart.
     pub token: u32,
-    /// Which command it is.
+    /// The command's id.
     pub id: u8,
     /// How many of the argument bytes the command has.
     pub arg_size: u8,
@@ -60,7 +60,7 @@ pub fn read_cmd(bytes: &[u8; 32]) -> Result<Cmd, CmdFault>
 
 /// The bytes of a command.
 fn spelled(cmd: &Cmd) -> [u8; 32]
-    ensures bytes { result ≡ written cmd.now }
+    ensures bytes { result ≡ written_command cmd.now }
     ensures token { cmd.now.token < 2 ^ 32 }
     ensures transfer { cmd.now.transfer < 2 ^ 32 }
 {
@@ -77,7 +77,7 @@ fn spelled(cmd: &Cmd) -> [u8; 32]
 
 /// The bytes of a command, which are read as it again. The two that are not read are 0.
 pub fn write_cmd(cmd: &Cmd) -> [u8; 32]
-    ensures bytes { result ≡ written cmd.now }
+    ensures bytes { result ≡ written_command cmd.now }
     ensures again { command_in result ≡ Ok cmd.now }
 {
     spelled(cmd)

@@ -5,7 +5,7 @@ ghost use Rattle.std.specs.Option.{option_map};
 ghost use Rattle.block_codec.specs.Words.{words_of};
 ghost use Rattle.picoboot_cmd.specs.Arguments.{address, first_row, offset, row_count, size};
 ghost use Rattle.picoboot_cmd.specs.ByCommand.{erase_checks, exclusive_checks, lengths, otp_read_checks, otp_write_checks, read_checks, reboot_checks, write_checks, xip_checks};
-ghost use Rattle.picoboot_cmd.specs.Checks.{are_reboot_flags, first_failing, is_in_flash, status_of};
+ghost use Rattle.picoboot_cmd.specs.Checks.{are_reboot_flags, first_failing, is_range_in_flash, status_of};
 ghost use Rattle.picoboot_cmd.specs.Rows.{are_row_words, keeps_raised};
 ghost use Rattle.part_table.specs.Sound.{IsSoundFor};
 ghost use Rattle.picoboot_cmd.specs.Sectors.{TellsRights, all_allowed, range_allowed};
@@ -18,16 +18,7 @@ use crate::kinds::{
 };
 use crate::words::word_at;
 use part_table::{Right, Table};
-use pico_board::{Board, FLASH_BASE};
-
-/// The bytes of a sector.
-const SECTOR: u32 = 4096;
-
-/// The bytes of a page.
-const PAGE: u32 = 256;
-
-/// The number of OTP rows.
-const ROWS: u32 = 4096;
+use pico_board::{Board, FLASH_BASE, PAGE, ROWS, SECTOR};
 
 /// The first number that an OTP row does not hold.
 const ROW_END: u32 = 1 << 24;
@@ -72,8 +63,8 @@ fn range_allowed(table: Option<&Table>, right: Right, at: u32, size: u32) -> boo
 }
 
 /// Whether the addresses of an erase, a read or a write lie in the flash.
-fn is_in_flash(cmd: &Cmd, flash_len: u32) -> bool
-    ensures value { result ≡ is_in_flash cmd.now flash_len }
+fn is_range_in_flash(cmd: &Cmd, flash_len: u32) -> bool
+    ensures value { result ≡ is_range_in_flash cmd.now flash_len }
     ensures near { IsTrue result → offset cmd.now + size cmd.now ≤ flash_len }
 {
     let end = u64::from(cmd.address()) + u64::from(cmd.size());
@@ -148,7 +139,7 @@ fn erase_status(flash_len: u32, table: Option<&Table>, busy: bool, cmd: &Cmd, pa
     if cmd.address() % SECTOR != 0 || cmd.size() % SECTOR != 0 {
         return ALIGNMENT;
     }
-    if !is_in_flash(cmd, flash_len) {
+    if !is_range_in_flash(cmd, flash_len) {
         return ADDRESS;
     }
     if !range_allowed(table, Right::BootWrite, cmd.offset(), cmd.size()) {
@@ -169,7 +160,7 @@ fn read_status(flash_len: u32, table: Option<&Table>, cmd: &Cmd, payload: &[u8])
     if cmd.transfer != cmd.size() || !payload.is_empty() {
         return TRANSFER_LENGTH;
     }
-    if !is_in_flash(cmd, flash_len) {
+    if !is_range_in_flash(cmd, flash_len) {
         return ADDRESS;
     }
     if !range_allowed(table, Right::BootRead, cmd.offset(), cmd.size()) {
@@ -196,7 +187,7 @@ fn write_status(flash_len: u32, table: Option<&Table>, busy: bool, cmd: &Cmd, pa
     if cmd.address() % PAGE != 0 {
         return ALIGNMENT;
     }
-    if !is_in_flash(cmd, flash_len) {
+    if !is_range_in_flash(cmd, flash_len) {
         return ADDRESS;
     }
     if !range_allowed(table, Right::BootWrite, cmd.offset(), cmd.size()) {

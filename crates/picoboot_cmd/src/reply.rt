@@ -2,7 +2,7 @@
 
 ghost use Rattle.std.specs.Prelude.{◌≡◌, ℕ, ◌-◌, ◌^◌, List, [], ◌++◌, length, min};
 ghost use Rattle.sha2.specs.Sha256.{sha256};
-ghost use Rattle.picoboot_cmd.specs.Replies.{HasTaken};
+ghost use Rattle.picoboot_cmd.specs.Replies.{HasTakenBytes};
 
 use sha2::{Digest, Sha256};
 
@@ -28,7 +28,7 @@ pub struct HashReply {
 impl HashReply {
     /// A reply of no byte.
     pub fn new() -> HashReply
-        ensures { HasTaken result [] }
+        ensures { HasTakenBytes result [] }
     {
         HashReply {
             count: 0,
@@ -38,7 +38,7 @@ impl HashReply {
 
     /// The number of the bytes, which saturates at 2^32 - 1.
     pub fn count(&self) -> u32
-        ensures { (bytes : List ℕ) → HasTaken self.now bytes
+        ensures { (bytes : List ℕ) → HasTakenBytes self.now bytes
             → result ≡ min (length bytes) (2 ^ 32 - 1) }
     {
         self.count
@@ -46,16 +46,16 @@ impl HashReply {
 
     /// The SHA-256 of the bytes.
     pub fn digest(self) -> [u8; 32]
-        ensures { (bytes : List ℕ) → HasTaken self bytes → result ≡ sha256 bytes }
+        ensures { (bytes : List ℕ) → HasTakenBytes self bytes → result ≡ sha256 bytes }
     {
         self.hasher.finalize()
     }
 }
 
 impl Reply for HashReply {
-    ghost use Rattle.picoboot_cmd.specs.Replies.{HasTaken};
+    ghost use Rattle.picoboot_cmd.specs.Replies.{HasTakenBytes};
 
-    ghost stands_for = { HasTaken };
+    ghost stands_for = { HasTakenBytes };
 
     fn put(&mut self, bytes: &[u8]) {
         let more = u32::try_from(bytes.len()).unwrap_or(u32::MAX);

@@ -3,22 +3,16 @@
 ghost use Rattle.std.specs.Prelude.{◌≡◌, ◌+◌, ◌*◌, ◌/◌, ◌≤◌, ◌<◌, ◌++◌, ℕ, List, IsTrue, is_ok, drop, length, slice_range, take, true};
 ghost use Rattle.block_codec.specs.Words.{bytes_of, words_of};
 ghost use Rattle.pico_board.specs.Board.{DoesAll};
-ghost use Rattle.picoboot_cmd.specs.Pages.{filled, programs};
-ghost use Rattle.picoboot_cmd.specs.Rows.{are_row_words, raises};
+ghost use Rattle.picoboot_cmd.specs.Pages.{padded_page, programs};
+ghost use Rattle.picoboot_cmd.specs.Rows.{are_row_words, word_raises};
 ghost use Rattle.picoboot_cmd.specs.Sectors.{erases};
-ghost use Rattle.picoboot_cmd.specs.Served.{IsReady, boot_of, reply_of, steps_of};
+ghost use Rattle.picoboot_cmd.specs.Served.{IsReady, boot_of, reply_of, command_steps};
 
 use crate::cmd::Cmd;
 use crate::kinds::{ERASE, OTP_READ, OTP_WRITE, READ, REBOOT, WRITE};
 use crate::reply::Reply;
 use crate::words::word_at;
-use pico_board::{Board, BootKind, PowerLost};
-
-/// The bytes of a sector.
-const SECTOR: u32 = 4096;
-
-/// The bytes of a page.
-const PAGE: usize = 256;
+use pico_board::{Board, BootKind, PAGE, PowerLost, SECTOR};
 
 /// Erases so many sectors from `first` on, ascending.
 fn erase_sectors<B: Board>(board: &mut B, first: u32, count: u32) -> Result<(), PowerLost>
@@ -42,10 +36,10 @@ fn fill(page: &mut [u8], bytes: &[u8])
 
 /// The first 256 of the bytes, and bytes 0 where they are fewer.
 fn page_of(bytes: &[u8]) -> [u8; 256]
-    ensures { result ≡ filled (take 256 bytes.now) }
+    ensures { result ≡ padded_page (take 256 bytes.now) }
 {
-    let mut page = [0; PAGE];
-    fill(&mut page, &bytes[..bytes.len().min(PAGE)]);
+    let mut page = [0; PAGE as usize];
+    fill(&mut page, &bytes[..bytes.len().min(PAGE as usize)]);
     page
 }
 
@@ -57,8 +51,8 @@ fn program_payload<B: Board>(board: &mut B, first: u32, bytes: &[u8]) -> Result<
     ensures { DoesAll B.state B.history board.old (programs first bytes.now) (is_ok result)
         board.new }
 {
-    for i in 0..bytes.len().div_ceil(PAGE) {
-        board.program(first + i as u32, &page_of(&bytes[PAGE * i..]))?;
+    for i in 0..bytes.len().div_ceil(PAGE as usize) {
+        board.program(first + i as u32, &page_of(&bytes[PAGE as usize * i..]))?;
     }
     Ok(())
 }
@@ -68,7 +62,7 @@ fn raise_rows<B: Board>(board: &mut B, first: u16, words: &[u8]) -> Result<(), P
     requires power { IsTrue (B.state board.old).powered }
     requires range { first + length words.now / 4 ≤ 4096 }
     requires bits { are_row_words (words_of words.now) ≡ true }
-    ensures { DoesAll B.state B.history board.old (raises first (words_of words.now))
+    ensures { DoesAll B.state B.history board.old (word_raises first (words_of words.now))
         (is_ok result) board.new }
 {
     for k in 0..words.len() / 4 {
@@ -103,7 +97,7 @@ fn put_flash<B: Board, R: Reply>(board: &B, at: u32, size: u32, reply: &mut R)
     ensures { (before : List ℕ) → R.stands_for reply.old before → R.stands_for reply.new
         (before ++ slice_range (B.state board.now).content.flash at (at + size)) }
 {
-    let mut piece = [0; PAGE];
+    let mut piece = [0; PAGE as usize];
     put_through(board, at, size, &mut piece, reply);
 }
 
@@ -129,7 +123,7 @@ pub(crate) fn do_command<B: Board, R: Reply>(
 ) -> Result<(), PowerLost>
     requires power { IsTrue (B.state board.old).powered }
     requires ready { IsReady (length (B.state board.old).content.flash) cmd.now payload.now }
-    ensures steps { DoesAll B.state B.history board.old (steps_of cmd.now payload.now)
+    ensures steps { DoesAll B.state B.history board.old (command_steps cmd.now payload.now)
         (is_ok result) board.new }
     ensures reply { (before : List ℕ) → R.stands_for reply.old before → R.stands_for reply.new
         (before ++ reply_of (B.state board.old).content cmd.now) }
@@ -140,7 +134,7 @@ pub(crate) fn do_command<B: Board, R: Reply>(
             put_flash(board, cmd.offset(), cmd.size(), reply);
             Ok(())
         }
-        WRITE => program_payload(board, cmd.offset() / PAGE as u32, payload),
+        WRITE => program_payload(board, cmd.offset() / PAGE, payload),
         OTP_READ => {
             put_rows(board, cmd.first_row(), cmd.row_count(), reply);
             Ok(())

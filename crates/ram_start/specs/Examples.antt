@@ -1,7 +1,8 @@
--- Worked examples of RAM commands. This project's own.
+-- Worked examples of RAM commands.
 use Rattle.std.specs.Prelude.{ℕ, false, List, [], ◌∷◌}
 use Rattle.block_codec.specs.Words.{bytes_of}
-use Rattle.image_check.specs.Examples.{arm_type, hash_of_four, otp_with, plain_image, trial_type, window_with}
+use Rattle.worked_flashes.specs.Images.{arm_type, hash_of_four, plain_image, trial_type, window_with}
+use Rattle.worked_flashes.specs.Flashes.{otp_with}
 use Rattle.image_def.specs.declared.started.Started.{Started}
 use Rattle.pico_board.specs.Content.{Content}
 use Rattle.picoboot_cmd.specs.declared.cmd.Cmd.{Cmd}
@@ -17,7 +18,7 @@ reboot_into flags p0 p1 =
 abbrev pub image_bytes : List ℕ
 image_bytes = window_with 0x20000021 (arm_type ∷ []) 0
 
--- the same of a trial image
+-- the 28 bytes of an Arm trial image without an ENTRY_POINT, whose PC is 0x20000021
 abbrev pub trial_bytes : List ℕ
 trial_bytes = window_with 0x20000021 (trial_type ∷ []) 0
 

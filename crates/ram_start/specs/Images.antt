@@ -21,10 +21,11 @@ abbrev pub ValidRam : Content → List ℕ → ℕ → Cpu → Started → Type 
 ValidRam c bytes base cpu s =
     IsValidImage (in_ram base) (ram_window base bytes) cpu false c.otp bytes s
 
--- the first rule that fails
+-- WhyNotRam: the first rule of a valid image that the bytes fail, which are seen from the base on,
+-- no trial image allowed
 abbrev pub WhyNotRam : Content → List ℕ → ℕ → Cpu → Why → Type 0
 WhyNotRam c bytes base cpu y = IsWhyNot (in_ram base) cpu false c.otp bytes y
 
--- the image, or that rule
+-- the image of bytes that are seen from the base on, or the first rule that they fail
 abbrev pub ram_image : Content → List ℕ → ℕ → Cpu → Result Started Why
 ram_image c bytes base cpu = image_in (in_ram base) (ram_window base bytes) cpu false c.otp bytes

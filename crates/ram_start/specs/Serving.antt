@@ -14,7 +14,7 @@ use Rattle.ram_start.specs.declared.kinds.TheConstants.{PRECONDITION}
 use Rattle.ram_start.specs.declared.serving.RamDone.{RamDone}
 use Rattle.ram_start.specs.Images.{ram_image}
 use Rattle.load_map.specs.Addresses.{in_sram}
-use Rattle.ram_start.specs.Sram.{stored}
+use Rattle.ram_start.specs.Sram.{with_bytes_at}
 
 -- a read or a write at an address of SRAM or above, and a reboot into RAM, each of its argument
 -- size
@@ -57,7 +57,7 @@ ram_status c ram cpu busy cmd payload = first_failing (ram_checks c ram cpu busy
 
 -- the SRAM after a command with status 0: a write stores its bytes
 abbrev pub ram_stored : List ℕ → Cmd → List ℕ → List ℕ
-ram_stored ram cmd payload = if cmd.id == WRITE then stored ram
+ram_stored ram cmd payload = if cmd.id == WRITE then with_bytes_at ram
     (address cmd - SRAM_START) payload else ram
 
 -- the reply: the bytes that are read
@@ -95,9 +95,9 @@ transfer_checks busy cmd payload =
     ∷ check TRANSFER_LENGTH (has_transfer cmd payload)
     ∷ check ADDRESS (in_sram (address cmd) (size cmd)) ∷ []
 
--- and for a reboot, with its answer
-abbrev pub reboot_checks : Content → List ℕ → Cpu → Cmd → List ℕ → List Check
-reboot_checks c ram cpu cmd payload =
+-- what is left of the checks for a reboot; and below the answer to a reboot, by these checks
+abbrev pub ram_reboot_checks : Content → List ℕ → Cpu → Cmd → List ℕ → List Check
+ram_reboot_checks c ram cpu cmd payload =
     check TRANSFER_LENGTH (has_transfer cmd payload)
     ∷ check INVALID_ARGUMENT (is_range cmd)
     ∷ check PRECONDITION (is_some (reboot_image c ram cpu cmd)) ∷ []
@@ -107,4 +107,5 @@ started_by status image = record { status = status; start = if status == 0 then 
 
 abbrev pub reboot_done : Content → List ℕ → Cpu → Cmd → List ℕ → RamDone
 reboot_done c ram cpu cmd payload =
-    started_by (first_failing (reboot_checks c ram cpu cmd payload)) (reboot_image c ram cpu cmd)
+    started_by (first_failing (ram_reboot_checks c ram cpu cmd payload))
+    (reboot_image c ram cpu cmd)

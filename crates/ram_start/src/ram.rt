@@ -1,7 +1,7 @@
 //! The SRAM that a host writes.
 
 ghost use Rattle.std.specs.Prelude.{◌≡◌, ◌+◌, ◌≤◌, IfOk, length, replicate};
-ghost use Rattle.ram_start.specs.Sram.{zero_ram, stored};
+ghost use Rattle.ram_start.specs.Sram.{zero_ram, with_bytes_at};
 
 use std::alloc::{AllocError, Global};
 use std::marker::Model;
@@ -68,7 +68,7 @@ impl Ram {
     /// Stores bytes at an offset.
     pub(crate) fn store(&mut self, at: u32, bytes: &[u8])
         requires { at + length bytes.now ≤ 532480 }
-        ensures { self.new ≡ stored self.old at bytes.now }
+        ensures { self.new ≡ with_bytes_at self.old at bytes.now }
     {
         let start = at as usize;
         self.bytes[start..start + bytes.len()].copy_from_slice(bytes);

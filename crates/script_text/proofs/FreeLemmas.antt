@@ -1,29 +1,31 @@
 -- Lines and comments have no line feed.
 use Rattle.std.proofs.Common.{◌≡◌, ℕ, zero, suc, ◌-◌, ◌/◌, ◌%◌, ◌^◌, ◌<◌, ◌≤◌, ◌==◌, Bool, true, false, List, [], ◌∷◌, ◌++◌, length, replicate, refl, ap, ◌∙◌, arith, append-nil, inl, inr, decimal}
-use Rattle.std.specs.Prelude.{Result, Ok, Err, IfSome, if◌then◌else◌, ◌&&◌, ◌||◌, codes, drop, slice_index}
+use Rattle.std.specs.Prelude.{Result, Ok, Err, IfSome, if◌then◌else◌, ◌&&◌, ◌||◌, codes, drop, nat_le, slice_index}
 use Rattle.std.specs.Fmt.{digits, digits_onto, digit_glyph, padded_integral, char_count, format_spec}
-use Rattle.std.proofs.lemmas.Bool.{cases_lt, ne_eqb, lt-ltb, le-ltb}
-use Rattle.byteorder.specs.Endian.{big_bytes}
+use Rattle.std.proofs.lemmas.Bool.{and_parts, cases_lt, ne_eqb, leb-true, lt-ltb, le-ltb, or_cases}
 use Rattle.hex.specs.Hex.{IsBytes, encode_lower}
+use Rattle.text_words.specs.Writing.{hex_digits, hex_row, hex_word}
+use Rattle.text_words.specs.Reading.{are_digits, is_digit}
+use Rattle.text_words.proofs.HexLemmas.{padded_filled}
+use Rattle.text_words.proofs.BytesLemmas.{digits-encode}
 use Rattle.pico_board.specs.declared.boot.BootKind.{BootKind}
 use Rattle.pico_board.specs.declared.boot.BootKind.TheVariants.{Normal, Bootsel, Update}
-use Rattle.boot_script.specs.Events.{Happening, End, Command, Uf2, Cut, PowerOn, Reset, Buy}
-use Rattle.script_text.specs.Lines.{IsEvent, hex_word, line_of, payload_text, reset_text}
+use Rattle.boot_script.specs.Events.{EventView, End, Command, Uf2, Cut, PowerOn, Reset, Buy}
+use Rattle.script_text.specs.Lines.{IsEvent, record_line, payload_text, reset_text}
 use Rattle.byteorder.specs.Endian.{little_number}
 use Rattle.picoboot_cmd.specs.declared.cmd.Cmd.{Cmd}
 use Rattle.picoboot_cmd.specs.declared.cmd.CmdFault.TheVariants as cmd_fault
 use Rattle.picoboot_cmd.specs.declared.kinds.TheConstants.{EXCLUSIVE, ERASE, READ, WRITE, EXIT_XIP, ENTER_XIP, MAGIC, REBOOT, OTP_READ, OTP_WRITE}
 use Rattle.picoboot_cmd.specs.Arguments.{address, size, reboot_flags, reboot_p0, reboot_p1, first_row, row_count, ecc}
-use Rattle.picoboot_cmd.specs.Commands.{fields_of}
+use Rattle.picoboot_cmd.specs.Commands.{command_fields}
 use Rattle.info_reply.specs.declared.kinds.TheConstants.{INFO, INFO_SIZE, TABLE, TARGET, DEVICE, PARTITION}
 use Rattle.uf2_place.specs.declared.block.Uf2.{Uf2 as Block}
 use Rattle.uf2_place.specs.declared.block.Uf2Fault.{Uf2Fault}
 use Rattle.uf2_place.specs.declared.block.Uf2Fault.TheVariants.{Magic, Payload, Alignment, Number}
 use Rattle.uf2_place.specs.Blocks.{uf2_of}
-use Rattle.script_text.specs.Comments.{action_text, command_text, hex_byte, hex_row, info_text, note_of, read_command_text, read_uf2_text, reboot_text, rows_text, span_text, uf2_text}
+use Rattle.script_text.specs.Comments.{action_text, command_text, info_text, note_of, read_command_text, read_uf2_text, reboot_text, rows_text, start_and_size_text, uf2_counts, uf2_target, uf2_text}
 use Rattle.script_text.specs.Listing.{comment_text}
 use Rattle.script_text.proofs.MarkLemmas.{free-append, is_free, is_other}
-use Rattle.script_text.proofs.WordLemmas.{big-small, free-encode, one-byte}
 
 glyph-high : (d : ℕ) → 48 ≤ digit_glyph false d
 glyph-high d = elim (cases_lt d 10) [
@@ -66,22 +68,36 @@ free-zeros zero = refl
 free-zeros (suc k) = free-zeros k
 
 -- padding as `{:03x}` does it
-pub padded-filled : (width : ℕ) (ds : List ℕ)
-    → padded_integral (format_spec 32 0 4 width (2 ^ 64 - 1)) false [] ds ≡ replicate (width - length ds) 48 ++ ds
-unfolding padded_integral char_count
-padded-filled width ds =
-    let zeros : width - length ds - 0 - 0 ≡ width - length ds = omega arith in
-    rw (zeros, append-nil ds) refl
-
 free-padded : (width : ℕ) (ds : List ℕ) → is_free 10 ds ≡ true
     → is_free 10 (padded_integral (format_spec 32 0 4 width (2 ^ 64 - 1)) false [] ds) ≡ true
 free-padded width ds free =
-    ap (λ t. is_free 10 t) (padded-filled width ds)
+    ap (λ t. is_free 10 t) (padded_filled width ds)
     ∙ free-append 10 (replicate (width - length ds) 48) ds (free-zeros (width - length ds)) free
 
+free-hex : (width n : ℕ) → is_free 10 (hex_digits width n) ≡ true
+free-hex width n = free-padded width (digits 16 false n) (digits-free 16 n)
+
 free-word : (n : ℕ) → is_free 10 (hex_word n) ≡ true
-unfolding hex_word
-free-word n = free-encode (big_bytes 4 n) (big-small 4 n)
+free-word n = free-hex 8 n
+
+-- ---- bytes
+
+digit-other : (c : ℕ) → is_digit c ≡ true → is_other 10 c ≡ true
+digit-other c is =
+    let above : 10 < c = elim (or_cases (nat_le 48 c && nat_le c 57) (nat_le 97 c && nat_le c 102) is) [
+      | inl low ↦ let first = leb-true 48 c (and_parts (nat_le 48 c) (nat_le c 57) low).0 in omega arith
+      | inr high ↦ let first = leb-true 97 c (and_parts (nat_le 97 c) (nat_le c 102) high).0 in omega arith
+    ] in
+    rw (ne_eqb c 10 (omega arith)) refl
+
+spelled-free : (text : List ℕ) → are_digits text ≡ true → is_free 10 text ≡ true
+spelled-free [] digits = refl
+spelled-free (c ∷ text) digits =
+    let parts = and_parts (is_digit c) (are_digits text) digits in
+    rw (digit-other c parts.0) (spelled-free text parts.1)
+
+free-encode : (bytes : List ℕ) → IsBytes bytes → is_free 10 (encode_lower bytes) ≡ true
+free-encode bytes are = spelled-free (encode_lower bytes) (digits-encode bytes are)
 
 -- ---- lines
 
@@ -94,7 +110,7 @@ free-reset Normal = refl
 free-reset Bootsel = refl
 free-reset (Update base) = free-word base
 
-pub free-line : (e : Happening) → IsEvent e → is_free 10 (line_of e) ≡ true
+pub free-line : (e : EventView) → IsEvent e → is_free 10 (record_line e) ≡ true
 free-line End event = refl
 free-line (Command command payload) event =
     free-append 10 (encode_lower command) (payload_text payload) (free-encode command event.bytes.0)
@@ -110,16 +126,12 @@ free-line Buy event = refl
 
 -- ---- comments
 
--- a byte as two digits: past 255 the first of them is none, and no line feed
-free-byte : (n : ℕ) → n < 256 → is_free 10 (hex_byte n) ≡ true
-free-byte n small = free-encode (n ∷ []) (one-byte n small)
-
-free-span : (start size : ℕ) → is_free 10 (span_text start size) ≡ true
+free-span : (start size : ℕ) → is_free 10 (start_and_size_text start size) ≡ true
 free-span start size =
     free-append 10 (hex_word start) (codes "+" ++ hex_word size) (free-word start) (free-word size)
 
 free-row : (n : ℕ) → is_free 10 (hex_row n) ≡ true
-free-row n = free-padded 3 (digits 16 false n) (digits-free 16 n)
+free-row n = free-hex 3 n
 
 free-rows : (cmd : Cmd) → is_free 10 (rows_text cmd) ≡ true
 free-rows cmd =
@@ -141,8 +153,8 @@ free-info kind argument =
     (free-if (kind == DEVICE) _ _ refl
     (free-if (kind == PARTITION) _ _ (free-decimal argument) (free-decimal kind))))
 
-free-action : (cmd : Cmd) → cmd.id < 256 → is_free 10 (action_text cmd) ≡ true
-free-action cmd small =
+free-action : (cmd : Cmd) → is_free 10 (action_text cmd) ≡ true
+free-action cmd =
     free-if (cmd.id == EXCLUSIVE && cmd.arg_size == 1) _ _ (free-decimal (slice_index cmd.args 0))
     (free-if (cmd.id == ERASE && cmd.arg_size == 8) _ _ (free-span (address cmd) (size cmd))
     (free-if (cmd.id == READ && cmd.arg_size == 8) _ _ (free-span (address cmd) (size cmd))
@@ -154,39 +166,41 @@ free-action cmd small =
     (free-if (cmd.id == OTP_WRITE && cmd.arg_size == 5) _ _ (free-rows cmd)
     (free-if (cmd.id == INFO && cmd.arg_size == INFO_SIZE) _ _
     (free-info (slice_index cmd.args 0) (little_number 4 (drop 4 cmd.args)))
-    (free-byte cmd.id small))))))))))
+    (free-hex 2 cmd.id))))))))))
 
-free-command : (command : List ℕ) → IsBytes command → is_free 10 (command_text command) ≡ true
+free-command : (command : List ℕ) → is_free 10 (command_text command) ≡ true
 unfolding command_text
-free-command command are = by_magic (little_number 4 command == MAGIC)
+free-command command = by_magic (little_number 4 command == MAGIC)
   where
     by_magic : (t : Bool)
-        → is_free 10 (read_command_text (if t then Ok (fields_of command) else Err cmd_fault.Magic)) ≡ true
+        → is_free 10 (read_command_text (if t then Ok (command_fields command) else Err cmd_fault.Magic)) ≡ true
     by_magic true =
-        free-append 10 (action_text (fields_of command)) (codes " token=" ++ hex_word (fields_of command).token)
-        (free-action (fields_of command) (are 8)) (free-word (fields_of command).token)
+        free-append 10 (action_text (command_fields command))
+        (codes " token=" ++ hex_word (command_fields command).token)
+        (free-action (command_fields command)) (free-word (command_fields command).token)
     by_magic false = refl
 
 free-block : (r : Result Block Uf2Fault) → is_free 10 (read_uf2_text r) ≡ true
+unfolding uf2_counts uf2_target
 free-block (Ok block) =
-    free-append 10 (decimal block.number) _ (free-decimal block.number)
-    (free-append 10 (decimal block.count) _ (free-decimal block.count)
-    (free-append 10 (hex_word block.address) _ (free-word block.address) (free-word block.family)))
+    free-append 10 (decimal block.number ++ (codes " count=" ++ decimal block.count)) _
+    (free-append 10 (decimal block.number) _ (free-decimal block.number) (free-decimal block.count))
+    (free-append 10 (hex_word block.address) _ (free-word block.address) (free-word block.family))
 free-block (Err Magic) = refl
 free-block (Err Payload) = refl
 free-block (Err Alignment) = refl
 free-block (Err Number) = refl
 
 free-uf2 : (block : List ℕ) → is_free 10 (uf2_text block) ≡ true
-unfolding uf2_text
+unfolding uf2_text uf2_counts uf2_target
 free-uf2 block = free-block (uf2_of block)
 
 pub free-comment : (n : ℕ) (note : List ℕ) → is_free 10 note ≡ true → is_free 10 (comment_text n note) ≡ true
 free-comment n note free = free-append 10 (decimal n) (codes " " ++ note) (free-decimal n) free
 
-pub free-note : (e : Happening) → IsEvent e → IfSome (note_of e) (λ note. is_free 10 note ≡ true)
+pub free-note : (e : EventView) → IsEvent e → IfSome (note_of e) (λ note. is_free 10 note ≡ true)
 free-note End event = tt
-free-note (Command command payload) event = free-command command event.bytes.0
+free-note (Command command payload) event = free-command command
 free-note (Uf2 block) event = free-uf2 block
 free-note (Cut left within pattern) event = tt
 free-note PowerOn event = tt

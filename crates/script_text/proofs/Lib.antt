@@ -1,15 +1,11 @@
 pub mod BackLemmas
-pub mod DecimalLemmas
 pub mod FreeLemmas
 pub mod ListLemmas
 pub mod ListedLemmas
 pub mod MarkLemmas
 pub mod MeaningLemmas
-pub mod NumberLemmas
-pub mod OptionLemmas
 pub mod ProgressLemmas
 pub mod ReadLemmas
 pub mod RecordLemmas
 pub mod SizeLemmas
 pub mod TextLemmas
-pub mod WordLemmas

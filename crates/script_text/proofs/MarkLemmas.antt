@@ -1,8 +1,11 @@
 -- The bytes before and behind a mark, by the place of the first.
-use Rattle.std.proofs.Common.{◌≡◌, ℕ, zero, suc, ◌+◌, ◌<◌, ◌≤◌, ◌==◌, Bool, true, false, List, [], ◌∷◌, ◌++◌, length, take, drop, get_or, Option, Some, None, refl, ap, arith, inl, inr}
-use Rattle.std.specs.Prelude.{IfSome, if◌then◌else◌}
+use Rattle.std.proofs.Common.{◌≡◌, ℕ, zero, suc, ◌+◌, ◌^◌, ◌<◌, ◌≤◌, ◌==◌, Bool, true, false, List, [], ◌∷◌, ◌++◌, length, take, drop, get_or, Option, Some, None, refl, ap, arith, inl, inr, decimal}
+use Rattle.std.specs.Prelude.{IfSome, if◌then◌else◌, nat_le}
+use Rattle.std.specs.Char.{is_ascii_digit}
+use Rattle.std.specs.Str.{all_ascii_digits}
 use Rattle.std.specs.List.{list_all}
-use Rattle.std.proofs.lemmas.Bool.{and_parts, cases_eq, eq-eqb, ne_eqb}
+use Rattle.std.proofs.lemmas.Bool.{and_parts, cases_eq, eq-eqb, leb-true, ne_eqb}
+use Rattle.text_words.proofs.NumberBackLemmas.{decimal-digits}
 use Rattle.script_text.specs.Words.{before_mark, behind_mark}
 
 abbrev IsMarkAt : ℕ → List ℕ → ℕ → Type 0
@@ -80,3 +83,21 @@ mark-whole mark (b ∷ bs) = elim (cases_eq b mark) [
         → IfSome r (λ rest. b ∷ bs ≡ b ∷ (before_mark mark bs ++ (mark ∷ rest)))
     more None is = tt
     more (Some rest) is = ap (λ xs. b ∷ xs) is
+
+-- ---- marks below the digits
+
+digit-other : (mark c : ℕ) → mark < 48 → is_ascii_digit c ≡ true → is_other mark c ≡ true
+digit-other mark c low digit =
+    let parts = and_parts (nat_le 48 c) (nat_le c 57) digit in
+    let above = leb-true 48 c parts.0 in
+    rw (ne_eqb c mark (omega arith)) refl
+
+decimals-free : (mark : ℕ) (text : List ℕ) → mark < 48 → all_ascii_digits text ≡ true → is_free mark text ≡ true
+decimals-free mark [] low digits = refl
+decimals-free mark (c ∷ text) low digits =
+    let parts = and_parts (is_ascii_digit c) (all_ascii_digits text) digits in
+    rw (digit-other mark c low parts.0) (decimals-free mark text low parts.1)
+
+-- the digits of a number are neither blanks nor line feeds
+pub decimal-free : (mark n : ℕ) → mark < 48 → n < 2 ^ 64 → is_free mark (decimal n) ≡ true
+decimal-free mark n low small = decimals-free mark (decimal n) low (decimal-digits n small)

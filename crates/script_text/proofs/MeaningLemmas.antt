@@ -4,16 +4,17 @@ use Rattle.std.specs.Prelude.{Result, Ok, Err, if◌then◌else◌, nat_le, nat_
 use Rattle.std.specs.List.{AllByRecursion, flat_map}
 use Rattle.std.proofs.lemmas.Bool.{cases_eq, cases_lt, eqb-true, lt-ltb, le-leb, le-ltb, lt-leb, eq-eqb, ne_eqb}
 use Rattle.std.proofs.lemmas.Grind.{flat_map-append}
-use Rattle.boot_script.specs.Events.{Happening, End}
-use Rattle.boot_script.specs.Written.{written}
+use Rattle.boot_script.specs.Events.{EventView, End}
+use Rattle.boot_script.specs.Written.{written_event}
 use Rattle.boot_script.specs.Scripts.{is_end}
 use Rattle.script_text.specs.declared.script.TextError.{TextError}
 use Rattle.script_text.specs.declared.script.TextError.TheVariants.{Line, TooMany, TooLong, Memory}
-use Rattle.script_text.specs.declared.script.TheConstants.{MOST_RECORDS, SCRIPT_LIMIT}
+use Rattle.boot_script.specs.declared.limits.TheConstants.{SCRIPT_LIMIT}
+use Rattle.script_text.specs.declared.script.TheConstants.{MOST_RECORDS}
 use Rattle.script_text.specs.Lines.{IsRecord}
 use Rattle.script_text.specs.Records.{record_in}
 use Rattle.script_text.specs.Reading.{add_event, in_first, is_passed, lines_of, read_lines, script_of, text_events, with_events}
-use Rattle.script_text.specs.Meaning.{AreRecords, EndsAt, IsFault, IsLineFault, IsPassed, IsText, IsWithin}
+use Rattle.script_text.specs.Meaning.{AreRecordsOfLines, EndsAt, IsScriptTextFault, IsLineFault, IsPassed, IsScriptText, IsWithinLimits}
 use Rattle.script_text.proofs.ReadLemmas.{read-passed, read-wrong, read-end, read-event}
 use Rattle.script_text.proofs.RecordLemmas.{record-back, record-of}
 
@@ -27,43 +28,43 @@ pub means-passed : (line : List ℕ) → IsPassed line → is_passed line ≡ tr
 means-passed line (inl none) = rw none refl
 means-passed line (inr (rest, is)) = rw is refl
 
-pub line-read : (line : List ℕ) (e : Happening) → IsRecord line e → record_in line ≡ Some e
+pub line-read : (line : List ℕ) (e : EventView) → IsRecord line e → record_in line ≡ Some e
 line-read line e record_is = ap record_in record_is.spelled ∙ record-back e record_is.event
 
 -- how a line is read behind so many records with so many bytes
-data ReadStep (n count size : ℕ) (line : List ℕ) (lines : List (List ℕ)) (r : Result (List Happening) TextError)
+data ReadStep (n count size : ℕ) (line : List ℕ) (lines : List (List ℕ)) (r : Result (List EventView) TextError)
     : Type 0 where
   passed : IsPassed line → r ≡ read_lines (n + 1) count size lines → ReadStep n count size line lines r
-  wrong : (IsPassed line → ⊥) → ((e : Happening) → IsRecord line e → ⊥) → r ≡ Err (Line n)
+  wrong : (IsPassed line → ⊥) → ((e : EventView) → IsRecord line e → ⊥) → r ≡ Err (Line n)
       → ReadStep n count size line lines r
   ended : IsRecord line End → r ≡ Ok [] → ReadStep n count size line lines r
-  many : (e : Happening) → IsRecord line e → is_end e ≡ false → MOST_RECORDS ≤ count → r ≡ Err TooMany
+  many : (e : EventView) → IsRecord line e → is_end e ≡ false → MOST_RECORDS ≤ count → r ≡ Err TooMany
       → ReadStep n count size line lines r
-  long : (e : Happening) → IsRecord line e → is_end e ≡ false → count < MOST_RECORDS
-      → SCRIPT_LIMIT < size + length (written e) + 1 → r ≡ Err TooLong → ReadStep n count size line lines r
-  more : (e : Happening) → IsRecord line e → is_end e ≡ false → count < MOST_RECORDS
-      → size + length (written e) + 1 ≤ SCRIPT_LIMIT
-      → r ≡ with_events (e ∷ []) (read_lines (n + 1) (count + 1) (size + length (written e)) lines)
+  long : (e : EventView) → IsRecord line e → is_end e ≡ false → count < MOST_RECORDS
+      → SCRIPT_LIMIT < size + length (written_event e) + 1 → r ≡ Err TooLong → ReadStep n count size line lines r
+  more : (e : EventView) → IsRecord line e → is_end e ≡ false → count < MOST_RECORDS
+      → size + length (written_event e) + 1 ≤ SCRIPT_LIMIT
+      → r ≡ with_events (e ∷ []) (read_lines (n + 1) (count + 1) (size + length (written_event e)) lines)
       → ReadStep n count size line lines r
 
-is-the-end : (line : List ℕ) (e : Happening) → is_end e ≡ true → IsRecord line e → IsRecord line End
+is-the-end : (line : List ℕ) (e : EventView) → is_end e ≡ true → IsRecord line e → IsRecord line End
 is-the-end line End ends record_is = record_is
 is-the-end line _ ends record_is = absurd (cc ends)
 
-pub add-by : (count size : ℕ) (e : Happening) (others : Result (List Happening) TextError) (full past : Bool)
-    → nat_le MOST_RECORDS count ≡ full → nat_lt SCRIPT_LIMIT (size + length (written e) + 1) ≡ past
+pub add-by : (count size : ℕ) (e : EventView) (others : Result (List EventView) TextError) (full past : Bool)
+    → nat_le MOST_RECORDS count ≡ full → nat_lt SCRIPT_LIMIT (size + length (written_event e) + 1) ≡ past
     → add_event count size e others
     ≡ (if full then Err TooMany else if past then Err TooLong else with_events (e ∷ []) others)
 add-by count size e others full past first second = rw (first, second) refl
 
 -- a record that is no end, by the limits
-event-step : (n count size : ℕ) (line : List ℕ) (lines : List (List ℕ)) (r : Result (List Happening) TextError)
-    (e : Happening) → IsRecord line e → is_end e ≡ false
-    → r ≡ add_event count size e (read_lines (n + 1) (count + 1) (size + length (written e)) lines)
+event-step : (n count size : ℕ) (line : List ℕ) (lines : List (List ℕ)) (r : Result (List EventView) TextError)
+    (e : EventView) → IsRecord line e → is_end e ≡ false
+    → r ≡ add_event count size e (read_lines (n + 1) (count + 1) (size + length (written_event e)) lines)
     → ReadStep n count size line lines r
 event-step n count size line lines r e record_is inside is =
-    let others = read_lines (n + 1) (count + 1) (size + length (written e)) lines in
-    let total = size + length (written e) + 1 in elim (cases_lt count MOST_RECORDS) [
+    let others = read_lines (n + 1) (count + 1) (size + length (written_event e)) lines in
+    let total = size + length (written_event e) + 1 in elim (cases_lt count MOST_RECORDS) [
       | inl few ↦ elim (cases_lt SCRIPT_LIMIT total) [
         | inl past ↦ long e record_is inside few past
             (is ∙ add-by count size e others false true (lt-leb MOST_RECORDS count few)
@@ -78,7 +79,7 @@ event-step n count size line lines r e record_is inside is =
 
 -- a line that is not passed over, by what is read of it
 record-step : (n count size : ℕ) (line : List ℕ) (lines : List (List ℕ)) → length line < 2 ^ 32
-    → is_passed line ≡ false → (found : Option Happening) → record_in line ≡ found
+    → is_passed line ≡ false → (found : Option EventView) → record_in line ≡ found
     → ReadStep n count size line lines (read_lines n count size (line ∷ lines))
 record-step n count size line lines short other None found =
     wrong (λ passed_is. absurd (cc (sym (means-passed line passed_is) ∙ other)))
@@ -110,24 +111,24 @@ abbrev AreShort : List (List ℕ) → Type 0
 AreShort lines = AllByRecursion (λ line. length line < 2 ^ 32) lines
 
 -- events behind so many records with so many bytes are within the limits
-pub record Fits (count size : ℕ) (es : List Happening) : Type 0 where
+pub record Fits (count size : ℕ) (es : List EventView) : Type 0 where
   pub few : count + length es ≤ MOST_RECORDS
-  pub short : size + (length (flat_map written es) + 1) ≤ SCRIPT_LIMIT
+  pub short : size + (length (flat_map written_event es) + 1) ≤ SCRIPT_LIMIT
 
 fits-none : (count size : ℕ) → count ≤ MOST_RECORDS → size + 1 ≤ SCRIPT_LIMIT → Fits count size []
 fits-none count size few short = record { few = omega arith; short = omega arith }
 
-fits-more : (count size : ℕ) (e : Happening) (es : List Happening)
-    → Fits (count + 1) (size + length (written e)) es → Fits count size (e ∷ es)
+fits-more : (count size : ℕ) (e : EventView) (es : List EventView)
+    → Fits (count + 1) (size + length (written_event e)) es → Fits count size (e ∷ es)
 fits-more count size e es fits = record {
   few = omega (arith, fits.few);
-  short = omega (arith, fits.short, length-append (written e) (flat_map written es));
+  short = omega (arith, fits.short, length-append (written_event e) (flat_map written_event es));
 }
 
-record Means (lines : List (List ℕ)) (count size : ℕ) (es : List Happening) : Type 0 where
+record Means (lines : List (List ℕ)) (count size : ℕ) (es : List EventView) : Type 0 where
   front : List (List ℕ)
   ends : EndsAt lines front
-  records : AreRecords front es
+  records : AreRecordsOfLines front es
   fits : Fits count size es
 
 ends-more : (line : List ℕ) (lines front : List (List ℕ)) → EndsAt lines front → EndsAt (line ∷ lines) (line ∷ front)
@@ -136,23 +137,23 @@ ends-more line lines front (inr (rest, last, record_is, is)) =
     inr (rest, last, record_is, ap (λ ls. line ∷ ls) is)
 
 -- events behind the first one
-record Rest (e : Happening) (r : Result (List Happening) TextError) (es : List Happening) : Type 0 where
-  others : List Happening
+record Rest (e : EventView) (r : Result (List EventView) TextError) (es : List EventView) : Type 0 where
+  others : List EventView
   read : r ≡ Ok others
   all : es ≡ e ∷ others
 
-rest-of : (e : Happening) (r : Result (List Happening) TextError) (es : List Happening)
+rest-of : (e : EventView) (r : Result (List EventView) TextError) (es : List EventView)
     → with_events (e ∷ []) r ≡ Ok es → Rest e r es
 rest-of e (Ok others) es is = record { others = others; read = refl; all = cc }
 rest-of e (Err fault) es is = cc is
 
 abbrev MeansOf : List (List ℕ) → Type 0
-MeansOf lines = (n count size : ℕ) (es : List Happening) → count ≤ MOST_RECORDS → size + 1 ≤ SCRIPT_LIMIT
+MeansOf lines = (n count size : ℕ) (es : List EventView) → count ≤ MOST_RECORDS → size + 1 ≤ SCRIPT_LIMIT
     → read_lines n count size lines ≡ Ok es → Means lines count size es
 
-step-means : (n count size : ℕ) (line : List ℕ) (lines : List (List ℕ)) (es : List Happening)
+step-means : (n count size : ℕ) (line : List ℕ) (lines : List (List ℕ)) (es : List EventView)
     → count ≤ MOST_RECORDS → size + 1 ≤ SCRIPT_LIMIT → MeansOf lines
-    → (r : Result (List Happening) TextError) → r ≡ Ok es → ReadStep n count size line lines r
+    → (r : Result (List EventView) TextError) → r ≡ Ok es → ReadStep n count size line lines r
     → Means (line ∷ lines) count size es
 step-means n count size line lines es few short ih r is (passed passed_is read) =
     let m = ih (n + 1) count size es few short (sym read ∙ is) in record {
@@ -167,18 +168,19 @@ step-means n count size line lines es few short ih r is (ended record_is read) =
       front = [];
       ends = inr (lines, line, record_is, refl);
       records = sym none;
-      fits = subst (λ (xs : List Happening). Fits count size xs) none (fits-none count size few short);
+      fits = subst (λ (xs : List EventView). Fits count size xs) none (fits-none count size few short);
     }
 step-means n count size line lines es few short ih r is (many e record_is inside full read) = cc (sym read ∙ is)
 step-means n count size line lines es few short ih r is (long e record_is inside room past read) = cc (sym read ∙ is)
 step-means n count size line lines es few short ih r is (more e record_is inside room fit read) =
-    let rest = rest-of e (read_lines (n + 1) (count + 1) (size + length (written e)) lines) es (sym read ∙ is) in
-    let m = ih (n + 1) (count + 1) (size + length (written e)) rest.others (omega arith) (omega arith) rest.read in
+    let rest = rest-of e (read_lines (n + 1) (count + 1) (size + length (written_event e)) lines) es (sym read ∙ is) in
+    let m = ih (n + 1) (count + 1) (size + length (written_event e)) rest.others (omega arith)
+    (omega arith) rest.read in
     record {
       front = line ∷ m.front;
       ends = ends-more line lines m.front m.ends;
       records = inr (e, rest.others, record_is, inside, rest.all, m.records);
-      fits = subst (λ (xs : List Happening). Fits count size xs) (sym rest.all)
+      fits = subst (λ (xs : List EventView). Fits count size xs) (sym rest.all)
           (fits-more count size e rest.others m.fits);
     }
 
@@ -188,7 +190,7 @@ lines-mean [] lines_short n count size es few short is =
       front = [];
       ends = inl refl;
       records = sym none;
-      fits = subst (λ (xs : List Happening). Fits count size xs) none (fits-none count size few short);
+      fits = subst (λ (xs : List EventView). Fits count size xs) none (fits-none count size few short);
     }
 lines-mean (line ∷ lines) lines_short n count size es few short is =
     step-means n count size line lines es few short (lines-mean lines lines_short.1)
@@ -199,12 +201,12 @@ lines-mean (line ∷ lines) lines_short n count size es few short is =
 -- the fault of a line behind so many records with so many bytes
 abbrev IsFaultAt : ℕ → ℕ → ℕ → List ℕ → TextError → Type 0
 IsFaultAt n count size line (Line number) =
-    (number ≡ n) × (IsPassed line → ⊥) × ((e : Happening) → IsRecord line e → ⊥)
+    (number ≡ n) × (IsPassed line → ⊥) × ((e : EventView) → IsRecord line e → ⊥)
 IsFaultAt n count size line TooMany =
-    (e : Happening) × IsRecord line e × (is_end e ≡ false) × (MOST_RECORDS ≤ count)
+    (e : EventView) × IsRecord line e × (is_end e ≡ false) × (MOST_RECORDS ≤ count)
 IsFaultAt n count size line TooLong =
-    (e : Happening) × IsRecord line e × (is_end e ≡ false) × (count < MOST_RECORDS)
-    × (SCRIPT_LIMIT < size + length (written e) + 1)
+    (e : EventView) × IsRecord line e × (is_end e ≡ false) × (count < MOST_RECORDS)
+    × (SCRIPT_LIMIT < size + length (written_event e) + 1)
 IsFaultAt n count size line Memory = ⊥
 
 record Fails (lines : List (List ℕ)) (n count size : ℕ) (fault : TextError) : Type 0 where
@@ -212,10 +214,10 @@ record Fails (lines : List (List ℕ)) (n count size : ℕ) (fault : TextError) 
   line : List ℕ
   rest : List (List ℕ)
   all : lines ≡ front ++ (line ∷ rest)
-  es : List Happening
-  before : AreRecords front es
+  es : List EventView
+  before : AreRecordsOfLines front es
   fits : Fits count size es
-  fault_is : IsFaultAt (n + length front) (count + length es) (size + length (flat_map written es)) line fault
+  fault_is : IsFaultAt (n + length front) (count + length es) (size + length (flat_map written_event es)) line fault
 
 fault-at : (n m c d s t : ℕ) (line : List ℕ) (fault : TextError) → n ≡ m → c ≡ d → s ≡ t
     → IsFaultAt n c s line fault → IsFaultAt m d t line fault
@@ -250,13 +252,13 @@ fails-passed n count size line lines fault passed_is f = record {
   before = inl (passed_is, f.before);
   fits = f.fits;
   fault_is = fault-at (n + 1 + length f.front) (n + length (line ∷ f.front)) (count + length f.es)
-      (count + length f.es) (size + length (flat_map written f.es)) (size + length (flat_map written f.es))
+      (count + length f.es) (size + length (flat_map written_event f.es)) (size + length (flat_map written_event f.es))
       f.line fault (omega arith) refl refl f.fault_is;
 }
 
-fails-event : (n count size : ℕ) (line : List ℕ) (lines : List (List ℕ)) (fault : TextError) (e : Happening)
+fails-event : (n count size : ℕ) (line : List ℕ) (lines : List (List ℕ)) (fault : TextError) (e : EventView)
     → IsRecord line e → is_end e ≡ false
-    → Fails lines (n + 1) (count + 1) (size + length (written e)) fault
+    → Fails lines (n + 1) (count + 1) (size + length (written_event e)) fault
     → Fails (line ∷ lines) n count size fault
 fails-event n count size line lines fault e record_is inside f = record {
   front = line ∷ f.front;
@@ -267,23 +269,23 @@ fails-event n count size line lines fault e record_is inside f = record {
   before = inr (e, f.es, record_is, inside, refl, f.before);
   fits = fits-more count size e f.es f.fits;
   fault_is = fault-at (n + 1 + length f.front) (n + length (line ∷ f.front)) (count + 1 + length f.es)
-      (count + length (e ∷ f.es)) (size + length (written e) + length (flat_map written f.es))
-      (size + length (flat_map written (e ∷ f.es))) f.line fault (omega arith) (omega arith)
-      (omega (arith, length-append (written e) (flat_map written f.es))) f.fault_is;
+      (count + length (e ∷ f.es)) (size + length (written_event e) + length (flat_map written_event f.es))
+      (size + length (flat_map written_event (e ∷ f.es))) f.line fault (omega arith) (omega arith)
+      (omega (arith, length-append (written_event e) (flat_map written_event f.es))) f.fault_is;
 }
 
 abbrev FailsOf : List (List ℕ) → Type 0
 FailsOf lines = (n count size : ℕ) (fault : TextError) → count ≤ MOST_RECORDS → size + 1 ≤ SCRIPT_LIMIT
     → read_lines n count size lines ≡ Err fault → Fails lines n count size fault
 
-err-of : (e : Happening) (r : Result (List Happening) TextError) (fault : TextError)
+err-of : (e : EventView) (r : Result (List EventView) TextError) (fault : TextError)
     → with_events (e ∷ []) r ≡ Err fault → r ≡ Err fault
 err-of e (Ok others) fault is = cc is
 err-of e (Err wrong_is) fault is = is
 
 step-fails : (n count size : ℕ) (line : List ℕ) (lines : List (List ℕ)) (fault : TextError)
     → count ≤ MOST_RECORDS → size + 1 ≤ SCRIPT_LIMIT → FailsOf lines
-    → (r : Result (List Happening) TextError) → r ≡ Err fault → ReadStep n count size line lines r
+    → (r : Result (List EventView) TextError) → r ≡ Err fault → ReadStep n count size line lines r
     → Fails (line ∷ lines) n count size fault
 step-fails n count size line lines fault few short ih r is (passed passed_is read) =
     fails-passed n count size line lines fault passed_is (ih (n + 1) count size fault few short (sym read ∙ is))
@@ -302,8 +304,8 @@ step-fails n count size line lines fault few short ih r is (long e record_is ins
     (fails-here n count size line lines TooLong few short (e, record_is, inside, room, past))
 step-fails n count size line lines fault few short ih r is (more e record_is inside room fit read) =
     fails-event n count size line lines fault e record_is inside
-    (ih (n + 1) (count + 1) (size + length (written e)) fault (omega arith) (omega arith)
-    (err-of e (read_lines (n + 1) (count + 1) (size + length (written e)) lines) fault (sym read ∙ is)))
+    (ih (n + 1) (count + 1) (size + length (written_event e)) fault (omega arith) (omega arith)
+    (err-of e (read_lines (n + 1) (count + 1) (size + length (written_event e)) lines) fault (sym read ∙ is)))
 
 lines-fail : (lines : List (List ℕ)) → AreShort lines → FailsOf lines
 lines-fail [] lines_short n count size fault few short is = cc is
@@ -340,37 +342,37 @@ lines-short text small = within-short (length text) (lines_of text) small (lines
 
 -- ---- texts
 
-script-length : (es : List Happening) → length (script_of es) ≡ length (flat_map written es) + 1
-script-length es = length-append (flat_map written es) (written End)
+script-length : (es : List EventView) → length (script_of es) ≡ length (flat_map written_event es) + 1
+script-length es = length-append (flat_map written_event es) (written_event End)
 
-pub script-more : (es : List Happening) (e : Happening)
-    → length (script_of (es ++ (e ∷ []))) ≡ length (flat_map written es) + length (written e) + 1
+pub script-more : (es : List EventView) (e : EventView)
+    → length (script_of (es ++ (e ∷ []))) ≡ length (flat_map written_event es) + length (written_event e) + 1
 script-more es e =
     omega (
       arith,
       script-length (es ++ (e ∷ [])),
-      ap length (flat_map-append written es (e ∷ [])),
-      length-append (flat_map written es) (flat_map written (e ∷ [])),
-      length-append (written e) [],
+      ap length (flat_map-append written_event es (e ∷ [])),
+      length-append (flat_map written_event es) (flat_map written_event (e ∷ [])),
+      length-append (written_event e) [],
     )
 
-fits-within : (es : List Happening) → Fits 0 0 es → IsWithin es
+fits-within : (es : List EventView) → Fits 0 0 es → IsWithinLimits es
 fits-within es fits = record { few = omega (arith, fits.few); short = omega (arith, fits.short, script-length es) }
 
-pub within-fits : (es : List Happening) → IsWithin es → Fits 0 0 es
+pub within-fits : (es : List EventView) → IsWithinLimits es → Fits 0 0 es
 within-fits es within = record {
   few = omega (arith, within.few);
   short = omega (arith, within.short, script-length es);
 }
 
-pub text-means : (text : List ℕ) (es : List Happening) → length text < 2 ^ 32 → text_events text ≡ Ok es
-    → IsText text es
+pub text-means : (text : List ℕ) (es : List EventView) → length text < 2 ^ 32 → text_events text ≡ Ok es
+    → IsScriptText text es
 text-means text es small is =
     let m = lines-mean (lines_of text) (lines-short text small) 1 0 0 es (omega arith) (omega arith) is in
     record { front = m.front; ends = m.ends; records = m.records; within = fits-within es m.fits }
 
-fault-means : (n : ℕ) (es : List Happening) (line : List ℕ) (fault : TextError)
-    → IsFaultAt (1 + n) (0 + length es) (0 + length (flat_map written es)) line fault
+fault-means : (n : ℕ) (es : List EventView) (line : List ℕ) (fault : TextError)
+    → IsFaultAt (1 + n) (0 + length es) (0 + length (flat_map written_event es)) line fault
     → IsLineFault (n + 1) es line fault
 fault-means n es line (Line number) is = (omega (arith, is.0), is.1, is.2)
 fault-means n es line TooMany is = (is.0, is.1, is.2, omega (arith, is.3))
@@ -379,7 +381,7 @@ fault-means n es line TooLong is =
 fault-means n es line Memory is = is
 
 pub text-fails : (text : List ℕ) (fault : TextError) → length text < 2 ^ 32 → text_events text ≡ Err fault
-    → IsFault text fault
+    → IsScriptTextFault text fault
 text-fails text fault small is =
     let f = lines-fail (lines_of text) (lines-short text small) 1 0 0 fault (omega arith) (omega arith) is in record {
       front = f.front;

@@ -3,8 +3,8 @@ use Rattle.std.proofs.Common.{◌≡◌, ℕ, ◌+◌, List, [], ◌∷◌, ◌+
 use Rattle.std.specs.Prelude.{Ok, Err}
 use Rattle.std.specs.List.{flat_map}
 use Rattle.std.proofs.lemmas.Grind.{flat_map-append}
-use Rattle.boot_script.specs.Events.{Happening}
-use Rattle.boot_script.specs.Written.{written}
+use Rattle.boot_script.specs.Events.{EventView}
+use Rattle.boot_script.specs.Written.{written_event}
 use Rattle.script_text.specs.declared.script.TextError.{TextError}
 use Rattle.script_text.specs.declared.script.TextScript.{TextScript}
 use Rattle.script_text.specs.Words.{before_mark, behind_mark}
@@ -14,17 +14,17 @@ use Rattle.script_text.proofs.ReadLemmas.{lines-next, lines_in, with-more, with-
 pub adds-none : (s : TextScript) → Adds s s []
 adds-none s = record { bytes = sym (append-nil s.bytes.items); records = omega arith }
 
-pub adds-more : (a b c : TextScript) (es fs : List Happening) → Adds a b es → Adds b c fs → Adds a c (es ++ fs)
+pub adds-more : (a b c : TextScript) (es fs : List EventView) → Adds a b es → Adds b c fs → Adds a c (es ++ fs)
 adds-more a b c es fs first second = record {
-  bytes = second.bytes ∙ ap (λ bs. bs ++ flat_map written fs) first.bytes
-      ∙ append_assoc a.bytes.items (flat_map written es) (flat_map written fs)
-      ∙ ap (λ bs. a.bytes.items ++ bs) (sym (flat_map-append written es fs));
+  bytes = second.bytes ∙ ap (λ bs. bs ++ flat_map written_event fs) first.bytes
+      ∙ append_assoc a.bytes.items (flat_map written_event es) (flat_map written_event fs)
+      ∙ ap (λ bs. a.bytes.items ++ bs) (sym (flat_map-append written_event es fs));
   records = omega (arith, first.records, second.records, length-append es fs);
 }
 
 -- the events of a text so far, and what is read of the lines that are left
 pub record IsSoFar (start : TextScript) (text : List ℕ) (n : ℕ) (s : TextScript) (rest : List ℕ) : Type 0 where
-  pub es : List Happening
+  pub es : List EventView
   pub adds : Adds start s es
   pub others : read_behind 1 start (lines_of text) ≡ with_events es (read_behind n s (lines_of rest))
 
@@ -51,7 +51,7 @@ so_far-fault start text n s rest line fault is so_far wrong =
 pub so_far-end : (start : TextScript) (text : List ℕ) (n : ℕ) (s new : TextScript) (rest line : List ℕ)
     → line ≡ before_mark 10 rest → IsSoFar start text n s rest → new ≡ s
     → ((lines : List (List ℕ)) → read_behind n s (line ∷ lines) ≡ Ok [])
-    → (es : List Happening) × Adds start new es × (read_behind 1 start (lines_of text) ≡ Ok es)
+    → (es : List EventView) × Adds start new es × (read_behind 1 start (lines_of text) ≡ Ok es)
 so_far-end start text n s new rest line is so_far same ends = (
   so_far.es,
   rw same so_far.adds,
@@ -76,7 +76,7 @@ so_far-more start text n s new rest line more is behind so_far added = record {
 pub so_far-last : (start : TextScript) (text : List ℕ) (n : ℕ) (s new : TextScript) (rest line : List ℕ)
     → line ≡ before_mark 10 rest → None ≡ behind_mark 10 rest → IsSoFar start text n s rest
     → IsAdded n s line new
-    → (es : List Happening) × Adds start new es × (read_behind 1 start (lines_of text) ≡ Ok es)
+    → (es : List EventView) × Adds start new es × (read_behind 1 start (lines_of text) ≡ Ok es)
 so_far-last start text n s new rest line is behind so_far added = (
   so_far.es ++ added.es,
   adds-more start s new so_far.es added.es so_far.adds added.adds,

@@ -2,8 +2,8 @@
 use Rattle.std.proofs.Common.{◌≡◌, ℕ, ◌+◌, true, false, List, [], ◌∷◌, ◌++◌, length, Option, Some, None, refl, ap, append_assoc, inl, inr}
 use Rattle.std.specs.Prelude.{Result, Ok, Err}
 use Rattle.std.proofs.lemmas.Bool.{cases_eq, eq-eqb, ne_eqb}
-use Rattle.boot_script.specs.Events.{Happening}
-use Rattle.boot_script.specs.Written.{written}
+use Rattle.boot_script.specs.Events.{EventView}
+use Rattle.boot_script.specs.Written.{written_event}
 use Rattle.boot_script.specs.Scripts.{is_end}
 use Rattle.script_text.specs.declared.script.TextError.{TextError}
 use Rattle.script_text.specs.declared.script.TextError.TheVariants.{Line}
@@ -11,11 +11,11 @@ use Rattle.script_text.specs.Words.{before_mark, behind_mark}
 use Rattle.script_text.specs.Records.{record_in}
 use Rattle.script_text.specs.Reading.{add_event, is_passed, lines_of, read_lines, with_events}
 
-pub with-none : (r : Result (List Happening) TextError) → with_events [] r ≡ r
+pub with-none : (r : Result (List EventView) TextError) → with_events [] r ≡ r
 with-none (Ok es) = refl
 with-none (Err fault) = refl
 
-pub with-more : (es fs : List Happening) (r : Result (List Happening) TextError)
+pub with-more : (es fs : List EventView) (r : Result (List EventView) TextError)
     → with_events (es ++ fs) r ≡ with_events es (with_events fs r)
 with-more es fs (Ok others) = ap Ok (append_assoc es fs others)
 with-more es fs (Err fault) = refl
@@ -28,15 +28,15 @@ pub read-wrong : (n count size : ℕ) (line : List ℕ) (lines : List (List ℕ)
     → record_in line ≡ None → read_lines n count size (line ∷ lines) ≡ Err (Line n)
 read-wrong n count size line lines passed none = rw (passed, none) refl
 
-pub read-end : (n count size : ℕ) (line : List ℕ) (lines : List (List ℕ)) (e : Happening)
+pub read-end : (n count size : ℕ) (line : List ℕ) (lines : List (List ℕ)) (e : EventView)
     → is_passed line ≡ false → record_in line ≡ Some e → is_end e ≡ true
     → read_lines n count size (line ∷ lines) ≡ Ok []
 read-end n count size line lines e passed some ends = rw (passed, some, ends) refl
 
-pub read-event : (n count size : ℕ) (line : List ℕ) (lines : List (List ℕ)) (e : Happening)
+pub read-event : (n count size : ℕ) (line : List ℕ) (lines : List (List ℕ)) (e : EventView)
     → is_passed line ≡ false → record_in line ≡ Some e → is_end e ≡ false
     → read_lines n count size (line ∷ lines)
-    ≡ add_event count size e (read_lines (n + 1) (count + 1) (size + length (written e)) lines)
+    ≡ add_event count size e (read_lines (n + 1) (count + 1) (size + length (written_event e)) lines)
 read-event n count size line lines e passed some more = rw (passed, some, more) refl
 
 -- the lines behind a line feed, where there is one

@@ -8,15 +8,16 @@ use Rattle.pico_board.specs.declared.boot.BootKind.{BootKind}
 use Rattle.pico_board.specs.declared.boot.BootKind.TheVariants.{Normal, Bootsel, Update}
 use Rattle.hex.specs.Hex.{IsBytes, encode_lower, lower_digits}
 use Rattle.hex.proofs.HexLemmas.{length-encode_with}
-use Rattle.boot_script.specs.Events.{Happening, End, Command, Uf2, Cut, PowerOn, Reset, Buy, base_of}
-use Rattle.script_text.specs.Lines.{IsEvent, IsRecord, line_of, payload_text, reset_text}
-use Rattle.script_text.specs.Words.{array_in, before_mark, behind_mark, behind_word, bytes_in, number_in, word_in}
-use Rattle.script_text.specs.Records.{command_in, command_of, cut_in, cut_of, kind_in, or_others, part_in, payload_in, record_in, some_payload, within_in, word_record}
+use Rattle.boot_script.specs.Events.{EventView, End, Command, Uf2, Cut, PowerOn, Reset, Buy, base_of}
+use Rattle.script_text.specs.Lines.{IsEvent, IsRecord, record_line, payload_text, reset_text}
+use Rattle.text_words.specs.Reading.{array_in, behind_word, bytes_in, number_in, word_in}
+use Rattle.script_text.specs.Words.{before_mark, behind_mark}
+use Rattle.script_text.specs.Records.{command_in_text, command_of_bytes, cut_in_text, cut_of_words, kind_in, or_others, cut_part_in, payload_in_text, record_in, some_payload, within_in, word_record}
 use Rattle.script_text.specs.Reading.{HasPattern}
-use Rattle.script_text.proofs.MarkLemmas.{mark-before, mark-behind, mark-whole}
-use Rattle.script_text.proofs.DecimalLemmas.{IsNumber, number-back, number-spelled, decimal-words}
-use Rattle.script_text.proofs.OptionLemmas.{if-some, map-some, and_then-some, some-of, weaken-some}
-use Rattle.script_text.proofs.WordLemmas.{AreSpelled, IsArray, IsWord, array-back, array-spelled, bytes-back, bytes-spelled, same-text, word-back, word-follows, word-spelled}
+use Rattle.script_text.proofs.MarkLemmas.{mark-before, mark-behind, mark-whole, decimal-free}
+use Rattle.text_words.proofs.NumberBackLemmas.{IsNumber, number-back, number-spelled}
+use Rattle.text_words.proofs.OptionLemmas.{if-some, map-some, and_then-some, some-of, weaken-some}
+use Rattle.text_words.proofs.BytesLemmas.{AreSpelled, IsArray, IsWord, array-back, array-spelled, bytes-back, bytes-spelled, same-text, word-back, word-follows, word-spelled}
 
 -- ---- what is read spells the line
 
@@ -73,7 +74,7 @@ none-bytes : IsBytes []
 none-bytes i = omega arith
 
 part-spelled : (line text : List ℕ) (left : ℕ) → left < 2 ^ 32
-    → line ≡ codes "cut " ++ (decimal left ++ (32 ∷ text)) → IfSome (part_in left text) (IsRecord line)
+    → line ≡ codes "cut " ++ (decimal left ++ (32 ∷ text)) → IfSome (cut_part_in left text) (IsRecord line)
 part-spelled line text left small is =
     if-some (IsRecord line) (bytes_eq text (codes "before")) (Some (Cut left false [])) _
     (λ same. record {
@@ -97,14 +98,14 @@ part-spelled line text left small is =
 cut-of : (line text : List ℕ) (number : Option ℕ) (part : Option (List ℕ)) → line ≡ codes "cut " ++ text
     → IfSome number (IsNumber (before_mark 32 text))
     → IfSome part (λ rest. text ≡ before_mark 32 text ++ (32 ∷ rest))
-    → IfSome (cut_of number part) (IsRecord line)
+    → IfSome (cut_of_words number part) (IsRecord line)
 cut-of line text None part is number_is part_is = tt
 cut-of line text (Some left) None is number_is part_is = tt
 cut-of line text (Some left) (Some rest) is number_is part_is =
     part-spelled line rest left number_is.small
     (is ∙ ap (λ t. codes "cut " ++ t) (part_is ∙ ap (λ front. front ++ (32 ∷ rest)) number_is.is))
 
-cut-spelled : (line text : List ℕ) → line ≡ codes "cut " ++ text → IfSome (cut_in text) (IsRecord line)
+cut-spelled : (line text : List ℕ) → line ≡ codes "cut " ++ text → IfSome (cut_in_text text) (IsRecord line)
 cut-spelled line text is =
     cut-of line text (number_in (before_mark 32 text)) (behind_mark 32 text) is
     (number-spelled (before_mark 32 text)) (mark-whole 32 text)
@@ -128,7 +129,7 @@ payload-of b text payload blank spelled some =
       short = omega arith;
     }
 
-payload-spelled : (text : List ℕ) → IfSome (payload_in text) (IsPayload text)
+payload-spelled : (text : List ℕ) → IfSome (payload_in_text text) (IsPayload text)
 payload-spelled [] = record { are = none-bytes; is = refl; short = omega arith }
 payload-spelled (b ∷ text) =
     if-some (IsPayload (b ∷ text)) (b == 32) (option_and_then some_payload (bytes_in text)) None
@@ -142,7 +143,7 @@ payload-spelled (b ∷ text) =
 command-of : (line front rest : List ℕ) (command payload : Option (List ℕ))
     → line ≡ codes "command " ++ (front ++ rest) → length line < 2 ^ 32
     → IfSome command (IsArray 32 front) → IfSome payload (IsPayload rest)
-    → IfSome (command_of command payload) (IsRecord line)
+    → IfSome (command_of_bytes command payload) (IsRecord line)
 command-of line front rest None payload is small command_is payload_is = tt
 command-of line front rest (Some command) None is small command_is payload_is = tt
 command-of line front rest (Some command) (Some payload) is small command_is payload_is =
@@ -157,13 +158,13 @@ command-of line front rest (Some command) (Some payload) is small command_is pay
     }
 
 command-spelled : (line text : List ℕ) → length line < 2 ^ 32 → line ≡ codes "command " ++ text
-    → IfSome (command_in text) (IsRecord line)
+    → IfSome (command_in_text text) (IsRecord line)
 command-spelled line text small is =
     if-some (IsRecord line) (nat_lt (length text) 64) None
-    (command_of (array_in 32 (take 64 text)) (payload_in (drop 64 text)))
+    (command_of_bytes (array_in 32 (take 64 text)) (payload_in_text (drop 64 text)))
     (λ short. tt)
     (λ long. command-of line (take 64 text) (drop 64 text) (array_in 32 (take 64 text))
-    (payload_in (drop 64 text)) (is ∙ ap (λ t. codes "command " ++ t) (sym (take-append-drop 64 text))) small
+    (payload_in_text (drop 64 text)) (is ∙ ap (λ t. codes "command " ++ t) (sym (take-append-drop 64 text))) small
     (array-spelled 32 (take 64 text)) (payload-spelled (drop 64 text)))
 
 uf2-spelled : (line text : List ℕ) → line ≡ codes "uf2 " ++ text
@@ -185,8 +186,8 @@ single-spelled line =
     (λ same. record { event = record { well = tt; bytes = tt }; spelled = same-text line (codes "end") same })
     (λ none. tt)))
 
-or-spelled : (word line : List ℕ) (found : Option (List ℕ)) (read : List ℕ → Option Happening)
-    (others : Option Happening) → IfSome found (λ text. line ≡ word ++ text)
+or-spelled : (word line : List ℕ) (found : Option (List ℕ)) (read : List ℕ → Option EventView)
+    (others : Option EventView) → IfSome found (λ text. line ≡ word ++ text)
     → ((text : List ℕ) → line ≡ word ++ text → IfSome (read text) (IsRecord line))
     → IfSome others (IsRecord line) → IfSome (or_others found read others) (IsRecord line)
 or-spelled word line None read others is first second = second
@@ -196,17 +197,17 @@ pub record-spelled : (line : List ℕ) → length line < 2 ^ 32 → IfSome (reco
 record-spelled line small =
     or-spelled (codes "reset ") line (behind_word (codes "reset ") line) (λ text. option_map Reset (kind_in text))
     _ (word-follows (codes "reset ") line) (reset-spelled line)
-    (or-spelled (codes "cut ") line (behind_word (codes "cut ") line) cut_in
+    (or-spelled (codes "cut ") line (behind_word (codes "cut ") line) cut_in_text
     _ (word-follows (codes "cut ") line) (cut-spelled line)
-    (or-spelled (codes "command ") line (behind_word (codes "command ") line) command_in
+    (or-spelled (codes "command ") line (behind_word (codes "command ") line) command_in_text
     _ (word-follows (codes "command ") line) (λ text. command-spelled line text small)
     (or-spelled (codes "uf2 ") line (behind_word (codes "uf2 ") line) (λ text. option_map Uf2 (array_in 512 text))
     _ (word-follows (codes "uf2 ") line) (uf2-spelled line) (single-spelled line))))
 
-pub record-of : (line : List ℕ) (e : Happening) → length line < 2 ^ 32 → record_in line ≡ Some e → IsRecord line e
+pub record-of : (line : List ℕ) (e : EventView) → length line < 2 ^ 32 → record_in line ≡ Some e → IsRecord line e
 record-of line e small is = some-of (IsRecord line) (record_in line) e is (record-spelled line small)
 
-pattern-of : (e : Happening) → IsEvent e → HasPattern e
+pattern-of : (e : EventView) → IsEvent e → HasPattern e
 pattern-of End event = tt
 pattern-of (Command command payload) event = tt
 pattern-of (Uf2 block) event = tt
@@ -215,7 +216,7 @@ pattern-of PowerOn event = tt
 pattern-of (Reset kind) event = tt
 pattern-of Buy event = tt
 
-pub record-pattern : (line : List ℕ) (e : Happening) → length line < 2 ^ 32 → record_in line ≡ Some e → HasPattern e
+pub record-pattern : (line : List ℕ) (e : EventView) → length line < 2 ^ 32 → record_in line ≡ Some e → HasPattern e
 record-pattern line e small is = pattern-of e (record-of line e small is).event
 
 -- ---- a record's line is read back
@@ -229,21 +230,21 @@ kind-back Bootsel small = refl
 kind-back (Update base) small = update-back base small
 
 cut-back : (left : ℕ) (text : List ℕ) → left < 2 ^ 32
-    → cut_in (decimal left ++ (32 ∷ text)) ≡ part_in left text
+    → cut_in_text (decimal left ++ (32 ∷ text)) ≡ cut_part_in left text
 cut-back left text small =
-    let free = decimal-words 32 left (omega arith) (omega arith) in
+    let free = decimal-free 32 left (omega arith) (omega arith) in
     rw (mark-before 32 (decimal left) text free, mark-behind 32 (decimal left) text free, number-back left small) refl
 
 within-back : (left : ℕ) (pattern : List ℕ) → 1 ≤ length pattern → length pattern ≤ 4096 → IsBytes pattern
-    → part_in left (codes "within " ++ encode_lower pattern) ≡ Some (Cut left true pattern)
+    → cut_part_in left (codes "within " ++ encode_lower pattern) ≡ Some (Cut left true pattern)
 within-back left pattern some few are =
     rw (bytes-back pattern are, le-leb 1 (length pattern) some, le-leb (length pattern) 4096 few) refl
 
 some-back : (payload : List ℕ) → 1 ≤ length payload → IsBytes payload
-    → payload_in (codes " " ++ encode_lower payload) ≡ Some payload
+    → payload_in_text (codes " " ++ encode_lower payload) ≡ Some payload
 some-back payload some are = rw (bytes-back payload are, le-leb 1 (length payload) some) refl
 
-payload-back : (payload : List ℕ) → IsBytes payload → payload_in (payload_text payload) ≡ Some payload
+payload-back : (payload : List ℕ) → IsBytes payload → payload_in_text (payload_text payload) ≡ Some payload
 payload-back [] are = refl
 payload-back (b ∷ payload) are = some-back (b ∷ payload) (omega arith) are
 
@@ -254,23 +255,24 @@ front-drop : (n : ℕ) (front rest : List ℕ) → length front ≡ n → drop n
 front-drop n front rest long = subst (λ m. drop m (front ++ rest) ≡ rest) long (drop-append_seam front rest)
 
 command-parts : (front rest : List ℕ) → length front ≡ 64
-    → command_in (front ++ rest) ≡ command_of (array_in 32 front) (payload_in rest)
+    → command_in_text (front ++ rest) ≡ command_of_bytes (array_in 32 front) (payload_in_text rest)
 command-parts front rest long =
     let enough = le-ltb (length (front ++ rest)) 64 (omega (arith, length-append front rest)) in
     ap (λ t. if t then None
-    else command_of (array_in 32 (take 64 (front ++ rest))) (payload_in (drop 64 (front ++ rest)))) enough
-    ∙ ap (λ t. command_of (array_in 32 t) (payload_in (drop 64 (front ++ rest)))) (front-take 64 front rest long)
-    ∙ ap (λ t. command_of (array_in 32 front) (payload_in t)) (front-drop 64 front rest long)
+    else command_of_bytes (array_in 32 (take 64 (front ++ rest))) (payload_in_text (drop 64 (front ++ rest)))) enough
+    ∙ ap (λ t. command_of_bytes (array_in 32 t) (payload_in_text (drop 64 (front ++ rest))))
+    (front-take 64 front rest long)
+    ∙ ap (λ t. command_of_bytes (array_in 32 front) (payload_in_text t)) (front-drop 64 front rest long)
 
 command-back : (command payload : List ℕ) → length command ≡ 32 → IsBytes command → IsBytes payload
-    → command_in (encode_lower command ++ payload_text payload) ≡ Some (Command command payload)
+    → command_in_text (encode_lower command ++ payload_text payload) ≡ Some (Command command payload)
 command-back command payload size are payload_are =
     command-parts (encode_lower command) (payload_text payload)
     (omega (arith, size, length-encode_with lower_digits command))
-    ∙ ap (λ o. command_of o (payload_in (payload_text payload))) (array-back 32 command size are)
-    ∙ ap (λ o. command_of (Some command) o) (payload-back payload payload_are)
+    ∙ ap (λ o. command_of_bytes o (payload_in_text (payload_text payload))) (array-back 32 command size are)
+    ∙ ap (λ o. command_of_bytes (Some command) o) (payload-back payload payload_are)
 
-pub record-back : (e : Happening) → IsEvent e → record_in (line_of e) ≡ Some e
+pub record-back : (e : EventView) → IsEvent e → record_in (record_line e) ≡ Some e
 record-back End event = refl
 record-back (Command command payload) event =
     command-back command payload event.well.0 event.bytes.0 event.bytes.1

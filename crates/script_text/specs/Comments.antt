@@ -1,8 +1,7 @@
--- What the comment above a record says of it. This project's own.
-use Rattle.std.specs.Prelude.{ℕ, ◌^◌, ◌-◌, ◌==◌, ◌&&◌, ◌||◌, false, if◌then◌else◌, List, [], ◌∷◌, ◌++◌, Option, Some, None, Result, Ok, Err, drop, slice_index, codes, decimal}
-use Rattle.std.specs.Fmt.{digits, padded_integral, format_spec}
+-- What the comment above a record says of it.
+use Rattle.std.specs.Prelude.{ℕ, ◌==◌, ◌&&◌, ◌||◌, if◌then◌else◌, List, ◌++◌, Option, Some, None, Result, Ok, Err, drop, slice_index, codes, decimal}
 use Rattle.byteorder.specs.Endian.{little_number}
-use Rattle.hex.specs.Hex.{encode_lower}
+use Rattle.text_words.specs.Writing.{hex_byte, hex_row, hex_word}
 use Rattle.picoboot_cmd.specs.declared.cmd.Cmd.{Cmd}
 use Rattle.picoboot_cmd.specs.declared.cmd.CmdFault.{CmdFault}
 use Rattle.picoboot_cmd.specs.declared.cmd.CmdFault.TheVariants as cmd_fault
@@ -14,26 +13,15 @@ use Rattle.uf2_place.specs.declared.block.Uf2.{Uf2 as Block}
 use Rattle.uf2_place.specs.declared.block.Uf2Fault.{Uf2Fault}
 use Rattle.uf2_place.specs.declared.block.Uf2Fault.TheVariants.{Magic, Payload, Alignment, Number}
 use Rattle.uf2_place.specs.Blocks.{uf2_of}
-use Rattle.boot_script.specs.Events.{Happening, Command, Uf2}
-use Rattle.script_text.specs.Lines.{hex_word}
-
--- a byte as 0x and two digits
-abbrev pub hex_byte : ℕ → List ℕ
-hex_byte n = codes "0x" ++ encode_lower (n ∷ [])
-
--- the number of an OTP row as 0x and at least three digits
-abbrev pub hex_row : ℕ → List ℕ
-hex_row n =
-    codes "0x"
-    ++ padded_integral (format_spec 32 0 4 3 (2 ^ 64 - 1)) false [] (digits 16 false n)
+use Rattle.boot_script.specs.Events.{EventView, Command, Uf2}
 
 -- a start and a size
-abbrev pub span_text : ℕ → ℕ → List ℕ
-span_text start size = hex_word start ++ (codes "+" ++ hex_word size)
+abbrev pub start_and_size_text : ℕ → ℕ → List ℕ
+start_and_size_text start size = hex_word start ++ (codes "+" ++ hex_word size)
 
 -- the range of an erase, a read or a write
 abbrev pub range_text : Cmd → List ℕ
-range_text cmd = span_text (address cmd) (size cmd)
+range_text cmd = start_and_size_text (address cmd) (size cmd)
 
 -- the rows of an OTP read or write, and the byte by which error correction is asked for
 abbrev pub rows_text : Cmd → List ℕ
@@ -50,7 +38,7 @@ reboot_text cmd =
     else if reboot_flags cmd == 4 || reboot_flags cmd == 0x104 then
     codes "update=" ++ hex_word (reboot_p0 cmd)
     else if reboot_flags cmd == 3 || reboot_flags cmd == 0x103 then
-    codes "ram=" ++ span_text (reboot_p0 cmd) (reboot_p1 cmd)
+    codes "ram=" ++ start_and_size_text (reboot_p0 cmd) (reboot_p1 cmd)
     else codes "flags=" ++ hex_word (reboot_flags cmd)
 
 -- what an info command asks for: its kind is its first argument byte, and its argument the second
@@ -90,15 +78,20 @@ read_command_text (Err cmd_fault.Magic) = codes "command bad-magic"
 unfoldable pub command_text : List ℕ → List ℕ
 command_text command = read_command_text (command_in command)
 
+-- the numbers of a UF2 block: which one it is, of how many
+unfoldable pub uf2_counts : ℕ → ℕ → List ℕ
+uf2_counts number count =
+    codes "uf2 number=" ++ (decimal number ++ (codes " count=" ++ decimal count))
+
+-- where a UF2 block goes: its address and its family
+unfoldable pub uf2_target : ℕ → ℕ → List ℕ
+uf2_target address family =
+    codes " address=" ++ (hex_word address ++ (codes " family=" ++ hex_word family))
+
 -- a UF2 block, or its first fault
 abbrev pub read_uf2_text : Result Block Uf2Fault → List ℕ
 read_uf2_text (Ok block) =
-    codes "uf2 number="
-    ++ (decimal block.number
-    ++ (codes " count="
-    ++ (decimal block.count
-    ++ (codes " address="
-    ++ (hex_word block.address ++ (codes " family=" ++ hex_word block.family))))))
+    uf2_counts block.number block.count ++ uf2_target block.address block.family
 read_uf2_text (Err Magic) = codes "uf2 bad magic"
 read_uf2_text (Err Payload) = codes "uf2 bad payload"
 read_uf2_text (Err Alignment) = codes "uf2 bad alignment"
@@ -110,7 +103,7 @@ uf2_text block = read_uf2_text (uf2_of block)
 
 -- commands and UF2 blocks have a comment; it says nothing of a transfer length, of a payload, and
 -- of what stands where an address points
-abbrev pub note_of : Happening → Option (List ℕ)
+abbrev pub note_of : EventView → Option (List ℕ)
 note_of (Command command payload) = Some (command_text command)
 note_of (Uf2 block) = Some (uf2_text block)
 note_of _ = None

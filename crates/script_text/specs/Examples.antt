@@ -1,18 +1,18 @@
--- What the worked examples speak of. This project's own.
+-- What the worked examples speak of.
 use Rattle.std.specs.Prelude.{ℕ, List, [], ◌∷◌, ◌++◌, replicate, Result, Ok}
 use Rattle.byteorder.specs.Endian.{little_bytes}
 use Rattle.picoboot_cmd.specs.Commands as commands
 use Rattle.picoboot_cmd.specs.Examples.{command}
 use Rattle.info_reply.specs.declared.kinds.TheConstants.{INFO}
 use Rattle.uf2_place.specs.declared.block.TheConstants.{SECOND, END}
-use Rattle.boot_script.specs.Events.{Happening, Buy}
+use Rattle.boot_script.specs.Events.{EventView, Buy}
 use Rattle.script_text.specs.declared.script.TextError.{TextError}
 use Rattle.script_text.specs.Comments.{command_text, uf2_text}
 use Rattle.script_text.specs.Reading.{add_event}
 
 -- the comment of a command with token 1
 abbrev pub note : ℕ → ℕ → List ℕ → List ℕ
-note id arg_size args = command_text (commands.written (command id arg_size 0 args))
+note id arg_size args = command_text (commands.written_command (command id arg_size 0 args))
 
 -- the comment of an info command
 abbrev pub info_note : ℕ → ℕ → List ℕ
@@ -40,5 +40,5 @@ block_note magic payload address number count = uf2_text (
 
 -- what is read of a buy, which has one byte, behind so many records with so many bytes, where no
 -- line follows
-abbrev pub buy_behind : ℕ → ℕ → Result (List Happening) TextError
+abbrev pub buy_behind : ℕ → ℕ → Result (List EventView) TextError
 buy_behind count size = add_event count size Buy (Ok [])

@@ -1,8 +1,8 @@
 //! What the comment above a record says of it.
 
 ghost use Rattle.std.specs.Prelude.{◌≡◌, IfOk, string_bytes};
-ghost use Rattle.script_text.specs.Lines.{hex_word};
-ghost use Rattle.script_text.specs.Comments.{action_text, command_text, hex_byte, info_text, range_text, reboot_text, rows_text, span_text, uf2_text};
+ghost use Rattle.text_words.specs.Writing.{hex_word};
+ghost use Rattle.script_text.specs.Comments.{action_text, command_text, info_text, range_text, reboot_text, rows_text, start_and_size_text, uf2_counts, uf2_target, uf2_text};
 
 use byteorder::{ByteOrder, LittleEndian};
 use info_reply::kinds::{DEVICE, INFO, INFO_SIZE, PARTITION, TABLE, TARGET};
@@ -11,28 +11,19 @@ use picoboot_cmd::kinds::{
 };
 use picoboot_cmd::{Cmd, read_cmd};
 use std::alloc::{AllocError, Global};
+use text_words::hex_text;
 use uf2_place::{Uf2Fault, read_uf2};
 
 /// A number as 0x and eight digits.
-#[tactic(auto, unfolding(crate::specs::Lines::hex_word))]
 pub fn word_text(alloc: Global, n: u32) -> Result<String, AllocError>
     ensures { IfOk result (λ t. string_bytes t ≡ hex_word n) }
 {
-    let digits = hex::encode(alloc, n.to_be_bytes())?;
-    format!(in alloc; "0x{digits}")
-}
-
-/// A byte as 0x and two digits.
-fn byte_text(alloc: Global, n: u8) -> Result<String, AllocError>
-    ensures { IfOk result (λ t. string_bytes t ≡ hex_byte n) }
-{
-    let digits = hex::encode(alloc, [n])?;
-    format!(in alloc; "0x{digits}")
+    hex_text(alloc, u64::from(n))
 }
 
 /// A start and a size.
-fn span_text(alloc: Global, start: u32, size: u32) -> Result<String, AllocError>
-    ensures { IfOk result (λ t. string_bytes t ≡ span_text start size) }
+fn start_and_size_text(alloc: Global, start: u32, size: u32) -> Result<String, AllocError>
+    ensures { IfOk result (λ t. string_bytes t ≡ start_and_size_text start size) }
 {
     let start = word_text(alloc, start)?;
     let size = word_text(alloc, size)?;
@@ -43,7 +34,7 @@ fn span_text(alloc: Global, start: u32, size: u32) -> Result<String, AllocError>
 fn range_text(alloc: Global, cmd: &Cmd) -> Result<String, AllocError>
     ensures { IfOk result (λ t. string_bytes t ≡ range_text cmd.now) }
 {
-    span_text(alloc, cmd.address(), cmd.size())
+    start_and_size_text(alloc, cmd.address(), cmd.size())
 }
 
 /// The rows of an OTP read or write, and the byte by which error correction is asked for.
@@ -68,7 +59,7 @@ fn reboot_text(alloc: Global, cmd: &Cmd) -> Result<String, AllocError>
             format!(in alloc; "update={base}")
         }
         3 | 0x103 => {
-            let range = span_text(alloc, cmd.reboot_p0(), cmd.reboot_p1())?;
+            let range = start_and_size_text(alloc, cmd.reboot_p0(), cmd.reboot_p1())?;
             format!(in alloc; "ram={range}")
         }
         flags => {
@@ -133,10 +124,7 @@ fn action_text(alloc: Global, cmd: &Cmd) -> Result<String, AllocError>
             let asked = info_text(alloc, cmd.args[0], LittleEndian::read_u32(&cmd.args[4..]))?;
             format!(in alloc; "info {asked}")
         }
-        (id, _) => {
-            let id = byte_text(alloc, id)?;
-            format!(in alloc; "command {id}")
-        }
+        (id, _) => format!(in alloc; "command 0x{id:02x}"),
     }
 }
 
@@ -155,6 +143,24 @@ pub fn command_text(alloc: Global, command: &[u8; 32]) -> Result<String, AllocEr
     }
 }
 
+/// The numbers of a UF2 block: which one it is, of how many.
+#[tactic(auto, unfolding(crate::specs::Comments::uf2_counts))]
+fn uf2_counts(alloc: Global, number: u32, count: u32) -> Result<String, AllocError>
+    ensures { IfOk result (λ t. string_bytes t ≡ uf2_counts number count) }
+{
+    format!(in alloc; "uf2 number={number} count={count}")
+}
+
+/// Where a UF2 block goes: its address and its family.
+#[tactic(auto, unfolding(crate::specs::Comments::uf2_target))]
+fn uf2_target(alloc: Global, address: u32, family: u32) -> Result<String, AllocError>
+    ensures { IfOk result (λ t. string_bytes t ≡ uf2_target address family) }
+{
+    let address = word_text(alloc, address)?;
+    let family = word_text(alloc, family)?;
+    format!(in alloc; " address={address} family={family}")
+}
+
 /// What the 512 bytes of a UF2 block are.
 #[tactic(auto, unfolding(crate::specs::Comments::uf2_text))]
 pub fn uf2_text(alloc: Global, block: &[u8; 512]) -> Result<String, AllocError>
@@ -162,11 +168,9 @@ pub fn uf2_text(alloc: Global, block: &[u8; 512]) -> Result<String, AllocError>
 {
     match read_uf2(block) {
         Ok(block) => {
-            let number = block.number;
-            let count = block.count;
-            let address = word_text(alloc, block.address)?;
-            let family = word_text(alloc, block.family)?;
-            format!(in alloc; "uf2 number={number} count={count} address={address} family={family}")
+            let numbers = uf2_counts(alloc, block.number, block.count)?;
+            let place = uf2_target(alloc, block.address, block.family)?;
+            format!(in alloc; "{numbers}{place}")
         }
         Err(Uf2Fault::Magic) => format!(in alloc; "uf2 bad magic"),
         Err(Uf2Fault::Payload) => format!(in alloc; "uf2 bad payload"),

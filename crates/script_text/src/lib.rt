@@ -15,4 +15,4 @@ mod words;
 
 pub use listing::list_text;
 pub use reading::read_text;
-pub use script::{MOST_RECORDS, SCRIPT_LIMIT, TEXT_LIMIT, TextError, TextScript};
+pub use script::{TEXT_LIMIT, TextError, TextScript};

@@ -3,13 +3,14 @@
 ghost use Rattle.std.specs.Prelude.{◌≡◌, ◌<◌, ◌≤◌, IfOk, length, option_map};
 ghost use Rattle.boot_script.specs.Events.{Cut, Reset, Uf2};
 ghost use Rattle.script_text.specs.Reading.{is_passed};
-ghost use Rattle.script_text.specs.Records.{command_in, cut_in, kind_in, part_in, payload_in, record_from, record_in, word_record};
-ghost use Rattle.script_text.specs.Words.{array_in};
+ghost use Rattle.script_text.specs.Records.{command_in_text, cut_in_text, kind_in, cut_part_in, payload_in_text, record_from, record_in, word_record};
+ghost use Rattle.text_words.specs.Reading.{array_in};
 
 use crate::record::Record;
-use crate::words::{behind_word, cut_at, read_array, read_bytes, read_number, read_word};
+use crate::words::cut_at;
 use pico_board::BootKind;
 use std::alloc::{AllocError, Global};
+use text_words::{behind_word, read_array, read_bytes, read_number, read_word};
 
 /// Whether a line is passed over: it is empty or begins with `#`.
 pub fn is_passed(line: &[u8]) -> bool
@@ -44,7 +45,7 @@ fn read_reset(text: &[u8]) -> Option<Record>
 
 /// The part of a cut, behind its number.
 fn read_part(alloc: Global, left: u32, text: &[u8]) -> Result<Option<Record>, AllocError>
-    ensures { IfOk result (λ found. option_map record_from found ≡ part_in left text.now) }
+    ensures { IfOk result (λ found. option_map record_from found ≡ cut_part_in left text.now) }
 {
     if text == b"before".as_slice() {
         return Ok(Some(Record::Cut(left, false, Vec::new(alloc))));
@@ -63,7 +64,7 @@ fn read_part(alloc: Global, left: u32, text: &[u8]) -> Result<Option<Record>, Al
 
 /// The record of a cut, behind its first word.
 fn read_cut(alloc: Global, text: &[u8]) -> Result<Option<Record>, AllocError>
-    ensures { IfOk result (λ found. option_map record_from found ≡ cut_in text.now) }
+    ensures { IfOk result (λ found. option_map record_from found ≡ cut_in_text text.now) }
 {
     let (number, part) = cut_at(b' ', text);
     let Some(left) = read_number(number) else {
@@ -77,7 +78,8 @@ fn read_cut(alloc: Global, text: &[u8]) -> Result<Option<Record>, AllocError>
 
 /// The payload behind a command's digits: none, or behind a blank its digits.
 fn read_payload(alloc: Global, text: &[u8]) -> Result<Option<Vec<u8>>, AllocError>
-    ensures { IfOk result (λ found. option_map (λ bytes. bytes.items) found ≡ payload_in text.now) }
+    ensures { IfOk result (λ found. option_map (λ bytes. bytes.items) found
+        ≡ payload_in_text text.now) }
 {
     let Some((blank, digits)) = text.split_first() else {
         return Ok(Some(Vec::new(alloc)));
@@ -93,7 +95,7 @@ fn read_payload(alloc: Global, text: &[u8]) -> Result<Option<Vec<u8>>, AllocErro
 
 /// The record of a command, behind its first word.
 fn read_command(alloc: Global, text: &[u8]) -> Result<Option<Record>, AllocError>
-    ensures { IfOk result (λ found. option_map record_from found ≡ command_in text.now) }
+    ensures { IfOk result (λ found. option_map record_from found ≡ command_in_text text.now) }
 {
     if text.len() < 64 {
         return Ok(None);

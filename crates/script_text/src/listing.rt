@@ -1,16 +1,16 @@
 //! A script as a text.
 
-ghost use Rattle.std.specs.Prelude.{◌≡◌, ◌+◌, ◌<◌, ◌≤◌, ◌++◌, ◌^◌, ℕ, List, Ok, IfOk, OnOk, codes, decimal, length, string_bytes};
+ghost use Rattle.std.specs.Prelude.{◌≡◌, ◌++◌, IfOk, OnOk, codes, decimal, string_bytes};
 ghost use Rattle.hex.specs.Hex.{encode_lower};
-ghost use Rattle.boot_script.specs.Events.{Command, Cut, Happening, Reset, event_from};
-ghost use Rattle.boot_script.specs.Scripts.{events};
-ghost use Rattle.script_text.specs.Lines.{line_of, reset_text};
+ghost use Rattle.boot_script.specs.Events.{Command, Cut, Reset, event_from};
+ghost use Rattle.boot_script.specs.Scripts.{script_events};
+ghost use Rattle.script_text.specs.Lines.{record_line, reset_text};
 ghost use Rattle.script_text.specs.Comments.{note_of};
-ghost use Rattle.script_text.specs.Listing.{comment_of, comment_text, event_lines, fed, listed};
+ghost use Rattle.text_words.specs.Writing.{line};
+ghost use Rattle.script_text.specs.Listing.{comment_of, comment_text, listed_event, listed};
 
 use crate::comments::{command_text, uf2_text, word_text};
-use crate::record::is_end;
-use boot_script::{Event, next_event};
+use boot_script::{Event, Script};
 use pico_board::BootKind;
 use std::alloc::{AllocError, Global};
 
@@ -32,7 +32,7 @@ fn push_command(
     text: &mut String,
 ) -> Result<(), AllocError>
     ensures { OnOk result (string_bytes text.new
-        ≡ string_bytes text.old ++ line_of (Command command.now payload.now)) }
+        ≡ string_bytes text.old ++ record_line (Command command.now payload.now)) }
 {
     push_bytes(alloc, "command ", command.as_slice(), text)?;
     if payload.is_empty() {
@@ -51,7 +51,7 @@ fn push_cut(
     text: &mut String,
 ) -> Result<(), AllocError>
     ensures { OnOk result (string_bytes text.new
-        ≡ string_bytes text.old ++ line_of (Cut left within pattern.now)) }
+        ≡ string_bytes text.old ++ record_line (Cut left within pattern.now)) }
 {
     let cut = format!(in alloc; "cut {left}")?;
     text.push_str(&cut)?;
@@ -79,7 +79,7 @@ fn reset_text(alloc: Global, kind: BootKind) -> Result<String, AllocError>
 /// Appends the line of a reset.
 fn push_reset(alloc: Global, kind: BootKind, text: &mut String) -> Result<(), AllocError>
     ensures { OnOk result (string_bytes text.new
-        ≡ string_bytes text.old ++ line_of (Reset kind)) }
+        ≡ string_bytes text.old ++ record_line (Reset kind)) }
 {
     let kind = reset_text(alloc, kind)?;
     text.push_str("reset ")?;
@@ -89,7 +89,7 @@ fn push_reset(alloc: Global, kind: BootKind, text: &mut String) -> Result<(), Al
 /// Appends the line of an event, without its line feed.
 fn push_line(alloc: Global, event: &Event<'_>, text: &mut String) -> Result<(), AllocError>
     ensures { OnOk result (string_bytes text.new
-        ≡ string_bytes text.old ++ line_of (event_from event.now)) }
+        ≡ string_bytes text.old ++ record_line (event_from event.now)) }
 {
     match event {
         Event::End => text.push_str("end"),
@@ -105,7 +105,7 @@ fn push_line(alloc: Global, event: &Event<'_>, text: &mut String) -> Result<(), 
 /// Appends a comment.
 fn push_note(alloc: Global, number: u32, note: &str, text: &mut String) -> Result<(), AllocError>
     ensures { OnOk result (string_bytes text.new
-        ≡ string_bytes text.old ++ fed (comment_text number note.now)) }
+        ≡ string_bytes text.old ++ line (comment_text number note.now)) }
 {
     let comment = format!(in alloc; "# {number} {note}\n")?;
     text.push_str(&comment)
@@ -142,33 +142,24 @@ fn push_event(
     text: &mut String,
 ) -> Result<(), AllocError>
     ensures { OnOk result (string_bytes text.new
-        ≡ string_bytes text.old ++ event_lines number (event_from event.now)) }
+        ≡ string_bytes text.old ++ listed_event number (event_from event.now)) }
 {
     push_comment(alloc, number, event, text)?;
     push_line(alloc, event, text)?;
     text.push_str("\n")
 }
 
-/// The text of a script, which has to be read without a fault. It fails only where memory is out.
-pub fn list_text(alloc: Global, script: &[u8]) -> Result<String, AllocError>
-    requires short { length script.now ≤ 2 ^ 26 }
-    requires read { (es : List Happening) × (events script.now ≡ Ok es) }
-    ensures { IfOk result (λ text. (es : List Happening) → events script.now ≡ Ok es
-        → string_bytes text ≡ listed es) }
+/// The text of a script. It fails only where memory is out.
+pub fn list_text(alloc: Global, script: &Script<'_>) -> Result<String, AllocError>
+    ensures { IfOk result
+        (λ text. string_bytes text ≡ listed (script_events script.now.bytes.now)) }
 {
     let mut text = String::new(alloc);
-    let mut at = 0;
-    for number in 0..script.len() as u32 + 1 {
-        let (event, next) = match next_event(script, at) {
-            Ok(read) => read,
-            Err(_) => unreachable!(),
-        };
-        if is_end(&event) {
-            text.push_str("end\n")?;
-            return Ok(text);
-        }
+    let mut number = 0;
+    for event in script.events() {
         push_event(alloc, number, &event, &mut text)?;
-        at = next;
+        number += 1;
     }
-    unreachable!()
+    text.push_str("end\n")?;
+    Ok(text)
 }

@@ -1,38 +1,38 @@
 //! A script from a text.
 
 ghost use Rattle.std.specs.Prelude.{◌≡◌, ◌≢◌, ◌+◌, ◌^◌, ◌<◌, ◌≤◌, ℕ, List, [], ◌∷◌, Result, Err, IfErr, IfOk, Ok, OnOk, false, length, true};
-ghost use Rattle.boot_script.specs.Events.{End, Happening, event_from};
-ghost use Rattle.boot_script.specs.Scripts.{events};
-ghost use Rattle.script_text.specs.declared.script.TheConstants.{SCRIPT_LIMIT, TEXT_LIMIT};
+ghost use Rattle.boot_script.specs.Events.{End, EventView, event_from};
+ghost use Rattle.boot_script.specs.Judging.{IsScript};
+ghost use Rattle.script_text.specs.declared.script.TheConstants.{TEXT_LIMIT};
 ghost use Rattle.script_text.specs.declared.script.TextError.{TextError};
-ghost use Rattle.script_text.specs.Meaning.{IsFault, IsScriptOf};
-ghost use Rattle.script_text.specs.Reading.{Adds, HasPattern, HasRoom, IsAdded, add_event, lines_of, read_behind, with_events};
+ghost use Rattle.script_text.specs.Meaning.{IsScriptTextFault, IsScriptOf};
+ghost use Rattle.script_text.specs.Reading.{Adds, HasPattern, HasRoomForEnd, IsAdded, add_event, lines_of, read_behind, with_events};
 
 use crate::lines::{is_passed, read_record};
-use crate::record::{Record, is_end, size};
-use crate::script::{MOST_RECORDS, SCRIPT_LIMIT, TextError, TextScript};
+use crate::record::Record;
+use crate::script::{MOST_RECORDS, TextError, TextScript};
 use crate::words::cut_at;
-use boot_script::{Event, write_event};
+use boot_script::{Event, SCRIPT_LIMIT, write_event};
 use std::alloc::{AllocError, Global};
 
 /// Appends an event that is no end.
 fn add_event(alloc: Global, event: &Event<'_>, script: &mut TextScript) -> Result<(), TextError>
-    requires room { HasRoom script.old }
+    requires room { HasRoomForEnd script.old }
     requires pattern { HasPattern (event_from event.now) }
     ensures added { OnOk result (Adds script.old script.new (event_from event.now ∷ [])) }
-    ensures room { OnOk result (HasRoom script.new) }
-    ensures ok { OnOk result ((others : Result (List Happening) TextError)
+    ensures room { OnOk result (HasRoomForEnd script.new) }
+    ensures ok { OnOk result ((others : Result (List EventView) TextError)
         → add_event script.old.records (length script.old.bytes.items) (event_from event.now) others
         ≡ with_events (event_from event.now ∷ []) others) }
     ensures err { IfErr result (λ fault. fault ≢ TextError.Memory
-        → (others : Result (List Happening) TextError)
+        → (others : Result (List EventView) TextError)
         → add_event script.old.records (length script.old.bytes.items) (event_from event.now) others
         ≡ Err fault) }
 {
     if script.records >= MOST_RECORDS {
         return Err(TextError::TooMany);
     }
-    if size(event) >= SCRIPT_LIMIT as usize - script.bytes.len() {
+    if event.size() >= SCRIPT_LIMIT as usize - script.bytes.len() {
         return Err(TextError::TooLong);
     }
     script.records += 1;
@@ -50,9 +50,9 @@ fn add_line(
     line: &[u8],
     script: &mut TextScript,
 ) -> Result<bool, TextError>
-    requires room { HasRoom script.old }
+    requires room { HasRoomForEnd script.old }
     requires short { length line.now < 2 ^ 32 }
-    ensures room { OnOk result (HasRoom script.new) }
+    ensures room { OnOk result (HasRoomForEnd script.new) }
     ensures end { IfOk result (λ ended. ended ≡ true → (script.new ≡ script.old)
         × ((lines : List (List ℕ)) → read_behind number script.old (line.now ∷ lines) ≡ Ok [])) }
     ensures more { IfOk result (λ ended. ended ≡ false
@@ -69,7 +69,7 @@ fn add_line(
         Err(_) => return Err(TextError::Memory),
     };
     let event = record.event();
-    if is_end(&event) {
+    if event.is_end() {
         return Ok(true);
     }
     add_event(alloc, &event, script)?;
@@ -78,10 +78,10 @@ fn add_line(
 
 /// Appends the records of a text up to its end.
 fn add_lines(alloc: Global, text: &[u8], script: &mut TextScript) -> Result<(), TextError>
-    requires room { HasRoom script.old }
+    requires room { HasRoomForEnd script.old }
     requires few { length text.now ≤ TEXT_LIMIT }
-    ensures room { OnOk result (HasRoom script.new) }
-    ensures ok { OnOk result ((es : List Happening) × Adds script.old script.new es
+    ensures room { OnOk result (HasRoomForEnd script.new) }
+    ensures ok { OnOk result ((es : List EventView) × Adds script.old script.new es
         × (read_behind 1 script.old (lines_of text.now) ≡ Ok es)) }
     ensures err { IfErr result (λ fault. fault ≢ TextError.Memory
         → read_behind 1 script.old (lines_of text.now) ≡ Err fault) }
@@ -105,7 +105,7 @@ fn add_lines(alloc: Global, text: &[u8], script: &mut TextScript) -> Result<(), 
 
 /// Appends the end.
 fn add_end(alloc: Global, script: &mut TextScript) -> Result<(), AllocError>
-    requires { HasRoom script.old }
+    requires { HasRoomForEnd script.old }
     ensures { OnOk result (Adds script.old script.new (End ∷ [])) }
 {
     script.records += 1;
@@ -116,10 +116,9 @@ fn add_end(alloc: Global, script: &mut TextScript) -> Result<(), AllocError>
 pub fn read_text(alloc: Global, text: &[u8]) -> Result<TextScript, TextError>
     requires { length text.now ≤ TEXT_LIMIT }
     ensures ok { IfOk result (IsScriptOf text.now) }
-    ensures events { IfOk result (λ script.
-        (es : List Happening) × (events script.bytes.items ≡ Ok es)) }
-    ensures short { IfOk result (λ script. length script.bytes.items ≤ SCRIPT_LIMIT) }
-    ensures err { IfErr result (λ fault. fault ≢ TextError.Memory → IsFault text.now fault) }
+    ensures script { IfOk result (λ script. IsScript script.bytes.items) }
+    ensures err { IfErr result (λ fault. fault ≢ TextError.Memory
+        → IsScriptTextFault text.now fault) }
 {
     let mut script = TextScript {
         bytes: Vec::new(alloc),

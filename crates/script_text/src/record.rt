@@ -1,9 +1,7 @@
 //! A record that was read of a line.
 
-ghost use Rattle.std.specs.Prelude.{◌≡◌, length};
+ghost use Rattle.std.specs.Prelude.{◌≡◌};
 ghost use Rattle.boot_script.specs.Events.{event_from};
-ghost use Rattle.boot_script.specs.Scripts.{is_end};
-ghost use Rattle.boot_script.specs.Written.{written};
 ghost use Rattle.script_text.specs.Records.{record_from};
 
 use boot_script::Event;
@@ -42,41 +40,5 @@ impl Record {
             Record::Reset(kind) => Event::Reset(*kind),
             Record::Buy => Event::Buy,
         }
-    }
-}
-
-/// All the bytes of an array.
-fn whole<const N: usize>(array: &[u8; N]) -> &[u8]
-    ensures value { result.now ≡ array.now }
-    ensures size { length array.now ≡ N }
-{
-    array
-}
-
-/// The number of bytes of an event in a script.
-pub fn size(event: &Event<'_>) -> usize
-    ensures { result ≡ length (written (event_from event.now)) }
-{
-    match event {
-        Event::End | Event::PowerOn | Event::Buy => 1,
-        Event::Command(command, payload) => 5 + whole(command).len() + payload.len(),
-        Event::Uf2(block) => 1 + whole(block).len(),
-        Event::Cut(_, _, pattern) => 8 + pattern.len(),
-        Event::Reset(_) => 6,
-    }
-}
-
-/// Whether a script ends with the event.
-pub fn is_end(event: &Event<'_>) -> bool
-    ensures { result ≡ is_end (event_from event.now) }
-{
-    match event {
-        Event::End => true,
-        Event::Command(..)
-        | Event::Uf2(_)
-        | Event::Cut(..)
-        | Event::PowerOn
-        | Event::Reset(_)
-        | Event::Buy => false,
     }
 }

@@ -1,20 +1,19 @@
 //! What is read of a text, and why a text is not read.
 
+use boot_script::RECORD_LIMIT;
 use thiserror::Error;
 
 /// The greatest text, in bytes: three times the greatest script, which no listed text passes.
 pub const TEXT_LIMIT: u32 = 201_326_592;
 /// The most records of a script before its end.
-pub const MOST_RECORDS: u32 = 524_287;
-/// The greatest script, in bytes.
-pub const SCRIPT_LIMIT: u32 = 67_108_864;
+pub const MOST_RECORDS: u32 = RECORD_LIMIT - 1;
 
 /// The script of a text.
 #[derive(Drop)]
 pub struct TextScript {
-    /// Its bytes.
+    /// The bytes of the script.
     pub bytes: Vec<u8>,
-    /// The number of its records, with its end.
+    /// The number of the script's records, with its end.
     pub records: u32,
 }
 

@@ -60,7 +60,7 @@ pub still_out : (pool : Pool) (j k : ℕ) → slice_get pool.out j ≡ Some true
 still_out pool j k was_out was_free = slice_get-set_other pool.out k j true (is_other pool.out j k was_out was_free)
     ∙ was_out
 
--- the same after a call that may have lent one
+-- what was out is out after a call that may have lent a sector
 pub still_out_if_lent : (old new : Pool) (lease : Option ℕ) → IfSome lease (λ k. slice_get old.out k ≡ Some false)
     → IfSome lease (λ k. new ≡ leased old k) → IfNone lease (new ≡ old) → (j : ℕ) → slice_get old.out j ≡ Some true
     → slice_get new.out j ≡ Some true

@@ -1,7 +1,7 @@
 -- Calls one after another keep what each of them keeps, and a sector that is lent and given back disturbs no other.
 use Rattle.std.proofs.Common.{◌≡◌, ℕ, true, false, List, refl, ◌∙◌, ap, subst}
 use Rattle.std.specs.Prelude.{Some, slice_get, slice_set}
-use Rattle.sector_pool.specs.Pool.{Pool, erased, leased, written, returned}
+use Rattle.sector_pool.specs.Pool.{Pool, erased, leased, pool_with_sector, returned}
 use Rattle.sector_pool.specs.Keeping.{KeepsOut, KeepsOutBut}
 use Rattle.sector_pool.proofs.PlaceLemmas.{slice_get-set_other, set_back, is_other}
 
@@ -29,7 +29,7 @@ pub KeepsOutBut-KeepsOut : (k : ℕ) {a b : Pool} → KeepsOut a b → KeepsOutB
 KeepsOutBut-KeepsOut k keeps = record { same = keeps.same; kept = λ j other was_out. keeps.kept j was_out }
 
 -- a write to sector k
-pub KeepsOutBut-written : (pool : Pool) (k : ℕ) (bytes : List ℕ) → KeepsOutBut k pool (written pool k bytes)
+pub KeepsOutBut-written : (pool : Pool) (k : ℕ) (bytes : List ℕ) → KeepsOutBut k pool (pool_with_sector pool k bytes)
 KeepsOutBut-written pool k bytes = record {
   same = refl;
   kept = λ j other was_out. slice_get-set_other pool.sectors k j bytes other;
@@ -45,7 +45,8 @@ KeepsOut-lent old new k was_free keeps = record {
       ∙ slice_get-set_other old.sectors k j erased other;
 }
 
--- the same in the words of the calls' clauses, for a caller that leases, works on what it was lent and gives it back
+-- what was out is out, in the words of the calls' clauses, for a caller that leases, works on what it was lent and
+-- gives it back
 pub KeepsOut-call : (old lent used new : Pool) (k : ℕ) → slice_get old.out k ≡ Some false → lent ≡ leased old k
     → KeepsOutBut k lent used → new ≡ returned used k → KeepsOut old new
 KeepsOut-call old lent used new k was_free is_lent keeps is_returned =

@@ -1,4 +1,4 @@
--- What a call that borrows from a pool leaves as it was. This project's own.
+-- What a call that borrows from a pool leaves as it was.
 use Rattle.std.specs.Prelude.{◌≡◌, ◌≢◌, ℕ, true, false, Option, Some, slice_get}
 use Rattle.sector_pool.specs.Pool.{Pool}
 

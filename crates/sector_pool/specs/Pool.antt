@@ -1,4 +1,4 @@
--- The sector pool as contracts see it. This project's own.
+-- The sector pool as contracts see it.
 use Rattle.std.specs.Prelude.{◌≡◌, ℕ, ◌<◌, Bool, not, true, false, List, length, All, slice_set, count_by, replicate}
 
 -- for each number whether it is out, and for each number the bytes of its sector
@@ -7,7 +7,7 @@ pub record Pool : Type 0 where
   pub sectors : List (List ℕ)
 
 -- the pool has n sectors of 4096 bytes each, and none is out
-pub record IsNew (n : ℕ) (pool : Pool) : Type 0 where
+pub record IsNewPool (n : ℕ) (pool : Pool) : Type 0 where
   pub numbers : length pool.out ≡ n
   pub sectors : length pool.sectors ≡ n
   pub free : All (λ is_out. is_out ≡ false) pool.out
@@ -33,8 +33,8 @@ leased pool k = record {
 }
 
 -- the pool with these bytes in sector k
-abbrev pub written : Pool → ℕ → List ℕ → Pool
-written pool k bytes = record { out = pool.out; sectors = slice_set pool.sectors k bytes }
+abbrev pub pool_with_sector : Pool → ℕ → List ℕ → Pool
+pool_with_sector pool k bytes = record { out = pool.out; sectors = slice_set pool.sectors k bytes }
 
 -- the pool with number k free
 abbrev pub returned : Pool → ℕ → Pool

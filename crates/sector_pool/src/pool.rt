@@ -2,7 +2,7 @@
 
 ghost use Rattle.std.specs.Prelude.{◌≡◌, ℕ, ◌<◌, ◌≤◌, ◌↔◌, length, All, IfOk, IfSome, IsNone, IsSome, IfNone, Some, true, false, slice_get, slice_set};
 ghost use Rattle.std.specs.Borrow.{sem};
-ghost use Rattle.sector_pool.specs.Pool.{HasFree, IsNew, free_count, leased, returned};
+ghost use Rattle.sector_pool.specs.Pool.{HasFree, IsNewPool, free_count, leased, returned};
 ghost use Rattle.sector_pool.specs.Lending.{LendsSector};
 
 use std::alloc::{AllocError, Global};
@@ -27,7 +27,7 @@ impl Model for Lease {
     ghost view = { λ lease. lease.number };
 }
 
-/// A number of sectors of 4096 bytes each, of which some are out. This project's own.
+/// A number of sectors of 4096 bytes each, of which some are out.
 ///
 /// Contracts see for each number whether it is out, and the bytes of each sector.
 #[derive(Drop)]
@@ -53,7 +53,7 @@ impl SectorPool {
     pub fn make(alloc: Global, n: u32) -> Result<SectorPool, AllocError>
         requires some { 1 ≤ n }
         requires few { n ≤ 16 }
-        ensures { IfOk result (IsNew n) }
+        ensures { IfOk result (IsNewPool n) }
     {
         let mut out = Vec::new(alloc);
         let mut sectors = Vec::new(alloc);

@@ -41,7 +41,7 @@ module _ {X : Type 0} (f : ℕ → X) (p : ℕ → Bool) (n : ℕ) (xs : List X)
       ∙ ap (λ z. map f (filter p (range_with_len 0 n)) ++ z ∷ []) same
       ∙ sym (mapped-more f p n ∙ ap (λ b. map f (filter p (range_with_len 0 n)) ++ cond b (f n ∷ []) []) passes)
 
-  -- and of one that fails nothing
+  -- of a number that fails nothing is made
   pub made-same : p n ≡ false → xs ≡ map f (filter p (range_with_len 0 (n + 1)))
   made-same fails =
       made

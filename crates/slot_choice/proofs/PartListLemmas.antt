@@ -10,7 +10,7 @@ added true a rest zero i at = inl (refl, cc)
 added true a rest (suc j) i at = inr (j, at)
 added false a rest j i at = inr (j, at)
 
--- and an element of the list is one of the longer list
+-- an element of a list is one of the list to which a test may have added one
 kept : (yes : Bool) (a : ℕ) (rest : List ℕ) (i k : ℕ) → slice_get rest k ≡ Some i
     → (l : ℕ) × (slice_get (cond yes (a ∷ rest) rest) l ≡ Some i)
 kept true a rest i k at = (suc k, at)

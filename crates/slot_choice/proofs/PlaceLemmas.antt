@@ -1,5 +1,5 @@
 -- The units of a flash, by their places in the list, and the unit of a download.
-use Rattle.std.proofs.Common.{◌≡◌, ◌≢◌, ℕ, ◌*◌, ◌%◌, ◌<◌, ◌≤◌, ◌⊎◌, inl, inr, Bool, true, false, ◌==◌, nat_lt, if◌then◌else◌, List, length, refl, sym, ◌∙◌, ap, subst, arith, Option, None, Some, slice_get, find, not, ◌&&◌, option_map}
+use Rattle.std.proofs.Common.{◌/◌, ◌≡◌, ◌≢◌, ℕ, ◌*◌, ◌%◌, ◌<◌, ◌≤◌, ◌⊎◌, inl, inr, Bool, true, false, ◌==◌, nat_lt, if◌then◌else◌, List, length, refl, sym, ◌∙◌, ap, subst, arith, Option, None, Some, slice_get, find, not, ◌&&◌, option_map, zero, suc, [], ◌∷◌}
 use borrow.Author.Tests.{ltb-true}
 use Rattle.std.proofs.lemmas.Option.{slice_get-map, same_Some}
 use Rattle.pico_board.specs.declared.boot.Cpu.{Cpu}
@@ -13,11 +13,11 @@ use Rattle.part_table.specs.Fields.{is_ignored}
 use Rattle.part_table.specs.Links.{is_second, is_owned}
 use Rattle.part_table.specs.Partitions.{part_at}
 use Rattle.part_table.specs.Sound.{IsSoundTable}
-use Rattle.part_table.specs.Windows.{IsPlaced}
+use Rattle.part_table.specs.Windows.{IsPlacedWindow}
 use Rattle.part_table.proofs.TableLemmas.{partition_placed, sound_placed}
 use Rattle.part_table.proofs.TestLemmas.{mapped_some, all_of_three, not_true, found_place}
 use Rattle.slot_choice.specs.declared.unit.SlotUnit.{SlotUnit}
-use Rattle.slot_choice.specs.Units.{parts_where, begins_boot_unit, unit_of, whole_flash, slot_pair, tableless_unit, units, IsMember}
+use Rattle.slot_choice.specs.Units.{parts_where, begins_boot_unit, unit_of, whole_flash, slot_pair, tableless_unit, units, IsMember, IsSoundFor}
 use Rattle.slot_choice.specs.LoadUnits.{begins_load_unit, accepting_unit, absolute_unit, load_unit}
 use Rattle.slot_choice.proofs.PartListLemmas.{passing, different, listed, rising}
 use Rattle.slot_choice.proofs.UnitLemmas.{units_apart, pair_apart, member_placed}
@@ -119,13 +119,13 @@ boot_pair_apart t s n z cpu sound k u at w pair =
 
 -- the members of the boot units of a table stand where its partitions stand
 pub boot_members_placed : (t : Table) (s m n z : ℕ) (cpu : Cpu) → table_fault t s m ≡ None → (k : ℕ) (u : SlotUnit)
-    → slice_get (units (Some t) n z cpu) k ≡ Some u → (w : Window) → IsMember u w → IsPlaced w s m
+    → slice_get (units (Some t) n z cpu) k ≡ Some u → (w : Window) → IsMember u w → IsPlacedWindow w s m
 boot_members_placed t s m n z cpu none k u at w member =
     let a : (i : ℕ) × IsBootUnit t.parts.items cpu k u i = boot_unit t n z cpu k u at in
     member_placed t s m (partition_placed t s m none) a.0 a.1.within w (subst (λ y. IsMember y w) a.1.unit member)
 
 pub sound_members_placed : (t : Table) (s n z : ℕ) (cpu : Cpu) → IsSoundTable t s → (k : ℕ) (u : SlotUnit)
-    → slice_get (units (Some t) n z cpu) k ≡ Some u → (w : Window) → IsMember u w → IsPlaced w s 0
+    → slice_get (units (Some t) n z cpu) k ≡ Some u → (w : Window) → IsMember u w → IsPlacedWindow w s 0
 sound_members_placed t s n z cpu sound k u at w member =
     let a : (i : ℕ) × IsBootUnit t.parts.items cpu k u i = boot_unit t n z cpu k u at in
     member_placed t s 0 (sound_placed t s sound) a.0 a.1.within w (subst (λ y. IsMember y w) a.1.unit member)
@@ -201,35 +201,35 @@ owned_unit_apart t s n z family cpu sound k u v i loaded part owned at w x in_u 
 
 -- the members of a load unit that names a partition stand where partitions stand
 pub load_members_placed : (t : Table) (s n z family : ℕ) → IsSoundTable t s → (u : SlotUnit) (i : ℕ)
-    → load_unit (Some t) n z family ≡ Some u → u.a_part ≡ Some i → (w : Window) → IsMember u w → IsPlaced w s 0
+    → load_unit (Some t) n z family ≡ Some u → u.a_part ≡ Some i → (w : Window) → IsMember u w → IsPlacedWindow w s 0
 load_members_placed t s n z family sound u i loaded part w member =
     let a : IsLoadUnit t.parts.items family u i = load_unit_part t n z family u i loaded part in
     member_placed t s 0 (sound_placed t s sound) i a.within w (subst (λ y. IsMember y w) a.unit member)
 
 -- the windows of a flash without a table
-whole_placed : (s : ℕ) → 1 ≤ s → (w : Window) → IsMember (whole_flash (4096 * s)) w → IsPlaced w s 0
-whole_placed s some w (inl a) = subst (λ x. IsPlaced x s 0) (sym a)
+whole_placed : (s : ℕ) → 1 ≤ s → (w : Window) → IsMember (whole_flash (4096 * s)) w → IsPlacedWindow w s 0
+whole_placed s some w (inl a) = subst (λ x. IsPlacedWindow x s 0) (sym a)
     (record { starts = refl; whole = omega arith; some = omega arith; inside = omega arith; free = omega arith })
 whole_placed s some w (inr b) = cc
 
 slots_placed : (s z : ℕ) → z % 4096 ≡ 0 → 4096 ≤ z → 2 * z ≤ 4096 * s → (w : Window) → IsMember (slot_pair z) w
-    → IsPlaced w s 0
-slots_placed s z whole some fits w (inl a) = subst (λ x. IsPlaced x s 0) (sym a)
+    → IsPlacedWindow w s 0
+slots_placed s z whole some fits w (inl a) = subst (λ x. IsPlacedWindow x s 0) (sym a)
     (record { starts = refl; whole = whole; some = some; inside = omega arith; free = omega arith })
 slots_placed s z whole some fits w (inr b) =
     let same : record { start = z; len = z } ≡ w = cc in
-    subst (λ x. IsPlaced x s 0) same
+    subst (λ x. IsPlacedWindow x s 0) same
     (record { starts = whole; whole = whole; some = some; inside = omega arith; free = omega arith })
 
 tableless_by : (large : Bool) (s z : ℕ) → nat_lt 4096 z ≡ large → 1 ≤ s → z % 4096 ≡ 0 → (4096 < z → 2 * z ≤ 4096 * s)
-    → (w : Window) → IsMember (if large then slot_pair z else whole_flash (4096 * s)) w → IsPlaced w s 0
+    → (w : Window) → IsMember (if large then slot_pair z else whole_flash (4096 * s)) w → IsPlacedWindow w s 0
 tableless_by true s z is some whole fits w member =
     let large : 4096 < z = ltb-true 4096 z is in
     slots_placed s z whole (omega arith) (fits large) w member
 tableless_by false s z is some whole fits w member = whole_placed s some w member
 
 pub tableless_placed : (s z : ℕ) → 1 ≤ s → z % 4096 ≡ 0 → (4096 < z → 2 * z ≤ 4096 * s)
-    → (w : Window) → IsMember (tableless_unit (4096 * s) z) w → IsPlaced w s 0
+    → (w : Window) → IsMember (tableless_unit (4096 * s) z) w → IsPlacedWindow w s 0
 tableless_placed s z some whole fits w member = tableless_by (nat_lt 4096 z) s z refl some whole fits w member
 
 tableless_apart_by : (large : Bool) (n z : ℕ) (w : Window) → (if large then slot_pair z else whole_flash n).b ≡ Some w
@@ -242,8 +242,21 @@ pub tableless_apart : (n z : ℕ) (w : Window) → (tableless_unit n z).b ≡ So
 tableless_apart n z w at = tableless_apart_by (nat_lt 4096 z) n z w at
 
 -- a window behind both table slots stands apart from each
-pub apart_from_slots : (z m s : ℕ) (w : Window) → 4096 * m ≡ 2 * z → IsPlaced w s m
+pub apart_from_slots : (z m s : ℕ) (w : Window) → 4096 * m ≡ 2 * z → IsPlacedWindow w s m
     → AreApart (record { start = 0; len = z }) w × AreApart (record { start = z; len = z }) w
 apart_from_slots z m s w both placed =
     let free : 4096 * m ≤ w.start = placed.free in
     (inl (omega arith), inl (omega arith))
+
+first-place : (v : SlotUnit) (k : ℕ) (u : SlotUnit) → slice_get (v ∷ []) k ≡ Some u → k ≡ 0
+first-place v zero u e = refl
+first-place v (suc k) u e = cc
+
+-- the members of two boot units lie apart, with a table or without one
+pub units-apart : (t : Option Table) (n y : ℕ) (cpu : Cpu) → IsSoundFor t n → (j k : ℕ) (u v : SlotUnit) → j ≢ k
+    → slice_get (units t n y cpu) j ≡ Some u → slice_get (units t n y cpu) k ≡ Some v → (w x : Window) → IsMember u w
+    → IsMember v x → AreApart w x
+units-apart None n y cpu sound j k u v differ one two w x in_u in_v =
+    absurd (differ (first-place (tableless_unit n y) j u one ∙ sym (first-place (tableless_unit n y) k v two)))
+units-apart (Some t) n y cpu sound j k u v differ one two w x in_u in_v =
+    boot_units_apart t (n / 4096) n y cpu sound j k u v differ one two w x in_u in_v

@@ -9,7 +9,7 @@ use Rattle.part_table.specs.declared.table.Table.{Table}
 use Rattle.part_table.specs.Links.{is_second, is_second_of, pair_of}
 use Rattle.part_table.specs.Partitions.{part_at}
 use Rattle.part_table.specs.Sound.{IsSoundTable}
-use Rattle.part_table.specs.Windows.{IsPlaced, partition_window, part_window}
+use Rattle.part_table.specs.Windows.{IsPlacedWindow, partition_window, part_window}
 use Rattle.part_table.proofs.TestLemmas.{mapped_some, both_of_two}
 use Rattle.part_table.proofs.LinkLemmas.{second_found, first_of_pair}
 use Rattle.part_table.proofs.TableLemmas.{partitions_apart}
@@ -91,9 +91,10 @@ module _ (t : Table) (n : ℕ) (sound : IsSoundTable t n) where
       (partitions_apart t n sound i found.0 lt second.0 first.1)
 
 -- each member of a partition's unit stands where partitions stand
-pub member_placed : (t : Table) (n m : ℕ) → ((e : ℕ) → e < length t.parts.items → IsPlaced (partition_window t e) n m)
-    → (i : ℕ) → i < length t.parts.items → (w : Window) → IsMember (unit_of t.parts.items i) w → IsPlaced w n m
+pub member_placed : (t : Table) (n m : ℕ)
+    → ((e : ℕ) → e < length t.parts.items → IsPlacedWindow (partition_window t e) n m)
+    → (i : ℕ) → i < length t.parts.items → (w : Window) → IsMember (unit_of t.parts.items i) w → IsPlacedWindow w n m
 member_placed t n m placed i lt w member =
     let of_w : (e : ℕ) × Belongs t.parts.items i e × (w ≡ part_window (part_at t.parts.items e)) =
     member_part t.parts.items i w member in
-    subst (λ x. IsPlaced x n m) (sym of_w.2) (placed of_w.0 (belongs_within t.parts.items i of_w.0 lt of_w.1))
+    subst (λ x. IsPlacedWindow x n m) (sym of_w.2) (placed of_w.0 (belongs_within t.parts.items i of_w.0 lt of_w.1))

@@ -231,7 +231,7 @@ module _ (us : List SlotUnit) (base start : ℕ) (above : flash_base ≤ base) (
         | inr found ↦ absurd (none-some found.0 (sym none ∙ found.2.place))
       ]
 
-  -- and it is that of the unit at the place
+  -- the updated member is that of the unit at the place
   pub placed : (k : ℕ) (u : SlotUnit) → position (has_member_at start) us ≡ Some k → slice_get us k ≡ Some u
       → member_at start u ≡ updated_member us base
   placed k u place at =

@@ -1,5 +1,4 @@
--- Worked examples of units, with their answers reckoned by hand from the rules. This project's
--- own.
+-- Worked examples of units, with their answers reckoned by hand from the rules.
 use Rattle.std.specs.Prelude.{ℕ, ◌+◌, false, List, [], ◌∷◌, None, Some}
 use Rattle.block_codec.specs.declared.versions.Version.{Version}
 use Rattle.pico_board.specs.declared.window.Window.{Window}
@@ -24,8 +23,8 @@ the_pair = pair_unit (window_at 0x2000 0x1e000) 0 (window_at 0x20000 0x1e000) 1
 
 -- a table of these partitions, in which the unpartitioned sectors have all rights and take no
 -- family
-abbrev pub table_with : List Partition → Table
-table_with partitions = record {
+abbrev pub table_without_families : List Partition → Table
+table_without_families partitions = record {
   version = record { major = 0; minor = 0 };
   singleton = false;
   unpartitioned = 0xfc000000;
@@ -36,11 +35,11 @@ table_with partitions = record {
 -- RISC-V boot and accepts rp2350-arm-s, the third is ignored in an Arm boot
 abbrev pub three_table : Table
 three_table =
-    table_with
+    table_without_families
     (plain_partition 0xfc006002 0xfc000000 ∷ plain_partition 0xfc00a004 0xfc020400
     ∷ plain_partition 0xfc00e006 0xfc000200 ∷ [])
 
--- their units
+-- the units of those three partitions
 abbrev pub unit_one : SlotUnit
 unit_one = lone_unit (window_at 0x2000 0x2000) 0
 
@@ -53,11 +52,11 @@ unit_three = lone_unit (window_at 0x6000 0x2000) 2
 -- a pair of sectors 2 to 3 and 4 to 5, with these flag words below their permissions
 abbrev pub small_pair : ℕ → ℕ → Table
 small_pair one two =
-    table_with
+    table_without_families
     (plain_partition (sectors 2 3) (0xfc000000 + one)
     ∷ plain_partition (sectors 4 5) (0xfc000000 + two) ∷ [])
 
--- its unit
+-- the unit of that pair of sectors 2 to 3 and 4 to 5
 abbrev pub small_unit : SlotUnit
 small_unit = pair_unit (window_at 0x2000 0x2000) 0 (window_at 0x4000 0x2000) 1
 
@@ -76,7 +75,7 @@ extra_partition at family = record {
 -- rp2350-riscv, the fifth rp2350-arm-ns, and the sixth the family 0x11111111
 abbrev pub family_table : Table
 family_table =
-    table_with
+    table_without_families
     (plain_partition (sectors 2 3) 0xfc00c000 ∷ plain_partition (sectors 4 5) 0xfc010000
     ∷ plain_partition (sectors 6 7) 0xfc020000
     ∷ plain_partition (sectors 8 9) 0xfc060000

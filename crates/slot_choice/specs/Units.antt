@@ -16,7 +16,7 @@ use Rattle.slot_choice.specs.declared.unit.SlotUnit.{SlotUnit}
 use Rattle.slot_choice.specs.declared.unit.Member.{Member}
 use Rattle.slot_choice.specs.declared.unit.Member.TheVariants.{A, B}
 
--- the partitions that pass a test are listed by their numbers, in table order (this project's own)
+-- the partitions that pass a test are listed by their numbers, in table order
 abbrev pub parts_where : (Partition → Bool) → List Partition → List ℕ
 parts_where test parts = filter (λ i. test (part_at parts i)) (range_with_len 0 (length parts))
 
@@ -61,11 +61,11 @@ units None n z cpu = tableless_unit n z ∷ []
 units (Some t) n z cpu =
     map (unit_of t.parts.items) (parts_where (begins_boot_unit cpu) t.parts.items)
 
--- the window of a member of a unit is A's or, where the unit is a pair, B's (this project's own)
+-- the window of a member of a unit is A's or, where the unit is a pair, B's
 abbrev pub member_window : Member → SlotUnit → Option Window
 member_window A u = Some u.a
 member_window B u = u.b
 
--- a window is a member of a unit where it is A's or B's (this project's own)
+-- a window is a member of a unit where it is A's or B's
 abbrev pub IsMember : SlotUnit → Window → Type 0
 IsMember u w = (w ≡ u.a) ⊎ (u.b ≡ Some w)

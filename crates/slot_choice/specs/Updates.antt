@@ -10,18 +10,17 @@ use Rattle.slot_choice.specs.declared.unit.Member.{Member}
 use Rattle.slot_choice.specs.declared.unit.Member.TheVariants.{A, B}
 
 -- the member of a unit at an offset of the flash is the one whose window starts there, A before B
--- (this project's own)
 abbrev pub member_at : ℕ → SlotUnit → Option Member
 member_at start u =
     if u.a.start == start then Some A
     else (if option_map_or (λ w. w.start == start) u.b false then Some B else None)
 
--- a unit has a member at an offset where one of its windows starts there (this project's own)
+-- a unit has a member at an offset where one of its windows starts there
 abbrev pub has_member_at : ℕ → SlotUnit → Bool
 has_member_at start u = is_some (member_at start u)
 
 -- the updated member is the one whose window starts where the address of the update points, of the
--- first unit that has one; below the flash no member starts (this project's own)
+-- first unit that has one; below the flash no member starts
 abbrev pub updated_member : List SlotUnit → ℕ → Option Member
 updated_member us base =
     if nat_le flash_base base
@@ -30,20 +29,18 @@ updated_member us base =
     (find (has_member_at (base - flash_base)) us)
     else None
 
--- the element at a place is moved to the front, and the others keep their order (this project's
--- own)
+-- the element at a place is moved to the front, and the others keep their order
 abbrev pub moved_to_front : {X : Type 0} → List X → ℕ → List X
 moved_to_front xs k = take 1 (drop k xs) ++ remove xs k
 
 -- the updated member's unit is moved to the front, and without an updated member the order stays
--- (this project's own)
 abbrev pub update_order : List SlotUnit → ℕ → List SlotUnit
 update_order us base =
     if nat_le flash_base base
     then option_map_or (moved_to_front us) (position (has_member_at (base - flash_base)) us) us
     else us
 
--- an address updates nothing where no member starts at it, and the order stays (this project's own)
+-- an address updates nothing where no member starts at it, and the order stays
 pub record IsUpdateless (us : List SlotUnit) (base : ℕ) : Type 0 where
   pub order : update_order us base ≡ us
   pub elsewhere : (k : ℕ) (u : SlotUnit) (w : Window) → slice_get us k ≡ Some u → IsMember u w
@@ -51,7 +48,7 @@ pub record IsUpdateless (us : List SlotUnit) (base : ℕ) : Type 0 where
 
 -- an address updates the member m, of window w, of the unit u where that window starts at the
 -- address, and no member of a unit before u does; then u comes first, and behind it the others in
--- their order (this project's own)
+-- their order
 pub record IsUpdateOf (us : List SlotUnit) (base : ℕ) (m : Member) (u : SlotUnit)
     (w : Window) : Type 0 where
   pub before : List SlotUnit

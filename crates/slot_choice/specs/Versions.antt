@@ -5,12 +5,12 @@ use Rattle.block_codec.specs.declared.versions.Version.{Version}
 use Rattle.slot_choice.specs.declared.unit.Member.{Member}
 use Rattle.slot_choice.specs.declared.unit.Member.TheVariants.{A, B}
 
--- versions are ordered by major, then minor (this project's own)
+-- versions are ordered by major, then minor
 abbrev pub is_below : Version → Version → Bool
 is_below v w = nat_lt v.major w.major || (v.major == w.major && nat_lt v.minor w.minor)
 
 -- of the versions of the members of a unit, where a member without a valid image has none, the
--- greater is better, and A's where they are equal (this project's own)
+-- greater is better, and A's where they are equal
 abbrev pub better : Option Version → Option Version → Option Member
 better None None = None
 better None (Some w) = Some B

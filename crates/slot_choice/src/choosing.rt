@@ -34,7 +34,7 @@ fn place_of(units: &[SlotUnit], start: u32) -> Option<usize>
 
 /// Moves the unit of the member whose window starts at the address `base` to the front, where the
 /// others keep their order, and names that member. None exactly where no member starts there, and
-/// then the order stays. (This project's own.)
+/// then the order stays.
 pub fn update_first(units: &mut ArrayVec<SlotUnit, 15>, base: u32) -> Option<Member>
     ensures member { result ≡ updated_member units.old.items base }
     ensures order { units.new.items ≡ update_order units.old.items base }
@@ -55,7 +55,6 @@ pub fn is_below(version: Version, other: Version) -> bool
 
 /// The better member of a unit by the versions of its members' images, where a member without a
 /// valid image has none: the greater version, and A on a tie. None exactly where both are None.
-/// (This project's own.)
 pub fn better(a: Option<Version>, b: Option<Version>) -> Option<Member>
     ensures { result ≡ better a b }
 {

@@ -12,10 +12,7 @@ ghost use Rattle.slot_choice.specs.Units.{begins_boot_unit, parts_where, slot_pa
 use crate::unit::SlotUnit;
 use arrayvec::ArrayVec;
 use part_table::{ABSOLUTE_FAMILY, ARM_NS_FAMILY, DATA_FAMILY, Partition, Table};
-use pico_board::{Cpu, Window};
-
-/// The size of the smallest slot, in which a flash without a table is one unit.
-const SMALLEST_SLOT: u32 = 4096;
+use pico_board::{Cpu, SMALLEST_SLOT, Window};
 
 /// The B of a partition, where it has one.
 pub fn second_of(parts: &[Partition], first: u32) -> Option<u32>
@@ -158,7 +155,7 @@ fn accepting_unit(parts: &[Partition], family: u32) -> Option<SlotUnit>
 /// The unit of a download of a family; None exactly where no unit takes it. The absolute family
 /// goes to the whole flash, where there is no table or the table accepts that family; another one
 /// to the first unit whose A accepts it, owned and ignored units among them. Without a table the
-/// one boot unit takes data and the three executable families of the RP2350. (This project's own.)
+/// one boot unit takes data and the three executable families of the RP2350.
 pub fn load_unit(table: Option<&Table>, flash_len: u32, slot: u32, family: u32) -> Option<SlotUnit>
     requires sound { IsSoundFor (option_map (λ t. t.now) table) flash_len }
     ensures { result ≡ load_unit (option_map (λ t. t.now) table.entry) flash_len slot family }

@@ -14,15 +14,15 @@ use Rattle.table_json.specs.declared.fault.JsonFault.{JsonFault}
 use Rattle.table_json.specs.declared.fault.JsonFault.TheVariants.{NotJson, Memory, Unknown, Missing, Value, TooLong, Table as Faulty}
 use Rattle.table_json.specs.declared.members.Shape.{Shape}
 use Rattle.table_json.specs.Steps.{◌>>=◌}
-use Rattle.table_json.specs.Members.{name_of, has_unknown, object_judged_as, object_judged, required_in, required, optional_in, optional}
+use Rattle.table_json.specs.Members.{member_name, has_unknown, object_judged_as, object_judged, required_in, required, optional_in, optional}
 use Rattle.table_json.specs.declared.fault.Place.TheVariants.{Top, Unpartitioned as Outside, Partition as Numbered}
 use Rattle.table_json.specs.declared.fault.Field.TheVariants.{Version as OfVersion, Singleton, Unpartitioned, Partitions, Families as OfFamilies, Permissions, First, Last, Id, Name, Link, IgnoreArm, IgnoreRiscv, NoReboot, Processor, Rollback, Rows, Trial}
 use Rattle.table_json.specs.declared.members.Shape.TheVariants.{OfTable, OfUnpartitioned, OfPartition, OfSpec}
 use Rattle.table_json.specs.Forms.{number_below, version_form, link_form, permissions_form}
 use Rattle.table_json.specs.Families.{names_form, families_form, no_families}
-use Rattle.table_json.specs.Partitions.{id_form, some_name, marks_word, marks_of, partition_of, partitions_after, unpartitioned_of}
+use Rattle.table_json.specs.Partitions.{id_form, some_name, marks_word, marks_of, partition_of_value, partitions_after, unpartitioned_of}
 use Rattle.table_json.specs.Seals.{processor_form, rollback_form, rows_form, no_rows, spec_from}
-use Rattle.table_json.specs.Tables.{no_version, few_form, fields_of, unless_faulty, judged, table_from}
+use Rattle.table_json.specs.Tables.{no_version, few_form, table_fields, unless_faulty, judged, table_of_value}
 
 -- an answer that is neither, and no fault of a whole table
 pub record IsPlain {A : Type 0} (r : Result A JsonFault) : Type 0 where
@@ -84,14 +84,14 @@ object_then shape place field d next later = then_plain _ next (object_plain_as 
 required_then : {A B : Type 0} (form : Data → Option A) (place : Place) (field : Field) (d : Data)
     (next : A → Result B JsonFault) → ((a : A) → IsPlain (next a)) → IsPlain (required form place field d >>= next)
 required_then form place field d next later =
-    then_plain (required form place field d) next (required_plain_in form place field (get (name_of field) d)) later
+    then_plain (required form place field d) next (required_plain_in form place field (get (member_name field) d)) later
 
 optional_then : {A B : Type 0} (form : Data → Option A) (default : A) (place : Place) (field : Field) (d : Data)
     (next : A → Result B JsonFault) → ((a : A) → IsPlain (next a))
     → IsPlain (optional form default place field d >>= next)
 optional_then form default place field d next later =
     then_plain (optional form default place field d) next
-    (optional_plain_in form default place field (get (name_of field) d)) later
+    (optional_plain_in form default place field (get (member_name field) d)) later
 
 marks_plain : (i : ℕ) (d : Data) → IsPlain (marks_of i d)
 marks_plain i d =
@@ -99,7 +99,7 @@ marks_plain i d =
     (λ arm. optional_then as_bool false (Numbered i) IgnoreRiscv d _
     (λ riscv. optional_then as_bool false (Numbered i) NoReboot d _ (λ stays. ok_plain (marks_word arm riscv stays))))
 
-partition_plain : (i : ℕ) (d : Data) → IsPlain (partition_of i d)
+partition_plain : (i : ℕ) (d : Data) → IsPlain (partition_of_value i d)
 partition_plain i d =
     object_then OfPartition (Numbered i) OfFamilies d _
     (λ judged. required_then (number_below 8192) (Numbered i) First d _
@@ -114,7 +114,7 @@ partition_plain i d =
 partitions_plain : (done : List Partition) (ds : List Data) → IsPlain (partitions_after done ds)
 partitions_plain done [] = ok_plain (record { items = done })
 partitions_plain done (d ∷ ds) =
-    then_plain (partition_of (length done) d) _ (partition_plain (length done) d)
+    then_plain (partition_of_value (length done) d) _ (partition_plain (length done) d)
     (λ part. partitions_plain (done ++ part ∷ []) ds)
 
 unpartitioned_plain : (d : Data) → IsPlain (unpartitioned_of d)
@@ -123,7 +123,7 @@ unpartitioned_plain d =
     (λ judged. optional_then names_form 0 Outside OfFamilies d _
     (λ bits. required_then permissions_form Outside Permissions d _ (λ permissions. ok_plain _)))
 
-pub fields_plain : (d : Data) → IsPlain (fields_of d)
+pub fields_plain : (d : Data) → IsPlain (table_fields d)
 fields_plain d =
     object_then OfTable Top Partitions d _
     (λ judged. optional_then version_form no_version Top OfVersion d _
@@ -149,8 +149,8 @@ judged_so t = by_size (nat_lt 640 (written_size t)) (table_fault t 4096 2) refl
     by_size false (Some fault) is = faulty fault is
 
 -- an answer of a whole table is neither NotJson nor Memory
-pub table_json : (d : Data) → table_from d ≢ Err NotJson
-table_json d = whole (fields_of d) (fields_plain d)
+pub table_json : (d : Data) → table_of_value d ≢ Err NotJson
+table_json d = whole (table_fields d) (fields_plain d)
   where
     of_table : (t : Table) (r : Result Table JsonFault) → IsJudged t r → r ≢ Err NotJson
     of_table t r long = λ e. cc
@@ -161,8 +161,8 @@ table_json d = whole (fields_of d) (fields_plain d)
     whole (Ok t) plain = of_table t (judged t) (judged_so t)
     whole (Err fault) plain = plain.json
 
-pub table_memory : (d : Data) → table_from d ≢ Err Memory
-table_memory d = whole (fields_of d) (fields_plain d)
+pub table_memory : (d : Data) → table_of_value d ≢ Err Memory
+table_memory d = whole (table_fields d) (fields_plain d)
   where
     of_table : (t : Table) (r : Result Table JsonFault) → IsJudged t r → r ≢ Err Memory
     of_table t r long = λ e. cc
@@ -174,9 +174,9 @@ table_memory d = whole (fields_of d) (fields_plain d)
     whole (Err fault) plain = plain.memory
 
 -- a fault of a whole table is that of its fields
-pub table_fault_of : (d : Data) (fault : TableFault) → table_from d ≡ Err (Faulty fault)
-    → (t : Table) × (fields_of d ≡ Ok t) × (table_fault t 4096 2 ≡ Some fault)
-table_fault_of d fault is = whole (fields_of d) refl is
+pub table_fault_of : (d : Data) (fault : TableFault) → table_of_value d ≡ Err (Faulty fault)
+    → (t : Table) × (table_fields d ≡ Ok t) × (table_fault t 4096 2 ≡ Some fault)
+table_fault_of d fault is = whole (table_fields d) refl is
   where
     of_table : (t : Table) (r : Result Table JsonFault) → IsJudged t r → r ≡ Err (Faulty fault)
         → table_fault t 4096 2 ≡ Some fault
@@ -184,8 +184,8 @@ table_fault_of d fault is = whole (fields_of d) refl is
     of_table t r (faulty found there) is = there ∙ (let same : found ≡ fault = cc in ap Some same)
     of_table t r good is = cc
 
-    whole : (r : Result Table JsonFault) → fields_of d ≡ r → (r >>= judged) ≡ Err (Faulty fault)
-        → (t : Table) × (fields_of d ≡ Ok t) × (table_fault t 4096 2 ≡ Some fault)
+    whole : (r : Result Table JsonFault) → table_fields d ≡ r → (r >>= judged) ≡ Err (Faulty fault)
+        → (t : Table) × (table_fields d ≡ Ok t) × (table_fault t 4096 2 ≡ Some fault)
     whole (Ok t) same is = (t, same, of_table t (judged t) (judged_so t) is)
     whole (Err other) same is = absurd ((fields_plain d).table fault (same ∙ is))
 

@@ -16,11 +16,11 @@ use Rattle.table_json.specs.declared.fault.JsonFault.TheVariants.{Unknown, Missi
 use Rattle.table_json.specs.declared.members.Shape.{Shape}
 use Rattle.table_json.specs.declared.members.Shape.TheVariants.{OfTable, OfUnpartitioned, OfPartition, OfSpec}
 use Rattle.table_json.specs.Steps.{◌>>=◌}
-use Rattle.table_json.specs.Members.{name_of, has_unknown, object_judged_as, object_judged, required_in, required, optional_in, optional}
+use Rattle.table_json.specs.Members.{member_name, has_unknown, object_judged_as, object_judged, required_in, required, optional_in, optional}
 use Rattle.table_json.specs.Forms.{number_below, version_form, link_form, permissions_form}
 use Rattle.table_json.specs.Families.{names_form, families_form, no_families}
-use Rattle.table_json.specs.Partitions.{id_form, some_name, marks_of, partition_of, partitions_after, unpartitioned_of}
-use Rattle.table_json.specs.Tables.{no_version, few_form, fields_of}
+use Rattle.table_json.specs.Partitions.{id_form, some_name, marks_of, partition_of_value, partitions_after, unpartitioned_of}
+use Rattle.table_json.specs.Tables.{no_version, few_form, table_fields}
 use Rattle.table_json.specs.Seals.{processor_form, rollback_form, rows_form, no_rows, spec_from}
 use Rattle.table_json.specs.Rules.{Rule, rule, first_broken, object_rules, required_rules, optional_rules, partition_rules, partitions_rules, unpartitioned_rules, rules_if, table_rules, spec_rules}
 
@@ -66,10 +66,10 @@ module _ {B : Type 0} (rest : List Rule) where
 
   required_step : {A : Type 0} (form : Data → Option A) (place : Place) (field : Field) (d : Data)
       (next : A → Result B JsonFault)
-      → ((a : A) → option_and_then form (get (name_of field) d) ≡ Some a → result_err (next a) ≡ first_broken rest)
+      → ((a : A) → option_and_then form (get (member_name field) d) ≡ Some a → result_err (next a) ≡ first_broken rest)
       → result_err (required form place field d >>= next)
       ≡ first_broken (required_rules form place field d ++ rest)
-  required_step form place field d next later = required_step_in form place field (get (name_of field) d) next later
+  required_step form place field d next later = required_step_in form place field (get (member_name field) d) next later
 
   optional_step_in : {A : Type 0} (form : Data → Option A) (default : A) (place : Place) (field : Field)
       (found : Option Data) (next : A → Result B JsonFault)
@@ -85,7 +85,7 @@ module _ {B : Type 0} (rest : List Rule) where
       → result_err (optional form default place field d >>= next)
       ≡ first_broken (optional_rules form place field d ++ rest)
   optional_step form default place field d next later =
-      optional_step_in form default place field (get (name_of field) d) next later
+      optional_step_in form default place field (get (member_name field) d) next later
 
 -- the first of some rules and then of others
 first_joined : (rs ss : List Rule) → first_broken (rs ++ ss) ≡ option_or (first_broken rs) (first_broken ss)
@@ -174,7 +174,7 @@ part_from_last i d = required_rules (number_below 8192) (Numbered i) Last d ++ p
 abbrev part_from_first : ℕ → Data → List Rule
 part_from_first i d = required_rules (number_below 8192) (Numbered i) First d ++ part_from_last i d
 
-partition_first : (i : ℕ) (d : Data) → result_err (partition_of i d) ≡ first_broken (partition_rules i d)
+partition_first : (i : ℕ) (d : Data) → result_err (partition_of_value i d) ≡ first_broken (partition_rules i d)
 partition_first i d =
     object_step (part_from_first i d) OfPartition (Numbered i) Families d _
     (required_step (part_from_last i d) (number_below 8192) (Numbered i) First d _
@@ -191,8 +191,8 @@ partitions_first : (i : ℕ) (done : List Partition) (ds : List Data) → length
     → result_err (partitions_after done ds) ≡ first_broken (partitions_rules i ds)
 partitions_first i done [] is = refl
 partitions_first i done (d ∷ ds) is =
-    part_step (partition_rules i d) (partitions_rules (i + 1) ds) (partition_of (length done) d) _
-    (ap (λ (k : ℕ). result_err (partition_of k d)) is ∙ partition_first i d)
+    part_step (partition_rules i d) (partitions_rules (i + 1) ds) (partition_of_value (length done) d) _
+    (ap (λ (k : ℕ). result_err (partition_of_value k d)) is ∙ partition_first i d)
     (λ part. partitions_first (i + 1) (done ++ part ∷ []) ds
     (length-append done (part ∷ []) ∙ ap (λ (k : ℕ). k + 1) is))
 
@@ -212,18 +212,19 @@ unpartitioned_first d =
 -- the rules of the parts of a table
 abbrev parts_rules : Data → List Rule
 parts_rules d =
-    rules_if unpartitioned_rules (get (name_of Unpartitioned) d)
-    ++ rules_if (partitions_rules 0) (option_and_then few_form (get (name_of Partitions) d))
+    rules_if unpartitioned_rules (get (member_name Unpartitioned) d)
+    ++ rules_if (partitions_rules 0) (option_and_then few_form (get (member_name Partitions) d))
 
--- the same, where the parts are there
+-- the rules of the parts of a table, where the parts are there
 parts_there : (d outside : Data) (list : List Data)
-    → option_and_then Some (get (name_of Unpartitioned) d) ≡ Some outside
-    → option_and_then few_form (get (name_of Partitions) d) ≡ Some list
+    → option_and_then Some (get (member_name Unpartitioned) d) ≡ Some outside
+    → option_and_then few_form (get (member_name Partitions) d) ≡ Some list
     → unpartitioned_rules outside ++ partitions_rules 0 list ≡ parts_rules d
 parts_there d outside list found listed =
-    let there : get (name_of Unpartitioned) d ≡ Some outside = sym (some_of (get (name_of Unpartitioned) d)) ∙ found in
+    let there : get (member_name Unpartitioned) d
+    ≡ Some outside = sym (some_of (get (member_name Unpartitioned) d)) ∙ found in
     ap (λ (o : Option Data). rules_if unpartitioned_rules o ++ partitions_rules 0 list) (sym there)
-    ∙ ap (λ (o : Option (List Data)). rules_if unpartitioned_rules (get (name_of Unpartitioned) d)
+    ∙ ap (λ (o : Option (List Data)). rules_if unpartitioned_rules (get (member_name Unpartitioned) d)
     ++ rules_if (partitions_rules 0) o) (sym listed)
   where
     some_of : (o : Option Data) → option_and_then Some o ≡ o
@@ -246,7 +247,7 @@ top_from_singleton d = optional_rules as_bool Top Singleton d ++ top_from_unpart
 abbrev top_from_version : Data → List Rule
 top_from_version d = optional_rules version_form Top Version d ++ top_from_singleton d
 
-pub fields_first : (d : Data) → result_err (fields_of d) ≡ first_broken (table_rules d)
+pub fields_first : (d : Data) → result_err (table_fields d) ≡ first_broken (table_rules d)
 fields_first d =
     object_step (top_from_version d) OfTable Top Partitions d _
     (optional_step (top_from_singleton d) version_form no_version Top Version d _

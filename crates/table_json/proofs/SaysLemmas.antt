@@ -10,16 +10,16 @@ use Rattle.table_json.specs.declared.fault.JsonFault.{JsonFault}
 use Rattle.table_json.specs.declared.fault.JsonFault.TheVariants.{Value}
 use Rattle.table_json.specs.declared.members.Shape.TheVariants.{OfPermissions}
 use Rattle.table_json.specs.Steps.{◌>>=◌}
-use Rattle.table_json.specs.Members.{name_of, has_unknown, required_in, required, optional_in, optional}
-use Rattle.table_json.specs.Forms.{values_in, number_in, if_below, number_below, link_type_of, link_of, link_in, link_form, rights_of, rights_form, rights_for, permissions_of, permissions_in, permissions_by, permissions_form}
-use Rattle.table_json.specs.Families.{bit_if, is_family, family_bits, family_numbers, few_numbers, families_of, families_in, families_form, is_text, no_families}
+use Rattle.table_json.specs.Members.{member_name, has_unknown, required_in, required, optional_in, optional}
+use Rattle.table_json.specs.Forms.{values_in, number_in, if_below, number_below, link_type_of, link_of, link_in, link_form, rights_of, rights_form, rights_for, permissions_from_rights, permissions_in, permissions_by, permissions_form}
+use Rattle.table_json.specs.Families.{bit_if, is_family, family_bits, family_numbers, few_numbers, families_with, families_in, families_form, is_this_text, no_families}
 use Rattle.std.specs.List.{list_any, list_all}
 use Rattle.part_table.specs.declared.partition.Partition.{Partition}
 use Rattle.table_json.specs.declared.members.Shape.TheVariants.{OfPartition}
 use Rattle.table_json.specs.declared.fault.Place.TheVariants.{Partition as Numbered}
 use Rattle.table_json.specs.declared.fault.Field.TheVariants.{Families, Permissions, First, Last, Id, Name, Link, IgnoreArm, IgnoreRiscv, NoReboot}
 use Rattle.table_json.specs.Members.{object_judged}
-use Rattle.table_json.specs.Partitions.{location_word, marks_word, flag_word, partition_from, id_form, some_name, marks_of, partition_of}
+use Rattle.table_json.specs.Partitions.{location_word, marks_word, flag_word, partition_from_fields, id_form, some_name, marks_of, partition_of_value}
 use Rattle.table_json.specs.Says.{SaysText}
 use Rattle.table_json.proofs.WordFieldLemmas.{first_back, flags_back, last_back, permissions_back}
 
@@ -37,14 +37,14 @@ module _ {A : Type 0} (form : Data → Option A) (P : A → Type 0) (keeps : (x 
     (place : Place) (field : Field) (d : Data) where
   -- what each value of a form has, a member has too
   required_has : (a : A) → required form place field d ≡ Ok a → P a
-  required_has a is = found (get (name_of field) d) is
+  required_has a is = found (get (member_name field) d) is
     where
       found : (o : Option Data) → required_in form place field o ≡ Ok a → P a
       found None is = cc
       found (Some x) is = keeps x a (some_if_ok (form x) (Value place field) a is)
 
   pub optional_has : (default : A) → P default → (a : A) → optional form default place field d ≡ Ok a → P a
-  optional_has default holds a is = found (get (name_of field) d) is
+  optional_has default holds a is = found (get (member_name field) d) is
     where
       found : (o : Option Data) → optional_in form default place field o ≡ Ok a → P a
       found None is = let same : default ≡ a = cc in subst P same holds
@@ -81,7 +81,7 @@ pub permissions_less : (d : Data) (n : ℕ) → permissions_form d ≡ Some n �
 permissions_less d n is = whole (as_object d) is
   where
     three : (a b c : Option ℕ) → ((k : ℕ) → a ≡ Some k → k < 4) → ((k : ℕ) → b ≡ Some k → k < 4)
-        → ((k : ℕ) → c ≡ Some k → k < 4) → permissions_of a b c ≡ Some n → n < 64
+        → ((k : ℕ) → c ≡ Some k → k < 4) → permissions_from_rights a b c ≡ Some n → n < 64
     three (Some a) (Some b) (Some c) pa pb pc is =
         let la = pa a refl in
         let lb = pb b refl in
@@ -158,22 +158,22 @@ bit_less false bit = omega arith
 
 bits_less : (ds : List Data) → family_bits ds < 64
 bits_less ds =
-    let a = bit_less (list_any (is_text (codes "rp2040")) ds) 1 in
-    let b = bit_less (list_any (is_text (codes "absolute")) ds) 2 in
-    let c = bit_less (list_any (is_text (codes "data")) ds) 4 in
-    let e = bit_less (list_any (is_text (codes "rp2350-arm-s")) ds) 8 in
-    let f = bit_less (list_any (is_text (codes "rp2350-riscv")) ds) 16 in
-    let g = bit_less (list_any (is_text (codes "rp2350-arm-ns")) ds) 32 in
+    let a = bit_less (list_any (is_this_text (codes "rp2040")) ds) 1 in
+    let b = bit_less (list_any (is_this_text (codes "absolute")) ds) 2 in
+    let c = bit_less (list_any (is_this_text (codes "data")) ds) 4 in
+    let e = bit_less (list_any (is_this_text (codes "rp2350-arm-s")) ds) 8 in
+    let f = bit_less (list_any (is_this_text (codes "rp2350-riscv")) ds) 16 in
+    let g = bit_less (list_any (is_this_text (codes "rp2350-arm-ns")) ds) 32 in
     omega (arith, a, b, c, e, f, g)
 
 pub families_few : (d : Data) (f : FamilyList) → families_form d ≡ Some f → AreFew f
 families_few d f is = whole (values_in d) is
   where
     made : (ds : List Data) (o : Option (ArrayVec ℕ)) → ((ns : ArrayVec ℕ) → o ≡ Some ns → length ns.items ≤ 3)
-        → option_map (families_of (family_bits ds)) o ≡ Some f → AreFew f
+        → option_map (families_with (family_bits ds)) o ≡ Some f → AreFew f
     made ds None few is = cc
     made ds (Some ns) few is =
-        let same : families_of (family_bits ds) ns ≡ f = cc in
+        let same : families_with (family_bits ds) ns ≡ f = cc in
         subst AreFew same (record { bits = bits_less ds; numbers = few ns refl })
 
     counted : (ns : List ℕ) (v : ArrayVec ℕ)
@@ -182,7 +182,7 @@ families_few d f is = whole (values_in d) is
     counted ns v is = grind (arith, is)
 
     all : (ds : List Data) (good : Bool)
-        → (if good then option_map (families_of (family_bits ds)) (few_numbers ds) else None) ≡ Some f → AreFew f
+        → (if good then option_map (families_with (family_bits ds)) (few_numbers ds) else None) ≡ Some f → AreFew f
     all ds true is = made ds (few_numbers ds) (counted (family_numbers ds)) is
     all ds false is = cc
 
@@ -211,7 +211,8 @@ parts_say : (i : ℕ) (d : Data) (first last permissions : ℕ) (families : Fami
     → optional as_bool false (Numbered i) IgnoreRiscv d ≡ Ok riscv
     → optional as_bool false (Numbered i) NoReboot d ≡ Ok stays
     → marks_word arm riscv stays ≡ marks
-    → SaysText i d (partition_from (location_word first last permissions) families permissions id name link marks)
+    → SaysText i d (partition_from_fields
+    (location_word first last permissions) families permissions id name link marks)
 parts_say i d first last permissions families id name link marks arm riscv stays is_first is_last is_families
     is_permissions is_id is_name is_link is_arm is_riscv is_stays is_marks =
     let a = required_has (number_below 8192) (λ n. n < 8192) (number_less 8192) (Numbered i) First d first is_first in
@@ -227,17 +228,18 @@ parts_say i d first last permissions families id name link marks arm riscv stays
     families.bits permissions l.small_kind l.small_value f.numbers f.bits c in
     subst
     (λ (m : ℕ).
-    SaysText i d (partition_from (location_word first last permissions) families permissions id name link m))
+    SaysText i d (partition_from_fields (location_word first last permissions) families permissions id name link m))
     is_marks
     (subst
     (λ (n : ℕ).
     SaysText i d
-    (partition_from (location_word first last permissions) families permissions id name n (marks_word arm riscv stays)))
+    (partition_from_fields (location_word first last permissions) families permissions id name n
+    (marks_word arm riscv stays)))
     (sym l.bits)
     (record {
       first = is_first ∙ ap Ok (sym (first_back first last permissions a b c));
       last = is_last ∙ ap Ok (sym (last_back first last permissions a b c));
-      families = is_families ∙ ap (λ (n : ℕ). Ok (families_of n families.numbers)) (sym back.six_is);
+      families = is_families ∙ ap (λ (n : ℕ). Ok (families_with n families.numbers)) (sym back.six_is);
       permissions = is_permissions ∙ ap Ok (sym (permissions_back first last permissions a b c));
       again = back.again_is ∙ sym (permissions_back first last permissions a b c);
       id = is_id;
@@ -250,7 +252,7 @@ parts_say i d first last permissions families id name link marks arm riscv stays
       stays = is_stays ∙ ap Ok (sym back.stays_is);
     }))
 
-pub says_text : (i : ℕ) (d : Data) (p : Partition) → partition_of i d ≡ Ok p → SaysText i d p
+pub says_text : (i : ℕ) (d : Data) (p : Partition) → partition_of_value i d ≡ Ok p → SaysText i d p
 says_text i d p is =
     let judged = then_ok (object_judged OfPartition (Numbered i) Families d) _ p is in
     let first = then_ok (required (number_below 8192) (Numbered i) First d) _ p judged.2 in
@@ -265,7 +267,7 @@ says_text i d p is =
     let riscv = then_ok (optional as_bool false (Numbered i) IgnoreRiscv d) _ marks.0 arm.2 in
     let stays = then_ok (optional as_bool false (Numbered i) NoReboot d) _ marks.0 riscv.2 in
     let marks_are : marks_word arm.0 riscv.0 stays.0 ≡ marks.0 = ok_back _ _ stays.2 in
-    let made : partition_from (location_word first.0 last.0 permissions.0) families.0 permissions.0 id.0 name.0
+    let made : partition_from_fields (location_word first.0 last.0 permissions.0) families.0 permissions.0 id.0 name.0
     link.0 marks.0
     ≡ p = ok_back _ _ marks.2 in
     subst (SaysText i d) made

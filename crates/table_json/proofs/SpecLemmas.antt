@@ -8,7 +8,7 @@ use Rattle.image_pack.specs.ReadBack.{IsHalves}
 use Rattle.table_json.specs.declared.fault.Place.TheVariants.{Top}
 use Rattle.table_json.specs.declared.fault.Field.TheVariants.{Version as OfVersion, Processor, Rollback, Rows, Trial}
 use Rattle.table_json.specs.declared.members.Shape.TheVariants.{OfSpec}
-use Rattle.table_json.specs.Forms.{number_below, values_in, version_form, version_in, version_of}
+use Rattle.table_json.specs.Forms.{number_below, values_in, version_form, version_in_list, version_of_numbers}
 use Rattle.table_json.specs.Members.{object_judged, optional, required}
 use Rattle.table_json.specs.Seals.{no_rows, processor_form, rollback_form, rows_form, spec_from, spec_with}
 use Rattle.table_json.specs.Tables.{no_version}
@@ -19,21 +19,21 @@ version_halves : (d : Data) (v : Version) → version_form d ≡ Some v → IsHa
 version_halves d v is = whole (values_in d) is
   where
     parts : (a b : Option ℕ) → ((n : ℕ) → a ≡ Some n → n < 65536) → ((n : ℕ) → b ≡ Some n → n < 65536)
-        → version_of a b ≡ Some v → IsHalves v
+        → version_of_numbers a b ≡ Some v → IsHalves v
     parts (Some high) (Some low) one two is =
         let same : record { major = high; minor = low } ≡ v = cc in
         subst IsHalves same (record { major = one high refl; minor = two low refl })
     parts None b one two is = cc
     parts (Some high) None one two is = cc
 
-    list : (ds : List Data) → version_in ds ≡ Some v → IsHalves v
+    list : (ds : List Data) → version_in_list ds ≡ Some v → IsHalves v
     list [] is = cc
     list (a ∷ []) is = cc
     list (a ∷ b ∷ []) is =
         parts (number_below 65536 a) (number_below 65536 b) (number_less 65536 a) (number_less 65536 b) is
     list (a ∷ b ∷ c ∷ ds) is = cc
 
-    whole : (o : Option (List Data)) → option_and_then version_in o ≡ Some v → IsHalves v
+    whole : (o : Option (List Data)) → option_and_then version_in_list o ≡ Some v → IsHalves v
     whole None is = cc
     whole (Some ds) is = list ds is
 

@@ -13,7 +13,7 @@ pub values_of-items_view : (vs : List Value) → values_of (items_view vs) ≡ m
 values_of-items_view [] = refl
 values_of-items_view (v ∷ vs) = ap (λ (ds : List Data). view v ∷ ds) (values_of-items_view vs)
 
--- the same where a list was found
+-- the values of what a list of values is seen as, where a list was found
 pub values_found : (vs : List Value) (found : Option Items) → Some (items_view vs) ≡ found
     → Some (map view vs) ≡ option_map values_of found
 values_found vs found is =

@@ -9,28 +9,28 @@ use Rattle.part_table.specs.declared.table.TableFault.{TableFault}
 use Rattle.part_table.specs.Faults.{table_fault}
 use Rattle.part_table.specs.Judged.{IsJudgedAs}
 use Rattle.part_table.specs.TableOf.{table_of}
-use Rattle.part_table.specs.Written.{written, written_size}
+use Rattle.part_table.specs.Written.{written_table, written_size}
 use Rattle.table_json.specs.declared.fault.JsonFault.{JsonFault}
 use Rattle.table_json.specs.declared.fault.JsonFault.TheVariants.{TooLong, Table as Faulty}
 use Rattle.table_json.specs.Steps.{◌>>=◌}
-use Rattle.table_json.specs.Tables.{fields_of, judged, table_from, unless_faulty}
-use Rattle.table_json.specs.Texts.{IsText}
-use Rattle.table_json.specs.Whole.{IsReadWith, answer_of}
+use Rattle.table_json.specs.Tables.{table_fields, judged, table_of_value, unless_faulty}
+use Rattle.table_json.specs.Texts.{IsJsonText}
+use Rattle.table_json.specs.Whole.{IsReadWith, json_answer}
 use Rattle.table_json.proofs.PlainLemmas.{table_fault_of}
 
 -- a text has one value
-pub one_value : (bytes : List ℕ) (d e : Data) → IsText bytes d → IsText bytes e → d ≡ e
+pub one_value : (bytes : List ℕ) (d e : Data) → IsJsonText bytes d → IsJsonText bytes e → d ≡ e
 one_value bytes d e one two =
     let first = one.reads in
     let second = two.reads in
     cc
 
 -- the two judgements of a table are one
-same_judgement : (t : Table) (o : Option TableFault) → unless_faulty t o ≡ answer_of (ok_unless o t)
+same_judgement : (t : Table) (o : Option TableFault) → unless_faulty t o ≡ json_answer (ok_unless o t)
 same_judgement t None = refl
 same_judgement t (Some fault) = refl
 
-same_answers : (one two : Result Table TableFault) → answer_of one ≡ answer_of two → one ≡ two
+same_answers : (one two : Result Table TableFault) → json_answer one ≡ json_answer two → one ≡ two
 same_answers (Ok t) (Ok u) is = let same : t ≡ u = cc in ap Ok same
 same_answers (Ok t) (Err f) is = cc
 same_answers (Err f) (Ok t) is = cc
@@ -40,8 +40,8 @@ small_size : (n : ℕ) → n ≤ 640 → nat_lt 640 n ≡ false
 small_size n le = grind (arith, nat_tests)
 
 -- a table whose block is short enough is judged by its partitions
-pub judged-short : (d : Data) (t : Table) → fields_of d ≡ Ok t → written_size t ≤ 640
-    → table_from d ≡ answer_of (ok_unless (table_fault t 4096 2) t)
+pub judged-short : (d : Data) (t : Table) → table_fields d ≡ Ok t → written_size t ≤ 640
+    → table_of_value d ≡ json_answer (ok_unless (table_fault t 4096 2) t)
 judged-short d t fields short =
     ap (λ r. r >>= judged) fields
     ∙ ap (λ (b : Bool). if b then Err (TooLong (written_size t)) else unless_faulty t (table_fault t 4096 2))
@@ -49,11 +49,11 @@ judged-short d t fields short =
     ∙ same_judgement t (table_fault t 4096 2)
 
 -- what is read of its block is that judgement
-module _ (t : Table) (is : IsJudgedAs (written t) t 4096 2) where
-  read-judged : IsReadWith (written t) (ok_unless (table_fault t 4096 2) t)
+module _ (t : Table) (is : IsJudgedAs (written_table t) t 4096 2) where
+  read-judged : IsReadWith (written_table t) (ok_unless (table_fault t 4096 2) t)
   read-judged at rest = is at rest
 
-  one-reading : (answer : Result Table TableFault) → IsReadWith (written t) answer
+  one-reading : (answer : Result Table TableFault) → IsReadWith (written_table t) answer
       → ok_unless (table_fault t 4096 2) t ≡ answer
   one-reading answer reads =
       let one = is 0 [] in
@@ -63,21 +63,22 @@ module _ (t : Table) (is : IsJudgedAs (written t) t 4096 2) where
       sym one.3 ∙ ap (λ b. table_of b 4096 2) same ∙ two.3
 
   pub read-exactly : (r : Result Table JsonFault) (answer : Result Table TableFault)
-      → r ≡ answer_of (ok_unless (table_fault t 4096 2) t) → (r ≡ answer_of answer) ↔ IsReadWith (written t) answer
+      → r ≡ json_answer (ok_unless (table_fault t 4096 2) t)
+      → (r ≡ json_answer answer) ↔ IsReadWith (written_table t) answer
   read-exactly r answer known = (
     λ says at rest.
         let same = same_answers (ok_unless (table_fault t 4096 2) t) answer (sym known ∙ says) in
         let read = is at rest in (read.0, read.1, read.2, read.3 ∙ same),
-    λ reads. known ∙ ap answer_of (one-reading answer reads),
+    λ reads. known ∙ ap json_answer (one-reading answer reads),
   )
 
--- and a longer one is refused for its size
-pub long-exactly : (d : Data) (t : Table) (size : ℕ) → fields_of d ≡ Ok t
-    → (table_from d ≡ Err (TooLong size)) ↔ ((640 < written_size t) × (size ≡ written_size t))
+-- a table that is written in more than 640 bytes is refused for its size
+pub long-exactly : (d : Data) (t : Table) (size : ℕ) → table_fields d ≡ Ok t
+    → (table_of_value d ≡ Err (TooLong size)) ↔ ((640 < written_size t) × (size ≡ written_size t))
 long-exactly d t size fields = go (nat_lt 640 (written_size t)) refl
   where
     known : (b : Bool) → nat_lt 640 (written_size t) ≡ b
-        → table_from d ≡ (if b then Err (TooLong (written_size t)) else unless_faulty t (table_fault t 4096 2))
+        → table_of_value d ≡ (if b then Err (TooLong (written_size t)) else unless_faulty t (table_fault t 4096 2))
     known b is = ap (λ r. r >>= judged) fields
         ∙ ap (λ (x : Bool). if x then Err (TooLong (written_size t)) else unless_faulty t (table_fault t 4096 2)) is
 
@@ -86,12 +87,12 @@ long-exactly d t size fields = go (nat_lt 640 (written_size t)) refl
     never (Some fault) is = cc
 
     go : (b : Bool) → nat_lt 640 (written_size t) ≡ b
-        → (table_from d ≡ Err (TooLong size)) ↔ ((640 < written_size t) × (size ≡ written_size t))
+        → (table_of_value d ≡ Err (TooLong size)) ↔ ((640 < written_size t) × (size ≡ written_size t))
     go true is = (
       λ says.
           let same : (r : Result Table JsonFault) → r ≡ Err (TooLong (written_size t)) → r ≡ Err (TooLong size)
           → size ≡ written_size t = λ r one two. cc in
-          (grind (arith, nat_tests, is), same (table_from d) (known true is) says),
+          (grind (arith, nat_tests, is), same (table_of_value d) (known true is) says),
       λ x. known true is ∙ ap (λ n. Err (TooLong n)) (sym x.1),
     )
     go false is = (
@@ -100,8 +101,8 @@ long-exactly d t size fields = go (nat_lt 640 (written_size t)) refl
     )
 
 -- the table that such a fault is of
-pub fault-fields : (d : Data) (fault : TableFault) → table_from d ≡ Err (Faulty fault)
-    → (t : Table) × (fields_of d ≡ Ok t) × (written_size t ≤ 640)
+pub fault-fields : (d : Data) (fault : TableFault) → table_of_value d ≡ Err (Faulty fault)
+    → (t : Table) × (table_fields d ≡ Ok t) × (written_size t ≤ 640)
 fault-fields d fault is =
     let found = table_fault_of d fault is in
     (found.0, found.1, go (nat_lt 640 (written_size found.0)) refl)
@@ -114,4 +115,4 @@ fault-fields d fault is =
         (table_fault_of d fault is).1).1 (grind (arith, nat_tests, many), refl) in
         let differ : (r : Result Table JsonFault) (n : ℕ) → r ≡ Err (TooLong n) → r ≡ Err (Faulty fault) → ⊥ =
         λ r n one two. cc in
-        absurd (differ (table_from d) _ long is)
+        absurd (differ (table_of_value d) _ long is)

@@ -1,4 +1,4 @@
--- Worked examples of texts, with their answers reckoned by hand from the rules. This project's own.
+-- Worked examples of texts, with their answers reckoned by hand from the rules.
 use Rattle.std.specs.Prelude.{ℕ, zero, suc, false, List, [], ◌++◌, ◌+◌, codes, replicate, Option, None, Some, option_map, Result, Ok, Err}
 use Rattle.pico_board.specs.declared.boot.Cpu.{Cpu}
 use Rattle.serde_json.specs.Read.{read}
@@ -10,16 +10,16 @@ use Rattle.table_json.specs.declared.fault.Field.{Field}
 use Rattle.table_json.specs.declared.fault.JsonFault.{JsonFault}
 use Rattle.table_json.specs.declared.fault.JsonFault.TheVariants.{Value, Missing}
 use Rattle.table_json.specs.declared.fault.Place.TheVariants.{Top, Unpartitioned, Partition as Numbered}
-use Rattle.table_json.specs.Partitions.{partition_of}
-use Rattle.table_json.specs.Tables.{table_from}
+use Rattle.table_json.specs.Partitions.{partition_of_value}
+use Rattle.table_json.specs.Tables.{table_of_value}
 use Rattle.table_json.specs.Seals.{spec_from, spec_with}
 
 -- what is said of the value of a text, as a table, as partition 0, and as a spec
 abbrev pub table_said : List ℕ → Option (Result Table JsonFault)
-table_said text = option_map table_from (read text)
+table_said text = option_map table_of_value (read text)
 
-abbrev pub part_in : List ℕ → Option (Result Partition JsonFault)
-part_in text = option_map (partition_of 0) (read text)
+abbrev pub first_partition_in : List ℕ → Option (Result Partition JsonFault)
+first_partition_in text = option_map (partition_of_value 0) (read text)
 
 abbrev pub spec_in : List ℕ → Option (Result SealSpec JsonFault)
 spec_in text = option_map spec_from (read text)
@@ -43,11 +43,12 @@ part first last more =
 
 -- what is said of the partition of the sectors 2 to 3 with all rights and these further members
 abbrev pub part_and : List ℕ → Option (Result Partition JsonFault)
-part_and more = part_in (part (codes "2") (codes "3") more)
+part_and more = first_partition_in (part (codes "2") (codes "3") more)
 
 -- what is said of the partition of sector 0 with these further members
-abbrev pub part_of : List ℕ → Option (Result Partition JsonFault)
-part_of more = part_in (codes "{\"first\":0,\"last\":0," ++ more ++ codes "}")
+abbrev pub partition_with_members : List ℕ → Option (Result Partition JsonFault)
+partition_with_members more = first_partition_in
+    (codes "{\"first\":0,\"last\":0," ++ more ++ codes "}")
 
 -- a table of these partitions, in which the unpartitioned sectors have all rights and accept the
 -- absolute family
@@ -59,8 +60,8 @@ table_of_parts parts =
     ++ codes "]}"
 
 -- the partition of the sectors 2 to 3 with all rights and this further in its flag word
-abbrev pub flagged : ℕ → Option (Result Partition JsonFault)
-flagged more = Some (Ok (partition_with (0xfc000000 + more) None [] None))
+abbrev pub flagged_partition : ℕ → Option (Result Partition JsonFault)
+flagged_partition more = Some (Ok (partition_with (0xfc000000 + more) None [] None))
 
 -- answers that are a fault
 abbrev pub part_value : Field → Option (Result Partition JsonFault)
@@ -79,17 +80,17 @@ abbrev pub outside_value : Field → Option (Result Table JsonFault)
 outside_value field = Some (Err (Value Unpartitioned field))
 
 -- a name of n bytes
-abbrev pub named : ℕ → List ℕ
-named n = codes ",\"name\":\"" ++ replicate n 97 ++ codes "\""
+abbrev pub name_member : ℕ → List ℕ
+name_member n = codes ",\"name\":\"" ++ replicate n 97 ++ codes "\""
 
 -- a member n times, with a comma behind each
-abbrev pub times : ℕ → List ℕ → List ℕ
-times zero one = []
-times (suc n) one = one ++ codes "," ++ times n one
+abbrev pub member_times : ℕ → List ℕ → List ℕ
+member_times zero one = []
+member_times (suc n) one = one ++ codes "," ++ member_times n one
 
 -- a list of a member n + 1 times
 abbrev pub list_of : ℕ → List ℕ → List ℕ
-list_of n one = codes "[" ++ times n one ++ one ++ codes "]"
+list_of n one = codes "[" ++ member_times n one ++ one ++ codes "]"
 
 -- lists in one another, n deep
 abbrev pub nested : ℕ → List ℕ

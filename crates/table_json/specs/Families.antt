@@ -28,8 +28,8 @@ abbrev pub is_family : Data → Bool
 is_family d = is_family_name d || is_some (family_number d)
 
 -- whether a value is this text
-abbrev pub is_text : List ℕ → Data → Bool
-is_text text d = option_map_or (λ found. bytes_eq found text) (as_str d) false
+abbrev pub is_this_text : List ℕ → Data → Bool
+is_this_text text d = option_map_or (λ found. bytes_eq found text) (as_str d) false
 
 -- a bit is set where a list names its family
 abbrev pub bit_if : Bool → ℕ → ℕ
@@ -38,12 +38,12 @@ bit_if set bit = if set then bit else 0
 -- the six bits of a list
 abbrev pub family_bits : List Data → ℕ
 family_bits ds =
-    bit_if (list_any (is_text (codes "rp2040")) ds) 1
-    + bit_if (list_any (is_text (codes "absolute")) ds) 2
-    + bit_if (list_any (is_text (codes "data")) ds) 4
-    + bit_if (list_any (is_text (codes "rp2350-arm-s")) ds) 8
-    + bit_if (list_any (is_text (codes "rp2350-riscv")) ds) 16
-    + bit_if (list_any (is_text (codes "rp2350-arm-ns")) ds) 32
+    bit_if (list_any (is_this_text (codes "rp2040")) ds) 1
+    + bit_if (list_any (is_this_text (codes "absolute")) ds) 2
+    + bit_if (list_any (is_this_text (codes "data")) ds) 4
+    + bit_if (list_any (is_this_text (codes "rp2350-arm-s")) ds) 8
+    + bit_if (list_any (is_this_text (codes "rp2350-riscv")) ds) 16
+    + bit_if (list_any (is_this_text (codes "rp2350-arm-ns")) ds) 32
 
 -- the numbers of a list, in its order, at most three
 abbrev pub family_numbers : List Data → List ℕ
@@ -62,12 +62,12 @@ abbrev pub names_form : Data → Option ℕ
 names_form d = option_and_then names_in (values_in d)
 
 -- a list of names and numbers
-abbrev pub families_of : ℕ → ArrayVec ℕ → Families
-families_of six others = record { bits = six; numbers = others }
+abbrev pub families_with : ℕ → ArrayVec ℕ → Families
+families_with six others = record { bits = six; numbers = others }
 
 abbrev pub families_in : List Data → Option Families
 families_in ds =
-    if list_all is_family ds then option_map (families_of (family_bits ds)) (few_numbers ds)
+    if list_all is_family ds then option_map (families_with (family_bits ds)) (few_numbers ds)
     else None
 
 abbrev pub families_form : Data → Option Families
@@ -75,4 +75,4 @@ families_form d = option_and_then families_in (values_in d)
 
 -- no family
 abbrev pub no_families : Families
-no_families = families_of 0 (record { items = [] })
+no_families = families_with 0 (record { items = [] })

@@ -1,4 +1,4 @@
--- The forms of the values of members: a form reads a value, or refuses it. This project's own.
+-- The forms of the values of members: a form reads a value, or refuses it.
 use Rattle.std.specs.Prelude.{ℕ, ◌+◌, ◌*◌, if◌then◌else◌, List, [], ◌∷◌, length, nat_lt, nat_le, codes, bytes_eq}
 use Rattle.std.specs.Prelude.{Option, None, Some, option_map, option_and_then}
 use Rattle.arrayvec.specs.ArrayVec.{ArrayVec}
@@ -28,16 +28,17 @@ abbrev pub number_below : ℕ → Data → Option ℕ
 number_below bound d = option_and_then (if_below bound) (number_in d)
 
 -- a version is a list of two numbers below 65,536, major first
-abbrev pub version_of : Option ℕ → Option ℕ → Option Version
-version_of (Some high) (Some low) = Some (record { major = high; minor = low })
-version_of _ _ = None
+abbrev pub version_of_numbers : Option ℕ → Option ℕ → Option Version
+version_of_numbers (Some high) (Some low) = Some (record { major = high; minor = low })
+version_of_numbers _ _ = None
 
-abbrev pub version_in : List Data → Option Version
-version_in (high ∷ low ∷ []) = version_of (number_below 65536 high) (number_below 65536 low)
-version_in _ = None
+abbrev pub version_in_list : List Data → Option Version
+version_in_list (high ∷ low ∷ []) = version_of_numbers (number_below 65536 high)
+    (number_below 65536 low)
+version_in_list _ = None
 
 abbrev pub version_form : Data → Option Version
-version_form d = option_and_then version_in (values_in d)
+version_form d = option_and_then version_in_list (values_in d)
 
 -- a name is a text of at most 127 bytes
 abbrev pub name_of_text : List ℕ → Option (ArrayVec ℕ)
@@ -84,14 +85,14 @@ abbrev pub rights_for : List ℕ → Data → Option ℕ
 rights_for name d = option_and_then rights_form (get name d)
 
 -- six bits of rights: secure, then nonsecure, then bootloader
-abbrev pub permissions_of : Option ℕ → Option ℕ → Option ℕ → Option ℕ
-permissions_of (Some secure) (Some nonsecure) (Some bootloader) =
+abbrev pub permissions_from_rights : Option ℕ → Option ℕ → Option ℕ → Option ℕ
+permissions_from_rights (Some secure) (Some nonsecure) (Some bootloader) =
     Some (secure + 4 * nonsecure + 16 * bootloader)
-permissions_of _ _ _ = None
+permissions_from_rights _ _ _ = None
 
 abbrev pub permissions_in : Data → Option ℕ
 permissions_in d =
-    permissions_of (rights_for (codes "secure") d) (rights_for (codes "nonsecure") d)
+    permissions_from_rights (rights_for (codes "secure") d) (rights_for (codes "nonsecure") d)
     (rights_for (codes "bootloader") d)
 
 -- permissions are an object with exactly these three members

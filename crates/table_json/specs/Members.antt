@@ -1,4 +1,4 @@
--- The members of the objects of a text. This project's own.
+-- The members of the objects of a text.
 use Rattle.std.specs.Prelude.{ℕ, Bool, false, ◌||◌, not, if◌then◌else◌, List, [], ◌∷◌, ⊤, codes, bytes_eq}
 use Rattle.std.specs.Prelude.{Option, None, Some, Result, Ok, Err, ok_or}
 use Rattle.std.specs.List.{list_any}
@@ -13,25 +13,25 @@ use Rattle.table_json.specs.declared.members.Shape.{Shape}
 use Rattle.table_json.specs.declared.members.Shape.TheVariants.{OfTable, OfUnpartitioned, OfPartition, OfPermissions, OfSpec}
 
 -- the name of a member
-abbrev pub name_of : Field → List ℕ
-name_of Version = codes "version"
-name_of Singleton = codes "singleton"
-name_of Unpartitioned = codes "unpartitioned"
-name_of Families = codes "families"
-name_of Permissions = codes "permissions"
-name_of Partitions = codes "partitions"
-name_of First = codes "first"
-name_of Last = codes "last"
-name_of Id = codes "id"
-name_of Name = codes "name"
-name_of Link = codes "link"
-name_of IgnoreArm = codes "ignore_arm"
-name_of IgnoreRiscv = codes "ignore_riscv"
-name_of NoReboot = codes "no_reboot"
-name_of Processor = codes "processor"
-name_of Rollback = codes "rollback"
-name_of Rows = codes "rows"
-name_of Trial = codes "trial"
+abbrev pub member_name : Field → List ℕ
+member_name Version = codes "version"
+member_name Singleton = codes "singleton"
+member_name Unpartitioned = codes "unpartitioned"
+member_name Families = codes "families"
+member_name Permissions = codes "permissions"
+member_name Partitions = codes "partitions"
+member_name First = codes "first"
+member_name Last = codes "last"
+member_name Id = codes "id"
+member_name Name = codes "name"
+member_name Link = codes "link"
+member_name IgnoreArm = codes "ignore_arm"
+member_name IgnoreRiscv = codes "ignore_riscv"
+member_name NoReboot = codes "no_reboot"
+member_name Processor = codes "processor"
+member_name Rollback = codes "rollback"
+member_name Rows = codes "rows"
+member_name Trial = codes "trial"
 
 -- the names that are listed for an object
 abbrev pub names_of : Shape → List (List ℕ)
@@ -47,13 +47,13 @@ names_of OfSpec =
     codes "processor" ∷ codes "version" ∷ codes "rollback" ∷ codes "rows" ∷ codes "trial" ∷ []
 
 -- whether a name is listed for an object
-abbrev pub is_listed : Shape → List ℕ → Bool
-is_listed shape name = list_any (bytes_eq name) (names_of shape)
+abbrev pub is_member_name : Shape → List ℕ → Bool
+is_member_name shape name = list_any (bytes_eq name) (names_of shape)
 
 -- whether a member is not listed for an object
 abbrev pub has_unknown : Shape → Members → Bool
 has_unknown shape no_members = false
-has_unknown shape (member name d ms) = not (is_listed shape name) || has_unknown shape ms
+has_unknown shape (member name d ms) = not (is_member_name shape name) || has_unknown shape ms
 
 -- the members of an object are judged before all: Unknown where one is not listed
 abbrev pub members_judged : Shape → Place → Members → Result ⊤ JsonFault
@@ -79,9 +79,9 @@ required_in form place field (Some d) = formed form place field d
 
 abbrev pub required : {A : Type 0} → (Data → Option A) → Place → Field → Data
     → Result A JsonFault
-required form place field d = required_in form place field (get (name_of field) d)
+required form place field d = required_in form place field (get (member_name field) d)
 
--- another member has its default where it is absent, and its form otherwise
+-- an optional member has its default where it is absent, and its form otherwise
 abbrev pub optional_in : {A : Type 0} → (Data → Option A) → A → Place → Field → Option Data
     → Result A JsonFault
 optional_in form default place field None = Ok default
@@ -89,4 +89,5 @@ optional_in form default place field (Some d) = formed form place field d
 
 abbrev pub optional : {A : Type 0} → (Data → Option A) → A → Place → Field → Data
     → Result A JsonFault
-optional form default place field d = optional_in form default place field (get (name_of field) d)
+optional form default place field d = optional_in form default place field
+    (get (member_name field) d)

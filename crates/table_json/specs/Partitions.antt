@@ -33,8 +33,8 @@ flag_word has_id link extra marks has_name bits permissions =
     + 67108864 * permissions
 
 -- a partition of these parts
-abbrev pub partition_with : ℕ → ℕ → Option ℕ → Families → Option (ArrayVec ℕ) → Partition
-partition_with at flag_bits number extra text = record {
+abbrev pub made_partition : ℕ → ℕ → Option ℕ → Families → Option (ArrayVec ℕ) → Partition
+made_partition at flag_bits number extra text = record {
   location = at;
   flags = flag_bits;
   id = number;
@@ -42,9 +42,10 @@ partition_with at flag_bits number extra text = record {
   name = text;
 }
 
-abbrev pub partition_from : ℕ → Families → ℕ → Option ℕ → Option (ArrayVec ℕ) → ℕ → ℕ → Partition
-partition_from at families permissions id name link marks =
-    partition_with at
+abbrev pub partition_from_fields : ℕ → Families → ℕ → Option ℕ → Option (ArrayVec ℕ) → ℕ → ℕ
+    → Partition
+partition_from_fields at families permissions id name link marks =
+    made_partition at
     (flag_word (is_some id) link (length families.numbers.items) marks (is_some name)
     families.bits permissions)
     id families name
@@ -65,8 +66,8 @@ marks_of i d = do
   Ok (marks_word arm riscv stays)
 
 -- partition i of a text: its object is judged first, then its members in this order
-abbrev pub partition_of : ℕ → Data → Result Partition JsonFault
-partition_of i d = do
+abbrev pub partition_of_value : ℕ → Data → Result Partition JsonFault
+partition_of_value i d = do
   judged ← object_judged OfPartition (Numbered i) OfFamilies d
   first ← required (number_below 8192) (Numbered i) First d
   last ← required (number_below 8192) (Numbered i) Last d
@@ -76,13 +77,13 @@ partition_of i d = do
   name ← optional some_name None (Numbered i) Name d
   link ← optional link_form 0 (Numbered i) Link d
   marks ← marks_of i d
-  Ok (partition_from (location_word first last permissions) families permissions id name link marks)
+  Ok (partition_from_fields (location_word first last permissions) families permissions id name link marks)
 
 -- the partitions of a list, in order, behind those that were read before
 abbrev pub partitions_after : List Partition → List Data → Result (ArrayVec Partition) JsonFault
 partitions_after done [] = Ok (record { items = done })
 partitions_after done (d ∷ ds) =
-    partition_of (length done) d >>= (λ part. partitions_after (done ++ part ∷ []) ds)
+    partition_of_value (length done) d >>= (λ part. partitions_after (done ++ part ∷ []) ds)
 
 -- the word for the sectors that no partition has: bits 14 to 19 the families, 26 to 31 the
 -- permissions

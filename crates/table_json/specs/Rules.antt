@@ -1,5 +1,5 @@
 -- The rules of a text as one list, in the order in which they are judged, beside the functions of
--- Tables and Seals: each rule with the fault of a text that breaks it. This project's own.
+-- Tables and Seals: each rule with the fault of a text that breaks it.
 use Rattle.std.specs.Prelude.{ℕ, Bool, false, if◌then◌else◌, ◌+◌, List, [], ◌∷◌, ◌++◌, is_none}
 use Rattle.std.specs.Prelude.{Option, None, Some, option_and_then}
 use Rattle.std.specs.Option.{option_map_or}
@@ -13,7 +13,7 @@ use Rattle.table_json.specs.declared.fault.JsonFault.{JsonFault}
 use Rattle.table_json.specs.declared.fault.JsonFault.TheVariants.{Unknown, Missing, Value}
 use Rattle.table_json.specs.declared.members.Shape.{Shape}
 use Rattle.table_json.specs.declared.members.Shape.TheVariants.{OfTable, OfUnpartitioned, OfPartition, OfSpec}
-use Rattle.table_json.specs.Members.{name_of, has_unknown}
+use Rattle.table_json.specs.Members.{member_name, has_unknown}
 use Rattle.table_json.specs.Forms.{number_below, version_form, link_form, permissions_form}
 use Rattle.table_json.specs.Families.{names_form, families_form}
 use Rattle.table_json.specs.Partitions.{id_form, some_name}
@@ -35,11 +35,12 @@ first_broken (r ∷ rs) = if r.broken then Some r.fault else first_broken rs
 
 -- a member is absent
 abbrev pub is_absent : Field → Data → Bool
-is_absent field d = is_none (get (name_of field) d)
+is_absent field d = is_none (get (member_name field) d)
 
 -- a member is there and has another form
 abbrev pub has_other_form : {A : Type 0} → (Data → Option A) → Field → Data → Bool
-has_other_form form field d = option_map_or (λ x. is_none (form x)) (get (name_of field) d) false
+has_other_form form field d = option_map_or (λ x. is_none (form x))
+    (get (member_name field) d) false
 
 -- an object is one, and each of its members is listed
 abbrev pub object_rules : Shape → Place → Field → Data → List Rule
@@ -55,7 +56,7 @@ required_rules form place field d =
     ∷ rule (has_other_form form field d) (Value place field)
     ∷ []
 
--- another member has its form where it is there
+-- an optional member has its form where it is there
 abbrev pub optional_rules : {A : Type 0} → (Data → Option A) → Place → Field → Data → List Rule
 optional_rules form place field d = rule (has_other_form form field d) (Value place field) ∷ []
 
@@ -105,8 +106,8 @@ rules_if rules (Some a) = rules a
 abbrev pub table_rules : Data → List Rule
 table_rules d =
     top_rules d
-    ++ (rules_if unpartitioned_rules (get (name_of Unpartitioned) d)
-    ++ rules_if (partitions_rules 0) (option_and_then few_form (get (name_of Partitions) d)))
+    ++ (rules_if unpartitioned_rules (get (member_name Unpartitioned) d)
+    ++ rules_if (partitions_rules 0) (option_and_then few_form (get (member_name Partitions) d)))
 
 -- the rules of a spec
 abbrev pub spec_rules : Data → List Rule

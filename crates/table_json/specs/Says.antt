@@ -1,4 +1,4 @@
--- What a partition says, by the fields of its words, beside what its text says. This project's own.
+-- What a partition says, by the fields of its words, beside what its text says.
 use Rattle.std.specs.Prelude.{◌≡◌, ℕ, ◌+◌, ◌*◌, ◌/◌, ◌%◌, ◌^◌, false, None, Ok}
 use Rattle.serde_json.specs.Data.{Data}
 use Rattle.serde_json.specs.Find.{as_bool}
@@ -9,7 +9,7 @@ use Rattle.table_json.specs.declared.fault.Place.TheVariants.{Partition as Numbe
 use Rattle.table_json.specs.declared.fault.Field.TheVariants.{Families, Permissions, First, Last, Id, Name, Link, IgnoreArm, IgnoreRiscv, NoReboot}
 use Rattle.table_json.specs.Members.{required, optional}
 use Rattle.table_json.specs.Forms.{number_below, link_form, permissions_form}
-use Rattle.table_json.specs.Families.{families_form, families_of, no_families}
+use Rattle.table_json.specs.Families.{families_form, families_with, no_families}
 use Rattle.table_json.specs.Partitions.{id_form, some_name}
 
 -- each member of partition i of a text says what the partition's field says
@@ -18,7 +18,7 @@ pub record SaysText (i : ℕ) (d : Data) (p : Partition) : Type 0 where
   pub last : required (number_below 8192) (Numbered i) Last d ≡ Ok (last_sector p)
   -- bits 14 to 19 of the flag word are the families by name
   pub families : optional families_form no_families (Numbered i) Families d
-      ≡ Ok (families_of (p.flags / 2 ^ 14 % 2 ^ 6) p.families)
+      ≡ Ok (families_with (p.flags / 2 ^ 14 % 2 ^ 6) p.families)
   pub permissions : required permissions_form (Numbered i) Permissions d
       ≡ Ok (permissions_of p.location)
   pub again : permissions_of p.flags ≡ permissions_of p.location

@@ -1,4 +1,4 @@
--- The spec of a sealed image, from a text. This project's own.
+-- The spec of a sealed image, from a text.
 use Rattle.std.specs.Prelude.{ℕ, Bool, false, if◌then◌else◌, List, [], ◌∷◌, ◌++◌, length, nat_le, codes, bytes_eq}
 use Rattle.std.specs.Prelude.{Option, None, Some, option_map, option_and_then, Result, Ok}
 use Rattle.arrayvec.specs.ArrayVec.{ArrayVec}
@@ -38,11 +38,11 @@ rows_after done (d ∷ ds) =
     option_and_then (λ row. rows_after (done ++ row ∷ []) ds) (number_below 65536 d)
 
 -- rows are a list of at most 32
-abbrev pub rows_in : List Data → Option (ArrayVec ℕ)
-rows_in ds = if nat_le (length ds) 32 then rows_after [] ds else None
+abbrev pub listed_rows : List Data → Option (ArrayVec ℕ)
+listed_rows ds = if nat_le (length ds) 32 then rows_after [] ds else None
 
 abbrev pub rows_form : Data → Option (ArrayVec ℕ)
-rows_form d = option_and_then rows_in (values_in d)
+rows_form d = option_and_then listed_rows (values_in d)
 
 -- no rows
 abbrev pub no_rows : ArrayVec ℕ

@@ -1,4 +1,4 @@
--- Steps of which the first fault is the answer. This project's own.
+-- Steps of which the first fault is the answer.
 use Rattle.std.specs.Prelude.{Result, Ok, Err}
 use Rattle.table_json.specs.declared.fault.JsonFault.{JsonFault}
 

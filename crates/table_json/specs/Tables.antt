@@ -1,4 +1,4 @@
--- The table of a text. This project's own.
+-- The table of a text.
 use Rattle.std.specs.Prelude.{ℕ, Bool, false, if◌then◌else◌, List, [], length, nat_lt, nat_le}
 use Rattle.std.specs.Prelude.{Option, None, Some, option_and_then, Result, Ok, Err}
 use Rattle.arrayvec.specs.ArrayVec.{ArrayVec}
@@ -32,14 +32,14 @@ abbrev pub few_form : Data → Option (List Data)
 few_form d = option_and_then if_few (values_in d)
 
 -- a table of these parts
-abbrev pub table_with : Version → Bool → ℕ → ArrayVec Partition → Table
-table_with number alone word partitions =
+abbrev pub table_with_fields : Version → Bool → ℕ → ArrayVec Partition → Table
+table_with_fields number alone word partitions =
     record { version = number; singleton = alone; unpartitioned = word; parts = partitions }
 
 -- the fields of a table: its object is judged first, then its members in this order, then what is
 -- said of the unpartitioned sectors, then the partitions in order
-abbrev pub fields_of : Data → Result Table JsonFault
-fields_of d = do
+abbrev pub table_fields : Data → Result Table JsonFault
+table_fields d = do
   judged ← object_judged OfTable Top Partitions d
   version ← optional version_form no_version Top OfVersion d
   singleton ← optional as_bool false Top Singleton d
@@ -47,7 +47,7 @@ fields_of d = do
   partitions ← required few_form Top Partitions d
   word ← unpartitioned_of unpartitioned
   parts ← partitions_after [] partitions
-  Ok (table_with version singleton word parts)
+  Ok (table_with_fields version singleton word parts)
 
 -- a table whose partitions have no fault
 abbrev pub unless_faulty : Table → Option TableFault → Result Table JsonFault
@@ -62,5 +62,5 @@ judged t =
     else unless_faulty t (table_fault t 4096 2)
 
 -- the table of a text's value, or its first fault
-abbrev pub table_from : Data → Result Table JsonFault
-table_from d = fields_of d >>= judged
+abbrev pub table_of_value : Data → Result Table JsonFault
+table_of_value d = table_fields d >>= judged

@@ -5,6 +5,6 @@ use Rattle.serde_json.specs.Read.{read}
 
 -- bytes are the text of a value where they are UTF-8 and the reader reads them as it; it reads what
 -- nests at most 127 deep
-pub record IsText (bytes : List ℕ) (d : Data) : Type 0 where
+pub record IsJsonText (bytes : List ℕ) (d : Data) : Type 0 where
   pub utf8 : IsUtf8 bytes
   pub reads : read bytes ≡ Some d

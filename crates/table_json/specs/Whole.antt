@@ -1,4 +1,4 @@
--- What is read of the block that is written for a whole table. This project's own.
+-- What is read of the block that is written for a whole table.
 use Rattle.std.specs.Prelude.{◌≡◌, ℕ, ◌++◌, true, List, Some, Result, Ok, Err}
 use Rattle.block_codec.specs.Blocks.{BlockView}
 use Rattle.block_codec.specs.Reading.{front_block}
@@ -16,7 +16,7 @@ IsReadWith bytes answer =
     → (b : BlockView) × (front_block at (bytes ++ rest) ≡ Some b) × (has_table b ≡ true)
     × (table_of b 4096 2 ≡ answer)
 
--- such an answer as that of a text
-abbrev pub answer_of : Result Table TableFault → Result Table JsonFault
-answer_of (Ok t) = Ok t
-answer_of (Err fault) = Err (Faulty fault)
+-- an answer on the table of a text as the answer of the text
+abbrev pub json_answer : Result Table TableFault → Result Table JsonFault
+json_answer (Ok t) = Ok t
+json_answer (Err fault) = Err (Faulty fault)

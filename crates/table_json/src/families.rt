@@ -3,7 +3,7 @@
 ghost use Rattle.std.specs.Prelude.{◌≡◌, ◌<◌, ◌≤◌, length, map, IfSome};
 ghost use Rattle.std.specs.List.{list_any, list_all};
 ghost use Rattle.serde_json.specs.View.{view};
-ghost use Rattle.table_json.specs.Families.{is_family_name, is_family, is_text, bit_if, family_bits, few_numbers, names_in, names_form, families_in, families_form, no_families};
+ghost use Rattle.table_json.specs.Families.{is_family_name, is_family, is_this_text, bit_if, family_bits, few_numbers, names_in, names_form, families_in, families_form, no_families};
 
 use crate::forms::{number_below, values};
 use arrayvec::ArrayVec;
@@ -80,8 +80,8 @@ fn are_families(values: &[Value]) -> bool
 }
 
 /// Whether a value is this text.
-fn is_text(value: &Value, text: &str) -> bool
-    ensures { result ≡ is_text text.now (view value.now) }
+fn is_this_text(value: &Value, text: &str) -> bool
+    ensures { result ≡ is_this_text text.now (view value.now) }
 {
     match value.as_str() {
         Some(found) => found == text,
@@ -91,10 +91,10 @@ fn is_text(value: &Value, text: &str) -> bool
 
 /// Whether a value of a list is this text.
 fn has_text(values: &[Value], text: &str) -> bool
-    ensures { result ≡ list_any (is_text text.now) (map view values.now) }
+    ensures { result ≡ list_any (is_this_text text.now) (map view values.now) }
 {
     for value in values {
-        if is_text(value, text) {
+        if is_this_text(value, text) {
             return true;
         }
     }

@@ -1,7 +1,7 @@
 //! Why a text is no table and no spec, and the members that a text may have.
 
 ghost use Rattle.std.specs.Prelude.{◌≡◌};
-ghost use Rattle.table_json.specs.Members.{name_of};
+ghost use Rattle.table_json.specs.Members.{member_name};
 
 use part_table::TableFault;
 use thiserror::Error;
@@ -88,7 +88,7 @@ pub enum JsonFault {
 impl Field {
     /// The member's name.
     pub fn name(self) -> &'static str
-        ensures { result.now ≡ name_of self }
+        ensures { result.now ≡ member_name self }
     {
         match self {
             Field::Version => "version",

@@ -2,7 +2,7 @@
 
 ghost use Rattle.std.specs.Prelude.{◌≡◌, ◌%◌, ◌<◌, ◌≤◌, ◌^◌, length, map, IfSome, option_map};
 ghost use Rattle.serde_json.specs.View.{view};
-ghost use Rattle.table_json.specs.Forms.{values_in, number_in, number_below, version_in, version_form, name_of_text, name_form, link_type_of, link_in, link_form, rights_of, rights_form, rights_for, permissions_in, permissions_form};
+ghost use Rattle.table_json.specs.Forms.{values_in, number_in, number_below, version_in_list, version_form, name_of_text, name_form, link_type_of, link_in, link_form, rights_of, rights_form, rights_for, permissions_in, permissions_form};
 
 use crate::members::{Shape, has_unknown};
 use arrayvec::ArrayVec;
@@ -33,8 +33,8 @@ pub(crate) fn half_word(value: &Value) -> Option<u16>
 }
 
 /// The version of two values.
-fn version_in(values: &[Value]) -> Option<Version>
-    ensures { result ≡ version_in (map view values.now) }
+fn version_in_list(values: &[Value]) -> Option<Version>
+    ensures { result ≡ version_in_list (map view values.now) }
 {
     match values {
         [major, minor] => Some(Version {
@@ -49,7 +49,7 @@ fn version_in(values: &[Value]) -> Option<Version>
 pub(crate) fn version_form(value: &Value) -> Option<Version>
     ensures { result ≡ version_form (view value.now) }
 {
-    version_in(values(value)?)
+    version_in_list(values(value)?)
 }
 
 /// A name: a text of at most 127 bytes.

@@ -3,7 +3,7 @@
 ghost use Rattle.std.specs.Prelude.{◌≡◌, option_map};
 ghost use Rattle.serde_json.specs.Find.{get, as_object};
 ghost use Rattle.serde_json.specs.View.{view, members_view};
-ghost use Rattle.table_json.specs.Members.{is_listed, has_unknown, members_judged, object_judged, name_of, required, optional};
+ghost use Rattle.table_json.specs.Members.{is_member_name, has_unknown, members_judged, object_judged, member_name, required, optional};
 
 use crate::{Field, JsonFault, Place};
 use serde_json::{Map, Value};
@@ -24,8 +24,8 @@ pub(crate) enum Shape {
 }
 
 /// Whether a name is listed for an object.
-fn is_listed(shape: Shape, name: &str) -> bool
-    ensures { result ≡ is_listed shape name.now }
+fn is_member_name(shape: Shape, name: &str) -> bool
+    ensures { result ≡ is_member_name shape name.now }
 {
     match shape {
         Shape::OfTable => {
@@ -63,7 +63,7 @@ pub(crate) fn has_unknown(shape: Shape, members: &Map<String, Value>) -> bool
     ensures { result ≡ has_unknown shape (members_view members.now.entries) }
 {
     for (name, _) in members.iter() {
-        if !is_listed(shape, name.as_str()) {
+        if !is_member_name(shape, name.as_str()) {
             return true;
         }
     }

@@ -8,7 +8,7 @@ ghost use Rattle.part_table.specs.Written.{AgreesWithFlags};
 ghost use Rattle.table_json.specs.Members.{required, optional};
 ghost use Rattle.table_json.specs.Forms.{number_below, permissions_form, link_form};
 ghost use Rattle.table_json.specs.Families.{names_form, families_form, no_families};
-ghost use Rattle.table_json.specs.Partitions.{location_word, marks_word, flag_word, partition_from, id_form, some_name, marks_of, partition_of, partitions_after, unpartitioned_of};
+ghost use Rattle.table_json.specs.Partitions.{location_word, marks_word, flag_word, partition_from_fields, id_form, some_name, marks_of, partition_of_value, partitions_after, unpartitioned_of};
 
 use crate::families::{Families, bit_if, families_form, names_form, no_families};
 use crate::forms::{link_form, name_form, number_below, permissions_form};
@@ -194,7 +194,7 @@ fn flag_word(
 }
 
 /// A partition of these parts.
-fn partition_from(
+fn partition_from_fields(
     location: u32,
     families: Families,
     permissions: u32,
@@ -211,7 +211,7 @@ fn partition_from(
     requires whole { marks % 512 ≡ 0 }
     requires free { marks / 2048 % 4 ≡ 0 }
     requires marks { marks < 16384 }
-    ensures value { result ≡ partition_from location families permissions id name link marks }
+    ensures value { result ≡ partition_from_fields location families permissions id name link marks }
     ensures agrees { AgreesWithFlags result }
 {
     let extra = families.numbers.len() as u32;
@@ -235,7 +235,7 @@ fn partition_from(
 
 /// Partition i of a text, or its first fault.
 fn partition(value: &Value, i: u32) -> Result<Partition, JsonFault>
-    ensures value { result ≡ partition_of i (view value.now) }
+    ensures value { result ≡ partition_of_value i (view value.now) }
     ensures agrees { IfOk result AgreesWithFlags }
 {
     let place = Place::Partition(i);
@@ -249,7 +249,7 @@ fn partition(value: &Value, i: u32) -> Result<Partition, JsonFault>
     let link = link(value, place)?;
     let marks = marks(value, i)?;
     let location = location_word(first, last, permissions);
-    Ok(partition_from(location, families, permissions, id, name, link, marks))
+    Ok(partition_from_fields(location, families, permissions, id, name, link, marks))
 }
 
 /// The partitions of a list, in order, or their first fault.

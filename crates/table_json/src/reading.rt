@@ -3,7 +3,7 @@
 ghost use Rattle.std.specs.Prelude.{◌≡◌, ◌⊎◌, IfOk, IfErr, Err};
 ghost use Rattle.serde_json.specs.Data.{Data};
 ghost use Rattle.serde_json.specs.View.{view};
-ghost use Rattle.table_json.specs.Texts.{IsText};
+ghost use Rattle.table_json.specs.Texts.{IsJsonText};
 
 use crate::JsonFault;
 use serde_json::Value;
@@ -11,8 +11,8 @@ use std::alloc::Global;
 
 /// The value of a text; or NotJson where it is that of none, or Memory where there is no memory.
 pub(crate) fn read(alloc: Global, text: &[u8]) -> Result<Value, JsonFault>
-    ensures value { IfOk result (λ v. IsText text.now (view v)) }
-    ensures not_json { result ≡ Err JsonFault.NotJson → (d : Data) → IsText text.now d → ⊥ }
+    ensures value { IfOk result (λ v. IsJsonText text.now (view v)) }
+    ensures not_json { result ≡ Err JsonFault.NotJson → (d : Data) → IsJsonText text.now d → ⊥ }
     ensures faults { IfErr result
         (λ fault. (fault ≡ JsonFault.NotJson) ⊎ (fault ≡ JsonFault.Memory)) }
 {

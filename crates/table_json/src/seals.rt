@@ -4,8 +4,8 @@ ghost use Rattle.std.specs.Prelude.{◌≡◌, ◌≢◌, ◌≤◌, [], length,
 ghost use Rattle.serde_json.specs.Data.{Data};
 ghost use Rattle.serde_json.specs.View.{view};
 ghost use Rattle.table_json.specs.Members.{required, optional};
-ghost use Rattle.table_json.specs.Seals.{cpu_of, processor_form, rollback_form, rows_after, rows_in, rows_form, no_rows, spec_from};
-ghost use Rattle.table_json.specs.Texts.{IsText};
+ghost use Rattle.table_json.specs.Seals.{cpu_of, processor_form, rollback_form, rows_after, listed_rows, rows_form, no_rows, spec_from};
+ghost use Rattle.table_json.specs.Texts.{IsJsonText};
 
 use crate::forms::{half_word, values};
 use crate::members::{Shape, judge_object};
@@ -52,8 +52,8 @@ fn few_rows(values: &[Value]) -> Option<ArrayVec<u16, 32>>
 }
 
 /// The rows of a list of at most 32.
-fn rows_in(values: &[Value]) -> Option<ArrayVec<u16, 32>>
-    ensures { result ≡ rows_in (map view values.now) }
+fn listed_rows(values: &[Value]) -> Option<ArrayVec<u16, 32>>
+    ensures { result ≡ listed_rows (map view values.now) }
 {
     if values.len() <= 32 {
         few_rows(values)
@@ -66,7 +66,7 @@ fn rows_in(values: &[Value]) -> Option<ArrayVec<u16, 32>>
 fn rows_form(value: &Value) -> Option<ArrayVec<u16, 32>>
     ensures { result ≡ rows_form (view value.now) }
 {
-    rows_in(values(value)?)
+    listed_rows(values(value)?)
 }
 
 /// The processor.
@@ -126,12 +126,13 @@ fn spec_in(value: &Value) -> Result<SealSpec, JsonFault>
 /// are not UTF-8 or no JSON value that nests at most 127 deep; else the first fault of the value's
 /// object. Where there is no memory the answer is `Memory`. The texts are this project's own.
 pub fn spec_of(alloc: Global, text: &[u8]) -> Result<SealSpec, JsonFault>
-    ensures spec { IfOk result (λ spec. (d : Data) × IsText text.now d × (spec_from d ≡ Ok spec)) }
+    ensures spec { IfOk result (λ spec. (d : Data) × IsJsonText text.now d
+        × (spec_from d ≡ Ok spec)) }
     ensures first { IfErr result
         (λ fault. fault ≢ JsonFault.NotJson → fault ≢ JsonFault.Memory
-        → (d : Data) × IsText text.now d × (spec_from d ≡ Err fault)) }
-    ensures not_json { result ≡ Err JsonFault.NotJson → (d : Data) → IsText text.now d → ⊥ }
-    ensures exact { (d : Data) → IsText text.now d → result ≢ Err JsonFault.Memory
+        → (d : Data) × IsJsonText text.now d × (spec_from d ≡ Err fault)) }
+    ensures not_json { result ≡ Err JsonFault.NotJson → (d : Data) → IsJsonText text.now d → ⊥ }
+    ensures exact { (d : Data) → IsJsonText text.now d → result ≢ Err JsonFault.Memory
         → result ≡ spec_from d }
 {
     let value = read(alloc, text)?;

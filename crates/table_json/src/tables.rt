@@ -5,12 +5,12 @@ ghost use Rattle.serde_json.specs.Data.{Data};
 ghost use Rattle.serde_json.specs.View.{view};
 ghost use Rattle.part_table.specs.Faults.{table_fault};
 ghost use Rattle.part_table.specs.Judged.{IsJudgedAs};
-ghost use Rattle.part_table.specs.Written.{AgreesWithFlags, IsReadAs, written, written_size};
+ghost use Rattle.part_table.specs.Written.{AgreesWithFlags, IsReadAs, written_table, written_size};
 ghost use Rattle.table_json.specs.Members.{optional};
 ghost use Rattle.table_json.specs.Forms.{version_form};
-ghost use Rattle.table_json.specs.Tables.{no_version, few_form, fields_of, judged, table_from};
-ghost use Rattle.table_json.specs.Texts.{IsText};
-ghost use Rattle.table_json.specs.Whole.{IsReadWith, answer_of};
+ghost use Rattle.table_json.specs.Tables.{no_version, few_form, table_fields, judged, table_of_value};
+ghost use Rattle.table_json.specs.Texts.{IsJsonText};
+ghost use Rattle.table_json.specs.Whole.{IsReadWith, json_answer};
 ghost use Rattle.part_table.specs.declared.table.Table.{Table};
 ghost use Rattle.part_table.specs.declared.table.TableFault.{TableFault};
 
@@ -52,7 +52,7 @@ fn few(value: &Value) -> Option<&[Value]>
 
 /// The fields of a table, or their first fault.
 fn fields(value: &Value) -> Result<Table, JsonFault>
-    ensures value { result ≡ fields_of (view value.now) }
+    ensures value { result ≡ table_fields (view value.now) }
     ensures agree { IfOk result (λ t. All AgreesWithFlags t.parts.items) }
 {
     judge_object(value, Shape::OfTable, Place::Top, Field::Partitions)?;
@@ -83,8 +83,8 @@ fn judge_size(alloc: Global, table: &Table) -> Result<(), JsonFault>
     requires { All AgreesWithFlags table.now.parts.items }
     ensures ok { OnOk result (written_size table.now ≤ 640) }
     ensures again { table_fault table.now 4096 2 ≡ None
-        → OnOk result (IsReadAs (written table.now) table.now 4096 2) }
-    ensures judged { OnOk result (IsJudgedAs (written table.now) table.now 4096 2) }
+        → OnOk result (IsReadAs (written_table table.now) table.now 4096 2) }
+    ensures judged { OnOk result (IsJudgedAs (written_table table.now) table.now 4096 2) }
     ensures err { IfErr result (λ fault. fault ≢ JsonFault.Memory
         → (640 < written_size table.now) × (fault ≡ JsonFault.TooLong (written_size table.now))) }
 {
@@ -98,13 +98,13 @@ fn judge_size(alloc: Global, table: &Table) -> Result<(), JsonFault>
 
 /// The table of a text's value, or its first fault.
 fn table_in(alloc: Global, value: &Value) -> Result<Table, JsonFault>
-    ensures value { result ≢ Err JsonFault.Memory → result ≡ table_from (view value.now) }
+    ensures value { result ≢ Err JsonFault.Memory → result ≡ table_of_value (view value.now) }
     ensures agree { IfOk result (λ t. All AgreesWithFlags t.parts.items) }
     ensures fits { IfOk result (λ t. written_size t ≤ 640) }
     ensures faultless { IfOk result (λ t. table_fault t 4096 2 ≡ None) }
-    ensures again { IfOk result (λ t. IsReadAs (written t) t 4096 2) }
-    ensures judged { (t : Table) → fields_of (view value.now) ≡ Ok t → written_size t ≤ 640
-        → result ≢ Err JsonFault.Memory → IsJudgedAs (written t) t 4096 2 }
+    ensures again { IfOk result (λ t. IsReadAs (written_table t) t 4096 2) }
+    ensures judged { (t : Table) → table_fields (view value.now) ≡ Ok t → written_size t ≤ 640
+        → result ≢ Err JsonFault.Memory → IsJudgedAs (written_table t) t 4096 2 }
 {
     let table = fields(value)?;
     judge_size(alloc, &table)?;
@@ -122,26 +122,27 @@ fn table_in(alloc: Global, value: &Value) -> Result<Table, JsonFault>
 /// The texts are this project's own.
 pub fn table_of(alloc: Global, text: &[u8]) -> Result<Table, JsonFault>
     ensures table { IfOk result
-        (λ t. (d : Data) × IsText text.now d × (table_from d ≡ Ok t)) }
+        (λ t. (d : Data) × IsJsonText text.now d × (table_of_value d ≡ Ok t)) }
     ensures first { IfErr result
         (λ fault. fault ≢ JsonFault.NotJson → fault ≢ JsonFault.Memory
-        → (d : Data) × IsText text.now d × (table_from d ≡ Err fault)) }
-    ensures not_json { result ≡ Err JsonFault.NotJson → (d : Data) → IsText text.now d → ⊥ }
-    ensures exact { (d : Data) → IsText text.now d → result ≢ Err JsonFault.Memory
-        → result ≡ table_from d }
+        → (d : Data) × IsJsonText text.now d × (table_of_value d ≡ Err fault)) }
+    ensures not_json { result ≡ Err JsonFault.NotJson → (d : Data) → IsJsonText text.now d → ⊥ }
+    ensures exact { (d : Data) → IsJsonText text.now d → result ≢ Err JsonFault.Memory
+        → result ≡ table_of_value d }
 
     // The table's block can be written, its partitions have no fault, and it is read again from
     // what is written for it.
     ensures agree { IfOk result (λ t. All AgreesWithFlags t.parts.items) }
     ensures fits { IfOk result (λ t. written_size t ≤ 640) }
     ensures faultless { IfOk result (λ t. table_fault t 4096 2 ≡ None) }
-    ensures again { IfOk result (λ t. IsReadAs (written t) t 4096 2) }
+    ensures again { IfOk result (λ t. IsReadAs (written_table t) t 4096 2) }
 
     // Where the fields say a table whose block has at most 640 bytes, the answer is exactly what
     // reading that block in such a flash answers.
-    ensures whole { (d : Data) (t : Table) (answer : Result Table TableFault) → IsText text.now d
-        → fields_of d ≡ Ok t → written_size t ≤ 640 → result ≢ Err JsonFault.Memory
-        → (result ≡ answer_of answer) ↔ IsReadWith (written t) answer }
+    ensures whole { (d : Data) (t : Table) (answer : Result Table TableFault)
+        → IsJsonText text.now d
+        → table_fields d ≡ Ok t → written_size t ≤ 640 → result ≢ Err JsonFault.Memory
+        → (result ≡ json_answer answer) ↔ IsReadWith (written_table t) answer }
 {
     let value = read(alloc, text)?;
     table_in(alloc, &value)

@@ -51,7 +51,7 @@ defined-by c w cpu trial s v =
     }
 
 module _ (c : Content) (w : Window) (cpu : Cpu) (trial : Bool) (s : Started) (v : Valid c w cpu trial s) where
-  -- its rows are rollback rows, and its rollback version is one of theirs
+  -- the rows of a valid image are rollback rows, and its rollback version is one of theirs
   pub valid-rows : AreRollbackRows s.rows.items
   valid-rows = let d = defined-by c w cpu trial s v in subst AreRollbackRows (sym d.rows) d.sound.rows
 

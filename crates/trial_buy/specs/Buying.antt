@@ -1,5 +1,5 @@
--- What a buy writes: BuySteps (RP2350 Datasheet, chapter 5, "Try before you buy"; the details are
--- this project's own).
+-- What a buy writes: `buy_steps` (RP2350 Datasheet, chapter 5, "Try before you buy"; the details
+-- are this project's own).
 use Rattle.std.specs.Prelude.{ℕ, ◌+◌, ◌*◌, ◌/◌, ◌%◌, List, ◌∷◌, ◌++◌, map, slice_index, slice_range, slice_set}
 use Rattle.std.specs.List.{range_with_len}
 use Rattle.pico_board.specs.declared.Step.{Step}
@@ -41,6 +41,7 @@ rewrite_steps s bytes = Erase s ∷ page_programs s bytes
 abbrev pub clearing : List ℕ → ℕ → List Step
 clearing flash place = rewrite_steps (place / 4096) (cleared_sector flash place)
 
--- BuySteps: and then the other member's better image is erased, and the rows rise
+-- the steps of a buy: the trial bit is cleared, and then the other member's better image is
+-- erased, and the rows rise
 abbrev pub buy_steps : Content → Cpu → Choice → List Step
 buy_steps c cpu choice = clearing c.flash (trial_place choice.image) ++ settling c cpu choice

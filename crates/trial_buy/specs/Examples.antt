@@ -1,4 +1,4 @@
--- Worked examples of choices. This project's own.
+-- Worked examples of choices.
 use Rattle.std.specs.Prelude.{ℕ, Bool, false, [], None}
 use Rattle.pico_board.specs.declared.window.Window.{Window}
 use Rattle.block_codec.specs.declared.versions.Version.{Version}
@@ -11,13 +11,13 @@ abbrev pub version : ℕ → ℕ → Version
 version major minor = record { major = major; minor = minor }
 
 -- a window of thirty sectors
-abbrev pub in_window : ℕ → Window
-in_window start = record { start = start; len = 0x1e000 }
+abbrev pub thirty_sectors_at : ℕ → Window
+thirty_sectors_at start = record { start = start; len = 0x1e000 }
 
 -- an image of a version in the window at 0x2000
 abbrev pub an_image : ℕ → ℕ → Started
 an_image major minor = record {
-  window = in_window 0x2000;
+  window = thirty_sectors_at 0x2000;
   block = 0x100;
   image_at = 0x104;
   pc = 0x10000201;

@@ -1,5 +1,5 @@
--- What a start writes: StartSteps (RP2350 Datasheet, chapter 5, "A/B versions" and "Flash update
--- boot"; the details are this project's own).
+-- What a start writes: `start_steps` (RP2350 Datasheet, chapter 5, "A/B versions" and "Flash
+-- update boot"; the details are this project's own).
 use Rattle.std.specs.Prelude.{ℕ, ◌/◌, Bool, false, not, ◌&&◌, List, [], ◌∷◌, ◌++◌, if◌then◌else◌, Option, Some, None}
 use Rattle.std.specs.Result.{result_ok}
 use Rattle.pico_board.specs.declared.Step.{Step}
@@ -51,7 +51,7 @@ image_raises otp s = raises_of otp s.rows.items s.rollback
 abbrev pub settling : Content → Cpu → Choice → List Step
 settling c cpu choice = other_erase c cpu choice ++ image_raises c.otp choice.image
 
--- StartSteps: nothing for a trial image
+-- the steps of a start: the settling of the started image, and nothing for a trial image
 abbrev pub start_steps : Content → Cpu → Choice → List Step
 start_steps c cpu choice = if choice.image.trial then [] else settling c cpu choice
 

@@ -1,4 +1,4 @@
--- Where a choice stands. This project's own.
+-- Where a choice stands.
 use Rattle.std.specs.Prelude.{IfSome}
 use Rattle.pico_board.specs.Content.{Content}
 use Rattle.part_table.specs.Windows.{IsPlacedIn}

@@ -10,9 +10,9 @@ use Rattle.sector_pool.specs.Pool.{Pool}
 use Rattle.uf2_place.specs.declared.block.Uf2.{Uf2}
 use Rattle.uf2_place.specs.declared.current.Current.{Current}
 use Rattle.uf2_place.specs.declared.current.Held.{Held}
-use Rattle.uf2_place.specs.Marks.{Marked, is_marked}
-use Rattle.uf2_place.specs.Downloads.{Follows, Holds}
-use Rattle.uf2_place.specs.Placement.{final_steps, first_in, gated_steps, grown, is_whole, later_steps, lies_in, own_steps, placed, sector_in}
+use Rattle.uf2_place.specs.Marks.{MarksView, is_marked}
+use Rattle.uf2_place.specs.Downloads.{Follows, HoldsLease}
+use Rattle.uf2_place.specs.Placement.{final_steps, first_in, gated_steps, grown, is_whole_download, later_steps, lies_in, own_steps, download_steps, sector_in}
 use Rattle.uf2_place.specs.Progress.{is_held_back, open_steps, put_steps}
 use Rattle.uf2_place.proofs.GrowingLemmas.{gated-more, grown-is, in_turn-append, not-whole}
 
@@ -28,37 +28,37 @@ abbrev pub own_part : Target → List Uf2 → Uf2 → List Step
 own_part t blocks b = if t.gated then later_steps t.window blocks b else own_steps t.window blocks b
 
 abbrev pub last_part : Target → List Uf2 → List Step
-last_part t blocks = if t.gated then (if is_whole blocks then final_steps t.window blocks else []) else []
+last_part t blocks = if t.gated then (if is_whole_download blocks then final_steps t.window blocks else []) else []
 
 abbrev pub added : Target → List Uf2 → Uf2 → List Step
 added t blocks b = opening t blocks ++ (own_part t blocks b ++ last_part t (blocks ++ b ∷ []))
 
-gated-added : (t : Target) (blocks : List Uf2) (b : Uf2) → t.gated ≡ true → is_whole blocks ≡ false
-    → placed t (blocks ++ b ∷ []) ≡ placed t blocks ++ added t blocks b
+gated-added : (t : Target) (blocks : List Uf2) (b : Uf2) → t.gated ≡ true → is_whole_download blocks ≡ false
+    → download_steps t (blocks ++ b ∷ []) ≡ download_steps t blocks ++ added t blocks b
 gated-added t [] b gated few =
-    rw gated (ap (λ (steps : List Step). Erase (first_in t.window) ∷ (steps ++ (if is_whole
+    rw gated (ap (λ (steps : List Step). Erase (first_in t.window) ∷ (steps ++ (if is_whole_download
     (b ∷ []) then final_steps t.window (b ∷ []) else [])))
     (append-nil (later_steps t.window [] b)))
 gated-added t (x ∷ xs) b gated few =
     rw gated (gated-more t.window x xs (b ∷ []) few
     ∙ ap (λ (steps : List Step). gated_steps t.window (x ∷ xs)
-    ++ (steps ++ (if is_whole (x ∷ xs ++ b ∷ []) then final_steps t.window (x ∷ xs ++ b ∷ []) else [])))
+    ++ (steps ++ (if is_whole_download (x ∷ xs ++ b ∷ []) then final_steps t.window (x ∷ xs ++ b ∷ []) else [])))
     (append-nil (later_steps t.window (x ∷ xs) b)))
 
 plain-added : (t : Target) (blocks : List Uf2) (b : Uf2) → t.gated ≡ false
-    → placed t (blocks ++ b ∷ []) ≡ placed t blocks ++ added t blocks b
+    → download_steps t (blocks ++ b ∷ []) ≡ download_steps t blocks ++ added t blocks b
 plain-added t [] b plain = rw plain refl
 plain-added t (x ∷ xs) b plain = rw plain (in_turn-append (own_steps t.window) [] (x ∷ xs) (b ∷ []))
 
-placed-added : (t : Target) (blocks : List Uf2) (b : Uf2) → is_whole blocks ≡ false
-    → placed t (blocks ++ b ∷ []) ≡ placed t blocks ++ added t blocks b
+placed-added : (t : Target) (blocks : List Uf2) (b : Uf2) → is_whole_download blocks ≡ false
+    → download_steps t (blocks ++ b ∷ []) ≡ download_steps t blocks ++ added t blocks b
 placed-added t blocks b few = by t.gated refl
   where
-    by : (g : Bool) → t.gated ≡ g → placed t (blocks ++ b ∷ []) ≡ placed t blocks ++ added t blocks b
+    by : (g : Bool) → t.gated ≡ g → download_steps t (blocks ++ b ∷ []) ≡ download_steps t blocks ++ added t blocks b
     by true is = gated-added t blocks b is few
     by false is = plain-added t blocks b is
 
-module _ (pool : Pool) (marks : Marked) (c : Current) (blocks : List Uf2) (b : Uf2)
+module _ (pool : Pool) (marks : MarksView) (c : Current) (blocks : List Uf2) (b : Uf2)
     (f : Follows pool marks c blocks) (some : 1 ≤ c.left) where
   pub few : length blocks < c.count
   few = omega (arith, f.left, some)
@@ -69,7 +69,7 @@ module _ (pool : Pool) (marks : Marked) (c : Current) (blocks : List Uf2) (b : U
       (placed-added c.target blocks b (not-whole c.family c.count blocks f.are.each few))
 
   -- a gated target is one with held pages
-  pub held-gated : (held : Option Held) → Holds pool c.target blocks held → is_some held ≡ c.target.gated
+  pub held-gated : (held : Option Held) → HoldsLease pool c.target blocks held → is_some held ≡ c.target.gated
   held-gated None plain = sym plain
   held-gated (Some h) holds = sym holds.gated
 

@@ -2,7 +2,7 @@
 use Rattle.std.proofs.Common.{◌≡◌, ℕ, zero, suc, ◌^◌, get_or, ◌+◌, ◌-◌, ◌*◌, ◌<◌, ◌≤◌, min, List, [], ◌∷◌, ◌++◌, length, take, drop, map, arith, refl, sym, ap, subst, ◌∙◌}
 use Rattle.std.specs.Prelude.{replicate, slice_range}
 use Rattle.std.proofs.Math.Seq.{drop-append-add, take-append_seam}
-use Rattle.uf2_place.specs.Blocks.{IsUf2, written}
+use Rattle.uf2_place.specs.Blocks.{IsUf2, written_block}
 use Rattle.uf2_place.proofs.ReadBackLemmas.{written-size}
 use Rattle.std.specs.List.{flat_map, range_with_len}
 use Rattle.std.proofs.lemmas.List.{take_min, length-drop, drop-replicate, append_assoc, append-nil, length-append, length-replicate, length-take}
@@ -102,7 +102,7 @@ file_block-is image family i few low inside = record {
 
 pub file-piece : (image : List ℕ) (family i : ℕ) → length image ≤ MOST_FLASH_BYTES → family < 2 ^ 32
     → i < page_count (length image)
-    → slice_range (file_bytes image family) (512 * i) (512 * i + 512) ≡ written (file_block image family i)
+    → slice_range (file_bytes image family) (512 * i) (512 * i + 512) ≡ written_block (file_block image family i)
 file-piece image family i few low inside =
     let count = page_count (length image) in
     let f = file_block image family in
@@ -110,8 +110,8 @@ file-piece image family i few low inside =
     let size = length-map-range_with_len f 0 count in
     let at : (j : ℕ) → j < count → get_or blocks j (f 0) ≡ f j =
     λ j within. get_or-map-range_with_len f 0 count j j (f 0) within (omega arith) in
-    even-piece written 512 blocks i (f 0)
-    (λ j within. ap (λ b. length (written b)) (at j (omega (arith, within, size)))
+    even-piece written_block 512 blocks i (f 0)
+    (λ j within. ap (λ b. length (written_block b)) (at j (omega (arith, within, size)))
     ∙ written-size (f j) (file_block-is image family j few low (omega (arith, within, size)))) (omega
     (arith, inside, size))
-    ∙ ap written (at i inside)
+    ∙ ap written_block (at i inside)

@@ -15,10 +15,10 @@ use Rattle.uf2_place.specs.Blocks.{IsUf2}
 use Rattle.uf2_place.specs.declared.block.Uf2.{Uf2}
 use Rattle.uf2_place.specs.declared.current.Current.{Current}
 use Rattle.uf2_place.specs.declared.current.Held.{Held}
-use Rattle.uf2_place.specs.Marks.{Marked, is_marked}
-use Rattle.uf2_place.specs.Downloads.{Follows, Holds, HoldsPages, bytes_of, held_page}
-use Rattle.uf2_place.specs.Placement.{AreBlocks, IsBlockOf, IsInside, first_in, is_whole, last_for, lies_in, numbers_of, page_in, sector_in}
-use Rattle.uf2_place.specs.Progress.{HoldsBlock, HoldsPage, IsNext, MarksSector, TakesNumber, held_steps, is_held_back}
+use Rattle.uf2_place.specs.Marks.{MarksView, is_marked}
+use Rattle.uf2_place.specs.Downloads.{Follows, HoldsLease, HoldsPages, pool_sector_bytes, held_page}
+use Rattle.uf2_place.specs.Placement.{AreBlocks, IsBlockOf, IsPageInside, first_in, is_whole_download, last_for, lies_in, numbers_of, page_in, sector_in}
+use Rattle.uf2_place.specs.Progress.{HoldsBlock, HoldsPage, MayComeNext, MarksSector, TakesNumber, held_steps, is_held_back}
 use Rattle.uf2_place.proofs.AddedLemmas.{held-gated, last_part}
 use Rattle.uf2_place.proofs.DistinctLemmas.{IsDistinct-push, all-append}
 use Rattle.uf2_place.proofs.HeldPageLemmas.{programs-same}
@@ -117,8 +117,8 @@ elsewhere-held pool t blocks b h holds away = record {
 }
 
 elsewhere-holds : (pool : Pool) (t : Target) (blocks : List Uf2) (b : Uf2) (held : Option Held)
-    → Holds pool t blocks held
-    → (is_some held && lies_in t.window (first_in t.window) b) ≡ false → Holds pool t (blocks ++ b ∷ []) held
+    → HoldsLease pool t blocks held
+    → (is_some held && lies_in t.window (first_in t.window) b) ≡ false → HoldsLease pool t (blocks ++ b ∷ []) held
 elsewhere-holds pool t blocks b None plain away = plain
 elsewhere-holds pool t blocks b (Some h) holds away = elsewhere-held pool t blocks b h holds away
 
@@ -126,16 +126,16 @@ back-here : (held : Option Held) (here : Bool) → (is_some held && here) ≡ tr
 back-here None here is = cc is
 back-here (Some h) here is = is
 
-module _ (pool : Pool) (marks : Marked) (c : Current) (blocks : List Uf2) (b : Uf2)
-    (f : Follows pool marks c blocks) (next : IsNext c blocks b) (is : IsUf2 b)
-    (inside : IsInside c.target.window b) where
+module _ (pool : Pool) (marks : MarksView) (c : Current) (blocks : List Uf2) (b : Uf2)
+    (f : Follows pool marks c blocks) (next : MayComeNext c blocks b) (is : IsUf2 b)
+    (inside : IsPageInside c.target.window b) where
   -- the download with the block more, where its marks and held pages are those of the block more
-  follow : (after : Pool) (put later : Marked) (mid new : Current)
+  follow : (after : Pool) (put later : MarksView) (mid new : Current)
       → TakesNumber b mid put new later → mid.family ≡ c.family → mid.count ≡ c.count → mid.target ≡ c.target
       → mid.left ≡ c.left → put.numbers ≡ marks.numbers
       → ((s : ℕ) → (c.target.gated ≡ true → s ≢ first_in c.target.window)
       → is_marked put.sectors s ≡ list_any (lies_in c.target.window s) (blocks ++ b ∷ []))
-      → Holds after c.target (blocks ++ b ∷ []) mid.held → Follows after later new (blocks ++ b ∷ [])
+      → HoldsLease after c.target (blocks ++ b ∷ []) mid.held → Follows after later new (blocks ++ b ∷ [])
   follow after put later mid new takes same_family same_count same_target same_left numbers sectors held =
       let moved : new ≡ record {
         family = c.family;
@@ -149,7 +149,7 @@ module _ (pool : Pool) (marks : Marked) (c : Current) (blocks : List Uf2) (b : U
       let left : new.left + 1 ≡ c.left = takes.left ∙ same_left in
       subst (λ d. Follows after later d (blocks ++ b ∷ [])) (sym moved) (record {
         are = next-are c.target c.family c.count blocks b f.are is next.family next.count next.fresh;
-        inside = all-append (IsInside c.target.window) blocks (b ∷ []) f.inside (inside, tt);
+        inside = all-append (IsPageInside c.target.window) blocks (b ∷ []) f.inside (inside, tt);
         left = omega (arith, f.left, left, length-append blocks (b ∷ []));
         numbers = λ i. takes.numbers i
             ∙ ap (λ ws. if nat_eq b.number i then true else is_marked ws i) numbers
@@ -159,7 +159,7 @@ module _ (pool : Pool) (marks : Marked) (c : Current) (blocks : List Uf2) (b : U
       })
 
   -- where the block is held back
-  pub follow-held : (after : Pool) (put later : Marked) (mid new : Current) → is_held_back c b ≡ true
+  pub follow-held : (after : Pool) (put later : MarksView) (mid new : Current) → is_held_back c b ≡ true
       → put ≡ marks → HoldsBlock b c pool mid after → TakesNumber b mid put new later
       → Follows after later new (blocks ++ b ∷ [])
   follow-held after put later mid new back same holds takes =
@@ -170,22 +170,22 @@ module _ (pool : Pool) (marks : Marked) (c : Current) (blocks : List Uf2) (b : U
       follow after put later mid new takes (ap (λ (d : Current). d.family) holds.has) (ap (λ
       (d : Current). d.count) holds.has)
       (ap (λ (d : Current). d.target) holds.has) (ap (λ (d : Current). d.left) holds.has)
-      (ap (λ (m : Marked). m.numbers) same)
-      (λ s other. ap (λ (m : Marked). is_marked m.sectors s) same ∙ f.sectors s other
+      (ap (λ (m : MarksView). m.numbers) same)
+      (λ s other. ap (λ (m : MarksView). is_marked m.sectors s) same ∙ f.sectors s other
       ∙ ap (λ x. if x then true else list_any (lies_in c.target.window s) blocks) (sym (away s (other gated) here))
       ∙ next-sector c.target.window blocks b s)
-      (subst (λ (held : Option Held). Holds after c.target (blocks ++ b ∷ []) held)
+      (subst (λ (held : Option Held). HoldsLease after c.target (blocks ++ b ∷ []) held)
       (sym (ap (λ (d : Current). d.held) holds.has))
       (next-held pool after c.target blocks b holds.former holds.now holds.page.0
-      (subst (λ (held : Option Held). Holds pool c.target blocks held) holds.had f.held) holds.page.1 holds.page.2))
+      (subst (λ (held : Option Held). HoldsLease pool c.target blocks held) holds.had f.held) holds.page.1 holds.page.2))
     where
       away : (s : ℕ) → s ≢ first_in c.target.window → nat_eq (sector_in c.target.window b) (first_in c.target.window)
           ≡ true
           → nat_eq (sector_in c.target.window b) s ≡ false
       away s other here = grind (arith, nat_tests, other, here)
 
-  -- where its page is written
-  pub follow-written : (after : Pool) (put later : Marked) (mid new : Current) → is_held_back c b ≡ false
+  -- what follows a block whose page is written at once
+  pub follow-written : (after : Pool) (put later : MarksView) (mid new : Current) → is_held_back c b ≡ false
       → mid ≡ c → after ≡ pool → MarksSector (sector_in c.target.window b) marks put → TakesNumber b mid put new later
       → Follows after later new (blocks ++ b ∷ [])
   follow-written after put later mid new away same kept marked takes =
@@ -194,13 +194,13 @@ module _ (pool : Pool) (marks : Marked) (c : Current) (blocks : List Uf2) (b : U
       (λ s other. marked.sectors s
       ∙ ap (λ o. if nat_eq (sector_in c.target.window b) s then true else o) (f.sectors s other)
       ∙ next-sector c.target.window blocks b s)
-      (subst (λ (held : Option Held). Holds after c.target (blocks ++ b ∷ []) held) (sym (ap (λ
+      (subst (λ (held : Option Held). HoldsLease after c.target (blocks ++ b ∷ []) held) (sym (ap (λ
       (d : Current). d.held) same))
-      (subst (λ p. Holds p c.target (blocks ++ b ∷ []) c.held) (sym kept)
+      (subst (λ p. HoldsLease p c.target (blocks ++ b ∷ []) c.held) (sym kept)
       (elsewhere-holds pool c.target blocks b c.held f.held away)))
 
-  -- the same, by whether it is held back
-  pub follow-put : (after : Pool) (put later : Marked) (mid new : Current) (x : Bool) → is_held_back c b ≡ x
+  -- what follows a block that was put, by whether its page is held back
+  pub follow-put : (after : Pool) (put later : MarksView) (mid new : Current) (x : Bool) → is_held_back c b ≡ x
       → OnTrue x ((put ≡ marks) × HoldsBlock b c pool mid after) → OnFalse x ((mid ≡ c) × (after ≡ pool))
       → OnFalse x (MarksSector (sector_in c.target.window b) marks put) → TakesNumber b mid put new later
       → Follows after later new (blocks ++ b ∷ [])
@@ -210,21 +210,22 @@ module _ (pool : Pool) (marks : Marked) (c : Current) (blocks : List Uf2) (b : U
       follow-written after put later mid new away same.0 same.1 marked takes
 
 -- the programs of the held pages are the last part of the list
-pub held-last : (pool : Pool) (marks : Marked) (c : Current) (blocks : List Uf2) → Follows pool marks c blocks
+pub held-last : (pool : Pool) (marks : MarksView) (c : Current) (blocks : List Uf2) → Follows pool marks c blocks
     → blocks ≢ [] → held_steps pool c c.held ≡ last_part c.target blocks
 held-last pool marks c [] f some = absurd (some refl)
 held-last pool marks c (b ∷ bs) f some = by c.held f.held
   where
-    count-is : (c.left == 0) ≡ is_whole (b ∷ bs)
+    count-is : (c.left == 0) ≡ is_whole_download (b ∷ bs)
     count-is = let left = f.left in let same = f.are.each.0.same_count in grind (arith, nat_tests, left, same)
 
-    by : (held : Option Held) → Holds pool c.target (b ∷ bs) held → held_steps pool c held ≡ last_part c.target (b ∷ bs)
+    by : (held : Option Held) → HoldsLease pool c.target (b ∷ bs) held
+        → held_steps pool c held ≡ last_part c.target (b ∷ bs)
     by None plain = rw plain refl
     by (Some h) holds =
         rw (
           holds.gated,
           count-is,
-          programs-same (first_in c.target.window) (held_page h.pages (bytes_of pool h.lease))
+          programs-same (first_in c.target.window) (held_page h.pages (pool_sector_bytes pool h.lease))
               (λ i. last_for c.target.window (16 * first_in c.target.window + i) (b ∷ bs)) holds.pages,
         ) refl
 
@@ -232,7 +233,7 @@ push-some : (blocks : List Uf2) (b : Uf2) → blocks ++ b ∷ [] ≢ []
 push-some [] b same = cc same
 push-some (x ∷ xs) b same = cc same
 
-pub held-last_push : (pool : Pool) (marks : Marked) (c : Current) (blocks : List Uf2) (b : Uf2) (t : Target)
+pub held-last_push : (pool : Pool) (marks : MarksView) (c : Current) (blocks : List Uf2) (b : Uf2) (t : Target)
     → c.target ≡ t
     → Follows pool marks c (blocks ++ b ∷ []) → held_steps pool c c.held ≡ last_part t (blocks ++ b ∷ [])
 held-last_push pool marks c blocks b t same f =

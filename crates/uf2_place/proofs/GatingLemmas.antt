@@ -10,7 +10,7 @@ use Rattle.pico_board.specs.declared.Window.{Window}
 use Rattle.pico_board.specs.Sessions.{Confined, Gated, IsConfined, IsElsewhere, IsProgramIn, pages_of}
 use Rattle.part_table.specs.declared.Target.{Target}
 use Rattle.uf2_place.specs.declared.block.Uf2.{Uf2}
-use Rattle.uf2_place.specs.Placement.{AreBlocks, HasWholeSectors, IsInside, final_steps, first_in, fresh_steps, gated_steps, in_turn, is_whole, later_steps, lies_in, own_steps, page_in, placed, program_of, programs_in, sector_in}
+use Rattle.uf2_place.specs.Placement.{AreBlocks, HasWholeSectors, IsPageInside, final_steps, first_in, fresh_steps, gated_steps, in_turn, is_whole_download, later_steps, lies_in, own_steps, page_in, download_steps, program_of, programs_in, sector_in}
 use Rattle.uf2_place.proofs.DistinctLemmas.{all-append}
 
 -- the steps of all blocks have what those of each have
@@ -29,7 +29,7 @@ fresh-all P true sector page bytes erase program = (program, tt)
 fresh-all P false sector page bytes erase program = (erase, (program, tt))
 
 -- a block's own steps lie in the window
-own-confined : (w : Window) (before : List Uf2) (b : Uf2) → HasWholeSectors w → IsInside w b
+own-confined : (w : Window) (before : List Uf2) (b : Uf2) → HasWholeSectors w → IsPageInside w b
     → Confined (own_steps w before b) w
 own-confined w before b whole inside =
     let start = whole.start in
@@ -142,7 +142,7 @@ module _ (t : Target) (blocks : List Uf2) (is : HasWholeSectors t.window) where
   last-distinct true = programs-distinct (first_in t.window) _
   last-distinct false = IsDistinct-none
 
-  pub gated-steps : AllByRecursion (IsInside t.window) blocks → Gated (gated_steps t.window blocks) t.window
+  pub gated-steps : AllByRecursion (IsPageInside t.window) blocks → Gated (gated_steps t.window blocks) t.window
   gated-steps inside =
       let start = is.start in
       let some = is.some in
@@ -152,27 +152,28 @@ module _ (t : Target) (blocks : List Uf2) (is : HasWholeSectors t.window) where
       inr (
         first_in w,
         elsewhere,
-        last (is_whole blocks),
+        last (is_whole_download blocks),
         record {
           whole = refl;
           first = omega arith;
           confined = (
             (omega arith, omega arith),
-            all-append (IsConfined w) elsewhere (last (is_whole blocks))
-                (all-in_turn (IsConfined w) (IsInside w) (later_steps w)
+            all-append (IsConfined w) elsewhere (last (is_whole_download blocks))
+                (all-in_turn (IsConfined w) (IsPageInside w) (later_steps w)
                 (λ before b here. later-all (IsConfined w) w before b
                 (λ other. own-confined w before b is here)) [] blocks inside)
-                (last-confined (is_whole blocks)),
+                (last-confined (is_whole_download blocks)),
           );
-          apart = all-in_turn (IsElsewhere (first_in w)) (IsInside w) (later_steps w)
+          apart = all-in_turn (IsElsewhere (first_in w)) (IsPageInside w) (later_steps w)
               (λ before b here. later-all (IsElsewhere (first_in w)) w before b
               (own-elsewhere w before b)) [] blocks inside;
-          final = last-final (is_whole blocks);
-          distinct = last-distinct (is_whole blocks);
+          final = last-final (is_whole_download blocks);
+          distinct = last-distinct (is_whole_download blocks);
         },
       )
 
 pub gated-download : (t : Target) (family count : ℕ) (blocks : List Uf2) → t.gated ≡ true
-    → AreBlocks t family count blocks → AllByRecursion (IsInside t.window) blocks → Gated (placed t blocks) t.window
+    → AreBlocks t family count blocks → AllByRecursion (IsPageInside t.window) blocks
+    → Gated (download_steps t blocks) t.window
 gated-download t family count [] gated are inside = inl refl
 gated-download t family count (b ∷ bs) gated are inside = rw gated (gated-steps t (b ∷ bs) are.window inside)

@@ -12,7 +12,7 @@ use Rattle.pico_board.specs.declared.Step.TheVariants.{Erase}
 use Rattle.part_table.specs.declared.Target.{Target}
 use Rattle.pico_board.specs.declared.Window.{Window}
 use Rattle.uf2_place.specs.declared.block.Uf2.{Uf2}
-use Rattle.uf2_place.specs.Placement.{AreBlocks, IsBlockOf, final_steps, first_in, gated_steps, grown, in_turn, is_whole, later_steps, numbers_of, own_steps, placed}
+use Rattle.uf2_place.specs.Placement.{AreBlocks, IsBlockOf, final_steps, first_in, gated_steps, grown, in_turn, is_whole_download, later_steps, numbers_of, own_steps, download_steps}
 
 -- the steps of blocks and then others
 pub in_turn-append : (steps : List Uf2 → Uf2 → List Step) (before xs ys : List Uf2)
@@ -52,7 +52,7 @@ first-blocks t family count xs ys are = record {
 
 -- blocks to which others may be added are not whole
 pub not-whole : (family count : ℕ) (xs : List Uf2) → AllByRecursion (IsBlockOf family count) xs → length xs < count
-    → is_whole xs ≡ false
+    → is_whole_download xs ≡ false
 not-whole family count [] each few = refl
 not-whole family count (x ∷ xs) each few =
     grind (arith, nat_tests, each.0.same_count, few)
@@ -60,29 +60,30 @@ not-whole family count (x ∷ xs) each few =
 -- the steps of more blocks, of which the first are not whole, are those of the first and then others
 pub record Grows (t : Target) (xs ys : List Uf2) : Type 0 where
   pub more : List Step
-  pub whole : placed t (xs ++ ys) ≡ placed t xs ++ more
+  pub whole : download_steps t (xs ++ ys) ≡ download_steps t xs ++ more
 
-pub gated-more : (w : Window) (x : Uf2) (xs ys : List Uf2) → is_whole (x ∷ xs) ≡ false
+pub gated-more : (w : Window) (x : Uf2) (xs ys : List Uf2) → is_whole_download (x ∷ xs) ≡ false
     → gated_steps w (x ∷ xs ++ ys) ≡ gated_steps w (x ∷ xs)
-    ++ (in_turn (later_steps w) (x ∷ xs) ys ++ (if is_whole (x ∷ xs ++ ys) then final_steps w (x ∷ xs ++ ys) else []))
+    ++ (in_turn (later_steps w) (x ∷ xs) ys
+    ++ (if is_whole_download (x ∷ xs ++ ys) then final_steps w (x ∷ xs ++ ys) else []))
 gated-more w x xs ys few =
     let front = in_turn (later_steps w) [] (x ∷ xs) in
     let next = in_turn (later_steps w) (x ∷ xs) ys in
-    let end = if is_whole (x ∷ xs ++ ys) then final_steps w (x ∷ xs ++ ys) else [] in
-    let here : front ++ (if is_whole (x ∷ xs) then final_steps w (x ∷ xs) else []) ≡ front =
+    let end = if is_whole_download (x ∷ xs ++ ys) then final_steps w (x ∷ xs ++ ys) else [] in
+    let here : front ++ (if is_whole_download (x ∷ xs) then final_steps w (x ∷ xs) else []) ≡ front =
     ap (λ c. front ++ (if c then final_steps w (x ∷ xs) else [])) few ∙ append-nil front in
     ap (λ (steps : List Step). Erase (first_in w) ∷ steps)
     (ap (λ (steps : List Step). steps ++ end) (in_turn-append (later_steps w) [] (x ∷ xs) ys)
     ∙ append_assoc front next end ∙ ap (λ (steps : List Step). steps ++ (next ++ end)) (sym here))
 
-pub grows : (t : Target) (xs ys : List Uf2) → is_whole xs ≡ false → Grows t xs ys
-grows t [] ys few = record { more = placed t ys; whole = refl }
+pub grows : (t : Target) (xs ys : List Uf2) → is_whole_download xs ≡ false → Grows t xs ys
+grows t [] ys few = record { more = download_steps t ys; whole = refl }
 grows t (x ∷ xs) ys few = by t.gated refl
   where
     by : (gated : Bool) → t.gated ≡ gated → Grows t (x ∷ xs) ys
     by true is = record {
       more = in_turn (later_steps t.window) (x ∷ xs) ys
-          ++ (if is_whole (x ∷ xs ++ ys) then final_steps t.window (x ∷ xs ++ ys) else []);
+          ++ (if is_whole_download (x ∷ xs ++ ys) then final_steps t.window (x ∷ xs ++ ys) else []);
       whole = rw is (gated-more t.window x xs ys few);
     }
     by false is = record {
@@ -91,26 +92,28 @@ grows t (x ∷ xs) ys few = by t.gated refl
     }
 
 -- what stands behind the steps of the first blocks is what the list grows by
-pub grown-is : (t : Target) (xs ys : List Uf2) (more : List Step) → placed t (xs ++ ys) ≡ placed t xs ++ more
+pub grown-is : (t : Target) (xs ys : List Uf2) (more : List Step)
+    → download_steps t (xs ++ ys) ≡ download_steps t xs ++ more
     → grown t xs (xs ++ ys) ≡ more
-grown-is t xs ys more whole = ap (drop (length (placed t xs))) whole ∙ drop-append_seam (placed t xs) more
+grown-is t xs ys more whole = ap (drop (length (download_steps t xs))) whole
+    ∙ drop-append_seam (download_steps t xs) more
 
 pub grow : (t : Target) (family count : ℕ) (xs ys : List Uf2) → AreBlocks t family count (xs ++ ys)
-    → placed t (xs ++ ys) ≡ placed t xs ++ grown t xs (xs ++ ys)
+    → download_steps t (xs ++ ys) ≡ download_steps t xs ++ grown t xs (xs ++ ys)
 grow t family count xs [] are =
-    let same : placed t (xs ++ []) ≡ placed t xs ++ [] = ap (placed t) (append-nil xs)
-    ∙ sym (append-nil (placed t xs)) in
-    same ∙ ap (λ (steps : List Step). placed t xs ++ steps) (sym (grown-is t xs [] [] same))
+    let same : download_steps t (xs ++ []) ≡ download_steps t xs ++ [] = ap (download_steps t) (append-nil xs)
+    ∙ sym (append-nil (download_steps t xs)) in
+    same ∙ ap (λ (steps : List Step). download_steps t xs ++ steps) (sym (grown-is t xs [] [] same))
 grow t family count xs (y ∷ ys) are =
     let few : length xs < count =
     omega (arith, few-blocks t family count (xs ++ y ∷ ys) are, length-append xs (y ∷ ys)) in
     let first = first-blocks t family count xs (y ∷ ys) are in
     let g = grows t xs (y ∷ ys) (not-whole family count xs first.each few) in
-    g.whole ∙ ap (λ (steps : List Step). placed t xs ++ steps) (sym (grown-is t xs (y ∷ ys) g.more g.whole))
+    g.whole ∙ ap (λ (steps : List Step). download_steps t xs ++ steps) (sym (grown-is t xs (y ∷ ys) g.more g.whole))
 
 -- all numbers are there exactly where each is
 pub whole-has_all : (t : Target) (family count : ℕ) (blocks : List Uf2) → AreBlocks t family count blocks → 1 ≤ count
-    → (is_whole blocks ≡ true) ↔ ((i : ℕ) → i < count → is_member nat_eq (numbers_of blocks) i ≡ true)
+    → (is_whole_download blocks ≡ true) ↔ ((i : ℕ) → i < count → is_member nat_eq (numbers_of blocks) i ≡ true)
 whole-has_all t family count [] are some = (λ whole. cc whole, λ there. cc (there 0 some))
 whole-has_all t family count (b ∷ bs) are some =
     let size = length-map (b ∷ bs) (λ (b : Uf2). b.number) in

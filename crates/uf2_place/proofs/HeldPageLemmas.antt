@@ -10,10 +10,10 @@ use Rattle.std.proofs.lemmas.Nat.Bits.{bit_at_set_same, bit_at_set_other}
 use Rattle.std.proofs.lemmas.Option.{slice_get_within, get_or_from_slice_get}
 use Rattle.pico_board.proofs.ConfinementLemmas.{slice_range_ext}
 use Rattle.pico_board.specs.declared.Step.{Step}
-use Rattle.sector_pool.specs.Pool.{Pool, written}
+use Rattle.sector_pool.specs.Pool.{Pool, pool_with_sector}
 use Rattle.sector_pool.proofs.KeptLemmas.{KeepsOutBut-written}
 use Rattle.uf2_place.specs.declared.current.Held.{Held}
-use Rattle.uf2_place.specs.Downloads.{bytes_of, held_page}
+use Rattle.uf2_place.specs.Downloads.{pool_sector_bytes, held_page}
 use Rattle.uf2_place.specs.Placement.{program_of, programs_in}
 use Rattle.uf2_place.specs.Progress.{HoldsPage}
 use Rattle.uf2_place.proofs.GatingLemmas.{programs_above}
@@ -47,7 +47,7 @@ above-same s a (suc n) f g same =
     rw (same a (omega arith)) (ap (λ (rest : List Step). program_of (16 * s + a) (g a) ++ rest)
     (above-same s (a + 1) n f g (λ i low. same i (omega (arith, low)))))
 
--- the same pages have the same programs
+-- a sector with the same pages has the same programs
 pub programs-same : (s : ℕ) (f g : ℕ → Option (List ℕ)) → ((i : ℕ) → i < 16 → f i ≡ g i)
     → programs_in s f ≡ programs_in s g
 unfolding programs_in
@@ -96,7 +96,8 @@ held-at pages bytes i one = rw one refl
 pub page-held : (place : ℕ) (page : List ℕ) (old : Held) (pool : Pool) (bytes after : List ℕ) (pages : ℕ) → place < 16
     → slice_get pool.sectors old.lease ≡ Some bytes → length bytes ≡ 4096 → length page ≡ 256
     → pages ≡ bit_or old.pages (1 * 2 ^ place % 65536) → after ≡ patched bytes (256 * place) page
-    → HoldsPage place page old pool (record { lease = old.lease; pages = pages }) (written pool old.lease after)
+    → HoldsPage place page old pool (record { lease = old.lease; pages = pages })
+    (pool_with_sector pool old.lease after)
 page-held place page old pool bytes after pages low stood size long set copied = record {
   lease = refl;
   pages = λ i small. elim (differ place i) [
@@ -106,26 +107,29 @@ page-held place page old pool bytes after pages low stood size long set copied =
   kept = KeepsOutBut-written pool old.lease after;
 }
   where
-    before : bytes_of pool old.lease ≡ bytes
+    before : pool_sector_bytes pool old.lease ≡ bytes
     before = get_or_from_slice_get pool.sectors old.lease bytes [] stood
 
-    now : bytes_of (written pool old.lease after) old.lease ≡ patched bytes (256 * place) page
+    now : pool_sector_bytes (pool_with_sector pool old.lease after) old.lease ≡ patched bytes (256 * place) page
     now = get_or-set_same pool.sectors old.lease after [] (slice_get_within _ _ _ stood) ∙ copied
 
-    here : (i : ℕ) → place ≡ i → held_page pages (bytes_of (written pool old.lease after) old.lease) i
-        ≡ (if nat_eq place i then Some page else held_page old.pages (bytes_of pool old.lease) i)
+    here : (i : ℕ) → place ≡ i → held_page pages (pool_sector_bytes (pool_with_sector pool old.lease after) old.lease) i
+        ≡ (if nat_eq place i then Some page else held_page old.pages (pool_sector_bytes pool old.lease) i)
     here i same =
         let one : bit_at pages place ≡ 1 = ap (λ w. bit_at w place) set
         ∙ bit_at_set_same w16 old.pages place (omega (arith, low)) in
-        let held : held_page pages (bytes_of (written pool old.lease after) old.lease) place ≡ Some page =
-        held-at pages (bytes_of (written pool old.lease after) old.lease) place one
+        let held : held_page pages (pool_sector_bytes (pool_with_sector pool old.lease after) old.lease) place
+        ≡ Some page =
+        held-at pages (pool_sector_bytes (pool_with_sector pool old.lease after) old.lease) place one
         ∙ ap (λ bs. Some (slice_range bs (256 * place) (256 * place + 256))) now
         ∙ ap Some (patched-here bytes (256 * place) page (omega (arith, size, low)) long) in
         rw ((Decides-eqb place i).1 same)
-        (subst (λ k. held_page pages (bytes_of (written pool old.lease after) old.lease) k ≡ Some page) same held)
+        (subst (λ k. held_page pages (pool_sector_bytes (pool_with_sector pool old.lease after) old.lease) k
+        ≡ Some page) same held)
 
-    there : (i : ℕ) → i < 16 → place ≢ i → held_page pages (bytes_of (written pool old.lease after) old.lease) i
-        ≡ (if nat_eq place i then Some page else held_page old.pages (bytes_of pool old.lease) i)
+    there : (i : ℕ) → i < 16 → place ≢ i → held_page pages
+        (pool_sector_bytes (pool_with_sector pool old.lease after) old.lease) i
+        ≡ (if nat_eq place i then Some page else held_page old.pages (pool_sector_bytes pool old.lease) i)
     there i small other =
         let away : nat_eq place i ≡ false = grind (arith, nat_tests, other) in
         let bit : bit_at pages i ≡ bit_at old.pages i =
@@ -137,8 +141,9 @@ page-held place page old pool bytes after pages low stood size long set copied =
           | inr above ↦ inr (omega
               (arith, above, other))
         ] in
-        let same : slice_range (bytes_of (written pool old.lease after) old.lease) (256 * i) (256 * i + 256)
-        ≡ slice_range (bytes_of pool old.lease) (256 * i) (256 * i + 256) =
+        let same : slice_range (pool_sector_bytes (pool_with_sector pool old.lease after) old.lease) (256 * i)
+        (256 * i + 256)
+        ≡ slice_range (pool_sector_bytes pool old.lease) (256 * i) (256 * i + 256) =
         ap (λ bs. slice_range bs (256 * i) (256 * i + 256)) now
         ∙ patched-other bytes (256 * place) (256 * i) page (omega (arith, size, low)) long apart
         ∙ ap (λ bs. slice_range bs (256 * i) (256 * i + 256)) (sym before) in

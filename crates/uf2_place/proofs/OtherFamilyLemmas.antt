@@ -11,9 +11,9 @@ use Rattle.uf2_place.specs.declared.block.Uf2.{Uf2}
 use Rattle.uf2_place.specs.declared.block.Uf2Fault.{Uf2Fault}
 use Rattle.uf2_place.specs.declared.block.Uf2Fault.TheVariants.{Magic, Payload, Alignment, Number}
 use Rattle.uf2_place.specs.declared.block.TheConstants.{PAYLOAD}
-use Rattle.uf2_place.specs.Blocks.{fields_of, has_magic, is_number, uf2_of, word_at}
+use Rattle.uf2_place.specs.Blocks.{uf2_fields, has_magic, is_number, uf2_of, word_at}
 use Rattle.uf2_place.specs.OtherFamilies.{SameButFamily, with_family}
-use Rattle.uf2_place.specs.Placement.{final_steps, first_in, gated_steps, in_turn, is_whole, last_for, later_steps, lies_in, own_steps, placed, programs_in, sector_in}
+use Rattle.uf2_place.specs.Placement.{final_steps, first_in, gated_steps, in_turn, is_whole_download, last_for, later_steps, lies_in, own_steps, download_steps, programs_in, sector_in}
 use Rattle.uf2_place.proofs.ReadOfLemmas.{answer, front-word, same-word}
 
 -- the fault of the first test that fails, or the block
@@ -47,7 +47,7 @@ judged-fault true true true true x fault family is = cc is
 -- the other bytes are judged as these are, and give their block with the other family
 other-judged : (one other : List ℕ) → SameButFamily one other
     → uf2_of other ≡ judged (has_magic one) (word_at one 16 == PAYLOAD) (word_at one 12 % 256 == 0)
-    (is_number (word_at one 20) (word_at one 24)) (with_family (fields_of one) (word_at other 28))
+    (is_number (word_at one 20) (word_at one 24)) (with_family (uf2_fields one) (word_at other 28))
 other-judged one other same =
     let start = same-word 28 one other same.front 0 24 refl in
     let second = same-word 28 one other same.front 4 20 refl in
@@ -65,13 +65,13 @@ pub read-other : (one other : List ℕ) (b : Uf2) → SameButFamily one other �
     → uf2_of other ≡ Ok (with_family b (word_at other 28))
 read-other one other b same is =
     other-judged one other same ∙ judged-read (has_magic one) (word_at one 16 == PAYLOAD) (word_at one 12 % 256 == 0)
-    (is_number (word_at one 20) (word_at one 24)) (fields_of one) b (word_at other 28) is
+    (is_number (word_at one 20) (word_at one 24)) (uf2_fields one) b (word_at other 28) is
 
 pub fault-other : (one other : List ℕ) (fault : Uf2Fault) → SameButFamily one other → uf2_of one ≡ Err fault
     → uf2_of other ≡ Err fault
 fault-other one other fault same is =
     other-judged one other same ∙ judged-fault (has_magic one) (word_at one 16 == PAYLOAD) (word_at one 12 % 256 == 0)
-    (is_number (word_at one 20) (word_at one 24)) (fields_of one) fault (word_at other 28) is
+    (is_number (word_at one 20) (word_at one 24)) (uf2_fields one) fault (word_at other 28) is
 
 -- the blocks with another family
 module _ (w : Window) (family : ℕ) where
@@ -103,7 +103,7 @@ module _ (w : Window) (family : ℕ) where
       ∙ turn-other steps same (before ++ b ∷ []) bs in
       λ t. same before b t ++ rest t
 
-  whole-other : (blocks : List Uf2) → is_whole (map other blocks) ≡ is_whole blocks
+  whole-other : (blocks : List Uf2) → is_whole_download (map other blocks) ≡ is_whole_download blocks
   whole-other [] = refl
   whole-other (b ∷ bs) = rw (length-map bs other) refl
 
@@ -117,7 +117,7 @@ module _ (w : Window) (family : ℕ) where
       ++ (if whole-other blocks t then programs-other blocks t else []))
 
 pub placed-other : (t : Target) (blocks : List Uf2) (family : ℕ)
-    → placed t (map (λ (b : Uf2). with_family b family) blocks) ≡ placed t blocks
+    → download_steps t (map (λ (b : Uf2). with_family b family) blocks) ≡ download_steps t blocks
 placed-other t [] family = refl
 placed-other t (b ∷ bs) family =
     λ x. if t.gated then gated-other t.window family (b ∷ bs) x

@@ -10,7 +10,7 @@ use Rattle.uf2_place.specs.declared.answer.Accepted.TheVariants.{Again, Skipped}
 use Rattle.uf2_place.specs.declared.answer.Ruling.TheVariants.{Answered}
 use Rattle.uf2_place.specs.declared.block.Uf2.{Uf2}
 use Rattle.uf2_place.specs.declared.current.Current.{Current}
-use Rattle.uf2_place.specs.Accepting.{Kept, StandsFor}
+use Rattle.uf2_place.specs.Accepting.{DownloadView, StandsFor}
 use Rattle.uf2_place.specs.Marks.{is_marked}
 use Rattle.uf2_place.specs.Placement.{IsBlockOf, numbers_of}
 use Rattle.uf2_place.specs.Rulings.{is_of, is_skipped, ruled, ruling}
@@ -37,7 +37,7 @@ repeats : (table : Option Table) (given : Option Target) (taken : List ℕ) (a :
     → is_marked taken a.number ≡ true → ruled table given taken a (Some c) ≡ Answered (Ok Again)
 repeats table given taken a c same mark = rw (same, mark) refl
 
-pub repeated-is : (n : ℕ) (table : Option Table) (given : Option Target) (d : Kept) (pool : Pool) (t : Target)
+pub repeated-is : (n : ℕ) (table : Option Table) (given : Option Target) (d : DownloadView) (pool : Pool) (t : Target)
     (blocks : List Uf2) (a : Uf2) → StandsFor d pool t blocks → Contains blocks a → is_skipped n a ≡ false
     → ruling n table given d.marks.numbers d.current a ≡ Answered (Ok Again)
 repeated-is n table given d pool t blocks a stands there kept =

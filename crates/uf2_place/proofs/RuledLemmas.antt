@@ -15,16 +15,16 @@ use Rattle.uf2_place.specs.declared.answer.Ruling.{Ruling}
 use Rattle.uf2_place.specs.declared.answer.Ruling.TheVariants.{Answered, Begins, Continues}
 use Rattle.uf2_place.specs.declared.block.Uf2.{Uf2}
 use Rattle.uf2_place.specs.declared.current.Current.{Current}
-use Rattle.uf2_place.specs.Marks.{Marked, is_marked}
+use Rattle.uf2_place.specs.Marks.{MarksView, is_marked}
 use Rattle.sector_pool.specs.Pool.{Pool}
 use Rattle.pico_board.specs.Board.{State}
-use Rattle.uf2_place.specs.Accepting.{Kept, rules}
+use Rattle.uf2_place.specs.Accepting.{DownloadView, rules}
 use Rattle.uf2_place.specs.Downloads.{Follows}
-use Rattle.uf2_place.specs.Progress.{IsNext}
-use Rattle.uf2_place.specs.Placement.{IsInside, sector_in}
-use Rattle.uf2_place.specs.Rulings.{aimed, begun, continued, continues, is_of, is_skipped, is_within, ruled, ruling}
+use Rattle.uf2_place.specs.Progress.{MayComeNext}
+use Rattle.uf2_place.specs.Placement.{IsPageInside, sector_in}
+use Rattle.uf2_place.specs.Rulings.{aimed, begun, continued, continues, is_of, is_skipped, is_page_within, ruled, ruling}
 
-pub inside-is : (w : Window) (b : Uf2) → is_within w.len b ≡ true → IsInside w b
+pub inside-is : (w : Window) (b : Uf2) → is_page_within w.len b ≡ true → IsPageInside w b
 inside-is w b within = record {
   above = grind (arith, nat_tests, common_steps, within);
   below = grind (arith, nat_tests, common_steps, within);
@@ -42,15 +42,16 @@ continues-goes t answer same = cc same
 
 -- a page that goes into a target lies in its window and may be written
 pub record IsAimed (table : Option Table) (b : Uf2) (t : Target) : Type 0 where
-  pub inside : IsInside t.window b
+  pub inside : IsPageInside t.window b
   pub allowed : allowed_by table (sector_in t.window b) BootWrite ≡ true
 
 aimed-is : (table : Option Table) (b : Uf2) (t : Target) (go r : Ruling) → Goes r → aimed table b t go ≡ r
     → IsAimed table b t × (go ≡ r)
-aimed-is table b t go r goes = by (is_within t.window.len b) refl (allowed_by table
+aimed-is table b t go r goes = by (is_page_within t.window.len b) refl (allowed_by table
     (sector_in t.window b) BootWrite) refl
   where
-    by : (x : Bool) → is_within t.window.len b ≡ x → (y : Bool) → allowed_by table (sector_in t.window b) BootWrite ≡ y
+    by : (x : Bool) → is_page_within t.window.len b ≡ x → (y : Bool)
+        → allowed_by table (sector_in t.window b) BootWrite ≡ y
         → aimed table b t go ≡ r → IsAimed table b t × (go ≡ r)
     by true within true may is =
         (record { inside = inside-is t.window b within; allowed = may }, sym (rw (within, may) refl) ∙ is)
@@ -156,26 +157,27 @@ ruling-continues n table given numbers current b t c here is =
     of false same is = absurd (begun-not table b given t (sym (rw same refl) ∙ is))
 
 -- the first block of a download
-pub next-first : (c : Current) (b : Uf2) → c.family ≡ b.family → c.count ≡ b.count → IsNext c [] b
+pub next-first : (c : Current) (b : Uf2) → c.family ≡ b.family → c.count ≡ b.count → MayComeNext c [] b
 next-first c b family count = record { family = sym family; count = sym count; fresh = refl }
 
 -- a block that continues a download comes next
-pub next-after : (pool : Pool) (marks : Marked) (table : Option Table) (c : Current) (blocks : List Uf2) (b : Uf2)
+pub next-after : (pool : Pool) (marks : MarksView) (table : Option Table) (c : Current) (blocks : List Uf2) (b : Uf2)
     (t : Target)
-    → Follows pool marks c blocks → IsContinued table marks.numbers c b t → IsNext c blocks b
+    → Follows pool marks c blocks → IsContinued table marks.numbers c b t → MayComeNext c blocks b
 next-after pool marks table c blocks b t f is = record {
   family = let same = is.same in grind (arith, nat_tests, common_steps, same);
   count = let same = is.same in grind (arith, nat_tests, common_steps, same);
   fresh = sym (f.numbers b.number) ∙ is.fresh;
 }
 
--- the same of the rules
-pub rules-begins : (s : State) (table : Option Table) (given : Option Target) (d : Kept) (b : Uf2) (t : Target)
+-- where the rules say that a block begins or continues a download, it meets the conditions for that
+pub rules-begins : (s : State) (table : Option Table) (given : Option Target) (d : DownloadView) (b : Uf2) (t : Target)
     → rules s table given d b ≡ Begins t → IsBegun table given d.current b t
 rules-begins s table given d b t is =
     ruling-begins (length s.content.flash) table given d.marks.numbers d.current b t is
 
-pub rules-continues : (s : State) (table : Option Table) (given : Option Target) (d : Kept) (b : Uf2) (t : Target)
+pub rules-continues : (s : State) (table : Option Table) (given : Option Target) (d : DownloadView) (b : Uf2)
+    (t : Target)
     (c : Current)
     → d.current ≡ Some c → rules s table given d b ≡ Continues t → IsContinued table d.marks.numbers c b t
 rules-continues s table given d b t c here is =

@@ -17,11 +17,11 @@ use Rattle.uf2_place.specs.declared.block.Uf2.{Uf2}
 use Rattle.uf2_place.specs.declared.current.Current.{Current}
 use Rattle.uf2_place.specs.Accepting.{has_power}
 use Rattle.uf2_place.specs.Marks.{is_marked}
-use Rattle.uf2_place.specs.Placement.{IsInside, sector_in}
-use Rattle.uf2_place.specs.Rulings.{GoesTo, aimed, begun, continues, is_of, is_skipped, is_within, ruled, ruling, target_of, wanted}
+use Rattle.uf2_place.specs.Placement.{IsPageInside, sector_in}
+use Rattle.uf2_place.specs.Rulings.{GoesTo, aimed, begun, continues, is_of, is_skipped, is_page_within, ruled, ruling, target_of_block, wanted}
 use Rattle.uf2_place.proofs.RuledLemmas.{inside-is}
 
-within-is : (w : Window) (b : Uf2) → IsInside w b → is_within w.len b ≡ true
+within-is : (w : Window) (b : Uf2) → IsPageInside w b → is_page_within w.len b ≡ true
 within-is w b inside =
     let above = inside.above in
     let below = inside.below in
@@ -45,19 +45,19 @@ module _ (n : ℕ) (table : Option Table) (given : Option Target) (taken : List 
   ruled-of : is_skipped n b ≡ false → r ≡ ruled table given taken b current
   ruled-of kept = rw kept refl
 
-  view-new : is_skipped n b ≡ false → continues current b ≡ false → target_of given taken b current ≡ given → View
+  view-new : is_skipped n b ≡ false → continues current b ≡ false → target_of_block given taken b current ≡ given → View
   view-new kept new same = by given refl
     where
       by : (o : Option Target) → given ≡ o → View
       by None is = lost kept new is
       by (Some t) is = aims t (record { kept = kept; target = same ∙ is })
 
-  target-new : (former : Option Current) → continues former b ≡ false → target_of given taken b former ≡ given
+  target-new : (former : Option Current) → continues former b ≡ false → target_of_block given taken b former ≡ given
   target-new None new = refl
   target-new (Some c) new = rw new refl
 
   target-old : (former : Option Current) → continues former b ≡ true → is_marked taken b.number ≡ false
-      → (t : Target) × (target_of given taken b former ≡ Some t)
+      → (t : Target) × (target_of_block given taken b former ≡ Some t)
   target-old None same fresh = cc same
   target-old (Some c) same fresh = (c.target, rw (same, fresh) refl)
 
@@ -89,37 +89,37 @@ module _ (n : ℕ) (table : Option Table) (given : Option Target) (taken : List 
   begun-to : (t : Target) → given ≡ Some t → begun table b given ≡ aimed table b t (Begins t)
   begun-to t is = rw is refl
 
-  aims-of : (t : Target) (former : Option Current) → target_of given taken b former ≡ Some t
+  aims-of : (t : Target) (former : Option Current) → target_of_block given taken b former ≡ Some t
       → ruled table given taken b former ≡ aimed table b t (if continues former b then Continues t else Begins t)
   aims-of t None to = begun-to t to
   aims-of t (Some c) to = by (is_of c b) refl (is_marked taken b.number) refl to
     where
       by : (x : Bool) → is_of c b ≡ x → (y : Bool) → is_marked taken b.number ≡ y
-          → target_of given taken b (Some c) ≡ Some t
+          → target_of_block given taken b (Some c) ≡ Some t
           → ruled table given taken b (Some c) ≡ aimed table b t (if continues
           (Some c) b then Continues t else Begins t)
-      by true same true mark to = let none : target_of given taken b (Some c)
+      by true same true mark to = let none : target_of_block given taken b (Some c)
           ≡ None = rw (same, mark) refl in cc (none, to)
       by true same false mark to =
-          let here : target_of given taken b (Some c) ≡ Some c.target = rw (same, mark) refl in
+          let here : target_of_block given taken b (Some c) ≡ Some c.target = rw (same, mark) refl in
           let equal : c.target ≡ t = cc (here, to) in
           rw (same, mark) (ap (λ u. aimed table b u (Continues u)) equal)
       by false same y mark to =
-          let here : target_of given taken b (Some c) ≡ given = rw same refl in
+          let here : target_of_block given taken b (Some c) ≡ given = rw same refl in
           rw same (begun-to t (sym here ∙ to))
 
   aims-is : (t : Target) → GoesTo n given taken current b t → r ≡ aimed table b t (go t)
   aims-is t to = ruled-of to.kept ∙ aims-of t current to.target
 
-  out-is : (t : Target) → GoesTo n given taken current b t → is_within t.window.len b ≡ false
+  out-is : (t : Target) → GoesTo n given taken current b t → is_page_within t.window.len b ≡ false
       → r ≡ Answered (Err Outside)
   out-is t to out = aims-is t to ∙ rw out refl
 
-  barred-is : (t : Target) → GoesTo n given taken current b t → is_within t.window.len b ≡ true
+  barred-is : (t : Target) → GoesTo n given taken current b t → is_page_within t.window.len b ≡ true
       → allowed_by table (sector_in t.window b) BootWrite ≡ false → r ≡ Answered (Err NotPermitted)
   barred-is t to within barred = aims-is t to ∙ rw (within, barred) refl
 
-  may-is : (t : Target) → GoesTo n given taken current b t → is_within t.window.len b ≡ true
+  may-is : (t : Target) → GoesTo n given taken current b t → is_page_within t.window.len b ≡ true
       → allowed_by table (sector_in t.window b) BootWrite ≡ true → r ≡ go t
   may-is t to within may = aims-is t to ∙ rw (within, may) refl
 
@@ -128,21 +128,21 @@ module _ (n : ℕ) (table : Option Table) (given : Option Target) (taken : List 
     skipped : is_skipped n b ≡ true → r ≡ Answered (Ok Skipped) → Is
     again : r ≡ Answered (Ok Again) → Is
     none : is_skipped n b ≡ false → continues current b ≡ false → given ≡ None → r ≡ Answered (Err NoTarget) → Is
-    outside : (t : Target) → GoesTo n given taken current b t → is_within t.window.len b ≡ false
+    outside : (t : Target) → GoesTo n given taken current b t → is_page_within t.window.len b ≡ false
         → r ≡ Answered (Err Outside) → Is
-    barred : (t : Target) → GoesTo n given taken current b t → is_within t.window.len b ≡ true
+    barred : (t : Target) → GoesTo n given taken current b t → is_page_within t.window.len b ≡ true
         → allowed_by table (sector_in t.window b) BootWrite ≡ false → r ≡ Answered (Err NotPermitted) → Is
-    continuing : (t : Target) → GoesTo n given taken current b t → is_within t.window.len b ≡ true
+    continuing : (t : Target) → GoesTo n given taken current b t → is_page_within t.window.len b ≡ true
         → allowed_by table (sector_in t.window b) BootWrite ≡ true → continues current b ≡ true → r ≡ Continues t → Is
-    beginning : (t : Target) → GoesTo n given taken current b t → is_within t.window.len b ≡ true
+    beginning : (t : Target) → GoesTo n given taken current b t → is_page_within t.window.len b ≡ true
         → allowed_by table (sector_in t.window b) BootWrite ≡ true → continues current b ≡ false → r ≡ Begins t → Is
 
   aimed-by : (t : Target) → GoesTo n given taken current b t → Is
   aimed-by t to =
-      by (is_within t.window.len b) refl (allowed_by table (sector_in t.window b) BootWrite) refl
+      by (is_page_within t.window.len b) refl (allowed_by table (sector_in t.window b) BootWrite) refl
       (continues current b) refl
     where
-      by : (x : Bool) → is_within t.window.len b ≡ x → (y : Bool)
+      by : (x : Bool) → is_page_within t.window.len b ≡ x → (y : Bool)
           → allowed_by table (sector_in t.window b) BootWrite ≡ y
           → (z : Bool) → continues current b ≡ z → Is
       by false out y may z same = outside t to out (out-is t to out)
@@ -183,21 +183,22 @@ module _ (n : ℕ) (table : Option Table) (given : Option Target) (taken : List 
       by (continuing t to within may same e) h = cc (e, h)
       by (beginning t to within may same e) h = cc (e, h)
 
-  within-not : (w : Window) → is_within w.len b ≡ false → ¬ (IsInside w b)
+  within-not : (w : Window) → is_page_within w.len b ≡ false → ¬ (IsPageInside w b)
   within-not w out inside = cc (out, within-is w b inside)
 
-  not-within : (w : Window) → ¬ (IsInside w b) → is_within w.len b ≡ false
-  not-within w out = by (is_within w.len b) refl
+  not-within : (w : Window) → ¬ (IsPageInside w b) → is_page_within w.len b ≡ false
+  not-within w out = by (is_page_within w.len b) refl
     where
-      by : (x : Bool) → is_within w.len b ≡ x → is_within w.len b ≡ false
+      by : (x : Bool) → is_page_within w.len b ≡ x → is_page_within w.len b ≡ false
       by true within = absurd (out (inside-is w b within))
       by false within = within
 
   pub outside-is : (r ≡ Answered (Err Outside)) ↔ ((t : Target) × GoesTo n given taken current b t × ¬
-      (IsInside t.window b))
+      (IsPageInside t.window b))
   outside-is = (by is, λ p. out-is p.0 p.1 (not-within (p.0).window p.2))
     where
-      by : Is → r ≡ Answered (Err Outside) → (t : Target) × GoesTo n given taken current b t × ¬ (IsInside t.window b)
+      by : Is → r ≡ Answered (Err Outside) → (t : Target) × GoesTo n given taken current b t
+          × ¬ (IsPageInside t.window b)
       by (skipped x e) h = cc (e, h)
       by (again e) h = cc (e, h)
       by (none kept same gone e) h = cc (e, h)
@@ -207,11 +208,12 @@ module _ (n : ℕ) (table : Option Table) (given : Option Target) (taken : List 
       by (beginning t to within may same e) h = cc (e, h)
 
   pub not_permitted-is : (r ≡ Answered (Err NotPermitted)) ↔
-      ((t : Target) × GoesTo n given taken current b t × IsInside t.window b
+      ((t : Target) × GoesTo n given taken current b t × IsPageInside t.window b
       × (allowed_by table (sector_in t.window b) BootWrite ≡ false))
   not_permitted-is = (by is, λ p. barred-is p.0 p.1 (within-is (p.0).window b p.2) p.3)
     where
-      by : Is → r ≡ Answered (Err NotPermitted) → (t : Target) × GoesTo n given taken current b t × IsInside t.window b
+      by : Is → r ≡ Answered (Err NotPermitted)
+          → (t : Target) × GoesTo n given taken current b t × IsPageInside t.window b
           × (allowed_by table (sector_in t.window b) BootWrite ≡ false)
       by (skipped x e) h = cc (e, h)
       by (again e) h = cc (e, h)
@@ -222,7 +224,7 @@ module _ (n : ℕ) (table : Option Table) (given : Option Target) (taken : List 
       by (beginning t to within may same e) h = cc (e, h)
 
   pub begins-is : (t : Target) → (r ≡ Begins t) ↔ ((continues current b ≡ false) × GoesTo n given taken current b t
-      × IsInside t.window b × (allowed_by table (sector_in t.window b) BootWrite ≡ true))
+      × IsPageInside t.window b × (allowed_by table (sector_in t.window b) BootWrite ≡ true))
   begins-is t = (
     by is,
     λ p. may-is t p.1 (within-is t.window b p.2) p.3
@@ -230,7 +232,7 @@ module _ (n : ℕ) (table : Option Table) (given : Option Target) (taken : List 
   )
     where
       by : Is → r ≡ Begins t → (continues current b ≡ false) × GoesTo n given taken current b t
-          × IsInside t.window b × (allowed_by table (sector_in t.window b) BootWrite ≡ true)
+          × IsPageInside t.window b × (allowed_by table (sector_in t.window b) BootWrite ≡ true)
       by (skipped x e) h = cc (e, h)
       by (again e) h = cc (e, h)
       by (none kept same gone e) h = cc (e, h)
@@ -240,11 +242,11 @@ module _ (n : ℕ) (table : Option Table) (given : Option Target) (taken : List 
       by (beginning u to within may same e) h =
           let equal : u ≡ t = cc (e, h) in
           subst (λ v. (continues current b ≡ false) × GoesTo n given taken current b v
-          × IsInside v.window b × (allowed_by table (sector_in v.window b) BootWrite ≡ true)) equal
+          × IsPageInside v.window b × (allowed_by table (sector_in v.window b) BootWrite ≡ true)) equal
           (same, to, inside-is u.window b within, may)
 
   pub continues-is : (t : Target) → (r ≡ Continues t) ↔ ((continues current b ≡ true) × GoesTo n given taken current b t
-      × IsInside t.window b × (allowed_by table (sector_in t.window b) BootWrite ≡ true))
+      × IsPageInside t.window b × (allowed_by table (sector_in t.window b) BootWrite ≡ true))
   continues-is t = (
     by is,
     λ p. may-is t p.1 (within-is t.window b p.2) p.3
@@ -252,7 +254,7 @@ module _ (n : ℕ) (table : Option Table) (given : Option Target) (taken : List 
   )
     where
       by : Is → r ≡ Continues t → (continues current b ≡ true) × GoesTo n given taken current b t
-          × IsInside t.window b × (allowed_by table (sector_in t.window b) BootWrite ≡ true)
+          × IsPageInside t.window b × (allowed_by table (sector_in t.window b) BootWrite ≡ true)
       by (skipped x e) h = cc (e, h)
       by (again e) h = cc (e, h)
       by (none kept same gone e) h = cc (e, h)
@@ -262,7 +264,7 @@ module _ (n : ℕ) (table : Option Table) (given : Option Target) (taken : List 
       by (continuing u to within may same e) h =
           let equal : u ≡ t = cc (e, h) in
           subst (λ v. (continues current b ≡ true) × GoesTo n given taken current b v
-          × IsInside v.window b × (allowed_by table (sector_in v.window b) BootWrite ≡ true)) equal
+          × IsPageInside v.window b × (allowed_by table (sector_in v.window b) BootWrite ≡ true)) equal
           (same, to, inside-is u.window b within, may)
 
   -- no answer before a step says that power was lost

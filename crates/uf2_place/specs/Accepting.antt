@@ -1,4 +1,4 @@
--- What a download stands for, and what `accept` leaves of it. This project's own.
+-- What a download stands for, and what `accept` leaves of it.
 use Rattle.std.specs.Prelude.{◌≡◌, ◌≢◌, Bool, true, false, ◌≤◌, if◌then◌else◌, Result, Ok, Err, Option, None, Some, List, [], ◌∷◌, ◌++◌, length}
 use Rattle.pico_board.specs.declared.Step.{Step}
 use Rattle.pico_board.specs.Board.{State, DoesAll}
@@ -15,18 +15,19 @@ use Rattle.uf2_place.specs.declared.answer.Ruling.TheVariants.{Answered}
 use Rattle.uf2_place.specs.Rulings.{ruling}
 use Rattle.uf2_place.specs.declared.current.Current.{Current}
 use Rattle.uf2_place.specs.Downloads.{Follows}
-use Rattle.uf2_place.specs.Marks.{Marked}
-use Rattle.uf2_place.specs.Placement.{grown, is_whole}
+use Rattle.uf2_place.specs.Marks.{MarksView}
+use Rattle.uf2_place.specs.Placement.{grown, is_whole_download}
 
 -- what contracts see of a download: the current one, where there is one, and which numbers it has
 -- taken and which sectors it has erased
-pub record Kept : Type 0 where
+pub record DownloadView : Type 0 where
   pub current : Option Current
-  pub marks : Marked
+  pub marks : MarksView
 
 -- the download stands for the blocks: it has begun into this target and is not done, so that there
 -- is a block and more are to come, and what is kept of it is what the blocks make of it
-pub record StandsFor (d : Kept) (pool : Pool) (t : Target) (blocks : List Uf2) : Type 0 where
+pub record StandsFor (d : DownloadView) (pool : Pool) (t : Target)
+    (blocks : List Uf2) : Type 0 where
   pub some : blocks ≢ []
   pub current : Current
   pub is : d.current ≡ Some current
@@ -35,7 +36,7 @@ pub record StandsFor (d : Kept) (pool : Pool) (t : Target) (blocks : List Uf2) :
   pub follows : Follows pool d.marks current blocks
 
 -- the ruling on a block by what the download keeps and the flash of the board
-abbrev pub rules : State → Option Table → Option Target → Kept → Uf2 → Ruling
+abbrev pub rules : State → Option Table → Option Target → DownloadView → Uf2 → Ruling
 rules s table given d b = ruling (length s.content.flash) table given d.marks.numbers d.current b
 
 -- an answer that the ruling gives at once, and that leaves everything as it was
@@ -50,7 +51,7 @@ has_power answer = true
 
 -- the answer once the steps of the blocks are done, or power was lost in them
 abbrev pub answer_after : Bool → Target → List Uf2 → Result Accepted PlaceFault
-answer_after true t blocks = if is_whole blocks then Ok (Done t) else Ok Taken
+answer_after true t blocks = if is_whole_download blocks then Ok (Done t) else Ok Taken
 answer_after false t blocks = Err PowerLost
 
 -- The board does the steps by which the list of the former blocks grows with one more, whole or
@@ -58,7 +59,7 @@ answer_after false t blocks = Err PowerLost
 -- has no current download where it is done or power was lost.
 pub record Places {B : Type 0} (state : B → State) (history : B → List Step → Type 0) (t : Target)
     (former : List Uf2) (b : Uf2) (old : B) (answer : Result Accepted PlaceFault) (new : B)
-    (d : Kept) (pool : Pool) : Type 0 where
+    (d : DownloadView) (pool : Pool) : Type 0 where
   pub steps : DoesAll state history old (grown t former (former ++ b ∷ [])) (has_power answer) new
   pub answered : answer ≡ answer_after (has_power answer) t (former ++ b ∷ [])
   pub taken : answer ≡ Ok Taken → StandsFor d pool t (former ++ b ∷ [])

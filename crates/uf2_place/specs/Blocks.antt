@@ -23,8 +23,8 @@ is_number number count = nat_le 1 count && (nat_le count MOST_BLOCKS && nat_lt n
 
 -- the fields of a block: flags at 8, address at 12, number at 20, count at 24, family at 28 and the
 -- payload at 32
-abbrev pub fields_of : List ℕ → Uf2
-fields_of bytes = record {
+abbrev pub uf2_fields : List ℕ → Uf2
+uf2_fields bytes = record {
   flags = word_at bytes 8;
   address = word_at bytes 12;
   number = word_at bytes 20;
@@ -40,7 +40,7 @@ uf2_of bytes =
     else if not (word_at bytes 16 == PAYLOAD) then Err Payload
     else if not (word_at bytes 12 % 256 == 0) then Err Alignment
     else if not (is_number (word_at bytes 20) (word_at bytes 24)) then Err Number
-    else Ok (fields_of bytes)
+    else Ok (uf2_fields bytes)
 
 -- a block as it is read: its fields are words, its address is a multiple of 256, its count is 1 to
 -- 65,536, its number is below its count, and its payload has 256 bytes
@@ -69,5 +69,6 @@ number_bytes b =
     word_bytes PAYLOAD ++ (word_bytes b.number ++ (word_bytes b.count ++ word_bytes b.family))
 
 -- the bytes of a block, with 220 bytes 0 between its payload and its last word
-unfoldable pub written : Uf2 → List ℕ
-written b = place_bytes b ++ (number_bytes b ++ (b.page ++ (replicate 220 0 ++ word_bytes END)))
+unfoldable pub written_block : Uf2 → List ℕ
+written_block b = place_bytes b ++ (number_bytes b
+    ++ (b.page ++ (replicate 220 0 ++ word_bytes END)))

@@ -1,4 +1,4 @@
--- What a download keeps of its blocks, and which list of blocks it stands for. This project's own.
+-- What a download keeps of its blocks, and which list of blocks it stands for.
 use Rattle.std.specs.Prelude.{◌≡◌, ◌≢◌, ℕ, true, false, ◌+◌, ◌*◌, ◌<◌, ◌≤◌, ◌==◌, if◌then◌else◌, nat_eq, Option, None, Some, List, [], length, slice_get, slice_index_or, slice_range}
 use Rattle.std.specs.Int.{bit_at}
 use Rattle.std.specs.List.{AllByRecursion, list_any}
@@ -9,8 +9,8 @@ use Rattle.part_table.specs.declared.Target.{Target}
 use Rattle.uf2_place.specs.declared.block.Uf2.{Uf2}
 use Rattle.uf2_place.specs.declared.current.Current.{Current}
 use Rattle.uf2_place.specs.declared.current.Held.{Held}
-use Rattle.uf2_place.specs.Marks.{Marked, is_marked}
-use Rattle.uf2_place.specs.Placement.{AreBlocks, HasWholeSectors, IsInside, first_in, last_for, lies_in, numbers_of}
+use Rattle.uf2_place.specs.Marks.{MarksView, is_marked}
+use Rattle.uf2_place.specs.Placement.{AreBlocks, HasWholeSectors, IsPageInside, first_in, last_for, lies_in, numbers_of}
 
 -- the window of a target has whole sectors, at least one, and lies inside a flash of this length
 pub record IsTargetIn (flash_len : ℕ) (t : Target) : Type 0 where
@@ -30,8 +30,8 @@ abbrev pub IsOut : Pool → Option ℕ → Type 0
 IsOut pool lease = (k : ℕ) → lease ≡ Some k → slice_get pool.out k ≡ Some true
 
 -- the bytes of a sector of the pool
-abbrev pub bytes_of : Pool → ℕ → List ℕ
-bytes_of pool k = slice_index_or pool.sectors k []
+abbrev pub pool_sector_bytes : Pool → ℕ → List ℕ
+pool_sector_bytes pool k = slice_index_or pool.sectors k []
 
 -- page i of a sector's bytes, where bit i of the held pages is set
 abbrev pub held_page : ℕ → List ℕ → ℕ → Option (List ℕ)
@@ -44,23 +44,24 @@ pub record HoldsPages (pool : Pool) (t : Target) (blocks : List Uf2) (h : Held) 
   pub gated : t.gated ≡ true
   pub out : slice_get pool.out h.lease ≡ Some true
   pub pages : (i : ℕ) → i < 16
-      → held_page h.pages (bytes_of pool h.lease) i
+      → held_page h.pages (pool_sector_bytes pool h.lease) i
       ≡ last_for t.window (16 * first_in t.window + i) blocks
 
 -- a gated target has its held pages in a lease, and another target holds none
-abbrev pub Holds : Pool → Target → List Uf2 → Option Held → Type 0
-Holds pool t blocks None = t.gated ≡ false
-Holds pool t blocks (Some h) = HoldsPages pool t blocks h
+abbrev pub HoldsLease : Pool → Target → List Uf2 → Option Held → Type 0
+HoldsLease pool t blocks None = t.gated ≡ false
+HoldsLease pool t blocks (Some h) = HoldsPages pool t blocks h
 
 -- what is kept of a download is what these blocks, of which there may be none yet, make of it: its
 -- family, count and target are theirs, its taken numbers are the list's numbers, its erased sectors
 -- are the list's sectors, but for the first one of a gated target, and the held pages of a gated
 -- target stand in its lease's bytes
-pub record Follows (pool : Pool) (marks : Marked) (c : Current) (blocks : List Uf2) : Type 0 where
+pub record Follows (pool : Pool) (marks : MarksView) (c : Current)
+    (blocks : List Uf2) : Type 0 where
   pub are : AreBlocks c.target c.family c.count blocks
-  pub inside : AllByRecursion (IsInside c.target.window) blocks
+  pub inside : AllByRecursion (IsPageInside c.target.window) blocks
   pub left : length blocks + c.left ≡ c.count
   pub numbers : (i : ℕ) → is_marked marks.numbers i ≡ is_member nat_eq (numbers_of blocks) i
   pub sectors : (s : ℕ) → (c.target.gated ≡ true → s ≢ first_in c.target.window)
       → is_marked marks.sectors s ≡ list_any (lies_in c.target.window s) blocks
-  pub held : Holds pool c.target blocks c.held
+  pub held : HoldsLease pool c.target blocks c.held

@@ -1,5 +1,4 @@
 -- Worked examples of blocks and of downloads, with their answers reckoned by hand from the rules.
--- This project's own.
 use Rattle.std.specs.Prelude.{ℕ, Bool, false, List, [], ◌∷◌, ◌++◌, None, replicate}
 use Rattle.std.specs.List.{flat_map}
 use Rattle.part_table.specs.declared.Target.{Target}
@@ -8,8 +7,8 @@ use Rattle.uf2_place.specs.declared.current.Current.{Current}
 use Rattle.uf2_place.specs.Blocks.{word_bytes}
 
 -- a block of rp2350-arm-s, one of three, by its number, its address and its page
-abbrev pub arm_block : ℕ → ℕ → List ℕ → Uf2
-arm_block number address page = record {
+abbrev pub arm_uf2_block : ℕ → ℕ → List ℕ → Uf2
+arm_uf2_block number address page = record {
   flags = 0x2000;
   address = address;
   number = number;
@@ -20,8 +19,8 @@ arm_block number address page = record {
 
 -- the 512 bytes of a block of rp2350-arm-s of this payload size, address, number and count, whose
 -- payload is of bytes 0
-abbrev pub block_bytes : ℕ → ℕ → ℕ → ℕ → List ℕ
-block_bytes payload address number count =
+abbrev pub uf2_bytes : ℕ → ℕ → ℕ → ℕ → List ℕ
+uf2_bytes payload address number count =
     flat_map word_bytes
     (0x0a324655 ∷ 0x9e5d5157 ∷ 0x2000 ∷ address ∷ payload ∷ number ∷ count ∷ 0xe48bff59 ∷ [])
     ++ (replicate 476 0 ++ word_bytes 0x0ab16f30)
@@ -38,8 +37,8 @@ absolute_block address = record {
 }
 
 -- a block of these flags
-abbrev pub flagged : ℕ → Uf2
-flagged flags = record {
+abbrev pub flagged_block : ℕ → Uf2
+flagged_block flags = record {
   flags = flags;
   address = 0x10000000;
   number = 0;
@@ -49,8 +48,8 @@ flagged flags = record {
 }
 
 -- sectors 32 to 61 as a target
-abbrev pub slot : Bool → Target
-slot gated = record {
+abbrev pub slot_target : Bool → Target
+slot_target gated = record {
   window = record { start = 0x20000; len = 0x1e000 };
   gated = gated;
   stay = false;
@@ -69,7 +68,7 @@ abbrev pub arm_download : Bool → Current
 arm_download gated = record {
   family = 0xe48bff59;
   count = 3;
-  target = slot gated;
+  target = slot_target gated;
   left = 2;
   held = None;
 }

@@ -6,19 +6,19 @@ use Rattle.std.specs.List.{range_with_len}
 use Rattle.pico_board.specs.Content.{flash_base}
 use Rattle.uf2_place.specs.declared.block.Uf2.{Uf2}
 use Rattle.uf2_place.specs.declared.block.TheConstants.{HAS_FAMILY}
-use Rattle.uf2_place.specs.Blocks.{written}
+use Rattle.uf2_place.specs.Blocks.{written_block}
 
 -- how many pages hold so many bytes
 abbrev pub page_count : ℕ → ℕ
 page_count n = (n + 255) / 256
 
 -- a part of a page, filled up with 0xff
-abbrev pub filled : List ℕ → List ℕ
-filled part = part ++ replicate (256 - length part) 255
+abbrev pub filled_page : List ℕ → List ℕ
+filled_page part = part ++ replicate (256 - length part) 255
 
 -- page number i of the image
 abbrev pub page_of : List ℕ → ℕ → List ℕ
-page_of image i = filled (slice_range image (256 * i) (256 * i + 256))
+page_of image i = filled_page (slice_range image (256 * i) (256 * i + 256))
 
 -- block number i of the file
 abbrev pub file_block : List ℕ → ℕ → ℕ → Uf2
@@ -38,7 +38,7 @@ file_blocks image family =
 
 -- the bytes of the file
 abbrev pub file_bytes : List ℕ → ℕ → List ℕ
-file_bytes image family = flat_map written (file_blocks image family)
+file_bytes image family = flat_map written_block (file_blocks image family)
 
 -- the former bytes stand at the front
 abbrev pub IsKept : List ℕ → List ℕ → Type 0

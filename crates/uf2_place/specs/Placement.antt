@@ -13,7 +13,7 @@ use Rattle.uf2_place.specs.declared.block.Uf2.{Uf2}
 use Rattle.uf2_place.specs.Blocks.{IsUf2}
 
 -- the page of a block lies in the window
-pub record IsInside (w : Window) (b : Uf2) : Type 0 where
+pub record IsPageInside (w : Window) (b : Uf2) : Type 0 where
   pub above : flash_base ≤ b.address
   pub below : b.address - flash_base + 256 ≤ w.len
 
@@ -50,7 +50,8 @@ abbrev pub own_steps : Window → List Uf2 → Uf2 → List Step
 own_steps w before b =
     fresh_steps (list_any (lies_in w (sector_in w b)) before) (sector_in w b) (page_in w b) b.page
 
--- the same, but none for a page of the window's first sector
+-- a block's own steps, behind the blocks that came before it, but none for a page of the window's
+-- first sector
 abbrev pub later_steps : Window → List Uf2 → Uf2 → List Step
 later_steps w before b = if lies_in w (first_in w) b then [] else own_steps w before b
 
@@ -81,26 +82,26 @@ final_steps w blocks = programs_in (first_in w) (λ i. last_for w (16 * first_in
 
 -- all numbers are there: the blocks, whose numbers differ, are as many as the first one's count
 -- says
-abbrev pub is_whole : List Uf2 → Bool
-is_whole [] = false
-is_whole (b ∷ bs) = length (b ∷ bs) == b.count
+abbrev pub is_whole_download : List Uf2 → Bool
+is_whole_download [] = false
+is_whole_download (b ∷ bs) = length (b ∷ bs) == b.count
 
 -- the steps of the blocks into a gated target: the erase of the first sector, what lies elsewhere
 -- as it comes, and the first sector once all numbers are there
 abbrev pub gated_steps : Window → List Uf2 → List Step
 gated_steps w blocks =
     Erase (first_in w) ∷ (in_turn (later_steps w) [] blocks
-    ++ (if is_whole blocks then final_steps w blocks else []))
+    ++ (if is_whole_download blocks then final_steps w blocks else []))
 
 -- the steps of a download of these blocks, in the order in which they came
-abbrev pub placed : Target → List Uf2 → List Step
-placed t [] = []
-placed t (b ∷ bs) =
+abbrev pub download_steps : Target → List Uf2 → List Step
+download_steps t [] = []
+download_steps t (b ∷ bs) =
     if t.gated then gated_steps t.window (b ∷ bs) else in_turn (own_steps t.window) [] (b ∷ bs)
 
 -- the steps by which the list of a download grows
 abbrev pub grown : Target → List Uf2 → List Uf2 → List Step
-grown t former now = drop (length (placed t former)) (placed t now)
+grown t former now = drop (length (download_steps t former)) (download_steps t now)
 
 -- a window has whole sectors, at least one
 pub record HasWholeSectors (w : Window) : Type 0 where

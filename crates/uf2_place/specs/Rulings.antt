@@ -28,15 +28,15 @@ pub record HasOneRight (t : Table) : Type 0 where
   pub overlap : overlap_fault t.parts.items ≡ None
 
 -- the 256 bytes at the block's address lie in this many bytes from 0x10000000 on
-abbrev pub is_within : ℕ → Uf2 → Bool
-is_within len b = nat_le flash_base b.address && nat_le (b.address - flash_base + 256) len
+abbrev pub is_page_within : ℕ → Uf2 → Bool
+is_page_within len b = nat_le flash_base b.address && nat_le (b.address - flash_base + 256) len
 
 -- a block is skipped that is not for the main flash (flag 0x1) or names no family (no flag 0x2000),
 -- or is of the absolute family and its page not wholly in a flash of this length
 abbrev pub is_skipped : ℕ → Uf2 → Bool
 is_skipped flash_len b =
     bit_at b.flags 0 == 1 || (not (bit_at b.flags 13 == 1)
-    || (b.family == absolute_family && not (is_within flash_len b)))
+    || (b.family == absolute_family && not (is_page_within flash_len b)))
 
 -- a block continues a download of its family and its count
 abbrev pub is_of : Current → Uf2 → Bool
@@ -53,7 +53,7 @@ wanted flash_len current b =
 -- a page goes into a target where it lies in its window and its sector has the boot write right
 abbrev pub aimed : Option Table → Uf2 → Target → Ruling → Ruling
 aimed table b t go =
-    if not (is_within t.window.len b) then Answered (Err Outside)
+    if not (is_page_within t.window.len b) then Answered (Err Outside)
     else if not (allowed_by table (sector_in t.window b) BootWrite) then Answered (Err NotPermitted)
     else go
 
@@ -62,7 +62,7 @@ abbrev pub continued : Option Table → List ℕ → Uf2 → Target → Ruling
 continued table numbers b t =
     if is_marked numbers b.number then Answered (Ok Again) else aimed table b t (Continues t)
 
--- a block that begins one
+-- a block that begins a download, where its family has this target or none
 abbrev pub begun : Option Table → Uf2 → Option Target → Ruling
 begun table b None = Answered (Err NoTarget)
 begun table b (Some t) = aimed table b t (Begins t)
@@ -80,13 +80,13 @@ ruling flash_len table given numbers current b =
 
 -- the target of a block: that of the current download, where the block continues it and its number
 -- is not taken, and the one that is given, where it begins a download
-abbrev pub target_of : Option Target → List ℕ → Uf2 → Option Current → Option Target
-target_of given numbers b None = given
-target_of given numbers b (Some c) =
+abbrev pub target_of_block : Option Target → List ℕ → Uf2 → Option Current → Option Target
+target_of_block given numbers b None = given
+target_of_block given numbers b (Some c) =
     if is_of c b then (if is_marked numbers b.number then None else Some c.target) else given
 
 -- a block that is not skipped goes to this target, if its page may
 pub record GoesTo (n : ℕ) (given : Option Target) (numbers : List ℕ) (current : Option Current)
     (b : Uf2) (t : Target) : Type 0 where
   pub kept : is_skipped n b ≡ false
-  pub target : target_of given numbers b current ≡ Some t
+  pub target : target_of_block given numbers b current ≡ Some t

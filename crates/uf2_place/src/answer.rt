@@ -6,23 +6,23 @@ use thiserror::Error;
 /// How a block was accepted.
 #[derive(Clone, Copy, PartialEq, Eq, Debug)]
 pub enum Accepted {
-    /// It is not for a download here; nothing changed.
+    /// The block is not for a download here; nothing changed.
     Skipped,
-    /// Its number is taken already; nothing changed.
+    /// The block's number is taken already; nothing changed.
     Again,
-    /// It is taken, and more blocks are to come.
+    /// The block is taken, and more blocks are to come.
     Taken,
-    /// It is taken, and with it the download into this target is done.
+    /// The block is taken, and with it the download into this target is done.
     Done(Target),
 }
 
 /// Why a block was not placed: the first that applies, in this order.
 #[derive(Clone, Copy, PartialEq, Eq, Debug, Error)]
 pub enum PlaceFault {
-    /// It begins a download of a family that has no target.
+    /// The block begins a download of a family that has no target.
     #[error("the family has no target")]
     NoTarget,
-    /// Its page is not in the target's window.
+    /// The block's page is not in the target's window.
     #[error("the page is outside the target")]
     Outside,
     /// The bootloader may not write the page's sector.
@@ -36,10 +36,10 @@ pub enum PlaceFault {
 /// What the rules say of a block before any step.
 #[derive(Clone, Copy, PartialEq, Eq, Debug)]
 pub enum Ruling {
-    /// It is answered, and nothing is done.
+    /// The block is answered, and nothing is done.
     Answered(Result<Accepted, PlaceFault>),
-    /// It begins a download into this target.
+    /// The block begins a download into this target.
     Begins(Target),
-    /// It continues the current download, into this target.
+    /// The block continues the current download, into this target.
     Continues(Target),
 }

@@ -6,11 +6,11 @@ use sector_pool::Lease;
 /// A download that has begun and is not done.
 #[derive(Drop)]
 pub struct Current {
-    /// The family of its blocks.
+    /// The family of the download's blocks.
     pub family: u32,
-    /// How many blocks it has.
+    /// How many blocks the download has.
     pub count: u32,
-    /// Where it goes.
+    /// Where the download goes.
     pub target: Target,
     /// How many blocks are still to come.
     pub left: u32,
@@ -21,7 +21,7 @@ pub struct Current {
 /// The pages of a first sector that are held back, in a leased sector.
 #[derive(Drop)]
 pub struct Held {
-    /// The sector that has their bytes.
+    /// The sector that has the bytes of the held pages.
     pub lease: Lease,
     /// Bit i: page i of the sector is held.
     pub pages: u16,

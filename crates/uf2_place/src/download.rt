@@ -11,8 +11,8 @@ ghost use Rattle.uf2_place.specs.declared.answer.Ruling.TheVariants.{Begins, Con
 ghost use Rattle.uf2_place.specs.Accepting.{AnswersAtOnce, Places, StandsFor, has_power, rules};
 ghost use Rattle.uf2_place.specs.Blocks.{IsUf2};
 ghost use Rattle.uf2_place.specs.Downloads.{Follows, IsOut, IsTargetIn, lease_in, lease_of};
-ghost use Rattle.uf2_place.specs.Placement.{IsInside};
-ghost use Rattle.uf2_place.specs.Progress.{IsNext};
+ghost use Rattle.uf2_place.specs.Placement.{IsPageInside};
+ghost use Rattle.uf2_place.specs.Progress.{MayComeNext};
 ghost use Rattle.uf2_place.specs.Rulings.{wanted};
 
 use crate::answer::{Accepted, PlaceFault, Ruling};
@@ -38,9 +38,9 @@ pub struct Download {
 impl Model for Download {
     ghost use Rattle.std.specs.Prelude.{◌≤◌};
     ghost use Rattle.std.specs.Option.{ForSome};
-    ghost use Rattle.uf2_place.specs.Accepting.{Kept};
+    ghost use Rattle.uf2_place.specs.Accepting.{DownloadView};
 
-    ghost Value = { Kept };
+    ghost Value = { DownloadView };
 
     ghost view = { λ d. record { current = d.current; marks = d.marks } };
 
@@ -173,12 +173,12 @@ impl Download {
         requires power { IsTrue (B.state board.old).powered }
         requires none { self.old.current ≡ None }
         requires block { IsUf2 block.now }
-        requires inside { IsInside current.target.window block.now }
+        requires inside { IsPageInside current.target.window block.now }
         requires target { IsTargetIn (length (B.state board.old).content.flash) current.target }
         requires some { 1 ≤ current.left }
         requires out { IsOut pool.old (lease_in current.held) }
         ensures places { (blocks : List Uf2) → Follows pool.old self.old.marks current blocks
-            → IsNext current blocks block.now
+            → MayComeNext current blocks block.now
             → Places B.state B.history current.target blocks block.now board.old result board.new
             self.new pool.new }
         ensures pool { HandsOver (lease_in current.held) (lease_of self.new.current)

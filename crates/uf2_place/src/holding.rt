@@ -2,7 +2,7 @@
 
 ghost use Rattle.std.specs.Prelude.{◌≡◌, ℕ, ◌+◌, ◌*◌, ◌<◌, ◌≤◌, ◌++◌, IsTrue, Some, true, drop, is_ok, length, slice_get, slice_range, take};
 ghost use Rattle.pico_board.specs.Board.{DoesAll};
-ghost use Rattle.uf2_place.specs.Downloads.{bytes_of, held_page};
+ghost use Rattle.uf2_place.specs.Downloads.{pool_sector_bytes, held_page};
 ghost use Rattle.uf2_place.specs.Placement.{program_of, programs_in};
 ghost use Rattle.uf2_place.specs.Progress.{HoldsPage};
 
@@ -43,7 +43,7 @@ pub fn program_held<B: Board>(
     requires range { 4096 * sector + 4096 ≤ length (B.state board.old).content.flash }
     requires out { slice_get pool.now.out held.now.lease ≡ Some true }
     ensures { DoesAll B.state B.history board.old
-        (programs_in sector (held_page held.now.pages (bytes_of pool.now held.now.lease)))
+        (programs_in sector (held_page held.now.pages (pool_sector_bytes pool.now held.now.lease)))
         (is_ok result) board.new }
 {
     program_marked(board, pool.bytes(&held.lease), held.pages, sector)

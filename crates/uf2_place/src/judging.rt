@@ -6,7 +6,7 @@ ghost use Rattle.part_table.specs.Rights.{allowed_by};
 ghost use Rattle.part_table.specs.declared.Right.TheVariants.{BootWrite};
 ghost use Rattle.uf2_place.specs.Blocks.{IsUf2};
 ghost use Rattle.uf2_place.specs.Downloads.{IsTargetIn};
-ghost use Rattle.uf2_place.specs.Rulings.{HasOneRight, aimed, begun, continued, continues, is_of, is_skipped, is_within, ruling, ruled};
+ghost use Rattle.uf2_place.specs.Rulings.{HasOneRight, aimed, begun, continued, continues, is_of, is_skipped, is_page_within, ruling, ruled};
 
 use crate::answer::{Accepted, PlaceFault, Ruling};
 use crate::block::Uf2;
@@ -73,7 +73,7 @@ fn aimed(table: Option<&Table>, block: &Uf2, target: Target, go: Ruling) -> Ruli
     requires near { target.window.start + target.window.len < 2 ^ 32 }
     ensures { result ≡ aimed (option_map (λ t. t.now) table.entry) block.now target go }
 {
-    if !is_within(target.window.len, block) {
+    if !is_page_within(target.window.len, block) {
         return Ruling::Answered(Err(PlaceFault::Outside));
     }
     if !may_write(table, sector_in(target.window, block)) {
@@ -94,8 +94,8 @@ fn may_write(table: Option<&Table>, sector: u32) -> bool
 }
 
 /// Whether a block's page lies in this many bytes from 0x10000000 on.
-fn is_within(len: u32, block: &Uf2) -> bool
-    ensures { result ≡ is_within len block.now }
+fn is_page_within(len: u32, block: &Uf2) -> bool
+    ensures { result ≡ is_page_within len block.now }
 {
     FLASH_BASE <= block.address && u64::from(block.address - FLASH_BASE) + 256 <= u64::from(len)
 }
@@ -106,7 +106,7 @@ pub fn is_skipped(flash_len: u32, block: &Uf2) -> bool
 {
     block.flags & 1 == 1
         || block.flags >> 13 & 1 != 1
-        || block.family == ABSOLUTE_FAMILY && !is_within(flash_len, block)
+        || block.family == ABSOLUTE_FAMILY && !is_page_within(flash_len, block)
 }
 
 /// Whether a block is of the family and the count of a download.

@@ -1,7 +1,7 @@
 //! Which numbers a download has taken, and which sectors it has erased: a bit each.
 
 ghost use Rattle.std.specs.Prelude.{◌≡◌, ℕ, ◌<◌, false, true, IfOk, if◌then◌else◌, nat_eq};
-ghost use Rattle.uf2_place.specs.Marks.{HasNone, Marked, is_marked};
+ghost use Rattle.uf2_place.specs.Marks.{HasNoMark, MarksView, is_marked};
 
 use crate::bits::{clear_bits, has_bit, set_bit};
 use std::alloc::{AllocError, Global};
@@ -22,9 +22,9 @@ pub struct Marks {
 
 impl Model for Marks {
     ghost use Rattle.std.specs.Prelude.{◌≡◌, length};
-    ghost use Rattle.uf2_place.specs.Marks.{Marked};
+    ghost use Rattle.uf2_place.specs.Marks.{MarksView};
 
-    ghost Value = { Marked };
+    ghost Value = { MarksView };
 
     ghost view = { λ marks. record {
       numbers = marks.numbers.items;
@@ -38,7 +38,7 @@ impl Model for Marks {
 impl Marks {
     /// No bit set. It fails only where memory is out.
     pub fn make(alloc: Global) -> Result<Marks, AllocError>
-        ensures { IfOk result HasNone }
+        ensures { IfOk result HasNoMark }
     {
         let mut numbers = Vec::new(alloc);
         let mut sectors = Vec::new(alloc);
@@ -87,7 +87,7 @@ impl Marks {
 
     /// Clears all bits.
     pub fn clear(&mut self)
-        ensures { HasNone self.new }
+        ensures { HasNoMark self.new }
     {
         clear_bits(&mut self.numbers);
         clear_bits(&mut self.sectors);

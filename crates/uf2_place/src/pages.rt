@@ -1,14 +1,14 @@
 //! Places of pages in the flash.
 
 ghost use Rattle.std.specs.Prelude.{◌≡◌, ◌+◌, ◌-◌, ◌*◌, ◌<◌, ◌≤◌, ◌^◌};
-ghost use Rattle.uf2_place.specs.Placement.{IsInside, page_in, sector_in, first_in};
+ghost use Rattle.uf2_place.specs.Placement.{IsPageInside, page_in, sector_in, first_in};
 
 use crate::block::Uf2;
 use pico_board::{FLASH_BASE, Window};
 
 /// The number of the flash page of a block that lies in the window.
 pub fn page_in(window: Window, block: &Uf2) -> u32
-    requires inside { IsInside window block.now }
+    requires inside { IsPageInside window block.now }
     requires near { window.start + window.len < 2 ^ 32 }
     ensures { result ≡ page_in window block.now }
 {
@@ -17,7 +17,7 @@ pub fn page_in(window: Window, block: &Uf2) -> u32
 
 /// The number of the flash sector of a block that lies in the window.
 pub fn sector_in(window: Window, block: &Uf2) -> u32
-    requires inside { IsInside window block.now }
+    requires inside { IsPageInside window block.now }
     requires near { window.start + window.len < 2 ^ 32 }
     ensures { result ≡ sector_in window block.now }
 {

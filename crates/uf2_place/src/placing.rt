@@ -6,10 +6,10 @@ ghost use Rattle.pico_board.specs.Board.{DoesAll};
 ghost use Rattle.sector_pool.specs.Keeping.{HandsOver};
 ghost use Rattle.uf2_place.specs.Blocks.{IsUf2};
 ghost use Rattle.uf2_place.specs.declared.block.Uf2.{Uf2};
-ghost use Rattle.uf2_place.specs.Downloads.{Follows, IsOut, IsTargetIn, bytes_of, held_page, lease_in};
+ghost use Rattle.uf2_place.specs.Downloads.{Follows, IsOut, IsTargetIn, pool_sector_bytes, held_page, lease_in};
 ghost use Rattle.uf2_place.specs.Marks.{is_marked};
-ghost use Rattle.uf2_place.specs.Placement.{HasWholeSectors, grown, IsInside, erase_steps, fresh_steps, programs_in, sector_in};
-ghost use Rattle.uf2_place.specs.Progress.{HoldsBlock, IsNext, MarksSector, TakesNumber, held_steps, is_held_back, open_steps, put_steps};
+ghost use Rattle.uf2_place.specs.Placement.{HasWholeSectors, grown, IsPageInside, erase_steps, fresh_steps, programs_in, sector_in};
+ghost use Rattle.uf2_place.specs.Progress.{HoldsBlock, MayComeNext, MarksSector, TakesNumber, held_steps, is_held_back, open_steps, put_steps};
 
 use crate::block::Uf2;
 use crate::current::{Current, Held};
@@ -70,7 +70,7 @@ fn open<B: Board>(board: &mut B, current: &Current) -> Result<(), PowerLost>
 
 /// Whether the block's page is held back.
 fn is_held_back(current: &Current, block: &Uf2) -> bool
-    requires inside { IsInside current.now.target.window block.now }
+    requires inside { IsPageInside current.now.target.window block.now }
     requires near { current.now.target.window.start + current.now.target.window.len < 2 ^ 32 }
     ensures { result ≡ is_held_back current.now block.now }
 {
@@ -80,7 +80,7 @@ fn is_held_back(current: &Current, block: &Uf2) -> bool
 
 /// Holds the block's page back.
 fn hold_block(pool: &mut SectorPool, current: &mut Current, block: &Uf2)
-    requires inside { IsInside current.old.target.window block.now }
+    requires inside { IsPageInside current.old.target.window block.now }
     requires near { current.old.target.window.start + current.old.target.window.len < 2 ^ 32 }
     requires whole { HasWholeSectors current.old.target.window }
     requires back { is_held_back current.old block.now ≡ true }
@@ -103,7 +103,7 @@ fn put<B: Board>(
     block: &Uf2,
 ) -> Result<(), PowerLost>
     requires power { IsTrue (B.state board.old).powered }
-    requires inside { IsInside current.old.target.window block.now }
+    requires inside { IsPageInside current.old.target.window block.now }
     requires target { IsTargetIn (length (B.state board.old).content.flash) current.old.target }
     requires out { IsOut pool.old (lease_in current.old.held) }
     ensures steps { DoesAll B.state B.history board.old
@@ -167,7 +167,7 @@ fn finish_held<B: Board>(
     requires out { slice_get pool.now.out held.now.lease ≡ Some true }
     ensures { DoesAll B.state B.history board.old
         (if left == 0 then programs_in sector
-        (held_page held.now.pages (bytes_of pool.now held.now.lease)) else [])
+        (held_page held.now.pages (pool_sector_bytes pool.now held.now.lease)) else [])
         (is_ok result) board.new }
 {
     if left != 0 {
@@ -196,16 +196,16 @@ pub fn place_block<B: Board>(
 ) -> Result<(), PowerLost>
     requires power { IsTrue (B.state board.old).powered }
     requires block { IsUf2 block.now }
-    requires inside { IsInside current.old.target.window block.now }
+    requires inside { IsPageInside current.old.target.window block.now }
     requires target { IsTargetIn (length (B.state board.old).content.flash) current.old.target }
     requires some { 1 ≤ current.old.left }
     requires out { IsOut pool.old (lease_in current.old.held) }
     ensures steps { (blocks : List Uf2) → Follows pool.old marks.old current.old blocks
-        → IsNext current.old blocks block.now
+        → MayComeNext current.old blocks block.now
         → DoesAll B.state B.history board.old
         (grown current.old.target blocks (blocks ++ block.now ∷ [])) (is_ok result) board.new }
     ensures follows { (blocks : List Uf2) → Follows pool.old marks.old current.old blocks
-        → IsNext current.old blocks block.now
+        → MayComeNext current.old blocks block.now
         → OnOk result (Follows pool.new marks.new current.new (blocks ++ block.now ∷ [])) }
     ensures left { OnOk result (current.new.left + 1 ≡ current.old.left) }
     ensures size { length (B.state board.new).content.flash

@@ -1,7 +1,7 @@
 //! UF2 blocks from bytes.
 
 ghost use Rattle.std.specs.Prelude.{◌≡◌, ◌+◌, ◌≤◌, IfOk, length};
-ghost use Rattle.uf2_place.specs.Blocks.{IsUf2, fields_of, has_magic, is_number, uf2_of, word_at};
+ghost use Rattle.uf2_place.specs.Blocks.{IsUf2, uf2_fields, has_magic, is_number, uf2_of, word_at};
 
 use crate::block::{END, MOST_BLOCKS, PAYLOAD, SECOND, START, Uf2, Uf2Fault};
 use byteorder::{ByteOrder, LittleEndian};
@@ -23,7 +23,7 @@ pub fn read_uf2(bytes: &[u8; 512]) -> Result<Uf2, Uf2Fault>
     if !is_number(word_at(bytes, 20), word_at(bytes, 24)) {
         return Err(Uf2Fault::Number);
     }
-    Ok(fields_of(bytes))
+    Ok(uf2_fields(bytes))
 }
 
 /// The word at a place.
@@ -49,8 +49,8 @@ fn is_number(number: u32, count: u32) -> bool
 }
 
 /// The fields of a block.
-fn fields_of(bytes: &[u8; 512]) -> Uf2
-    ensures { result ≡ fields_of bytes.now }
+fn uf2_fields(bytes: &[u8; 512]) -> Uf2
+    ensures { result ≡ uf2_fields bytes.now }
 {
     let mut page = [0; 256];
     page.copy_from_slice(&bytes[32..288]);

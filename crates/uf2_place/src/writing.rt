@@ -2,12 +2,12 @@
 
 ghost use Rattle.std.specs.Prelude.{◌≡◌, ◌↔◌, ℕ, ◌+◌, ◌*◌, ◌<◌, ◌≤◌, Ok, Err, OnErr, OnOk, ◌++◌, drop, length};
 ghost use Rattle.pico_board.specs.declared.window.TheConstants.{MOST_FLASH_BYTES};
-ghost use Rattle.uf2_place.specs.Blocks.{number_bytes, place_bytes, word_bytes, written};
+ghost use Rattle.uf2_place.specs.Blocks.{number_bytes, place_bytes, word_bytes, written_block};
 ghost use Rattle.uf2_place.specs.Files.{IsKept, file_block, file_bytes, page_count, page_of};
 ghost use Rattle.uf2_place.specs.declared.block.Uf2WriteFault.TheVariants.{Empty, TooLarge};
 
 use crate::block::{END, HAS_FAMILY, PAYLOAD, SECOND, START, Uf2, Uf2WriteFault};
-use pico_board::{FLASH_BASE, MOST_FLASH_BYTES};
+use pico_board::{ERASED, FLASH_BASE, MOST_FLASH_BYTES};
 use std::alloc::{AllocError, Global};
 
 /// Appends the UF2 file of an image for a family: a block for each page of 256 bytes, the last one
@@ -78,7 +78,7 @@ fn page_of(image: &[u8], number: u32) -> [u8; 256]
 {
     let start = 256 * number as usize;
     let end = image.len().min(start + 256);
-    let mut page = [0xff; 256];
+    let mut page = [ERASED; 256];
     copy_to_front(&image[start..end], &mut page);
     page
 }
@@ -92,9 +92,9 @@ fn copy_to_front(bytes: &[u8], buffer: &mut [u8])
 }
 
 /// Appends the bytes of a block.
-#[tactic(auto, unfolding(crate::specs::Blocks::written))]
+#[tactic(auto, unfolding(crate::specs::Blocks::written_block))]
 fn append_block(block: &Uf2, out: &mut Vec<u8>) -> Result<(), AllocError>
-    ensures ok { OnOk result (out.new.items ≡ out.old.items ++ written block.now) }
+    ensures ok { OnOk result (out.new.items ≡ out.old.items ++ written_block block.now) }
     ensures err { OnErr result (IsKept out.old.items out.new.items) }
 {
     append_place(block, out)?;

@@ -1,5 +1,5 @@
 use Rattle.std.proofs.Common.{ap, ◌∙◌}
-use Rattle.boot_machine.specs.Serving.{info_reply, info_text}
+use Rattle.boot_machine.specs.Serving.{info_reply, info_line}
 use Rattle.boot_machine.proofs.infos.serve_info.Goals as goal
 
 pub returns-clause-text : goal.returns-clause-text
@@ -9,4 +9,4 @@ returns-clause-text g c =
     let cmd = c.args.cmd.now in
     c.set_answer.ensures.text (info_reply c.info_reply-status.result content c.args.cpu found cmd)
     (c.info_reply-status.ensures.reply c.new-reply.ensures) c.info_reply-status.ensures.few
-    ∙ ap (λ status. info_text status content c.args.cpu found cmd) c.info_reply-status.ensures.status
+    ∙ ap (λ status. info_line status content c.args.cpu found cmd) c.info_reply-status.ensures.status

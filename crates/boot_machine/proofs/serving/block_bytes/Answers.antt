@@ -1,6 +1,6 @@
 use Rattle.std.proofs.Common.{ap, sym, refl, ◌∙◌}
 use Rattle.uf2_place.specs.Blocks.{uf2_of}
-use Rattle.boot_lines.specs.Texts.{form_text}
+use Rattle.text_lines.specs.Texts.{form_text}
 use Rattle.boot_machine.specs.Serving.{places, line_only, uf2_served}
 use Rattle.boot_machine.specs.Standing.{is_on}
 use Rattle.boot_machine.proofs.PlacingLemmas.{serves-as}

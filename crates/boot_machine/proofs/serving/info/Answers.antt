@@ -1,6 +1,6 @@
 use Rattle.std.proofs.Common.{ℕ, List, Option, ap, refl, ◌∙◌, sym}
 use Rattle.boot_rules.specs.declared.tables.Found.{Found}
-use Rattle.boot_machine.specs.Serving.{info_status, info_text}
+use Rattle.boot_machine.specs.Serving.{info_status, info_line}
 use Rattle.boot_machine.specs.Standing.{is_bootsel, is_on}
 use Rattle.boot_machine.proofs.RoomLemmas.{room-free}
 use Rattle.boot_machine.proofs.SteadinessLemmas.{host-kept, steady-host, told-served}
@@ -18,7 +18,7 @@ returns-clause-serves g c = λ host is.
     let content = (g.B.Board.state old.board).content in
     let cmd = c.args.cmd.now in
     let told : Option Found → List ℕ = λ found.
-    info_text (info_status content old.cpu found cmd c.args.payload.now) content old.cpu found cmd in
+    info_line (info_status content old.cpu found cmd c.args.payload.now) content old.cpu found cmd in
     told-served g.B.Board.state g.B.Board.history old _ host _ _
     (c.requires.steady.power (ap is_on c.requires.bootsel)) refl refl
     (host-kept old c.serve_info.new.pool host c.serve_info.ensures.kept is)

@@ -1,8 +1,8 @@
 use Rattle.std.proofs.Common.{refl}
 use Rattle.std.specs.Str.{is_utf8, chars}
 use Rattle.serde_json.proofs.OnLiterals.{serde_json_on_literals}
-use Rattle.run_forms.specs.Jsons.{spec_read, table_read}
-use Rattle.tool_work.specs.Seals.{seal_error}
+use Rattle.cli_inputs.specs.Jsons.{spec_read, table_read}
+use Rattle.cli_tools.specs.Seals.{seal_error}
 use Rattle.boot_run.proofs.examples.refusals_of_sealings.Goals as goal
 
 pub returns-clause-rollback : goal.returns-clause-rollback

@@ -1,4 +1,4 @@
-use Rattle.run_forms.proofs.InputLemmas.{outcome-cut}
+use Rattle.cli_inputs.proofs.InputLemmas.{outcome-cut}
 use Rattle.boot_run.specs.Commands.{inputs_of, work_of}
 use Rattle.boot_run.proofs.laws.longer_files_decide.Goals as goal
 

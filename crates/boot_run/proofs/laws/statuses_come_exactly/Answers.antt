@@ -1,9 +1,9 @@
 use Rattle.boot_rules.specs.Choosing.{decision_in}
-use Rattle.run_forms.specs.Forms.{content_of}
-use Rattle.board_work.specs.Works.{boot_work, data_work}
-use Rattle.run_course.specs.Outcomes.{worked}
+use Rattle.cli_inputs.specs.Forms.{content_of_files}
+use Rattle.cli_boot.specs.Works.{boot_work, data_work}
+use Rattle.cli_course.specs.Outcomes.{worked}
 use Rattle.boot_run.proofs.RuleLemmas.{refused-exactly, falls-exactly}
-use Rattle.board_work.proofs.BoardWorkLemmas.{fall-status}
+use Rattle.cli_boot.proofs.BoardWorkLemmas.{fall-status}
 use Rattle.boot_run.proofs.laws.statuses_come_exactly.Goals as goal
 
 pub returns-clause-input : goal.returns-clause-input
@@ -11,10 +11,10 @@ returns-clause-input c = refused-exactly
 
 pub returns-clause-boot : goal.returns-clause-boot
 returns-clause-boot c = λ flash otp f g cpu kind.
-    falls-exactly flash otp f g cpu kind (worked (boot_work (content_of f g) cpu kind))
-    (fall-status (decision_in (content_of f g) cpu kind))
+    falls-exactly flash otp f g cpu kind (worked (boot_work (content_of_files f g) cpu kind))
+    (fall-status (decision_in (content_of_files f g) cpu kind))
 
 pub returns-clause-data : goal.returns-clause-data
 returns-clause-data c = λ flash otp f g cpu kind.
-    falls-exactly flash otp f g cpu kind (worked (data_work (content_of f g) cpu kind))
-    (fall-status (decision_in (content_of f g) cpu kind))
+    falls-exactly flash otp f g cpu kind (worked (data_work (content_of_files f g) cpu kind))
+    (fall-status (decision_in (content_of_files f g) cpu kind))

@@ -1,7 +1,7 @@
-use Rattle.run_words.specs.Commands.{asked}
+use Rattle.cli_words.specs.Commands.{asked}
 use Rattle.boot_run.specs.Commands.{inputs_in, outcome_in}
 use Rattle.boot_run.proofs.RunLemmas.{outcome-finished, run-ends, run-told, run-boot, run-session, run-confined, run-lacking, run-words, run-no_command, run-complete, run-steady, run-obeys}
-use Rattle.run_course.proofs.EndLemmas.{end-read_fault, end-write_fault, end-output_fault, end-memory}
+use Rattle.cli_course.proofs.EndLemmas.{end-read_fault, end-write_fault, end-output_fault, end-memory}
 use Rattle.boot_run.proofs.program.run.Goals as goal
 
 pub returns-clause-boot : goal.returns-clause-boot

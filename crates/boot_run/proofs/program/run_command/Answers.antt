@@ -1,15 +1,15 @@
 use Rattle.std.proofs.Common.{◌∙◌, ap, map, length, List, subst, sym, Ok, []}
 use Rattle.std.proofs.lemmas.List.{length-map}
-use Rattle.run_course.specs.Outcomes.{Input}
-use Rattle.run_course.specs.declared.course.InputWord.{InputWord}
-use Rattle.run_course.specs.Courses.{ReadsIn}
-use Rattle.run_course.specs.Views.{input_from, bytes_of}
-use Rattle.run_course.proofs.CourseLemmas.{run-read, run-no_room}
-use Rattle.run_forms.specs.declared.inputs.FormWord.{FormWord}
-use Rattle.run_forms.specs.Inputs.{readings}
-use Rattle.run_forms.specs.Views.{input_file_from}
-use Rattle.run_forms.proofs.InputLemmas.{readings-long}
-use Rattle.run_words.specs.Commands.{command_from}
+use Rattle.cli_course.specs.Outcomes.{LimitedInputView}
+use Rattle.cli_course.specs.declared.course.LimitedInput.{LimitedInput}
+use Rattle.cli_course.specs.Courses.{ReadsIn}
+use Rattle.cli_course.specs.Views.{limited_input_from, bytes_of_files}
+use Rattle.cli_course.proofs.CourseLemmas.{run-read, run-no_room}
+use Rattle.cli_inputs.specs.declared.inputs.FormInput.{FormInput}
+use Rattle.cli_inputs.specs.Inputs.{readings}
+use Rattle.cli_inputs.specs.Views.{form_input_from}
+use Rattle.cli_inputs.proofs.InputLemmas.{readings-long}
+use Rattle.cli_words.specs.Commands.{command_from}
 use Rattle.boot_run.specs.Commands.{inputs_of, command_outcome}
 use Rattle.boot_run.proofs.program.run_command.Goals as goal
 
@@ -17,32 +17,35 @@ pub answer-requires-clause-count : goal.answer-requires-clause-count
 answer-requires-clause-count g c =
     let words = c.in-Ok-readings.to_read.items in let inputs = c.deref.result.now in
     let read = c.in-Ok-read_all.ensures.count
-    ∙ ap (λ (xs : List InputWord). length xs) c.deref-2.ensures.value in
-    let named = sym (length-map words input_from) ∙ (ap (λ (xs : List Input). length xs) c.in-Ok-readings.ensures
-    ∙ (readings-long (map input_file_from inputs) ∙ length-map inputs input_file_from)) in
-    read ∙ (named ∙ (ap (λ (xs : List FormWord). length xs) c.deref.ensures.value
-    ∙ ap (λ (xs : List FormWord). length xs) (sym c.deref-3.ensures.value)))
+    ∙ ap (λ (xs : List LimitedInput). length xs) c.deref-2.ensures.value in
+    let named = sym (length-map words limited_input_from)
+    ∙ (ap (λ (xs : List LimitedInputView). length xs) c.in-Ok-readings.ensures
+    ∙ (readings-long (map form_input_from inputs) ∙ length-map inputs form_input_from)) in
+    read ∙ (named ∙ (ap (λ (xs : List FormInput). length xs) c.deref.ensures.value
+    ∙ ap (λ (xs : List FormInput). length xs) (sym c.deref-3.ensures.value)))
 
 pub returns-in-Ok-answer : goal.returns-in-Ok-answer
 returns-in-Ok-answer g c =
     run-read g.S.Store.state g.S.Store.history g.K.Sink.state g.K.Sink.history
-    (readings (inputs_of (command_from c.args.command.now))) (map input_from c.in-Ok-readings.to_read.items)
+    (readings (inputs_of (command_from c.args.command.now))) (map limited_input_from c.in-Ok-readings.to_read.items)
     (command_outcome (command_from c.args.command.now)) c.args.store.now c.args.out.now
-    (bytes_of c.in-Ok-read_all.files.items) _ c.read_all.new.store _ _ _
+    (bytes_of_files c.in-Ok-read_all.files.items) _ c.read_all.new.store _ _ _
     (c.in-Ok-readings.ensures ∙ ap readings
-    (ap (λ (xs : List FormWord). map input_file_from xs) c.deref.ensures.value ∙ c.in-Ok.ensures))
-    (subst (λ (xs : List InputWord). ReadsIn g.S.Store.state g.S.Store.history
-    (map input_from xs) [] c.args.store.now (Ok (bytes_of c.in-Ok-read_all.files.items)) c.read_all.new.store)
+    (ap (λ (xs : List FormInput). map form_input_from xs) c.deref.ensures.value ∙ c.in-Ok.ensures))
+    (subst (λ (xs : List LimitedInput). ReadsIn g.S.Store.state g.S.Store.history
+    (map limited_input_from xs) [] c.args.store.now
+    (Ok (bytes_of_files c.in-Ok-read_all.files.items)) c.read_all.new.store)
     c.deref-2.ensures.value c.in-Ok-read_all.ensures.course) c.in-Ok-answer.ensures c.finish.ensures
 
 pub returns : goal.returns
 returns g c =
     run-no_room g.S.Store.state g.S.Store.history g.K.Sink.state g.K.Sink.history
-    (readings (inputs_of (command_from c.args.command.now))) (map input_from c.in-Ok-readings.to_read.items)
+    (readings (inputs_of (command_from c.args.command.now))) (map limited_input_from c.in-Ok-readings.to_read.items)
     (command_outcome (command_from c.args.command.now)) c.args.store.now c.args.out.now
-    (bytes_of c.in-Ok-read_all.files.items) c.read_all.new.store
+    (bytes_of_files c.in-Ok-read_all.files.items) c.read_all.new.store
     (c.in-Ok-readings.ensures ∙ ap readings
-    (ap (λ (xs : List FormWord). map input_file_from xs) c.deref.ensures.value ∙ c.in-Ok.ensures))
-    (subst (λ (xs : List InputWord). ReadsIn g.S.Store.state g.S.Store.history
-    (map input_from xs) [] c.args.store.now (Ok (bytes_of c.in-Ok-read_all.files.items)) c.read_all.new.store)
+    (ap (λ (xs : List FormInput). map form_input_from xs) c.deref.ensures.value ∙ c.in-Ok.ensures))
+    (subst (λ (xs : List LimitedInput). ReadsIn g.S.Store.state g.S.Store.history
+    (map limited_input_from xs) [] c.args.store.now
+    (Ok (bytes_of_files c.in-Ok-read_all.files.items)) c.read_all.new.store)
     c.deref-2.ensures.value c.in-Ok-read_all.ensures.course)

@@ -2,22 +2,22 @@ use Rattle.std.proofs.Common.{◌≡◌, ℕ, ◌+◌, ◌-◌, ◌≤◌, List,
 use Rattle.std.specs.Prelude.{Result, Ok}
 use Rattle.std.proofs.lemmas.List.{take_rest, length-drop}
 use Rattle.boot_script.specs.declared.event.ScriptFault.{ScriptFault}
-use Rattle.boot_script.specs.Events.{Happening, event_from}
-use Rattle.boot_script.specs.Written.{written}
+use Rattle.boot_script.specs.Events.{EventView, event_from}
+use Rattle.boot_script.specs.Written.{written_event}
 use Rattle.boot_script.specs.Reading.{event_in}
 use Rattle.boot_script.proofs.NumberLemmas.{AreBytes, bytes-drop}
 use Rattle.boot_script.proofs.SpelledLemmas.{IsSpelled, spelled-inside, event-spelled, spelled-writable}
 use Rattle.boot_script.proofs.reading.next_event.Goals as goal
 
 -- the event that was read stands at the offset
-stands : (bytes : List ℕ) (at : ℕ) (e : Happening) → AreBytes bytes
-    → ◌≡◌ {A = Result Happening ScriptFault} (Ok e) (event_in at (take (length bytes - at) (drop at bytes)))
+stands : (bytes : List ℕ) (at : ℕ) (e : EventView) → AreBytes bytes
+    → ◌≡◌ {A = Result EventView ScriptFault} (Ok e) (event_in at (take (length bytes - at) (drop at bytes)))
     → IsSpelled (drop at bytes) e
 stands bytes at e are read =
     event-spelled at (drop at bytes) e (bytes-drop at bytes are)
     (ap (λ bs. event_in at bs) (sym (take_rest bytes at)) ∙ sym read)
 
-ends : (bytes : List ℕ) (at n : ℕ) (e : Happening) → at ≤ length bytes → n ≡ length (written e)
+ends : (bytes : List ℕ) (at n : ℕ) (e : EventView) → at ≤ length bytes → n ≡ length (written_event e)
     → IsSpelled (drop at bytes) e → at + n ≤ length bytes
 ends bytes at n e inside size spelled =
     omega (arith, size, spelled-inside (drop at bytes) e spelled, length-drop at bytes)

@@ -1,10 +1,14 @@
 use Rattle.std.proofs.Common.{ap, arith, ◌∙◌}
 use Rattle.pico_board.specs.MemBoard.{state_of}
-use Rattle.boot_session.specs.Scripts.{script_events}
+use Rattle.boot_script.specs.Scripts.{script_events}
+use Rattle.boot_script.proofs.JudgingLemmas.{script-exact}
 use Rattle.boot_session.specs.Sessions.{entered_host}
 use Rattle.boot_session.proofs.MarkLemmas.{session-recorded}
 use Rattle.boot_session.proofs.StepBoundLemmas.{few-steps}
 use Rattle.boot_session.proofs.session.session_on.Goals as goal
+
+pub invariant_of-judged : goal.invariant_of-judged
+invariant_of-judged c = record { whole = script-exact c.args.script.now c.requires.script }
 
 pub returns : goal.returns
 returns c =

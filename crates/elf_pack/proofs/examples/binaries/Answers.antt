@@ -4,21 +4,21 @@ use Rattle.block_codec.specs.Blocks.{frame}
 use Rattle.block_codec.specs.Words.{word_bytes}
 use Rattle.elf_pack.specs.Binaries.{elf_binary, flash_bytes, sram_items}
 use Rattle.elf_pack.specs.Fields.{half_at, word_at}
-use Rattle.elf_pack.specs.Judging.{count_fault, head_fault, misplaced_fault, mixed_fault, overlap_fault, segments_fault}
+use Rattle.elf_pack.specs.Judging.{count_fault, head_fault, misplaced_fault, mixed_fault, segment_overlap_fault, segments_fault}
 use Rattle.elf_pack.specs.Segments.{segment_at}
 use Rattle.elf_pack.proofs.examples.binaries.Goals as goal
 
 pub returns-clause-flash : goal.returns-clause-flash
 unfolding frame word_bytes elf_binary flash_bytes sram_items half_at word_at count_fault head_fault misplaced_fault
-    mixed_fault overlap_fault segments_fault segment_at
+    mixed_fault segment_overlap_fault segments_fault segment_at
 returns-clause-flash c = refl
 
 pub returns-clause-sram : goal.returns-clause-sram
 unfolding frame word_bytes elf_binary flash_bytes sram_items half_at word_at count_fault head_fault misplaced_fault
-    mixed_fault overlap_fault segments_fault segment_at
+    mixed_fault segment_overlap_fault segments_fault segment_at
 returns-clause-sram c = refl
 
 pub returns-clause-riscv : goal.returns-clause-riscv
 unfolding frame word_bytes elf_binary flash_bytes sram_items half_at word_at count_fault head_fault misplaced_fault
-    mixed_fault overlap_fault segments_fault segment_at
+    mixed_fault segment_overlap_fault segments_fault segment_at
 returns-clause-riscv c = refl

@@ -5,7 +5,7 @@ use Rattle.pico_board.specs.declared.boot.Cpu.{Cpu}
 use Rattle.image_def.specs.declared.started.Started.{Started}
 use Rattle.image_check.specs.declared.why.Why.{Why}
 use Rattle.image_check.specs.Image.{image_at}
-use Rattle.image_check.specs.SameImage.{Holds}
+use Rattle.image_check.specs.SameImage.{HoldsImage}
 use Rattle.pico_board.specs.Content.{Content, window_bytes}
 use Rattle.image_check.specs.Addressing.{in_flash}
 use Rattle.image_check.proofs.LawLemmas.{valid-at, valid-exactly, valid-holds, valid-window, why-exactly}
@@ -27,7 +27,7 @@ returns-clause-why_not g c = λ y.
 
 held-if : (content : Content) (window : Window) (cpu : Cpu) (trial : Bool) (r : Result Started Why)
     → r ≡ image_at content window cpu trial
-    → IfOk r (λ s. Holds cpu (window_bytes content window) s)
+    → IfOk r (λ s. HoldsImage cpu (window_bytes content window) s)
 held-if content window cpu trial (Ok s) is =
     valid-holds content window cpu trial s (valid-at content window cpu trial s (sym is))
 held-if content window cpu trial (Err y) is = tt

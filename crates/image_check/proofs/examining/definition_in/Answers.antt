@@ -4,5 +4,5 @@ use Rattle.image_check.proofs.examining.definition_in.Goals as goal
 pub returns-clause-typed : goal.returns-clause-typed
 returns-clause-typed g c =
     definition-typed (g.V.View.bytes c.args.view.now) c.args.found.now c.requires.loop_ c.args.cpu
-    c.see_all-seen.result.suiting
-    c.see_all-seen.ensures.suiting c.ok_or.result c.ok_or.ensures.value
+    c.scan_blocks-seen.result.suiting
+    c.scan_blocks-seen.ensures.suiting c.ok_or.result c.ok_or.ensures.value

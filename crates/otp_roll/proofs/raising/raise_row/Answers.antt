@@ -3,7 +3,7 @@ use Rattle.std.specs.Int.Count.{ones, ones-le}
 use Rattle.std.proofs.lemmas.Result.{err_from_is_err_and}
 use Rattle.pico_board.specs.Board.{DoesAll}
 use Rattle.otp_roll.specs.Rows.{majority}
-use Rattle.otp_roll.specs.Raises.{lowest_clear, raise_triple, taken}
+use Rattle.otp_roll.specs.Raises.{lowest_clear, raise_triple, taken_bits}
 use Rattle.otp_roll.proofs.OnTheWayLemmas.{triple-third}
 use Rattle.otp_roll.proofs.raising.raise_row.Goals as goal
 
@@ -13,7 +13,7 @@ overflow_sub-former g c = ones-le 24 c.majority-former.result c.majority-former.
 -- the bits that the code takes are those of the definition
 bits-are : (otp : List ℕ) (wanted r former number bits : ℕ) → former ≡ majority otp r
     → number ≡ min (24 - ones former) wanted
-    → bits ≡ lowest_clear number former → bits ≡ lowest_clear (taken otp wanted r) (majority otp r)
+    → bits ≡ lowest_clear number former → bits ≡ lowest_clear (taken_bits otp wanted r) (majority otp r)
 bits-are otp wanted r former number bits former_is number_is bits_are =
     bits_are ∙ ap (λ m. lowest_clear number m) former_is
     ∙ ap (λ n. lowest_clear n (majority otp r)) (number_is ∙ ap (λ m. min (24 - ones m) wanted) former_is)

@@ -1,7 +1,7 @@
 use Rattle.std.proofs.Common.{refl, arith}
 use Rattle.block_codec.specs.Words.{word_of}
 use Rattle.part_table.specs.Examples.{plain_partition}
-use Rattle.part_table.specs.Written.{IsReadable}
+use Rattle.part_table.specs.Written.{IsReadablePartition}
 use Rattle.part_table.proofs.GreatestLemmas.{widest, named, plain, each}
 use Rattle.part_table.proofs.examples.tables_that_can_be_written.Goals as goal
 
@@ -22,7 +22,7 @@ returns-clause-greatest c = record {
 pub returns-clause-most : goal.returns-clause-most
 unfolding word_of
 returns-clause-most c = record {
-  parts = each IsReadable 15 (plain_partition 0 0) plain;
+  parts = each IsReadablePartition 15 (plain_partition 0 0) plain;
   few = omega arith;
   major = omega arith;
   minor = omega arith;

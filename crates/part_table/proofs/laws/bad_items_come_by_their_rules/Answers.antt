@@ -4,7 +4,7 @@ use Rattle.block_codec.specs.Items.{items_of}
 use Rattle.part_table.specs.declared.partition.Partition.{Partition}
 use Rattle.part_table.specs.declared.table.TableFault.TheVariants.{BadItem, Permissions, Range, Overlap, Link, Hash}
 use Rattle.part_table.specs.BadItems.{HasBadItem}
-use Rattle.part_table.specs.Rules.{IsFirstFault}
+use Rattle.part_table.specs.Rules.{IsFirstTableFault}
 use Rattle.part_table.specs.TableOf.{table_of}
 use Rattle.part_table.proofs.AnswerLemmas.{read_back, read_to}
 use Rattle.part_table.proofs.BadItemLemmas.{bad-back, bad-from}
@@ -26,7 +26,7 @@ no-hash : BadItem ≡ Hash → ⊥
 no-hash e = cc
 
 -- no partition has a bad item
-never-bad : (parts : List Partition) (n m : ℕ) → IsFirstFault parts n m BadItem → ⊥
+never-bad : (parts : List Partition) (n m : ℕ) → IsFirstTableFault parts n m BadItem → ⊥
 never-bad parts n m (inl least) = no-permissions least.place least.here.0
 never-bad parts n m (inr (inl least)) = no-range least.1.place least.1.here.0
 never-bad parts n m (inr (inr (inl least))) = no-overlap least.2.place least.2.here.0 least.2.here.1

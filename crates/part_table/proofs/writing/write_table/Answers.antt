@@ -2,7 +2,7 @@ use Rattle.std.proofs.Common.{◌≤◌, ◌∙◌, ap, sym, subst, arith, lengt
 use Rattle.std.proofs.lemmas.List.Elements.{recursion_from_All}
 use Rattle.block_codec.specs.Items.{AreItems}
 use Rattle.block_codec.proofs.WriteLemmas.{IsBadAt-whole}
-use Rattle.part_table.specs.Written.{IsReadable, table_item}
+use Rattle.part_table.specs.Written.{IsReadablePartition, table_item}
 use Rattle.part_table.proofs.BlockLemmas.{are_whole, judged_when, read_from_judged}
 use Rattle.part_table.proofs.writing.write_table.Goals as goal
 
@@ -27,7 +27,7 @@ pub returns-in-Ok-clause-judged : goal.returns-in-Ok-clause-judged
 returns-in-Ok-clause-judged c = λ n m.
     let t = c.args.table.now in
     judged_when t c.as_slice.result.now (record {
-      parts = recursion_from_All IsReadable t.parts.items c.item_size-size.ensures.readable;
+      parts = recursion_from_All IsReadablePartition t.parts.items c.item_size-size.ensures.readable;
       few = c.item_size-size.ensures.parts;
       major = c.written_items-words.ensures.major;
       minor = c.written_items-words.ensures.minor;

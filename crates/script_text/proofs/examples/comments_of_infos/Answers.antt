@@ -1,30 +1,29 @@
 use Rattle.std.proofs.Common.{refl}
 use Rattle.std.specs.Fmt.{padded_integral, digits, char_count}
 use Rattle.hex.specs.Hex.{decode_pairs, encode_with}
-use Rattle.script_text.specs.Lines.{hex_word}
-use Rattle.script_text.specs.Comments.{command_text, uf2_text}
+use Rattle.script_text.specs.Comments.{command_text, uf2_counts, uf2_target, uf2_text}
 use Rattle.script_text.proofs.examples.comments_of_infos.Goals as goal
 
 pub returns-clause-table : goal.returns-clause-table
-unfolding encode_with hex_word command_text uf2_text padded_integral digits char_count decode_pairs
+unfolding encode_with command_text uf2_text padded_integral digits char_count decode_pairs uf2_counts uf2_target
 returns-clause-table c = refl
 
 pub returns-clause-target : goal.returns-clause-target
-unfolding encode_with hex_word command_text uf2_text padded_integral digits char_count decode_pairs
+unfolding encode_with command_text uf2_text padded_integral digits char_count decode_pairs uf2_counts uf2_target
 returns-clause-target c = refl
 
 pub returns-clause-device : goal.returns-clause-device
-unfolding encode_with hex_word command_text uf2_text padded_integral digits char_count decode_pairs
+unfolding encode_with command_text uf2_text padded_integral digits char_count decode_pairs uf2_counts uf2_target
 returns-clause-device c = refl
 
 pub returns-clause-partition : goal.returns-clause-partition
-unfolding encode_with hex_word command_text uf2_text padded_integral digits char_count decode_pairs
+unfolding encode_with command_text uf2_text padded_integral digits char_count decode_pairs uf2_counts uf2_target
 returns-clause-partition c = refl
 
 pub returns-clause-zero : goal.returns-clause-zero
-unfolding encode_with hex_word command_text uf2_text padded_integral digits char_count decode_pairs
+unfolding encode_with command_text uf2_text padded_integral digits char_count decode_pairs uf2_counts uf2_target
 returns-clause-zero c = refl
 
 pub returns-clause-five : goal.returns-clause-five
-unfolding encode_with hex_word command_text uf2_text padded_integral digits char_count decode_pairs
+unfolding encode_with command_text uf2_text padded_integral digits char_count decode_pairs uf2_counts uf2_target
 returns-clause-five c = refl

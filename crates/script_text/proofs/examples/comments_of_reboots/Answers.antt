@@ -1,46 +1,45 @@
 use Rattle.std.proofs.Common.{refl}
 use Rattle.std.specs.Fmt.{padded_integral, digits, char_count}
 use Rattle.hex.specs.Hex.{decode_pairs, encode_with}
-use Rattle.script_text.specs.Lines.{hex_word}
-use Rattle.script_text.specs.Comments.{command_text, uf2_text}
+use Rattle.script_text.specs.Comments.{command_text, uf2_counts, uf2_target, uf2_text}
 use Rattle.script_text.proofs.examples.comments_of_reboots.Goals as goal
 
 pub returns-clause-normal : goal.returns-clause-normal
-unfolding encode_with hex_word command_text uf2_text padded_integral digits char_count decode_pairs
+unfolding encode_with command_text uf2_text padded_integral digits char_count decode_pairs uf2_counts uf2_target
 returns-clause-normal c = refl
 
 pub returns-clause-normal_later : goal.returns-clause-normal_later
-unfolding encode_with hex_word command_text uf2_text padded_integral digits char_count decode_pairs
+unfolding encode_with command_text uf2_text padded_integral digits char_count decode_pairs uf2_counts uf2_target
 returns-clause-normal_later c = refl
 
 pub returns-clause-bootsel : goal.returns-clause-bootsel
-unfolding encode_with hex_word command_text uf2_text padded_integral digits char_count decode_pairs
+unfolding encode_with command_text uf2_text padded_integral digits char_count decode_pairs uf2_counts uf2_target
 returns-clause-bootsel c = refl
 
 pub returns-clause-bootsel_later : goal.returns-clause-bootsel_later
-unfolding encode_with hex_word command_text uf2_text padded_integral digits char_count decode_pairs
+unfolding encode_with command_text uf2_text padded_integral digits char_count decode_pairs uf2_counts uf2_target
 returns-clause-bootsel_later c = refl
 
 pub returns-clause-update : goal.returns-clause-update
-unfolding encode_with hex_word command_text uf2_text padded_integral digits char_count decode_pairs
+unfolding encode_with command_text uf2_text padded_integral digits char_count decode_pairs uf2_counts uf2_target
 returns-clause-update c = refl
 
 pub returns-clause-update_later : goal.returns-clause-update_later
-unfolding encode_with hex_word command_text uf2_text padded_integral digits char_count decode_pairs
+unfolding encode_with command_text uf2_text padded_integral digits char_count decode_pairs uf2_counts uf2_target
 returns-clause-update_later c = refl
 
 pub returns-clause-ram : goal.returns-clause-ram
-unfolding encode_with hex_word command_text uf2_text padded_integral digits char_count decode_pairs
+unfolding encode_with command_text uf2_text padded_integral digits char_count decode_pairs uf2_counts uf2_target
 returns-clause-ram c = refl
 
 pub returns-clause-ram_later : goal.returns-clause-ram_later
-unfolding encode_with hex_word command_text uf2_text padded_integral digits char_count decode_pairs
+unfolding encode_with command_text uf2_text padded_integral digits char_count decode_pairs uf2_counts uf2_target
 returns-clause-ram_later c = refl
 
 pub returns-clause-others : goal.returns-clause-others
-unfolding encode_with hex_word command_text uf2_text padded_integral digits char_count decode_pairs
+unfolding encode_with command_text uf2_text padded_integral digits char_count decode_pairs uf2_counts uf2_target
 returns-clause-others c = refl
 
 pub returns-clause-one : goal.returns-clause-one
-unfolding encode_with hex_word command_text uf2_text padded_integral digits char_count decode_pairs
+unfolding encode_with command_text uf2_text padded_integral digits char_count decode_pairs uf2_counts uf2_target
 returns-clause-one c = refl

@@ -1,30 +1,32 @@
-use Rattle.std.proofs.Common.{arith, sym, ◌∙◌}
+use Rattle.std.proofs.Common.{sym, ◌∙◌, arith, subst}
 use Rattle.std.specs.Prelude.{string_bytes}
 use Rattle.boot_script.specs.Events.{event_from}
-use Rattle.script_text.proofs.ListLemmas.{listed-first, listed-more, listed-end}
+use Rattle.boot_script.specs.Scripts.{script_events}
+use Rattle.boot_script.proofs.JudgingLemmas.{script-formed}
+use Rattle.boot_script.proofs.WalkLemmas.{few-records}
+use Rattle.script_text.proofs.ListLemmas.{IsListed, listed-first, listed-more, listed-end}
 use Rattle.script_text.proofs.listing.list_text.Goals as goal
 
-pub loop-number-init : goal.loop-number-init
-loop-number-init c = record {
-  inside = omega arith;
-  few = omega arith;
-  so_far = listed-first c.args.script.now (string_bytes c.new-text.result) c.new-text.ensures.bytes
-      c.requires.read.0 c.requires.read.1;
-}
+pub loop-event-init : goal.loop-event-init
+loop-event-init c =
+    let bytes = c.args.script.now.bytes.now in
+    subst (λ left. IsListed (script_events bytes) left 0 (string_bytes c.new-text.result))
+    (sym (c.into_iter-event-iterator.ensures.into_iter_gives ∙ c.events-event-items.ensures))
+    (listed-first (script_events bytes) (string_bytes c.new-text.result)
+    (few-records bytes (script-formed bytes c.args.script.now.whole)) c.new-text.ensures.bytes)
 
-pub loop-number-preserved : goal.loop-number-preserved
-loop-number-preserved c = record {
-  inside = c.in-Ok.ensures.inside;
-  few = omega (arith, c.loop-number.invariant.few, c.in-Ok.ensures.forward);
-  so_far = listed-more c.args.script.now (string_bytes c.loop-number.text) (string_bytes c.push_event.new.text)
-      c.loop-number.at c.loop-number.number c.in-Ok.read.1 (event_from c.in-Ok.read.0)
-      (sym c.in-Ok.ensures.exact) (sym c.is_end.ensures ∙ c.if-is_end.false) c.in_ok-push_event.ensures
-      c.loop-number.invariant.so_far;
-}
+pub overflow_add-number : goal.overflow_add-number
+overflow_add-number c = let few = c.loop-event.invariant.few in omega (arith, few)
 
-pub returns-then-is_end : goal.returns-then-is_end
-returns-then-is_end c =
-    listed-end c.args.script.now (string_bytes c.loop-number.text) (string_bytes c.push_str.new.self)
-    c.loop-number.at c.loop-number.number c.in-Ok.read.1 (event_from c.in-Ok.read.0)
-    (sym c.in-Ok.ensures.exact) (sym c.is_end.ensures ∙ c.if-is_end.true) c.in_ok-push_str.ensures.bytes
-    c.loop-number.invariant.so_far
+pub loop-event-preserved : goal.loop-event-preserved
+loop-event-preserved c =
+    listed-more (script_events c.args.script.now.bytes.now) c.loop-event.event-iterator c.next.new.self
+    (event_from c.in-Some.event) c.loop-event.number (string_bytes c.loop-event.text)
+    (string_bytes c.push_event.new.text) c.in-Some.ensures.steps.0 c.in_ok-push_event.ensures
+    c.loop-event.invariant
+
+pub returns : goal.returns
+returns c =
+    listed-end (script_events c.args.script.now.bytes.now) c.loop-event.event-iterator c.loop-event.number
+    (string_bytes c.loop-event.text) (string_bytes c.push_str.new.self) c.in-None.ensures.steps.0
+    c.in_ok-push_str.ensures.bytes c.loop-event.invariant

@@ -1,11 +1,8 @@
-use Rattle.std.proofs.Common.{◌≤◌, length}
 use Rattle.std.specs.Prelude.{string_bytes}
+use Rattle.boot_script.specs.Scripts.{script_events}
 use Rattle.script_text.proofs.ListLemmas.{IsListed}
 use Rattle.script_text.proofs.listing.list_text.Given as goal
 
-abbrev pub invariant-loop-number : goal.invariant-loop-number
-invariant-loop-number l = record {
-  inside : l.at ≤ length l.script;
-  few : l.number ≤ l.at;
-  so_far : IsListed l.script l.at l.number (string_bytes l.text);
-}
+abbrev pub invariant-loop-event : goal.invariant-loop-event
+invariant-loop-event l =
+    IsListed (script_events l.script.bytes.now) l.event-iterator l.number (string_bytes l.text)

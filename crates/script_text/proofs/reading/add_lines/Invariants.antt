@@ -1,12 +1,12 @@
 use Rattle.std.proofs.Common.{◌+◌, ◌≤◌, length}
-use Rattle.script_text.specs.Reading.{HasRoom}
+use Rattle.script_text.specs.Reading.{HasRoomForEnd}
 use Rattle.script_text.proofs.ProgressLemmas.{IsSoFar}
 use Rattle.script_text.proofs.reading.add_lines.Given as goal
 
 -- the events so far were added, and the others are those of the lines that are left
 abbrev pub invariant-lines : goal.invariant-lines
 invariant-lines l = record {
-  room : HasRoom l.script;
+  room : HasRoomForEnd l.script;
   few : l.number + length l.rest ≤ length l.text;
   so_far : IsSoFar l.fn.script l.text (l.number + 1) l.script l.rest;
 }

@@ -1,7 +1,7 @@
 use Rattle.std.proofs.Common.{arith, refl}
 use Rattle.script_text.specs.declared.script.TextScript.{TextScript}
 use Rattle.script_text.specs.Meaning.{IsScriptOf}
-use Rattle.script_text.proofs.TextLemmas.{IsEmpty, script-read, script-short, whole-fault, whole-text}
+use Rattle.script_text.proofs.TextLemmas.{IsEmpty, script-whole, whole-fault, whole-text}
 use Rattle.script_text.proofs.reading.read_text.Goals as goal
 
 pub returns-in-Err-clause-err : goal.returns-in-Err-clause-err
@@ -22,10 +22,5 @@ whole c =
 pub returns-in-Ok-add_end-clause-ok : goal.returns-in-Ok-add_end-clause-ok
 returns-in-Ok-add_end-clause-ok c = whole c
 
-pub returns-in-Ok-add_end-clause-events : goal.returns-in-Ok-add_end-clause-events
-returns-in-Ok-add_end-clause-events c =
-    let script = whole c in
-    (script.es, script-read c.args.text.now c.add_end.new.script script)
-
-pub returns-in-Ok-add_end-clause-short : goal.returns-in-Ok-add_end-clause-short
-returns-in-Ok-add_end-clause-short c = script-short c.args.text.now c.add_end.new.script (whole c)
+pub returns-in-Ok-add_end-clause-script : goal.returns-in-Ok-add_end-clause-script
+returns-in-Ok-add_end-clause-script c = script-whole c.args.text.now c.add_end.new.script (whole c)

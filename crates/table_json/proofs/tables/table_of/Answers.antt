@@ -1,6 +1,6 @@
 use Rattle.std.proofs.Common.{◌≡◌, ◌∙◌, ap, sym}
 use Rattle.serde_json.specs.View.{view}
-use Rattle.table_json.specs.Tables.{fields_of, table_from}
+use Rattle.table_json.specs.Tables.{table_fields, table_of_value}
 use Rattle.table_json.proofs.PlainLemmas.{table_json}
 use Rattle.table_json.proofs.WholeLemmas.{judged-short, one_value, read-exactly}
 use Rattle.table_json.proofs.tables.table_of.Goals as goal
@@ -15,6 +15,6 @@ pub returns-clause-whole : goal.returns-clause-whole
 returns-clause-whole c = λ d t answer text fields short memory.
     let same : view c.in_ok-value.value ≡ d =
     one_value c.args.text.now (view c.in_ok-value.value) d c.in_ok-value.ensures.value text in
-    let judged = c.table_in.ensures.judged t (ap fields_of same ∙ fields) short memory in
+    let judged = c.table_in.ensures.judged t (ap table_fields same ∙ fields) short memory in
     read-exactly t judged c.table_in.result answer
-    (c.table_in.ensures.value memory ∙ ap table_from same ∙ judged-short d t fields short)
+    (c.table_in.ensures.value memory ∙ ap table_of_value same ∙ judged-short d t fields short)

@@ -1,6 +1,6 @@
 -- By computing.
 use Rattle.std.proofs.Common.{refl}
-use Rattle.uf2_place.specs.Blocks.{word_bytes, written}
+use Rattle.uf2_place.specs.Blocks.{word_bytes, written_block}
 use Rattle.uf2_place.proofs.examples.blocks_of_other_families.Goals as goal
 
 pub returns-clause-riscv : goal.returns-clause-riscv
@@ -16,5 +16,5 @@ unfolding word_bytes
 returns-clause-fault c = refl
 
 pub returns-clause-written : goal.returns-clause-written
-unfolding written word_bytes
+unfolding written_block word_bytes
 returns-clause-written c = λ page. refl

@@ -1,5 +1,5 @@
 use Rattle.std.proofs.Common.{sym, ap, subst, ◌∙◌}
-use Rattle.uf2_place.specs.Accepting.{Kept}
+use Rattle.uf2_place.specs.Accepting.{DownloadView}
 use Rattle.uf2_place.specs.Downloads.{IsTargetIn}
 use Rattle.uf2_place.proofs.download.Download.rule.Goals as goal
 
@@ -10,4 +10,4 @@ ruling-requires-clause-given g c = λ t is.
 pub ruling-requires-clause-target : goal.ruling-requires-clause-target
 ruling-requires-clause-target g c = λ d is.
     subst (λ n. IsTargetIn n d.target) (sym c.flash_len-flash_len.ensures)
-    (c.requires.current d (sym (ap (λ (k : Kept). k.current) c.self.view_is) ∙ is))
+    (c.requires.current d (sym (ap (λ (k : DownloadView). k.current) c.self.view_is) ∙ is))

@@ -1,3 +1,0 @@
-pub mod Works
-pub mod Rules
-pub mod Examples

@@ -1,3 +1,0 @@
-pub mod HexLemmas
-pub mod DecimalLemmas
-pub mod LengthLemmas

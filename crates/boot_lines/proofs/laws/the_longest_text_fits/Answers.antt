@@ -1,5 +1,0 @@
-use Rattle.boot_lines.proofs.LengthLemmas.{length_event}
-use Rattle.boot_lines.proofs.laws.the_longest_text_fits.Goals as goal
-
-pub returns : goal.returns
-returns c = length_event

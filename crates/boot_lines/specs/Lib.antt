@@ -1,4 +1,0 @@
-pub mod Digits
-pub mod Texts
-pub mod Events
-pub mod Examples

@@ -1,0 +1,16 @@
+-- By computing.
+use Rattle.std.proofs.Common.{refl}
+use Rattle.image_check.specs.Image.{image_in}
+use Rattle.image_def.specs.Definition.{def_of}
+use Rattle.block_loop.specs.Loop.{loop_of, follow, block_from}
+use Rattle.block_codec.specs.Blocks.{frame}
+use Rattle.block_codec.specs.Reading.{block_at, front_block, item_words}
+use Rattle.block_codec.specs.Items.{size_of}
+use Rattle.block_codec.specs.Words.{word_of, word_bytes}
+use Rattle.uf2_place.specs.Blocks.{written_block, word_bytes as uf2_bytes}
+use Rattle.boot_machine.proofs.examples.command.writes_to_the_sram.Goals as goal
+
+pub returns-clause-download : goal.returns-clause-download
+unfolding written_block uf2_bytes image_in def_of loop_of follow block_from block_at front_block item_words frame size_of
+    word_of word_bytes
+returns-clause-download c = λ w. refl

@@ -1,0 +1,25 @@
+-- By computing.
+use Rattle.std.proofs.Common.{refl}
+use Rattle.std.specs.Fmt.{padded_integral, digits, char_count}
+use Rattle.boot_rules.specs.Tables.{table_in}
+use Rattle.boot_rules.specs.Choosing.{decision_in}
+use Rattle.image_check.specs.Image.{image_in}
+use Rattle.image_def.specs.Definition.{def_of}
+use Rattle.block_loop.specs.Loop.{loop_of, follow, block_from}
+use Rattle.block_codec.specs.Blocks.{frame}
+use Rattle.block_codec.specs.Reading.{block_at, front_block, item_words}
+use Rattle.block_codec.specs.Items.{size_of}
+use Rattle.block_codec.specs.Words.{word_of, word_bytes}
+use Rattle.boot_machine.proofs.examples.play.power_that_comes_back.Goals as goal
+
+pub returns-clause-table : goal.returns-clause-table
+unfolding decision_in padded_integral digits char_count table_in image_in def_of loop_of follow block_from block_at
+    front_block item_words frame size_of word_of
+    word_bytes
+returns-clause-table c = refl
+
+pub returns-clause-image : goal.returns-clause-image
+unfolding decision_in padded_integral digits char_count table_in image_in def_of loop_of follow block_from block_at
+    front_block item_words frame size_of word_of
+    word_bytes
+returns-clause-image c = refl

@@ -1,0 +1,3 @@
+//! The laws of this crate, one module a subject.
+
+pub mod run;

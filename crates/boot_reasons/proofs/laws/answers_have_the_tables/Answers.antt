@@ -1,5 +1,0 @@
-use Rattle.boot_reasons.proofs.SlotLemmas.{has-table, table-has}
-use Rattle.boot_reasons.proofs.laws.answers_have_the_tables.Goals as goal
-
-pub returns : goal.returns
-returns a = λ c number t. (table-has c number t, has-table c number t)

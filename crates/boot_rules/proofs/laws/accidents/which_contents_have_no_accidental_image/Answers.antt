@@ -1,0 +1,17 @@
+use Rattle.boot_rules.proofs.AccidentalImageLemmas.{empty-lucky, erased-lucky, finished-lucky, former-lucky, lucky-exactly}
+use Rattle.boot_rules.proofs.laws.accidents.which_contents_have_no_accidental_image.Goals as goal
+
+pub returns-clause-exactly : goal.returns-clause-exactly
+returns-clause-exactly c = lucky-exactly
+
+pub returns-clause-empty : goal.returns-clause-empty
+returns-clause-empty c = empty-lucky
+
+pub returns-clause-erased : goal.returns-clause-erased
+returns-clause-erased c = erased-lucky
+
+pub returns-clause-former : goal.returns-clause-former
+returns-clause-former c = former-lucky
+
+pub returns-clause-finished : goal.returns-clause-finished
+returns-clause-finished c = finished-lucky

@@ -1,8 +1,0 @@
-use Rattle.boot_rules.proofs.HomeLemmas.{home-pair, pair-home}
-use Rattle.boot_rules.proofs.laws.home_is_a_pair.Goals as goal
-
-pub returns-clause-pair : goal.returns-clause-pair
-returns-clause-pair c = home-pair
-
-pub returns-clause-members : goal.returns-clause-members
-returns-clause-members c = pair-home

@@ -1,0 +1,72 @@
+//! Worked examples of the definitions, proved by computing: each is the `ensures` of a function
+//! that does nothing.
+
+ghost use Rattle.std.specs.Prelude.{◌≡◌, [], ◌∷◌, codes, Some, None};
+ghost use Rattle.pico_board.specs.declared.boot.Cpu.TheVariants.{Arm};
+ghost use Rattle.pico_board.specs.declared.boot.BootKind.TheVariants.{Normal};
+ghost use Rattle.cli_words.specs.Commands.{Table, Boot, Info, OwnedData, Replay, Seal, Elf, Uf2, Plan};
+ghost use Rattle.boot_run.specs.Commands.{Names, command_outcome, outcome_on};
+ghost use Rattle.boot_run.specs.Examples.{no_start, sink_of};
+ghost use Rattle.cli_course.specs.Outcomes.{refused, unread, not_understood};
+ghost use Rattle.cli_course.specs.declared.status.Status.{Status};
+
+/// Of two inputs that break their form the first in word order is named; a lacking name has no
+/// text.
+pub fn first_faults()
+    ensures flash { command_outcome (Boot (codes "f") (codes "o") Arm Normal) ([] ∷ (0 ∷ []) ∷ [])
+        ≡ refused (codes "f") (codes "empty") }
+    ensures otp { command_outcome (Info (codes "f") (codes "o") Arm) ((0 ∷ []) ∷ (0 ∷ []) ∷ [])
+        ≡ refused (codes "o") (codes "otp-length") }
+    ensures data { command_outcome (OwnedData (codes "f") (codes "o") Arm Normal)
+        ([] ∷ (0 ∷ []) ∷ []) ≡ refused (codes "f") (codes "empty") }
+    ensures replay_flash { command_outcome
+        (Replay (codes "f") (codes "o") Arm (codes "s") (codes "a") (codes "b"))
+        ([] ∷ (0 ∷ []) ∷ (9 ∷ []) ∷ []) ≡ refused (codes "f") (codes "empty") }
+    ensures replay_otp { command_outcome
+        (Replay (codes "f") (codes "o") Arm (codes "s") (codes "a") (codes "b"))
+        ((0 ∷ []) ∷ (0 ∷ []) ∷ (9 ∷ []) ∷ []) ≡ refused (codes "o") (codes "otp-length") }
+    ensures replay_script { command_outcome
+        (Replay (codes "f") (codes "o") Arm (codes "s") (codes "a") (codes "b"))
+        ((0 ∷ []) ∷ [] ∷ (9 ∷ []) ∷ []) ≡ refused (codes "s") (codes "script kind at=0") }
+    ensures lacking { outcome_on (Some (Boot (codes "f") (codes "o") Arm Normal))
+        (record { name = codes "f"; bytes = [] } ∷ []) ≡ unread }
+    ensures words { outcome_on None [] ≡ not_understood }
+{}
+
+/// A wrong spec is told under its own name, and a form before any refusal.
+pub fn refusals_of_sealings()
+    ensures rollback { command_outcome (Seal (codes "b") (codes "s") (codes "a"))
+        ([] ∷ codes "{\"processor\":\"arm\",\"rollback\":1}" ∷ [])
+        ≡ refused (codes "s") (codes "bad-spec rollback") }
+    ensures rows { command_outcome (Seal (codes "b") (codes "s") (codes "a"))
+        ([] ∷ codes "{\"processor\":\"arm\",\"rows\":[192,194]}" ∷ [])
+        ≡ refused (codes "s") (codes "bad-spec rows") }
+    ensures form { command_outcome (Seal (codes "b") (codes "s") (codes "a")) ([] ∷ codes "{}" ∷ [])
+        ≡ refused (codes "s") (codes "missing top processor") }
+    ensures table { command_outcome (Table (codes "t") (codes "a")) (codes "[]" ∷ [])
+        ≡ refused (codes "t") (codes "value top partitions") }
+{}
+
+/// An image is refused by the first fault, under its own name, behind the faults of the forms.
+pub fn refusals_of_images()
+    ensures uf2 { command_outcome (Uf2 (codes "i") 0xe48bff59 (codes "a")) ([] ∷ [])
+        ≡ refused (codes "i") (codes "empty") }
+    ensures flash { command_outcome (Plan (codes "f") (codes "o") Arm (codes "i") (codes "a"))
+        ([] ∷ (0 ∷ []) ∷ [] ∷ []) ≡ refused (codes "f") (codes "empty") }
+    ensures otp { command_outcome (Plan (codes "f") (codes "o") Arm (codes "i") (codes "a"))
+        ((0 ∷ []) ∷ (0 ∷ []) ∷ [] ∷ []) ≡ refused (codes "o") (codes "otp-length") }
+{}
+
+/// A run names a decision where it ends with the decision's status and puts its line: neither
+/// nothing, nor more, nor with another status. What was put before stays.
+pub fn what_names_a_decision()
+    ensures line { Names no_start Status.Bootsel (sink_of (7 ∷ []))
+        (sink_of (7 ∷ codes "bootsel no-image\n")) }
+    ensures nothing { ¬ (Names no_start Status.Bootsel (sink_of []) (sink_of [])) }
+    ensures more { ¬ (Names no_start Status.Bootsel (sink_of [])
+        (sink_of (codes "bootsel no-image\n\n"))) }
+    ensures other_line { ¬ (Names no_start Status.Bootsel (sink_of [])
+        (sink_of (codes "bootsel off\n"))) }
+    ensures other_status { ¬ (Names no_start Status.Done (sink_of [])
+        (sink_of (codes "bootsel no-image\n"))) }
+{}

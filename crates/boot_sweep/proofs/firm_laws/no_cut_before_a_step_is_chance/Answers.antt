@@ -1,5 +1,0 @@
-use Rattle.boot_sweep.proofs.BeforeLineLaws.{no-chance-before}
-use Rattle.boot_sweep.proofs.firm_laws.no_cut_before_a_step_is_chance.Goals as goal
-
-pub returns : goal.returns
-returns c = no-chance-before

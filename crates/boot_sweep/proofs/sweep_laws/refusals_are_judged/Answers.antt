@@ -1,5 +1,0 @@
-use Rattle.boot_sweep.proofs.RefusalCaseLemmas.{refused-exactly}
-use Rattle.boot_sweep.proofs.sweep_laws.refusals_are_judged.Goals as goal
-
-pub returns : goal.returns
-returns c = λ content cpu steps e right. refused-exactly content cpu steps right e

@@ -1,5 +1,0 @@
-use Rattle.boot_sweep.proofs.ResultLemmas.{judged-exactly}
-use Rattle.boot_sweep.proofs.sweep_laws.results_are_judged.Goals as goal
-
-pub returns : goal.returns
-returns c = judged-exactly

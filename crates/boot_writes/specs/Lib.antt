@@ -1,3 +1,0 @@
-pub mod Luck
-pub mod Crashes
-pub mod Examples

@@ -1,0 +1,92 @@
+-- What a run reads, and what it is to answer, put and write.
+use Rattle.std.specs.Prelude.{ℕ, ⊤, ◌<◌, Bool, true, false, All, List, [], ◌∷◌, ◌++◌, Option, Some, None, codes}
+use Rattle.pico_board.specs.Files.{File, file_of}
+-- a line ends with one line feed
+pub use Rattle.text_words.specs.Writing.{line}
+use Rattle.cli_course.specs.declared.status.Status.{Status}
+use Rattle.cli_course.specs.declared.status.Status.TheVariants.{Done, Words, Input as Refused, Bootsel, ReadFault, WriteFault, OutputFault, Memory}
+
+-- an input file: its name, and the greatest length of a file that is read whole, in bytes
+pub record LimitedInputView : Type 0 where
+  pub name : List ℕ
+  pub limit : ℕ
+
+-- each number is that of a byte
+abbrev pub AreBytes : List ℕ → Type 0
+AreBytes bytes = All (λ b. b < 256) bytes
+
+-- each file is of bytes
+abbrev pub AreOfBytes : List (List ℕ) → Type 0
+AreOfBytes [] = ⊤
+AreOfBytes (bytes ∷ read) = AreBytes bytes × AreOfBytes read
+
+-- the status, the text that is put, and the files that are written
+pub record AnswerView : Type 0 where
+  pub status : Status
+  pub text : List ℕ
+  pub files : List File
+
+-- What the work of a command comes to on the bytes of its inputs: it answers whether a boot falls
+-- to BOOTSEL, the text and the files to write, in word order; or it refuses an input, by its word,
+-- with a fault.
+pub data Work : Type 0 where
+  Answers : (falls : Bool) → (text : List ℕ) → (files : List File) → Work
+  Refuses : (name fault : List ℕ) → Work
+
+-- an input file, by its word, and its fault
+abbrev pub input_line : List ℕ → List ℕ → List ℕ
+input_line name fault = codes "input " ++ (name ++ (codes ": " ++ line fault))
+
+-- words that are no command
+abbrev pub not_understood : AnswerView
+not_understood = record { status = Words; text = codes "words not understood\n"; files = [] }
+
+-- an input file that the files lack
+abbrev pub unread : AnswerView
+unread = record { status = ReadFault; text = []; files = [] }
+
+-- an input file, by its word, that is refused
+abbrev pub refused : List ℕ → List ℕ → AnswerView
+refused name fault = record { status = Refused; text = input_line name fault; files = [] }
+
+-- the status of an answer
+abbrev pub answered_status : Bool → Status
+answered_status true = Bootsel
+answered_status false = Done
+
+-- the outcome of a work
+abbrev pub worked : Work → AnswerView
+worked (Answers falls text files) =
+    record { status = answered_status falls; text = text; files = files }
+worked (Refuses name fault) = refused name fault
+
+-- one file to write
+abbrev pub one_file : List ℕ → List ℕ → List File
+one_file name bytes = record { name = name; bytes = bytes } ∷ []
+
+-- one more file, where it and the others are there
+abbrev pub found_next : Option (List ℕ) → Option (List (List ℕ)) → Option (List (List ℕ))
+found_next None rest = None
+found_next (Some bytes) None = None
+found_next (Some bytes) (Some read) = Some (bytes ∷ read)
+
+-- the whole bytes of the inputs, where the files have all their names
+abbrev pub found : List File → List LimitedInputView → Option (List (List ℕ))
+found files [] = Some []
+found files (input ∷ inputs) = found_next (file_of files input.name) (found files inputs)
+
+-- the outcome by the bytes of the inputs, where all are there or one is lacking
+abbrev pub outcome_found : (List (List ℕ) → AnswerView) → Option (List (List ℕ)) → AnswerView
+outcome_found outcome None = unread
+outcome_found outcome (Some whole) = outcome whole
+
+-- a status with which the whole text was put
+abbrev pub is_finished : Status → Bool
+is_finished Done = true
+is_finished Words = true
+is_finished Refused = true
+is_finished Bootsel = true
+is_finished ReadFault = false
+is_finished WriteFault = false
+is_finished OutputFault = false
+is_finished Memory = false

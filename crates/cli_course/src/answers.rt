@@ -1,0 +1,77 @@
+//! What the work of a command comes to, and answers of one kind, which several commands use.
+
+ghost use Rattle.std.specs.Prelude.{◌≡◌, [], IfOk, false, string_bytes};
+ghost use Rattle.cli_course.specs.declared.status.Status.TheVariants.{Done};
+ghost use Rattle.cli_course.specs.Outcomes.{Answers, input_line, one_file, refused, worked};
+ghost use Rattle.cli_course.specs.Views.{answer_from};
+
+use crate::status::Status;
+use std::alloc::{AllocError, Global};
+
+/// A file that a command writes.
+#[derive(Drop)]
+pub struct OutFile<'a> {
+    /// The word that names the file.
+    pub name: &'a str,
+    /// The bytes of the file.
+    pub bytes: Vec<u8>,
+}
+
+/// What the work of a command comes to, in memory.
+#[derive(Drop)]
+pub struct Answer<'a> {
+    /// The status with which the run ends where all is written and put.
+    pub status: Status,
+    /// The text to put.
+    pub text: String,
+    /// The files to write, in word order.
+    pub files: Vec<OutFile<'a>>,
+}
+
+/// The line of an input file, by its word, and its fault.
+fn fault_line(alloc: Global, name: &str, fault: &str) -> Result<String, AllocError>
+    ensures { IfOk result (λ t. string_bytes t ≡ input_line name.now fault.now) }
+{
+    format!(in alloc; "input {name}: {fault}\n")
+}
+
+/// The answer that refuses an input file. It fails only where memory is out.
+pub fn refusal(alloc: Global, name: &str, fault: &str) -> Result<Answer<'static>, AllocError>
+    ensures { IfOk result (λ answer. answer_from answer ≡ refused name.now fault.now) }
+{
+    let text = fault_line(alloc, name, fault)?;
+    Ok(Answer {
+        status: Status::Input,
+        text,
+        files: Vec::new(alloc),
+    })
+}
+
+/// The answer of a command that tells a text, is no fall and writes no file.
+pub fn told<'a>(alloc: Global, text: String) -> Answer<'a>
+    ensures { answer_from result ≡ worked (Answers false (string_bytes text) []) }
+{
+    Answer {
+        status: Status::Done,
+        text,
+        files: Vec::new(alloc),
+    }
+}
+
+/// The answer that tells a text and writes one file. It fails only where memory is out.
+pub fn one_file<'a>(
+    alloc: Global,
+    text: String,
+    name: &'a str,
+    bytes: Vec<u8>,
+) -> Result<Answer<'a>, AllocError>
+    ensures { IfOk result (λ answer. answer_from answer
+        ≡ worked (Answers false (string_bytes text) (one_file name.entry.now bytes.items))) }
+{
+    let file = OutFile { name, bytes };
+    Ok(Answer {
+        status: Status::Done,
+        text,
+        files: vec![in alloc; file]?,
+    })
+}

@@ -1,0 +1,35 @@
+//! How a run ends.
+
+ghost use Rattle.std.specs.Prelude.{◌≡◌};
+
+/// How a run ends. The program's exit status is the number of the variant, counted from 0.
+#[derive(Clone, Copy, PartialEq, Eq, Debug)]
+pub enum Status {
+    /// The command's text and files are written.
+    Done,
+    /// The words are no command.
+    Words,
+    /// An input breaks its form, or the work refuses it.
+    Input,
+    /// The boot falls to BOOTSEL.
+    Bootsel,
+    /// A file could not be read.
+    ReadFault,
+    /// A file could not be written.
+    WriteFault,
+    /// The text could not be put.
+    OutputFault,
+    /// There was no memory.
+    Memory,
+}
+
+impl Status {
+    ghost use Rattle.cli_course.specs.Statuses.{exit_status};
+
+    /// The number of the variant, with which the program ends.
+    pub fn number(self) -> u8
+        ensures { result ≡ exit_status self }
+    {
+        self as u8
+    }
+}

@@ -1,0 +1,6 @@
+-- These definitions are this project's own, except where a comment names a public source.
+pub mod Partitions
+pub mod Texts
+pub mod Works
+pub mod Rules
+pub mod Examples

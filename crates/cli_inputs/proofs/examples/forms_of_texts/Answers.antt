@@ -1,0 +1,33 @@
+use Rattle.std.proofs.Common.{refl}
+use Rattle.std.specs.Str.{is_utf8, chars}
+use Rattle.serde_json.proofs.OnLiterals.{serde_json_on_literals}
+use Rattle.cli_inputs.specs.Jsons.{spec_read, table_read}
+use Rattle.cli_inputs.proofs.examples.forms_of_texts.Goals as goal
+
+pub returns-clause-empty : goal.returns-clause-empty
+unfolding serde_json_on_literals is_utf8 chars spec_read table_read
+returns-clause-empty c = refl
+
+pub returns-clause-not_utf8 : goal.returns-clause-not_utf8
+unfolding serde_json_on_literals is_utf8 chars spec_read table_read
+returns-clause-not_utf8 c = refl
+
+pub returns-clause-spec : goal.returns-clause-spec
+unfolding serde_json_on_literals is_utf8 chars spec_read table_read
+returns-clause-spec c = refl
+
+pub returns-clause-processor : goal.returns-clause-processor
+unfolding serde_json_on_literals is_utf8 chars spec_read table_read
+returns-clause-processor c = refl
+
+pub returns-clause-list : goal.returns-clause-list
+unfolding serde_json_on_literals is_utf8 chars spec_read table_read
+returns-clause-list c = refl
+
+pub returns-clause-list_of_spec : goal.returns-clause-list_of_spec
+unfolding serde_json_on_literals is_utf8 chars spec_read table_read
+returns-clause-list_of_spec c = refl
+
+pub returns-clause-unknown : goal.returns-clause-unknown
+unfolding serde_json_on_literals is_utf8 chars spec_read table_read
+returns-clause-unknown c = refl

@@ -1,0 +1,5 @@
+-- These definitions are this project's own, except where a comment names a public source.
+pub mod Texts
+pub mod Works
+pub mod Rules
+pub mod Examples

@@ -1,0 +1,8 @@
+pub mod PlayLemmas
+mod ReplayLemmas
+mod TornLemmas
+pub mod ReplayRuleLemmas
+mod LoneLemmas
+pub mod TextRuleLemmas
+mod BlockLemmas
+pub mod CopyRuleLemmas

@@ -1,0 +1,106 @@
+-- The work of a replay is right by the rules.
+use Rattle.std.proofs.Common.{◌≡◌, ℕ, ◌-◌, ◌<◌, ◌++◌, replicate, ◌∙◌, List, [], ◌∷◌, length, None, Result, Ok, refl, sym, ap, inr, arith}
+use Rattle.std.proofs.lemmas.List.Elements.{All-append, All-replicate}
+use Rattle.pico_board.specs.declared.boot.Cpu.{Cpu}
+use Rattle.pico_board.specs.Content.{Content}
+use Rattle.boot_script.specs.declared.event.ScriptFault.{ScriptFault}
+use Rattle.boot_script.specs.Events.{EventView}
+use Rattle.boot_script.specs.Scripts.{events, events_read, script_events}
+use Rattle.boot_script.proofs.WalkLemmas.{events-read}
+use Rattle.cli_course.specs.declared.status.Status.TheVariants.{Done, Input as Refused}
+use Rattle.cli_course.specs.Outcomes.{AreBytes, AreOfBytes, AnswerView, worked}
+use Rattle.cli_inputs.specs.declared.forms.Form.TheVariants.{Script}
+use Rattle.cli_inputs.specs.Forms.{HasForm, content_of_files, filled_flash, filled_length}
+use Rattle.cli_inputs.specs.Inputs.{flash_otp_script, of_three}
+use Rattle.cli_inputs.specs.Rules.{AreFormed, OfThree, IsRefusedOrRight, WorksBy}
+use Rattle.cli_inputs.proofs.WorkLemmas.{same-outcome}
+use Rattle.cli_scripts.specs.Replays.{Played, played, powerless}
+use Rattle.cli_scripts.specs.ReplayWorks.{event_lines, end_line, content_files, replay_work}
+use Rattle.cli_scripts.specs.ReplayRules.{IsReplayOf}
+use Rattle.cli_scripts.proofs.PlayLemmas.{plays-only}
+use Rattle.cli_scripts.proofs.TornLemmas.{played-plays, script-bytes}
+
+-- a flash that is filled is of bytes
+filled-bytes : (f : List ℕ) → AreBytes f → AreBytes (filled_flash f)
+unfolding filled_flash
+filled-bytes f small =
+    All-append (λ b. b < 256) f (replicate (filled_length (length f) - length f) 255) small
+    (All-replicate (λ b. b < 256) (filled_length (length f) - length f) 255 (omega arith))
+
+replay-right : (f g s out_flash out_otp : List ℕ) (cpu : Cpu) → AreBytes f → AreBytes s → HasForm Script s
+    → IsReplayOf (content_of_files f g) cpu s out_flash out_otp
+    (worked (replay_work (content_of_files f g) cpu s out_flash out_otp))
+replay-right f g s out_flash out_otp cpu small of form =
+    let reads = events-read s form in record {
+      happened = script_events s;
+      reads = reads;
+      last = (played (powerless (content_of_files f g) cpu) (script_events s)).last;
+      texts = (played (powerless (content_of_files f g) cpu) (script_events s)).texts;
+      plays = played-plays (powerless (content_of_files f g) cpu) (script_events s)
+          (record { cut = None; told = refl; pattern = tt; flash = filled-bytes f small })
+          (script-bytes s (script_events s) of reads);
+      status = refl;
+      text = refl;
+      files = refl;
+    }
+
+-- what was played, as an outcome
+told-replay : Played → List ℕ → List ℕ → AnswerView
+told-replay p flash otp = record {
+  status = Done;
+  text = event_lines 0 p.texts ++ end_line p.last.place;
+  files = content_files flash otp p.last.content;
+}
+
+replay-only : (c : Content) (cpu : Cpu) (s flash otp : List ℕ) (o : AnswerView) → IsReplayOf c cpu s flash otp o
+    → o ≡ worked (replay_work c cpu s flash otp)
+unfolding told-replay
+replay-only c cpu s flash otp o right =
+    let p = plays-only (powerless c cpu) None right.happened right.last right.texts refl right.plays in
+    let same : right.happened ≡ script_events s = sym (ap events_read right.reads) in
+    same-outcome o Done _ _ right.status right.text right.files
+    ∙ (ap (λ x. told-replay (record { last = x; texts = right.texts }) flash otp) p.machine
+    ∙ (ap (λ ts. told-replay (record { last = (played (powerless c cpu) right.happened).last; texts = ts }) flash otp)
+    p.lines
+    ∙ ap (λ es. told-replay (played (powerless c cpu) es) flash otp) same))
+
+-- `replay` is right by its rules, where its inputs are of bytes, since power that is lost in an erase leaves bytes
+pub replay-works : (flash otp script out_flash out_otp : List ℕ) (cpu : Cpu)
+    → WorksBy (flash_otp_script flash otp script) AreOfBytes
+    (of_three (λ f g s. replay_work (content_of_files f g) cpu s out_flash out_otp)) (λ read name fault. ⊥)
+    (λ read o. OfThree (λ f g s. IsReplayOf (content_of_files f g) cpu s out_flash out_otp o) read)
+replay-works flash otp script out_flash out_otp cpu = record {
+  done = go_done;
+  only = go_only;
+  refuses = go_refuses;
+  exact = λ read name fault all h. absurd h;
+}
+  where
+    go_done : (read : List (List ℕ)) → AreFormed (flash_otp_script flash otp script) read → AreOfBytes read
+        → IsRefusedOrRight (λ name fault. ⊥)
+        (λ o. OfThree (λ f g s. IsReplayOf (content_of_files f g) cpu s out_flash out_otp o) read)
+        (worked (of_three (λ f g s. replay_work (content_of_files f g) cpu s out_flash out_otp) read))
+    go_done [] all small = absurd all
+    go_done (f ∷ []) all small = absurd all.1
+    go_done (f ∷ g ∷ []) all small = absurd all.1.1
+    go_done (f ∷ g ∷ s ∷ []) all small = inr (replay-right f g s out_flash out_otp cpu small.0 small.1.1.0 all.1.1.0)
+    go_done (f ∷ g ∷ s ∷ t ∷ read) all small = absurd all.1.1.1
+
+    go_only : (read : List (List ℕ)) (o : AnswerView) → AreFormed (flash_otp_script flash otp script) read
+        → OfThree (λ f g s. IsReplayOf (content_of_files f g) cpu s out_flash out_otp o) read
+        → o ≡ worked (of_three (λ f g s. replay_work (content_of_files f g) cpu s out_flash out_otp) read)
+    go_only [] o all right = absurd right
+    go_only (f ∷ []) o all right = absurd right
+    go_only (f ∷ g ∷ []) o all right = absurd right
+    go_only (f ∷ g ∷ s ∷ []) o all right = replay-only (content_of_files f g) cpu s out_flash out_otp o right
+    go_only (f ∷ g ∷ s ∷ t ∷ read) o all right = absurd right
+
+    go_refuses : (read : List (List ℕ)) → AreFormed (flash_otp_script flash otp script) read
+        → (worked (of_three (λ f g s. replay_work (content_of_files f g) cpu s out_flash out_otp) read)).status
+        ≡ Refused
+        → (name : List ℕ) × (fault : List ℕ) × ⊥
+    go_refuses [] all h = absurd all
+    go_refuses (f ∷ []) all h = absurd all.1
+    go_refuses (f ∷ g ∷ []) all h = absurd all.1.1
+    go_refuses (f ∷ g ∷ s ∷ []) all h = cc
+    go_refuses (f ∷ g ∷ s ∷ t ∷ read) all h = absurd all.1.1.1

@@ -1,0 +1,146 @@
+-- `list` and `script` are right by their rules.
+use Rattle.std.proofs.Common.{◌≡◌, ℕ, ◌+◌, ◌^◌, ◌<◌, ◌≤◌, false, List, [], ◌∷◌, length, Result, Ok, Err, refl, sym, ap, ◌∙◌, inl, inr, arith}
+use Rattle.std.specs.Prelude.{⊤}
+use Rattle.boot_script.specs.Events.{EventView}
+use Rattle.boot_script.specs.Scripts.{events_read, script_events}
+use Rattle.boot_script.proofs.WalkLemmas.{events-read}
+use Rattle.cli_course.specs.declared.status.Status.TheVariants.{Done, Input as Refused}
+use Rattle.cli_course.specs.Outcomes.{Answers, AnswerView, one_file, refused, worked}
+use Rattle.cli_inputs.specs.declared.forms.Form.TheVariants.{Script, Text}
+use Rattle.cli_inputs.specs.Forms.{HasForm}
+use Rattle.cli_inputs.specs.Inputs.{of_one, script_alone, text_alone}
+use Rattle.cli_inputs.specs.Rules.{IsRefusedOrRight, OfOne, WorksBy}
+use Rattle.cli_inputs.proofs.WorkLemmas.{one-works, same-outcome}
+use Rattle.script_text.specs.declared.script.TextError.{TextError}
+use Rattle.script_text.specs.declared.script.TextScript.{TextScript}
+use Rattle.script_text.specs.Listing.{listed}
+use Rattle.script_text.specs.Meaning.{IsScriptTextFault, IsScriptOf}
+use Rattle.script_text.specs.Reading.{script_of, text_events}
+use Rattle.script_text.proofs.BackLemmas.{fault-comes, text-read}
+use Rattle.script_text.proofs.MeaningLemmas.{text-fails, text-means}
+use Rattle.cli_scripts.proofs.LoneLemmas.{lone-works}
+use Rattle.cli_scripts.specs.TextRules.{IsListOf, IsTextRefused, IsWrittenOf}
+use Rattle.cli_scripts.specs.TextWorks.{list_work, read_work, script_line, text_fault, write_work}
+
+told-list : List EventView → AnswerView
+told-list es = record { status = Done; text = listed es; files = [] }
+
+list-right : (script : List ℕ) → HasForm Script script → IsListOf script (worked (list_work script))
+list-right script form = record {
+  happened = script_events script;
+  reads = events-read script form;
+  status = refl;
+  text = refl;
+  files = refl;
+}
+
+list-only : (script : List ℕ) (o : AnswerView) → IsListOf script o → o ≡ worked (list_work script)
+unfolding told-list
+list-only script o is =
+    let same : is.happened ≡ script_events script = sym (ap events_read is.reads) in
+    same-outcome o Done _ _ is.status is.text is.files ∙ ap told-list same
+
+-- `list` is right by its rules, and refuses nothing
+pub list-works : (script : List ℕ) → WorksBy (script_alone script) (λ read. ⊤) (of_one list_work)
+    (λ read name fault. ⊥) (λ read o. OfOne (λ s. IsListOf s o) read)
+list-works script =
+    lone-works (record { name = script; form = Script }) list_work (λ s o. IsListOf s o) list-right
+    (λ s o form is. list-only s o is) (λ s form h. let e : Done ≡ Refused = h in cc)
+
+module _ (name out : List ℕ) where
+  read-outcome : Result (List EventView) TextError → AnswerView
+  read-outcome r = worked (read_work name out r)
+
+  told-script : List EventView → AnswerView
+  told-script es = record {
+    status = Done;
+    text = script_line (length es + 1);
+    files = one_file out (script_of es);
+  }
+
+  read-ok : (text : List ℕ) (es : List EventView) → text_events text ≡ Ok es
+      → worked (write_work name out text) ≡ told-script es
+  unfolding read-outcome told-script
+  read-ok text es is = ap read-outcome is
+
+  read-err : (text : List ℕ) (fault : TextError) → text_events text ≡ Err fault
+      → worked (write_work name out text) ≡ refused name (text_fault fault)
+  unfolding read-outcome
+  read-err text fault is = ap read-outcome is
+
+  small : (text : List ℕ) → HasForm Text text → length text < 2 ^ 32
+  small text form = omega (arith, form)
+
+  write-right : (text : List ℕ) → HasForm Text text
+      → IsRefusedOrRight (IsTextRefused name text) (IsWrittenOf text out) (worked (write_work name out text))
+  unfolding told-script
+  write-right text form = go (text_events text) refl
+    where
+      go : (r : Result (List EventView) TextError) → text_events text ≡ r
+          → IsRefusedOrRight (IsTextRefused name text) (IsWrittenOf text out) (worked (write_work name out text))
+      go (Ok es) is =
+          let told = read-ok text es is in
+          inr (record {
+            happened = es;
+            spelled = text-means text es (small text form) is;
+            status = ap (λ (o : AnswerView). o.status) told;
+            told = ap (λ (o : AnswerView). o.text) told;
+            files = ap (λ (o : AnswerView). o.files) told;
+          })
+      go (Err fault) is =
+          inl (
+            name,
+            text_fault fault,
+            record {
+              error = fault;
+              wrong = text-fails text fault (small text form) is;
+              blames = refl;
+              tells = refl;
+            },
+            read-err text fault is,
+          )
+
+  write-only : (text : List ℕ) (o : AnswerView) → HasForm Text text → IsWrittenOf text out o
+      → o ≡ worked (write_work name out text)
+  unfolding told-script
+  write-only text o form is =
+      same-outcome o Done _ _ is.status is.told is.files
+      ∙ sym (read-ok text is.happened (text-read text is.happened is.spelled))
+
+  write-exact : (text blamed fault : List ℕ) → HasForm Text text → IsTextRefused name text blamed fault
+      → worked (write_work name out text) ≡ refused blamed fault
+  write-exact text blamed fault form is =
+      read-err text is.error (fault-comes text is.error (small text form) is.wrong)
+      ∙ (ap (λ n. refused n (text_fault is.error)) (sym is.blames) ∙ ap (λ f. refused blamed f) (sym is.tells))
+
+  write-refuses : (text : List ℕ) → HasForm Text text → (worked (write_work name out text)).status ≡ Refused
+      → (blamed : List ℕ) × (fault : List ℕ) × IsTextRefused name text blamed fault
+  write-refuses text form h = go (write-right text form)
+    where
+      go : IsRefusedOrRight (IsTextRefused name text) (IsWrittenOf text out) (worked (write_work name out text))
+          → (blamed : List ℕ) × (fault : List ℕ) × IsTextRefused name text blamed fault
+      go (inl (blamed, fault, is, same)) = (blamed, fault, is)
+      go (inr right) = let e : Done ≡ Refused = sym right.status ∙ h in cc
+
+  -- what is answered with the script of a text
+  pub written-told : (text line : List ℕ) (s : TextScript) → IsScriptOf text s → line ≡ script_line s.records
+      → worked (Answers false line (one_file out s.bytes.items)) ≡ worked (write_work name out text)
+  unfolding told-script
+  written-told text line s is told =
+      ap (λ t. worked (Answers false t (one_file out s.bytes.items))) (told ∙ ap script_line is.records)
+      ∙ (ap (λ bytes. worked (Answers false (script_line (length is.es + 1)) (one_file out bytes))) is.bytes
+      ∙ sym (read-ok text is.es (text-read text is.es is.text_is)))
+
+  pub fault-refused : (text : List ℕ) (fault : TextError) → HasForm Text text → IsScriptTextFault text fault
+      → worked (write_work name out text) ≡ refused name (text_fault fault)
+  fault-refused text fault form is = read-err text fault (fault-comes text fault (small text form) is)
+
+-- `script` is right by its rules
+pub write-works : (text out : List ℕ) → WorksBy (text_alone text) (λ read. ⊤) (of_one (write_work text out))
+    (λ read name fault. OfOne (λ t. IsTextRefused text t name fault) read)
+    (λ read o. OfOne (λ t. IsWrittenOf t out o) read)
+write-works text out =
+    one-works (record { name = text; form = Text }) (λ read. ⊤) (write_work text out) (IsTextRefused text)
+    (λ t o. IsWrittenOf t out o) (λ t form need. write-right text out t form)
+    (λ t o form right. write-only text out t o form right) (λ t form h. write-refuses text out t form h)
+    (λ t name fault form h. write-exact text out t name fault form h)

@@ -1,0 +1,11 @@
+use Rattle.cli_scripts.proofs.PlayLemmas.{moves-only}
+use Rattle.cli_scripts.proofs.TornLemmas.{moved-moves}
+use Rattle.cli_scripts.proofs.laws.replays.told_moves_are_determined.Goals as goal
+
+pub returns-clause-only : goal.returns-clause-only
+returns-clause-only c = λ m cut event n text told moves.
+    let one = moves-only m cut event n text told moves in (one.machine, one.line)
+
+pub returns-clause-moves : goal.returns-clause-moves
+returns-clause-moves c = λ m event is of.
+    let one = moved-moves m event is of in (one.moves, one.telling)

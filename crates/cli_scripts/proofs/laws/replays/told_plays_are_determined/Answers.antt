@@ -1,0 +1,10 @@
+use Rattle.cli_scripts.proofs.PlayLemmas.{plays-only}
+use Rattle.cli_scripts.proofs.TornLemmas.{played-plays}
+use Rattle.cli_scripts.proofs.laws.replays.told_plays_are_determined.Goals as goal
+
+pub returns-clause-only : goal.returns-clause-only
+returns-clause-only c = λ m cut events n texts told plays.
+    let all = plays-only m cut events n texts told plays in (all.machine, all.lines)
+
+pub returns-clause-plays : goal.returns-clause-plays
+returns-clause-plays c = played-plays

@@ -1,0 +1,76 @@
+//! A script as text, and the script of a text.
+
+ghost use Rattle.std.specs.Prelude.{◌≡◌, IfOk, string_bytes};
+ghost use Rattle.cli_course.specs.Outcomes.{refused, worked};
+ghost use Rattle.cli_course.specs.Views.{answer_from};
+ghost use Rattle.cli_inputs.specs.declared.forms.Form.{Form};
+ghost use Rattle.cli_inputs.specs.Forms.{HasForm};
+ghost use Rattle.cli_scripts.specs.TextWorks.{list_work, script_line, text_fault, write_work};
+
+use boot_script::Script;
+use cli_course::{Answer, one_file, refusal, told};
+use script_text::{TextError, list_text, read_text};
+use std::alloc::{AllocError, Global};
+
+/// The work of `list` on a script that has its form: its events up to its end, one a line, with a
+/// comment above each command and each UF2 block. It fails only where memory is out.
+pub fn list_script<'a>(alloc: Global, script: &[u8]) -> Result<Answer<'a>, AllocError>
+    requires { HasForm Form.Script script.now }
+    ensures { IfOk result
+        (λ answer. answer_from answer ≡ worked (list_work script.now)) }
+{
+    let judged = Script { bytes: script };
+    let text = list_text(alloc, &judged)?;
+    Ok(told(alloc, text))
+}
+
+/// Why a text is not read.
+fn text_fault(alloc: Global, fault: TextError) -> Result<String, AllocError>
+    ensures { IfOk result (λ t. string_bytes t ≡ text_fault fault) }
+{
+    match fault {
+        TextError::Line(n) => format!(in alloc; "text {n}"),
+        TextError::TooMany => format!(in alloc; "text too-many"),
+        TextError::TooLong => format!(in alloc; "text too-long"),
+        TextError::Memory => format!(in alloc; "memory"),
+    }
+}
+
+/// The line of a script of so many records.
+fn script_line(alloc: Global, records: u32) -> Result<String, AllocError>
+    ensures { IfOk result (λ t. string_bytes t ≡ script_line records) }
+{
+    format!(in alloc; "script records={records}\n")
+}
+
+/// The answer that refuses a text for a fault.
+fn unread<'a>(alloc: Global, name: &str, fault: TextError) -> Result<Answer<'a>, AllocError>
+    ensures { IfOk result
+        (λ answer. answer_from answer ≡ refused name.now (text_fault fault)) }
+{
+    let fault = text_fault(alloc, fault)?;
+    refusal(alloc, name, &fault)
+}
+
+/// The work of `script` on a text that has its form: the script of its records up to its `end`
+/// line, or of all where it has none; or its first fault, told of the text by its word. It fails
+/// only where memory is out.
+pub fn write_script<'a>(
+    alloc: Global,
+    name: &str,
+    text: &[u8],
+    out: &'a str,
+) -> Result<Answer<'a>, AllocError>
+    requires { HasForm Form.Text text.now }
+    ensures { IfOk result (λ answer. answer_from answer
+        ≡ worked (write_work name.now out.entry.now text.now)) }
+{
+    match read_text(alloc, text) {
+        Ok(script) => {
+            let line = script_line(alloc, script.records)?;
+            one_file(alloc, line, out, script.bytes)
+        }
+        Err(TextError::Memory) => Err(AllocError),
+        Err(fault) => unread(alloc, name, fault),
+    }
+}

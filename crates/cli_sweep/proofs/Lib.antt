@@ -1,0 +1,4 @@
+pub mod ChartRuleLemmas
+mod FirmnessLemmas
+pub mod SweepRuleLemmas
+pub mod FirmRuleLemmas

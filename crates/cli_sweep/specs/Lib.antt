@@ -1,0 +1,7 @@
+-- These definitions are this project's own, except where a comment names a public source.
+pub mod ChartWorks
+pub mod ChartRules
+pub mod SweepWorks
+pub mod Firmness
+pub mod FirmWorks
+pub mod SweepRules

@@ -1,0 +1,110 @@
+//! Whether an image is firm, alone in a flash of its own.
+
+ghost use Rattle.std.specs.Prelude.{◌≡◌, ◌+◌, ◌++◌, ◌≤◌, codes, ℕ, IfOk, IsTrue, List, length, string_bytes, true};
+ghost use Rattle.pico_board.specs.Content.{window_bytes};
+ghost use Rattle.image_check.specs.SameImage.{HoldsImage};
+ghost use Rattle.cli_course.specs.Outcomes.{refused, worked};
+ghost use Rattle.text_lines.specs.Faults.{why_text};
+ghost use Rattle.cli_course.specs.Views.{answer_from};
+ghost use Rattle.cli_inputs.specs.declared.forms.Form.{Form};
+ghost use Rattle.cli_inputs.specs.Forms.{HasForm};
+ghost use Rattle.cli_sweep.specs.Firmness.{is_firm};
+ghost use Rattle.cli_sweep.specs.FirmWorks.{firm_line, firm_work, image_alone, judged_work, whole_window};
+ghost use Rattle.pico_board.specs.MemBoard.{state_of};
+ghost use Rattle.image_check.specs.Image.{image_at};
+
+use boot_sweep::firm;
+use cli_course::{Answer, refusal, told};
+use cli_inputs::{board_of, new_pool};
+use image_check::{Started, Why, check};
+use pico_board::{Board, Cpu, FlashView, MemBoard, Window};
+use std::alloc::{AllocError, Global};
+use text_lines::why_text;
+
+/// The line that says whether an image is firm.
+fn firm_line(alloc: Global, firm: bool) -> Result<String, AllocError>
+    ensures { IfOk result (λ t. string_bytes t ≡ firm_line firm) }
+{
+    if firm {
+        format!(in alloc; "firm yes\n")
+    } else {
+        format!(in alloc; "firm no\n")
+    }
+}
+
+/// Whether the image that a window of the board holds is firm.
+fn is_firm(board: &MemBoard, window: Window, started: &Started, cpu: Cpu) -> bool
+    requires power { IsTrue (state_of board.now).powered }
+    requires inside { window.start + window.len ≤ length (state_of board.now).content.flash }
+    requires held { HoldsImage cpu (window_bytes (state_of board.now).content window) started.now }
+    ensures { result ≡ is_firm cpu (window_bytes (state_of board.now).content window)
+        started.now }
+{
+    firm(&FlashView { board, window }, started, cpu)
+}
+
+/// The rule that an image fails.
+fn unbootable_text(alloc: Global, why: Why) -> Result<String, AllocError>
+    ensures { IfOk result (λ t. string_bytes t ≡ codes "not-bootable " ++ why_text why) }
+{
+    let why = why_text(alloc, why)?;
+    format!(in alloc; "not-bootable {why}")
+}
+
+/// The answer that refuses an image for the rule that it fails.
+fn unbootable<'a>(alloc: Global, name: &str, why: Why) -> Result<Answer<'a>, AllocError>
+    ensures { IfOk result (λ answer. answer_from answer
+        ≡ refused name.now (codes "not-bootable " ++ why_text why)) }
+{
+    let fault = unbootable_text(alloc, why)?;
+    refusal(alloc, name, &fault)
+}
+
+/// The answer of `firm` on a board with the image alone: whether it is firm, or the rule that it
+/// fails.
+fn firm_answer<'a>(
+    alloc: Global,
+    board: &MemBoard,
+    name: &str,
+    cpu: Cpu,
+) -> Result<Answer<'a>, AllocError>
+    requires power { IsTrue (state_of board.now).powered }
+    ensures { IfOk result (λ answer. (image : List ℕ)
+        → (state_of board.now).content ≡ image_alone image
+        → answer_from answer ≡ worked (judged_work name.now image cpu
+        (image_at (image_alone image) (whole_window image) cpu true))) }
+{
+    let mut pool = new_pool(alloc)?;
+    let window = Window {
+        start: 0,
+        len: board.flash_len(),
+    };
+    match check(board, &mut pool, window, cpu, true) {
+        Ok(started) => {
+            let line = firm_line(alloc, is_firm(board, window, &started, cpu))?;
+            Ok(told(alloc, line))
+        }
+        Err(why) => unbootable(alloc, name, why),
+    }
+}
+
+/// The work of `firm` on the bytes of an image, which have their form: whether the image, alone in
+/// a flash with an OTP of zeros and with trial images allowed, is firm for the processor; or that
+/// there is no byte, or the rule that it fails, told of the image by its word. It fails only where
+/// memory is out.
+pub fn firm_image<'a>(
+    alloc: Global,
+    name: &str,
+    image: Vec<u8>,
+    cpu: Cpu,
+) -> Result<Answer<'a>, AllocError>
+    requires { HasForm Form.Image image.items }
+    ensures { IfOk result
+        (λ answer. answer_from answer ≡ worked (firm_work name.now image.items cpu)) }
+{
+    if image.is_empty() {
+        return refusal(alloc, name, "empty");
+    }
+    let board = board_of(alloc, image, &[])?;
+    firm_answer(alloc, &board, name, cpu)
+}

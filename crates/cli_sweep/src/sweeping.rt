@@ -1,0 +1,85 @@
+//! The sweep of a script's session on a board in memory.
+
+ghost use Rattle.std.specs.Prelude.{◌≡◌, IfOk, string_bytes};
+ghost use Rattle.pico_board.specs.MemBoard.{state_of};
+ghost use Rattle.cli_course.specs.Outcomes.{refused, worked};
+ghost use Rattle.cli_course.specs.Views.{answer_from};
+ghost use Rattle.cli_inputs.specs.declared.forms.Form.{Form};
+ghost use Rattle.cli_inputs.specs.Forms.{HasForm, content_of_files};
+ghost use Rattle.cli_sweep.specs.SweepWorks.{sweep_fault, sweep_work};
+
+use boot_sweep::{SweepError, swept_text};
+use cli_course::{Answer, refusal, told};
+use cli_inputs::{board_of, new_pool};
+use pico_board::{Cpu, MemBoard};
+use std::alloc::{AllocError, Global};
+
+/// Why a session is not swept.
+fn sweep_fault(alloc: Global, reason: SweepError) -> Result<String, AllocError>
+    ensures { IfOk result (λ t. string_bytes t ≡ sweep_fault reason) }
+{
+    match reason {
+        SweepError::NotConfined(k) => format!(in alloc; "not-confined {k}"),
+        SweepError::NotGated(k) => format!(in alloc; "not-gated {k}"),
+        SweepError::TooManySteps => format!(in alloc; "too-many-steps"),
+        SweepError::FormerInSlot => format!(in alloc; "former-in-slot"),
+        SweepError::Memory => format!(in alloc; "memory"),
+        SweepError::TableChanged => format!(in alloc; "table-changed"),
+    }
+}
+
+/// The answer that refuses a script whose session is not swept. It fails only where memory is out.
+pub fn unswept<'a>(alloc: Global, name: &str, reason: SweepError) -> Result<Answer<'a>, AllocError>
+    ensures { IfOk result
+        (λ answer. answer_from answer ≡ refused name.now (sweep_fault reason)) }
+{
+    let fault = sweep_fault(alloc, reason)?;
+    refusal(alloc, name, &fault)
+}
+
+/// The answer of `sweep` on a board: the lines of the script's session, or why it is not swept.
+fn sweep_answer<'a>(
+    alloc: Global,
+    board: MemBoard,
+    cpu: Cpu,
+    name: &str,
+    script: &[u8],
+    pattern: &[u8],
+) -> Result<Answer<'a>, AllocError>
+    requires script { HasForm Form.Script script.now }
+    requires pattern { HasForm Form.Pattern pattern.now }
+    ensures { IfOk result (λ answer. answer_from answer ≡ worked (sweep_work
+        (state_of board).content cpu name.now script.now pattern.now)) }
+{
+    let (flash, otp) = board.into_parts();
+    let mut pool = new_pool(alloc)?;
+    match swept_text(alloc, &flash, &otp, &mut pool, cpu, script, pattern) {
+        Ok(text) => Ok(told(alloc, text)),
+        Err(SweepError::Memory) => Err(AllocError),
+        Err(reason) => unswept(alloc, name, reason),
+    }
+}
+
+/// The work of `sweep` on a flash file, an OTP file, a script and a pattern, which have their
+/// forms: the lines of the script's session for the processor, each with what a normal boot makes
+/// of its loss of power, or the reason why the session is not swept, told of the script. It fails
+/// only where memory is out.
+pub fn sweep_script<'a>(
+    alloc: Global,
+    flash: Vec<u8>,
+    otp: &[u8],
+    cpu: Cpu,
+    name: &str,
+    script: &[u8],
+    pattern: &[u8],
+) -> Result<Answer<'a>, AllocError>
+    requires flash { HasForm Form.Flash flash.items }
+    requires otp { HasForm Form.Otp otp.now }
+    requires script { HasForm Form.Script script.now }
+    requires pattern { HasForm Form.Pattern pattern.now }
+    ensures { IfOk result (λ answer. answer_from answer ≡ worked (sweep_work
+        (content_of_files flash.items otp.now) cpu name.now script.now pattern.now)) }
+{
+    let board = board_of(alloc, flash, otp)?;
+    sweep_answer(alloc, board, cpu, name, script, pattern)
+}

@@ -1,0 +1,204 @@
+-- The work on images, and of a number, is right by the rules.
+use Rattle.std.proofs.Common.{◌≡◌, ◌≢◌, ℕ, ◌≤◌, ◌==◌, Bool, true, false, cond, List, [], ◌∷◌, ◌++◌, length, Option, Some, None, codes, refl, sym, ap, ◌∙◌, inl, inr, arith}
+use Rattle.std.specs.Prelude.{⊤, nat_lt}
+use Rattle.std.proofs.lemmas.Bool.{eqb-true, eqb-false, ne_eqb, ltb-true, ltb-false, lt-ltb, le-ltb}
+use Rattle.pico_board.specs.declared.boot.Cpu.{Cpu}
+use Rattle.pico_board.specs.declared.boot.Cpu.TheVariants.{Arm}
+use Rattle.pico_board.specs.declared.boot.BootKind.TheVariants.{Normal}
+use Rattle.part_table.specs.declared.target.Target.{Target}
+use Rattle.boot_rules.specs.Choosing.{decision_in}
+use Rattle.boot_rules.proofs.DecisionLemmas.{decision-chosen, chosen-decision}
+use Rattle.uf2_place.specs.Files.{file_bytes, page_count}
+use Rattle.script_plan.specs.Plans.{plan_text}
+use Rattle.cli_course.specs.declared.status.Status.TheVariants.{Done, Input as Refused}
+use Rattle.cli_inputs.specs.Forms.{content_of_files}
+use Rattle.cli_course.specs.Outcomes.{Work, Answers, Refuses, one_file, AnswerView, refused, worked}
+use Rattle.cli_tools.specs.ToolWorks.{uf2_line, uf2_work, plan_target, plan_line, window_work, target_work, plan_work, made_content, gen_line, gen_work}
+use Rattle.cli_tools.specs.ToolRules.{IsUf2Refused, IsUf2Of, IsPlanRefused, IsPlanOf, IsGenOf}
+use Rattle.cli_inputs.specs.declared.forms.Form.TheVariants.{Flash, Otp, Image}
+use Rattle.cli_inputs.specs.Inputs.{image_alone, flash_otp_image, of_one, of_three}
+use Rattle.cli_inputs.specs.Rules.{OfOne, OfThree, IsRefusedOrRight, WorksBy}
+use Rattle.cli_inputs.proofs.WorkLemmas.{same-outcome, none-works, one-works, three-works}
+use Rattle.text_lines.specs.Texts.{decision_line}
+use Rattle.image_pack.specs.Flashes.{generated}
+
+none-of : (xs : List ℕ) → length xs ≡ 0 → xs ≡ []
+none-of [] h = refl
+none-of (x ∷ xs) h = absurd (omega arith)
+
+some-of : (xs : List ℕ) → length xs ≢ 0 → xs ≢ []
+some-of xs h is = h (ap (λ (ys : List ℕ). length ys) is)
+
+some-length : (xs : List ℕ) → xs ≢ [] → length xs ≢ 0
+some-length xs h is = h (none-of xs is)
+
+-- what `uf2` answers where the image has bytes
+abbrev uf2_answer : List ℕ → ℕ → List ℕ → Work
+uf2_answer i family out = Answers false (uf2_line (page_count (length i))) (one_file out (file_bytes i family))
+
+pub uf2-done : (name out i : List ℕ) (family : ℕ)
+    → IsRefusedOrRight (IsUf2Refused name i) (IsUf2Of i family out) (worked (uf2_work name family out i))
+uf2-done name out i family = go (length i == 0) refl
+  where
+    go : (t : Bool) → (length i == 0) ≡ t
+        → IsRefusedOrRight (IsUf2Refused name i) (IsUf2Of i family out)
+        (worked (cond t (Refuses name (codes "empty")) (uf2_answer i family out)))
+    go true is = inl (name, codes "empty", (refl, (none-of i (eqb-true (length i) 0 is), refl)), refl)
+    go false is =
+        inr (record { some = some-of i (eqb-false (length i) 0 is); status = refl; text = refl; files = refl })
+
+-- the refusal that the rules name is the work's
+pub uf2-exact : (image out i name fault : List ℕ) (family : ℕ)
+    → IsUf2Refused image i name fault
+    → worked (uf2_work image family out i) ≡ refused name fault
+uf2-exact image out i name fault family (is, (empty, text)) =
+    ap (λ xs. worked (uf2_work image family out xs)) empty
+    ∙ (ap (λ n. refused n (codes "empty")) (sym is) ∙ ap (refused name) (sym text))
+
+pub uf2-whole : (image out i : List ℕ) (family : ℕ) → i ≢ []
+    → worked (uf2_answer i family out) ≡ worked (uf2_work image family out i)
+uf2-whole image out i family some =
+    sym (ap (λ t. worked (cond t (Refuses image (codes "empty")) (uf2_answer i family out)))
+    (ne_eqb (length i) 0 (some-length i some)))
+
+-- what `plan` answers where the image fits into the target's window
+abbrev plan_answer : Target → List ℕ → List ℕ → Work
+plan_answer target out i =
+    Answers false (plan_line target.window (length i)) (one_file out (plan_text target.window.start i))
+
+module _ (image out f g i : List ℕ) (cpu : Cpu) where
+  abbrev PlanDone : AnswerView → Type 0
+  PlanDone o = IsRefusedOrRight (IsPlanRefused (content_of_files f g) cpu image i)
+      (IsPlanOf (content_of_files f g) cpu i out) o
+
+  window-done : (target : Target) → plan_target (content_of_files f g) cpu ≡ Some target
+      → PlanDone (worked (window_work target.window image out i))
+  window-done target goes = go (length i == 0) refl
+    where
+      fits : (t : Bool) → nat_lt target.window.len (length i) ≡ t → length i ≢ 0
+          → PlanDone (worked (cond t (Refuses image (codes "past-window")) (plan_answer target out i)))
+      fits true is some =
+          inl (
+            image,
+            codes "past-window",
+            (refl, inr (target, goes, inr (ltb-true target.window.len (length i) is, refl))),
+            refl,
+          )
+      fits false is some = inr (record {
+        target = target;
+        goes = goes;
+        some = some-of i some;
+        fits = ltb-false target.window.len (length i) is;
+        status = refl;
+        text = refl;
+        files = refl;
+      })
+
+      go : (t : Bool) → (length i == 0) ≡ t
+          → PlanDone (worked (cond t (Refuses image (codes "empty"))
+          (cond (nat_lt target.window.len (length i)) (Refuses image (codes "past-window"))
+          (plan_answer target out i))))
+      go true is =
+          inl (image, codes "empty", (refl, inr (target, goes, inl (none-of i (eqb-true (length i) 0 is), refl))), refl)
+      go false is = fits (nat_lt target.window.len (length i)) refl (eqb-false (length i) 0 is)
+
+  pub plan-done : PlanDone (worked (plan_work (content_of_files f g) cpu image out i))
+  plan-done = go (plan_target (content_of_files f g) cpu) refl
+    where
+      go : (t : Option Target) → plan_target (content_of_files f g) cpu ≡ t
+          → PlanDone (worked (target_work t image out i))
+      go None none = inl (image, codes "no-target", (refl, inl (none, refl)), refl)
+      go (Some target) goes = window-done target goes
+
+  -- the target decides
+  by-target : (t : Option Target) → plan_target (content_of_files f g) cpu ≡ t
+      → worked (plan_work (content_of_files f g) cpu image out i) ≡ worked (target_work t image out i)
+  by-target t is = ap (λ (t : Option Target). worked (target_work t image out i)) is
+
+  -- an image of some bytes, where the window decides
+  by-window : (target : Target) (t : Bool) → i ≢ [] → nat_lt target.window.len (length i) ≡ t
+      → worked (window_work target.window image out i)
+      ≡ worked (cond t (Refuses image (codes "past-window")) (plan_answer target out i))
+  by-window target t some is =
+      ap (λ s. worked (cond s (Refuses image (codes "empty"))
+      (cond (nat_lt target.window.len (length i)) (Refuses image (codes "past-window")) (plan_answer target out i))))
+      (ne_eqb (length i) 0 (some-length i some))
+      ∙ ap (λ s. worked (cond s (Refuses image (codes "past-window")) (plan_answer target out i))) is
+
+  named : (name fault text : List ℕ) → name ≡ image → fault ≡ text → refused image text ≡ refused name fault
+  named name fault text is same = ap (λ n. refused n text) (sym is) ∙ ap (refused name) (sym same)
+
+  pub plan-exact : (name fault : List ℕ) → IsPlanRefused (content_of_files f g) cpu image i name fault
+      → worked (plan_work (content_of_files f g) cpu image out i) ≡ refused name fault
+  plan-exact name fault (is, inl (none, text)) = by-target None none ∙ named name fault (codes "no-target") is text
+  plan-exact name fault (is, inr (target, goes, inl (empty, text))) =
+      by-target (Some target) goes
+      ∙ (ap (λ xs. worked (window_work target.window image out xs)) empty ∙ named name fault (codes "empty") is text)
+  plan-exact name fault (is, inr (target, goes, inr (long, text))) =
+      by-target (Some target) goes
+      ∙ (by-window target true (some-of i (omega (arith, long))) (lt-ltb target.window.len (length i) long)
+      ∙ named name fault (codes "past-window") is text)
+
+  pub plan-whole : (target : Target) → plan_target (content_of_files f g) cpu ≡ Some target → i ≢ []
+      → length i ≤ target.window.len
+      → worked (plan_answer target out i) ≡ worked (plan_work (content_of_files f g) cpu image out i)
+  plan-whole target goes some few =
+      sym (by-target (Some target) goes
+      ∙ by-window target false some (le-ltb target.window.len (length i) few))
+
+pub gen-right : (n : ℕ) → IsGenOf n (worked (gen_work n))
+gen-right n = record {
+  decision = decision_in (made_content n) Arm Normal;
+  chosen = decision-chosen (made_content n) Arm Normal;
+  status = refl;
+  text = refl;
+  files = refl;
+}
+
+-- a work that is refused is so by the rules
+refused-done : (IsRefusal : List ℕ → List ℕ → Type 0) (Right : AnswerView → Type 0) (o : AnswerView)
+    → (Right o → o.status ≡ Done) → IsRefusedOrRight IsRefusal Right o → o.status ≡ Refused
+    → (name : List ℕ) × (fault : List ℕ) × IsRefusal name fault
+refused-done IsRefusal Right o done (inl (name, fault, refuses, is)) h = (name, fault, refuses)
+refused-done IsRefusal Right o done (inr right) h = let e : Done ≡ Refused = sym (done right) ∙ h in cc
+
+-- `uf2` is right by its rules
+pub uf2-works : (image out : List ℕ) (family : ℕ) → WorksBy (image_alone image) (λ read. ⊤)
+    (of_one (uf2_work image family out)) (λ read name fault. OfOne (λ i. IsUf2Refused image i name fault) read)
+    (λ read o. OfOne (λ i. IsUf2Of i family out o) read)
+uf2-works image out family =
+    one-works (record { name = image; form = Image }) (λ read. ⊤) (uf2_work image family out) (IsUf2Refused image)
+    (λ i o. IsUf2Of i family out o) (λ i form need. uf2-done image out i family)
+    (λ i o form right. same-outcome o Done _ _ right.status right.text right.files
+    ∙ uf2-whole image out i family right.some)
+    (λ i form h. refused-done (IsUf2Refused image i) (IsUf2Of i family out) (worked (uf2_work image family out i))
+    (λ right. right.status) (uf2-done image out i family) h)
+    (λ i name fault form h. uf2-exact image out i name fault family h)
+
+-- `plan` is right by its rules
+pub plan-works : (flash otp image out : List ℕ) (cpu : Cpu) → WorksBy (flash_otp_image flash otp image) (λ read. ⊤)
+    (of_three (λ f g i. plan_work (content_of_files f g) cpu image out i))
+    (λ read name fault. OfThree (λ f g i. IsPlanRefused (content_of_files f g) cpu image i name fault) read)
+    (λ read o. OfThree (λ f g i. IsPlanOf (content_of_files f g) cpu i out o) read)
+plan-works flash otp image out cpu =
+    three-works (record { name = flash; form = Flash }) (record { name = otp; form = Otp })
+    (record { name = image; form = Image }) (λ read. ⊤) (λ f g i. plan_work (content_of_files f g) cpu image out i)
+    (λ f g i. IsPlanRefused (content_of_files f g) cpu image i) (λ f g i o. IsPlanOf (content_of_files f g) cpu i out o)
+    (λ f g i a b c need. plan-done image out f g i cpu)
+    (λ f g i o a b c right. same-outcome o Done _ _ right.status right.text right.files
+    ∙ plan-whole image out f g i cpu right.target right.goes right.some right.fits)
+    (λ f g i a b c h. refused-done (IsPlanRefused (content_of_files f g) cpu image i)
+    (IsPlanOf (content_of_files f g) cpu i out)
+    (worked (plan_work (content_of_files f g) cpu image out i)) (λ right. right.status)
+    (plan-done image out f g i cpu) h)
+    (λ f g i name fault a b c h. plan-exact image out f g i cpu name fault h)
+
+gen-only : (n : ℕ) (o : AnswerView) → IsGenOf n o → o ≡ worked (gen_work n)
+gen-only n o right =
+    same-outcome o Done _ [] right.status right.text right.files
+    ∙ ap (λ d. record { status = Done; text = gen_line n (generated n) ++ decision_line d; files = [] })
+    (chosen-decision (made_content n) Arm Normal right.decision right.chosen)
+
+-- `gen` is right by its rules
+pub gen-works : (n : ℕ) → WorksBy [] (λ read. ⊤) (λ read. gen_work n) (λ read name fault. ⊥) (λ read o. IsGenOf n o)
+gen-works n = none-works (λ read. ⊤) (gen_work n) (IsGenOf n) (gen-right n) (gen-only n) (λ h. cc)

@@ -1,0 +1,79 @@
+-- The work of the commands that make files of an image, and of the one that makes a flash of a
+-- number, as a function.
+use Rattle.std.specs.Prelude.{ℕ, ◌==◌, nat_lt, if◌then◌else◌, false, List, [], ◌++◌, length, Option, Some, None, option_map, codes, decimal}
+use Rattle.pico_board.specs.declared.boot.Cpu.{Cpu}
+use Rattle.pico_board.specs.declared.boot.Cpu.TheVariants.{Arm, Riscv}
+use Rattle.pico_board.specs.declared.boot.BootKind.TheVariants.{Normal}
+use Rattle.pico_board.specs.declared.window.Window.{Window}
+use Rattle.pico_board.specs.Content.{Content}
+use Rattle.part_table.specs.declared.target.Target.{Target}
+use Rattle.part_table.specs.Families.{arm_s_family, riscv_family}
+use Rattle.boot_rules.specs.declared.tables.Found.{Found}
+use Rattle.boot_rules.specs.Choosing.{decision_in}
+use Rattle.boot_rules.specs.Tables.{table_in}
+use Rattle.boot_rules.specs.Targets.{target_of}
+use Rattle.text_lines.specs.Texts.{digest_text, window_text, decision_line}
+use Rattle.uf2_place.specs.Files.{file_bytes, page_count}
+use Rattle.image_pack.specs.Faults.{zero_otp}
+use Rattle.script_plan.specs.Plans.{plan_text}
+use Rattle.image_pack.specs.Flashes.{generated}
+use Rattle.cli_course.specs.Outcomes.{one_file, line, Work, Answers, Refuses}
+
+-- the line of a UF2 file of so many blocks
+abbrev pub uf2_line : ℕ → List ℕ
+uf2_line blocks = codes "uf2 blocks=" ++ line (decimal blocks)
+
+-- the UF2 file of an image; an image of no byte is refused
+abbrev pub uf2_work : List ℕ → ℕ → List ℕ → List ℕ → Work
+uf2_work name family out image =
+    if length image == 0 then Refuses name (codes "empty")
+    else Answers false (uf2_line (page_count (length image)))
+    (one_file out (file_bytes image family))
+
+-- the family of a processor's executables
+abbrev pub executable_family : Cpu → ℕ
+executable_family Arm = arm_s_family
+executable_family Riscv = riscv_family
+
+-- where a download of the processor's executables goes
+abbrev pub plan_target : Content → Cpu → Option Target
+plan_target c cpu =
+    target_of c (option_map (λ (found : Found). found.table) (table_in c)) cpu
+    (executable_family cpu)
+
+-- the line of a plan for an image of so many bytes
+abbrev pub plan_line : Window → ℕ → List ℕ
+plan_line w n = codes "plan " ++ (window_text w ++ (codes " bytes=" ++ line (decimal n)))
+
+-- the script that writes an image into a window; an image of no byte and one of more bytes than the
+-- window are refused
+abbrev pub window_work : Window → List ℕ → List ℕ → List ℕ → Work
+window_work w name out image =
+    if length image == 0 then Refuses name (codes "empty")
+    else if nat_lt w.len (length image) then Refuses name (codes "past-window")
+    else Answers false (plan_line w (length image)) (one_file out (plan_text w.start image))
+
+-- the script that writes an image into a target's window; where there is no target the image is
+-- refused
+abbrev pub target_work : Option Target → List ℕ → List ℕ → List ℕ → Work
+target_work None name out image = Refuses name (codes "no-target")
+target_work (Some target) name out image = window_work target.window name out image
+
+-- the script that writes an image where a download of the processor's executables goes
+abbrev pub plan_work : Content → Cpu → List ℕ → List ℕ → List ℕ → Work
+plan_work c cpu name out image = target_work (plan_target c cpu) name out image
+
+-- the flash of a number, and an OTP of zeros
+abbrev pub made_content : ℕ → Content
+made_content n = record { flash = generated n; otp = zero_otp }
+
+-- the line of the flash of a number
+abbrev pub gen_line : ℕ → List ℕ → List ℕ
+gen_line n flash =
+    codes "gen n=" ++ (decimal n ++ (codes " sha256=" ++ line (digest_text flash)))
+
+-- the flash of a number, and which image a normal boot for Arm starts on it
+abbrev pub gen_work : ℕ → Work
+gen_work n =
+    Answers false
+    (gen_line n (generated n) ++ decision_line (decision_in (made_content n) Arm Normal)) []

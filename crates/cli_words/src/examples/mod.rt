@@ -1,0 +1,172 @@
+//! Worked examples of the definitions, proved by computing: each is the `ensures` of a function
+//! that does nothing.
+
+ghost use Rattle.std.specs.Prelude.{◌≡◌, [], ◌∷◌, codes, Some, None};
+ghost use Rattle.pico_board.specs.declared.boot.Cpu.TheVariants.{Arm, Riscv};
+ghost use Rattle.pico_board.specs.declared.boot.BootKind.TheVariants.{Normal, Bootsel as AskBootsel, Update};
+ghost use Rattle.cli_words.specs.Commands.{Table, command_of, boot_kind_of, Boot, Info, OwnedData, Explain, Map, Replay, Usage, Release, Sweep, Chart, Seal, Elf, Firm, Uf2, Plan, Copy, ListScript, WriteScript, Gen};
+ghost use Rattle.cli_words.specs.Usages.{release_line};
+ghost use Rattle.cli_words.specs.Values.{family_of};
+
+/// The words of each command.
+pub fn words_of_commands()
+    ensures boot { command_of
+        (codes "boot" ∷ codes "f" ∷ codes "o" ∷ codes "arm" ∷ codes "normal" ∷ [])
+        ≡ Some (Boot (codes "f") (codes "o") Arm Normal) }
+    ensures bootsel { command_of
+        (codes "boot" ∷ codes "" ∷ codes "o" ∷ codes "riscv" ∷ codes "bootsel" ∷ [])
+        ≡ Some (Boot (codes "") (codes "o") Riscv AskBootsel) }
+    ensures info { command_of (codes "info" ∷ codes "f" ∷ codes "o" ∷ codes "arm" ∷ [])
+        ≡ Some (Info (codes "f") (codes "o") Arm) }
+    ensures data { command_of
+        (codes "data" ∷ codes "f" ∷ codes "o" ∷ codes "arm" ∷ codes "normal" ∷ [])
+        ≡ Some (OwnedData (codes "f") (codes "o") Arm Normal) }
+    ensures explain { command_of
+        (codes "explain" ∷ codes "f" ∷ codes "o" ∷ codes "riscv" ∷ codes "bootsel" ∷ [])
+        ≡ Some (Explain (codes "f") (codes "o") Riscv AskBootsel) }
+    ensures map { command_of
+        (codes "map" ∷ codes "f" ∷ codes "o" ∷ codes "riscv" ∷ codes "a" ∷ [])
+        ≡ Some (Map (codes "f") (codes "o") Riscv (codes "a")) }
+    ensures map_to_normal { command_of
+        (codes "map" ∷ codes "f" ∷ codes "o" ∷ codes "arm" ∷ codes "normal" ∷ [])
+        ≡ Some (Map (codes "f") (codes "o") Arm (codes "normal")) }
+    ensures replay { command_of
+        (codes "replay" ∷ codes "f" ∷ codes "o" ∷ codes "riscv" ∷ codes "s" ∷ codes "a"
+        ∷ codes "b" ∷ []) ≡ Some
+        (Replay (codes "f") (codes "o") Riscv (codes "s") (codes "a") (codes "b")) }
+    ensures chart { command_of
+        (codes "chart" ∷ codes "f" ∷ codes "o" ∷ codes "arm" ∷ codes "s" ∷ codes "p"
+        ∷ codes "a" ∷ []) ≡ Some
+        (Chart (codes "f") (codes "o") Arm (codes "s") (codes "p") (codes "a")) }
+    ensures help { command_of (codes "--help" ∷ []) ≡ Some Usage }
+    ensures release { command_of (codes "--version" ∷ []) ≡ Some Release }
+{}
+
+/// The kind of an update boot has eight hexadecimal digits of either case.
+pub fn update_words()
+    ensures lower { boot_kind_of (codes "update=0x1002abcd") ≡ Some (Update 0x1002abcd) }
+    ensures upper { boot_kind_of (codes "update=0xFFFFFFFF") ≡ Some (Update 0xffffffff) }
+    ensures mixed { boot_kind_of (codes "update=0x09afAF00") ≡ Some (Update 0x09afaf00) }
+    ensures short { boot_kind_of (codes "update=0x1002000") ≡ None }
+    ensures long { boot_kind_of (codes "update=0x100200000") ≡ None }
+    ensures prefix { boot_kind_of (codes "update=0X10020000") ≡ None }
+    ensures below_0 { boot_kind_of (codes "update=0x1002000/") ≡ None }
+    ensures above_9 { boot_kind_of (codes "update=0x1002000:") ≡ None }
+    ensures below_upper { boot_kind_of (codes "update=0x1002000@") ≡ None }
+    ensures above_upper { boot_kind_of (codes "update=0x1002000G") ≡ None }
+    ensures below_lower { boot_kind_of (codes "update=0x1002000`") ≡ None }
+    ensures above_lower { boot_kind_of (codes "update=0x1002000g") ≡ None }
+{}
+
+/// Words that are no command.
+pub fn other_words()
+    ensures none { command_of [] ≡ None }
+    ensures three { command_of (codes "boot" ∷ codes "f" ∷ codes "o" ∷ []) ≡ None }
+    ensures six { command_of
+        (codes "boot" ∷ codes "f" ∷ codes "o" ∷ codes "arm" ∷ codes "normal" ∷ codes "" ∷ [])
+        ≡ None }
+    ensures cpu { command_of
+        (codes "boot" ∷ codes "f" ∷ codes "o" ∷ codes "Arm" ∷ codes "normal" ∷ []) ≡ None }
+    ensures kind { command_of
+        (codes "boot" ∷ codes "f" ∷ codes "o" ∷ codes "arm" ∷ codes "Normal" ∷ []) ≡ None }
+    ensures name { command_of
+        (codes "info" ∷ codes "f" ∷ codes "o" ∷ codes "arm" ∷ codes "normal" ∷ []) ≡ None }
+    ensures four { command_of (codes "boot" ∷ codes "f" ∷ codes "o" ∷ codes "arm" ∷ []) ≡ None }
+    ensures info_cpu { command_of (codes "info" ∷ codes "f" ∷ codes "o" ∷ codes "x86" ∷ []) ≡ None }
+    ensures one { command_of (codes "-h" ∷ []) ≡ None }
+    ensures two { command_of (codes "--version" ∷ codes "x" ∷ []) ≡ None }
+    ensures seven { command_of
+        (codes "boot" ∷ codes "f" ∷ codes "o" ∷ codes "arm" ∷ codes "s" ∷ codes "a" ∷ codes "b"
+        ∷ []) ≡ None }
+    ensures replay_cpu { command_of
+        (codes "replay" ∷ codes "f" ∷ codes "o" ∷ codes "x86" ∷ codes "s" ∷ codes "a" ∷ codes "b"
+        ∷ []) ≡ None }
+    ensures map_cpu { command_of
+        (codes "map" ∷ codes "f" ∷ codes "o" ∷ codes "x86" ∷ codes "a" ∷ []) ≡ None }
+    ensures map_of_three { command_of
+        (codes "map" ∷ codes "f" ∷ codes "o" ∷ codes "arm" ∷ []) ≡ None }
+    ensures map_of_five { command_of
+        (codes "map" ∷ codes "f" ∷ codes "o" ∷ codes "arm" ∷ codes "normal" ∷ codes "a" ∷ [])
+        ≡ None }
+    ensures eight { command_of
+        (codes "replay" ∷ codes "f" ∷ codes "o" ∷ codes "arm" ∷ codes "s" ∷ codes "a" ∷ codes "b"
+        ∷ codes "c" ∷ []) ≡ None }
+{}
+
+/// The words of a sealing and of a table.
+pub fn words_of_sealings()
+    ensures seal { command_of (codes "seal" ∷ codes "b" ∷ codes "s" ∷ codes "a" ∷ [])
+        ≡ Some (Seal (codes "b") (codes "s") (codes "a")) }
+    ensures table { command_of (codes "table" ∷ codes "t" ∷ codes "a" ∷ [])
+        ≡ Some (Table (codes "t") (codes "a")) }
+    ensures elf { command_of (codes "elf" ∷ codes "e" ∷ codes "s" ∷ codes "a" ∷ [])
+        ≡ Some (Elf (codes "e") (codes "s") (codes "a")) }
+    ensures elf_of_three { command_of (codes "elf" ∷ codes "e" ∷ codes "s" ∷ []) ≡ None }
+    ensures seal_of_three { command_of (codes "seal" ∷ codes "b" ∷ codes "s" ∷ []) ≡ None }
+    ensures table_of_four { command_of
+        (codes "table" ∷ codes "t" ∷ codes "a" ∷ codes "arm" ∷ []) ≡ None }
+    ensures seal_for_arm { command_of (codes "seal" ∷ codes "b" ∷ codes "s" ∷ codes "arm" ∷ [])
+        ≡ Some (Seal (codes "b") (codes "s") (codes "arm")) }
+{}
+
+/// The words of each of the commands.
+pub fn words_of_tools()
+    ensures uf2 { command_of (codes "uf2" ∷ codes "i" ∷ codes "data" ∷ codes "a" ∷ [])
+        ≡ Some (Uf2 (codes "i") 0xe48bff58 (codes "a")) }
+    ensures uf2_cpu { command_of (codes "uf2" ∷ codes "i" ∷ codes "data" ∷ codes "arm" ∷ [])
+        ≡ Some (Uf2 (codes "i") 0xe48bff58 (codes "arm")) }
+    ensures plan { command_of
+        (codes "plan" ∷ codes "f" ∷ codes "o" ∷ codes "riscv" ∷ codes "i" ∷ codes "a" ∷ [])
+        ≡ Some (Plan (codes "f") (codes "o") Riscv (codes "i") (codes "a")) }
+    ensures sweep { command_of
+        (codes "sweep" ∷ codes "f" ∷ codes "o" ∷ codes "arm" ∷ codes "s" ∷ codes "p" ∷ [])
+        ≡ Some (Sweep (codes "f") (codes "o") Arm (codes "s") (codes "p")) }
+    ensures firm { command_of (codes "firm" ∷ codes "i" ∷ codes "riscv" ∷ [])
+        ≡ Some (Firm (codes "i") Riscv) }
+    ensures copy { command_of (codes "copy" ∷ codes "u" ∷ codes "a" ∷ [])
+        ≡ Some (Copy (codes "u") (codes "a")) }
+    ensures list { command_of (codes "list" ∷ codes "7" ∷ []) ≡ Some (ListScript (codes "7")) }
+    ensures script { command_of (codes "script" ∷ codes "t" ∷ codes "a" ∷ [])
+        ≡ Some (WriteScript (codes "t") (codes "a")) }
+    ensures made { command_of (codes "gen" ∷ codes "007" ∷ []) ≡ Some (Gen 7) }
+{}
+
+/// Words that are none of them.
+pub fn other_words_of_tools()
+    ensures family { command_of (codes "uf2" ∷ codes "i" ∷ codes "arm" ∷ codes "a" ∷ []) ≡ None }
+    ensures three { command_of (codes "uf2" ∷ codes "i" ∷ codes "data" ∷ []) ≡ None }
+    ensures cpu { command_of
+        (codes "plan" ∷ codes "f" ∷ codes "o" ∷ codes "x86" ∷ codes "i" ∷ codes "a" ∷ []) ≡ None }
+    ensures firm_cpu { command_of (codes "firm" ∷ codes "i" ∷ codes "x86" ∷ []) ≡ None }
+    ensures firm_alone { command_of (codes "firm" ∷ codes "i" ∷ []) ≡ None }
+    ensures sweep_cpu { command_of
+        (codes "sweep" ∷ codes "f" ∷ codes "o" ∷ codes "x86" ∷ codes "s" ∷ codes "p" ∷ []) ≡ None }
+    ensures sweep_of_five { command_of
+        (codes "sweep" ∷ codes "f" ∷ codes "o" ∷ codes "arm" ∷ codes "s" ∷ []) ≡ None }
+    ensures five { command_of
+        (codes "plan" ∷ codes "f" ∷ codes "o" ∷ codes "arm" ∷ codes "i" ∷ []) ≡ None }
+    ensures name { command_of
+        (codes "boot" ∷ codes "f" ∷ codes "o" ∷ codes "arm" ∷ codes "i" ∷ codes "a" ∷ []) ≡ None }
+    ensures copy_alone { command_of (codes "copy" ∷ codes "u" ∷ []) ≡ None }
+    ensures list_of_two { command_of (codes "list" ∷ codes "s" ∷ codes "a" ∷ []) ≡ None }
+    ensures script_alone { command_of (codes "script" ∷ codes "t" ∷ []) ≡ None }
+    ensures number { command_of (codes "gen" ∷ codes "x" ∷ []) ≡ None }
+    ensures two { command_of (codes "uf2" ∷ codes "7" ∷ []) ≡ None }
+{}
+
+/// The families by their words.
+pub fn families()
+    ensures rp2040 { family_of (codes "rp2040") ≡ Some 0xe48bff56 }
+    ensures absolute { family_of (codes "absolute") ≡ Some 0xe48bff57 }
+    ensures data { family_of (codes "data") ≡ Some 0xe48bff58 }
+    ensures arm_s { family_of (codes "rp2350-arm-s") ≡ Some 0xe48bff59 }
+    ensures riscv { family_of (codes "rp2350-riscv") ≡ Some 0xe48bff5a }
+    ensures arm_ns { family_of (codes "rp2350-arm-ns") ≡ Some 0xe48bff5b }
+    ensures prefix { family_of (codes "rp2350-arm") ≡ None }
+    ensures upper { family_of (codes "DATA") ≡ None }
+{}
+
+/// The line of the version.
+pub fn lines_of_releases()
+    ensures { release_line ≡ codes "dugnatsew 0.1.0\n" }
+{}

@@ -1,0 +1,10 @@
+//! The words of a run: which command they are, how the program is used, and its version.
+#![tactic(auto)]
+
+pub mod examples;
+mod usage;
+mod values;
+mod words;
+
+pub use usage::{USAGE, VERSION, release_line, usage_text};
+pub use words::{CommandLine, command};

@@ -1,0 +1,5 @@
+//! Worked examples, one module a subject. Each is the `ensures` of a function that does
+//! nothing.
+
+pub mod flashes;
+pub mod sealing;

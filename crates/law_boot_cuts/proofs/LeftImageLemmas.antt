@@ -1,0 +1,33 @@
+-- Which images stay where rows rise.
+use Rattle.std.proofs.Common.{◌≡◌, ℕ, ◌*◌, ◌/◌, Bool, length, Option, refl, sym, ap, ◌∙◌, subst, option_map}
+use Rattle.pico_board.specs.declared.boot.Cpu.{Cpu}
+use Rattle.pico_board.specs.declared.window.Window.{Window}
+use Rattle.pico_board.specs.Content.{Content, window_bytes}
+use Rattle.image_def.specs.declared.started.Started.{Started}
+use Rattle.otp_roll.specs.Flags.{slot_size}
+use Rattle.otp_roll.specs.Rows.{Rises}
+use Rattle.image_check.specs.Addressing.{in_flash}
+use Rattle.image_check.specs.NotBelow.{NotBelow}
+use Rattle.image_check.specs.Valid.{IsValidImage, Valid}
+use Rattle.image_check.proofs.LawLemmas.{not-below}
+use Rattle.image_check.proofs.RollbackLemmas.{raised-below, valid-elsewhere}
+use Rattle.slot_choice.specs.Units.{units}
+use Rattle.boot_rules.specs.declared.tables.Found.{Found}
+use Rattle.boot_rules.specs.Choosing.{boot_units_in}
+use Rattle.boot_rules.specs.Tables.{found_of, slot_window, table_in}
+use Rattle.boot_rules.proofs.TableLemmas.{slot_table}
+
+-- an image stays where the bytes of its window do and it is not below the rows
+pub image-kept : (c d : Content) (w : Window) (cpu : Cpu) (trial : Bool) (s : Started)
+    → window_bytes d w ≡ window_bytes c w → NotBelow d.otp s → Valid c w cpu trial s → Valid d w cpu trial s
+image-kept c d w cpu trial s bytes not v =
+    subst (λ those. IsValidImage in_flash w cpu trial d.otp those s) (sym bytes)
+    (valid-elsewhere in_flash w cpu trial c.otp d.otp (window_bytes c w) s v not)
+
+-- an image that is there on risen rows was there before
+pub image-back : (c d : Content) (w : Window) (cpu : Cpu) (trial : Bool) (s : Started)
+    → window_bytes d w ≡ window_bytes c w → Rises c.otp d.otp → Valid d w cpu trial s → Valid c w cpu trial s
+image-back c d w cpu trial s bytes rises v =
+    subst (λ those. IsValidImage in_flash w cpu trial c.otp those s) bytes
+    (valid-elsewhere in_flash w cpu trial d.otp c.otp (window_bytes d w) s v
+    (raised-below c.otp d.otp s rises (not-below in_flash w cpu trial d.otp (window_bytes d w) s v)))

@@ -1,0 +1,11 @@
+mod LeftRowLemmas
+pub mod LeftImageLemmas
+pub mod RaisesCutLemmas
+mod PairLemmas
+mod OwnStepLemmas
+mod OwnWindowLemmas
+mod OwnLeftLemmas
+mod OwnPickLemmas
+pub mod OwnDecisionLemmas
+pub mod OwnLaws
+pub mod ExampleLemmas

@@ -1,0 +1,128 @@
+//! Laws on power that is lost in what a boot or a buy writes. Each is a function that does nothing,
+//! whose contract is the law.
+
+ghost use Rattle.std.specs.Prelude.{◌≡◌, ◌⊎◌, ◌↔◌, ℕ, List, None, Some, false, true, slice_get};
+ghost use Rattle.block_codec.specs.Erased.{IsErasedFrom};
+ghost use Rattle.boot_rules.specs.Choosing.{boot_units_in};
+ghost use Rattle.boot_rules.specs.Chosen.{Chosen};
+ghost use Rattle.boot_rules.specs.Picking.{pick};
+ghost use Rattle.boot_rules.specs.Starts.{IsOfUnit};
+ghost use Rattle.boot_rules.specs.Tables.{table_in};
+ghost use Rattle.boot_rules.specs.declared.decision.Decision.{Decision};
+ghost use Rattle.boot_rules.specs.declared.decision.Decision.TheVariants.{Start};
+ghost use Rattle.boot_rules.specs.declared.tables.Found.{Found};
+ghost use Rattle.law_boot_cuts.specs.Crashes.{AreOwnSteps, LeavesNoAccidentalImage, IsUnitWindow, KeepsOtherRows, KeepsOtherTriples, PicksBought, StartsBought};
+ghost use Rattle.boot_rules.specs.AccidentalImages.{HasNoImage, IsSameImageIn, HasNoAccidentalImage};
+ghost use Rattle.image_check.specs.Changes.{bought};
+ghost use Rattle.image_check.specs.SameImage.{SameImage};
+ghost use Rattle.image_check.specs.Valid.{Valid};
+ghost use Rattle.image_def.specs.declared.started.Started.{Started};
+ghost use Rattle.pico_board.specs.Content.{Content, IsContent, window_bytes};
+ghost use Rattle.pico_board.specs.Sessions.{IsConfined};
+ghost use Rattle.pico_board.specs.Steps.{CutOf, IsCutAt, IsRaise, MayLeave, after_all};
+ghost use Rattle.pico_board.specs.declared.Step.{Step};
+ghost use Rattle.pico_board.specs.declared.Step.TheVariants.{Raise};
+ghost use Rattle.pico_board.specs.declared.boot.BootKind.{BootKind};
+ghost use Rattle.pico_board.specs.declared.boot.BootKind.TheVariants.{Normal, Update};
+ghost use Rattle.pico_board.specs.declared.boot.Cpu.{Cpu};
+ghost use Rattle.pico_board.specs.declared.window.Window.{Window};
+ghost use Rattle.slot_choice.specs.declared.choice.Choice.{Choice};
+ghost use Rattle.slot_choice.specs.declared.unit.SlotUnit.{SlotUnit};
+ghost use Rattle.slot_choice.specs.Updates.{updated_member};
+ghost use Rattle.trial_buy.specs.Buying.{buy_steps};
+ghost use Rattle.trial_buy.specs.Starting.{image_raises, start_steps};
+
+/// Where power is lost in the raises that a normal boot does, or an update of an address at which
+/// no member starts, the next normal boot starts the same image. The raises of any start, done or
+/// torn, leave what a boot of its kind decides, and the image's bytes.
+pub fn raises_cut()
+    ensures normal { (c : Content) (cpu : Cpu) (choice : Choice) (d : Content)
+        → IsContent c → Chosen c cpu Normal (Start choice) → CutOf c (start_steps c cpu choice) d
+        → Chosen d cpu Normal (Start choice) }
+    ensures nothing_updated { (c : Content) (cpu : Cpu) (base : ℕ) (choice : Choice) (d : Content)
+        → IsContent c → updated_member (boot_units_in c cpu) base ≡ None
+        → Chosen c cpu (Update base) (Start choice) → CutOf c (start_steps c cpu choice) d
+        → Chosen d cpu Normal (Start choice) }
+    ensures any_kind { (c : Content) (cpu : Cpu) (kind : BootKind) (choice : Choice) (d : Content)
+        → IsContent c → Chosen c cpu kind (Start choice)
+        → MayLeave c (image_raises c.otp choice.image) d → Chosen d cpu kind (Start choice) }
+    ensures bytes { (c : Content) (cpu : Cpu) (kind : BootKind) (choice : Choice) (d : Content)
+        → IsContent c → Chosen c cpu kind (Start choice)
+        → MayLeave c (image_raises c.otp choice.image) d → SameImage d c choice.image cpu }
+{}
+
+/// Where power is lost in the steps of an updated start, or of the buy of a running trial image,
+/// and a cut erase or program leaves no accidental image in the window that it writes
+/// (`LeavesNoAccidentalImage`), the pick of the started image's unit is the former one, or the
+/// started image with a clear trial bit, as after all steps, with the same bytes. Where the table
+/// is the former one too, also after all steps, and the steps raise no row that an image of
+/// another boot unit lists, the same holds of the whole decision of a normal boot.
+pub fn boots_own_writes()
+    ensures pick { (c : Content) (cpu : Cpu) (kind : BootKind) (choice : Choice) (u : SlotUnit)
+        (steps : List Step) (k : ℕ) (step : Step) (d : Content)
+        → IsContent c → Chosen c cpu kind (Start choice) → IsOfUnit c cpu choice u
+        → AreOwnSteps c cpu choice steps → IsCutAt c steps k step d
+        → LeavesNoAccidentalImage c (after_all c steps) d cpu choice step
+        → (pick d u cpu ≡ pick c u cpu) ⊎ PicksBought (after_all c steps) d u cpu choice }
+    ensures decision { (c : Content) (cpu : Cpu) (kind : BootKind) (choice : Choice) (u : SlotUnit)
+        (steps : List Step) (k : ℕ) (step : Step) (d : Content) (e : Decision)
+        → IsContent c → Chosen c cpu kind (Start choice) → IsOfUnit c cpu choice u
+        → AreOwnSteps c cpu choice steps → IsCutAt c steps k step d
+        → LeavesNoAccidentalImage c (after_all c steps) d cpu choice step
+        → table_in d ≡ table_in c → table_in (after_all c steps) ≡ table_in c
+        → KeepsOtherRows c cpu u steps
+        → Chosen c cpu Normal e
+        → Chosen d cpu Normal e ⊎ StartsBought (after_all c steps) d cpu choice }
+    ensures with_a_table { (c : Content) (cpu : Cpu) (kind : BootKind) (choice : Choice)
+        (u : SlotUnit) (found : Found)
+        (steps : List Step) (k : ℕ) (step : Step) (d : Content) (e : Decision)
+        → IsContent c → Chosen c cpu kind (Start choice) → IsOfUnit c cpu choice u
+        → table_in c ≡ Some found → AreOwnSteps c cpu choice steps → IsCutAt c steps k step d
+        → LeavesNoAccidentalImage c (after_all c steps) d cpu choice step
+        → KeepsOtherRows c cpu u steps
+        → Chosen c cpu Normal e
+        → Chosen d cpu Normal e ⊎ StartsBought (after_all c steps) d cpu choice }
+{}
+
+/// The steps raise no row that an image of another boot unit lists where no such image lists a row
+/// whose triple shares a row with a triple that they raise.
+pub fn triples_apart_keep_other_rows()
+    ensures { (c : Content) (cpu : Cpu) (kind : BootKind) (choice : Choice) (u : SlotUnit)
+        (steps : List Step)
+        → IsContent c → Chosen c cpu kind (Start choice) → AreOwnSteps c cpu choice steps
+        → KeepsOtherTriples c cpu choice u steps → KeepsOtherRows c cpu u steps }
+{}
+
+/// Where there is a table, the steps of an updated start or of a buy, done or torn, leave it.
+pub fn own_writes_keep_the_table()
+    ensures { (c : Content) (cpu : Cpu) (kind : BootKind) (choice : Choice) (steps : List Step)
+        (d : Content) (found : Found)
+        → IsContent c → Chosen c cpu kind (Start choice) → AreOwnSteps c cpu choice steps
+        → MayLeave c steps d → table_in c ≡ Some found → table_in d ≡ Some found }
+{}
+
+/// Each step of an updated start or of a buy is a raise, or an erase or program of a sector or
+/// page in the window of the started image or in the other one of its unit. Of a cut raise it is
+/// not asked that it leaves no accidental image.
+pub fn own_writes_keep_to_their_windows()
+    ensures windows { (c : Content) (cpu : Cpu) (kind : BootKind) (choice : Choice)
+        (steps : List Step) (k : ℕ) (step : Step)
+        → IsContent c → Chosen c cpu kind (Start choice) → AreOwnSteps c cpu choice steps
+        → slice_get steps k ≡ Some step
+        → IsRaise step ⊎ ((v : Window) × IsUnitWindow choice v × IsConfined v step) }
+    ensures raises { (c z d : Content) (cpu : Cpu) (choice : Choice) (row bits : ℕ)
+        → LeavesNoAccidentalImage c z d cpu choice (Raise row bits) }
+{}
+
+/// After all steps of an updated start of an image that is no trial the pick of the unit is that
+/// image; after those of a buy it is the bought image, with a clear trial bit.
+pub fn what_own_writes_leave()
+    ensures start { (c : Content) (cpu : Cpu) (kind : BootKind) (choice : Choice) (u : SlotUnit)
+        → IsContent c → Chosen c cpu kind (Start choice) → IsOfUnit c cpu choice u
+        → choice.updated ≡ true → choice.image.trial ≡ false
+        → pick (after_all c (start_steps c cpu choice)) u cpu ≡ Some choice.image }
+    ensures buy { (c : Content) (cpu : Cpu) (kind : BootKind) (choice : Choice) (u : SlotUnit)
+        → IsContent c → Chosen c cpu kind (Start choice) → IsOfUnit c cpu choice u
+        → choice.image.trial ≡ true
+        → pick (after_all c (buy_steps c cpu choice)) u cpu ≡ Some (bought choice.image) }
+{}

@@ -1,0 +1,113 @@
+//! Laws on the own writes of an image that runs. Each is a function that does nothing, whose
+//! contract is the law.
+
+ghost use Rattle.std.specs.Prelude.{◌≡◌, ◌≢◌, ◌⊎◌, ◌+◌, ℕ, List, Some, true};
+ghost use Rattle.pico_board.specs.Content.{Content, IsContent, flash_base};
+ghost use Rattle.pico_board.specs.Steps.{IsCutAt, after_all};
+ghost use Rattle.pico_board.specs.declared.Step.{Step};
+ghost use Rattle.pico_board.specs.declared.boot.BootKind.{BootKind};
+ghost use Rattle.pico_board.specs.declared.boot.BootKind.TheVariants.{Normal, Update};
+ghost use Rattle.pico_board.specs.declared.boot.Cpu.{Cpu};
+ghost use Rattle.slot_choice.specs.declared.choice.Choice.{Choice};
+ghost use Rattle.slot_choice.specs.declared.unit.SlotUnit.{SlotUnit};
+ghost use Rattle.trial_buy.specs.Starting.{start_steps};
+ghost use Rattle.boot_rules.specs.Chosen.{Chosen};
+ghost use Rattle.boot_rules.specs.Picking.{pick};
+ghost use Rattle.boot_rules.specs.Starts.{IsOfUnit};
+ghost use Rattle.boot_rules.specs.Tables.{table_in};
+ghost use Rattle.boot_rules.specs.declared.decision.Decision.{Decision};
+ghost use Rattle.boot_rules.specs.declared.decision.Decision.TheVariants.{Start};
+ghost use Rattle.boot_rules.specs.declared.tables.Found.{Found};
+ghost use Rattle.boot_script.specs.Events.{EventView};
+ghost use Rattle.boot_machine.specs.Boots.{decided_place};
+ghost use Rattle.law_boot_cuts.specs.Crashes.{AreOwnSteps, LeavesNoAccidentalImage, KeepsOtherRows, PicksBought, StartsBought, settled_choice};
+ghost use Rattle.boot_machine.specs.Machines.{FromFlash, MachineView, Off, Running};
+ghost use Rattle.boot_machine.specs.Moves.{Moves, lost_text};
+ghost use Rattle.law_buy_cuts.specs.Running.{LosesBuy, RunsTrial, StandsValid, buys};
+
+use boot_machine::laws::run::{a_running_trial_is_chosen, only_lost_power_says_so};
+use law_boot_cuts::laws::boots_own_writes;
+
+/// An updated image is one that a boot chooses exactly where it is valid in a member of a boot
+/// unit, with a trial allowed, and flash boot is not off: the update boot of its window chooses it
+/// then. So the laws on a boot's own writes ask for no more than that.
+pub fn a_valid_updated_image_is_chosen()
+    ensures valid { (c : Content) (cpu : Cpu) (choice : Choice) (u : SlotUnit) → IsContent c
+        → StandsValid c cpu choice u
+        → Chosen c cpu (Update (flash_base + choice.image.window.start)) (Start choice) }
+    ensures chosen { (c : Content) (cpu : Cpu) (kind : BootKind) (choice : Choice) → IsContent c
+        → Chosen c cpu kind (Start choice) → choice.updated ≡ true
+        → (u : SlotUnit) × StandsValid c cpu choice u }
+{}
+
+/// Where power is lost in the own writes of an updated image that is valid where it stands, and a
+/// cut erase or program leaves no accidental image (`LeavesNoAccidentalImage`), the pick of its
+/// unit is the former one or the image with a clear trial bit; with a table so is the decision of
+/// a normal boot, where no other unit's listed row is raised.
+pub fn own_writes_of_a_valid_image()
+    ensures pick { (c : Content) (cpu : Cpu) (choice : Choice) (u : SlotUnit)
+        (steps : List Step) (k : ℕ) (step : Step) (d : Content)
+        → IsContent c → StandsValid c cpu choice u
+        → AreOwnSteps c cpu choice steps → IsCutAt c steps k step d
+        → LeavesNoAccidentalImage c (after_all c steps) d cpu choice step
+        → (pick d u cpu ≡ pick c u cpu) ⊎ PicksBought (after_all c steps) d u cpu choice }
+    ensures decision { (c : Content) (cpu : Cpu) (choice : Choice) (u : SlotUnit)
+        (steps : List Step) (k : ℕ) (step : Step) (d : Content) (e : Decision)
+        → IsContent c → StandsValid c cpu choice u
+        → AreOwnSteps c cpu choice steps → IsCutAt c steps k step d
+        → LeavesNoAccidentalImage c (after_all c steps) d cpu choice step
+        → table_in d ≡ table_in c → table_in (after_all c steps) ≡ table_in c
+        → KeepsOtherRows c cpu u steps → Chosen c cpu Normal e
+        → Chosen d cpu Normal e ⊎ StartsBought (after_all c steps) d cpu choice }
+    ensures with_a_table { (c : Content) (cpu : Cpu) (choice : Choice) (u : SlotUnit)
+        (found : Found) (steps : List Step) (k : ℕ) (step : Step) (d : Content) (e : Decision)
+        → IsContent c → StandsValid c cpu choice u
+        → table_in c ≡ Some found → AreOwnSteps c cpu choice steps → IsCutAt c steps k step d
+        → LeavesNoAccidentalImage c (after_all c steps) d cpu choice step
+        → KeepsOtherRows c cpu u steps
+        → Chosen c cpu Normal e
+        → Chosen d cpu Normal e ⊎ StartsBought (after_all c steps) d cpu choice }
+{
+    boots_own_writes();
+}
+
+/// In every run that begins without power or in BOOTSEL as it is entered: where a trial image runs
+/// and power is lost in its buy, it is so in a step of the buy on the content as it is, and the
+/// image stands in a boot unit. Where the cut leaves no accidental image
+/// (`LeavesNoAccidentalImage`), the pick of that unit is the former one or the bought image; and
+/// with a table, where no other unit's listed row is raised, power that comes back leads where the
+/// former decision leads, or starts the bought image, as after a whole buy.
+pub fn a_buy_that_loses_power()
+    ensures steps { (m n o : MachineView) (choice : Choice) → RunsTrial m n choice
+        → Moves n EventView.Buy o lost_text
+        → (u : SlotUnit) × IsOfUnit n.content n.cpu choice u
+        × ((k : ℕ) × (step : Step) × IsCutAt n.content (buys n choice) k step o.content) }
+    ensures pick { (m n o : MachineView) (choice : Choice) (u : SlotUnit) (step : Step)
+        → LosesBuy m n o choice u step
+        → (pick o.content u n.cpu ≡ pick n.content u n.cpu)
+        ⊎ PicksBought (after_all n.content (buys n choice)) o.content u n.cpu choice }
+    ensures next { (m n o p : MachineView) (choice : Choice) (u : SlotUnit) (step : Step)
+        (found : Found) (e : Decision) (line : List ℕ) → LosesBuy m n o choice u step
+        → table_in n.content ≡ Some found → KeepsOtherRows n.content n.cpu u (buys n choice)
+        → Chosen n.content n.cpu Normal e
+        → Moves o EventView.PowerOn p line → line ≢ lost_text
+        → (p.place ≡ decided_place o.content e)
+        ⊎ ((p.place ≡ Running (FromFlash (settled_choice choice)))
+        × StartsBought (after_all n.content (buys n choice)) o.content n.cpu choice) }
+{
+    a_running_trial_is_chosen();
+    boots_own_writes();
+    only_lost_power_says_so();
+}
+
+/// A reset chooses on the content on which it writes: where it loses power, it is so in a step of
+/// the start that it chose there. So the laws on a boot's own writes hold of it without more.
+pub fn a_reset_that_loses_power()
+    ensures { (m o : MachineView) (kind : BootKind) (choice : Choice) → m.place ≢ Off
+        → Chosen m.content m.cpu kind (Start choice)
+        → Moves m (EventView.Reset kind) o lost_text
+        → (k : ℕ) × (step : Step)
+        × IsCutAt m.content (start_steps m.content m.cpu choice) k step o.content }
+{
+    only_lost_power_says_so();
+}

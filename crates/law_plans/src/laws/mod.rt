@@ -1,0 +1,5 @@
+//! The laws of this crate, one module a subject.
+
+pub mod firm;
+pub mod plans;
+pub mod written;

@@ -1,0 +1,6 @@
+//! Where a download of a UF2 family goes, in the words of its rules, and which targets are boot
+//! members.
+#![tactic(auto)]
+
+pub mod examples;
+pub mod laws;

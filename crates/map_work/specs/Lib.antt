@@ -1,4 +1,0 @@
-pub mod Texts
-pub mod Works
-pub mod Rules
-pub mod Examples

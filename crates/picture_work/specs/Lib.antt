@@ -1,2 +1,0 @@
-pub mod ChartWorks
-pub mod Rules

@@ -1,7 +1,0 @@
-use Rattle.std.proofs.Common.{◌≡◌, ◌++◌, drop, string_bytes}
-use Rattle.reason_work.specs.Partitions.{partition_lines}
-use Rattle.reason_work.proofs.partitions.partition_lines.Given as goal
-
-abbrev pub invariant-loop-number : goal.invariant-loop-number
-invariant-loop-number l = string_bytes l.text ++ partition_lines l.number (drop l.number l.parts)
-    ≡ partition_lines 0 l.parts

@@ -1,5 +1,0 @@
-pub mod Partitions
-pub mod Texts
-pub mod Works
-pub mod Rules
-pub mod Examples

@@ -1,6 +1,0 @@
-use Rattle.run_forms.proofs.JsonLemmas.{exact-spec}
-use Rattle.run_forms.proofs.json.exact_spec.Goals as goal
-
-pub returns : goal.returns
-returns c =
-    exact-spec c.args.text.now c.spec_of.result c.spec_of.ensures.spec c.spec_of.ensures.first c.spec_of.ensures.exact

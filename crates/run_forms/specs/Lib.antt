@@ -1,6 +1,0 @@
-pub mod JsonTexts
-pub mod Jsons
-pub mod Forms
-pub mod Inputs
-pub mod Rules
-pub mod Views

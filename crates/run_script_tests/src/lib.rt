@@ -1,9 +1,0 @@
-//! Tests of the program's top call: of the commands that play, list and write scripts. They show
-//! what no clause says: that each status comes with ample memory, and texts that were worked out by
-//! hand.
-#![tactic(auto)]
-
-#[cfg(test)]
-mod replays;
-#[cfg(test)]
-mod texts;

@@ -1,6 +1,0 @@
-//! Tests of the program's top call: of the commands on lost power. They show what no clause says:
-//! that each status comes with ample memory, and texts that were worked out by hand.
-#![tactic(auto)]
-
-#[cfg(test)]
-mod sweeps;

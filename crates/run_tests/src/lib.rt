@@ -1,9 +1,0 @@
-//! Tests of the program's top call: of the usage, and of how each command ends where a call fails.
-//! They show what no clause says: that each status comes with ample memory, and texts that were
-//! worked out by hand.
-#![tactic(auto)]
-
-#[cfg(test)]
-mod failures;
-#[cfg(test)]
-mod usage;

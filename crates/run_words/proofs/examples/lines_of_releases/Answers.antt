@@ -1,7 +1,0 @@
-use Rattle.std.proofs.Common.{refl}
-use Rattle.run_words.specs.Usages.{release_line}
-use Rattle.run_words.proofs.examples.lines_of_releases.Goals as goal
-
-pub returns : goal.returns
-unfolding release_line
-returns c = refl

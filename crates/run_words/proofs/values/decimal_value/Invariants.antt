@@ -1,9 +1,0 @@
-use Rattle.std.proofs.Common.{◌≡◌, ◌<◌, ◌^◌, drop}
-use Rattle.run_words.specs.Values.{decimal_value}
-use Rattle.run_words.proofs.values.decimal_value.Given as goal
-
-abbrev pub invariant-loop-code : goal.invariant-loop-code
-invariant-loop-code l = record {
-  same : decimal_value 0 l.digits ≡ decimal_value l.number (drop l.code-index l.digits);
-  small : l.number < 10 ^ l.code-index;
-}

@@ -1,0 +1,99 @@
+-- The script by which a host writes an image into a window and starts it, with the window's first
+-- sector last. The commands are of the RP2350 Datasheet, chapter 5 (Bootrom, the PICOBOOT
+-- interface); the plan is this project's own.
+use Rattle.std.specs.Prelude.{◌≡◌, ℕ, ◌+◌, ◌*◌, ◌/◌, ◌%◌, ◌≤◌, nat_lt, if◌then◌else◌, List, [], ◌∷◌, ◌++◌, length, take, drop}
+use Rattle.std.specs.List.{flat_map}
+use Rattle.byteorder.specs.Endian.{little_bytes}
+use Rattle.pico_board.specs.declared.window.TheConstants.{MOST_FLASH_BYTES}
+use Rattle.pico_board.specs.declared.window.Window.{Window}
+use Rattle.pico_board.specs.declared.boot.BootKind.TheVariants.{Bootsel}
+use Rattle.pico_board.specs.Content.{flash_base}
+use Rattle.picoboot_cmd.specs.declared.cmd.Cmd.{Cmd}
+use Rattle.picoboot_cmd.specs.declared.kinds.TheConstants.{ERASE, REBOOT, WRITE}
+use Rattle.picoboot_cmd.specs.Commands as commands
+use Rattle.boot_script.specs.Events.{EventView, Command, End, PowerOn, Reset}
+use Rattle.boot_script.specs.Written.{written_event}
+
+-- the number of bytes of as many whole sectors as n bytes need
+abbrev pub in_sectors : ℕ → ℕ
+in_sectors n = 4096 * ((n + 4095) / 4096)
+
+-- a window of whole sectors that ends at or below the most bytes of a flash
+pub record IsPlanned (w : Window) : Type 0 where
+  pub start : w.start % 4096 ≡ 0
+  pub len : w.len % 4096 ≡ 0
+  pub low : w.start + w.len ≤ MOST_FLASH_BYTES
+
+-- three words as arguments, and a word 0
+abbrev pub words_args : ℕ → ℕ → ℕ → List ℕ
+words_args first second third =
+    little_bytes 4 first
+    ++ (little_bytes 4 second ++ (little_bytes 4 third ++ little_bytes 4 0))
+
+-- the arguments of an erase or a write at a flash offset: its address and its size
+abbrev pub range_args : ℕ → ℕ → List ℕ
+range_args at size = words_args (flash_base + at) size 0
+
+-- the command that erases `size` bytes at a flash offset
+abbrev pub erase_cmd : ℕ → ℕ → ℕ → Cmd
+erase_cmd token at size = record {
+  token = token;
+  id = ERASE;
+  arg_size = 8;
+  transfer = 0;
+  args = range_args at size;
+}
+
+-- the command that writes `size` bytes at a flash offset
+abbrev pub write_cmd : ℕ → ℕ → ℕ → Cmd
+write_cmd token at size = record {
+  token = token;
+  id = WRITE;
+  arg_size = 8;
+  transfer = size;
+  args = range_args at size;
+}
+
+-- the command that reboots into an update of the region at a flash offset: flags 4, no delay, and
+-- the address as p0
+abbrev pub update_cmd : ℕ → ℕ → Cmd
+update_cmd token at = record {
+  token = token;
+  id = REBOOT;
+  arg_size = 16;
+  transfer = 0;
+  args = words_args 4 0 (flash_base + at);
+}
+
+-- a command and its payload as an event
+unfoldable pub sent : Cmd → List ℕ → EventView
+sent cmd payload = Command (commands.written_command cmd) payload
+
+-- the rest of an image behind its first sector: its sectors are erased, and it is written
+abbrev pub rest_events : ℕ → List ℕ → List EventView
+rest_events at rest =
+    sent (erase_cmd 2 at (in_sectors (length rest))) []
+    ∷ sent (write_cmd 3 at (length rest)) rest ∷ []
+
+-- the bytes of the first sector are written, and the board reboots into the update
+abbrev pub last_events : ℕ → ℕ → List ℕ → List EventView
+last_events token at first =
+    sent (write_cmd token at (length first)) first ∷ sent (update_cmd (token + 1) at) [] ∷ []
+
+-- what follows the erase of the first sector; tokens count from 1
+abbrev pub write_events : ℕ → List ℕ → List EventView
+write_events at image =
+    if nat_lt 4096 (length image)
+    then rest_events (at + 4096) (drop 4096 image) ++ last_events 4 at (take 4096 image)
+    else last_events 2 at (take 4096 image)
+
+-- the events that write an image at a flash offset: the power comes on, the board is reset to
+-- BOOTSEL, the first sector is erased, the rest is erased and written, and the first sector is
+-- written last
+abbrev pub plan_events : ℕ → List ℕ → List EventView
+plan_events at image =
+    PowerOn ∷ Reset Bootsel ∷ sent (erase_cmd 1 at 4096) [] ∷ write_events at image
+
+-- the script of these events, which ends behind them
+abbrev pub plan_text : ℕ → List ℕ → List ℕ
+plan_text at image = flat_map written_event (plan_events at image) ++ written_event End

@@ -1,4 +1,0 @@
-pub mod PlayLemmas
-mod ReplayLemmas
-mod TornLemmas
-pub mod ReplayRuleLemmas

@@ -1,5 +1,0 @@
-use Rattle.script_work.proofs.ReplayLemmas.{pool-free}
-use Rattle.script_work.proofs.replaying.machine_of.Goals as goal
-
-pub new-requires-clause-leases : goal.new-requires-clause-leases
-new-requires-clause-leases c = pool-free c.in_ok-pool.pool c.in_ok-pool.ensures

@@ -1,4 +1,0 @@
-pub mod Replays
-pub mod Works
-pub mod Rules
-pub mod Examples

@@ -1,8 +1,0 @@
-use Rattle.sealed_laws.proofs.FirmFlashLemmas.{firm-alone_on, firm-bytes_on, never-required}
-use Rattle.sealed_laws.proofs.firm_examples.a_firm_image_on_two_flashes.Goals as goal
-
-pub returns-clause-firm : goal.returns-clause-firm
-returns-clause-firm c = firm-alone_on
-
-pub returns-clause-required : goal.returns-clause-required
-returns-clause-required c = (firm-bytes_on 1, never-required)

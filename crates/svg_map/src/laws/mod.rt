@@ -1,0 +1,37 @@
+//! Laws of pictures of a flash, each the contract of a function that does nothing.
+
+ghost use Rattle.std.specs.Prelude.{◌≡◌, ℕ, List, length, map, true};
+ghost use Rattle.std.specs.List.{flat_map, list_all};
+ghost use Rattle.svg_marks.specs.declared.class.Class.{Class};
+ghost use Rattle.svg_marks.specs.declared.class.Class.TheVariants.{Window, Row, Join};
+ghost use Rattle.svg_marks.specs.Marks.{class_text, escaped, picture_text};
+ghost use Rattle.svg_marks.specs.Reading.{marks_in, times};
+ghost use Rattle.svg_marks.specs.Texts.{is_printed_text, is_written};
+ghost use Rattle.svg_map.specs.Maps.{MapBarView, counted_in_map, map_picture};
+
+/// The marks of a class that stand in the bytes of a picture are those of its windows, in their
+/// order, each with its words; and the class, written as in `class="window"`, stands there as
+/// often, and nowhere else.
+pub fn marks_are_those_of_the_windows()
+    ensures words { (class : Class) (flash : ℕ) (bars : List MapBarView) (desc : List ℕ)
+        → marks_in class (picture_text (map_picture flash bars desc))
+        ≡ map escaped (counted_in_map class bars) }
+    ensures count { (class : Class) (flash : ℕ) (bars : List MapBarView) (desc : List ℕ)
+        → times (class_text class) (picture_text (map_picture flash bars desc))
+        ≡ length (counted_in_map class bars) }
+{}
+
+/// Each window has one rectangle, one row and one line that joins them.
+pub fn each_window_has_its_marks()
+    ensures windows { (bars : List MapBarView) → length (counted_in_map Window bars) ≡ length bars }
+    ensures rows { (bars : List MapBarView) → length (counted_in_map Row bars) ≡ length bars }
+    ensures joins { (bars : List MapBarView) → length (counted_in_map Join bars) ≡ length bars }
+{}
+
+/// Where what is said of windows, and what the picture shows, have bytes from the blank to the
+/// tilde alone, the picture's bytes are such ones and line feeds.
+pub fn pictures_of_texts_are_ascii()
+    ensures { (flash : ℕ) (bars : List MapBarView) (desc : List ℕ) → is_printed_text desc ≡ true
+        → is_printed_text (flat_map (λ (bar : MapBarView). bar.words) bars) ≡ true
+        → list_all is_written (picture_text (map_picture flash bars desc)) ≡ true }
+{}

@@ -1,0 +1,21 @@
+use Rattle.std.proofs.Common.{refl}
+use Rattle.std.specs.Fmt.{char_count, digits, padded_integral}
+use Rattle.svg_sweep.specs.Charts.{chart_words, kind_title, legend_text, run_title, run_span_text}
+use Rattle.svg_sweep.specs.Runs.{runs}
+use Rattle.svg_sweep.proofs.examples.a_chart_of_no_steps.Goals as goal
+
+pub returns-clause-former : goal.returns-clause-former
+unfolding runs chart_words kind_title legend_text run_title run_span_text digits padded_integral char_count
+returns-clause-former c = refl
+
+pub returns-clause-erase : goal.returns-clause-erase
+unfolding runs chart_words kind_title legend_text run_title run_span_text digits padded_integral char_count
+returns-clause-erase c = refl
+
+pub returns-clause-legend : goal.returns-clause-legend
+unfolding runs chart_words kind_title legend_text run_title run_span_text digits padded_integral char_count
+returns-clause-legend c = refl
+
+pub returns-clause-words : goal.returns-clause-words
+unfolding runs chart_words kind_title legend_text run_title run_span_text digits padded_integral char_count
+returns-clause-words c = refl

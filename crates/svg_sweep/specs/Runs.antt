@@ -1,0 +1,65 @@
+-- Runs of steps.
+use Rattle.std.specs.Prelude.{◌≡◌, ◌≢◌, ⊤, ℕ, ◌+◌, ◌≤◌, Bool, true, false, not, List, [], ◌∷◌, count_by, length, slice_get, Option, Some, None}
+use Rattle.svg_marks.specs.declared.class.Class.{Class}
+use Rattle.svg_marks.specs.declared.class.Class.TheVariants.{Chance}
+use Rattle.svg_marks.specs.Reading.{is_class}
+use Rattle.svg_sweep.specs.declared.runs.Run.{Run}
+
+-- each step of a run has its class
+pub record IsRun (classes : List Class) (run : Run) : Type 0 where
+  pub some : run.first ≤ run.last
+  pub same : (i : ℕ) → run.first ≤ i → i ≤ run.last → slice_get classes i ≡ Some run.class
+
+-- the next run, if there is one, has another class
+abbrev pub IsOther : Class → List Run → Type 0
+IsOther class [] = ⊤
+IsOther class (run ∷ runs) = class ≢ run.class
+
+-- runs that follow one another from the step k on up to the last step, neighbours of which differ
+abbrev pub AreRunsFrom : List Class → ℕ → List Run → Type 0
+AreRunsFrom classes k [] = k ≡ length classes
+AreRunsFrom classes k (run ∷ runs) =
+    (run.first ≡ k) × IsRun classes run × IsOther run.class runs
+    × AreRunsFrom classes (run.last + 1) runs
+
+-- The runs of steps with these classes: in their order they are all the steps, each has one class,
+-- and neighbours differ. So each is as long as can be.
+abbrev pub AreRuns : List Class → List Run → Type 0
+AreRuns classes runs = AreRunsFrom classes 0 runs
+
+-- a run of this class ends before the next step, if there is one
+abbrev pub ends_run : Class → Option Class → Bool
+ends_run class None = true
+ends_run class (Some next) = not (is_class class next)
+
+abbrev pub first_of : List Class → Option Class
+first_of [] = None
+first_of (class ∷ classes) = Some class
+
+abbrev pub next_first : Bool → ℕ → ℕ → ℕ
+next_first true first k = k + 1
+next_first false first k = first
+
+abbrev pub run_by : Bool → Run → List Run → List Run
+run_by true run runs = run ∷ runs
+run_by false run runs = runs
+
+-- the runs of steps of which the first has number k, where a run has begun at a step before it
+abbrev pub runs_from : ℕ → ℕ → List Class → List Run
+runs_from first k [] = []
+runs_from first k (class ∷ classes) =
+    run_by (ends_run class (first_of classes)) (record { first = first; last = k; class = class })
+    (runs_from (next_first (ends_run class (first_of classes)) first k) (k + 1) classes)
+
+-- the runs of steps with these classes
+unfoldable pub runs : List Class → List Run
+runs classes = runs_from 0 0 classes
+
+-- the runs of result `chance`
+abbrev pub chance_runs : List Run → List Run
+chance_runs [] = []
+chance_runs (run ∷ runs) = run_by (is_class Chance run.class) run (chance_runs runs)
+
+-- how many of the classes are this one
+abbrev pub class_count : Class → List Class → ℕ
+class_count class classes = count_by (is_class class) classes

@@ -1,8 +1,0 @@
-use Rattle.svg_text.proofs.PictureLemmas.{picture-reads, picture-times}
-use Rattle.svg_text.proofs.laws.marks_are_those_of_the_data.Goals as goal
-
-pub returns-clause-words : goal.returns-clause-words
-returns-clause-words c = picture-reads
-
-pub returns-clause-count : goal.returns-clause-count
-returns-clause-count c = picture-times

@@ -1,3 +1,0 @@
-mod FirmnessLemmas
-pub mod SweepRuleLemmas
-pub mod FirmRuleLemmas

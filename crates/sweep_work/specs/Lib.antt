@@ -1,4 +1,0 @@
-pub mod SweepWorks
-pub mod Firmness
-pub mod FirmWorks
-pub mod Rules

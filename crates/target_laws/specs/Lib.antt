@@ -1,6 +1,0 @@
-pub mod Pairs
-pub mod Loads
-pub mod Taking
-pub mod TargetRules
-pub mod HomeRules
-pub mod Examples

@@ -1,5 +1,0 @@
-//! Where a download of a UF2 family goes, in the words of its rules, and which targets are homes.
-#![tactic(auto)]
-
-pub mod examples;
-pub mod laws;

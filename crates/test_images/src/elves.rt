@@ -1,0 +1,169 @@
+//! The calls with ample memory. The digests are those of files that were made outside this program.
+
+use crate::fixtures::{BLOCK, LEAST_SEALED, sha256, spec};
+use elf_pack::{ElfFault, elf_binary, elf_image};
+use image_pack::SealSpec;
+use pico_board::Cpu;
+use std::alloc::{AllocError, Global};
+use std::process::Abort;
+use std::test::Fail;
+
+/// The digest of the binary of sixteen bytes in SRAM.
+const IN_SRAM: [u8; 32] = [
+    0x04, 0x19, 0xcd, 0x3c, 0xf9, 0x43, 0xd6, 0x9d, 0xe9, 0x29, 0xcd, 0xd4, 0xed, 0x33, 0xc5, 0x79,
+    0x55, 0x62, 0x2e, 0x90, 0xd1, 0xea, 0xdd, 0xe4, 0xf6, 0x01, 0x01, 0x4b, 0x8a, 0x3a, 0xef, 0x42,
+];
+
+/// The digest of the binary of sixteen bytes in SRAM, sealed for Arm with version 1.0.
+const SRAM_SEALED: [u8; 32] = [
+    0xe5, 0xd7, 0xd5, 0xa9, 0xc2, 0xba, 0x0e, 0x94, 0xec, 0x51, 0xc3, 0xd9, 0x64, 0x65, 0xf3, 0xe0,
+    0xa7, 0x05, 0x0c, 0xbe, 0x32, 0x31, 0x26, 0x8a, 0x0c, 0x03, 0x79, 0x8b, 0x5f, 0x2c, 0x5d, 0xb1,
+];
+
+/// The binary for RISC-V of three segments in SRAM, of 5, 1 and 8 bytes.
+const THREE_IN_SRAM: [u8; 32] = [
+    0xe8, 0x01, 0x70, 0x6c, 0xb6, 0x0c, 0x11, 0xae, 0x87, 0xcb, 0x65, 0xa9, 0x87, 0x2f, 0x68, 0xf0,
+    0x48, 0x71, 0x05, 0x9a, 0x0b, 0x23, 0x5f, 0x54, 0xac, 0xcb, 0x24, 0xe8, 0x0e, 0x64, 0x91, 0xa9,
+];
+
+/// Sixteen bytes.
+const BYTES: [u8; 16] = [0, 1, 2, 3, 4, 5, 6, 7, 8, 9, 10, 11, 12, 13, 14, 15];
+
+/// The machine of Arm, and that of RISC-V.
+const ARM: u16 = 40;
+
+const RISCV: u16 = 243;
+
+/// The head of a file, before its program headers.
+fn put_head(
+    file: &mut Vec<u8>,
+    machine: u16,
+    entry: u32,
+    size: u16,
+    count: u16,
+) -> Result<(), AllocError> {
+    file.extend_from_slice(&[0x7f, b'E', b'L', b'F', 1, 1, 1, 0])?;
+    file.resize(16, 0)?;
+    file.extend_from_slice(&2u16.to_le_bytes())?;
+    file.extend_from_slice(&machine.to_le_bytes())?;
+    file.extend_from_slice(&1u32.to_le_bytes())?;
+    file.extend_from_slice(&entry.to_le_bytes())?;
+    file.extend_from_slice(&52u32.to_le_bytes())?;
+    file.resize(42, 0)?;
+    file.extend_from_slice(&size.to_le_bytes())?;
+    file.extend_from_slice(&count.to_le_bytes())?;
+    file.extend_from_slice(&40u16.to_le_bytes())?;
+    file.resize(52, 0)
+}
+
+/// A file for this machine with this entry, these program headers of a type, an offset, a physical
+/// address and a size each, and these bytes behind them.
+fn file(
+    alloc: Global,
+    machine: u16,
+    entry: u32,
+    headers: &[[u32; 4]],
+    bytes: &[u8],
+) -> Result<Vec<u8>, AllocError> {
+    let mut file = Vec::new(alloc);
+    put_head(&mut file, machine, entry, 32, headers.len().min(99) as u16)?;
+    for [kind, offset, address, size] in headers {
+        for word in [*kind, *offset, 0, *address, *size, 0, 0, 0] {
+            file.extend_from_slice(&word.to_le_bytes())?;
+        }
+    }
+    file.extend_from_slice(bytes)?;
+    Ok(file)
+}
+
+/// The least image for Arm: SP and PC, and the least block at 0x114.
+fn least_image(alloc: Global) -> Result<Vec<u8>, AllocError> {
+    let mut bytes = Vec::new(alloc);
+    for word in [0x2008_2000u32, 0x1000_0201] {
+        bytes.extend_from_slice(&word.to_le_bytes())?;
+    }
+    bytes.resize(0x114, 0xff)?;
+    for word in BLOCK {
+        bytes.extend_from_slice(&word.to_le_bytes())?;
+    }
+    Ok(bytes)
+}
+
+/// The most bytes that a file may have.
+const MOST_BYTES: usize = 67_108_864;
+
+/// What `elf_binary` answers of a file, which has no more bytes than it may have.
+fn binary_of(alloc: Global, elf: &[u8], cpu: Cpu, out: &mut Vec<u8>) -> Result<(), ElfFault> {
+    if elf.len() > MOST_BYTES {
+        return Err(ElfFault::Memory);
+    }
+    elf_binary(alloc, elf, cpu, out)
+}
+
+/// What `elf_image` answers of such a file.
+fn image_of(
+    alloc: Global,
+    elf: &[u8],
+    spec: &SealSpec,
+    out: &mut Vec<u8>,
+) -> Result<u32, ElfFault> {
+    if elf.len() > MOST_BYTES {
+        return Err(ElfFault::Memory);
+    }
+    elf_image(alloc, elf, spec, out)
+}
+
+#[test]
+fn a_flash_segment_gives_its_bytes_and_their_sealed_image(rt: HostRuntime) -> Result<(), Fail> {
+    let alloc = rt.alloc();
+    let least = least_image(alloc)?;
+    let elf = file(
+        alloc,
+        ARM,
+        0x1000_0201,
+        &[[1, 84, 0x1000_0000, 296]],
+        &least,
+    )?;
+    let mut binary = Vec::new(alloc);
+    assert_eq!(rt; binary_of(alloc, &elf, Cpu::Arm, &mut binary), Ok(()));
+    assert_eq!(rt; binary.as_slice(), least.as_slice());
+    let mut sealed = Vec::new(alloc);
+    assert_eq!(rt; image_of(alloc, &elf, &spec(9), &mut sealed), Ok(0x128));
+    assert_eq!(rt; sealed.len(), 384);
+    assert_eq!(rt; sha256(&sealed), LEAST_SEALED);
+    Ok(())
+}
+
+#[test]
+fn an_sram_segment_is_stored_behind_a_block_that_loads_it(rt: HostRuntime) -> Result<(), Fail> {
+    let alloc = rt.alloc();
+    let elf = file(alloc, ARM, 0x2000_0001, &[[1, 84, 0x2000_0000, 16]], &BYTES)?;
+    let mut binary = Vec::new(alloc);
+    assert_eq!(rt; binary_of(alloc, &elf, Cpu::Arm, &mut binary), Ok(()));
+    assert_eq!(rt; binary.len(), 0x290);
+    assert_eq!(rt; sha256(&binary), IN_SRAM);
+    let mut sealed = Vec::new(alloc);
+    assert_eq!(rt; image_of(alloc, &elf, &spec(0), &mut sealed), Ok(0x290));
+    assert_eq!(rt; sealed.len(), 768);
+    assert_eq!(rt; sha256(&sealed), SRAM_SEALED);
+    Ok(())
+}
+
+#[test]
+fn sram_segments_are_stored_in_header_order_in_whole_words(rt: HostRuntime) -> Result<(), Fail> {
+    let alloc = rt.alloc();
+    let headers = [
+        [1, 212, 0x2000_0100, 5],
+        [4, 0, 0, 2],
+        [1, 219, 0x2007_ffff, 1],
+        [1, 0, 0x2000_0000, 0],
+        [1, 220, 0x2000_0008, 8],
+    ];
+    let bytes = [0, 1, 2, 3, 4, 99, 99, 7, 8, 9, 10, 11, 12, 13, 14, 15];
+    let elf = file(alloc, RISCV, 0x2000_0008, &headers, &bytes)?;
+    let mut binary = Vec::new(alloc);
+    assert_eq!(rt; binary_of(alloc, &elf, Cpu::Riscv, &mut binary), Ok(()));
+    assert_eq!(rt; binary.len(), 660);
+    assert_eq!(rt; sha256(&binary), THREE_IN_SRAM);
+    Ok(())
+}

@@ -1,0 +1,22 @@
+//! Tests of blocks, definitions, load maps and the check of an image, of the calls that make
+//! images, tables and sealed images, and of those that write and start an image in RAM: that they
+//! answer what was worked out by hand, with ample memory. The digests are those of files that were
+//! made outside this program.
+#![tactic(auto)]
+
+#[cfg(test)]
+mod blocks;
+#[cfg(test)]
+mod checks;
+#[cfg(test)]
+mod elves;
+#[cfg(test)]
+mod fixtures;
+#[cfg(test)]
+mod making;
+#[cfg(test)]
+mod maps;
+#[cfg(test)]
+mod starts;
+#[cfg(test)]
+mod texts;

@@ -1,4 +1,0 @@
-mod LoneLemmas
-pub mod TextRuleLemmas
-mod BlockLemmas
-pub mod CopyRuleLemmas

@@ -1,3 +1,0 @@
-pub mod TextWorks
-pub mod Copies
-pub mod Rules
