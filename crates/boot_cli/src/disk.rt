@@ -5,21 +5,23 @@ ghost use Rattle.std.specs.Prelude.{◌≡◌};
 #[cfg(test)]
 mod tests;
 
-use crate::pieces::{read_to_limit, write_whole};
+use crate::pieces::read_to_limit;
+use crate::replacing::replace;
 use pico_board::{Store, StoreFail};
-use std::fs;
-use std::rt::Files;
+use std::fs::{self, Files};
+use std::io::ErrorKind;
 
-/// The files of the machine, by path. Each error of the system, and each write that takes no byte,
-/// counts as a fault.
+/// The files of the machine, by path. Each error of the system but an interrupted call, and each
+/// write that takes no byte, counts as a fault. After a write that failed a regular file has its
+/// old bytes.
 #[derive(Drop)]
-pub struct Disk<'a, R: Files> {
+pub struct Disk<'a, R: Files + AllocGlobal> {
     files: &'a R,
     read_faults: u64,
     write_faults: u64,
 }
 
-impl<'a, R: Files> Disk<'a, R> {
+impl<'a, R: Files + AllocGlobal> Disk<'a, R> {
     /// The files as the runtime has them, with no fault counted.
     pub fn new(files: &'a R) -> Disk<'a, R>
         ensures { (result.read_faults ≡ 0) × (result.write_faults ≡ 0) }
@@ -32,7 +34,7 @@ impl<'a, R: Files> Disk<'a, R> {
     }
 }
 
-impl<R: Files> Store for Disk<'_, R> {
+impl<R: Files + AllocGlobal> Store for Disk<'_, R> {
     ghost use Rattle.std.specs.Prelude.{None, false};
 
     ghost state = { λ disk. record {
@@ -57,15 +59,13 @@ impl<R: Files> Store for Disk<'_, R> {
     }
 
     fn write(&mut self, name: &str, bytes: &[u8]) -> Result<(), StoreFail> {
-        let is_written = match fs::create(self.files, name) {
-            Ok(mut file) => write_whole(&mut file, bytes),
-            Err(_) => false,
-        };
-        if is_written {
-            Ok(())
-        } else {
-            self.write_faults = self.write_faults.saturating_add(1);
-            Err(StoreFail::Fault)
+        match replace(self.files, name, bytes) {
+            Ok(()) => Ok(()),
+            Err(error) if error.kind() == ErrorKind::OutOfMemory => Err(StoreFail::Memory),
+            Err(_) => {
+                self.write_faults = self.write_faults.saturating_add(1);
+                Err(StoreFail::Fault)
+            }
         }
     }
 }

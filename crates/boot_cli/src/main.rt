@@ -5,6 +5,7 @@
 mod console;
 mod disk;
 mod pieces;
+mod replacing;
 #[cfg(test)]
 mod tests;
 

@@ -1,17 +1,37 @@
-//! Bytes in pieces: a reader until it ends, and a writer until it has taken all.
+//! Bytes in pieces: a reader until it ends, and a writer until it has taken all. A call that a
+//! signal interrupts is made again.
 
 #[cfg(test)]
 mod tests;
 
 ghost use Rattle.std.specs.Prelude.{◌≡◌, ◌⊎◌, ◌<◌, ◌≤◌, ◌+◌, [], length, take, true, false, Ok, IsTrue, IsFalse, IfSome, OnOk};
-ghost use Rattle.std.specs.Io.KnownBytes.{Appends, IsAtEnd};
+ghost use Rattle.std.specs.Io.KnownBytes.{Appends, Consumes, IsAtEnd};
 ghost use Rattle.boot_cli.specs.Pieces.{TakesFrom, AppendsInPart};
 
 use pico_board::StoreFail;
-use std::io::{Read, Write};
+use std::io::{ErrorKind, Read, Write};
 
 /// The bytes that are read of a file at once.
 const PIECE: usize = 65536;
+
+/// Reads once, and again where a signal interrupts the read. The answer is how many bytes were
+/// read; None where the reader answers another error.
+fn read_again<R: Read>(reader: &mut R, buffer: &mut [u8]) -> Option<usize>
+    ensures most { IfSome result (λ count. count ≤ length buffer.new) }
+    ensures next { IfSome result (λ count. Consumes (R.remaining reader.old)
+        (R.remaining reader.new) (take count buffer.new)) }
+    ensures last { IfSome result
+        (λ count. count ≡ 0 → 0 < length buffer.old → IsAtEnd (R.remaining reader.new)) }
+{
+    for _ in 0..u64::MAX {
+        match reader.read(buffer) {
+            Ok(count) => return Some(count),
+            Err(error) if error.kind() == ErrorKind::Interrupted => {}
+            Err(_) => return None,
+        }
+    }
+    None
+}
 
 /// Reads the next bytes, at most so many in all and at most as many as the buffer has now, to the
 /// end of `into`. The answer is whether there may be more. An error of the reader is a fault.
@@ -35,7 +55,7 @@ fn read_piece<R: Read>(
     if room == 0 {
         return Ok(false);
     }
-    let Ok(count) = reader.read(&mut buffer[..room]) else {
+    let Some(count) = read_again(reader, &mut buffer[..room]) else {
         return Err(StoreFail::Fault);
     };
     match into.extend_from_slice(&buffer[..count]) {
@@ -91,16 +111,21 @@ pub fn read_to_limit<R: Read>(
     read_up_to(reader, limit as usize + 1, into)
 }
 
-/// Writes some of the bytes, and answers how many the writer took: none where it answers an error.
+/// Writes some of the bytes, again where a signal interrupts the write, and answers how many the
+/// writer took: none where it answers another error.
 fn write_piece<W: Write>(writer: &mut W, bytes: &[u8]) -> usize
     ensures most { result ≤ length bytes.now }
     ensures taken { Appends (W.contents writer.old) (W.contents writer.new)
         (take result bytes.now) }
 {
-    match writer.write(bytes) {
-        Ok(count) => count,
-        Err(_) => 0,
+    for _ in 0..u64::MAX {
+        match writer.write(bytes) {
+            Ok(count) => return count,
+            Err(error) if error.kind() == ErrorKind::Interrupted => {}
+            Err(_) => return 0,
+        }
     }
+    0
 }
 
 /// Writes all the bytes, and answers whether the writer took them: not where it answers an error,

@@ -80,3 +80,58 @@ fn a_file_that_stops_ends_a_read_and_faults_a_write(rt: HostRuntime) {
         );
     }
 }
+
+/// A file whose every other call is interrupted, and which gives and takes one byte a call.
+#[derive(Drop)]
+struct Interrupted {
+    left: u8,
+    is_next: bool,
+}
+
+impl Interrupted {
+    /// The bytes of the next call, of which there is room for so many.
+    fn turn(&mut self, room: usize) -> io::Result<usize> {
+        self.is_next = !self.is_next;
+        if self.is_next {
+            return Err(io::Error::from(ErrorKind::Interrupted));
+        }
+        if self.left == 0 {
+            return Ok(0);
+        }
+        self.left -= 1;
+        Ok(room.min(1))
+    }
+}
+
+impl Read for Interrupted {
+    fn read(&mut self, buffer: &mut [u8]) -> io::Result<usize> {
+        Ok(self.turn(buffer.len())?.min(buffer.len()))
+    }
+}
+
+impl Write for Interrupted {
+    fn write(&mut self, buffer: &[u8]) -> io::Result<usize> {
+        Ok(self.turn(buffer.len())?.min(buffer.len()))
+    }
+
+    fn flush(&mut self) -> io::Result<()> {
+        Ok(())
+    }
+}
+
+#[test]
+fn an_interrupted_call_is_made_again(rt: HostRuntime) {
+    let mut read = Vec::new(rt.alloc());
+    let mut file = Interrupted {
+        left: 3,
+        is_next: false,
+    };
+    assert_eq!(rt; read_up_to(&mut file, 9, &mut read), Ok(()));
+    assert_eq!(rt; read.len(), 3);
+    let mut taking = Interrupted {
+        left: 4,
+        is_next: false,
+    };
+    assert_eq!(rt; write_whole(&mut taking, &[1, 2, 3, 4]), true);
+    assert_eq!(rt; write_whole(&mut taking, &[5]), false);
+}

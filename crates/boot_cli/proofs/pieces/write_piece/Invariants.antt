@@ -1,0 +1,6 @@
+-- A write that is interrupted appends nothing.
+use Rattle.std.specs.Io.KnownBytes.{Keeps}
+use Rattle.boot_cli.proofs.pieces.write_piece.Given as goal
+
+abbrev pub invariant-loop : goal.invariant-loop
+invariant-loop g l = Keeps (g.W.Write.contents l.initial.writer) (g.W.Write.contents l.writer)
