@@ -1,0 +1,57 @@
+//! Premises on bytes, rows, tables and pictures.
+
+ghost use Rattle.std.specs.Prelude.{◌∷◌, [], None, Some, codes};
+ghost use Rattle.block_codec.specs.HighByte.{ChangesHighByte};
+ghost use Rattle.part_table.specs.Examples.{pair_table, plain_partition};
+ghost use Rattle.pico_board.specs.Content.{Content};
+ghost use Rattle.pico_board.specs.Sessions.{SameButSector};
+ghost use Rattle.law_targets.specs.Loads.{IsExecutable};
+ghost use Rattle.law_targets.specs.Pairs.{HasNoSecond, IsPart};
+ghost use Rattle.boot_map.specs.MapRules.{ArePair, IsNumbered};
+ghost use Rattle.boot_map.specs.declared.places.MapPlace.TheVariants.{Partition, Slot};
+ghost use Rattle.elf_pack.specs.Faults.{HasAddress};
+ghost use Rattle.svg_marks.specs.Texts.{HasTexts};
+
+/// An IMAGE_TYPE word whose trial bit is set.
+pub fn a_word_with_its_trial_bit()
+    ensures changes { ChangesHighByte (0x42 ∷ 1 ∷ 0x21 ∷ 0x10 ∷ []) (0x42 ∷ 1 ∷ 0x21 ∷ 0x90 ∷ []) 0 }
+{}
+
+/// The partitions of a pair; the B has no B of its own.
+pub fn partitions_of_a_pair()
+    ensures first { IsPart pair_table 0 (plain_partition 0xfc03e002 0xfc020000) }
+    ensures second { IsPart pair_table 1 (plain_partition 0xfc07a020 0xfc020002) }
+    ensures alone { HasNoSecond pair_table 1 }
+{}
+
+/// Families of executables, and one of data, which is none.
+pub fn families_of_executables()
+    ensures arm { IsExecutable 0xe48bff59 }
+    ensures riscv { IsExecutable 0xe48bff5a }
+    ensures data { IsExecutable 0xe48bff58 → ⊥ }
+{}
+
+/// Pairs in a map: the two partitions of a table, and without one the two slots.
+pub fn pairs_of_maps()
+    ensures partitions { ArePair (Some pair_table) 0 1 }
+    ensures slots { ArePair None 0 1 }
+    ensures turned { ArePair (Some pair_table) 1 0 → ⊥ }
+    ensures part { IsNumbered (Some pair_table) (Partition 1) 1 }
+    ensures slot { IsNumbered None (Slot 0) 0 }
+{}
+
+/// An address at the start of a segment, and the one behind its end.
+pub fn addresses_of_a_segment()
+    ensures first { HasAddress 0x10000000 (record { number = 0; offset = 84; address = 0x10000000; size = 4 }) }
+    ensures behind { HasAddress 0x10000004 (record { number = 0; offset = 84; address = 0x10000000; size = 4 }) → ⊥ }
+{}
+
+/// A picture of plain words.
+pub fn a_picture_of_words()
+    ensures texts { HasTexts (record {
+      height = 50;
+      title = codes "a title";
+      desc = codes "what it shows";
+      marks = [];
+    }) }
+{}

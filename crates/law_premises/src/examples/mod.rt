@@ -1,0 +1,7 @@
+//! Worked examples, one module a subject. Each is the `ensures` of a function that does
+//! nothing.
+
+pub mod boots;
+pub mod formats;
+pub mod scripts;
+pub mod sessions;
