@@ -2,3 +2,4 @@
 pub mod Runs
 pub mod Charts
 pub mod Examples
+pub mod Places

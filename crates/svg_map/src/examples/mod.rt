@@ -6,6 +6,7 @@ ghost use Rattle.svg_marks.specs.declared.class.Class.TheVariants as classes;
 ghost use Rattle.svg_marks.specs.declared.mark.Colour.TheVariants.{Blue, Grey, Orange, Sky};
 ghost use Rattle.svg_marks.specs.Marks.{Rect};
 ghost use Rattle.svg_map.specs.Maps.{bar_colour, column_height, counted_in_map, map_words, middle, bar_height, rows_height, window_mark};
+ghost use Rattle.svg_map.specs.Places.{LieFrom};
 ghost use Rattle.svg_map.specs.Examples.{free_window, started_slot, three_windows, two_lines, unstarted_slot, whole_line};
 
 /// What is said of a flash of three windows, and what its picture has.
@@ -20,6 +21,7 @@ pub fn a_flash_of_three_windows()
     ensures starts { counted_in_map classes.Starts three_windows ≡ codes "starts" ∷ [] }
     ensures former { counted_in_map classes.Former three_windows ≡ [] }
     ensures column { column_height three_windows ≡ 400 }
+    ensures side_by_side { LieFrom 16384 0 three_windows }
 {}
 
 /// Rows are as high as their lines, and a column is at least 400 high and as high as the rows.

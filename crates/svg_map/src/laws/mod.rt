@@ -7,7 +7,8 @@ ghost use Rattle.svg_marks.specs.declared.class.Class.TheVariants.{Window, Row, 
 ghost use Rattle.svg_marks.specs.Marks.{class_text, escaped, picture_text};
 ghost use Rattle.svg_marks.specs.Reading.{marks_in, times};
 ghost use Rattle.svg_marks.specs.Texts.{is_printed_text, is_written};
-ghost use Rattle.svg_map.specs.Maps.{MapBarView, counted_in_map, map_picture};
+ghost use Rattle.svg_map.specs.Maps.{MapBarView, counted_in_map, map_marks, map_picture};
+ghost use Rattle.svg_map.specs.Places.{FillFrom, LieFrom, rects_of};
 
 /// The marks of a class that stand in the bytes of a picture are those of its windows, in their
 /// order, each with its words; and the class, written as in `class="window"`, stands there as
@@ -34,4 +35,13 @@ pub fn pictures_of_texts_are_ascii()
     ensures { (flash : ℕ) (bars : List MapBarView) (desc : List ℕ) → is_printed_text desc ≡ true
         → is_printed_text (flat_map (λ (bar : MapBarView). bar.words) bars) ≡ true
         → list_all is_written (picture_text (map_picture flash bars desc)) ≡ true }
+{}
+
+/// The rectangles of windows that lie side by side fill the column, which is as many units high as
+/// the flash has bytes: each begins where the one before ends, the first at the top, the last ends
+/// at the bottom, and each is as high as its window has bytes. Units are whole, so nothing is
+/// rounded.
+pub fn rectangles_fill_the_column()
+    ensures { (flash high : ℕ) (bars : List MapBarView) → LieFrom flash 0 bars
+        → FillFrom flash 0 bars (rects_of (map_marks flash high bars)) }
 {}
