@@ -11,6 +11,8 @@ ghost use Rattle.boot_map.specs.MapRules.{ArePair, IsNumbered};
 ghost use Rattle.boot_map.specs.declared.places.MapPlace.TheVariants.{Partition, Slot};
 ghost use Rattle.elf_pack.specs.Faults.{HasAddress};
 ghost use Rattle.svg_marks.specs.Texts.{HasTexts};
+ghost use Rattle.image_pack.specs.Starts.{IsLoadedFrom};
+ghost use Rattle.otp_roll.specs.Rows.{Rises};
 
 /// An IMAGE_TYPE word whose trial bit is set.
 pub fn a_word_with_its_trial_bit()
@@ -54,4 +56,21 @@ pub fn a_picture_of_words()
       desc = codes "what it shows";
       marks = [];
     }) }
+{}
+
+/// Contents that differ in the first byte alone differ in the first sector alone.
+pub fn contents_that_differ_in_a_sector()
+    ensures { SameButSector 0 (record { flash = 1 ∷ []; otp = [] })
+        (record { flash = 2 ∷ []; otp = [] }) }
+{}
+
+/// A row whose bits are 0 rises to any.
+pub fn rows_that_rise()
+    ensures { Rises (0 ∷ []) (5 ∷ []) }
+{}
+
+/// Of two loads that hold an address the last one stores its byte.
+pub fn a_byte_that_is_loaded()
+    ensures { IsLoadedFrom (record { storage = Some 0; runtime = 0x20000000; size = 8 }
+        ∷ record { storage = Some 16; runtime = 0x20000004; size = 4 } ∷ []) 0x20000005 17 }
 {}

@@ -22,20 +22,23 @@ returns-clause-both c = record {
       same_family = refl;
       same_count = refl;
     },
-    (record {
-      is = record {
-        flags = lit≤ tt;
-        address = lit≤ tt;
-        aligned = refl;
-        some = lit≤ tt;
-        few = lit≤ tt;
-        number = lit≤ tt;
-        family = lit≤ tt;
-        page = refl;
-      };
-      same_family = refl;
-      same_count = refl;
-    }, tt),
+    (
+      record {
+        is = record {
+          flags = lit≤ tt;
+          address = lit≤ tt;
+          aligned = refl;
+          some = lit≤ tt;
+          few = lit≤ tt;
+          number = lit≤ tt;
+          family = lit≤ tt;
+          page = refl;
+        };
+        same_family = refl;
+        same_count = refl;
+      },
+      tt,
+    ),
   );
   distinct = ((refl, tt), (tt, tt));
 }
