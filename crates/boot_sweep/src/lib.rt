@@ -18,6 +18,7 @@ mod slots;
 mod sweeping;
 
 pub use boot_session::Recorder;
+pub use comparing::{is_same_decision, is_same_started};
 pub use error::SweepError;
 pub use firmness::firm;
 pub use results::{CutResult, StepResults, SweepResults};

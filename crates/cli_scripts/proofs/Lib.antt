@@ -1,4 +1,3 @@
-pub mod PlayLemmas
 mod ReplayLemmas
 mod TornLemmas
 pub mod ReplayRuleLemmas

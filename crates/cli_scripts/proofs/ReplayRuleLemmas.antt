@@ -14,11 +14,12 @@ use Rattle.cli_inputs.specs.Forms.{HasForm, content_of_files, filled_flash, fill
 use Rattle.cli_inputs.specs.Inputs.{flash_otp_script, of_three}
 use Rattle.cli_inputs.specs.Rules.{AreFormed, OfThree, IsRefusedOrRight, WorksBy}
 use Rattle.cli_inputs.proofs.WorkLemmas.{same-outcome}
-use Rattle.cli_scripts.specs.Replays.{Played, played, powerless}
+use Rattle.boot_plays.specs.Plays.{Played, played, powerless}
 use Rattle.cli_scripts.specs.ReplayWorks.{event_lines, end_line, content_files, replay_work}
 use Rattle.cli_scripts.specs.ReplayRules.{IsReplayOf}
-use Rattle.cli_scripts.proofs.PlayLemmas.{plays-only}
-use Rattle.cli_scripts.proofs.TornLemmas.{played-plays, script-bytes}
+use Rattle.boot_plays.proofs.PlayLemmas.{plays-only}
+use Rattle.boot_plays.proofs.TornLemmas.{played-plays}
+use Rattle.cli_scripts.proofs.TornLemmas.{script-bytes}
 
 -- a flash that is filled is of bytes
 filled-bytes : (f : List ℕ) → AreBytes f → AreBytes (filled_flash f)

@@ -1,5 +1,4 @@
 -- These definitions are this project's own, except where a comment names a public source.
-pub mod Replays
 pub mod ReplayWorks
 pub mod ReplayRules
 pub mod ReplayExamples

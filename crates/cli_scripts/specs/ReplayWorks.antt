@@ -7,7 +7,7 @@ use Rattle.block_codec.specs.Words.{bytes_of}
 use Rattle.boot_script.specs.Scripts.{script_events}
 use Rattle.boot_machine.specs.Machines.{StateView, Off, InBootsel, Running}
 use Rattle.cli_course.specs.Outcomes.{Work, Answers, line}
-use Rattle.cli_scripts.specs.Replays.{Played, played, powerless}
+use Rattle.boot_plays.specs.Plays.{Played, played, powerless}
 
 -- the line of an event, by its number
 abbrev pub event_line : ℕ → List ℕ → List ℕ

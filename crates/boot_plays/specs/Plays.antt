@@ -1,6 +1,5 @@
 -- What events do to a machine whose board tells its armed cut, as a function.
-use Rattle.std.specs.Prelude.{◌≡◌, ⊤, ℕ, if◌then◌else◌, List, [], ◌∷◌, Option, Some, None}
-use Rattle.cli_course.specs.Outcomes.{AreBytes}
+use Rattle.std.specs.Prelude.{◌≡◌, ◌<◌, ⊤, ℕ, All, if◌then◌else◌, List, [], ◌∷◌, Option, Some, None}
 use Rattle.pico_board.specs.declared.boot.Cpu.{Cpu}
 use Rattle.pico_board.specs.Content.{Content}
 use Rattle.pico_board.specs.Cuts.{Cut, CutOutcome, cut_steps}
@@ -59,16 +58,16 @@ powerless c cpu = record { content = c; armed = Some None; cpu = cpu; place = Of
 -- the pattern of a cut is of bytes
 abbrev pub HasPatternBytes : Option Cut → Type 0
 HasPatternBytes None = ⊤
-HasPatternBytes (Some cut) = AreBytes cut.pattern
+HasPatternBytes (Some cut) = All (λ b. b < 256) cut.pattern
 
 -- the board tells its armed cut, and that and the flash are of bytes
 pub record IsTelling (m : MachineView) : Type 0 where
   pub cut : Option Cut
   pub told : m.armed ≡ Some cut
   pub pattern : HasPatternBytes cut
-  pub flash : AreBytes m.content.flash
+  pub flash : All (λ b. b < 256) m.content.flash
 
 -- the pattern of a cut that an event arms is of bytes
 abbrev pub IsOfBytes : EventView → Type 0
-IsOfBytes (ArmsCut left within pattern) = AreBytes pattern
+IsOfBytes (ArmsCut left within pattern) = All (λ b. b < 256) pattern
 IsOfBytes event = ⊤

@@ -6,7 +6,7 @@ use Rattle.boot_script.specs.Events.{EventView, End, Command, Uf2, Cut as ArmsCu
 use Rattle.boot_machine.specs.Machines.{MachineView, Off}
 use Rattle.boot_machine.specs.Boots.{Effect}
 use Rattle.boot_machine.specs.Moves.{Moves, MovesBy, Plays, armed_for, effect, lost_text}
-use Rattle.cli_scripts.specs.Replays.{Moved, Played, moved_machine, moved_as, played, told_cut}
+use Rattle.boot_plays.specs.Plays.{Moved, Played, moved_machine, moved_as, played, told_cut}
 
 -- a machine that is one of another's parts
 same-machine : (n : MachineView) (content : Content) (armed : Option (Option Cut)) (m : MachineView)

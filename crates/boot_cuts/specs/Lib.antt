@@ -1,0 +1,9 @@
+-- These definitions are this project's own, except where a comment names a public source.
+pub mod Traces
+pub mod Contents
+pub mod Classes
+pub mod Classing
+pub mod Answers
+pub mod Runs
+pub mod Kinds
+pub mod Found

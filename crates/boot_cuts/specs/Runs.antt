@@ -1,0 +1,65 @@
+-- Runs of cuts: as many cuts, one after the other, as have one class and one decision.
+use Rattle.std.specs.Prelude.{◌≡◌, ◌≢◌, ⊤, ℕ, ◌+◌, ◌≤◌, ◌&&◌, Bool, true, false, if◌then◌else◌, List, [], ◌∷◌, length, slice_get, Some}
+use Rattle.boot_sweep.specs.Comparing.{is_same_decision}
+use Rattle.boot_cuts.specs.declared.answers.Answer.{Answer}
+use Rattle.boot_cuts.specs.declared.answers.Class.{Class}
+use Rattle.boot_cuts.specs.declared.answers.Class.TheVariants.{Former, Finished, Neither}
+use Rattle.boot_cuts.specs.declared.runs.Run.{Run}
+
+-- each cut of a run has its answer
+pub record IsRun (answers : List Answer) (run : Run) : Type 0 where
+  pub some : run.first ≤ run.last
+  pub same : (i : ℕ) → run.first ≤ i → i ≤ run.last → slice_get answers i ≡ Some run.answer
+
+-- the next run, if there is one, has another answer
+abbrev pub IsOther : Answer → List Run → Type 0
+IsOther answer [] = ⊤
+IsOther answer (run ∷ runs) = answer ≢ run.answer
+
+-- runs that follow one another from the cut k on up to the last cut, neighbours of which differ
+abbrev pub AreRunsFrom : List Answer → ℕ → List Run → Type 0
+AreRunsFrom answers k [] = k ≡ length answers
+AreRunsFrom answers k (run ∷ runs) =
+    (run.first ≡ k) × IsRun answers run × IsOther run.answer runs
+    × AreRunsFrom answers (run.last + 1) runs
+
+-- The runs of cuts with these answers: in their order they are all the cuts, each has one class and
+-- one decision, and neighbours differ. So each is as long as can be.
+abbrev pub AreRuns : List Answer → List Run → Type 0
+AreRuns answers runs = AreRunsFrom answers 0 runs
+
+abbrev pub is_same_class : Class → Class → Bool
+is_same_class Former Former = true
+is_same_class Finished Finished = true
+is_same_class Neither Neither = true
+is_same_class Former Finished = false
+is_same_class Former Neither = false
+is_same_class Finished Former = false
+is_same_class Finished Neither = false
+is_same_class Neither Former = false
+is_same_class Neither Finished = false
+
+-- the class and the decision are the same
+abbrev pub is_same_answer : Answer → Answer → Bool
+is_same_answer a b = is_same_class a.class b.class && is_same_decision a.decision b.decision
+
+-- a run of the cut k alone
+abbrev pub lone_run : ℕ → Answer → Run
+lone_run k answer = record { first = k; last = k; answer = answer }
+
+-- the run up to the cut k
+abbrev pub longer_run : Run → ℕ → Run
+longer_run run k = record { first = run.first; last = k; answer = run.answer }
+
+-- the runs of the cuts from k on with these answers, of which the first may belong to a run that
+-- has begun
+abbrev pub runs_behind : Run → ℕ → List Answer → List Run
+runs_behind run k [] = run ∷ []
+runs_behind run k (answer ∷ answers) =
+    if is_same_answer answer run.answer then runs_behind (longer_run run k) (k + 1) answers
+    else run ∷ runs_behind (lone_run k answer) (k + 1) answers
+
+-- the runs of cuts with these answers
+abbrev pub runs_of : List Answer → List Run
+runs_of [] = []
+runs_of (answer ∷ answers) = runs_behind (lone_run 0 answer) 1 answers

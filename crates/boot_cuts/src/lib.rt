@@ -1,0 +1,18 @@
+//! Every cut of any script: what the next normal boot makes of a loss of power before and within
+//! each step that a script completes.
+//!
+//! `specs/Traces` says which steps those are, `specs/Contents` what a cut leaves, `specs/Classes`
+//! what class it has, and `specs/Runs` how cuts are told together. What the events of a script do
+//! is that of `boot_machine` and `boot_plays`, the loss of power that of `pico_board`, and the
+//! decision that of `boot_rules`.
+#![tactic(auto)]
+
+mod answers;
+mod found;
+mod kinds;
+mod runs;
+
+pub use answers::{Answer, Class};
+pub use found::Cuts;
+pub use kinds::Kind;
+pub use runs::Run;

@@ -1,0 +1,32 @@
+//! Laws of what events do to a machine whose board tells its armed cut, each the contract of a
+//! function that does nothing.
+
+ghost use Rattle.std.specs.Prelude.{◌≡◌, ℕ, List, Option, Some};
+ghost use Rattle.std.specs.List.{AllByRecursion};
+ghost use Rattle.pico_board.specs.Cuts.{Cut};
+ghost use Rattle.boot_script.specs.Events.{EventView};
+ghost use Rattle.boot_machine.specs.Machines.{MachineView};
+ghost use Rattle.boot_machine.specs.Moves.{Moves, Plays};
+ghost use Rattle.boot_plays.specs.Plays.{IsOfBytes, IsTelling, moved_machine, played};
+
+/// An event takes a machine whose board tells its armed cut to one machine, with one text, by the
+/// table of the machine: those of the function.
+pub fn told_moves_are_determined()
+    ensures only { (m : MachineView) (cut : Option Cut) (event : EventView) (n : MachineView)
+        (text : List ℕ) → m.armed ≡ Some cut → Moves m event n text
+        → (n ≡ (moved_machine m event).next) × (text ≡ (moved_machine m event).text) }
+    ensures moves { (m : MachineView) (event : EventView) → IsTelling m → IsOfBytes event
+        → Moves m event (moved_machine m event).next (moved_machine m event).text
+        × IsTelling (moved_machine m event).next }
+{}
+
+/// Events take a machine whose board tells its armed cut to one machine, with one list of texts:
+/// those of the function.
+pub fn told_plays_are_determined()
+    ensures only { (m : MachineView) (cut : Option Cut) (events : List EventView) (n : MachineView)
+        (texts : List (List ℕ)) → m.armed ≡ Some cut → Plays m events n texts
+        → (n ≡ (played m events).last) × (texts ≡ (played m events).texts) }
+    ensures plays { (m : MachineView) (events : List EventView) → IsTelling m
+        → AllByRecursion IsOfBytes events
+        → Plays m events (played m events).last (played m events).texts }
+{}
