@@ -75,6 +75,10 @@ fn exit_statuses_are_numbered_in_order(rt: HostRuntime) {
         (Status::WriteFault, 5),
         (Status::OutputFault, 6),
         (Status::Memory, 7),
+        (Status::Unbootable, 8),
+        (Status::Neither, 9),
+        (Status::NoEffect, 10),
+        (Status::Refused, 11),
     ] {
         assert_eq!(rt; status.number(), number);
     }

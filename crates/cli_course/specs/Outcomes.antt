@@ -4,7 +4,7 @@ use Rattle.pico_board.specs.Files.{File, file_of}
 -- a line ends with one line feed
 pub use Rattle.text_words.specs.Writing.{line}
 use Rattle.cli_course.specs.declared.status.Status.{Status}
-use Rattle.cli_course.specs.declared.status.Status.TheVariants.{Done, Words, Input as Refused, Bootsel, ReadFault, WriteFault, OutputFault, Memory}
+use Rattle.cli_course.specs.declared.status.Status.TheVariants.{Done, Words, Input, Bootsel, ReadFault, WriteFault, OutputFault, Memory, Unbootable, Neither, NoEffect, Refused}
 
 -- an input file: its name, and the greatest length of a file that is read whole, in bytes
 pub record LimitedInputView : Type 0 where
@@ -26,12 +26,23 @@ pub record AnswerView : Type 0 where
   pub text : List ℕ
   pub files : List File
 
+-- What is found of the losses of power in a script: all is well; some loss leaves nothing to
+-- start; some loss starts an image that is neither the former nor the finished one; the script has
+-- no effect; a record of it did nothing.
+pub data Verdict : Type 0 where
+  Passes : Verdict
+  IsUnbootable : Verdict
+  IsNeither : Verdict
+  HasNoEffect : Verdict
+  IsRefused : Verdict
+
 -- What the work of a command comes to on the bytes of its inputs: it answers whether a boot falls
 -- to BOOTSEL, the text and the files to write, in word order; or it refuses an input, by its word,
--- with a fault.
+-- with a fault; or it tells a text and judges a script by it.
 pub data Work : Type 0 where
   Answers : (falls : Bool) → (text : List ℕ) → (files : List File) → Work
   Refuses : (name fault : List ℕ) → Work
+  Judges : (verdict : Verdict) → (text : List ℕ) → Work
 
 -- an input file, by its word, and its fault
 abbrev pub input_line : List ℕ → List ℕ → List ℕ
@@ -47,18 +58,31 @@ unread = record { status = ReadFault; text = []; files = [] }
 
 -- an input file, by its word, that is refused
 abbrev pub refused : List ℕ → List ℕ → AnswerView
-refused name fault = record { status = Refused; text = input_line name fault; files = [] }
+refused name fault = record { status = Input; text = input_line name fault; files = [] }
 
 -- the status of an answer
 abbrev pub answered_status : Bool → Status
 answered_status true = Bootsel
 answered_status false = Done
 
+-- the status of a verdict
+abbrev pub verdict_status : Verdict → Status
+verdict_status Passes = Done
+verdict_status IsUnbootable = Unbootable
+verdict_status IsNeither = Neither
+verdict_status HasNoEffect = NoEffect
+verdict_status IsRefused = Refused
+
+-- a text that is told with a status, where no file is written
+abbrev pub ended : Status → List ℕ → AnswerView
+ended status text = record { status = status; text = text; files = [] }
+
 -- the outcome of a work
 abbrev pub worked : Work → AnswerView
 worked (Answers falls text files) =
     record { status = answered_status falls; text = text; files = files }
 worked (Refuses name fault) = refused name fault
+worked (Judges verdict text) = ended (verdict_status verdict) text
 
 -- one file to write
 abbrev pub one_file : List ℕ → List ℕ → List File
@@ -84,9 +108,13 @@ outcome_found outcome (Some whole) = outcome whole
 abbrev pub is_finished : Status → Bool
 is_finished Done = true
 is_finished Words = true
-is_finished Refused = true
+is_finished Input = true
 is_finished Bootsel = true
 is_finished ReadFault = false
 is_finished WriteFault = false
 is_finished OutputFault = false
 is_finished Memory = false
+is_finished Unbootable = true
+is_finished Neither = true
+is_finished NoEffect = true
+is_finished Refused = true

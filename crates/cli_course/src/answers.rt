@@ -2,7 +2,7 @@
 
 ghost use Rattle.std.specs.Prelude.{◌≡◌, [], IfOk, false, string_bytes};
 ghost use Rattle.cli_course.specs.declared.status.Status.TheVariants.{Done};
-ghost use Rattle.cli_course.specs.Outcomes.{Answers, input_line, one_file, refused, worked};
+ghost use Rattle.cli_course.specs.Outcomes.{Answers, ended, input_line, one_file, refused, worked};
 ghost use Rattle.cli_course.specs.Views.{answer_from};
 
 use crate::status::Status;
@@ -53,6 +53,17 @@ pub fn told<'a>(alloc: Global, text: String) -> Answer<'a>
 {
     Answer {
         status: Status::Done,
+        text,
+        files: Vec::new(alloc),
+    }
+}
+
+/// The answer of a command that tells a text with this status and writes no file.
+pub fn ended<'a>(alloc: Global, status: Status, text: String) -> Answer<'a>
+    ensures { answer_from result ≡ ended status (string_bytes text) }
+{
+    Answer {
+        status,
         text,
         files: Vec::new(alloc),
     }

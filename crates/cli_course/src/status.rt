@@ -21,6 +21,14 @@ pub enum Status {
     OutputFault,
     /// There was no memory.
     Memory,
+    /// Some loss of power leaves nothing to start.
+    Unbootable,
+    /// Some loss of power starts an image that is neither the former nor the finished one.
+    Neither,
+    /// An update changes nothing that a boot starts.
+    NoEffect,
+    /// A record of an update did nothing.
+    Refused,
 }
 
 impl Status {

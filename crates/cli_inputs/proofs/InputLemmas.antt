@@ -6,8 +6,8 @@ use Rattle.std.specs.declared.alloc.Global.{Global}
 use Rattle.std.proofs.lemmas.Bool.{lt-ltb, cases_lt}
 use Rattle.std.proofs.lemmas.List.{take_all, length-take, length-map}
 use Rattle.cli_course.specs.declared.status.Status.{Status}
-use Rattle.cli_course.specs.declared.status.Status.TheVariants.{Done, Words, Input as Refused, Bootsel}
-use Rattle.cli_course.specs.Outcomes.{AnswerView, Work, Answers, Refuses, refused, worked, is_finished}
+use Rattle.cli_course.specs.declared.status.Status.TheVariants.{Done, Words, Input as Refused, Bootsel, Unbootable, Neither, NoEffect, Refused as RecordRefused}
+use Rattle.cli_course.specs.Outcomes.{AnswerView, Work, Answers, Refuses, Judges, Passes, IsUnbootable, IsNeither, HasNoEffect, IsRefused, refused, worked, is_finished}
 use Rattle.cli_course.specs.Ends.{cut}
 use Rattle.cli_course.specs.Views.{bytes_of_files}
 use Rattle.cli_inputs.specs.declared.forms.Form.{Form}
@@ -132,6 +132,11 @@ worked-text : (w : Work) → IsText (worked w).status
 worked-text (Answers true text files) = (refl, λ (e : Bootsel ≡ Words). cc)
 worked-text (Answers false text files) = (refl, λ (e : Done ≡ Words). cc)
 worked-text (Refuses name fault) = (refl, λ (e : Refused ≡ Words). cc)
+worked-text (Judges Passes text) = (refl, λ (e : Done ≡ Words). cc)
+worked-text (Judges IsUnbootable text) = (refl, λ (e : Unbootable ≡ Words). cc)
+worked-text (Judges IsNeither text) = (refl, λ (e : Neither ≡ Words). cc)
+worked-text (Judges HasNoEffect text) = (refl, λ (e : NoEffect ≡ Words). cc)
+worked-text (Judges IsRefused text) = (refl, λ (e : RecordRefused ≡ Words). cc)
 
 refused-text : (status : Status) → status ≡ Refused → IsText status
 refused-text status is = (ap is_finished is, λ h. let e : Refused ≡ Words = sym is ∙ h in cc)

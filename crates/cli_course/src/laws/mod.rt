@@ -2,12 +2,12 @@
 //! nothing.
 
 ghost use Rattle.std.specs.Prelude.{ℕ, ◌≡◌, ◌<◌, ◌≤◌, ◌+◌, ◌++◌, [], ◌∷◌, List, length, true, false};
-ghost use Rattle.cli_course.specs.declared.status.Status.TheVariants.{Done, Words, Input, Bootsel, ReadFault, WriteFault, OutputFault, Memory};
+ghost use Rattle.cli_course.specs.declared.status.Status.TheVariants.{Done, Words, Input, Bootsel, ReadFault, WriteFault, OutputFault, Memory, Unbootable, Neither, NoEffect, Refused};
 ghost use Rattle.cli_course.specs.Statuses.{exit_status};
 ghost use Rattle.cli_course.specs.Outcomes.{LimitedInputView as ReadInput, is_finished};
 ghost use Rattle.cli_course.specs.Ends.{cut};
 
-/// The program ends with one of eight numbers, by how the run ended.
+/// The program ends with one of twelve numbers, by how the run ended.
 pub fn statuses_have_numbers()
     ensures done { exit_status Done ≡ 0 }
     ensures words { exit_status Words ≡ 1 }
@@ -17,10 +17,15 @@ pub fn statuses_have_numbers()
     ensures write_fault { exit_status WriteFault ≡ 5 }
     ensures output_fault { exit_status OutputFault ≡ 6 }
     ensures memory { exit_status Memory ≡ 7 }
+    ensures unbootable { exit_status Unbootable ≡ 8 }
+    ensures neither { exit_status Neither ≡ 9 }
+    ensures no_effect { exit_status NoEffect ≡ 10 }
+    ensures refused { exit_status Refused ≡ 11 }
 {}
 
 /// A run is finished where its whole text was put: it is done, its words are no command, an input
-/// is refused, or the boot falls to BOOTSEL. With one of the four causes it is not.
+/// is refused, the boot falls to BOOTSEL, or a script is judged. With one of the four causes it is
+/// not.
 pub fn statuses_of_finished_runs()
     ensures done { is_finished Done ≡ true }
     ensures words { is_finished Words ≡ true }
@@ -30,6 +35,10 @@ pub fn statuses_of_finished_runs()
     ensures write_fault { is_finished WriteFault ≡ false }
     ensures output_fault { is_finished OutputFault ≡ false }
     ensures memory { is_finished Memory ≡ false }
+    ensures unbootable { is_finished Unbootable ≡ true }
+    ensures neither { is_finished Neither ≡ true }
+    ensures no_effect { is_finished NoEffect ≡ true }
+    ensures refused { is_finished Refused ≡ true }
 {}
 
 /// Of a longer file one byte more than its limit is read, and a file within its limit is read
