@@ -23,7 +23,8 @@ use Rattle.boot_script.specs.Scripts.{events}
 use Rattle.boot_rules.specs.Tables.{table_in}
 use Rattle.boot_machine.specs.Machines.{Host}
 use Rattle.boot_machine.specs.Serving.{table_of_found}
-use Rattle.script_plan.specs.Plans.{erase_cmd, in_sectors, plan_text, sent, update_cmd, write_cmd}
+use Rattle.script_plan.specs.Commands.{erase_cmd, sent, update_cmd, write_cmd}
+use Rattle.script_plan.specs.Plans.{in_sectors, plan_text}
 use Rattle.boot_session.specs.Sessions.{IsSlotOf, entered_host, session}
 use Rattle.boot_session.proofs.PlanServedLemmas.{Known, erase-done, erase-refused, event, reboot-event, write-done, write-refused}
 use Rattle.boot_session.proofs.PlanSlotLemmas.{IsSlot, slot-is}

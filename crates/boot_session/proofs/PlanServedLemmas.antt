@@ -30,7 +30,7 @@ use Rattle.boot_script.specs.Events as events
 use Rattle.boot_script.specs.Events.{EventView}
 use Rattle.boot_machine.specs.Machines.{Host, StateView, InBootsel, Off, Running}
 use Rattle.boot_machine.specs.Serving.{ServedEvent, command_served, serves, serves_host, serves_ram, table_of_found}
-use Rattle.script_plan.specs.Plans.{erase_cmd, update_cmd, write_cmd}
+use Rattle.script_plan.specs.Commands.{erase_cmd, update_cmd, write_cmd}
 use Rattle.boot_session.specs.Sessions.{entered_host, going_on, session_from}
 
 -- what the laws below say of commands and of those of a plan

@@ -5,16 +5,19 @@ use Rattle.std.proofs.lemmas.Bool.{eqb-true, eqb-false, ne_eqb, ltb-true, ltb-fa
 use Rattle.pico_board.specs.declared.boot.Cpu.{Cpu}
 use Rattle.pico_board.specs.declared.boot.Cpu.TheVariants.{Arm}
 use Rattle.pico_board.specs.declared.boot.BootKind.TheVariants.{Normal}
+use Rattle.pico_board.specs.Content.{Content}
 use Rattle.part_table.specs.declared.target.Target.{Target}
 use Rattle.boot_rules.specs.Choosing.{decision_in}
 use Rattle.boot_rules.proofs.DecisionLemmas.{decision-chosen, chosen-decision}
 use Rattle.uf2_place.specs.Files.{file_bytes, page_count}
-use Rattle.script_plan.specs.Plans.{plan_text}
+use Rattle.script_plan.specs.declared.writing.WriteOrder.{WriteOrder}
+use Rattle.script_plan.specs.declared.writing.WriteOrder.TheVariants.{FirstLast, Ascending}
+use Rattle.script_plan.specs.Orders.{script_text}
 use Rattle.cli_course.specs.declared.status.Status.TheVariants.{Done, Input as Refused}
 use Rattle.cli_inputs.specs.Forms.{content_of_files}
 use Rattle.cli_course.specs.Outcomes.{Work, Answers, Refuses, one_file, AnswerView, refused, worked}
-use Rattle.cli_tools.specs.ToolWorks.{uf2_line, uf2_work, plan_target, plan_line, window_work, target_work, plan_work, made_content, gen_line, gen_work}
-use Rattle.cli_tools.specs.ToolRules.{IsUf2Refused, IsUf2Of, IsPlanRefused, IsPlanOf, IsGenOf}
+use Rattle.cli_tools.specs.ToolWorks.{uf2_line, uf2_work, plan_target, script_line, window_work, target_work, script_work, plan_work, load_work, made_content, gen_line, gen_work}
+use Rattle.cli_tools.specs.ToolRules.{IsUf2Refused, IsUf2Of, IsTargetRefused, IsScriptOf, IsPlanRefused, IsPlanOf, IsLoadRefused, IsLoadOf, IsGenOf}
 use Rattle.cli_inputs.specs.declared.forms.Form.TheVariants.{Flash, Otp, Image}
 use Rattle.cli_inputs.specs.Inputs.{image_alone, flash_otp_image, of_one, of_three}
 use Rattle.cli_inputs.specs.Rules.{OfOne, OfThree, IsRefusedOrRight, WorksBy}
@@ -61,22 +64,23 @@ uf2-whole image out i family some =
     sym (ap (λ t. worked (cond t (Refuses image (codes "empty")) (uf2_answer i family out)))
     (ne_eqb (length i) 0 (some-length i some)))
 
--- what `plan` answers where the image fits into the target's window
-abbrev plan_answer : Target → List ℕ → List ℕ → Work
-plan_answer target out i =
-    Answers false (plan_line target.window (length i)) (one_file out (plan_text target.window.start i))
+-- what is answered where the image fits into the target's window
+abbrev script_answer : WriteOrder → Target → List ℕ → List ℕ → Work
+script_answer order target out i =
+    Answers false (script_line order target.window (length i))
+    (one_file out (script_text order target.window.start i))
 
-module _ (image out f g i : List ℕ) (cpu : Cpu) where
-  abbrev PlanDone : AnswerView → Type 0
-  PlanDone o = IsRefusedOrRight (IsPlanRefused (content_of_files f g) cpu image i)
-      (IsPlanOf (content_of_files f g) cpu i out) o
+module _ (order : WriteOrder) (image out i : List ℕ) (c : Content) (cpu : Cpu) where
+  abbrev ScriptDone : AnswerView → Type 0
+  ScriptDone o = IsRefusedOrRight (IsTargetRefused c cpu image i)
+      (IsScriptOf order c cpu i out) o
 
-  window-done : (target : Target) → plan_target (content_of_files f g) cpu ≡ Some target
-      → PlanDone (worked (window_work target.window image out i))
+  window-done : (target : Target) → plan_target c cpu ≡ Some target
+      → ScriptDone (worked (window_work order target.window image out i))
   window-done target goes = go (length i == 0) refl
     where
       fits : (t : Bool) → nat_lt target.window.len (length i) ≡ t → length i ≢ 0
-          → PlanDone (worked (cond t (Refuses image (codes "past-window")) (plan_answer target out i)))
+          → ScriptDone (worked (cond t (Refuses image (codes "past-window")) (script_answer order target out i)))
       fits true is some =
           inl (
             image,
@@ -95,54 +99,54 @@ module _ (image out f g i : List ℕ) (cpu : Cpu) where
       })
 
       go : (t : Bool) → (length i == 0) ≡ t
-          → PlanDone (worked (cond t (Refuses image (codes "empty"))
+          → ScriptDone (worked (cond t (Refuses image (codes "empty"))
           (cond (nat_lt target.window.len (length i)) (Refuses image (codes "past-window"))
-          (plan_answer target out i))))
+          (script_answer order target out i))))
       go true is =
           inl (image, codes "empty", (refl, inr (target, goes, inl (none-of i (eqb-true (length i) 0 is), refl))), refl)
       go false is = fits (nat_lt target.window.len (length i)) refl (eqb-false (length i) 0 is)
 
-  pub plan-done : PlanDone (worked (plan_work (content_of_files f g) cpu image out i))
-  plan-done = go (plan_target (content_of_files f g) cpu) refl
+  pub script-done : ScriptDone (worked (script_work order c cpu image out i))
+  script-done = go (plan_target c cpu) refl
     where
-      go : (t : Option Target) → plan_target (content_of_files f g) cpu ≡ t
-          → PlanDone (worked (target_work t image out i))
+      go : (t : Option Target) → plan_target c cpu ≡ t
+          → ScriptDone (worked (target_work order t image out i))
       go None none = inl (image, codes "no-target", (refl, inl (none, refl)), refl)
       go (Some target) goes = window-done target goes
 
   -- the target decides
-  by-target : (t : Option Target) → plan_target (content_of_files f g) cpu ≡ t
-      → worked (plan_work (content_of_files f g) cpu image out i) ≡ worked (target_work t image out i)
-  by-target t is = ap (λ (t : Option Target). worked (target_work t image out i)) is
+  by-target : (t : Option Target) → plan_target c cpu ≡ t
+      → worked (script_work order c cpu image out i) ≡ worked (target_work order t image out i)
+  by-target t is = ap (λ (t : Option Target). worked (target_work order t image out i)) is
 
   -- an image of some bytes, where the window decides
   by-window : (target : Target) (t : Bool) → i ≢ [] → nat_lt target.window.len (length i) ≡ t
-      → worked (window_work target.window image out i)
-      ≡ worked (cond t (Refuses image (codes "past-window")) (plan_answer target out i))
+      → worked (window_work order target.window image out i)
+      ≡ worked (cond t (Refuses image (codes "past-window")) (script_answer order target out i))
   by-window target t some is =
       ap (λ s. worked (cond s (Refuses image (codes "empty"))
-      (cond (nat_lt target.window.len (length i)) (Refuses image (codes "past-window")) (plan_answer target out i))))
+      (cond (nat_lt target.window.len (length i)) (Refuses image (codes "past-window")) (script_answer order target out i))))
       (ne_eqb (length i) 0 (some-length i some))
-      ∙ ap (λ s. worked (cond s (Refuses image (codes "past-window")) (plan_answer target out i))) is
+      ∙ ap (λ s. worked (cond s (Refuses image (codes "past-window")) (script_answer order target out i))) is
 
   named : (name fault text : List ℕ) → name ≡ image → fault ≡ text → refused image text ≡ refused name fault
   named name fault text is same = ap (λ n. refused n text) (sym is) ∙ ap (refused name) (sym same)
 
-  pub plan-exact : (name fault : List ℕ) → IsPlanRefused (content_of_files f g) cpu image i name fault
-      → worked (plan_work (content_of_files f g) cpu image out i) ≡ refused name fault
-  plan-exact name fault (is, inl (none, text)) = by-target None none ∙ named name fault (codes "no-target") is text
-  plan-exact name fault (is, inr (target, goes, inl (empty, text))) =
+  pub script-exact : (name fault : List ℕ) → IsTargetRefused c cpu image i name fault
+      → worked (script_work order c cpu image out i) ≡ refused name fault
+  script-exact name fault (is, inl (none, text)) = by-target None none ∙ named name fault (codes "no-target") is text
+  script-exact name fault (is, inr (target, goes, inl (empty, text))) =
       by-target (Some target) goes
-      ∙ (ap (λ xs. worked (window_work target.window image out xs)) empty ∙ named name fault (codes "empty") is text)
-  plan-exact name fault (is, inr (target, goes, inr (long, text))) =
+      ∙ (ap (λ xs. worked (window_work order target.window image out xs)) empty ∙ named name fault (codes "empty") is text)
+  script-exact name fault (is, inr (target, goes, inr (long, text))) =
       by-target (Some target) goes
       ∙ (by-window target true (some-of i (omega (arith, long))) (lt-ltb target.window.len (length i) long)
       ∙ named name fault (codes "past-window") is text)
 
-  pub plan-whole : (target : Target) → plan_target (content_of_files f g) cpu ≡ Some target → i ≢ []
+  pub script-whole : (target : Target) → plan_target c cpu ≡ Some target → i ≢ []
       → length i ≤ target.window.len
-      → worked (plan_answer target out i) ≡ worked (plan_work (content_of_files f g) cpu image out i)
-  plan-whole target goes some few =
+      → worked (script_answer order target out i) ≡ worked (script_work order c cpu image out i)
+  script-whole target goes some few =
       sym (by-target (Some target) goes
       ∙ by-window target false some (le-ltb target.window.len (length i) few))
 
@@ -175,23 +179,40 @@ uf2-works image out family =
     (λ right. right.status) (uf2-done image out i family) h)
     (λ i name fault form h. uf2-exact image out i name fault family h)
 
+-- the scripts are right by their rules
+script-works : (order : WriteOrder) (flash otp image out : List ℕ) (cpu : Cpu)
+    → WorksBy (flash_otp_image flash otp image) (λ read. ⊤)
+    (of_three (λ f g i. script_work order (content_of_files f g) cpu image out i))
+    (λ read name fault. OfThree (λ f g i. IsTargetRefused (content_of_files f g) cpu image i name fault) read)
+    (λ read o. OfThree (λ f g i. IsScriptOf order (content_of_files f g) cpu i out o) read)
+script-works order flash otp image out cpu =
+    three-works (record { name = flash; form = Flash }) (record { name = otp; form = Otp })
+    (record { name = image; form = Image }) (λ read. ⊤)
+    (λ f g i. script_work order (content_of_files f g) cpu image out i)
+    (λ f g i. IsTargetRefused (content_of_files f g) cpu image i)
+    (λ f g i o. IsScriptOf order (content_of_files f g) cpu i out o)
+    (λ f g i a b c need. script-done order image out i (content_of_files f g) cpu)
+    (λ f g i o a b c right. same-outcome o Done _ _ right.status right.text right.files
+    ∙ script-whole order image out i (content_of_files f g) cpu right.target right.goes right.some right.fits)
+    (λ f g i a b c h. refused-done (IsTargetRefused (content_of_files f g) cpu image i)
+    (IsScriptOf order (content_of_files f g) cpu i out)
+    (worked (script_work order (content_of_files f g) cpu image out i)) (λ right. right.status)
+    (script-done order image out i (content_of_files f g) cpu) h)
+    (λ f g i name fault a b c h. script-exact order image out i (content_of_files f g) cpu name fault h)
+
 -- `plan` is right by its rules
 pub plan-works : (flash otp image out : List ℕ) (cpu : Cpu) → WorksBy (flash_otp_image flash otp image) (λ read. ⊤)
     (of_three (λ f g i. plan_work (content_of_files f g) cpu image out i))
     (λ read name fault. OfThree (λ f g i. IsPlanRefused (content_of_files f g) cpu image i name fault) read)
     (λ read o. OfThree (λ f g i. IsPlanOf (content_of_files f g) cpu i out o) read)
-plan-works flash otp image out cpu =
-    three-works (record { name = flash; form = Flash }) (record { name = otp; form = Otp })
-    (record { name = image; form = Image }) (λ read. ⊤) (λ f g i. plan_work (content_of_files f g) cpu image out i)
-    (λ f g i. IsPlanRefused (content_of_files f g) cpu image i) (λ f g i o. IsPlanOf (content_of_files f g) cpu i out o)
-    (λ f g i a b c need. plan-done image out f g i cpu)
-    (λ f g i o a b c right. same-outcome o Done _ _ right.status right.text right.files
-    ∙ plan-whole image out f g i cpu right.target right.goes right.some right.fits)
-    (λ f g i a b c h. refused-done (IsPlanRefused (content_of_files f g) cpu image i)
-    (IsPlanOf (content_of_files f g) cpu i out)
-    (worked (plan_work (content_of_files f g) cpu image out i)) (λ right. right.status)
-    (plan-done image out f g i cpu) h)
-    (λ f g i name fault a b c h. plan-exact image out f g i cpu name fault h)
+plan-works = script-works FirstLast
+
+-- `load` is right by its rules
+pub load-works : (flash otp image out : List ℕ) (cpu : Cpu) → WorksBy (flash_otp_image flash otp image) (λ read. ⊤)
+    (of_three (λ f g i. load_work (content_of_files f g) cpu image out i))
+    (λ read name fault. OfThree (λ f g i. IsLoadRefused (content_of_files f g) cpu image i name fault) read)
+    (λ read o. OfThree (λ f g i. IsLoadOf (content_of_files f g) cpu i out o) read)
+load-works = script-works Ascending
 
 gen-only : (n : ℕ) (o : AnswerView) → IsGenOf n o → o ≡ worked (gen_work n)
 gen-only n o right =

@@ -10,12 +10,14 @@ use Rattle.part_table.specs.declared.target.Target.{Target}
 use Rattle.boot_rules.specs.declared.decision.Decision.{Decision}
 use Rattle.boot_rules.specs.Chosen.{Chosen}
 use Rattle.uf2_place.specs.Files.{file_bytes, page_count}
-use Rattle.script_plan.specs.Plans.{plan_text}
+use Rattle.script_plan.specs.declared.writing.WriteOrder.{WriteOrder}
+use Rattle.script_plan.specs.declared.writing.WriteOrder.TheVariants.{FirstLast, Ascending}
+use Rattle.script_plan.specs.Orders.{script_text}
 use Rattle.image_pack.specs.Flashes.{generated}
 use Rattle.cli_course.specs.declared.status.Status.TheVariants.{Done}
 use Rattle.text_lines.specs.Texts.{decision_line}
 use Rattle.cli_course.specs.Outcomes.{one_file, AnswerView}
-use Rattle.cli_tools.specs.ToolWorks.{uf2_line, plan_target, plan_line, made_content, gen_line}
+use Rattle.cli_tools.specs.ToolWorks.{uf2_line, plan_target, script_line, made_content, gen_line}
 
 -- why `uf2` refuses an image: it has no byte
 abbrev pub IsNoUf2Image : List ℕ → List ℕ → Type 0
@@ -32,29 +34,44 @@ pub record IsUf2Of (image : List ℕ) (family : ℕ) (out : List ℕ) (o : Answe
   pub text : o.text ≡ uf2_line (page_count (length image))
   pub files : o.files ≡ one_file out (file_bytes image family)
 
--- why `plan` refuses an image: a download of the processor's executables has no target; otherwise
--- the image has no byte, or more bytes than the target's window
-abbrev pub IsPlanFault : Content → Cpu → List ℕ → List ℕ → Type 0
-IsPlanFault c cpu image fault =
+-- why `plan` and `load` refuse an image: a download of the processor's executables has no target;
+-- otherwise the image has no byte, or more bytes than the target's window
+abbrev pub IsTargetFault : Content → Cpu → List ℕ → List ℕ → Type 0
+IsTargetFault c cpu image fault =
     ((plan_target c cpu ≡ None) × (fault ≡ codes "no-target"))
     ⊎ ((target : Target) × (plan_target c cpu ≡ Some target)
     × (((image ≡ []) × (fault ≡ codes "empty"))
     ⊎ ((target.window.len < length image) × (fault ≡ codes "past-window"))))
 
--- `plan` refuses the image of this name with this fault
-abbrev pub IsPlanRefused : Content → Cpu → List ℕ → List ℕ → List ℕ → List ℕ → Type 0
-IsPlanRefused c cpu image i name fault = (name ≡ image) × IsPlanFault c cpu i fault
+-- they refuse the image of this name with this fault
+abbrev pub IsTargetRefused : Content → Cpu → List ℕ → List ℕ → List ℕ → List ℕ → Type 0
+IsTargetRefused c cpu image i name fault = (name ≡ image) × IsTargetFault c cpu i fault
 
--- `plan`: the outcome tells the window of the target of the processor's executables and the image's
--- length, and writes the script that writes the image into that window
-pub record IsPlanOf (c : Content) (cpu : Cpu) (image out : List ℕ) (o : AnswerView) : Type 0 where
+-- the outcome tells the window of the target of the processor's executables and the image's length,
+-- and writes the script that writes the image into that window in this order
+pub record IsScriptOf (order : WriteOrder) (c : Content) (cpu : Cpu) (image out : List ℕ)
+    (o : AnswerView) : Type 0 where
   pub target : Target
   pub goes : plan_target c cpu ≡ Some target
   pub some : image ≢ []
   pub fits : length image ≤ target.window.len
   pub status : o.status ≡ Done
-  pub text : o.text ≡ plan_line target.window (length image)
-  pub files : o.files ≡ one_file out (plan_text target.window.start image)
+  pub text : o.text ≡ script_line order target.window (length image)
+  pub files : o.files ≡ one_file out (script_text order target.window.start image)
+
+-- `plan`: the script writes the first sector last
+abbrev pub IsPlanRefused : Content → Cpu → List ℕ → List ℕ → List ℕ → List ℕ → Type 0
+IsPlanRefused c cpu image i name fault = IsTargetRefused c cpu image i name fault
+
+abbrev pub IsPlanOf : Content → Cpu → List ℕ → List ℕ → AnswerView → Type 0
+IsPlanOf c cpu image out o = IsScriptOf FirstLast c cpu image out o
+
+-- `load`: the script writes one sector after another, in ascending order
+abbrev pub IsLoadRefused : Content → Cpu → List ℕ → List ℕ → List ℕ → List ℕ → Type 0
+IsLoadRefused c cpu image i name fault = IsTargetRefused c cpu image i name fault
+
+abbrev pub IsLoadOf : Content → Cpu → List ℕ → List ℕ → AnswerView → Type 0
+IsLoadOf c cpu image out o = IsScriptOf Ascending c cpu image out o
 
 -- `gen`: the outcome tells the flash of the number, and the one decision that the rules name for a
 -- normal boot for Arm on it and an OTP of zeros; it is no failure where that is a fall

@@ -15,7 +15,9 @@ use Rattle.boot_rules.specs.Targets.{target_of}
 use Rattle.text_lines.specs.Texts.{digest_text, window_text, decision_line}
 use Rattle.uf2_place.specs.Files.{file_bytes, page_count}
 use Rattle.image_pack.specs.Faults.{zero_otp}
-use Rattle.script_plan.specs.Plans.{plan_text}
+use Rattle.script_plan.specs.declared.writing.WriteOrder.{WriteOrder}
+use Rattle.script_plan.specs.declared.writing.WriteOrder.TheVariants.{FirstLast, Ascending}
+use Rattle.script_plan.specs.Orders.{script_text}
 use Rattle.image_pack.specs.Flashes.{generated}
 use Rattle.cli_course.specs.Outcomes.{one_file, line, Work, Answers, Refuses}
 
@@ -41,27 +43,41 @@ plan_target c cpu =
     target_of c (option_map (λ (found : Found). found.table) (table_in c)) cpu
     (executable_family cpu)
 
--- the line of a plan for an image of so many bytes
-abbrev pub plan_line : Window → ℕ → List ℕ
-plan_line w n = codes "plan " ++ (window_text w ++ (codes " bytes=" ++ line (decimal n)))
+-- the word of the command that writes an image in this order
+abbrev pub order_word : WriteOrder → List ℕ
+order_word FirstLast = codes "plan"
+order_word Ascending = codes "load"
+
+-- the line of a script for an image of so many bytes
+abbrev pub script_line : WriteOrder → Window → ℕ → List ℕ
+script_line order w n =
+    order_word order ++ (codes " " ++ (window_text w ++ (codes " bytes=" ++ line (decimal n))))
 
 -- the script that writes an image into a window; an image of no byte and one of more bytes than the
 -- window are refused
-abbrev pub window_work : Window → List ℕ → List ℕ → List ℕ → Work
-window_work w name out image =
+abbrev pub window_work : WriteOrder → Window → List ℕ → List ℕ → List ℕ → Work
+window_work order w name out image =
     if length image == 0 then Refuses name (codes "empty")
     else if nat_lt w.len (length image) then Refuses name (codes "past-window")
-    else Answers false (plan_line w (length image)) (one_file out (plan_text w.start image))
+    else Answers false (script_line order w (length image))
+    (one_file out (script_text order w.start image))
 
 -- the script that writes an image into a target's window; where there is no target the image is
 -- refused
-abbrev pub target_work : Option Target → List ℕ → List ℕ → List ℕ → Work
-target_work None name out image = Refuses name (codes "no-target")
-target_work (Some target) name out image = window_work target.window name out image
+abbrev pub target_work : WriteOrder → Option Target → List ℕ → List ℕ → List ℕ → Work
+target_work order None name out image = Refuses name (codes "no-target")
+target_work order (Some target) name out image = window_work order target.window name out image
 
 -- the script that writes an image where a download of the processor's executables goes
+abbrev pub script_work : WriteOrder → Content → Cpu → List ℕ → List ℕ → List ℕ → Work
+script_work order c cpu name out image = target_work order (plan_target c cpu) name out image
+
+-- the script that writes the first sector last, and the one that writes in ascending order
 abbrev pub plan_work : Content → Cpu → List ℕ → List ℕ → List ℕ → Work
-plan_work c cpu name out image = target_work (plan_target c cpu) name out image
+plan_work c cpu name out image = script_work FirstLast c cpu name out image
+
+abbrev pub load_work : Content → Cpu → List ℕ → List ℕ → List ℕ → Work
+load_work c cpu name out image = script_work Ascending c cpu name out image
 
 -- the flash of a number, and an OTP of zeros
 abbrev pub made_content : ℕ → Content

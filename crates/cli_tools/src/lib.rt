@@ -1,4 +1,5 @@
-//! The work of the commands that make images, tables, UF2 files, plans and flashes.
+//! The work of the commands that make images, tables, UF2 files, plans, loads and
+//! flashes.
 #![tactic(auto)]
 
 mod elfs;
@@ -11,6 +12,6 @@ mod uf2_files;
 
 pub use elfs::pack_elf;
 pub use generating::made_flash;
-pub use planning::plan_image;
+pub use planning::{load, plan_image};
 pub use tools::{seal_binary, table};
 pub use uf2_files::uf2;

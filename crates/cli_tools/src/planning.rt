@@ -1,11 +1,12 @@
-//! The script that writes an image where a download of it goes.
+//! The scripts that write an image where a download of it goes.
 
 ghost use Rattle.std.specs.Prelude.{◌≡◌, ◌/◌, IfOk, IfSome, IsTrue, length, string_bytes};
 ghost use Rattle.part_table.specs.Windows.{IsPlacedWindow};
 ghost use Rattle.sector_pool.specs.Pool.{HasFree};
 ghost use Rattle.script_plan.specs.Plans.{IsPlanned};
 ghost use Rattle.cli_course.specs.Outcomes.{worked};
-ghost use Rattle.cli_tools.specs.ToolWorks.{executable_family, plan_target, plan_line, window_work, plan_work};
+ghost use Rattle.cli_tools.specs.ToolWorks.{executable_family, load_work, order_word, plan_target, plan_work, script_line, script_work, window_work};
+ghost use Rattle.pico_board.specs.MemBoard.{state_of};
 ghost use Rattle.cli_course.specs.Views.{answer_from};
 ghost use Rattle.cli_inputs.specs.declared.forms.Form.{Form};
 ghost use Rattle.cli_inputs.specs.Forms.{HasForm, content_of_files};
@@ -14,8 +15,8 @@ use boot_rules::{Target, find_table, target};
 use cli_course::{Answer, one_file, refusal};
 use cli_inputs::{board_of, new_pool};
 use part_table::{ARM_S_FAMILY, RISCV_FAMILY};
-use pico_board::{Board, Cpu, Window};
-use script_plan::{PlanError, plan};
+use pico_board::{Board, Cpu, MemBoard, Window};
+use script_plan::{PlanError, WriteOrder, write_script};
 use sector_pool::SectorPool;
 use std::alloc::{AllocError, Global};
 use text_lines::place_text;
@@ -45,17 +46,34 @@ fn plan_target<B: Board>(board: &B, pool: &mut SectorPool, cpu: Cpu) -> Option<T
     }
 }
 
-/// The line of a plan for an image of so many bytes.
-fn plan_line(alloc: Global, window: Window, length: usize) -> Result<String, AllocError>
-    ensures { IfOk result (λ t. string_bytes t ≡ plan_line window length) }
+/// The word of the command that writes an image in this order.
+fn order_word(order: WriteOrder) -> &'static str
+    ensures { result.now ≡ order_word order }
 {
+    match order {
+        WriteOrder::FirstLast => "plan",
+        WriteOrder::Ascending => "load",
+    }
+}
+
+/// The line of a script for an image of so many bytes.
+fn script_line(
+    alloc: Global,
+    order: WriteOrder,
+    window: Window,
+    length: usize,
+) -> Result<String, AllocError>
+    ensures { IfOk result (λ t. string_bytes t ≡ script_line order window length) }
+{
+    let word = order_word(order);
     let place = place_text(alloc, window)?;
-    format!(in alloc; "plan {place} bytes={length}\n")
+    format!(in alloc; "{word} {place} bytes={length}\n")
 }
 
 /// The script that writes an image into a window, or why there is none.
 fn window_answer<'a>(
     alloc: Global,
+    order: WriteOrder,
     window: Window,
     name: &str,
     out: &'a str,
@@ -63,12 +81,12 @@ fn window_answer<'a>(
 ) -> Result<Answer<'a>, AllocError>
     requires { IsPlanned window }
     ensures { IfOk result (λ answer. answer_from answer
-        ≡ worked (window_work window name.now out.entry.now image.now)) }
+        ≡ worked (window_work order window name.now out.entry.now image.now)) }
 {
     let mut script = Vec::new(alloc);
-    match plan(alloc, window, image, &mut script) {
+    match write_script(alloc, order, window, image, &mut script) {
         Ok(()) => {
-            let text = plan_line(alloc, window, image.len())?;
+            let text = script_line(alloc, order, window, image.len())?;
             one_file(alloc, text, out, script)
         }
         Err(PlanError::Empty) => refusal(alloc, name, "empty"),
@@ -77,9 +95,11 @@ fn window_answer<'a>(
     }
 }
 
-/// The answer of `plan`: the window and the length, and the script.
-fn plan_answer<'a, B: Board>(
+/// The window and the length, and the script that writes an image in this order; or why there is
+/// none.
+fn script_answer<'a, B: Board>(
     alloc: Global,
+    order: WriteOrder,
     board: &B,
     cpu: Cpu,
     name: &str,
@@ -87,19 +107,19 @@ fn plan_answer<'a, B: Board>(
     image: &[u8],
 ) -> Result<Answer<'a>, AllocError>
     requires power { IsTrue (B.state board.now).powered }
-    ensures { IfOk result (λ answer. answer_from answer
-        ≡ worked (plan_work (B.state board.now).content cpu name.now out.entry.now image.now)) }
+    ensures { IfOk result (λ answer. answer_from answer ≡ worked
+        (script_work order (B.state board.now).content cpu name.now out.entry.now image.now)) }
 {
     let mut pool = new_pool(alloc)?;
     match plan_target(board, &mut pool, cpu) {
-        Some(target) => window_answer(alloc, target.window, name, out, image),
+        Some(target) => window_answer(alloc, order, target.window, name, out, image),
         None => refusal(alloc, name, "no-target"),
     }
 }
 
 /// The work of `plan` on a flash file, an OTP file and an image, which have their forms: the line
-/// of the window and the length, and the script; or why there is none, told of the image by its
-/// word. It fails only where memory is out.
+/// of the window and the length, and the script that writes the image's first sector last; or why
+/// there is none, told of the image by its word. It fails only where memory is out.
 pub fn plan_image<'a>(
     alloc: Global,
     flash: Vec<u8>,
@@ -115,5 +135,23 @@ pub fn plan_image<'a>(
         (plan_work (content_of_files flash.items otp.now) cpu name.now out.entry.now image.now)) }
 {
     let board = board_of(alloc, flash, otp)?;
-    plan_answer(alloc, &board, cpu, name, out, image)
+    script_answer(alloc, WriteOrder::FirstLast, &board, cpu, name, out, image)
+}
+
+/// The work of `load` on a board with power and an image: the line of the window and the length,
+/// and the script that writes the image in ascending order, sector by sector; or why there is none,
+/// told of the image by its word. It fails only where memory is out.
+pub fn load<'a>(
+    alloc: Global,
+    board: MemBoard,
+    cpu: Cpu,
+    name: &str,
+    out: &'a str,
+    image: &[u8],
+) -> Result<Answer<'a>, AllocError>
+    requires { IsTrue (state_of board).powered }
+    ensures { IfOk result (λ answer. answer_from answer ≡ worked
+        (load_work (state_of board).content cpu name.now out.entry.now image.now)) }
+{
+    script_answer(alloc, WriteOrder::Ascending, &board, cpu, name, out, image)
 }

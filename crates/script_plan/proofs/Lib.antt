@@ -1,2 +1,4 @@
 pub mod PlanLemmas
 pub mod PlanLaws
+pub mod LoadLemmas
+pub mod LoadLaws

@@ -10,7 +10,8 @@ use Rattle.boot_script.specs.declared.event.ScriptFault.{ScriptFault}
 use Rattle.boot_script.specs.Events.{Command, EventView, PowerOn, Reset}
 use Rattle.boot_script.specs.Scripts.{IsBeforeEnd, events}
 use Rattle.boot_script.proofs.FollowingLemmas.{whole-script}
-use Rattle.script_plan.specs.Plans.{erase_cmd, in_sectors, last_events, plan_events, plan_text, rest_events, sent, update_cmd, write_cmd, write_events}
+use Rattle.script_plan.specs.Plans.{in_sectors, last_events, plan_events, plan_text, rest_events, write_events}
+use Rattle.script_plan.specs.Commands.{erase_cmd, sent, update_cmd, write_cmd}
 
 -- a command as an event
 pub sent-is : (cmd : Cmd) (payload : List ℕ) → sent cmd payload ≡ Command (commands.written_command cmd) payload
@@ -18,7 +19,7 @@ unfolding sent
 sent-is cmd payload = refl
 
 -- a command of 16 argument bytes is an event of its own
-inside : (cmd : Cmd) (payload : List ℕ) → length cmd.args ≡ 16 → length payload < 2 ^ 32
+pub inside : (cmd : Cmd) (payload : List ℕ) → length cmd.args ≡ 16 → length payload < 2 ^ 32
     → IsBeforeEnd (sent cmd payload)
 unfolding sent
 inside cmd payload args small =
@@ -34,7 +35,7 @@ long-writes : (at : ℕ) (image : List ℕ) → 4096 < length image
 long-writes at image more = rw (lt-ltb 4096 (length image) more) refl
 
 -- all of a list of writes are events of their own
-abbrev Insides : List EventView → Type 0
+abbrev pub Insides : List EventView → Type 0
 Insides es = AllByRecursion IsBeforeEnd es
 
 last-inside : (token at : ℕ) (first : List ℕ) → length first ≤ 4096 → Insides (last_events token at first)

@@ -1,1 +1,4 @@
+pub mod Commands
 pub mod Plans
+pub mod Loads
+pub mod Orders

@@ -1,18 +1,13 @@
 -- The script by which a host writes an image into a window and starts it, with the window's first
--- sector last. The commands are of the RP2350 Datasheet, chapter 5 (Bootrom, the PICOBOOT
--- interface); the plan is this project's own.
+-- sector last. This project's own.
 use Rattle.std.specs.Prelude.{◌≡◌, ℕ, ◌+◌, ◌*◌, ◌/◌, ◌%◌, ◌≤◌, nat_lt, if◌then◌else◌, List, [], ◌∷◌, ◌++◌, length, take, drop}
 use Rattle.std.specs.List.{flat_map}
-use Rattle.byteorder.specs.Endian.{little_bytes}
 use Rattle.pico_board.specs.declared.window.TheConstants.{MOST_FLASH_BYTES}
 use Rattle.pico_board.specs.declared.window.Window.{Window}
 use Rattle.pico_board.specs.declared.boot.BootKind.TheVariants.{Bootsel}
-use Rattle.pico_board.specs.Content.{flash_base}
-use Rattle.picoboot_cmd.specs.declared.cmd.Cmd.{Cmd}
-use Rattle.picoboot_cmd.specs.declared.kinds.TheConstants.{ERASE, REBOOT, WRITE}
-use Rattle.picoboot_cmd.specs.Commands as commands
-use Rattle.boot_script.specs.Events.{EventView, Command, End, PowerOn, Reset}
+use Rattle.boot_script.specs.Events.{EventView, End, PowerOn, Reset}
 use Rattle.boot_script.specs.Written.{written_event}
+use Rattle.script_plan.specs.Commands.{erase_cmd, sent, update_cmd, write_cmd}
 
 -- the number of bytes of as many whole sectors as n bytes need
 abbrev pub in_sectors : ℕ → ℕ
@@ -23,51 +18,6 @@ pub record IsPlanned (w : Window) : Type 0 where
   pub start : w.start % 4096 ≡ 0
   pub len : w.len % 4096 ≡ 0
   pub low : w.start + w.len ≤ MOST_FLASH_BYTES
-
--- three words as arguments, and a word 0
-abbrev pub words_args : ℕ → ℕ → ℕ → List ℕ
-words_args first second third =
-    little_bytes 4 first
-    ++ (little_bytes 4 second ++ (little_bytes 4 third ++ little_bytes 4 0))
-
--- the arguments of an erase or a write at a flash offset: its address and its size
-abbrev pub range_args : ℕ → ℕ → List ℕ
-range_args at size = words_args (flash_base + at) size 0
-
--- the command that erases `size` bytes at a flash offset
-abbrev pub erase_cmd : ℕ → ℕ → ℕ → Cmd
-erase_cmd token at size = record {
-  token = token;
-  id = ERASE;
-  arg_size = 8;
-  transfer = 0;
-  args = range_args at size;
-}
-
--- the command that writes `size` bytes at a flash offset
-abbrev pub write_cmd : ℕ → ℕ → ℕ → Cmd
-write_cmd token at size = record {
-  token = token;
-  id = WRITE;
-  arg_size = 8;
-  transfer = size;
-  args = range_args at size;
-}
-
--- the command that reboots into an update of the region at a flash offset: flags 4, no delay, and
--- the address as p0
-abbrev pub update_cmd : ℕ → ℕ → Cmd
-update_cmd token at = record {
-  token = token;
-  id = REBOOT;
-  arg_size = 16;
-  transfer = 0;
-  args = words_args 4 0 (flash_base + at);
-}
-
--- a command and its payload as an event
-unfoldable pub sent : Cmd → List ℕ → EventView
-sent cmd payload = Command (commands.written_command cmd) payload
 
 -- the rest of an image behind its first sector: its sectors are erased, and it is written
 abbrev pub rest_events : ℕ → List ℕ → List EventView

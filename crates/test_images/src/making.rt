@@ -6,7 +6,7 @@ ghost use Rattle.script_plan.specs.Plans.{IsPlanned};
 use crate::fixtures::{BLOCK, LEAST_SEALED, sha256, spec};
 use image_pack::{generate, seal};
 use pico_board::Window;
-use script_plan::plan;
+use script_plan::{load, plan};
 use std::alloc::{AllocError, Global};
 use std::process::Abort;
 use std::test::Fail;
@@ -27,6 +27,12 @@ const LONG_SEALED: [u8; 32] = [
 const LONG_PLANNED: [u8; 32] = [
     0x67, 0xcb, 0x18, 0xef, 0x2e, 0x85, 0x5a, 0x79, 0x29, 0xc1, 0xa8, 0xdb, 0x6b, 0x65, 0x59, 0x78,
     0x11, 0xf6, 0x3c, 0xcf, 0xc7, 0xe6, 0xce, 0x13, 0x9e, 0x2b, 0x7c, 0x46, 0xfd, 0xa3, 0x06, 0x40,
+];
+
+/// The script that loads the binary of 1,025 words into the window of sectors 2 to 31.
+const LOADED: [u8; 32] = [
+    0x27, 0x7d, 0xff, 0x6a, 0x0b, 0xdb, 0x92, 0xc9, 0xe5, 0x53, 0x8d, 0xed, 0x42, 0x4e, 0x0b, 0xa7,
+    0xa7, 0x8b, 0x21, 0xc3, 0x0b, 0x94, 0xec, 0x10, 0x13, 0xab, 0x69, 0xf5, 0x25, 0x3d, 0x66, 0x38,
 ];
 
 /// The flash of number 7.
@@ -92,6 +98,17 @@ fn an_image_of_several_sectors_is_planned_with_its_first_sector_last(
     let mut script = Vec::new(alloc);
     assert_eq!(rt; plan(alloc, slot(32), &sealed, &mut script), Ok(()));
     assert_eq!(rt; sha256(&script), LONG_PLANNED);
+    Ok(())
+}
+
+#[test]
+fn an_image_of_two_sectors_is_loaded_in_ascending_order(rt: HostRuntime) -> Result<(), Fail> {
+    let alloc = rt.alloc();
+    let bytes = binary(alloc, 1025, 0xffff_ffff)?;
+    let mut script = Vec::new(alloc);
+    assert_eq!(rt; load(alloc, slot(2), &bytes, &mut script), Ok(()));
+    assert_eq!(rt; script.len(), 8496);
+    assert_eq!(rt; sha256(&script), LOADED);
     Ok(())
 }
 

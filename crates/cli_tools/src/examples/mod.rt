@@ -15,10 +15,11 @@ ghost use Rattle.image_pack.specs.declared.spec.SealError.TheVariants.{BadSpec, 
 ghost use Rattle.image_pack.specs.declared.spec.SpecField.TheVariants.{Rollback, Rows};
 ghost use Rattle.elf_pack.specs.declared.fault.ElfFault.TheVariants.{NotElf, FileType, Processor, Headers, Segment, Empty, TooMany, Mixed, Overlap, Seal};
 ghost use Rattle.table_json.specs.declared.fault.JsonFault.TheVariants.{NotJson};
+ghost use Rattle.script_plan.specs.declared.writing.WriteOrder.TheVariants.{Ascending, FirstLast};
 ghost use Rattle.cli_tools.specs.Elfs.{elf_blamed, elf_text, elf_work};
 ghost use Rattle.cli_tools.specs.Seals.{blamed, seal_text, sealed_line};
 ghost use Rattle.cli_tools.specs.Tools.{seal_work, table_line, table_work};
-ghost use Rattle.cli_tools.specs.ToolWorks.{executable_family, gen_line, made_content, plan_line, plan_target, target_work, uf2_line, uf2_work, window_work};
+ghost use Rattle.cli_tools.specs.ToolWorks.{executable_family, gen_line, made_content, plan_target, script_line, target_work, uf2_line, uf2_work, window_work};
 
 /// The texts of the errors of a sealing, and the inputs that they are told of.
 pub fn seal_texts()
@@ -43,8 +44,10 @@ pub fn lines_of_sealings()
 /// `abc`.
 pub fn lines_of_tools()
     ensures uf2 { uf2_line 2 ≡ codes "uf2 blocks=2\n" }
-    ensures plan { plan_line small_window 384
+    ensures plan { script_line FirstLast small_window 384
         ≡ codes "plan window=0x00000000+0x00002000 bytes=384\n" }
+    ensures load { script_line Ascending small_window 384
+        ≡ codes "load window=0x00000000+0x00002000 bytes=384\n" }
     ensures made { gen_line 7 (codes "abc")
         ≡ codes "gen n=7 sha256=ba7816bf8f01cfea414140de5dae2223"
         ++ codes "b00361a396177a9cb410ff61f20015ad\n" }
@@ -52,12 +55,14 @@ pub fn lines_of_tools()
 
 /// An image is refused by the first fault, under its own name.
 pub fn refusals_of_images()
-    ensures no_target { worked (target_work None (codes "i") (codes "a") [])
+    ensures no_target { worked (target_work Ascending None (codes "i") (codes "a") [])
         ≡ refused (codes "i") (codes "no-target") }
-    ensures empty { worked (window_work (record { start = 0; len = 0 }) (codes "i") (codes "a") [])
+    ensures empty { worked
+        (window_work FirstLast (record { start = 0; len = 0 }) (codes "i") (codes "a") [])
         ≡ refused (codes "i") (codes "empty") }
     ensures past { worked
-        (window_work (record { start = 0; len = 2 }) (codes "i") (codes "a") (1 ∷ 2 ∷ 3 ∷ []))
+        (window_work Ascending (record { start = 0; len = 2 }) (codes "i") (codes "a")
+        (1 ∷ 2 ∷ 3 ∷ []))
         ≡ refused (codes "i") (codes "past-window") }
     ensures no_byte { worked (uf2_work (codes "i") 0xe48bff58 (codes "a") [])
         ≡ refused (codes "i") (codes "empty") }
@@ -66,10 +71,12 @@ pub fn refusals_of_images()
 /// The least image has one byte, and the greatest of a plan is as long as the window.
 pub fn least_and_greatest_images()
     ensures whole_window { (worked
-        (window_work (record { start = 0; len = 2 }) (codes "i") (codes "a") (1 ∷ 2 ∷ []))).text
+        (window_work FirstLast (record { start = 0; len = 2 }) (codes "i") (codes "a")
+        (1 ∷ 2 ∷ []))).text
         ≡ codes "plan window=0x00000000+0x00000002 bytes=2\n" }
     ensures one_byte { (worked
-        (window_work (record { start = 0x2000; len = 256 }) (codes "i") (codes "a") (1 ∷ []))).text
+        (window_work FirstLast (record { start = 0x2000; len = 256 }) (codes "i") (codes "a")
+        (1 ∷ []))).text
         ≡ codes "plan window=0x00002000+0x00000100 bytes=1\n" }
     ensures one_block { (worked (uf2_work (codes "i") 0xe48bff58 (codes "a") (1 ∷ []))).text
         ≡ codes "uf2 blocks=1\n" }

@@ -16,8 +16,8 @@ ghost use Rattle.cli_inputs.specs.Jsons.{spec_read, table_read};
 ghost use Rattle.cli_inputs.specs.Inputs.{binary_and_spec, elf_and_spec, one_json, image_alone, flash_otp_image, of_one, of_two, of_three};
 ghost use Rattle.cli_inputs.specs.Rules.{OfOne, OfTwo, OfThree, WorksBy};
 ghost use Rattle.cli_tools.specs.SealRules.{IsSealedOf, IsTableOf};
-ghost use Rattle.cli_tools.specs.ToolWorks.{uf2_work, plan_work, gen_work};
-ghost use Rattle.cli_tools.specs.ToolRules.{IsUf2Refused, IsUf2Of, IsPlanRefused, IsPlanOf, IsGenOf};
+ghost use Rattle.cli_tools.specs.ToolWorks.{uf2_work, plan_work, load_work, gen_work};
+ghost use Rattle.cli_tools.specs.ToolRules.{IsUf2Refused, IsUf2Of, IsPlanRefused, IsPlanOf, IsLoadRefused, IsLoadOf, IsGenOf};
 
 /// The file of a table whose block is not too long has 4096 bytes.
 pub fn table_files_are_one_sector()
@@ -57,6 +57,12 @@ pub fn works_are_right()
         (λ read name fault. OfThree
         (λ f g i. IsPlanRefused (content_of_files f g) cpu image i name fault) read)
         (λ read o. OfThree (λ f g i. IsPlanOf (content_of_files f g) cpu i out o) read) }
+    ensures load { (flash otp image out : List ℕ) (cpu : Cpu)
+        → WorksBy (flash_otp_image flash otp image) (λ read. ⊤)
+        (of_three (λ f g i. load_work (content_of_files f g) cpu image out i))
+        (λ read name fault. OfThree
+        (λ f g i. IsLoadRefused (content_of_files f g) cpu image i name fault) read)
+        (λ read o. OfThree (λ f g i. IsLoadOf (content_of_files f g) cpu i out o) read) }
     ensures made { (n : ℕ) → WorksBy [] (λ read. ⊤) (λ read. gen_work n)
         (λ read name fault. ⊥) (λ read o. IsGenOf n o) }
 {}

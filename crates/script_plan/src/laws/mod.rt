@@ -1,6 +1,7 @@
-//! Laws of plans, each the contract of a function that does nothing.
+//! Laws of plans and loads, each the contract of a function that does nothing.
 
-ghost use Rattle.std.specs.Prelude.{◌≡◌, ℕ, ◌+◌, ◌*◌, ◌<◌, ◌≤◌, ◌^◌, List, [], ◌∷◌, length, take, drop, Ok, Option};
+ghost use Rattle.std.specs.Prelude.{◌≡◌, ℕ, ◌+◌, ◌*◌, ◌<◌, ◌≤◌, ◌^◌, List, [], ◌∷◌, ◌++◌, length, take, drop, flat_map, slice_index, Ok, Option};
+ghost use Rattle.std.specs.List.{range_with_len};
 ghost use Rattle.pico_board.specs.declared.window.Window.{Window};
 ghost use Rattle.pico_board.specs.declared.window.TheConstants.{MOST_FLASH_BYTES};
 ghost use Rattle.pico_board.specs.declared.boot.BootKind.TheVariants.{Bootsel, Update};
@@ -13,7 +14,9 @@ ghost use Rattle.picoboot_cmd.specs.Served.{boot_by};
 ghost use Rattle.picoboot_cmd.specs.WellFormed.{IsErase, IsReboot, IsWrite, MayWrite};
 ghost use Rattle.boot_script.specs.Events.{Command, PowerOn, Reset};
 ghost use Rattle.boot_script.specs.Scripts.{events};
-ghost use Rattle.script_plan.specs.Plans.{IsPlanned, erase_cmd, in_sectors, plan_text, sent, update_cmd, write_cmd};
+ghost use Rattle.script_plan.specs.Plans.{IsPlanned, in_sectors, plan_text};
+ghost use Rattle.script_plan.specs.Commands.{erase_cmd, exclusive_cmd, exit_cmd, sent, update_cmd, write_cmd};
+ghost use Rattle.script_plan.specs.Loads.{load_text, sector_count, sector_of};
 
 /// The events of a plan: the power comes on, the board is reset to BOOTSEL, and the window's first
 /// sector is erased. An image of at most a sector is then written; of a longer one the other
@@ -54,4 +57,33 @@ pub fn the_commands_of_a_plan()
     ensures update { (token at : ℕ) → at < MOST_FLASH_BYTES
         → boot_by (reboot_flags (update_cmd token at)) (reboot_p0 (update_cmd token at))
         ≡ Update (flash_base + at) }
+{}
+
+/// The events of a load: the power comes on, the board is reset to BOOTSEL, and the host asks for
+/// exclusive access. Then come the sectors of the image in ascending order, each by an exit from
+/// XIP, an erase and a write. At last the board reboots into an update of the window. Each sector
+/// that is written has the image's bytes, and 0 after the image's end.
+pub fn the_events_of_a_load()
+    ensures events { (w : Window) (image : List ℕ) → IsPlanned w → length image ≤ w.len
+        → events (load_text w.start image)
+        ≡ Ok (PowerOn ∷ Reset Bootsel ∷ sent (exclusive_cmd 1) []
+        ∷ (flat_map (λ k. sent (exit_cmd (3 * k + 2)) []
+        ∷ sent (erase_cmd (3 * k + 3) (w.start + 4096 * k) 4096) []
+        ∷ sent (write_cmd (3 * k + 4) (w.start + 4096 * k) 4096) (sector_of image k) ∷ [])
+        (range_with_len 0 (sector_count (length image)))
+        ++ sent (update_cmd (3 * sector_count (length image) + 2) w.start) [] ∷ [])) }
+    ensures sectors { (n : ℕ)
+        → (n ≤ 4096 * sector_count n) × (4096 * sector_count n < n + 4096) }
+    ensures bytes { (image : List ℕ) (k i : ℕ) → i < 4096
+        → slice_index (sector_of image k) i ≡ slice_index image (4096 * k + i) }
+    ensures past { (image : List ℕ) (i : ℕ) → length image ≤ i → slice_index image i ≡ 0 }
+    ensures long { (image : List ℕ) (k : ℕ) → length (sector_of image k) ≡ 4096 }
+{}
+
+/// The commands that only a load has are read back.
+pub fn the_commands_of_a_load()
+    ensures exclusive { (token : ℕ) → token < 2 ^ 32
+        → command_in (written_command (exclusive_cmd token)) ≡ Ok (exclusive_cmd token) }
+    ensures exit { (token : ℕ) → token < 2 ^ 32
+        → command_in (written_command (exit_cmd token)) ≡ Ok (exit_cmd token) }
 {}

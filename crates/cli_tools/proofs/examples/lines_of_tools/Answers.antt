@@ -11,6 +11,10 @@ pub returns-clause-plan : goal.returns-clause-plan
 unfolding padded_integral digits char_count
 returns-clause-plan c = refl
 
+pub returns-clause-load : goal.returns-clause-load
+unfolding padded_integral digits char_count
+returns-clause-load c = refl
+
 pub returns-clause-made : goal.returns-clause-made
 unfolding padded_integral digits char_count first_words schedule rounds compress hash_after digest_bytes sha256
 returns-clause-made c = refl

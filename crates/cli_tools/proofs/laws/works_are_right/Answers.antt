@@ -1,6 +1,6 @@
 use Rattle.cli_tools.proofs.SealCaseLemmas.{seal-works, table-works}
 use Rattle.cli_tools.proofs.ElfLemmas.{elf-works}
-use Rattle.cli_tools.proofs.ToolLemmas.{uf2-works, plan-works, gen-works}
+use Rattle.cli_tools.proofs.ToolLemmas.{uf2-works, plan-works, load-works, gen-works}
 use Rattle.cli_tools.proofs.laws.works_are_right.Goals as goal
 
 pub returns-clause-seal : goal.returns-clause-seal
@@ -20,3 +20,6 @@ returns-clause-plan c = plan-works
 
 pub returns-clause-made : goal.returns-clause-made
 returns-clause-made c = gen-works
+
+pub returns-clause-load : goal.returns-clause-load
+returns-clause-load c = load-works

@@ -9,7 +9,7 @@ use Rattle.image_def.specs.Definition.{def_of}
 use Rattle.image_check.specs.Image.{image_in}
 use Rattle.boot_rules.specs.Tables.{table_in}
 use Rattle.picoboot_cmd.specs.Pages.{padded_page}
-use Rattle.script_plan.specs.Plans.{sent}
+use Rattle.script_plan.specs.Commands.{sent}
 use Rattle.uf2_place.specs.Blocks.{written_block, word_bytes as uf2_bytes}
 use Rattle.uf2_place.specs.Placement.{programs_in}
 use Rattle.boot_session.proofs.examples.session.sessions_of_a_plan_and_a_download.Goals as goal
