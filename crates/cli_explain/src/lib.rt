@@ -12,4 +12,4 @@ mod texts;
 
 pub use explaining::explain;
 pub use partitions::{families_text, id_text, name_text, partition_line};
-pub use texts::{slot_line, slot_text};
+pub use texts::{otp_text, slot_line, slot_text};

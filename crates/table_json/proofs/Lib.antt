@@ -6,3 +6,5 @@ mod SaysLemmas
 mod FewFaultLemmas
 mod WholeLemmas
 pub mod SpecLemmas
+pub mod OtpLemmas
+pub mod OtpLaws

@@ -16,12 +16,13 @@ use Rattle.table_json.specs.declared.members.Shape.{Shape}
 use Rattle.table_json.specs.Steps.{◌>>=◌}
 use Rattle.table_json.specs.Members.{member_name, has_unknown, object_judged_as, object_judged, required_in, required, optional_in, optional}
 use Rattle.table_json.specs.declared.fault.Place.TheVariants.{Top, Unpartitioned as Outside, Partition as Numbered}
-use Rattle.table_json.specs.declared.fault.Field.TheVariants.{Version as OfVersion, Singleton, Unpartitioned, Partitions, Families as OfFamilies, Permissions, First, Last, Id, Name, Link, IgnoreArm, IgnoreRiscv, NoReboot, Processor, Rollback, Rows, Trial}
-use Rattle.table_json.specs.declared.members.Shape.TheVariants.{OfTable, OfUnpartitioned, OfPartition, OfSpec}
+use Rattle.table_json.specs.declared.fault.Field.TheVariants.{Version as OfVersion, Singleton, Unpartitioned, Partitions, Families as OfFamilies, Permissions, First, Last, Id, Name, Link, IgnoreArm, IgnoreRiscv, NoReboot, Processor, Rollback, Rows, Trial, RollbackRequired, FlashOff, SlotSize}
+use Rattle.table_json.specs.declared.members.Shape.TheVariants.{OfTable, OfUnpartitioned, OfPartition, OfSpec, OfOtp}
 use Rattle.table_json.specs.Forms.{number_below, version_form, link_form, permissions_form}
 use Rattle.table_json.specs.Families.{names_form, families_form, no_families}
 use Rattle.table_json.specs.Partitions.{id_form, some_name, marks_word, marks_of, partition_of_value, partitions_after, unpartitioned_of}
 use Rattle.table_json.specs.Seals.{processor_form, rollback_form, rows_form, no_rows, spec_from}
+use Rattle.table_json.specs.Otps.{size_form, pairs_form, otp_from}
 use Rattle.table_json.specs.Tables.{no_version, few_form, table_fields, unless_faulty, judged, table_of_value}
 
 -- an answer that is neither, and no fault of a whole table
@@ -197,3 +198,11 @@ spec_plain d =
     (λ version. optional_then rollback_form None Top Rollback d _
     (λ rollback. optional_then rows_form no_rows Top Rows d _
     (λ rows. optional_then as_bool false Top Trial d _ (λ trial. ok_plain _))))))
+
+pub otp_plain : (d : Data) → IsPlain (otp_from d)
+otp_plain d =
+    object_then OfOtp Top RollbackRequired d _
+    (λ judged. optional_then as_bool false Top RollbackRequired d _
+    (λ required. optional_then as_bool false Top FlashOff d _
+    (λ off. optional_then size_form 0 Top SlotSize d _
+    (λ exponent. optional_then pairs_form [] Top Rows d _ (λ rows. ok_plain _)))))

@@ -10,11 +10,11 @@ use Rattle.part_table.specs.declared.partition.Partition.{Partition}
 use Rattle.table_json.specs.declared.fault.Place.{Place}
 use Rattle.table_json.specs.declared.fault.Place.TheVariants.{Top, Unpartitioned as Outside, Partition as Numbered}
 use Rattle.table_json.specs.declared.fault.Field.{Field}
-use Rattle.table_json.specs.declared.fault.Field.TheVariants.{Version, Singleton, Unpartitioned, Families, Permissions, Partitions, First, Last, Id, Name, Link, IgnoreArm, IgnoreRiscv, NoReboot, Processor, Rollback, Rows, Trial}
+use Rattle.table_json.specs.declared.fault.Field.TheVariants.{Version, Singleton, Unpartitioned, Families, Permissions, Partitions, First, Last, Id, Name, Link, IgnoreArm, IgnoreRiscv, NoReboot, Processor, Rollback, Rows, Trial, RollbackRequired, FlashOff, SlotSize}
 use Rattle.table_json.specs.declared.fault.JsonFault.{JsonFault}
 use Rattle.table_json.specs.declared.fault.JsonFault.TheVariants.{Unknown, Missing, Value}
 use Rattle.table_json.specs.declared.members.Shape.{Shape}
-use Rattle.table_json.specs.declared.members.Shape.TheVariants.{OfTable, OfUnpartitioned, OfPartition, OfSpec}
+use Rattle.table_json.specs.declared.members.Shape.TheVariants.{OfTable, OfUnpartitioned, OfPartition, OfSpec, OfOtp}
 use Rattle.table_json.specs.Steps.{◌>>=◌}
 use Rattle.table_json.specs.Members.{member_name, has_unknown, object_judged_as, object_judged, required_in, required, optional_in, optional}
 use Rattle.table_json.specs.Forms.{number_below, version_form, link_form, permissions_form}
@@ -22,7 +22,8 @@ use Rattle.table_json.specs.Families.{names_form, families_form, no_families}
 use Rattle.table_json.specs.Partitions.{id_form, some_name, marks_of, partition_of_value, partitions_after, unpartitioned_of}
 use Rattle.table_json.specs.Tables.{no_version, few_form, table_fields}
 use Rattle.table_json.specs.Seals.{processor_form, rollback_form, rows_form, no_rows, spec_from}
-use Rattle.table_json.specs.Rules.{Rule, rule, first_broken, object_rules, required_rules, optional_rules, partition_rules, partitions_rules, unpartitioned_rules, rules_if, table_rules, spec_rules}
+use Rattle.table_json.specs.Otps.{size_form, pairs_form, otp_from}
+use Rattle.table_json.specs.Rules.{otp_rules, Rule, rule, first_broken, object_rules, required_rules, optional_rules, partition_rules, partitions_rules, unpartitioned_rules, rules_if, table_rules, spec_rules}
 
 module _ {B : Type 0} (rest : List Rule) where
   -- an object is judged, and then what comes after it
@@ -268,3 +269,24 @@ fields_first d =
             → result_err (r >>= (λ parts. Ok (make parts))) ≡ first_broken (partitions_rules 0 list)
         kept (Ok parts) is = is
         kept (Err fault) is = is
+
+-- the rules of an OTP from each on
+abbrev otp_from_rows : Data → List Rule
+otp_from_rows d = optional_rules pairs_form Top Rows d
+
+abbrev otp_from_size : Data → List Rule
+otp_from_size d = optional_rules size_form Top SlotSize d ++ otp_from_rows d
+
+abbrev otp_from_off : Data → List Rule
+otp_from_off d = optional_rules as_bool Top FlashOff d ++ otp_from_size d
+
+abbrev otp_from_required : Data → List Rule
+otp_from_required d = optional_rules as_bool Top RollbackRequired d ++ otp_from_off d
+
+pub otp_first : (d : Data) → result_err (otp_from d) ≡ first_broken (otp_rules d)
+otp_first d =
+    object_step (otp_from_required d) OfOtp Top RollbackRequired d _
+    (optional_step (otp_from_off d) as_bool false Top RollbackRequired d _
+    (λ required. optional_step (otp_from_size d) as_bool false Top FlashOff d _
+    (λ off. optional_step (otp_from_rows d) size_form 0 Top SlotSize d _
+    (λ exponent. optional_step [] pairs_form [] Top Rows d _ (λ rows. refl)))))

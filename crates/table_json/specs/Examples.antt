@@ -12,9 +12,10 @@ use Rattle.table_json.specs.declared.fault.JsonFault.TheVariants.{Value, Missing
 use Rattle.table_json.specs.declared.fault.Place.TheVariants.{Top, Unpartitioned, Partition as Numbered}
 use Rattle.table_json.specs.Partitions.{partition_of_value}
 use Rattle.table_json.specs.Tables.{table_of_value}
+use Rattle.table_json.specs.Otps.{OtpView, otp_from}
 use Rattle.table_json.specs.Seals.{spec_from, spec_with}
 
--- what is said of the value of a text, as a table, as partition 0, and as a spec
+-- what is said of the value of a text, as a table, as partition 0, as a spec, and as an OTP
 abbrev pub table_said : List ℕ → Option (Result Table JsonFault)
 table_said text = option_map table_of_value (read text)
 
@@ -23,6 +24,9 @@ first_partition_in text = option_map (partition_of_value 0) (read text)
 
 abbrev pub spec_in : List ℕ → Option (Result SealSpec JsonFault)
 spec_in text = option_map spec_from (read text)
+
+abbrev pub otp_said : List ℕ → Option (Result OtpView JsonFault)
+otp_said text = option_map otp_from (read text)
 
 -- a member that gives all rights
 abbrev pub all_rights : List ℕ

@@ -6,7 +6,9 @@ pub mod Families
 pub mod Partitions
 pub mod Tables
 pub mod Seals
+pub mod Otps
 pub mod Rules
+pub mod OtpRules
 pub mod Says
 pub mod Whole
 pub mod Texts

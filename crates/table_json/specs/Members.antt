@@ -6,11 +6,11 @@ use Rattle.serde_json.specs.Data.{Data, Members, no_members, member}
 use Rattle.serde_json.specs.Find.{get, as_object}
 use Rattle.table_json.specs.declared.fault.Place.{Place}
 use Rattle.table_json.specs.declared.fault.Field.{Field}
-use Rattle.table_json.specs.declared.fault.Field.TheVariants.{Version, Singleton, Unpartitioned, Families, Permissions, Partitions, First, Last, Id, Name, Link, IgnoreArm, IgnoreRiscv, NoReboot, Processor, Rollback, Rows, Trial}
+use Rattle.table_json.specs.declared.fault.Field.TheVariants.{Version, Singleton, Unpartitioned, Families, Permissions, Partitions, First, Last, Id, Name, Link, IgnoreArm, IgnoreRiscv, NoReboot, Processor, Rollback, Rows, Trial, RollbackRequired, FlashOff, SlotSize}
 use Rattle.table_json.specs.declared.fault.JsonFault.{JsonFault}
 use Rattle.table_json.specs.declared.fault.JsonFault.TheVariants.{Unknown, Missing, Value}
 use Rattle.table_json.specs.declared.members.Shape.{Shape}
-use Rattle.table_json.specs.declared.members.Shape.TheVariants.{OfTable, OfUnpartitioned, OfPartition, OfPermissions, OfSpec}
+use Rattle.table_json.specs.declared.members.Shape.TheVariants.{OfTable, OfUnpartitioned, OfPartition, OfPermissions, OfSpec, OfOtp}
 
 -- the name of a member
 abbrev pub member_name : Field → List ℕ
@@ -32,6 +32,9 @@ member_name Processor = codes "processor"
 member_name Rollback = codes "rollback"
 member_name Rows = codes "rows"
 member_name Trial = codes "trial"
+member_name RollbackRequired = codes "rollback_required"
+member_name FlashOff = codes "flash_off"
+member_name SlotSize = codes "slot_size"
 
 -- the names that are listed for an object
 abbrev pub names_of : Shape → List (List ℕ)
@@ -45,6 +48,8 @@ names_of OfPartition =
 names_of OfPermissions = codes "secure" ∷ codes "nonsecure" ∷ codes "bootloader" ∷ []
 names_of OfSpec =
     codes "processor" ∷ codes "version" ∷ codes "rollback" ∷ codes "rows" ∷ codes "trial" ∷ []
+names_of OfOtp =
+    codes "rollback_required" ∷ codes "flash_off" ∷ codes "slot_size" ∷ codes "rows" ∷ []
 
 -- whether a name is listed for an object
 abbrev pub is_member_name : Shape → List ℕ → Bool

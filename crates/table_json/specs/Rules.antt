@@ -1,5 +1,5 @@
 -- The rules of a text as one list, in the order in which they are judged, beside the functions of
--- Tables and Seals: each rule with the fault of a text that breaks it.
+-- Tables, Seals and Otps: each rule with the fault of a text that breaks it.
 use Rattle.std.specs.Prelude.{ℕ, Bool, false, if◌then◌else◌, ◌+◌, List, [], ◌∷◌, ◌++◌, is_none}
 use Rattle.std.specs.Prelude.{Option, None, Some, option_and_then}
 use Rattle.std.specs.Option.{option_map_or}
@@ -8,17 +8,18 @@ use Rattle.serde_json.specs.Find.{get, as_object, as_bool}
 use Rattle.table_json.specs.declared.fault.Place.{Place}
 use Rattle.table_json.specs.declared.fault.Place.TheVariants.{Top, Unpartitioned as Outside, Partition as Numbered}
 use Rattle.table_json.specs.declared.fault.Field.{Field}
-use Rattle.table_json.specs.declared.fault.Field.TheVariants.{Version, Singleton, Unpartitioned, Families, Permissions, Partitions, First, Last, Id, Name, Link, IgnoreArm, IgnoreRiscv, NoReboot, Processor, Rollback, Rows, Trial}
+use Rattle.table_json.specs.declared.fault.Field.TheVariants.{Version, Singleton, Unpartitioned, Families, Permissions, Partitions, First, Last, Id, Name, Link, IgnoreArm, IgnoreRiscv, NoReboot, Processor, Rollback, Rows, Trial, RollbackRequired, FlashOff, SlotSize}
 use Rattle.table_json.specs.declared.fault.JsonFault.{JsonFault}
 use Rattle.table_json.specs.declared.fault.JsonFault.TheVariants.{Unknown, Missing, Value}
 use Rattle.table_json.specs.declared.members.Shape.{Shape}
-use Rattle.table_json.specs.declared.members.Shape.TheVariants.{OfTable, OfUnpartitioned, OfPartition, OfSpec}
+use Rattle.table_json.specs.declared.members.Shape.TheVariants.{OfTable, OfUnpartitioned, OfPartition, OfSpec, OfOtp}
 use Rattle.table_json.specs.Members.{member_name, has_unknown}
 use Rattle.table_json.specs.Forms.{number_below, version_form, link_form, permissions_form}
 use Rattle.table_json.specs.Families.{names_form, families_form}
 use Rattle.table_json.specs.Partitions.{id_form, some_name}
 use Rattle.table_json.specs.Tables.{few_form}
 use Rattle.table_json.specs.Seals.{processor_form, rollback_form, rows_form}
+use Rattle.table_json.specs.Otps.{size_form, pairs_form}
 
 -- a rule, whether it is broken, and the fault of a text that breaks it
 pub record Rule : Type 0 where
@@ -118,3 +119,12 @@ spec_rules d =
     ++ optional_rules rollback_form Top Rollback d
     ++ optional_rules rows_form Top Rows d
     ++ optional_rules as_bool Top Trial d
+
+-- the rules of an OTP
+abbrev pub otp_rules : Data → List Rule
+otp_rules d =
+    object_rules OfOtp Top RollbackRequired d
+    ++ optional_rules as_bool Top RollbackRequired d
+    ++ optional_rules as_bool Top FlashOff d
+    ++ optional_rules size_form Top SlotSize d
+    ++ optional_rules pairs_form Top Rows d

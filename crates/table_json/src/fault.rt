@@ -1,4 +1,4 @@
-//! Why a text is no table and no spec, and the members that a text may have.
+//! Why a text is no table, no spec and no OTP, and the members that a text may have.
 
 ghost use Rattle.std.specs.Prelude.{◌≡◌};
 ghost use Rattle.table_json.specs.Members.{member_name};
@@ -52,13 +52,19 @@ pub enum Field {
     Processor,
     /// The rollback version of an image.
     Rollback,
-    /// The OTP rows of the rollback version.
+    /// The OTP rows of the rollback version, or the rows of an OTP with their values.
     Rows,
     /// Whether an image is on trial.
     Trial,
+    /// Whether a board requires rollback versions.
+    RollbackRequired,
+    /// Whether flash boot is off.
+    FlashOff,
+    /// The size of a slot of a flash without a table.
+    SlotSize,
 }
 
-/// Why a text is no table or no spec: the first that applies.
+/// Why a text is no table, no spec or no OTP: the first that applies.
 #[derive(Clone, Copy, PartialEq, Eq, Debug, Error)]
 pub enum JsonFault {
     /// The bytes are not UTF-8, or no JSON value that nests at most 127 deep.
@@ -109,6 +115,9 @@ impl Field {
             Field::Rollback => "rollback",
             Field::Rows => "rows",
             Field::Trial => "trial",
+            Field::RollbackRequired => "rollback_required",
+            Field::FlashOff => "flash_off",
+            Field::SlotSize => "slot_size",
         }
     }
 }

@@ -21,6 +21,8 @@ pub(crate) enum Shape {
     OfPermissions,
     /// The spec of a sealed image.
     OfSpec,
+    /// The OTP of a board.
+    OfOtp,
 }
 
 /// Whether a name is listed for an object.
@@ -54,6 +56,12 @@ fn is_member_name(shape: Shape, name: &str) -> bool
                 || name == "rollback"
                 || name == "rows"
                 || name == "trial"
+        }
+        Shape::OfOtp => {
+            name == "rollback_required"
+                || name == "flash_off"
+                || name == "slot_size"
+                || name == "rows"
         }
     }
 }

@@ -7,7 +7,7 @@ use image_pack::SealSpec;
 use part_table::{Partition, Table};
 use pico_board::Cpu;
 use std::test::Fail;
-use table_json::{JsonFault, spec_of, table_of};
+use table_json::{JsonFault, OtpRow, otp_spec_of, spec_of, table_of};
 
 /// A table of the sectors 2 to 31 and 32 to 61, of which the second is the B of the first.
 const PAIR: &str = "{\"version\":[1,0],\"unpartitioned\":{\"families\":[\"absolute\"],\
@@ -60,5 +60,27 @@ fn specs_come_of_texts(rt: HostRuntime) -> Result<(), Fail> {
     let text = b"{\"processor\":\"arm\",\"version\":[1,9]}";
     assert_eq!(rt; spec_of(rt.alloc(), text), Ok(least));
     assert_eq!(rt; spec_of(rt.alloc(), b"{} {}"), Err(JsonFault::NotJson));
+    Ok(())
+}
+
+#[test]
+fn otps_come_of_texts(rt: HostRuntime) -> Result<(), Fail> {
+    let text = b"{\"flash_off\":true,\"slot_size\":8192,\"rows\":[[192,7],[3839,16777215]]}";
+    match otp_spec_of(rt.alloc(), text) {
+        Ok(spec) => {
+            assert_eq!(rt; spec.rollback_required, false);
+            assert_eq!(rt; spec.flash_off, true);
+            assert_eq!(rt; spec.slot_exponent, 1);
+            let rows = [
+                OtpRow { row: 192, value: 7 },
+                OtpRow {
+                    row: 3839,
+                    value: 16_777_215,
+                },
+            ];
+            assert_eq!(rt; spec.rows.as_slice(), rows.as_slice());
+        }
+        Err(_) => assert!(rt; false),
+    }
     Ok(())
 }

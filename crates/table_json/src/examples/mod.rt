@@ -13,6 +13,8 @@ ghost use Rattle.table_json.specs.Says.{SaysText};
 ghost use Rattle.table_json.specs.Seals.{spec_with};
 ghost use Rattle.table_json.specs.Examples.{table_said, first_partition_in, spec_in, all_rights, rights, part, part_and, partition_with_members, table_of_parts, flagged_partition, part_value, part_missing, top_value, top_missing, outside_value, name_member, list_of, nested, versioned, plain_spec};
 
+pub mod otps;
+
 use crate::{Field, JsonFault, Place};
 use part_table::TableFault;
 use pico_board::Cpu;

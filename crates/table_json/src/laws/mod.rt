@@ -1,6 +1,6 @@
 //! Laws of the definitions, proved: each is the `ensures` of a function that does nothing.
 
-ghost use Rattle.std.specs.Prelude.{◌≡◌, ◌≢◌, ◌↔◌, ◌<◌, ◌≤◌, ℕ, List, Result, Ok, Err};
+ghost use Rattle.std.specs.Prelude.{◌≡◌, ◌≢◌, ◌↔◌, ◌*◌, ◌^◌, ◌<◌, ◌≤◌, ℕ, List, Result, Ok, Err, Some};
 ghost use Rattle.std.specs.Result.{result_err};
 ghost use Rattle.serde_json.specs.Data.{Data};
 ghost use Rattle.part_table.specs.declared.partition.Partition.{Partition};
@@ -8,7 +8,9 @@ ghost use Rattle.part_table.specs.declared.table.TableFault.{TableFault};
 ghost use Rattle.table_json.specs.declared.fault.JsonFault.{JsonFault};
 ghost use Rattle.table_json.specs.Partitions.{partition_of_value};
 ghost use Rattle.table_json.specs.Says.{SaysText};
-ghost use Rattle.table_json.specs.Rules.{first_broken, table_rules, spec_rules};
+ghost use Rattle.table_json.specs.Rules.{first_broken, table_rules, spec_rules, otp_rules};
+ghost use Rattle.table_json.specs.Otps.{OtpView, exponent_of, if_listed, otp_from};
+ghost use Rattle.table_json.specs.OtpRules.{IsSound};
 ghost use Rattle.table_json.specs.Seals.{spec_from};
 ghost use Rattle.table_json.specs.Texts.{IsJsonText};
 ghost use Rattle.table_json.specs.Tables.{table_fields, table_of_value};
@@ -28,6 +30,7 @@ pub fn texts_have_one_value()
 pub fn faults_are_the_first()
     ensures table { (d : Data) → result_err (table_fields d) ≡ first_broken (table_rules d) }
     ensures spec { (d : Data) → result_err (spec_from d) ≡ first_broken (spec_rules d) }
+    ensures otp { (d : Data) → result_err (otp_from d) ≡ first_broken (otp_rules d) }
 {}
 
 /// The answer NotJson tells of the text alone, and Memory of the memory alone: no value is answered
@@ -37,6 +40,8 @@ pub fn values_are_json()
     ensures table_memory { (d : Data) → table_of_value d ≢ Err JsonFault.Memory }
     ensures spec { (d : Data) → spec_from d ≢ Err JsonFault.NotJson }
     ensures spec_memory { (d : Data) → spec_from d ≢ Err JsonFault.Memory }
+    ensures otp { (d : Data) → otp_from d ≢ Err JsonFault.NotJson }
+    ensures otp_memory { (d : Data) → otp_from d ≢ Err JsonFault.Memory }
 {}
 
 /// Each partition that is read of a text says by its fields what the text says by its members, and
@@ -74,4 +79,18 @@ pub fn whole_tables_are_judged_as_they_are_read()
 /// image asks.
 pub fn specs_have_half_words()
     ensures { (d : Data) (spec : SealSpec) → spec_from d ≡ Ok spec → IsHalves spec.version }
+{}
+
+/// The slot size of an OTP is 4096 times a power of two, at most 8,388,608, and a row that may be
+/// listed is one from 0x0c0 to 0xeff.
+pub fn sizes_and_rows_of_otps()
+    ensures size { (size k : ℕ) → (exponent_of size ≡ Some k) ↔ ((k ≤ 11) × (size ≡ 4096 * 2 ^ k)) }
+    ensures row { (row r : ℕ) → (if_listed row ≡ Some r)
+        ↔ ((0x0c0 ≤ row) × (row ≤ 0xeff) × (row ≡ r)) }
+{}
+
+/// The OTP of a text is sound: its slot size is one of these, and it lists at most 4096 pairs, each
+/// of a row that may be listed and a value of 24 bits.
+pub fn otps_of_texts_are_sound()
+    ensures { (d : Data) (spec : OtpView) → otp_from d ≡ Ok spec → IsSound spec }
 {}

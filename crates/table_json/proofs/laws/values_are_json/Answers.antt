@@ -1,4 +1,4 @@
-use Rattle.table_json.proofs.PlainLemmas.{table_json, table_memory, spec_plain}
+use Rattle.table_json.proofs.PlainLemmas.{otp_plain, spec_plain, table_json, table_memory}
 use Rattle.table_json.proofs.laws.values_are_json.Goals as goal
 
 pub returns-clause-table : goal.returns-clause-table
@@ -12,3 +12,9 @@ returns-clause-spec c = λ d. (spec_plain d).json
 
 pub returns-clause-spec_memory : goal.returns-clause-spec_memory
 returns-clause-spec_memory c = λ d. (spec_plain d).memory
+
+pub returns-clause-otp : goal.returns-clause-otp
+returns-clause-otp c = λ d. (otp_plain d).json
+
+pub returns-clause-otp_memory : goal.returns-clause-otp_memory
+returns-clause-otp_memory c = λ d. (otp_plain d).memory

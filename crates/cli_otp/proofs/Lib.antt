@@ -1,0 +1,3 @@
+mod WordLemmas
+mod OtpLaws
+pub mod OtpWorkLemmas

@@ -1,0 +1,88 @@
+//! Laws of the OTP files that are made, proved: each is the `ensures` of a function that does
+//! nothing.
+
+ghost use Rattle.std.specs.Prelude.{◌≡◌, ◌≢◌, ⊤, ℕ, ◌+◌, ◌*◌, ◌/◌, ◌%◌, ◌^◌, ◌<◌, ◌≤◌, List, [], ◌∷◌, ◌++◌, All, length, slice_index, codes, Result, Ok, decimal};
+ghost use Rattle.pico_board.specs.declared.boot.Cpu.{Cpu};
+ghost use Rattle.pico_board.specs.declared.boot.BootKind.{BootKind};
+ghost use Rattle.pico_board.specs.Content.{Content};
+ghost use Rattle.otp_roll.specs.Flags.{flash_off, rollback_required, slot_size};
+ghost use Rattle.boot_reasons.specs.declared.reasons.Reasons.{Reasons};
+ghost use Rattle.boot_reasons.specs.Rules.{IsExplained};
+ghost use Rattle.text_lines.specs.Texts.{decision_line};
+ghost use Rattle.table_json.specs.declared.otps.OtpRow.{OtpRow};
+ghost use Rattle.table_json.specs.Otps.{OtpView};
+ghost use Rattle.table_json.specs.OtpRules.{IsOtpText, IsSound};
+ghost use Rattle.table_json.specs.declared.fault.JsonFault.{JsonFault};
+ghost use Rattle.cli_course.specs.Outcomes.{line};
+ghost use Rattle.cli_explain.specs.Texts.{explain_text};
+ghost use Rattle.cli_inputs.specs.declared.forms.Form.{Form};
+ghost use Rattle.cli_inputs.specs.declared.forms.Form.TheVariants.{Otp};
+ghost use Rattle.cli_inputs.specs.Inputs.{of_one};
+ghost use Rattle.cli_inputs.specs.Rules.{OfOne, WorksBy};
+ghost use Rattle.cli_otp.specs.OtpOutcomes.{IsOtpOf};
+ghost use Rattle.cli_inputs.specs.Forms.{HasForm, otp_of};
+ghost use Rattle.cli_otp.specs.OtpWords.{listed, otp_bytes, otp_line, otp_words, otp_work, set_count, told_text};
+
+/// The file has 16,384 bytes and the form of an OTP file, and gives the 4096 rows.
+pub fn files_have_their_form()
+    ensures length { (spec : OtpView) → length (otp_bytes spec) ≡ 16384 }
+    ensures form { (spec : OtpView) → IsSound spec → HasForm Otp (otp_bytes spec) }
+    ensures rows { (spec : OtpView) → IsSound spec → otp_of (otp_bytes spec) ≡ otp_words spec }
+{}
+
+/// The rows: of a row that is listed the last value counts, and a row that is not listed is 0, but
+/// for the boot flags and the slot size.
+pub fn rows_are_those_that_are_listed()
+    ensures last { (spec : OtpView) (before after : List OtpRow) (pair : OtpRow) → IsSound spec
+        → spec.rows ≡ before ++ pair ∷ after → All (λ other. other.row ≢ pair.row) after
+        → slice_index (otp_words spec) pair.row ≡ pair.value }
+    ensures none { (spec : OtpView) (row : ℕ) → row ≢ 0x048 → row ≢ 0x055
+        → All (λ pair. pair.row ≢ row) spec.rows → slice_index (otp_words spec) row ≡ 0 }
+    ensures flags { (spec : OtpView)
+        → (rollback_required (otp_words spec) ≡ spec.rollback_required)
+        × (flash_off (otp_words spec) ≡ spec.flash_off) }
+    ensures size { (spec : OtpView) → IsSound spec
+        → slice_index (otp_words spec) 0x055 ≡ spec.slot_exponent }
+{}
+
+/// What is told of an OTP is read back: on a content with its rows, and with a flash for two slots,
+/// the flags and the slot size are those that were told, so that the second line of `explain` is
+/// what the line of `otp` begins with.
+pub fn otps_are_read_back()
+    ensures size { (spec : OtpView) (n : ℕ) → IsSound spec
+        → 2 * (4096 * 2 ^ spec.slot_exponent) ≤ n
+        → slot_size (otp_words spec) n ≡ 4096 * 2 ^ spec.slot_exponent }
+    ensures explained { (c : Content) (cpu : Cpu) (kind : BootKind) (spec : OtpView)
+        (reasons : Reasons) → IsSound spec → c.otp ≡ otp_words spec
+        → 2 * (4096 * 2 ^ spec.slot_exponent) ≤ length c.flash
+        → IsExplained c cpu kind reasons
+        → (rest : List ℕ) × (explain_text reasons
+        ≡ decision_line reasons.decision ++ (line (told_text spec) ++ rest)) }
+    ensures told { (spec : OtpView) → otp_line spec
+        ≡ told_text spec ++ (codes " rows=" ++ line (decimal (set_count spec.rows))) }
+{}
+
+/// The OTP of a text gives no reason for a caveat on secure boot, on raw flags or on a raw slot
+/// size: rows 0x040 to 0x047 have no bit 0, row 0x048 has no bit but 0 and 1, rows 0x049 and 0x04a
+/// are 0, and row 0x055 has no bit but 0 to 3.
+pub fn otps_are_none_of_raw_dumps()
+    ensures secure { (spec : OtpView) (row : ℕ) → IsSound spec → 0x040 ≤ row → row ≤ 0x047
+        → slice_index (otp_words spec) row % 2 ≡ 0 }
+    ensures flags { (spec : OtpView) → slice_index (otp_words spec) 0x048 / 4 ≡ 0 }
+    ensures second { (spec : OtpView) → IsSound spec → slice_index (otp_words spec) 0x049 ≡ 0 }
+    ensures third { (spec : OtpView) → IsSound spec → slice_index (otp_words spec) 0x04a ≡ 0 }
+    ensures slot { (spec : OtpView) → IsSound spec
+        → slice_index (otp_words spec) 0x055 / 16 ≡ 0 }
+{}
+
+/// On a form of input whose texts are those of an OTP, by a reading that gives what such a text
+/// says, the work is right by its rules: it refuses nothing, and its outcome is the one that is
+/// right.
+pub fn works_are_right()
+    ensures { (form : Form) (reads : List ℕ → Result OtpView JsonFault) (json out : List ℕ)
+        → ((j : List ℕ) → HasForm form j → (spec : OtpView) × IsOtpText j spec)
+        → ((j : List ℕ) (spec : OtpView) → IsOtpText j spec → reads j ≡ Ok spec)
+        → WorksBy (record { name = json; form = form } ∷ []) (λ read. ⊤)
+        (of_one (λ j. otp_work out (reads j))) (λ read name fault. ⊥)
+        (λ read o. OfOne (λ j. IsOtpOf out j o) read) }
+{}
