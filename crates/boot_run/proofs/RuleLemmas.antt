@@ -12,8 +12,8 @@ use Rattle.boot_rules.proofs.DecisionLemmas.{decision-chosen, chosen-decision}
 use Rattle.cli_course.specs.declared.status.Status.TheVariants.{Input as Refused, Bootsel}
 use Rattle.cli_course.specs.Outcomes.{AreOfBytes, AnswerView, Answers, found, outcome_found}
 use Rattle.cli_course.proofs.ReadLemmas.{found-long}
-use Rattle.cli_words.specs.Commands.{CommandLineView, Boot, Info, OwnedData, Explain, Map, Replay, Sweep, Chart, Seal, Elf, Firm, Table, Usage, Release, Uf2, Plan, Copy, ListScript, WriteScript, Gen}
-use Rattle.cli_words.specs.Usages.{usage_text, release_line}
+use Rattle.cli_words.specs.Commands.{CommandLineView, Boot, Info, OwnedData, Explain, Map, Replay, Sweep, Chart, Seal, Elf, Firm, Table, Usage, Help, Release, Uf2, Plan, Copy, ListScript, WriteScript, Gen}
+use Rattle.cli_words.specs.Usages.{usage_text, help_text, release_line}
 use Rattle.cli_inputs.specs.declared.forms.Form.TheVariants.{Flash, Otp}
 use Rattle.cli_inputs.specs.Forms.{HasForm, content_of_files}
 use Rattle.cli_inputs.specs.Inputs.{flash_and_otp, readings, first_input_fault, unless_refused}
@@ -58,6 +58,8 @@ works (WriteScript text out) = write-works text out
 works (Gen n) = gen-works n
 works Usage =
     none-works (λ read. ⊤) (Answers false usage_text []) (Tells usage_text) refl (λ o right. right) (λ h. cc)
+works (Help command) =
+    none-works (λ read. ⊤) (Answers false (help_text command) []) (Tells (help_text command)) refl (λ o right. right) (λ h. cc)
 works Release =
     none-works (λ read. ⊤) (Answers false release_line []) (Tells release_line) refl (λ o right. right) (λ h. cc)
 
@@ -103,6 +105,7 @@ bytes-serve (ListScript script) read small = tt
 bytes-serve (WriteScript text out) read small = tt
 bytes-serve (Gen n) read small = tt
 bytes-serve Usage read small = tt
+bytes-serve (Help command) read small = tt
 bytes-serve Release read small = tt
 
 -- the outcome on files that have all inputs is right

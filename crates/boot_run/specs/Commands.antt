@@ -4,8 +4,8 @@
 use Rattle.std.specs.Prelude.{ℕ, false, List, [], Option, Some, None, ◌≡◌, ⊤}
 use Rattle.pico_board.specs.Files.{File}
 use Rattle.cli_course.specs.Outcomes.{LimitedInputView, AnswerView, Work, Answers, not_understood, found, outcome_found, AreOfBytes}
-use Rattle.cli_words.specs.Commands.{CommandLineView, Boot, Info, OwnedData, Explain, Map, Replay, Sweep, Chart, Seal, Elf, Firm, Table, Usage, Release, Uf2, Plan, Copy, ListScript, WriteScript, Gen}
-use Rattle.cli_words.specs.Usages.{usage_text, release_line}
+use Rattle.cli_words.specs.Commands.{CommandLineView, Boot, Info, OwnedData, Explain, Map, Replay, Sweep, Chart, Seal, Elf, Firm, Table, Usage, Help, Release, Uf2, Plan, Copy, ListScript, WriteScript, Gen}
+use Rattle.cli_words.specs.Usages.{usage_text, help_text, release_line}
 use Rattle.cli_inputs.specs.Forms.{content_of_files, HasForm}
 use Rattle.cli_inputs.specs.Jsons.{spec_read, table_read}
 use Rattle.cli_inputs.specs.Inputs.{FormInputView, readings, flash_and_otp, flash_otp_script, flash_otp_script_pattern, flash_otp_image, binary_and_spec, elf_and_spec, one_json, image_alone, uf2_alone, script_alone, text_alone, of_one, of_two, of_three, of_four, outcome_by}
@@ -67,6 +67,7 @@ inputs_of (ListScript script) = script_alone script
 inputs_of (WriteScript text out) = text_alone text
 inputs_of (Gen n) = []
 inputs_of Usage = []
+inputs_of (Help command) = []
 inputs_of Release = []
 
 -- the work of a command on the bytes of its inputs
@@ -95,6 +96,7 @@ work_of (ListScript script) = of_one list_work
 work_of (WriteScript text out) = of_one (write_work text out)
 work_of (Gen n) = λ read. gen_work n
 work_of Usage = λ read. Answers false usage_text []
+work_of (Help command) = λ read. Answers false (help_text command) []
 work_of Release = λ read. Answers false release_line []
 
 -- the outcome of a command on the bytes of its inputs
@@ -173,6 +175,7 @@ IsRight (ListScript script) read o = OfOne (λ s. IsListOf s o) read
 IsRight (WriteScript text out) read o = OfOne (λ t. IsWrittenOf t out o) read
 IsRight (Gen n) read o = IsGenOf n o
 IsRight Usage read o = Tells usage_text o
+IsRight (Help command) read o = Tells (help_text command) o
 IsRight Release read o = Tells release_line o
 
 -- The outcome is right for a command on the bytes of its inputs: it names the first input that

@@ -21,7 +21,7 @@ use cli_map::map_flash;
 use cli_scripts::{copy_uf2, list_script, replay, write_script};
 use cli_sweep::{chart_script, firm_image, sweep_script};
 use cli_tools::{made_flash, pack_elf, plan_image, seal_binary, table, uf2};
-use cli_words::{CommandLine, release_line, usage_text};
+use cli_words::{CommandLine, help_text, release_line, usage_text};
 use std::alloc::{AllocError, Global};
 
 /// The inputs of a command, in word order.
@@ -74,6 +74,7 @@ pub fn inputs<'a>(
         CommandLine::WriteScript { text, .. } => text_alone(alloc, text),
         CommandLine::Gen { .. } => Ok(Vec::new(alloc)),
         CommandLine::Usage => Ok(Vec::new(alloc)),
+        CommandLine::Help { .. } => Ok(Vec::new(alloc)),
         CommandLine::Release => Ok(Vec::new(alloc)),
     }
 }
@@ -175,6 +176,7 @@ fn work<'a>(
         }
         CommandLine::Gen { n } => made_flash(alloc, *n),
         CommandLine::Usage => Ok(told(alloc, usage_text(alloc)?)),
+        CommandLine::Help { command } => Ok(told(alloc, help_text(alloc, command)?)),
         CommandLine::Release => Ok(told(alloc, release_line(alloc)?)),
     }
 }

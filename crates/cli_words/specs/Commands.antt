@@ -1,5 +1,5 @@
 -- The words that are a command.
-use Rattle.std.specs.Prelude.{ℕ, ◌+◌, ◌-◌, ◌*◌, ◌==◌, ◌&&◌, nat_le, if◌then◌else◌, List, [], ◌∷◌, length, take, drop, Option, Some, None, option_map, option_and_then, codes, bytes_eq, map, Vec, String, string_bytes}
+use Rattle.std.specs.Prelude.{ℕ, ◌==◌, ◌&&◌, Bool, true, false, get_or, if◌then◌else◌, List, [], ◌∷◌, length, take, drop, Option, Some, None, option_map, option_and_then, codes, bytes_eq, map, Vec, String, string_bytes}
 use Rattle.std.specs.Option.{option_or}
 use Rattle.std.specs.declared.alloc.Global.{Global}
 use Rattle.pico_board.specs.declared.boot.Cpu.{Cpu}
@@ -8,6 +8,13 @@ use Rattle.pico_board.specs.declared.boot.BootKind.{BootKind}
 use Rattle.pico_board.specs.declared.boot.BootKind.TheVariants.{Normal, Bootsel, Update}
 use Rattle.text_words.specs.Reading.{hex_value, number_of}
 use Rattle.cli_words.specs.Values.{family_of}
+use Rattle.cli_words.specs.Rows.{row_of}
+use Rattle.cli_words.specs.declared.rows.TheConstants.{VERBS}
+use Rattle.cli_words.specs.declared.rows.Verb.{Verb}
+use Rattle.cli_words.specs.declared.rows.Verb.TheVariants as verbs
+use Rattle.cli_words.specs.declared.rows.Word.{Word}
+use Rattle.cli_words.specs.declared.rows.Word.TheVariants as kinds
+use Rattle.cli_words.specs.declared.values.Values.{Values}
 use Rattle.cli_words.specs.declared.words.CommandLine.{CommandLine}
 use Rattle.cli_words.specs.declared.words.CommandLine.TheVariants as words
 
@@ -33,6 +40,7 @@ pub data CommandLineView : Type 0 where
   WriteScript : (text out : List ℕ) → CommandLineView
   Gen : (n : ℕ) → CommandLineView
   Usage : CommandLineView
+  Help : (command : List ℕ) → CommandLineView
   Release : CommandLineView
 
 -- the word of a processor
@@ -56,105 +64,94 @@ boot_kind_of word =
     else if bytes_eq word (codes "bootsel") then Some Bootsel
     else option_map Update (update_base word)
 
--- one word
-abbrev pub one_word : List ℕ → Option CommandLineView
-one_word name =
-    if bytes_eq name (codes "--help") then Some Usage
-    else if bytes_eq name (codes "--version") then Some Release
+-- the values of a command's words, of which a command has at most one each; one that it has not
+-- stands at these
+abbrev pub no_values : Values
+no_values = record { cpu = Arm; kind = Normal; family = 0; number = 0 }
+
+-- a word is the name of a row
+abbrev pub is_row_name : List Verb → List ℕ → Bool
+is_row_name [] word = false
+is_row_name (verb ∷ verbs) word =
+    if bytes_eq (row_of verb).name word then true else is_row_name verbs word
+
+-- the values with that of one word more, where the word is of this kind; a name is any word, but
+-- that of a command
+abbrev pub with_word : Word → List ℕ → Values → Option Values
+with_word kinds.Cpu word values = option_map (λ cpu. record values { cpu = cpu }) (cpu_of word)
+with_word kinds.Kind word values =
+    option_map (λ kind. record values { kind = kind }) (boot_kind_of word)
+with_word kinds.Family word values =
+    option_map (λ family. record values { family = family }) (family_of word)
+with_word kinds.Number word values =
+    option_map (λ number. record values { number = number }) (number_of word)
+with_word kinds.Command word values =
+    if is_row_name VERBS word then Some values else None
+with_word _ word values = Some values
+
+-- the values of words that are of these kinds, one after another
+abbrev pub values_from : List Word → List (List ℕ) → Values → Option Values
+values_from (kind ∷ kinds) (word ∷ words) values =
+    option_and_then (values_from kinds words) (with_word kind word values)
+values_from _ _ values = Some values
+
+abbrev pub row_values : List Word → List (List ℕ) → Option Values
+row_values kinds words =
+    if length kinds == length words then values_from kinds words no_values else None
+
+-- the word at a place
+abbrev pub word_at : ℕ → List (List ℕ) → List ℕ
+word_at i words = get_or words i []
+
+-- the command of a row, by its words and their values
+abbrev pub built : Verb → List (List ℕ) → Values → CommandLineView
+built verbs.Boot words v = Boot (word_at 0 words) (word_at 1 words) v.cpu v.kind
+built verbs.Info words v = Info (word_at 0 words) (word_at 1 words) v.cpu
+built verbs.OwnedData words v = OwnedData (word_at 0 words) (word_at 1 words) v.cpu v.kind
+built verbs.Explain words v = Explain (word_at 0 words) (word_at 1 words) v.cpu v.kind
+built verbs.Map words v = Map (word_at 0 words) (word_at 1 words) v.cpu (word_at 3 words)
+built verbs.Replay words v =
+    Replay (word_at 0 words) (word_at 1 words) v.cpu (word_at 3 words) (word_at 4 words)
+    (word_at 5 words)
+built verbs.Sweep words v =
+    Sweep (word_at 0 words) (word_at 1 words) v.cpu (word_at 3 words) (word_at 4 words)
+built verbs.Chart words v =
+    Chart (word_at 0 words) (word_at 1 words) v.cpu (word_at 3 words) (word_at 4 words)
+    (word_at 5 words)
+built verbs.Seal words v = Seal (word_at 0 words) (word_at 1 words) (word_at 2 words)
+built verbs.Elf words v = Elf (word_at 0 words) (word_at 1 words) (word_at 2 words)
+built verbs.Firm words v = Firm (word_at 0 words) v.cpu
+built verbs.Table words v = Table (word_at 0 words) (word_at 1 words)
+built verbs.Uf2 words v = Uf2 (word_at 0 words) v.family (word_at 2 words)
+built verbs.Plan words v =
+    Plan (word_at 0 words) (word_at 1 words) v.cpu (word_at 3 words) (word_at 4 words)
+built verbs.Copy words v = Copy (word_at 0 words) (word_at 1 words)
+built verbs.ListScript words v = ListScript (word_at 0 words)
+built verbs.WriteScript words v = WriteScript (word_at 0 words) (word_at 1 words)
+built verbs.Gen words v = Gen v.number
+built verbs.Usage words v = Usage
+built verbs.ShortUsage words v = Usage
+built verbs.WordUsage words v = Usage
+built verbs.Help words v = Help (word_at 0 words)
+built verbs.Release words v = Release
+
+-- the command of the words behind a name, where they are this row
+abbrev pub row_command : Verb → List ℕ → List (List ℕ) → Option CommandLineView
+row_command verb name words =
+    if bytes_eq (row_of verb).name name
+    then option_map (built verb words) (row_values (row_of verb).words words)
     else None
 
--- the name of a command on a number
-abbrev pub gen_words : List ℕ → Option ℕ → Option CommandLineView
-gen_words name None = None
-gen_words name (Some n) = if bytes_eq name (codes "gen") then Some (Gen n) else None
-
--- the name of a command and one word
-abbrev pub two_words : List ℕ → List ℕ → Option CommandLineView
-two_words name word =
-    if bytes_eq name (codes "list") then Some (ListScript word)
-    else gen_words name (number_of word)
-
--- the name of a command on an image and a processor
-abbrev pub firm_words : List ℕ → List ℕ → Option Cpu → Option CommandLineView
-firm_words name image None = None
-firm_words name image (Some cpu) =
-    if bytes_eq name (codes "firm") then Some (Firm image cpu) else None
-
--- the name of a command and two words
-abbrev pub three_words : List ℕ → List ℕ → List ℕ → Option CommandLineView
-three_words name first second =
-    if bytes_eq name (codes "table") then Some (Table first second)
-    else if bytes_eq name (codes "copy") then Some (Copy first second)
-    else if bytes_eq name (codes "script") then Some (WriteScript first second)
-    else firm_words name first (cpu_of second)
-
--- the name of a command on a flash, an OTP and a processor
-abbrev pub board_words : List ℕ → List ℕ → List ℕ → Option Cpu → Option CommandLineView
-board_words name flash otp None = None
-board_words name flash otp (Some cpu) =
-    if bytes_eq name (codes "info") then Some (Info flash otp cpu) else None
-
--- the name of a command on an image and a family
-abbrev pub uf2_words : List ℕ → List ℕ → Option ℕ → List ℕ → Option CommandLineView
-uf2_words name image None out = None
-uf2_words name image (Some family) out =
-    if bytes_eq name (codes "uf2") then Some (Uf2 image family out) else None
-
--- the name of a command and three words
-abbrev pub four_words : List ℕ → List ℕ → List ℕ → List ℕ → Option CommandLineView
-four_words name first second third =
-    if bytes_eq name (codes "seal") then Some (Seal first second third)
-    else if bytes_eq name (codes "elf") then Some (Elf first second third)
-    else option_or (board_words name first second (cpu_of third))
-    (uf2_words name first (family_of second) third)
-
--- the name of a command on a flash, an OTP, a processor and a boot type
-abbrev pub kind_words : List ℕ → List ℕ → List ℕ → Cpu → Option BootKind → Option CommandLineView
-kind_words name flash otp cpu None = None
-kind_words name flash otp cpu (Some kind) =
-    if bytes_eq name (codes "boot") then Some (Boot flash otp cpu kind)
-    else if bytes_eq name (codes "data") then Some (OwnedData flash otp cpu kind)
-    else if bytes_eq name (codes "explain") then Some (Explain flash otp cpu kind)
-    else None
-
--- the name of a command and four words
-abbrev pub five_words : List ℕ → List ℕ → List ℕ → Option Cpu → List ℕ → Option CommandLineView
-five_words name flash otp None last = None
-five_words name flash otp (Some cpu) last =
-    if bytes_eq name (codes "map") then Some (Map flash otp cpu last)
-    else kind_words name flash otp cpu (boot_kind_of last)
-
--- the name of a command and five words
-abbrev pub six_words : List ℕ → List ℕ → List ℕ → Option Cpu → List ℕ → List ℕ
-    → Option CommandLineView
-six_words name flash otp None first second = None
-six_words name flash otp (Some cpu) first second =
-    if bytes_eq name (codes "plan") then Some (Plan flash otp cpu first second)
-    else if bytes_eq name (codes "sweep") then Some (Sweep flash otp cpu first second)
-    else None
-
--- the name of a command and six words
-abbrev pub seven_words : List ℕ → List ℕ → List ℕ → Option Cpu → List ℕ → List ℕ → List ℕ
-    → Option CommandLineView
-seven_words name flash otp None script second third = None
-seven_words name flash otp (Some cpu) script second third =
-    if bytes_eq name (codes "replay") then Some (Replay flash otp cpu script second third)
-    else if bytes_eq name (codes "chart") then Some (Chart flash otp cpu script second third)
-    else None
+-- the command of the first of these rows that the words are
+abbrev pub first_command : List Verb → List ℕ → List (List ℕ) → Option CommandLineView
+first_command [] name words = None
+first_command (verb ∷ verbs) name words =
+    option_or (row_command verb name words) (first_command verbs name words)
 
 -- the command that the words are; other words are none
 abbrev pub command_of : List (List ℕ) → Option CommandLineView
-command_of (name ∷ []) = one_word name
-command_of (name ∷ word ∷ []) = two_words name word
-command_of (name ∷ first ∷ second ∷ []) = three_words name first second
-command_of (name ∷ first ∷ second ∷ third ∷ []) = four_words name first second third
-command_of (name ∷ flash ∷ otp ∷ cpu ∷ last ∷ []) =
-    five_words name flash otp (cpu_of cpu) last
-command_of (name ∷ flash ∷ otp ∷ cpu ∷ first ∷ second ∷ []) =
-    six_words name flash otp (cpu_of cpu) first second
-command_of (name ∷ flash ∷ otp ∷ cpu ∷ script ∷ second ∷ third ∷ []) =
-    seven_words name flash otp (cpu_of cpu) script second third
-command_of _ = None
+command_of [] = None
+command_of (name ∷ words) = first_command VERBS name words
 
 -- the command of a run's words
 abbrev pub asked : Vec (String Global) Global → Option CommandLineView
@@ -185,4 +182,5 @@ command_from (words.ListScript script) = ListScript script.now
 command_from (words.WriteScript text out) = WriteScript text.now out.now
 command_from (words.Gen n) = Gen n
 command_from words.Usage = Usage
+command_from (words.Help command) = Help command.now
 command_from words.Release = Release

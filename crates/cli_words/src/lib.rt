@@ -2,9 +2,10 @@
 #![tactic(auto)]
 
 pub mod examples;
+mod rows;
 mod usage;
 mod values;
 mod words;
 
-pub use usage::{USAGE, VERSION, release_line, usage_text};
+pub use usage::{VERSION, help_text, release_line, usage_text};
 pub use words::{CommandLine, command};

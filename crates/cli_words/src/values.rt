@@ -1,16 +1,69 @@
-//! The values of the words of a family and of a number.
+//! The values of a command's words.
 
-ghost use Rattle.std.specs.Prelude.{◌≡◌};
+ghost use Rattle.std.specs.Prelude.{◌≡◌, map, string_bytes};
 ghost use Rattle.text_words.specs.Reading.{number_of};
+ghost use Rattle.cli_words.specs.Commands.{cpu_of, boot_kind_of, update_base, is_row_name, with_word, row_values};
 ghost use Rattle.cli_words.specs.Values.{family_of};
 
+use crate::rows::{VERBS, Verb, Word};
 use part_table::{
     ABSOLUTE_FAMILY, ARM_NS_FAMILY, ARM_S_FAMILY, DATA_FAMILY, RISCV_FAMILY, RP2040_FAMILY,
 };
-use text_words::decimal_number;
+use pico_board::{BootKind, Cpu};
+use text_words::{decimal_number, hex_number};
+
+/// The values of a command's words, of which a command has at most one each.
+#[derive(Clone, Copy)]
+pub struct Values {
+    /// The processor.
+    pub cpu: Cpu,
+    /// The boot type.
+    pub kind: BootKind,
+    /// The UF2 family.
+    pub family: u32,
+    /// The number.
+    pub number: u32,
+}
+
+/// The processor that a word names.
+fn cpu_word(word: &str) -> Option<Cpu>
+    ensures { result ≡ cpu_of word.now }
+{
+    if word == "arm" {
+        Some(Cpu::Arm)
+    } else if word == "riscv" {
+        Some(Cpu::Riscv)
+    } else {
+        None
+    }
+}
+
+/// The base of an update: `update=0x` and eight hexadecimal digits.
+fn update_base(word: &[u8]) -> Option<u32>
+    ensures { result ≡ update_base word.now }
+{
+    if word.len() == 17 && &word[..9] == b"update=0x".as_slice() {
+        hex_number(&word[9..])
+    } else {
+        None
+    }
+}
+
+/// The boot type that a word names.
+fn kind_word(word: &str) -> Option<BootKind>
+    ensures { result ≡ boot_kind_of word.now }
+{
+    if word == "normal" {
+        Some(BootKind::Normal)
+    } else if word == "bootsel" {
+        Some(BootKind::Bootsel)
+    } else {
+        Some(BootKind::Update(update_base(word.as_bytes())?))
+    }
+}
 
 /// The family that a word names.
-pub fn family_word(word: &str) -> Option<u32>
+fn family_word(word: &str) -> Option<u32>
     ensures { result ≡ family_of word.now }
 {
     match word {
@@ -25,8 +78,74 @@ pub fn family_word(word: &str) -> Option<u32>
 }
 
 /// The number below 2^32 that a word of 1 to 10 decimal digits is.
-pub fn number_word(word: &str) -> Option<u32>
+fn number_word(word: &str) -> Option<u32>
     ensures { result ≡ number_of word.now }
 {
     decimal_number(word.as_bytes())
+}
+
+/// Whether a word is the name of one of these rows.
+fn is_row_name(verbs: &[Verb], word: &str) -> bool
+    ensures { result ≡ is_row_name verbs.now word.now }
+{
+    for verb in verbs {
+        if verb.row().name == word {
+            return true;
+        }
+    }
+    false
+}
+
+/// The values with that of one word more, where the word is of this kind.
+fn with_word(kind: Word, word: &str, values: Values) -> Option<Values>
+    ensures { result ≡ with_word kind word.now values }
+{
+    match kind {
+        Word::Cpu => {
+            let cpu = cpu_word(word)?;
+            Some(Values { cpu, ..values })
+        }
+        Word::Kind => {
+            let kind = kind_word(word)?;
+            Some(Values { kind, ..values })
+        }
+        Word::Family => {
+            let family = family_word(word)?;
+            Some(Values { family, ..values })
+        }
+        Word::Number => {
+            let number = number_word(word)?;
+            Some(Values { number, ..values })
+        }
+        Word::Command => {
+            if is_row_name(&VERBS, word) {
+                Some(values)
+            } else {
+                None
+            }
+        }
+        _ => Some(values),
+    }
+}
+
+/// The values of words that are of these kinds, one after another.
+pub fn row_values(kinds: &[Word], words: &[String]) -> Option<Values>
+    ensures { result ≡ row_values kinds.now (map string_bytes words.now) }
+{
+    if kinds.len() != words.len() {
+        return None;
+    }
+    let mut values = Values {
+        cpu: Cpu::Arm,
+        kind: BootKind::Normal,
+        family: 0,
+        number: 0,
+    };
+    for (i, kind) in kinds.iter().enumerate() {
+        let Some(word) = words.get(i) else {
+            return None;
+        };
+        values = with_word(*kind, word, values)?;
+    }
+    Some(values)
 }

@@ -1,13 +1,11 @@
 //! The words that are a command.
 
-ghost use Rattle.std.specs.Prelude.{◌≡◌, ◌≢◌, ◌<◌, ◌≤◌, length, IfSome, option_map, map, string_bytes};
-ghost use Rattle.cli_words.specs.Commands.{command_of, cpu_of, boot_kind_of, update_base, one_word, firm_words, three_words, board_words, four_words, kind_words, five_words, seven_words, gen_words, two_words, uf2_words, six_words, command_from};
-ghost use Rattle.cli_words.specs.Values.{family_of};
-ghost use Rattle.text_words.specs.Reading.{number_of};
+ghost use Rattle.std.specs.Prelude.{◌≡◌, option_map, map, string_bytes};
+ghost use Rattle.cli_words.specs.Commands.{command_of, command_from, built, first_command, row_command, word_at};
 
-use crate::values::{family_word, number_word};
+use crate::rows::{VERBS, Verb};
+use crate::values::{Values, row_values};
 use pico_board::{BootKind, Cpu};
-use text_words::hex_number;
 
 /// A command, with the words that name its files.
 #[derive(Clone, Copy, Drop)]
@@ -128,343 +126,156 @@ pub enum CommandLine<'a> {
     },
     /// How the program is used.
     Usage,
+    /// How one command is used.
+    Help {
+        command: &'a str,
+    },
     /// The version of the program.
     Release,
 }
 
-/// The processor that a word names.
-fn cpu_word(word: &str) -> Option<Cpu>
-    ensures { result ≡ cpu_of word.now }
+/// The word at a place; the empty one past the last.
+fn word_at(words: &[String], place: usize) -> &str
+    ensures { result.now ≡ word_at place (map string_bytes words.entry.now) }
 {
-    if word == "arm" {
-        Some(Cpu::Arm)
-    } else if word == "riscv" {
-        Some(Cpu::Riscv)
-    } else {
-        None
+    match words.get(place) {
+        Some(word) => word.as_str(),
+        None => "",
     }
 }
 
-/// The base of an update: `update=0x` and eight hexadecimal digits.
-fn update_base(word: &[u8]) -> Option<u32>
-    ensures { result ≡ update_base word.now }
+/// The command of a row, by its words and their values.
+fn built<'a>(verb: Verb, words: &'a [String], values: Values) -> CommandLine<'a>
+    ensures { command_from result ≡ built verb (map string_bytes words.entry.now) values }
 {
-    if word.len() == 17 && &word[..9] == b"update=0x".as_slice() {
-        hex_number(&word[9..])
-    } else {
-        None
+    match verb {
+        Verb::Boot => CommandLine::Boot {
+            flash: word_at(words, 0),
+            otp: word_at(words, 1),
+            cpu: values.cpu,
+            kind: values.kind,
+        },
+        Verb::Info => CommandLine::Info {
+            flash: word_at(words, 0),
+            otp: word_at(words, 1),
+            cpu: values.cpu,
+        },
+        Verb::OwnedData => CommandLine::OwnedData {
+            flash: word_at(words, 0),
+            otp: word_at(words, 1),
+            cpu: values.cpu,
+            kind: values.kind,
+        },
+        Verb::Explain => CommandLine::Explain {
+            flash: word_at(words, 0),
+            otp: word_at(words, 1),
+            cpu: values.cpu,
+            kind: values.kind,
+        },
+        Verb::Map => CommandLine::Map {
+            flash: word_at(words, 0),
+            otp: word_at(words, 1),
+            cpu: values.cpu,
+            out: word_at(words, 3),
+        },
+        Verb::Replay => CommandLine::Replay {
+            flash: word_at(words, 0),
+            otp: word_at(words, 1),
+            cpu: values.cpu,
+            script: word_at(words, 3),
+            out_flash: word_at(words, 4),
+            out_otp: word_at(words, 5),
+        },
+        Verb::Sweep => CommandLine::Sweep {
+            flash: word_at(words, 0),
+            otp: word_at(words, 1),
+            cpu: values.cpu,
+            script: word_at(words, 3),
+            pattern: word_at(words, 4),
+        },
+        Verb::Chart => CommandLine::Chart {
+            flash: word_at(words, 0),
+            otp: word_at(words, 1),
+            cpu: values.cpu,
+            script: word_at(words, 3),
+            pattern: word_at(words, 4),
+            out: word_at(words, 5),
+        },
+        Verb::Seal => CommandLine::Seal {
+            binary: word_at(words, 0),
+            spec: word_at(words, 1),
+            out: word_at(words, 2),
+        },
+        Verb::Elf => CommandLine::Elf {
+            elf: word_at(words, 0),
+            spec: word_at(words, 1),
+            out: word_at(words, 2),
+        },
+        Verb::Firm => CommandLine::Firm {
+            image: word_at(words, 0),
+            cpu: values.cpu,
+        },
+        Verb::Table => CommandLine::Table {
+            json: word_at(words, 0),
+            out: word_at(words, 1),
+        },
+        Verb::Uf2 => CommandLine::Uf2 {
+            image: word_at(words, 0),
+            family: values.family,
+            out: word_at(words, 2),
+        },
+        Verb::Plan => CommandLine::Plan {
+            flash: word_at(words, 0),
+            otp: word_at(words, 1),
+            cpu: values.cpu,
+            image: word_at(words, 3),
+            out: word_at(words, 4),
+        },
+        Verb::Copy => CommandLine::Copy {
+            uf2: word_at(words, 0),
+            out: word_at(words, 1),
+        },
+        Verb::ListScript => CommandLine::ListScript {
+            script: word_at(words, 0),
+        },
+        Verb::WriteScript => CommandLine::WriteScript {
+            text: word_at(words, 0),
+            out: word_at(words, 1),
+        },
+        Verb::Gen => CommandLine::Gen { n: values.number },
+        Verb::Usage | Verb::ShortUsage | Verb::WordUsage => CommandLine::Usage,
+        Verb::Help => CommandLine::Help {
+            command: word_at(words, 0),
+        },
+        Verb::Release => CommandLine::Release,
     }
 }
 
-/// The boot type that a word names.
-fn kind_word(word: &str) -> Option<BootKind>
-    ensures { result ≡ boot_kind_of word.now }
-{
-    if word == "normal" {
-        Some(BootKind::Normal)
-    } else if word == "bootsel" {
-        Some(BootKind::Bootsel)
-    } else {
-        Some(BootKind::Update(update_base(word.as_bytes())?))
-    }
-}
-
-/// The command of one word.
-fn one_word(name: &str) -> Option<CommandLine<'static>>
-    ensures { option_map command_from result ≡ one_word name.now }
-{
-    if name == "--help" {
-        Some(CommandLine::Usage)
-    } else if name == "--version" {
-        Some(CommandLine::Release)
-    } else {
-        None
-    }
-}
-
-/// The command of a number.
-fn gen_words(name: &str, number: &str) -> Option<CommandLine<'static>>
-    ensures { option_map command_from result ≡ gen_words name.now (number_of number.now) }
-{
-    let n = number_word(number)?;
-    if name == "gen" {
-        Some(CommandLine::Gen { n })
-    } else {
-        None
-    }
-}
-
-/// The command of two words.
-fn two_words<'a>(name: &str, word: &'a str) -> Option<CommandLine<'a>>
-    ensures { option_map command_from result ≡ two_words name.now word.entry.now }
-{
-    if name == "list" {
-        Some(CommandLine::ListScript { script: word })
-    } else {
-        gen_words(name, word)
-    }
-}
-
-/// The command of an image and a processor.
-fn firm_words<'a>(name: &str, image: &'a str, cpu: &str) -> Option<CommandLine<'a>>
+/// The command of the words behind a name, where they are this row.
+fn row_command<'a>(verb: Verb, name: &str, words: &'a [String]) -> Option<CommandLine<'a>>
     ensures { option_map command_from result
-        ≡ firm_words name.now image.entry.now (cpu_of cpu.now) }
+        ≡ row_command verb name.now (map string_bytes words.entry.now) }
 {
-    let cpu = cpu_word(cpu)?;
-    if name == "firm" {
-        Some(CommandLine::Firm { image, cpu })
+    let row = verb.row();
+    if row.name == name {
+        let values = row_values(row.words, words)?;
+        Some(built(verb, words, values))
     } else {
         None
     }
 }
 
-/// The command of three words.
-fn three_words<'a>(name: &str, first: &'a str, second: &'a str) -> Option<CommandLine<'a>>
+/// The command of the first of these rows that the words are.
+fn first_command<'a>(verbs: &[Verb], name: &str, words: &'a [String]) -> Option<CommandLine<'a>>
     ensures { option_map command_from result
-        ≡ three_words name.now first.entry.now second.entry.now }
+        ≡ first_command verbs.now name.now (map string_bytes words.entry.now) }
 {
-    if name == "table" {
-        Some(CommandLine::Table {
-            json: first,
-            out: second,
-        })
-    } else if name == "copy" {
-        Some(CommandLine::Copy {
-            uf2: first,
-            out: second,
-        })
-    } else if name == "script" {
-        Some(CommandLine::WriteScript {
-            text: first,
-            out: second,
-        })
-    } else {
-        firm_words(name, first, second)
-    }
-}
-
-/// The command of an image and a family.
-fn uf2_words<'a>(name: &str, image: &'a str, family: &str, out: &'a str) -> Option<CommandLine<'a>>
-    ensures { option_map command_from result
-        ≡ uf2_words name.now image.entry.now (family_of family.now) out.entry.now }
-{
-    let family = family_word(family)?;
-    if name == "uf2" {
-        Some(CommandLine::Uf2 { image, family, out })
-    } else {
-        None
-    }
-}
-
-/// The command of a flash, an OTP and a processor.
-fn board_words<'a>(name: &str, flash: &'a str, otp: &'a str, cpu: &str) -> Option<CommandLine<'a>>
-    ensures { option_map command_from result
-        ≡ board_words name.now flash.entry.now otp.entry.now (cpu_of cpu.now) }
-{
-    let cpu = cpu_word(cpu)?;
-    if name == "info" {
-        Some(CommandLine::Info { flash, otp, cpu })
-    } else {
-        None
-    }
-}
-
-/// The command of four words.
-fn four_words<'a>(
-    name: &str,
-    first: &'a str,
-    second: &'a str,
-    third: &'a str,
-) -> Option<CommandLine<'a>>
-    ensures { option_map command_from result
-        ≡ four_words name.now first.entry.now second.entry.now third.entry.now }
-{
-    if name == "seal" {
-        Some(CommandLine::Seal {
-            binary: first,
-            spec: second,
-            out: third,
-        })
-    } else if name == "elf" {
-        Some(CommandLine::Elf {
-            elf: first,
-            spec: second,
-            out: third,
-        })
-    } else {
-        match board_words(name, first, second, third) {
-            Some(command) => Some(command),
-            None => uf2_words(name, first, second, third),
+    for verb in verbs {
+        if let Some(command) = row_command(*verb, name, words) {
+            return Some(command);
         }
     }
-}
-
-/// The command of a flash, an OTP, a processor and a boot type.
-fn kind_words<'a>(
-    name: &str,
-    flash: &'a str,
-    otp: &'a str,
-    cpu: Cpu,
-    kind: &str,
-) -> Option<CommandLine<'a>>
-    ensures { option_map command_from result
-        ≡ kind_words name.now flash.entry.now otp.entry.now cpu (boot_kind_of kind.now) }
-{
-    let kind = kind_word(kind)?;
-    if name == "boot" {
-        Some(CommandLine::Boot {
-            flash,
-            otp,
-            cpu,
-            kind,
-        })
-    } else if name == "data" {
-        Some(CommandLine::OwnedData {
-            flash,
-            otp,
-            cpu,
-            kind,
-        })
-    } else if name == "explain" {
-        Some(CommandLine::Explain {
-            flash,
-            otp,
-            cpu,
-            kind,
-        })
-    } else {
-        None
-    }
-}
-
-/// The command of five words.
-fn five_words<'a>(
-    name: &str,
-    flash: &'a str,
-    otp: &'a str,
-    cpu: &str,
-    last: &'a str,
-) -> Option<CommandLine<'a>>
-    ensures { option_map command_from result
-        ≡ five_words name.now flash.entry.now otp.entry.now (cpu_of cpu.now) last.entry.now }
-{
-    let cpu = cpu_word(cpu)?;
-    if name == "map" {
-        Some(CommandLine::Map {
-            flash,
-            otp,
-            cpu,
-            out: last,
-        })
-    } else {
-        kind_words(name, flash, otp, cpu, last)
-    }
-}
-
-/// The command of six words.
-fn six_words<'a>(
-    name: &str,
-    flash: &'a str,
-    otp: &'a str,
-    cpu: &str,
-    first: &'a str,
-    second: &'a str,
-) -> Option<CommandLine<'a>>
-    ensures { option_map command_from result
-        ≡ six_words name.now flash.entry.now otp.entry.now (cpu_of cpu.now) first.entry.now
-        second.entry.now }
-{
-    let cpu = cpu_word(cpu)?;
-    if name == "plan" {
-        Some(CommandLine::Plan {
-            flash,
-            otp,
-            cpu,
-            image: first,
-            out: second,
-        })
-    } else if name == "sweep" {
-        Some(CommandLine::Sweep {
-            flash,
-            otp,
-            cpu,
-            script: first,
-            pattern: second,
-        })
-    } else {
-        None
-    }
-}
-
-/// The command of seven words.
-fn seven_words<'a>(
-    name: &str,
-    flash: &'a str,
-    otp: &'a str,
-    cpu: &str,
-    script: &'a str,
-    second: &'a str,
-    third: &'a str,
-) -> Option<CommandLine<'a>>
-    ensures { option_map command_from result
-        ≡ seven_words name.now flash.entry.now otp.entry.now (cpu_of cpu.now) script.entry.now
-        second.entry.now third.entry.now }
-{
-    let cpu = cpu_word(cpu)?;
-    if name == "replay" {
-        Some(CommandLine::Replay {
-            flash,
-            otp,
-            cpu,
-            script,
-            out_flash: second,
-            out_otp: third,
-        })
-    } else if name == "chart" {
-        Some(CommandLine::Chart {
-            flash,
-            otp,
-            cpu,
-            script,
-            pattern: second,
-            out: third,
-        })
-    } else {
-        None
-    }
-}
-
-/// The command of words that are more than five, or none.
-#[tactic(auto, using(crate::proofs::WordLemmas::no_command))]
-fn six_or_more(words: &[String]) -> Option<CommandLine<'_>>
-    requires not_one { length words.now ≢ 1 }
-    requires not_two { length words.now ≢ 2 }
-    requires not_three { length words.now ≢ 3 }
-    requires not_four { length words.now ≢ 4 }
-    requires not_five { length words.now ≢ 5 }
-    ensures { option_map command_from result ≡ command_of (map string_bytes words.entry.now) }
-{
-    match words {
-        [name, flash, otp, cpu, first, second] => six_words(name, flash, otp, cpu, first, second),
-        [name, flash, otp, cpu, script, second, third] => {
-            seven_words(name, flash, otp, cpu, script, second, third)
-        }
-        _ => None,
-    }
-}
-
-/// The command of words that are not one and not two.
-fn three_or_more(words: &[String]) -> Option<CommandLine<'_>>
-    requires not_one { length words.now ≢ 1 }
-    requires not_two { length words.now ≢ 2 }
-    ensures { option_map command_from result ≡ command_of (map string_bytes words.entry.now) }
-{
-    match words {
-        [name, first, second] => three_words(name, first, second),
-        [name, first, second, third] => four_words(name, first, second, third),
-        [name, flash, otp, cpu, last] => five_words(name, flash, otp, cpu, last),
-        _ => six_or_more(words),
-    }
+    None
 }
 
 /// The command that the words are. None exactly where they are none.
@@ -472,8 +283,7 @@ pub fn command(words: &[String]) -> Option<CommandLine<'_>>
     ensures { option_map command_from result ≡ command_of (map string_bytes words.entry.now) }
 {
     match words {
-        [name] => one_word(name),
-        [name, word] => two_words(name, word),
-        _ => three_or_more(words),
+        [name, words @ ..] => first_command(&VERBS, name, words),
+        [] => None,
     }
 }

@@ -10,13 +10,15 @@ use test_fixtures::words;
 const BEGIN: &str =
     "boot FLASH OTP CPU KIND  which image a boot starts, or why it falls to BOOTSEL\n";
 
-const END: &str = "written, 6 that standard output failed, and 7 that there was no memory.\n";
+const END: &str = "nothing, and with 10 where the script has no effect.\n";
 
 /// The words, and the status and the text that they give without any file.
-const CASES: [(&[&str], Status, &str); 14] = [
+const CASES: [(&[&str], Status, &str); 16] = [
     (&["--version"], Status::Done, "dugnatsew 0.1.0\n"),
     (&[], Status::Words, "words not understood\n"),
-    (&["-h"], Status::Words, "words not understood\n"),
+    (&["-h", "x"], Status::Words, "words not understood\n"),
+    (&["help", "x"], Status::Words, "words not understood\n"),
+    (&["help", "CPU"], Status::Words, "words not understood\n"),
     (&["--version", "x"], Status::Words, "words not understood\n"),
     (&["boot", "f", "o"], Status::Words, "words not understood\n"),
     (
@@ -75,6 +77,29 @@ fn the_usage_is_put_whole(rt: HostRuntime) -> Result<(), Fail> {
     let (status, out) = ended(rt.alloc(), &["--help"])?;
     assert_eq!(rt; status, Status::Done);
     assert!(rt; out.bytes().starts_with(BEGIN.as_bytes()));
+    assert!(rt; out.bytes().ends_with(END.as_bytes()));
+    Ok(())
+}
+
+#[test]
+fn the_usage_is_put_by_three_words(rt: HostRuntime) -> Result<(), Fail> {
+    let (_, whole) = ended(rt.alloc(), &["--help"])?;
+    for word in ["-h", "help"] {
+        let (status, out) = ended(rt.alloc(), &[word])?;
+        assert_eq!(rt; status, Status::Done);
+        assert_eq!(rt; out.bytes(), whole.bytes());
+    }
+    Ok(())
+}
+
+#[test]
+fn the_help_of_a_command_is_of_lines_of_the_usage(rt: HostRuntime) -> Result<(), Fail> {
+    let (status, out) = ended(rt.alloc(), &["help", "gen"])?;
+    assert_eq!(rt; status, Status::Done);
+    let line = b"gen N                    the digest of a flash that is made of a number, \
+        and what boots on it\nN       a number below 4294967296, of 1 to 10 decimal digits\n"
+        .as_slice();
+    assert!(rt; out.bytes().starts_with(line));
     assert!(rt; out.bytes().ends_with(END.as_bytes()));
     Ok(())
 }

@@ -1,11 +1,14 @@
 //! Worked examples of the definitions, proved by computing: each is the `ensures` of a function
 //! that does nothing.
 
-ghost use Rattle.std.specs.Prelude.{◌≡◌, [], ◌∷◌, codes, Some, None};
+ghost use Rattle.std.specs.Prelude.{◌≡◌, [], ◌∷◌, ◌++◌, codes, Some, None};
 ghost use Rattle.pico_board.specs.declared.boot.Cpu.TheVariants.{Arm, Riscv};
 ghost use Rattle.pico_board.specs.declared.boot.BootKind.TheVariants.{Normal, Bootsel as AskBootsel, Update};
-ghost use Rattle.cli_words.specs.Commands.{Table, command_of, boot_kind_of, Boot, Info, OwnedData, Explain, Map, Replay, Usage, Release, Sweep, Chart, Seal, Elf, Firm, Uf2, Plan, Copy, ListScript, WriteScript, Gen};
-ghost use Rattle.cli_words.specs.Usages.{release_line};
+ghost use Rattle.cli_words.specs.Commands.{Table, command_of, boot_kind_of, Boot, Info, OwnedData, Explain, Map, Replay, Usage, Help, Release, Sweep, Chart, Seal, Elf, Firm, Uf2, Plan, Copy, ListScript, WriteScript, Gen};
+ghost use Rattle.cli_words.specs.declared.rows.TheConstants.{STATUSES};
+ghost use Rattle.cli_words.specs.declared.rows.Verb.TheVariants as verbs;
+ghost use Rattle.cli_words.specs.Rows.{row_of};
+ghost use Rattle.cli_words.specs.Usages.{help_text, release_line, row_line};
 ghost use Rattle.cli_words.specs.Values.{family_of};
 
 /// The words of each command.
@@ -39,6 +42,13 @@ pub fn words_of_commands()
         ∷ codes "a" ∷ []) ≡ Some
         (Chart (codes "f") (codes "o") Arm (codes "s") (codes "p") (codes "a")) }
     ensures help { command_of (codes "--help" ∷ []) ≡ Some Usage }
+    ensures short_help { command_of (codes "-h" ∷ []) ≡ Some Usage }
+    ensures help_word { command_of (codes "help" ∷ []) ≡ Some Usage }
+    ensures help_of { command_of (codes "help" ∷ codes "boot" ∷ []) ≡ Some (Help (codes "boot")) }
+    ensures help_of_help { command_of (codes "help" ∷ codes "help" ∷ [])
+        ≡ Some (Help (codes "help")) }
+    ensures help_of_short { command_of (codes "help" ∷ codes "-h" ∷ [])
+        ≡ Some (Help (codes "-h")) }
     ensures release { command_of (codes "--version" ∷ []) ≡ Some Release }
 {}
 
@@ -73,7 +83,10 @@ pub fn other_words()
         (codes "info" ∷ codes "f" ∷ codes "o" ∷ codes "arm" ∷ codes "normal" ∷ []) ≡ None }
     ensures four { command_of (codes "boot" ∷ codes "f" ∷ codes "o" ∷ codes "arm" ∷ []) ≡ None }
     ensures info_cpu { command_of (codes "info" ∷ codes "f" ∷ codes "o" ∷ codes "x86" ∷ []) ≡ None }
-    ensures one { command_of (codes "-h" ∷ []) ≡ None }
+    ensures one { command_of (codes "-help" ∷ []) ≡ None }
+    ensures help_help { command_of (codes "help" ∷ codes "boots" ∷ []) ≡ None }
+    ensures help_two { command_of (codes "help" ∷ codes "boot" ∷ codes "info" ∷ []) ≡ None }
+    ensures dash_two { command_of (codes "-h" ∷ codes "boot" ∷ []) ≡ None }
     ensures two { command_of (codes "--version" ∷ codes "x" ∷ []) ≡ None }
     ensures seven { command_of
         (codes "boot" ∷ codes "f" ∷ codes "o" ∷ codes "arm" ∷ codes "s" ∷ codes "a" ∷ codes "b"
@@ -169,4 +182,26 @@ pub fn families()
 /// The line of the version.
 pub fn lines_of_releases()
     ensures { release_line ≡ codes "dugnatsew 0.1.0\n" }
+{}
+
+/// The line of a row has its words in a column of 23 characters, where they are no more, and then
+/// what the command does.
+pub fn lines_of_rows()
+    ensures full { row_line (row_of verbs.Boot)
+        ≡ codes "boot FLASH OTP CPU KIND  which image a boot starts, or why it falls to BOOTSEL\n" }
+    ensures short { row_line (row_of verbs.Release)
+        ≡ codes "--version                the version of the program\n" }
+    ensures long { row_line (row_of verbs.Plan) ≡ codes
+        "plan FLASH OTP CPU IMAGE OUT  a script that writes an image to where a download of it goes\n" }
+{}
+
+/// The help of a command is its line, the lines on its words, and those on the statuses; of a name
+/// of two rows it is that of both.
+pub fn helps_of_commands()
+    ensures one { help_text (codes "gen") ≡ codes
+        "gen N                    the digest of a flash that is made of a number, and what boots on it\n"
+        ++ (codes "N       a number below 4294967296, of 1 to 10 decimal digits\n" ++ STATUSES.now) }
+    ensures two { help_text (codes "help") ≡ codes
+        "help                     the same\nhelp COMMAND             how one command is used\n"
+        ++ (codes "COMMAND  the first word of a line above\n" ++ STATUSES.now) }
 {}
