@@ -12,7 +12,7 @@ use Rattle.boot_rules.proofs.DecisionLemmas.{decision-chosen, chosen-decision}
 use Rattle.cli_course.specs.declared.status.Status.TheVariants.{Input as Refused, Bootsel}
 use Rattle.cli_course.specs.Outcomes.{AreOfBytes, AnswerView, Answers, found, outcome_found}
 use Rattle.cli_course.proofs.ReadLemmas.{found-long}
-use Rattle.cli_words.specs.Commands.{CommandLineView, Boot, Info, OwnedData, Explain, Map, Replay, Sweep, Chart, Seal, Elf, Firm, Table, Usage, Help, Release, Uf2, Plan, Copy, ListScript, WriteScript, Gen}
+use Rattle.cli_words.specs.Commands.{CommandLineView, Boot, Info, OwnedData, Explain, Map, Replay, Sweep, Chart, Seal, Elf, Firm, Table, Usage, Help, Release, Uf2, Plan, Copy, ListScript, WriteScript, Gen, Load}
 use Rattle.cli_words.specs.Usages.{usage_text, help_text, release_line}
 use Rattle.cli_inputs.specs.declared.forms.Form.TheVariants.{Flash, Otp}
 use Rattle.cli_inputs.specs.Forms.{HasForm, content_of_files}
@@ -32,7 +32,7 @@ use Rattle.cli_scripts.proofs.CopyRuleLemmas.{copy-works}
 use Rattle.cli_scripts.proofs.TextRuleLemmas.{list-works, write-works}
 use Rattle.cli_tools.proofs.ElfLemmas.{elf-works}
 use Rattle.cli_tools.proofs.SealCaseLemmas.{seal-works, table-works}
-use Rattle.cli_tools.proofs.ToolLemmas.{uf2-works, plan-works, gen-works}
+use Rattle.cli_tools.proofs.ToolLemmas.{uf2-works, plan-works, load-works, gen-works}
 use Rattle.boot_run.specs.Commands.{inputs_of, work_of, command_outcome, outcome_on, IsRefusedCommand, NeedsBytes, IsRefusedWork, IsRight, Tells, Obeys, FallsOn}
 
 -- the work of each command is right by the rules
@@ -52,6 +52,7 @@ works (Firm image cpu) = firm-works image cpu
 works (Table json out) = table-works json out
 works (Uf2 image family out) = uf2-works image out family
 works (Plan flash otp cpu image out) = plan-works flash otp image out cpu
+works (Load flash otp cpu image out) = load-works flash otp image out cpu
 works (Copy uf2 out) = copy-works uf2 out
 works (ListScript script) = list-works script
 works (WriteScript text out) = write-works text out
@@ -100,6 +101,7 @@ bytes-serve (Firm image cpu) read small = tt
 bytes-serve (Table json out) read small = tt
 bytes-serve (Uf2 image family out) read small = tt
 bytes-serve (Plan flash otp cpu image out) read small = tt
+bytes-serve (Load flash otp cpu image out) read small = tt
 bytes-serve (Copy uf2 out) read small = tt
 bytes-serve (ListScript script) read small = tt
 bytes-serve (WriteScript text out) read small = tt

@@ -1,10 +1,10 @@
 -- The commands: the inputs of each, its work on their bytes, from which the outcome of a run
 -- follows, and what is right for it in the words of the rules. This project's own, over the rules
 -- of a boot.
-use Rattle.std.specs.Prelude.{ℕ, false, List, [], Option, Some, None, ◌≡◌, ⊤}
+use Rattle.std.specs.Prelude.{ℕ, Bool, true, false, List, [], Option, Some, None, ◌≡◌, ⊤}
 use Rattle.pico_board.specs.Files.{File}
 use Rattle.cli_course.specs.Outcomes.{LimitedInputView, AnswerView, Work, Answers, not_understood, found, outcome_found, AreOfBytes}
-use Rattle.cli_words.specs.Commands.{CommandLineView, Boot, Info, OwnedData, Explain, Map, Replay, Sweep, Chart, Seal, Elf, Firm, Table, Usage, Help, Release, Uf2, Plan, Copy, ListScript, WriteScript, Gen}
+use Rattle.cli_words.specs.Commands.{CommandLineView, Boot, Info, OwnedData, Explain, Map, Replay, Sweep, Chart, Seal, Elf, Firm, Table, Usage, Help, Release, Uf2, Plan, Copy, ListScript, WriteScript, Gen, Load}
 use Rattle.cli_words.specs.Usages.{usage_text, help_text, release_line}
 use Rattle.cli_inputs.specs.Forms.{content_of_files, HasForm}
 use Rattle.cli_inputs.specs.Jsons.{spec_read, table_read}
@@ -20,7 +20,7 @@ use Rattle.cli_scripts.specs.TextWorks.{list_work, write_work}
 use Rattle.cli_sweep.specs.SweepWorks.{sweep_work}
 use Rattle.cli_tools.specs.Elfs.{elf_work, IsElfOf, IsElfRefused}
 use Rattle.cli_tools.specs.Tools.{seal_work, table_work}
-use Rattle.cli_tools.specs.ToolWorks.{uf2_work, plan_work, gen_work}
+use Rattle.cli_tools.specs.ToolWorks.{uf2_work, plan_work, load_work, gen_work}
 use Rattle.pico_board.specs.declared.boot.Cpu.{Cpu}
 use Rattle.pico_board.specs.declared.boot.BootKind.{BootKind}
 use Rattle.pico_board.specs.Puts.{IsPut, SinkState}
@@ -29,7 +29,7 @@ use Rattle.boot_rules.specs.declared.decision.Decision.TheVariants.{Bootsel as F
 use Rattle.boot_rules.specs.declared.decision.Fall.{Fall}
 use Rattle.boot_rules.specs.Chosen.{Chosen}
 use Rattle.cli_course.specs.declared.status.Status.{Status}
-use Rattle.cli_course.specs.declared.status.Status.TheVariants.{Done}
+use Rattle.cli_course.specs.declared.status.Status.TheVariants.{Done, Unbootable, Neither, NoEffect, Refused}
 use Rattle.text_lines.specs.Texts.{decision_line}
 use Rattle.cli_inputs.specs.declared.forms.Form.TheVariants.{Flash, Otp}
 use Rattle.cli_inputs.specs.Rules.{OfOne, OfTwo, OfThree, OfFour, IsRefusedFor, IsWorked}
@@ -42,7 +42,7 @@ use Rattle.cli_sweep.specs.ChartRules.{IsChartOf}
 use Rattle.cli_sweep.specs.SweepRules.{IsFirmOf, IsFirmRefused, IsSweepOf, IsSweepRefused}
 use Rattle.cli_tools.specs.Seals.{IsUnsealed}
 use Rattle.cli_tools.specs.SealRules.{IsSealedOf, IsTableOf}
-use Rattle.cli_tools.specs.ToolRules.{IsUf2Refused, IsUf2Of, IsPlanRefused, IsPlanOf, IsGenOf}
+use Rattle.cli_tools.specs.ToolRules.{IsUf2Refused, IsUf2Of, IsPlanRefused, IsPlanOf, IsLoadRefused, IsLoadOf, IsGenOf}
 
 -- the inputs of a command, in word order
 abbrev pub inputs_of : CommandLineView → List FormInputView
@@ -62,6 +62,7 @@ inputs_of (Firm image cpu) = image_alone image
 inputs_of (Table json out) = one_json json
 inputs_of (Uf2 image family out) = image_alone image
 inputs_of (Plan flash otp cpu image out) = flash_otp_image flash otp image
+inputs_of (Load flash otp cpu image out) = flash_otp_image flash otp image
 inputs_of (Copy uf2 out) = uf2_alone uf2
 inputs_of (ListScript script) = script_alone script
 inputs_of (WriteScript text out) = text_alone text
@@ -91,6 +92,8 @@ work_of (Table json out) = of_one (λ j. table_work out (table_read j))
 work_of (Uf2 image family out) = of_one (uf2_work image family out)
 work_of (Plan flash otp cpu image out) =
     of_three (λ f g i. plan_work (content_of_files f g) cpu image out i)
+work_of (Load flash otp cpu image out) =
+    of_three (λ f g i. load_work (content_of_files f g) cpu image out i)
 work_of (Copy uf2 out) = of_one (copy_work out)
 work_of (ListScript script) = of_one list_work
 work_of (WriteScript text out) = of_one (write_work text out)
@@ -135,6 +138,8 @@ IsRefusedWork (WriteScript text out) read name fault =
     OfOne (λ t. IsTextRefused text t name fault) read
 IsRefusedWork (Plan flash otp cpu image out) read name fault =
     OfThree (λ f g i. IsPlanRefused (content_of_files f g) cpu image i name fault) read
+IsRefusedWork (Load flash otp cpu image out) read name fault =
+    OfThree (λ f g i. IsLoadRefused (content_of_files f g) cpu image i name fault) read
 IsRefusedWork _ read name fault = ⊥
 
 -- an input of the command is refused
@@ -170,6 +175,8 @@ IsRight (Table json out) read o = OfOne (λ j. IsTableOf out j o) read
 IsRight (Uf2 image family out) read o = OfOne (λ i. IsUf2Of i family out o) read
 IsRight (Plan flash otp cpu image out) read o =
     OfThree (λ f g i. IsPlanOf (content_of_files f g) cpu i out o) read
+IsRight (Load flash otp cpu image out) read o =
+    OfThree (λ f g i. IsLoadOf (content_of_files f g) cpu i out o) read
 IsRight (Copy uf2 out) read o = OfOne (λ u. IsCopyOf u out o) read
 IsRight (ListScript script) read o = OfOne (λ s. IsListOf s o) read
 IsRight (WriteScript text out) read o = OfOne (λ t. IsWrittenOf t out o) read
@@ -195,6 +202,18 @@ NeedsBytes (Sweep flash otp cpu script pattern) read = AreOfBytes read
 NeedsBytes (Chart flash otp cpu script pattern out) read = AreOfBytes read
 NeedsBytes (Elf elf spec out) read = AreOfBytes read
 NeedsBytes command read = ⊤
+
+-- the command judges a script, so that it may end with a verdict; none does yet
+abbrev pub judges : CommandLineView → Bool
+judges _ = false
+
+-- a status of a verdict that is no pass
+abbrev pub is_verdict : Status → Bool
+is_verdict Unbootable = true
+is_verdict Neither = true
+is_verdict NoEffect = true
+is_verdict Refused = true
+is_verdict _ = false
 
 -- a run named a decision: it ended with its status, and put its line
 abbrev pub Names : Decision → Status → SinkState → SinkState → Type 0

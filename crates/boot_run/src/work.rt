@@ -4,23 +4,26 @@ ghost use Rattle.std.specs.Prelude.{◌≡◌, IfOk, map, length};
 ghost use Rattle.cli_course.specs.Outcomes.{worked};
 ghost use Rattle.cli_course.specs.Views.{answer_from, bytes_of_files};
 ghost use Rattle.cli_words.specs.Commands.{command_from};
+ghost use Rattle.cli_inputs.specs.declared.forms.Form.{Form};
+ghost use Rattle.cli_inputs.specs.Forms.{HasForm};
 ghost use Rattle.cli_inputs.specs.Rules.{AreFormed};
 ghost use Rattle.cli_inputs.specs.Views.{form_input_from};
 ghost use Rattle.boot_run.specs.Commands.{command_outcome, inputs_of, work_of};
 
+use boot_script::Script;
 use cli_boot::{boot, data, info};
 use cli_course::{Answer, told};
 use cli_explain::explain;
 use cli_inputs::{
-    Form, FormInput, binary_and_spec, board_files, elf_and_spec, elf_files, first_input_fault,
-    flash_and_otp, flash_otp_image, flash_otp_script, flash_otp_script_pattern, image_alone,
-    image_files, lone_file, one_json, script_alone, script_files, seal_files, sweep_files,
-    text_alone, uf2_alone,
+    Form, FormInput, binary_and_spec, board_files, board_of, elf_and_spec, elf_files,
+    first_input_fault, flash_and_otp, flash_otp_image, flash_otp_script, flash_otp_script_pattern,
+    image_alone, image_files, lone_file, one_json, script_alone, script_files, seal_files,
+    sweep_files, text_alone, uf2_alone,
 };
 use cli_map::map_flash;
 use cli_scripts::{copy_uf2, list_script, replay, write_script};
 use cli_sweep::{chart_script, firm_image, sweep_script};
-use cli_tools::{made_flash, pack_elf, plan_image, seal_binary, table, uf2};
+use cli_tools::{load, made_flash, pack_elf, plan_image, seal_binary, table, uf2};
 use cli_words::{CommandLine, help_text, release_line, usage_text};
 use std::alloc::{AllocError, Global};
 
@@ -69,6 +72,12 @@ pub fn inputs<'a>(
             image,
             ..
         } => flash_otp_image(alloc, flash, otp, image),
+        CommandLine::Load {
+            flash,
+            otp,
+            image,
+            ..
+        } => flash_otp_image(alloc, flash, otp, image),
         CommandLine::Copy { uf2, .. } => uf2_alone(alloc, uf2),
         CommandLine::ListScript { script } => script_alone(alloc, script),
         CommandLine::WriteScript { text, .. } => text_alone(alloc, text),
@@ -77,6 +86,14 @@ pub fn inputs<'a>(
         CommandLine::Help { .. } => Ok(Vec::new(alloc)),
         CommandLine::Release => Ok(Vec::new(alloc)),
     }
+}
+
+/// The script of a file that has its form.
+fn whole_script(file: &[u8]) -> Script<'_>
+    requires { HasForm Form.Script file.now }
+    ensures { result.bytes.now ≡ file.now }
+{
+    Script { bytes: file }
 }
 
 /// The work of a command on the bytes of its inputs, which have their forms.
@@ -93,23 +110,23 @@ fn work<'a>(
     match command {
         CommandLine::Boot { cpu, kind, .. } => {
             let (flash, otp) = board_files(files);
-            boot(alloc, flash, &otp, *cpu, *kind)
+            boot(alloc, board_of(alloc, flash, &otp)?, *cpu, *kind)
         }
         CommandLine::Info { cpu, .. } => {
             let (flash, otp) = board_files(files);
-            info(alloc, flash, &otp, *cpu)
+            info(alloc, board_of(alloc, flash, &otp)?, *cpu)
         }
         CommandLine::OwnedData { cpu, kind, .. } => {
             let (flash, otp) = board_files(files);
-            data(alloc, flash, &otp, *cpu, *kind)
+            data(alloc, board_of(alloc, flash, &otp)?, *cpu, *kind)
         }
         CommandLine::Explain { cpu, kind, .. } => {
             let (flash, otp) = board_files(files);
-            explain(alloc, flash, &otp, *cpu, *kind)
+            explain(alloc, board_of(alloc, flash, &otp)?, *cpu, *kind)
         }
         CommandLine::Map { cpu, out, .. } => {
             let (flash, otp) = board_files(files);
-            map_flash(alloc, flash, &otp, *cpu, out)
+            map_flash(alloc, board_of(alloc, flash, &otp)?, *cpu, out)
         }
         CommandLine::Replay {
             cpu,
@@ -118,11 +135,15 @@ fn work<'a>(
             ..
         } => {
             let (flash, otp, script) = script_files(files);
-            replay(alloc, flash, &otp, *cpu, &script, out_flash, out_otp)
+            let board = board_of(alloc, flash, &otp)?;
+            let script = whole_script(&script);
+            replay(alloc, board, *cpu, script, out_flash, out_otp)
         }
         CommandLine::Sweep { cpu, script, .. } => {
             let (flash, otp, events, pattern) = sweep_files(files);
-            sweep_script(alloc, flash, &otp, *cpu, script, &events, &pattern)
+            let board = board_of(alloc, flash, &otp)?;
+            let events = whole_script(&events);
+            sweep_script(alloc, board, *cpu, script, events, &pattern)
         }
         CommandLine::Chart {
             cpu,
@@ -131,7 +152,9 @@ fn work<'a>(
             ..
         } => {
             let (flash, otp, events, pattern) = sweep_files(files);
-            chart_script(alloc, flash, &otp, *cpu, script, &events, &pattern, out)
+            let board = board_of(alloc, flash, &otp)?;
+            let events = whole_script(&events);
+            chart_script(alloc, board, *cpu, script, events, &pattern, out)
         }
         CommandLine::Seal { binary, spec, out } => {
             let (bytes, text) = seal_files(files);
@@ -160,7 +183,18 @@ fn work<'a>(
             ..
         } => {
             let (flash, otp, bytes) = image_files(files);
-            plan_image(alloc, flash, &otp, *cpu, image, out, &bytes)
+            let board = board_of(alloc, flash, &otp)?;
+            plan_image(alloc, board, *cpu, image, out, &bytes)
+        }
+        CommandLine::Load {
+            cpu,
+            image,
+            out,
+            ..
+        } => {
+            let (flash, otp, bytes) = image_files(files);
+            let board = board_of(alloc, flash, &otp)?;
+            load(alloc, board, *cpu, image, out, &bytes)
         }
         CommandLine::Copy { out, .. } => {
             let bytes = lone_file(files, Form::Uf2);
@@ -168,7 +202,7 @@ fn work<'a>(
         }
         CommandLine::ListScript { .. } => {
             let bytes = lone_file(files, Form::Script);
-            list_script(alloc, &bytes)
+            list_script(alloc, whole_script(&bytes))
         }
         CommandLine::WriteScript { text, out } => {
             let bytes = lone_file(files, Form::Text);

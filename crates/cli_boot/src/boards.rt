@@ -2,6 +2,7 @@
 
 ghost use Rattle.std.specs.Prelude.{◌≡◌, ◌+◌, ◌/◌, ◌≤◌, All, IfOk, IfSome, IsTrue, length, map, option_map, string_bytes};
 ghost use Rattle.std.specs.List.{flat_map};
+ghost use Rattle.pico_board.specs.MemBoard.{state_of};
 ghost use Rattle.otp_roll.specs.Flags.{slot_size};
 ghost use Rattle.part_table.specs.Fields.{first_sector, last_sector};
 ghost use Rattle.part_table.specs.Sound.{IsSoundTable};
@@ -11,17 +12,15 @@ ghost use Rattle.slot_choice.specs.Units.{units};
 ghost use Rattle.cli_course.specs.Outcomes.{worked, answered_status};
 ghost use Rattle.cli_boot.specs.Works.{boot_work, info_work, data_work, unit_windows, windows_of, window_line, decided_data, data_line, is_fall};
 ghost use Rattle.cli_course.specs.Views.{answer_from};
-ghost use Rattle.cli_inputs.specs.declared.forms.Form.{Form};
-ghost use Rattle.cli_inputs.specs.Forms.{HasForm, content_of_files};
 
 use arrayvec::ArrayVec;
 use boot_rules::{Decision, Found, data_of, decide, find_table};
 use cli_course::{Answer, Status};
-use cli_inputs::{board_of, new_pool};
+use cli_inputs::new_pool;
 use image_check::check;
 use otp_roll::slot_size;
 use part_table::Partition;
-use pico_board::{Board, BootKind, Cpu, Window};
+use pico_board::{Board, BootKind, Cpu, MemBoard, Window};
 use sector_pool::SectorPool;
 use slot_choice::boot_units;
 use std::alloc::{AllocError, Global};
@@ -205,59 +204,46 @@ fn data_answer<'a, B: Board>(
     })
 }
 
-/// The work of `boot` on a flash file and an OTP file, which have their forms: the decision of a
+/// The work of `boot` on a board with power: the decision of a
 /// boot of this type for the processor. It fails only where memory is out.
 pub fn boot<'a>(
     alloc: Global,
-    flash: Vec<u8>,
-    otp: &[u8],
+    board: MemBoard,
     cpu: Cpu,
     kind: BootKind,
 ) -> Result<Answer<'a>, AllocError>
-    requires flash { HasForm Form.Flash flash.items }
-    requires otp { HasForm Form.Otp otp.now }
+    requires { IsTrue (state_of board).powered }
     ensures { IfOk result (λ answer. answer_from answer
-        ≡ worked (boot_work (content_of_files flash.items otp.now) cpu kind)) }
+        ≡ worked (boot_work (state_of board).content cpu kind)) }
 {
-    let board = board_of(alloc, flash, otp)?;
     let mut pool = new_pool(alloc)?;
     boot_answer(alloc, &board, &mut pool, cpu, kind)
 }
 
-/// The work of `info` on a flash file and an OTP file, which have their forms: the table, and each
+/// The work of `info` on a board with power: the table, and each
 /// window with its image for the processor or why there is none. It fails only where memory is out.
-pub fn info<'a>(
-    alloc: Global,
-    flash: Vec<u8>,
-    otp: &[u8],
-    cpu: Cpu,
-) -> Result<Answer<'a>, AllocError>
-    requires flash { HasForm Form.Flash flash.items }
-    requires otp { HasForm Form.Otp otp.now }
+pub fn info<'a>(alloc: Global, board: MemBoard, cpu: Cpu) -> Result<Answer<'a>, AllocError>
+    requires { IsTrue (state_of board).powered }
     ensures { IfOk result (λ answer. answer_from answer
-        ≡ worked (info_work (content_of_files flash.items otp.now) cpu)) }
+        ≡ worked (info_work (state_of board).content cpu)) }
 {
-    let board = board_of(alloc, flash, otp)?;
     let mut pool = new_pool(alloc)?;
     info_answer(alloc, &board, &mut pool, cpu)
 }
 
-/// The work of `data` on a flash file and an OTP file, which have their forms: the decision of a
+/// The work of `data` on a board with power: the decision of a
 /// boot of this type for the processor, and the windows of the data that its image owns. It fails
 /// only where memory is out.
 pub fn data<'a>(
     alloc: Global,
-    flash: Vec<u8>,
-    otp: &[u8],
+    board: MemBoard,
     cpu: Cpu,
     kind: BootKind,
 ) -> Result<Answer<'a>, AllocError>
-    requires flash { HasForm Form.Flash flash.items }
-    requires otp { HasForm Form.Otp otp.now }
+    requires { IsTrue (state_of board).powered }
     ensures { IfOk result (λ answer. answer_from answer
-        ≡ worked (data_work (content_of_files flash.items otp.now) cpu kind)) }
+        ≡ worked (data_work (state_of board).content cpu kind)) }
 {
-    let board = board_of(alloc, flash, otp)?;
     let mut pool = new_pool(alloc)?;
     data_answer(alloc, &board, &mut pool, cpu, kind)
 }

@@ -1,18 +1,17 @@
 //! The work of `explain`.
 
 ghost use Rattle.std.specs.Prelude.{◌≡◌, IfOk, IsTrue};
+ghost use Rattle.pico_board.specs.MemBoard.{state_of};
 ghost use Rattle.sector_pool.specs.Pool.{HasFree};
 ghost use Rattle.cli_course.specs.Outcomes.{worked};
 ghost use Rattle.cli_course.specs.Views.{answer_from};
-ghost use Rattle.cli_inputs.specs.declared.forms.Form.{Form};
-ghost use Rattle.cli_inputs.specs.Forms.{HasForm, content_of_files};
 ghost use Rattle.cli_explain.specs.Works.{explain_work};
 
 use crate::texts::explain_text;
 use boot_reasons::gather;
 use cli_course::{Answer, Status};
-use cli_inputs::{board_of, new_pool};
-use pico_board::{Board, BootKind, Cpu};
+use cli_inputs::new_pool;
+use pico_board::{Board, BootKind, Cpu, MemBoard};
 use sector_pool::SectorPool;
 use std::alloc::{AllocError, Global};
 
@@ -38,21 +37,18 @@ fn explain_answer<'a, B: Board>(
     })
 }
 
-/// The work of `explain` on a flash file and an OTP file, which have their forms: why a boot of
-/// this type decides for the processor as it does. It fails only where memory is out.
+/// The work of `explain` on a board with power: why a boot of this type decides for the processor
+/// as it does. It fails only where memory is out.
 pub fn explain<'a>(
     alloc: Global,
-    flash: Vec<u8>,
-    otp: &[u8],
+    board: MemBoard,
     cpu: Cpu,
     kind: BootKind,
 ) -> Result<Answer<'a>, AllocError>
-    requires flash { HasForm Form.Flash flash.items }
-    requires otp { HasForm Form.Otp otp.now }
+    requires { IsTrue (state_of board).powered }
     ensures { IfOk result (λ answer. answer_from answer
-        ≡ worked (explain_work (content_of_files flash.items otp.now) cpu kind)) }
+        ≡ worked (explain_work (state_of board).content cpu kind)) }
 {
-    let board = board_of(alloc, flash, otp)?;
     let mut pool = new_pool(alloc)?;
     explain_answer(alloc, &board, &mut pool, cpu, kind)
 }

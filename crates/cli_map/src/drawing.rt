@@ -1,12 +1,11 @@
 //! The picture of a flash on a board in memory.
 
 ghost use Rattle.std.specs.Prelude.{◌≡◌, All, IfOk, IsTrue, string_bytes};
+ghost use Rattle.pico_board.specs.MemBoard.{state_of};
 ghost use Rattle.sector_pool.specs.Pool.{HasFree};
 ghost use Rattle.boot_map.specs.WindowRules.{IsListed};
 ghost use Rattle.cli_course.specs.Outcomes.{worked};
 ghost use Rattle.cli_course.specs.Views.{answer_from};
-ghost use Rattle.cli_inputs.specs.declared.forms.Form.{Form};
-ghost use Rattle.cli_inputs.specs.Forms.{HasForm, content_of_files};
 ghost use Rattle.text_lines.specs.Texts.{decision_text};
 ghost use Rattle.boot_map.specs.Maps.{table_of_map};
 ghost use Rattle.cli_map.specs.Works.{drawn_work, map_work};
@@ -16,8 +15,8 @@ use arrayvec::ArrayString;
 use boot_map::{FlashMap, gather_map};
 use boot_rules::Decision;
 use cli_course::{Answer, one_file};
-use cli_inputs::{board_of, new_pool};
-use pico_board::{Board, Cpu};
+use cli_inputs::new_pool;
+use pico_board::{Board, Cpu, MemBoard};
 use sector_pool::SectorPool;
 use std::alloc::{AllocError, Global};
 use svg_map::{map_svg, map_words};
@@ -69,22 +68,19 @@ fn map_answer<'a, B: Board>(
     drawn(alloc, board.flash_len(), &shown, out)
 }
 
-/// The work of `map` on a flash file and an OTP file, which have their forms: how many windows the
-/// flash has, and its picture, with what the processor finds in each window and what a normal boot
-/// starts. It fails only where memory is out.
+/// The work of `map` on a board with power: how many windows the flash has, and its picture, with
+/// what the processor finds in each window and what a normal boot starts. It fails only where memory
+/// is out.
 pub fn map_flash<'a>(
     alloc: Global,
-    flash: Vec<u8>,
-    otp: &[u8],
+    board: MemBoard,
     cpu: Cpu,
     out: &'a str,
 ) -> Result<Answer<'a>, AllocError>
-    requires flash { HasForm Form.Flash flash.items }
-    requires otp { HasForm Form.Otp otp.now }
+    requires { IsTrue (state_of board).powered }
     ensures { IfOk result (λ answer. answer_from answer
-        ≡ worked (map_work (content_of_files flash.items otp.now) cpu out.entry.now)) }
+        ≡ worked (map_work (state_of board).content cpu out.entry.now)) }
 {
-    let board = board_of(alloc, flash, otp)?;
     let mut pool = new_pool(alloc)?;
     map_answer(alloc, &board, &mut pool, cpu, out)
 }

@@ -7,19 +7,16 @@ ghost use Rattle.boot_script.specs.Events.{IsWritableEvent, event_from};
 ghost use Rattle.boot_script.specs.Scripts.{script_events};
 ghost use Rattle.boot_machine.specs.Machines.{MachineView as Model};
 ghost use Rattle.boot_machine.specs.Standing.{Stands};
-ghost use Rattle.cli_inputs.specs.Forms.{content_of_files, HasForm};
 ghost use Rattle.boot_plays.specs.Plays.{moved_machine, played, powerless};
 ghost use Rattle.cli_scripts.specs.ReplayWorks.{event_lines, replay_work};
 ghost use Rattle.cli_course.specs.Outcomes.{worked};
 ghost use Rattle.cli_course.specs.Views.{answer_from};
-ghost use Rattle.cli_inputs.specs.declared.forms.Form.{Form};
 
 use crate::event_lines::{end_line, push_event};
 use arrayvec::ArrayString;
 use boot_machine::Machine;
 use boot_script::{Event, Script};
 use cli_course::{Answer, OutFile, Status};
-use cli_inputs::board_of;
 use pico_board::{Cpu, MemBoard};
 use ram_start::Ram;
 use sector_pool::SectorPool;
@@ -82,23 +79,24 @@ fn row_bytes(alloc: Global, rows: &[u32]) -> Result<Vec<u8>, AllocError>
     Ok(bytes)
 }
 
-/// The answer of `replay`: the lines of the script's events, and the content that they leave.
-fn replay_answer<'a>(
+/// The work of `replay` on a board on which no cut is armed, and a script: the lines of the script's
+/// events on a machine without power, and the files of the content that they leave. It fails only
+/// where memory is out.
+pub fn replay<'a>(
     alloc: Global,
     board: MemBoard,
     cpu: Cpu,
-    script: &[u8],
+    script: Script<'_>,
     out_flash: &'a str,
     out_otp: &'a str,
 ) -> Result<Answer<'a>, AllocError>
-    requires unarmed { (state_of board).armed ≡ Some None }
-    requires form { HasForm Form.Script script.now }
+    requires { (state_of board).armed ≡ Some None }
     ensures { IfOk result (λ answer. answer_from answer ≡ worked (replay_work
-        (state_of board).content cpu script.now out_flash.entry.now out_otp.entry.now)) }
+        (state_of board).content cpu script.entry.bytes.now out_flash.entry.now
+        out_otp.entry.now)) }
 {
-    let judged = Script { bytes: script };
     let mut machine = machine_of(alloc, board, cpu)?;
-    let mut text = play(alloc, &mut machine, &judged)?;
+    let mut text = play(alloc, &mut machine, &script)?;
     let end = end_line(alloc, machine.state())?;
     text.push_str(&end)?;
     let (flash, rows) = machine.into_board().into_parts();
@@ -116,26 +114,4 @@ fn replay_answer<'a>(
         text,
         files: vec![in alloc; flash, otp]?,
     })
-}
-
-/// The work of `replay` on a flash file, an OTP file and a script, which have their forms: the
-/// lines of the script's events on a machine without power, and the files of the content that they
-/// leave. It fails only where memory is out.
-pub fn replay<'a>(
-    alloc: Global,
-    flash: Vec<u8>,
-    otp: &[u8],
-    cpu: Cpu,
-    script: &[u8],
-    out_flash: &'a str,
-    out_otp: &'a str,
-) -> Result<Answer<'a>, AllocError>
-    requires flash { HasForm Form.Flash flash.items }
-    requires otp { HasForm Form.Otp otp.now }
-    requires script { HasForm Form.Script script.now }
-    ensures { IfOk result (λ answer. answer_from answer ≡ worked (replay_work
-        (content_of_files flash.items otp.now) cpu script.now out_flash.entry.now out_otp.entry.now)) }
-{
-    let board = board_of(alloc, flash, otp)?;
-    replay_answer(alloc, board, cpu, script, out_flash, out_otp)
 }

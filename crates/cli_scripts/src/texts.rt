@@ -12,15 +12,13 @@ use cli_course::{Answer, one_file, refusal, told};
 use script_text::{TextError, list_text, read_text};
 use std::alloc::{AllocError, Global};
 
-/// The work of `list` on a script that has its form: its events up to its end, one a line, with a
-/// comment above each command and each UF2 block. It fails only where memory is out.
-pub fn list_script<'a>(alloc: Global, script: &[u8]) -> Result<Answer<'a>, AllocError>
-    requires { HasForm Form.Script script.now }
+/// The work of `list` on a script: its events up to its end, one a line, with a comment above each
+/// command and each UF2 block. It fails only where memory is out.
+pub fn list_script<'a>(alloc: Global, script: Script<'_>) -> Result<Answer<'a>, AllocError>
     ensures { IfOk result
-        (λ answer. answer_from answer ≡ worked (list_work script.now)) }
+        (λ answer. answer_from answer ≡ worked (list_work script.entry.bytes.now)) }
 {
-    let judged = Script { bytes: script };
-    let text = list_text(alloc, &judged)?;
+    let text = list_text(alloc, &script)?;
     Ok(told(alloc, text))
 }
 

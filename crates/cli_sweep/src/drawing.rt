@@ -1,14 +1,13 @@
 //! The picture of the sweep of a script's session on a board in memory.
 
-ghost use Rattle.std.specs.Prelude.{◌≡◌, ◌≤◌, IfOk, IsTrue, false, length, string_bytes};
+ghost use Rattle.std.specs.Prelude.{◌≡◌, ◌≤◌, IfOk, IsTrue, false, length, string_bytes, true};
 ghost use Rattle.pico_board.specs.declared.boot.BootKind.TheVariants.{Normal};
+ghost use Rattle.pico_board.specs.Cuts.{IsPattern};
 ghost use Rattle.pico_board.specs.MemBoard.{state_of};
 ghost use Rattle.sector_pool.specs.Pool.{HasFree};
 ghost use Rattle.boot_rules.specs.Choosing.{decision_in};
 ghost use Rattle.cli_course.specs.Outcomes.{Answers, line, one_file, worked};
 ghost use Rattle.cli_course.specs.Views.{answer_from};
-ghost use Rattle.cli_inputs.specs.declared.forms.Form.{Form};
-ghost use Rattle.cli_inputs.specs.Forms.{HasForm, content_of_files};
 ghost use Rattle.text_lines.specs.Texts.{decision_text};
 ghost use Rattle.svg_sweep.specs.Charts.{chart_words};
 ghost use Rattle.cli_sweep.specs.ChartWorks.{chart_file, chart_line, chart_with, chart_work};
@@ -17,9 +16,10 @@ use crate::results::{before_classes, class_of, within_classes};
 use crate::unswept;
 use arrayvec::ArrayString;
 use boot_rules::decide;
+use boot_script::Script;
 use boot_sweep::{SweepError, SweepResults, swept};
 use cli_course::{Answer, one_file};
-use cli_inputs::{board_of, new_pool};
+use cli_inputs::new_pool;
 use pico_board::{Board, BootKind, Cpu, MemBoard};
 use sector_pool::SectorPool;
 use std::alloc::{AllocError, Global};
@@ -69,54 +69,30 @@ fn drawn<'a>(
     one_file(alloc, line, out, picture)
 }
 
-/// The answer of `chart` on a board: the picture of the sweep of the script's session, or why it is
-/// not swept.
-fn chart_answer<'a>(
+/// The work of `chart` on a board with power, a script and a pattern: how many steps the script's
+/// session has for the processor and how many lines of its sweep have each result, and the picture
+/// of the sweep; or the reason why the session is not swept, told of the script by its word. It
+/// fails only where memory is out.
+pub fn chart_script<'a>(
     alloc: Global,
     board: MemBoard,
     cpu: Cpu,
     name: &str,
-    script: &[u8],
+    script: Script<'_>,
     pattern: &[u8],
     out: &'a str,
 ) -> Result<Answer<'a>, AllocError>
     requires power { IsTrue (state_of board).powered }
-    requires script { HasForm Form.Script script.now }
-    requires pattern { HasForm Form.Pattern pattern.now }
+    requires pattern { IsPattern true pattern.now }
     ensures { IfOk result (λ answer. answer_from answer ≡ worked (chart_work
-        (state_of board).content cpu name.now out.entry.now script.now pattern.now)) }
+        (state_of board).content cpu name.now out.entry.now script.entry.bytes.now pattern.now)) }
 {
     let mut pool = new_pool(alloc)?;
     let decided = decided_words(alloc, &board, &mut pool, cpu)?;
     let (flash, otp) = board.into_parts();
-    match swept(alloc, &flash, &otp, &mut pool, cpu, script, pattern) {
+    match swept(alloc, &flash, &otp, &mut pool, cpu, script.bytes, pattern) {
         Ok(found) => drawn(alloc, &found, &decided, out),
         Err(SweepError::Memory) => Err(AllocError),
         Err(reason) => unswept(alloc, name, reason),
     }
-}
-
-/// The work of `chart` on a flash file, an OTP file, a script and a pattern, which have their
-/// forms: how many steps the script's session has for the processor and how many lines of its sweep
-/// have each result, and the picture of the sweep; or the reason why the session is not swept, told
-/// of the script. It fails only where memory is out.
-pub fn chart_script<'a>(
-    alloc: Global,
-    flash: Vec<u8>,
-    otp: &[u8],
-    cpu: Cpu,
-    name: &str,
-    script: &[u8],
-    pattern: &[u8],
-    out: &'a str,
-) -> Result<Answer<'a>, AllocError>
-    requires flash { HasForm Form.Flash flash.items }
-    requires otp { HasForm Form.Otp otp.now }
-    requires script { HasForm Form.Script script.now }
-    requires pattern { HasForm Form.Pattern pattern.now }
-    ensures { IfOk result (λ answer. answer_from answer ≡ worked (chart_work
-        (content_of_files flash.items otp.now) cpu name.now out.entry.now script.now pattern.now)) }
-{
-    let board = board_of(alloc, flash, otp)?;
-    chart_answer(alloc, board, cpu, name, script, pattern, out)
 }

@@ -1,16 +1,16 @@
 //! The sweep of a script's session on a board in memory.
 
-ghost use Rattle.std.specs.Prelude.{◌≡◌, IfOk, string_bytes};
+ghost use Rattle.std.specs.Prelude.{◌≡◌, IfOk, string_bytes, true};
+ghost use Rattle.pico_board.specs.Cuts.{IsPattern};
 ghost use Rattle.pico_board.specs.MemBoard.{state_of};
 ghost use Rattle.cli_course.specs.Outcomes.{refused, worked};
 ghost use Rattle.cli_course.specs.Views.{answer_from};
-ghost use Rattle.cli_inputs.specs.declared.forms.Form.{Form};
-ghost use Rattle.cli_inputs.specs.Forms.{HasForm, content_of_files};
 ghost use Rattle.cli_sweep.specs.SweepWorks.{sweep_fault, sweep_work};
 
+use boot_script::Script;
 use boot_sweep::{SweepError, swept_text};
 use cli_course::{Answer, refusal, told};
-use cli_inputs::{board_of, new_pool};
+use cli_inputs::new_pool;
 use pico_board::{Cpu, MemBoard};
 use std::alloc::{AllocError, Global};
 
@@ -37,49 +37,26 @@ pub fn unswept<'a>(alloc: Global, name: &str, reason: SweepError) -> Result<Answ
     refusal(alloc, name, &fault)
 }
 
-/// The answer of `sweep` on a board: the lines of the script's session, or why it is not swept.
-fn sweep_answer<'a>(
+/// The work of `sweep` on a board, a script and a pattern: the lines of the script's session for the
+/// processor, each with what a normal boot makes of its loss of power, or the reason why the session
+/// is not swept, told of the script by its word. It fails only where memory is out.
+pub fn sweep_script<'a>(
     alloc: Global,
     board: MemBoard,
     cpu: Cpu,
     name: &str,
-    script: &[u8],
+    script: Script<'_>,
     pattern: &[u8],
 ) -> Result<Answer<'a>, AllocError>
-    requires script { HasForm Form.Script script.now }
-    requires pattern { HasForm Form.Pattern pattern.now }
+    requires { IsPattern true pattern.now }
     ensures { IfOk result (λ answer. answer_from answer ≡ worked (sweep_work
-        (state_of board).content cpu name.now script.now pattern.now)) }
+        (state_of board).content cpu name.now script.entry.bytes.now pattern.now)) }
 {
     let (flash, otp) = board.into_parts();
     let mut pool = new_pool(alloc)?;
-    match swept_text(alloc, &flash, &otp, &mut pool, cpu, script, pattern) {
+    match swept_text(alloc, &flash, &otp, &mut pool, cpu, script.bytes, pattern) {
         Ok(text) => Ok(told(alloc, text)),
         Err(SweepError::Memory) => Err(AllocError),
         Err(reason) => unswept(alloc, name, reason),
     }
-}
-
-/// The work of `sweep` on a flash file, an OTP file, a script and a pattern, which have their
-/// forms: the lines of the script's session for the processor, each with what a normal boot makes
-/// of its loss of power, or the reason why the session is not swept, told of the script. It fails
-/// only where memory is out.
-pub fn sweep_script<'a>(
-    alloc: Global,
-    flash: Vec<u8>,
-    otp: &[u8],
-    cpu: Cpu,
-    name: &str,
-    script: &[u8],
-    pattern: &[u8],
-) -> Result<Answer<'a>, AllocError>
-    requires flash { HasForm Form.Flash flash.items }
-    requires otp { HasForm Form.Otp otp.now }
-    requires script { HasForm Form.Script script.now }
-    requires pattern { HasForm Form.Pattern pattern.now }
-    ensures { IfOk result (λ answer. answer_from answer ≡ worked (sweep_work
-        (content_of_files flash.items otp.now) cpu name.now script.now pattern.now)) }
-{
-    let board = board_of(alloc, flash, otp)?;
-    sweep_answer(alloc, board, cpu, name, script, pattern)
 }

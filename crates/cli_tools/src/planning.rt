@@ -8,12 +8,10 @@ ghost use Rattle.cli_course.specs.Outcomes.{worked};
 ghost use Rattle.cli_tools.specs.ToolWorks.{executable_family, load_work, order_word, plan_target, plan_work, script_line, script_work, window_work};
 ghost use Rattle.pico_board.specs.MemBoard.{state_of};
 ghost use Rattle.cli_course.specs.Views.{answer_from};
-ghost use Rattle.cli_inputs.specs.declared.forms.Form.{Form};
-ghost use Rattle.cli_inputs.specs.Forms.{HasForm, content_of_files};
 
 use boot_rules::{Target, find_table, target};
 use cli_course::{Answer, one_file, refusal};
-use cli_inputs::{board_of, new_pool};
+use cli_inputs::new_pool;
 use part_table::{ARM_S_FAMILY, RISCV_FAMILY};
 use pico_board::{Board, Cpu, MemBoard, Window};
 use script_plan::{PlanError, WriteOrder, write_script};
@@ -117,24 +115,21 @@ fn script_answer<'a, B: Board>(
     }
 }
 
-/// The work of `plan` on a flash file, an OTP file and an image, which have their forms: the line
-/// of the window and the length, and the script that writes the image's first sector last; or why
-/// there is none, told of the image by its word. It fails only where memory is out.
+/// The work of `plan` on a board with power and an image: the line of the window and the length, and
+/// the script that writes the image's first sector last; or why there is none, told of the image by
+/// its word. It fails only where memory is out.
 pub fn plan_image<'a>(
     alloc: Global,
-    flash: Vec<u8>,
-    otp: &[u8],
+    board: MemBoard,
     cpu: Cpu,
     name: &str,
     out: &'a str,
     image: &[u8],
 ) -> Result<Answer<'a>, AllocError>
-    requires flash { HasForm Form.Flash flash.items }
-    requires otp { HasForm Form.Otp otp.now }
+    requires { IsTrue (state_of board).powered }
     ensures { IfOk result (λ answer. answer_from answer ≡ worked
-        (plan_work (content_of_files flash.items otp.now) cpu name.now out.entry.now image.now)) }
+        (plan_work (state_of board).content cpu name.now out.entry.now image.now)) }
 {
-    let board = board_of(alloc, flash, otp)?;
     script_answer(alloc, WriteOrder::FirstLast, &board, cpu, name, out, image)
 }
 

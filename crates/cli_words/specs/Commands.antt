@@ -35,6 +35,7 @@ pub data CommandLineView : Type 0 where
   Table : (json out : List ℕ) → CommandLineView
   Uf2 : (image : List ℕ) → (family : ℕ) → (out : List ℕ) → CommandLineView
   Plan : (flash otp : List ℕ) → (cpu : Cpu) → (image out : List ℕ) → CommandLineView
+  Load : (flash otp : List ℕ) → (cpu : Cpu) → (image out : List ℕ) → CommandLineView
   Copy : (uf2 out : List ℕ) → CommandLineView
   ListScript : (script : List ℕ) → CommandLineView
   WriteScript : (text out : List ℕ) → CommandLineView
@@ -125,6 +126,8 @@ built verbs.Table words v = Table (word_at 0 words) (word_at 1 words)
 built verbs.Uf2 words v = Uf2 (word_at 0 words) v.family (word_at 2 words)
 built verbs.Plan words v =
     Plan (word_at 0 words) (word_at 1 words) v.cpu (word_at 3 words) (word_at 4 words)
+built verbs.Load words v =
+    Load (word_at 0 words) (word_at 1 words) v.cpu (word_at 3 words) (word_at 4 words)
 built verbs.Copy words v = Copy (word_at 0 words) (word_at 1 words)
 built verbs.ListScript words v = ListScript (word_at 0 words)
 built verbs.WriteScript words v = WriteScript (word_at 0 words) (word_at 1 words)
@@ -177,6 +180,8 @@ command_from (words.Table json out) = Table json.now out.now
 command_from (words.Uf2 image family out) = Uf2 image.now family out.now
 command_from (words.Plan flash otp cpu image out) =
     Plan flash.now otp.now cpu image.now out.now
+command_from (words.Load flash otp cpu image out) =
+    Load flash.now otp.now cpu image.now out.now
 command_from (words.Copy uf2 out) = Copy uf2.now out.now
 command_from (words.ListScript script) = ListScript script.now
 command_from (words.WriteScript text out) = WriteScript text.now out.now

@@ -65,7 +65,7 @@ word_note kinds.Spec =
 word_note kinds.Json =
     codes "JSON    a JSON text of at most 65536 bytes: version, singleton, unpartitioned and partitions\n"
 word_note kinds.Image =
-    codes "IMAGE   a file of 1 to 16777216 bytes, and for plan at most as many as it has room for\n"
+    codes "IMAGE   a file of 1 to 16777216 bytes; for plan and load at most as many as there is room for\n"
 word_note kinds.Uf2 =
     codes "UF2     a file of 512 to 33554944 bytes, in blocks of 512; the board judges them, not this command\n"
 word_note kinds.Text =
@@ -164,6 +164,12 @@ row_of verbs.Plan =
       name = codes "plan";
       words = kinds.Flash ∷ kinds.Otp ∷ kinds.Cpu ∷ kinds.Image ∷ kinds.Out ∷ [];
       does = codes "a script that writes an image to where a download of it goes";
+    }
+row_of verbs.Load =
+    record {
+      name = codes "load";
+      words = kinds.Flash ∷ kinds.Otp ∷ kinds.Cpu ∷ kinds.Image ∷ kinds.Out ∷ [];
+      does = codes "a script that writes an image there in ascending order, as a host does";
     }
 row_of verbs.Copy =
     record {

@@ -129,7 +129,7 @@ impl Word {
 "
             }
             Word::Image => {
-                "IMAGE   a file of 1 to 16777216 bytes, and for plan at most as many as it has room for
+                "IMAGE   a file of 1 to 16777216 bytes; for plan and load at most as many as there is room for
 "
             }
             Word::Uf2 => {
@@ -192,6 +192,8 @@ pub enum Verb {
     Uf2,
     /// The script that writes an image to where a download goes.
     Plan,
+    /// The script that writes an image in ascending order.
+    Load,
     /// The script of a host that copies a UF2 file to the board's drive.
     Copy,
     /// A script as text.
@@ -319,6 +321,11 @@ impl Verb {
                 words: &[Word::Flash, Word::Otp, Word::Cpu, Word::Image, Word::Out],
                 does: "a script that writes an image to where a download of it goes",
             },
+            Verb::Load => Row {
+                name: "load",
+                words: &[Word::Flash, Word::Otp, Word::Cpu, Word::Image, Word::Out],
+                does: "a script that writes an image there in ascending order, as a host does",
+            },
             Verb::Copy => Row {
                 name: "copy",
                 words: &[Word::Uf2, Word::Out],
@@ -369,7 +376,7 @@ impl Verb {
 }
 
 /// The rows, in the order of the usage.
-pub const VERBS: [Verb; 23] = [
+pub const VERBS: [Verb; 24] = [
     Verb::Boot,
     Verb::Info,
     Verb::OwnedData,
@@ -384,6 +391,7 @@ pub const VERBS: [Verb; 23] = [
     Verb::Table,
     Verb::Uf2,
     Verb::Plan,
+    Verb::Load,
     Verb::Copy,
     Verb::ListScript,
     Verb::WriteScript,

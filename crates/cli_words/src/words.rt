@@ -106,6 +106,14 @@ pub enum CommandLine<'a> {
         image: &'a str,
         out: &'a str,
     },
+    /// The script that writes an image in ascending order.
+    Load {
+        flash: &'a str,
+        otp: &'a str,
+        cpu: Cpu,
+        image: &'a str,
+        out: &'a str,
+    },
     /// The script of a host that copies a UF2 file to the board's drive.
     Copy {
         uf2: &'a str,
@@ -225,6 +233,13 @@ fn built<'a>(verb: Verb, words: &'a [String], values: Values) -> CommandLine<'a>
             out: word_at(words, 2),
         },
         Verb::Plan => CommandLine::Plan {
+            flash: word_at(words, 0),
+            otp: word_at(words, 1),
+            cpu: values.cpu,
+            image: word_at(words, 3),
+            out: word_at(words, 4),
+        },
+        Verb::Load => CommandLine::Load {
             flash: word_at(words, 0),
             otp: word_at(words, 1),
             cpu: values.cpu,

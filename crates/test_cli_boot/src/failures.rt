@@ -7,7 +7,7 @@ use std::test::Fail;
 use test_fixtures::{ARM_1_0, PAIR, VECTORS, elf_file, flash, words};
 
 /// The words of each command that reads a file or writes one, its reads, and its writes.
-const COMMANDS: [(&[&str], u64, u64); 18] = [
+const COMMANDS: [(&[&str], u64, u64); 19] = [
     (&["boot", "f", "o", "arm", "normal"], 2, 0),
     (&["info", "f", "o", "arm"], 2, 0),
     (&["data", "f", "o", "arm", "normal"], 2, 0),
@@ -22,6 +22,7 @@ const COMMANDS: [(&[&str], u64, u64); 18] = [
     (&["table", "t", "a"], 1, 1),
     (&["uf2", "i", "rp2350-arm-s", "a"], 1, 1),
     (&["plan", "f", "o", "arm", "i", "a"], 3, 1),
+    (&["load", "f", "o", "arm", "i", "a"], 3, 1),
     (&["copy", "u", "a"], 1, 1),
     (&["list", "s"], 1, 0),
     (&["script", "x", "a"], 1, 1),

@@ -2,6 +2,7 @@
 
 use cli_course::Status;
 use cli_explain::explain;
+use cli_inputs::board_of;
 use pico_board::{BootKind, Cpu};
 use std::alloc::Global;
 use std::process::Abort;
@@ -35,7 +36,8 @@ pub(crate) fn compare(
         return Err("no flash of a test".into());
     }
     let bytes = flash(alloc, words, size)?;
-    let answer = explain(alloc, bytes, &[], Cpu::Arm, kind)?;
+    let board = board_of(alloc, bytes, &[])?;
+    let answer = explain(alloc, board, Cpu::Arm, kind)?;
     let wanted = joined(alloc, lines)?;
     assert_eq!(rt; answer.text.as_str(), wanted.as_str(), "{name}");
     assert_eq!(rt; answer.status, Status::Done, "{name}");

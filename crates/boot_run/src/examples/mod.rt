@@ -4,7 +4,7 @@
 ghost use Rattle.std.specs.Prelude.{◌≡◌, [], ◌∷◌, codes, Some, None};
 ghost use Rattle.pico_board.specs.declared.boot.Cpu.TheVariants.{Arm};
 ghost use Rattle.pico_board.specs.declared.boot.BootKind.TheVariants.{Normal};
-ghost use Rattle.cli_words.specs.Commands.{Table, Boot, Info, OwnedData, Replay, Seal, Elf, Uf2, Plan};
+ghost use Rattle.cli_words.specs.Commands.{Table, Boot, Info, OwnedData, Replay, Seal, Elf, Uf2, Plan, Load};
 ghost use Rattle.boot_run.specs.Commands.{Names, command_outcome, outcome_on};
 ghost use Rattle.boot_run.specs.Examples.{no_start, sink_of};
 ghost use Rattle.cli_course.specs.Outcomes.{refused, unread, not_understood};
@@ -54,6 +54,8 @@ pub fn refusals_of_images()
     ensures flash { command_outcome (Plan (codes "f") (codes "o") Arm (codes "i") (codes "a"))
         ([] ∷ (0 ∷ []) ∷ [] ∷ []) ≡ refused (codes "f") (codes "empty") }
     ensures otp { command_outcome (Plan (codes "f") (codes "o") Arm (codes "i") (codes "a"))
+        ((0 ∷ []) ∷ (0 ∷ []) ∷ [] ∷ []) ≡ refused (codes "o") (codes "otp-length") }
+    ensures load { command_outcome (Load (codes "f") (codes "o") Arm (codes "i") (codes "a"))
         ((0 ∷ []) ∷ (0 ∷ []) ∷ [] ∷ []) ≡ refused (codes "o") (codes "otp-length") }
 {}
 

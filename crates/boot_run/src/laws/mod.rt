@@ -1,7 +1,7 @@
 //! Laws of the program's definitions, proved: each is the `ensures` of a function that does
 //! nothing.
 
-ghost use Rattle.std.specs.Prelude.{◌≡◌, ◌↔◌, ℕ, List, [], ◌∷◌, Some, length};
+ghost use Rattle.std.specs.Prelude.{◌≡◌, ◌↔◌, ℕ, List, [], ◌∷◌, Some, false, length};
 ghost use Rattle.pico_board.specs.declared.boot.Cpu.{Cpu};
 ghost use Rattle.pico_board.specs.declared.boot.BootKind.{BootKind};
 ghost use Rattle.pico_board.specs.Files.{File};
@@ -9,7 +9,7 @@ ghost use Rattle.cli_course.specs.declared.status.Status.TheVariants.{Input, Boo
 ghost use Rattle.cli_words.specs.Commands.{CommandLineView, Boot, OwnedData};
 ghost use Rattle.cli_inputs.specs.Inputs.{readings};
 ghost use Rattle.cli_course.specs.Outcomes.{AnswerView, found};
-ghost use Rattle.boot_run.specs.Commands.{inputs_of, command_outcome, outcome_on, Obeys, FallsOn, NeedsBytes, IsRefusedCommand};
+ghost use Rattle.boot_run.specs.Commands.{inputs_of, command_outcome, outcome_on, Obeys, FallsOn, NeedsBytes, IsRefusedCommand, judges, is_verdict};
 ghost use Rattle.cli_course.specs.Ends.{cut};
 
 /// The outcome of a command on the bytes of its inputs is the one that is right by the rules. Of
@@ -26,7 +26,8 @@ pub fn outcomes_are_right()
 {}
 
 /// The status is Input exactly where an input breaks its form, or each has its form and the work
-/// refuses one, and Bootsel exactly where a boot that was asked for falls.
+/// refuses one, and Bootsel exactly where a boot that was asked for falls. A verdict that is no pass
+/// comes of no command but those that judge a script.
 pub fn statuses_come_exactly()
     ensures input { (command : CommandLineView) (read : List (List ℕ))
         → length read ≡ length (inputs_of command)
@@ -37,6 +38,9 @@ pub fn statuses_come_exactly()
     ensures data { (flash otp f g : List ℕ) (cpu : Cpu) (kind : BootKind)
         → ((command_outcome (OwnedData flash otp cpu kind) (f ∷ g ∷ [])).status ≡ Bootsel)
         ↔ FallsOn f g cpu kind }
+    ensures verdict { (command : CommandLineView) (read : List (List ℕ))
+        → length read ≡ length (inputs_of command) → judges command ≡ false
+        → is_verdict (command_outcome command read).status ≡ false }
 {}
 
 /// What is read of files that are longer decides as the whole files do.

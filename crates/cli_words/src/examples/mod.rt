@@ -4,7 +4,7 @@
 ghost use Rattle.std.specs.Prelude.{◌≡◌, [], ◌∷◌, ◌++◌, codes, Some, None};
 ghost use Rattle.pico_board.specs.declared.boot.Cpu.TheVariants.{Arm, Riscv};
 ghost use Rattle.pico_board.specs.declared.boot.BootKind.TheVariants.{Normal, Bootsel as AskBootsel, Update};
-ghost use Rattle.cli_words.specs.Commands.{Table, command_of, boot_kind_of, Boot, Info, OwnedData, Explain, Map, Replay, Usage, Help, Release, Sweep, Chart, Seal, Elf, Firm, Uf2, Plan, Copy, ListScript, WriteScript, Gen};
+ghost use Rattle.cli_words.specs.Commands.{Table, command_of, boot_kind_of, Boot, Info, OwnedData, Explain, Map, Replay, Usage, Help, Release, Sweep, Chart, Seal, Elf, Firm, Uf2, Plan, Load, Copy, ListScript, WriteScript, Gen};
 ghost use Rattle.cli_words.specs.declared.rows.TheConstants.{STATUSES};
 ghost use Rattle.cli_words.specs.declared.rows.Verb.TheVariants as verbs;
 ghost use Rattle.cli_words.specs.Rows.{row_of};
@@ -131,6 +131,9 @@ pub fn words_of_tools()
     ensures plan { command_of
         (codes "plan" ∷ codes "f" ∷ codes "o" ∷ codes "riscv" ∷ codes "i" ∷ codes "a" ∷ [])
         ≡ Some (Plan (codes "f") (codes "o") Riscv (codes "i") (codes "a")) }
+    ensures load { command_of
+        (codes "load" ∷ codes "f" ∷ codes "o" ∷ codes "arm" ∷ codes "i" ∷ codes "a" ∷ [])
+        ≡ Some (Load (codes "f") (codes "o") Arm (codes "i") (codes "a")) }
     ensures sweep { command_of
         (codes "sweep" ∷ codes "f" ∷ codes "o" ∷ codes "arm" ∷ codes "s" ∷ codes "p" ∷ [])
         ≡ Some (Sweep (codes "f") (codes "o") Arm (codes "s") (codes "p")) }
@@ -150,6 +153,8 @@ pub fn other_words_of_tools()
     ensures three { command_of (codes "uf2" ∷ codes "i" ∷ codes "data" ∷ []) ≡ None }
     ensures cpu { command_of
         (codes "plan" ∷ codes "f" ∷ codes "o" ∷ codes "x86" ∷ codes "i" ∷ codes "a" ∷ []) ≡ None }
+    ensures load_cpu { command_of
+        (codes "load" ∷ codes "f" ∷ codes "o" ∷ codes "x86" ∷ codes "i" ∷ codes "a" ∷ []) ≡ None }
     ensures firm_cpu { command_of (codes "firm" ∷ codes "i" ∷ codes "x86" ∷ []) ≡ None }
     ensures firm_alone { command_of (codes "firm" ∷ codes "i" ∷ []) ≡ None }
     ensures sweep_cpu { command_of

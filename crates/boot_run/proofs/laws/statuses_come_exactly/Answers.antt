@@ -3,6 +3,7 @@ use Rattle.cli_inputs.specs.Forms.{content_of_files}
 use Rattle.cli_boot.specs.Works.{boot_work, data_work}
 use Rattle.cli_course.specs.Outcomes.{worked}
 use Rattle.boot_run.proofs.RuleLemmas.{refused-exactly, falls-exactly}
+use Rattle.boot_run.proofs.VerdictLemmas.{no-verdict}
 use Rattle.cli_boot.proofs.BoardWorkLemmas.{fall-status}
 use Rattle.boot_run.proofs.laws.statuses_come_exactly.Goals as goal
 
@@ -18,3 +19,6 @@ pub returns-clause-data : goal.returns-clause-data
 returns-clause-data c = λ flash otp f g cpu kind.
     falls-exactly flash otp f g cpu kind (worked (data_work (content_of_files f g) cpu kind))
     (fall-status (decision_in (content_of_files f g) cpu kind))
+
+pub returns-clause-verdict : goal.returns-clause-verdict
+returns-clause-verdict c = no-verdict

@@ -1,8 +1,9 @@
+use Rattle.boot_script.proofs.JudgingLemmas.{script-formed}
 use Rattle.cli_sweep.proofs.ChartRuleLemmas.{swept-few}
-use Rattle.cli_sweep.proofs.drawing.chart_answer.Goals as goal
+use Rattle.cli_sweep.proofs.drawing.chart_script.Goals as goal
 
 pub swept-requires-clause-script : goal.swept-requires-clause-script
-swept-requires-clause-script c = c.requires.script
+swept-requires-clause-script c = script-formed c.args.script.bytes.now c.args.script.whole
 
 pub drawn-requires-clause-steps : goal.drawn-requires-clause-steps
 drawn-requires-clause-steps c =
