@@ -1,0 +1,507 @@
+-- Where the choice of a boot rests on a rule that the chip may have otherwise, by the functions and in the words of the
+-- rules.
+use Rattle.std.proofs.Common.{◌≡◌, ◌≢◌, ◌⊎◌, ℕ, zero, suc, ◌+◌, ◌-◌, ◌<◌, ◌≤◌, ◌==◌, ◌&&◌, ◌||◌, not, nat_le, nat_lt, Bool, true, false, cond, List, [], ◌∷◌, ◌++◌, length, get_or, slice_get, position, Option, Some, None, Result, Ok, Err, is_some, option_map, option_and_then, refl, sym, ap, ◌∙◌, subst, inl, inr, arith}
+use Rattle.std.specs.Prelude.{find, is_ok, option_to_list}
+use Rattle.std.specs.Bool.{Decides}
+use Rattle.std.specs.Option.{option_map_or}
+use Rattle.std.proofs.lemmas.Bool.{eqb-true, eq-eqb}
+use Rattle.std.proofs.lemmas.Bool.Decides.{leb_tells, nat_tests}
+use Rattle.std.proofs.Math.Seq.{get_or-append_seam}
+use Rattle.std.proofs.lemmas.List.{get_or_append_left}
+use Rattle.std.proofs.lemmas.Option.{same_Some, slice_get-get_or}
+use Rattle.pico_board.specs.declared.boot.Cpu.{Cpu}
+use Rattle.pico_board.specs.declared.boot.BootKind.{BootKind}
+use Rattle.pico_board.specs.declared.boot.BootKind.TheVariants.{Normal, Update, Bootsel as AskBootsel}
+use Rattle.pico_board.specs.declared.window.Window.{Window}
+use Rattle.pico_board.specs.declared.window.TheConstants.{SMALLEST_SLOT}
+use Rattle.pico_board.specs.Content.{Content, flash_base, window_bytes}
+use Rattle.block_codec.specs.Blocks.{BlockView}
+use Rattle.block_loop.specs.Loop.{first_block}
+use Rattle.block_loop.proofs.ChainLemmas.{first_block-found, first_block-stands}
+use Rattle.image_def.specs.declared.started.Started.{Started}
+use Rattle.image_def.specs.Suits.{has_image_type}
+use Rattle.image_check.specs.declared.why.Why.{Why}
+use Rattle.image_check.specs.Image.{image_at}
+use Rattle.image_check.specs.Valid.{Valid}
+use Rattle.image_check.proofs.LawLemmas.{at-valid, valid-at}
+use Rattle.otp_roll.specs.Flags.{slot_size}
+use Rattle.part_table.proofs.TestLemmas.{Absent, Found as FoundAt, first_position, search_of}
+use Rattle.part_table.specs.declared.table.Table.{Table}
+use Rattle.slot_choice.specs.declared.unit.Member.{Member}
+use Rattle.slot_choice.specs.declared.unit.Member.TheVariants.{A, B}
+use Rattle.slot_choice.specs.declared.unit.SlotUnit.{SlotUnit}
+use Rattle.slot_choice.specs.declared.choice.Choice.{Choice}
+use Rattle.slot_choice.specs.Units.{IsMember, member_window}
+use Rattle.slot_choice.specs.Updates.{IsUpdateOf, has_member_at, member_at, updated_member}
+use Rattle.slot_choice.proofs.UpdateLemmas.{member_starts, none_starts, updated}
+use Rattle.boot_rules.specs.declared.decision.Decision.{Decision}
+use Rattle.boot_rules.specs.declared.decision.Decision.TheVariants.{Start, Bootsel}
+use Rattle.boot_rules.specs.declared.decision.Fall.TheVariants.{Requested, FlashOff, NoImage}
+use Rattle.boot_rules.specs.declared.tables.Found.{Found}
+use Rattle.boot_rules.specs.Choosing.{decision_in}
+use Rattle.boot_rules.specs.Chosen.{Chosen}
+use Rattle.boot_rules.specs.Tables.{slot_window}
+use Rattle.boot_rules.specs.TableRules.{IsTableIn}
+use Rattle.boot_rules.proofs.DecisionLemmas.{chosen-decision, decision-chosen}
+use Rattle.boot_rules.proofs.StartLemmas.{is-member}
+use Rattle.boot_reasons.specs.declared.slots.TableInForce.{TableInForce}
+use Rattle.boot_reasons.specs.declared.looks.UnitReport.{UnitReport}
+use Rattle.boot_reasons.specs.declared.looks.TakenImage.{TakenImage}
+use Rattle.boot_reasons.specs.declared.looks.UnitReason.{UnitReason}
+use Rattle.boot_reasons.specs.declared.looks.UnitReason.TheVariants.{Updated, Only, Version, Tie as IsTied}
+use Rattle.boot_reasons.specs.SlotRules.{IsTableInForce}
+use Rattle.boot_caveats.specs.declared.caveat.Caveat.{Caveat}
+use Rattle.boot_caveats.specs.declared.caveat.Caveat.TheVariants.{OtherProcessor, SlotImage, Tie, UpdateOfSlot, UpdateMovesUnit}
+use Rattle.boot_caveats.specs.Listing.{IsFirstWith, caveat_if}
+use Rattle.boot_caveats.specs.ChoiceCaveats.{first_tie, has_normal_image, has_typed_first, is_slot_address, is_tie, lacks_image, lone_slot_images, moved_by, moved_part, other_cpu, other_processor, slot_images, started_window, takes_image, tie_of, tied_in, update_moves, update_of_slot}
+use Rattle.boot_caveats.specs.ChoiceRules.{AreSlotImages, HasTypedFirst, IsMovedPart, IsOtherProcessor, IsPassedOver, IsTableless, IsTie, IsTiedPair, IsUpdateMovesUnit, IsUpdateOfSlot, StartsIn}
+use Rattle.boot_caveats.proofs.ListingLemmas.{IsJust, both-just, first-found, found-first, never-just, one-just, where-just}
+
+both : (a b : Bool) → a ≡ true → b ≡ true → (a && b) ≡ true
+both true true e f = refl
+both true false e f = cc
+both false b e f = cc
+
+parts : (a b : Bool) → (a && b) ≡ true → (a ≡ true) × (b ≡ true)
+parts true true e = (refl, refl)
+parts true false e = cc
+parts false b e = cc
+
+either : (a b : Bool) → (a || b) ≡ true → (a ≡ true) ⊎ (b ≡ true)
+either true b e = inl refl
+either false true e = inr refl
+either false false e = cc
+
+left : (a b : Bool) → a ≡ true → (a || b) ≡ true
+left true b e = refl
+left false b e = cc
+
+right-one : (a b : Bool) → b ≡ true → (a || b) ≡ true
+right-one true true e = refl
+right-one false true e = refl
+right-one true false e = cc
+right-one false false e = cc
+
+-- ---- the other processor
+
+pub lacks-decides : (d : Decision) → Decides (lacks_image d) (d ≡ Bootsel NoImage)
+lacks-decides (Start choice) = (λ e. cc, λ e. cc)
+lacks-decides (Bootsel Requested) = (λ e. cc, λ e. cc)
+lacks-decides (Bootsel FlashOff) = (λ e. cc, λ e. cc)
+lacks-decides (Bootsel NoImage) = (λ e. refl, λ e. refl)
+
+starts-in : (d : Decision) (w : Window) → started_window d ≡ Some w → StartsIn d w
+starts-in (Start choice) w e = (choice, refl, same_Some choice.image.window w e)
+starts-in (Bootsel fall) w e = cc
+
+in-starts : (d : Decision) (w : Window) → StartsIn d w → started_window d ≡ Some w
+in-starts d w is = ap started_window is.1 ∙ ap Some is.2
+
+abbrev IsOther : Content → Cpu → BootKind → Decision → Window → Type 0
+IsOther c cpu kind d w = (d ≡ Bootsel NoImage)
+    × ((e : Decision) × Chosen c (other_cpu cpu) kind e × StartsIn e w)
+
+pub other-just : (c : Content) (cpu : Cpu) (kind : BootKind) (d : Decision)
+    → IsJust (IsOtherProcessor c cpu kind d) (option_to_list (other_processor c cpu kind d))
+other-just c cpu kind d = one-just (IsOther c cpu kind d) OtherProcessor (other_processor c cpu kind d)
+    (to (lacks_image d) refl (started_window (decision_in c (other_cpu cpu) kind)) refl)
+    (λ w is. from w is (lacks_image d) ((lacks-decides d).1 is.0))
+  where
+    to : (b : Bool) → lacks_image d ≡ b → (o : Option Window)
+        → started_window (decision_in c (other_cpu cpu) kind) ≡ o → (caveat : Caveat)
+        → cond b (option_map OtherProcessor o) None ≡ Some caveat
+        → (w : Window) × IsOther c cpu kind d w × (caveat ≡ OtherProcessor w)
+    to true is (Some w) starts caveat e = (
+      w,
+      (
+        (lacks-decides d).0 is,
+        (
+          decision_in c (other_cpu cpu) kind,
+          decision-chosen c (other_cpu cpu) kind,
+          starts-in (decision_in c (other_cpu cpu) kind) w starts,
+        ),
+      ),
+      cc,
+    )
+    to true is None starts caveat e = cc
+    to false is o starts caveat e = cc
+
+    from : (w : Window) → IsOther c cpu kind d w → (b : Bool) → b ≡ true
+        → cond b (option_map OtherProcessor (started_window (decision_in c (other_cpu cpu) kind))) None ≡ Some (OtherProcessor w)
+    from w is false e = cc
+    from w is true e =
+        ap (λ o. option_map OtherProcessor o)
+        (ap started_window (sym (chosen-decision c (other_cpu cpu) kind is.1.0 is.1.1)) ∙ in-starts is.1.0 w is.1.2)
+
+-- ---- images in the slots of a flash without a table
+
+pub normal-decides : (c : Content) (cpu : Cpu) (w : Window)
+    → Decides (has_normal_image c cpu w) ((s : Started) × Valid c w cpu false s)
+normal-decides c cpu w = (to (image_at c w cpu false) refl, λ is. ap is_ok (at-valid c w cpu false is.0 is.1))
+  where
+    to : (r : Result Started Why) → image_at c w cpu false ≡ r → is_ok r ≡ true → (s : Started) × Valid c w cpu false s
+    to (Ok s) is e = (s, valid-at c w cpu false s is)
+    to (Err y) is e = cc
+
+typed-decides : (c : Content) (w : Window) → Decides (has_typed_first c w) (HasTypedFirst c w)
+typed-decides c w = (to (first_block (window_bytes c w)) refl, from)
+  where
+    to : (o : Option BlockView) → first_block (window_bytes c w) ≡ o → option_map_or has_image_type o false ≡ true
+        → HasTypedFirst c w
+    to (Some b) is e = (b, first_block-found (window_bytes c w) b is, e)
+    to None is e = cc
+
+    from : HasTypedFirst c w → has_typed_first c w ≡ true
+    from is = ap (λ o. option_map_or has_image_type o false) (first_block-stands (window_bytes c w) is.0 is.1) ∙ is.2
+
+passed-decides : (c : Content) (cpu : Cpu) (d : Decision) (w : Window)
+    → Decides (lacks_image d && has_normal_image c cpu w) (IsPassedOver c cpu d w)
+passed-decides c cpu d w = (
+  λ e. (let two = parts _ _ e in ((lacks-decides d).0 two.0, (normal-decides c cpu w).0 two.1)),
+  λ is. both _ _ ((lacks-decides d).1 is.0) ((normal-decides c cpu w).1 is.1),
+)
+
+seen-decides : (c : Content) (cpu : Cpu) (d : Decision) (w : Window)
+    → Decides (has_typed_first c w || (lacks_image d && has_normal_image c cpu w))
+    (HasTypedFirst c w ⊎ IsPassedOver c cpu d w)
+seen-decides c cpu d w = (
+  λ e. elim (either _ _ e) [
+    | inl typed ↦ inl ((typed-decides c w).0 typed)
+    | inr passed ↦ inr ((passed-decides c cpu d w).0 passed)
+  ],
+  λ is. elim is [
+    | inl typed ↦ left _ _ ((typed-decides c w).1 typed)
+    | inr passed ↦ right-one _ _ ((passed-decides c cpu d w).1 passed)
+  ],
+)
+
+with-fact : (P Q : Type 0) (b : Bool) → P → Decides b Q → Decides b (P × Q)
+with-fact P Q b p decides = (λ e. (p, decides.0 e), λ is. decides.1 is.1)
+
+pub slots-just : (c : Content) (cpu : Cpu) (d : Decision) (size : ℕ) (table : Option TableInForce)
+    → IsTableInForce c table → size ≡ slot_size c.otp (length c.flash)
+    → IsJust (AreSlotImages c cpu d) (slot_images c cpu d size table)
+slots-just c cpu d size (Some taken) is size_is =
+    both-just [] [] (never-just _ _ (λ p. p.0.0 _ is.0.1)) (never-just _ _ (λ p. p.0.0 _ is.0.1))
+slots-just c cpu d size None is size_is = go (size == SMALLEST_SLOT) refl
+  where
+    lone : size ≡ SMALLEST_SLOT → IsTableless c
+    lone e = (is, sym size_is ∙ e)
+
+    other : (size == SMALLEST_SLOT) ≡ false → IsTableless c → ⊥
+    other e none = absurd (apart size SMALLEST_SLOT e (size_is ∙ none.1))
+      where
+        apart : (m n : ℕ) → (m == n) ≡ false → m ≡ n → ⊥
+        apart m n h same = let yes : (m == n) ≡ true = eq-eqb m n same in cc
+
+    go : (b : Bool) → (size == SMALLEST_SLOT) ≡ b
+        → IsJust (AreSlotImages c cpu d) (cond b (lone_slot_images c cpu d) ([]))
+    go true e =
+        let none = lone (eqb-true size SMALLEST_SLOT e) in
+        both-just _ _
+        (where-just _ _ _ (with-fact _ _ _ none (passed-decides c cpu d (slot_window SMALLEST_SLOT 0))))
+        (where-just _ _ _ (with-fact _ _ _ none (seen-decides c cpu d (slot_window SMALLEST_SLOT 1))))
+    go false e = both-just [] [] (never-just _ _ (λ p. other e p.0)) (never-just _ _ (λ p. other e p.0))
+
+-- ---- a tie
+
+tie-says : (because : UnitReason) → is_tie because ≡ true → because ≡ IsTied
+tie-says Updated e = cc
+tie-says Only e = cc
+tie-says Version e = cc
+tie-says IsTied e = refl
+
+pub tied-says : (second : Option Window) (taken : Option TakenImage) (caveat : Caveat) → tied_in second taken ≡ Some caveat
+    → (w : Window) × (t : TakenImage) × (second ≡ Some w) × (taken ≡ Some t) × (t.because ≡ IsTied)
+    × (caveat ≡ Tie t.window w)
+tied-says None taken caveat e = cc
+tied-says (Some w) None caveat e = cc
+tied-says (Some w) (Some t) caveat e = go (is_tie t.because) refl e
+  where
+    go : (b : Bool) → is_tie t.because ≡ b
+        → (cond b (Some (Tie t.window w)) (None)) ≡ Some caveat
+        → (v : Window) × (u : TakenImage) × (Some w ≡ Some v) × (Some t ≡ Some u) × (u.because ≡ IsTied)
+        × (caveat ≡ Tie u.window v)
+    go true is same = (w, t, refl, refl, tie-says t.because is, sym (same_Some _ _ same))
+    go false is same = cc
+
+pub tie-just : (looks : List UnitReport) → IsJust (IsTie looks) (option_to_list (first_tie looks))
+tie-just looks =
+    one-just (λ (pair : Window × Window). IsTiedPair looks pair.0 pair.1) (λ pair. Tie pair.0 pair.1)
+    (first_tie looks) (to (find takes_image looks) refl) (λ pair is. from pair.0 pair.1 is)
+  where
+    to : (o : Option UnitReport) → find takes_image looks ≡ o → (caveat : Caveat)
+        → option_and_then tie_of o ≡ Some caveat
+        → (pair : Window × Window) × IsTiedPair looks pair.0 pair.1 × (caveat ≡ Tie pair.0 pair.1)
+    to None is caveat e = cc
+    to (Some look) is caveat e =
+        let t = tied-says look.unit.b look.taken caveat e in (
+          (t.1.window, t.0),
+          record {
+            look = look;
+            taken = t.1;
+            first = first-found takes_image looks look is;
+            takes = t.3;
+            because = t.4;
+            window = refl;
+            second = t.2;
+          },
+          t.5,
+        )
+
+    from : (w v : Window) → IsTiedPair looks w v → first_tie looks ≡ Some (Tie w v)
+    from w v is =
+        ap (option_and_then tie_of) (found-first takes_image looks is.look is.first)
+        ∙ (ap (λ b. tied_in b is.look.taken) is.second ∙ (ap (tied_in (Some v)) is.takes
+        ∙ (ap (λ (r : UnitReason). (cond (is_tie r) (Some (Tie is.taken.window v)) (None))) is.because
+        ∙ ap (λ x. Some (Tie x v)) is.window)))
+
+-- ---- an update of a table slot
+
+address-decides : (size base : ℕ)
+    → Decides (is_slot_address size base) ((base ≡ flash_base) ⊎ (base ≡ flash_base + size))
+address-decides size base = (
+  λ e. elim (either _ _ e) [
+    | inl one ↦ inl (eqb-true base flash_base one)
+    | inr two ↦ inr (eqb-true base (flash_base + size) two)
+  ],
+  λ is. elim is [
+    | inl one ↦ left _ _ (eq-eqb base flash_base one)
+    | inr two ↦ right-one _ _ (eq-eqb base (flash_base + size) two)
+  ],
+)
+
+module _ (c : Content) (size : ℕ) (size_is : size ≡ slot_size c.otp (length c.flash)) where
+  abbrev IsSlotUpdate : BootKind → ℕ → Type 0
+  IsSlotUpdate kind base = (kind ≡ Update base) × ((found : Found) × IsTableIn c found)
+      × ((base ≡ flash_base) ⊎ (base ≡ flash_base + slot_size c.otp (length c.flash)))
+
+  resized : (base : ℕ) → (base ≡ flash_base) ⊎ (base ≡ flash_base + size)
+      → (base ≡ flash_base) ⊎ (base ≡ flash_base + slot_size c.otp (length c.flash))
+  resized base (inl e) = inl e
+  resized base (inr e) = inr (e ∙ ap (λ z. flash_base + z) size_is)
+
+  unsized : (base : ℕ) → (base ≡ flash_base) ⊎ (base ≡ flash_base + slot_size c.otp (length c.flash))
+      → (base ≡ flash_base) ⊎ (base ≡ flash_base + size)
+  unsized base (inl e) = inl e
+  unsized base (inr e) = inr (e ∙ ap (λ z. flash_base + z) (sym size_is))
+
+  no-update : (kind : BootKind) → ((base : ℕ) → kind ≡ Update base → ⊥) → IsJust (IsUpdateOfSlot c kind) []
+  no-update kind never = one-just (IsSlotUpdate kind) UpdateOfSlot None (λ caveat e. cc) (λ base is. absurd (never base is.0))
+
+  pub slot-update-just : (kind : BootKind) (table : Option TableInForce) → IsTableInForce c table
+      → IsJust (IsUpdateOfSlot c kind) (option_to_list (update_of_slot kind size table))
+  slot-update-just Normal table is = no-update Normal (λ base e. cc)
+  slot-update-just AskBootsel table is = no-update AskBootsel (λ base e. cc)
+  slot-update-just (Update base) None is =
+      one-just (IsSlotUpdate (Update base)) UpdateOfSlot None (λ caveat e. cc) (λ b u. absurd (is u.1.0 u.1.1))
+  slot-update-just (Update base) (Some taken) is =
+      one-just (IsSlotUpdate (Update base)) UpdateOfSlot (caveat_if (is_slot_address size base) (UpdateOfSlot base))
+      (to (is_slot_address size base) refl) (λ b u. from b u (is_slot_address size base) refl)
+    where
+      to : (t : Bool) → is_slot_address size base ≡ t → (caveat : Caveat)
+          → caveat_if t (UpdateOfSlot base) ≡ Some caveat
+          → (b : ℕ) × IsSlotUpdate (Update base) b × (caveat ≡ UpdateOfSlot b)
+      to true e caveat same =
+          (base, (refl, (_, is.0.1), resized base ((address-decides size base).0 e)), sym (same_Some _ _ same))
+      to false e caveat same = cc
+
+      same-base : (a b : ℕ) → Update a ≡ Update b → a ≡ b
+      same-base a b e = cc
+
+      from : (b : ℕ) → IsSlotUpdate (Update base) b → (t : Bool) → is_slot_address size base ≡ t
+          → caveat_if t (UpdateOfSlot base) ≡ Some (UpdateOfSlot b)
+      from b u true e = ap (λ x. Some (UpdateOfSlot x)) (same-base base b u.0)
+      from b u false e =
+          let yes : is_slot_address size base ≡ true =
+          (address-decides size base).1 (unsized base (subst
+          (λ x. (x ≡ flash_base) ⊎ (x ≡ flash_base + slot_size c.otp (length c.flash))) (sym (same-base base b u.0)) u.2)) in
+          cc
+
+-- ---- an update that moves a unit
+
+length-behind : {X : Type 0} (before behind : List X) (x : X) → length before < length (before ++ x ∷ behind)
+length-behind [] behind x = omega arith
+length-behind (y ∷ ys) behind x = let h = length-behind ys behind x in omega (arith, h)
+
+at-behind : {X : Type 0} (before behind : List X) (x : X) → slice_get (before ++ x ∷ behind) (length before) ≡ Some x
+at-behind [] behind x = refl
+at-behind (y ∷ ys) behind x = at-behind ys behind x
+
+position-behind : {X : Type 0} (p : X → Bool) (before behind : List X) (x : X)
+    → ((k : ℕ) (y : X) → slice_get before k ≡ Some y → p y ≡ false) → p x ≡ true
+    → position p (before ++ x ∷ behind) ≡ Some (length before)
+position-behind p before behind x fails is =
+    (first_position p (before ++ x ∷ behind) (length before) x (length-behind before behind x)
+    (ap p (get_or-append_seam before x behind x) ∙ is)
+    (λ j lt. ap p (get_or_append_left before (x ∷ behind) x j lt)
+    ∙ fails j (get_or before j x) (slice_get-get_or before j x lt))).1
+
+has-there : (start : ℕ) (u : SlotUnit) (m : Member) (w : Window) → member_window m u ≡ Some w → w.start ≡ start
+    → has_member_at start u ≡ true
+has-there start u m w stands at = go (has_member_at start u) refl
+  where
+    go : (b : Bool) → has_member_at start u ≡ b → b ≡ true
+    go true e = refl
+    go false e = absurd (none_starts start u e w (is-member m u w stands) at)
+
+lacks-there : (start : ℕ) (u : SlotUnit) → ((w : Window) → IsMember u w → w.start ≢ start) → has_member_at start u ≡ false
+lacks-there start u never = go (member_at start u) refl
+  where
+    go : (o : Option Member) → member_at start u ≡ o → is_some o ≡ false
+    go None e = refl
+    go (Some m) e =
+        let s = member_starts start u m e in absurd (never s.0 (is-member m u s.0 s.1) s.2)
+
+-- the unit that an update moves stands where it was found
+pub record IsPlacedUpdate (us : List SlotUnit) (base k : ℕ) (u : SlotUnit) : Type 0 where
+  pub above : flash_base ≤ base
+  pub place : position (has_member_at (base - flash_base)) us ≡ Some k
+  pub at : slice_get us k ≡ Some u
+
+pub update-place : (us : List SlotUnit) (base : ℕ) (m : Member) (u : SlotUnit) (w : Window)
+    → (is : IsUpdateOf us base m u w) → IsPlacedUpdate us base (length is.before) u
+update-place us base m u w is = record {
+  above = omega (arith, is.pointed);
+  place = ap (position (has_member_at (base - flash_base))) is.stood
+      ∙ position-behind (has_member_at (base - flash_base)) is.before is.after u
+      (λ k v at. lacks-there (base - flash_base) v (λ x member same.
+      is.first k v x at member (pointing x.start base same (omega (arith, is.pointed)))))
+      (has-there (base - flash_base) u m w is.window (omega (arith, is.pointed)));
+  at = ap (λ xs. slice_get xs (length is.before)) is.stood ∙ at-behind is.before is.after u;
+}
+  where
+    pointing : (s b : ℕ) → s ≡ b - flash_base → flash_base ≤ b → flash_base + s ≡ b
+    pointing s b same above = omega arith
+
+-- an address with a unit at it updates a member
+pub place-updates : (us : List SlotUnit) (base k : ℕ) → nat_le flash_base base ≡ true
+    → position (has_member_at (base - flash_base)) us ≡ Some k
+    → (m : Member) × (updated_member us base ≡ Some m)
+place-updates us base k above place =
+    elim (search_of (has_member_at (base - flash_base)) us) [
+      | inl absent ↦ absurd (none-some absent.placeless place)
+      | inr found ↦ by found.1 found.2.sought (member_at (base - flash_base) found.1) refl found.2.passes
+    ]
+  where
+    none-some : position (has_member_at (base - flash_base)) us ≡ None
+        → position (has_member_at (base - flash_base)) us ≡ Some k → ⊥
+    none-some e f = cc
+
+    by : (u : SlotUnit) → find (has_member_at (base - flash_base)) us ≡ Some u → (o : Option Member)
+        → member_at (base - flash_base) u ≡ o → is_some o ≡ true → (m : Member) × (updated_member us base ≡ Some m)
+    by u sought None at some = cc
+    by u sought (Some m) at some = (
+      m,
+      ap (λ b. cond b
+          (option_and_then (member_at (base - flash_base)) (find (has_member_at (base - flash_base)) us)) None) above ∙ (ap (option_and_then (member_at (base - flash_base))) sought ∙ at),
+    )
+
+-- the part that is moved, at a place
+moved-says : (us : List SlotUnit) (k part : ℕ) → moved_part us k ≡ Some part
+    → (k ≢ 0) × ((u : SlotUnit) × (slice_get us k ≡ Some u) × (u.a_part ≡ Some part))
+moved-says us k part e = go (k == 0) refl e
+  where
+    by : (o : Option SlotUnit) → slice_get us k ≡ o → option_and_then (λ (u : SlotUnit). u.a_part) o ≡ Some part
+        → (u : SlotUnit) × (slice_get us k ≡ Some u) × (u.a_part ≡ Some part)
+    by None at same = cc
+    by (Some u) at same = (u, at, same)
+
+    go : (b : Bool) → (k == 0) ≡ b
+        → (cond b (None) (option_and_then (λ (u : SlotUnit). u.a_part) (slice_get us k)))
+        ≡ Some part
+        → (k ≢ 0) × ((u : SlotUnit) × (slice_get us k ≡ Some u) × (u.a_part ≡ Some part))
+    go true is same = cc
+    go false is same = (
+      (λ zero_is. let yes : (k == 0) ≡ true = eq-eqb k 0 zero_is in cc),
+      by (slice_get us k) refl same,
+    )
+
+says-moved : (us : List SlotUnit) (k part : ℕ) (u : SlotUnit) → k ≢ 0 → slice_get us k ≡ Some u → u.a_part ≡ Some part
+    → moved_part us k ≡ Some part
+says-moved us k part u some at first = go (k == 0) refl
+  where
+    go : (b : Bool) → (k == 0) ≡ b
+        → (cond b (None) (option_and_then (λ (u : SlotUnit). u.a_part) (slice_get us k)))
+        ≡ Some part
+    go true is = absurd (some (eqb-true k 0 is))
+    go false is = ap (option_and_then (λ (v : SlotUnit). v.a_part)) at ∙ first
+
+-- what is moved by an address
+moved-by : (us : List SlotUnit) (base part : ℕ) → moved_by us base ≡ Some part → IsMovedPart us base part
+moved-by us base part e = go (nat_le flash_base base) refl e
+  where
+    by : nat_le flash_base base ≡ true → (o : Option ℕ) → position (has_member_at (base - flash_base)) us ≡ o
+        → option_and_then (moved_part us) o ≡ Some part → IsMovedPart us base part
+    by above None place same = cc
+    by above (Some k) place same =
+        let moved = moved-says us k part same in
+        let m = place-updates us base k above place in
+        let u = updated us base m.0 m.1 in
+        let placed = update-place us base m.0 u.0 u.1 u.2 in
+        let k_is : k ≡ length u.2.before = same_Some k (length u.2.before) (sym place ∙ placed.place) in
+        let unit : moved.1.0 ≡ u.0 =
+        same_Some moved.1.0 u.0 (sym moved.1.1 ∙ (ap (slice_get us) k_is ∙ placed.at)) in
+        record {
+          member = m.0;
+          unit = u.0;
+          window = u.1;
+          updates = u.2;
+          behind = λ none. moved.0 (k_is ∙ ap length none);
+          first = ap (λ (v : SlotUnit). v.a_part) (sym unit) ∙ moved.1.2;
+        }
+
+    go : (b : Bool) → nat_le flash_base base ≡ b
+        → (cond b (option_and_then (moved_part us) (position (has_member_at (base - flash_base)) us)) (None))
+        ≡ Some part → IsMovedPart us base part
+    go true above same = by above (position (has_member_at (base - flash_base)) us) refl same
+    go false above same = cc
+
+by-moved : (us : List SlotUnit) (base part : ℕ) → IsMovedPart us base part → moved_by us base ≡ Some part
+by-moved us base part is =
+    let placed = update-place us base is.member is.unit is.window is.updates in
+    go (nat_le flash_base base) (at-least flash_base base placed.above)
+    (ap (option_and_then (moved_part us)) placed.place
+    ∙ says-moved us (length is.updates.before) part is.unit (some is.updates.before is.behind) placed.at is.first)
+  where
+    at-least : (m n : ℕ) → m ≤ n → nat_le m n ≡ true
+    at-least m n le = grind (arith, nat_tests)
+
+    some : (xs : List SlotUnit) → xs ≢ [] → length xs ≢ 0
+    some [] never = λ e. never refl
+    some (x ∷ xs) never = λ e. absurd (omega arith)
+
+    go : (b : Bool) → b ≡ true
+        → option_and_then (moved_part us) (position (has_member_at (base - flash_base)) us) ≡ Some part
+        → (cond b (option_and_then (moved_part us) (position (has_member_at (base - flash_base)) us)) (None))
+        ≡ Some part
+    go true e h = h
+    go false e h = cc
+
+module _ (us : List SlotUnit) where
+  abbrev IsMovedBy : BootKind → ℕ → Type 0
+  IsMovedBy kind part = (base : ℕ) × (kind ≡ Update base) × IsMovedPart us base part
+
+  stays : (kind : BootKind) → ((base : ℕ) → kind ≡ Update base → ⊥) → IsJust (IsUpdateMovesUnit kind us) []
+  stays kind never = one-just (IsMovedBy kind) UpdateMovesUnit None (λ caveat e. cc) (λ part is. absurd (never is.0 is.1))
+
+  pub moves-just : (kind : BootKind) → IsJust (IsUpdateMovesUnit kind us) (option_to_list (update_moves kind us))
+  moves-just Normal = stays Normal (λ base e. cc)
+  moves-just AskBootsel = stays AskBootsel (λ base e. cc)
+  moves-just (Update base) =
+      one-just (IsMovedBy (Update base)) UpdateMovesUnit (option_map UpdateMovesUnit (moved_by us base))
+      (to (moved_by us base) refl) (λ part is. from part is.0 is.1 is.2)
+    where
+      to : (o : Option ℕ) → moved_by us base ≡ o → (caveat : Caveat) → option_map UpdateMovesUnit o ≡ Some caveat
+          → (part : ℕ) × IsMovedBy (Update base) part × (caveat ≡ UpdateMovesUnit part)
+      to None is caveat e = cc
+      to (Some part) is caveat e = (part, (base, refl, moved-by us base part is), sym (same_Some _ _ e))
+
+      same-base : (a b : ℕ) → Update a ≡ Update b → a ≡ b
+      same-base a b e = cc
+
+      from : (part b : ℕ) → Update base ≡ Update b → IsMovedPart us b part
+          → option_map UpdateMovesUnit (moved_by us base) ≡ Some (UpdateMovesUnit part)
+      from part b same is =
+          ap (λ o. option_map UpdateMovesUnit o)
+          (by-moved us base part (subst (λ x. IsMovedPart us x part) (sym (same-base base b same)) is))

@@ -1,0 +1,12 @@
+mod SeenLemmas
+mod MoreLemmas
+mod FilledLemmas
+mod WindowLemmas
+mod ReadLemmas
+pub mod ListingLemmas
+pub mod OtpLemmas
+pub mod TableCaveatLemmas
+pub mod ChoiceCaveatLemmas
+pub mod StartCaveatLemmas
+pub mod ImageCaveatLemmas
+pub mod CaveatLemmas

@@ -1,0 +1,31 @@
+use Rattle.std.proofs.Common.{◌≡◌, ◌≤◌, Bool, cond, Some, length, arith, ap, sym, ◌∙◌}
+use Rattle.image_def.specs.Suits.{does_suit}
+use Rattle.block_loop.proofs.PlaceLemmas.{as-many}
+use Rattle.boot_caveats.proofs.SeenLemmas.{last-all, last-more}
+use Rattle.boot_caveats.proofs.reading.last_suiting.Goals.{then-suits, else-suits}
+use Rattle.boot_caveats.proofs.reading.last_suiting.Goals as goal
+
+pub loop-i-preserved : goal.loop-i-preserved
+loop-i-preserved g c = λ loop is.
+    last-more (does_suit c.args.cpu) loop c.loop-i.i c.block_of-block.result (c.block_of-block.ensures.exact loop is)
+    c.loop-i.last c.if-suits.last
+    (c.loop-i.invariant loop is)
+    (elim c.if-suits.branch [
+      | then-suits w ↦ w.last-is
+          ∙ sym (ap (λ (t : Bool). cond t (Some c.block_of-block.result) c.loop-i.last)
+          (sym c.suits.ensures ∙ w.if-suits.true))
+      | else-suits w ↦ w.last-is
+          ∙ sym (ap (λ (t : Bool). cond t (Some c.block_of-block.result) c.loop-i.last)
+          (sym c.suits.ensures ∙ w.if-suits.false))
+    ])
+
+pub returns : goal.returns
+returns g c = λ loop is.
+    let few : length loop ≤ c.loop-i.i =
+    omega (
+      arith,
+      as-many (g.V.View.bytes c.args.view.now) c.args.found.now c.requires.loop_ loop is,
+      c.loop-i-test.false,
+      c.count-i-end.ensures.value,
+    ) in
+    last-all (does_suit c.args.cpu) loop c.loop-i.i few c.loop-i.last (c.loop-i.invariant loop is)

@@ -1,0 +1,51 @@
+-- The caveats of a boot's answer, in their order, as a function of the content.
+use Rattle.std.specs.Prelude.{List, ◌++◌, length, option_to_list}
+use Rattle.std.specs.List.{filter_map, flat_map}
+use Rattle.pico_board.specs.declared.boot.Cpu.{Cpu}
+use Rattle.pico_board.specs.declared.boot.BootKind.{BootKind}
+use Rattle.pico_board.specs.Content.{Content}
+use Rattle.boot_rules.specs.Choosing.{boot_units_in}
+use Rattle.boot_reasons.specs.declared.reasons.Reasons.{Reasons}
+use Rattle.boot_reasons.specs.Reasons.{reasons_in, table_of_reasons}
+use Rattle.boot_caveats.specs.declared.caveat.Caveat.{Caveat}
+use Rattle.boot_caveats.specs.OtpCaveats.{otp_caveats}
+use Rattle.boot_caveats.specs.TableCaveats.{short_flash, table_tie, unread_caveats}
+use Rattle.boot_caveats.specs.ChoiceCaveats.{first_tie, other_processor, slot_images, update_moves, update_of_slot}
+use Rattle.boot_caveats.specs.StartCaveats.{started_rows, table_in_image}
+use Rattle.boot_caveats.specs.ImageCaveats.{item_order, late_firsts, look_may_start, looked_windows, owned_images}
+
+-- the OTP, the tables of the slots and of the image that starts
+abbrev pub board_caveats : Content → Reasons → List Caveat
+board_caveats c r =
+    otp_caveats c.otp
+    ++ (option_to_list (short_flash (length c.flash) 0 r.first)
+    ++ (option_to_list (short_flash (length c.flash) 1 r.second)
+    ++ option_to_list (table_in_image c r.decision)))
+
+-- the choice, and the rows of the image that starts
+abbrev pub choice_caveats : Content → Cpu → BootKind → Reasons → List Caveat
+choice_caveats c cpu kind r =
+    option_to_list (other_processor c cpu kind r.decision)
+    ++ (slot_images c cpu r.decision r.size r.table
+    ++ (option_to_list (first_tie r.looks.items)
+    ++ (option_to_list (update_of_slot kind r.size r.table)
+    ++ (option_to_list (update_moves kind (boot_units_in c cpu))
+    ++ started_rows c.otp r.decision))))
+
+-- the windows that are looked at, owned partitions, and what is not read of tables
+abbrev pub window_caveats : Content → Cpu → Reasons → List Caveat
+window_caveats c cpu r =
+    late_firsts c r.decision r.size r.looks.items
+    ++ (filter_map (item_order c cpu) (looked_windows r.looks.items)
+    ++ (flat_map look_may_start r.looks.items
+    ++ (owned_images c cpu (table_of_reasons r)
+    ++ (unread_caveats (table_of_reasons r) ++ option_to_list (table_tie r.first r.second)))))
+
+-- the caveats of an answer with these reasons
+unfoldable pub caveats_by : Content → Cpu → BootKind → Reasons → List Caveat
+caveats_by c cpu kind r =
+    board_caveats c r ++ (choice_caveats c cpu kind r ++ window_caveats c cpu r)
+
+-- the caveats of the answer of a boot
+abbrev pub caveats_in : Content → Cpu → BootKind → List Caveat
+caveats_in c cpu kind = caveats_by c cpu kind (reasons_in c cpu kind)

@@ -1,0 +1,136 @@
+-- Where the choice of a boot rests on a rule that the chip may have otherwise, as functions.
+use Rattle.std.specs.Prelude.{ℕ, ◌+◌, ◌-◌, ◌*◌, ◌==◌, ◌&&◌, ◌||◌, nat_le, Bool, true, false, if◌then◌else◌, List, [], ◌∷◌, ◌++◌, find, is_some, position, slice_get, length, Option, Some, None, option_map, option_and_then, option_to_list, is_ok}
+use Rattle.std.specs.Option.{option_map_or}
+use Rattle.pico_board.specs.declared.boot.Cpu.{Cpu}
+use Rattle.pico_board.specs.declared.boot.Cpu.TheVariants.{Arm, Riscv}
+use Rattle.pico_board.specs.declared.boot.BootKind.{BootKind}
+use Rattle.pico_board.specs.declared.boot.BootKind.TheVariants.{Normal, Update, Bootsel as AskBootsel}
+use Rattle.pico_board.specs.declared.window.Window.{Window}
+use Rattle.pico_board.specs.declared.window.TheConstants.{SMALLEST_SLOT}
+use Rattle.pico_board.specs.Content.{Content, flash_base, window_bytes}
+use Rattle.block_codec.specs.Blocks.{BlockView}
+use Rattle.block_loop.specs.Loop.{first_block}
+use Rattle.image_def.specs.declared.started.Started.{Started}
+use Rattle.image_def.specs.Suits.{has_image_type}
+use Rattle.image_check.specs.Image.{image_at}
+use Rattle.part_table.specs.declared.table.Table.{Table}
+use Rattle.slot_choice.specs.declared.unit.SlotUnit.{SlotUnit}
+use Rattle.slot_choice.specs.declared.choice.Choice.{Choice}
+use Rattle.slot_choice.specs.Updates.{has_member_at}
+use Rattle.boot_rules.specs.declared.decision.Decision.{Decision}
+use Rattle.boot_rules.specs.declared.decision.Decision.TheVariants.{Start, Bootsel}
+use Rattle.boot_rules.specs.declared.decision.Fall.TheVariants.{Requested, FlashOff, NoImage}
+use Rattle.boot_rules.specs.Choosing.{decision_in}
+use Rattle.boot_rules.specs.Tables.{slot_window}
+use Rattle.boot_reasons.specs.declared.slots.TableInForce.{TableInForce}
+use Rattle.boot_reasons.specs.declared.looks.UnitReport.{UnitReport}
+use Rattle.boot_reasons.specs.declared.looks.TakenImage.{TakenImage}
+use Rattle.boot_reasons.specs.declared.looks.UnitReason.{UnitReason}
+use Rattle.boot_reasons.specs.declared.looks.UnitReason.TheVariants.{Updated, Only, Version, Tie as IsTied}
+use Rattle.boot_caveats.specs.declared.caveat.Caveat.{Caveat}
+use Rattle.boot_caveats.specs.declared.caveat.Caveat.TheVariants.{OtherProcessor, SlotImage, Tie, UpdateOfSlot, UpdateMovesUnit}
+use Rattle.boot_caveats.specs.Listing.{caveat_if}
+
+-- the other processor
+abbrev pub other_cpu : Cpu → Cpu
+other_cpu Arm = Riscv
+other_cpu Riscv = Arm
+
+-- no image starts
+abbrev pub lacks_image : Decision → Bool
+lacks_image (Start choice) = false
+lacks_image (Bootsel Requested) = false
+lacks_image (Bootsel FlashOff) = false
+lacks_image (Bootsel NoImage) = true
+
+-- the window whose image starts
+abbrev pub started_window : Decision → Option Window
+started_window (Start choice) = Some choice.image.window
+started_window (Bootsel fall) = None
+
+-- no image starts, and one would for the other processor
+abbrev pub other_processor : Content → Cpu → BootKind → Decision → Option Caveat
+other_processor c cpu kind d =
+    if lacks_image d
+    then option_map OtherProcessor (started_window (decision_in c (other_cpu cpu) kind))
+    else None
+
+-- a window has an image, trial not allowed
+abbrev pub has_normal_image : Content → Cpu → Window → Bool
+has_normal_image c cpu w = is_ok (image_at c w cpu false)
+
+-- the first block of a window has an IMAGE_TYPE item
+abbrev pub has_typed_first : Content → Window → Bool
+has_typed_first c w = option_map_or has_image_type (first_block (window_bytes c w)) false
+
+-- without a table, and with slots of the smallest size: no image starts, and slot 0 has one; slot 1
+-- has one then, or its first block has an IMAGE_TYPE item
+abbrev pub first_slot_image : Content → Cpu → Decision → Option Caveat
+first_slot_image c cpu d =
+    let w = slot_window SMALLEST_SLOT 0 in
+    caveat_if (lacks_image d && has_normal_image c cpu w) (SlotImage w)
+
+abbrev pub second_slot_image : Content → Cpu → Decision → Option Caveat
+second_slot_image c cpu d =
+    let w = slot_window SMALLEST_SLOT 1 in
+    caveat_if (has_typed_first c w || (lacks_image d && has_normal_image c cpu w)) (SlotImage w)
+
+abbrev pub lone_slot_images : Content → Cpu → Decision → List Caveat
+lone_slot_images c cpu d =
+    option_to_list (first_slot_image c cpu d) ++ option_to_list (second_slot_image c cpu d)
+
+abbrev pub slot_images : Content → Cpu → Decision → ℕ → Option TableInForce → List Caveat
+slot_images c cpu d size (Some taken) = []
+slot_images c cpu d size None = if size == SMALLEST_SLOT then lone_slot_images c cpu d else []
+
+-- an image is taken because of a tie
+abbrev pub is_tie : UnitReason → Bool
+is_tie Updated = false
+is_tie Only = false
+is_tie Version = false
+is_tie IsTied = true
+
+-- the window that is taken of a pair because of a tie, and the other one
+abbrev pub tied_in : Option Window → Option TakenImage → Option Caveat
+tied_in None taken = None
+tied_in (Some w) None = None
+tied_in (Some w) (Some taken) = if is_tie taken.because then Some (Tie taken.window w) else None
+
+-- the first unit that takes an image takes it because of a tie
+abbrev pub takes_image : UnitReport → Bool
+takes_image look = is_some look.taken
+
+abbrev pub tie_of : UnitReport → Option Caveat
+tie_of look = tied_in look.unit.b look.taken
+
+abbrev pub first_tie : List UnitReport → Option Caveat
+first_tie looks = option_and_then tie_of (find takes_image looks)
+
+-- an address is that of table slot 0 or 1
+abbrev pub is_slot_address : ℕ → ℕ → Bool
+is_slot_address size base = base == flash_base || base == flash_base + size
+
+-- an update boot's address is that of a table slot, and there is a table
+abbrev pub update_of_slot : BootKind → ℕ → Option TableInForce → Option Caveat
+update_of_slot Normal size table = None
+update_of_slot AskBootsel size table = None
+update_of_slot (Update base) size None = None
+update_of_slot (Update base) size (Some taken) =
+    caveat_if (is_slot_address size base) (UpdateOfSlot base)
+
+-- the partition of the A of the unit at a place, where it is not the first one
+abbrev pub moved_part : List SlotUnit → ℕ → Option ℕ
+moved_part us k =
+    if k == 0 then None else option_and_then (λ (u : SlotUnit). u.a_part) (slice_get us k)
+
+-- the partition of the A of the unit that an update of an address moves to the front
+abbrev pub moved_by : List SlotUnit → ℕ → Option ℕ
+moved_by us base =
+    if nat_le flash_base base
+    then option_and_then (moved_part us) (position (has_member_at (base - flash_base)) us)
+    else None
+
+abbrev pub update_moves : BootKind → List SlotUnit → Option Caveat
+update_moves Normal us = None
+update_moves AskBootsel us = None
+update_moves (Update base) us = option_map UpdateMovesUnit (moved_by us base)

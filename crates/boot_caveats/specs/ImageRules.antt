@@ -1,0 +1,114 @@
+-- What is to be looked up of the windows that a boot looks at, and of owned partitions, in the
+-- words of the rules.
+use Rattle.std.specs.Prelude.{◌≡◌, ◌⊎◌, ℕ, ◌+◌, ◌<◌, false, true, List, [], ◌∷◌, ◌++◌, Contains, slice_get, Option, Some, None, Result, Err}
+use Rattle.pico_board.specs.declared.boot.Cpu.{Cpu}
+use Rattle.pico_board.specs.declared.window.Window.{Window}
+use Rattle.pico_board.specs.declared.window.TheConstants.{SMALLEST_SLOT}
+use Rattle.pico_board.specs.Content.{Content, window_bytes}
+use Rattle.block_codec.specs.declared.items.Item.{Item}
+use Rattle.block_codec.specs.declared.kinds.TheConstants.{IMAGE_TYPE, HASH_DEF, HASH_VALUE}
+use Rattle.block_codec.specs.Items.{items_of}
+use Rattle.block_codec.specs.Kinds.{is_of_kind}
+use Rattle.block_codec.specs.Blocks.{BlockView, block_size}
+use Rattle.block_loop.specs.Loop.{IsFirstBlock, IsLoop}
+use Rattle.image_def.specs.declared.started.Started.{Started}
+use Rattle.image_def.specs.declared.fault.DefFault.TheVariants.{BadItem, BadRow}
+use Rattle.image_def.specs.Suits.{does_suit}
+use Rattle.load_map.specs.declared.load.MapFault.TheVariants.{Runtime, CoversBlock}
+use Rattle.image_check.specs.declared.why.EntryFault.{EntryFault}
+use Rattle.image_check.specs.declared.why.Why.{Why}
+use Rattle.image_check.specs.declared.why.Why.TheVariants.{Items, Map, Entry, Delta}
+use Rattle.image_check.specs.Valid.{IsLastWith, Valid}
+use Rattle.part_table.specs.declared.partition.Partition.{Partition}
+use Rattle.part_table.specs.declared.table.Table.{Table}
+use Rattle.part_table.specs.Links.{is_owned}
+use Rattle.part_table.specs.Partitions.{part_at}
+use Rattle.part_table.specs.Windows.{part_window}
+use Rattle.slot_choice.specs.declared.choice.Choice.{Choice}
+use Rattle.boot_rules.specs.declared.decision.Decision.{Decision}
+use Rattle.boot_rules.specs.declared.decision.Decision.TheVariants.{Start, Bootsel}
+use Rattle.boot_rules.specs.declared.decision.Fall.TheVariants.{NoImage}
+use Rattle.boot_reasons.specs.declared.looks.UnitReport.{UnitReport}
+use Rattle.boot_caveats.specs.declared.caveat.Caveat.{Caveat}
+use Rattle.boot_caveats.specs.declared.caveat.Caveat.TheVariants.{FirstBlock, ItemOrder, MayStart, OwnedImage}
+use Rattle.boot_caveats.specs.Listing.{AreBoth, AreOfEach, IsOfOne, IsWhere}
+use Rattle.boot_caveats.specs.ImageCaveats.{looked_windows, read_windows}
+use Rattle.boot_caveats.specs.TableRules.{AreOfParts}
+
+-- the second list has the elements of the first, each where it first stands, but for those that
+-- stand before
+abbrev pub AreFirstPlaces : {X : Type 0} → List X → List X → List X → Type 0
+AreFirstPlaces before [] ys = ys ≡ []
+AreFirstPlaces {X} before (x ∷ xs) ys =
+    (Contains before x × AreFirstPlaces before xs ys)
+    ⊎ ((Contains before x → ⊥)
+    × ((rest : List X) × (ys ≡ x ∷ rest) × AreFirstPlaces (before ++ x ∷ []) xs rest))
+
+-- the decision is a start or that no image starts
+abbrev pub ReadsBlocks : Decision → Type 0
+ReadsBlocks d = ((choice : Choice) × (d ≡ Start choice)) ⊎ (d ≡ Bootsel NoImage)
+
+-- the first block of a window ends behind its first 4096 bytes
+abbrev pub HasLateFirst : Content → Window → Type 0
+HasLateFirst c w =
+    (b : BlockView) × IsFirstBlock (window_bytes c w) b × (SMALLEST_SLOT < b.at + block_size b)
+
+-- where the decision is one of these: each table slot, and each window of a member of a unit that
+-- is looked at, and no window twice
+abbrev pub AreLateFirsts : Content → Decision → ℕ → List UnitReport → List Caveat → Type 0
+AreLateFirsts c d size looks list =
+    (ReadsBlocks d
+    × ((windows : List Window) × AreFirstPlaces [] (read_windows size looks) windows
+    × AreOfEach (λ w. IsWhere (HasLateFirst c w) (FirstBlock w)) windows list))
+    ⊎ ((ReadsBlocks d → ⊥) × (list ≡ []))
+
+-- a window has a definition whose first item is no IMAGE_TYPE
+pub record BeginsOtherwise (c : Content) (cpu : Cpu) (w : Window) : Type 0 where
+  pub loop : List BlockView
+  pub block : BlockView
+  pub closes : IsLoop (window_bytes c w) loop
+  pub defines : IsLastWith (does_suit cpu) loop block
+  pub order : (item : Item) → slice_get (items_of block.items) 0 ≡ Some item
+      → is_of_kind IMAGE_TYPE item ≡ false
+
+-- each window of a member of a unit that is looked at
+abbrev pub AreItemOrders : Content → Cpu → List UnitReport → List Caveat → Type 0
+AreItemOrders c cpu looks =
+    AreOfEach (λ w. IsWhere (BeginsOtherwise c cpu w) (ItemOrder w)) (looked_windows looks)
+
+-- the rules that the chip may not judge
+pub data IsDoubtful : Why → Type 0 where
+  bad_row : (row : ℕ) → IsDoubtful (Items (BadRow row))
+  covers_block : (i : ℕ) → IsDoubtful (Map (CoversBlock i))
+  runtime : (i : ℕ) → IsDoubtful (Map (Runtime i))
+  bad_hash_def : IsDoubtful (Items (BadItem HASH_DEF))
+  bad_hash_value : IsDoubtful (Items (BadItem HASH_VALUE))
+  entry : (fault : EntryFault) → IsDoubtful (Entry fault)
+  delta : IsDoubtful Delta
+
+-- a member has no image that counts, by such a rule
+abbrev pub IsMayStart : Window → Result Started Why → List Caveat → Type 0
+IsMayStart w image = IsOfOne (λ why. (image ≡ Err why) × IsDoubtful why) (MayStart w)
+
+-- the second member, where there is one
+abbrev pub IsSecondMayStart : Option Window → Option (Result Started Why) → List Caveat → Type 0
+IsSecondMayStart None image list = list ≡ []
+IsSecondMayStart (Some w) None list = list ≡ []
+IsSecondMayStart (Some w) (Some image) list = IsMayStart w image list
+
+abbrev pub AreMayStarts : List UnitReport → List Caveat → Type 0
+AreMayStarts looks =
+    AreOfEach
+    (λ (look : UnitReport). AreBoth (IsMayStart look.unit.a look.first)
+    (IsSecondMayStart look.unit.b look.second)) looks
+
+-- a partition has an owner, and its window is valid for the processor with trial not allowed
+abbrev pub IsOwnedImage : Content → Cpu → List Partition → ℕ → List Caveat → Type 0
+IsOwnedImage c cpu parts i =
+    IsWhere
+    ((is_owned (part_at parts i) ≡ true)
+    × ((s : Started) × Valid c (part_window (part_at parts i)) cpu false s))
+    (OwnedImage i)
+
+abbrev pub AreOwnedImages : Content → Cpu → Option Table → List Caveat → Type 0
+AreOwnedImages c cpu table = AreOfParts table (IsOwnedImage c cpu)

@@ -1,0 +1,145 @@
+//! The caveats of a boot's answer, gathered.
+
+ghost use Rattle.std.specs.Prelude.{◌≡◌, ◌++◌, IfOk, IsTrue, OnOk};
+ghost use Rattle.sector_pool.specs.Keeping.{KeepsOut};
+ghost use Rattle.sector_pool.specs.Pool.{HasFree};
+ghost use Rattle.boot_reasons.specs.Reasons.{reasons_in};
+ghost use Rattle.boot_caveats.specs.Caveats.{board_caveats, caveats_by, caveats_in, choice_caveats, window_caveats};
+ghost use Rattle.boot_caveats.specs.Rules.{AreCaveats};
+
+use crate::caveat::{Caveat, add};
+use crate::choices::{add_slot_images, first_tie, other_processor, update_moves, update_of_slot};
+use crate::images::{add_item_orders, add_late_firsts, add_may_starts, add_owned_images};
+use crate::otp::add_otp;
+use crate::starts::{add_rows, table_in_image};
+use crate::tables::{add_unread, short_flash, table_tie};
+use boot_reasons::{Reasons, gather, taken_table};
+use boot_rules::boot_units_in;
+use pico_board::{Board, BootKind, Cpu};
+use sector_pool::SectorPool;
+use std::alloc::{AllocError, Global};
+
+/// Adds the caveats of the OTP, of the tables of the slots and of that of the image that starts.
+fn add_board<B: Board>(
+    board: &B,
+    reasons: &Reasons,
+    cpu: Cpu,
+    kind: BootKind,
+    list: &mut Vec<Caveat>,
+) -> Result<(), AllocError>
+    requires power { IsTrue (B.state board.now).powered }
+    requires reasons { reasons.now ≡ reasons_in (B.state board.now).content cpu kind }
+    ensures { OnOk result (list.new.items ≡ list.old.items
+        ++ board_caveats (B.state board.now).content reasons.now) }
+{
+    add_otp(board, list)?;
+    add(list, short_flash(board.flash_len(), 0, &reasons.first))?;
+    add(list, short_flash(board.flash_len(), 1, &reasons.second))?;
+    add(list, table_in_image(board, &reasons.decision))
+}
+
+/// Adds the caveats of the choice, and of the rows of the image that starts.
+fn add_choice<B: Board>(
+    board: &B,
+    pool: &mut SectorPool,
+    reasons: &Reasons,
+    cpu: Cpu,
+    kind: BootKind,
+    list: &mut Vec<Caveat>,
+) -> Result<(), AllocError>
+    requires power { IsTrue (B.state board.now).powered }
+    requires free { HasFree pool.old }
+    requires reasons { reasons.now ≡ reasons_in (B.state board.now).content cpu kind }
+    ensures exact { OnOk result (list.new.items ≡ list.old.items
+        ++ choice_caveats (B.state board.now).content cpu kind reasons.now) }
+    ensures kept { KeepsOut pool.old pool.new }
+{
+    let decision = &reasons.decision;
+    add(list, other_processor(board, pool, cpu, kind, decision))?;
+    add_slot_images(
+        board,
+        pool,
+        cpu,
+        decision,
+        reasons.size,
+        reasons.table,
+        list,
+    )?;
+    add(list, first_tie(reasons.looks.as_slice()))?;
+    add(list, update_of_slot(kind, reasons.size, reasons.table))?;
+    let units = boot_units_in(board, cpu);
+    add(list, update_moves(kind, units.as_slice()))?;
+    add_rows(board, decision, list)
+}
+
+/// Adds the caveats of the windows that are looked at, of owned partitions, and of what is not read
+/// of tables.
+fn add_windows<B: Board>(
+    board: &B,
+    pool: &mut SectorPool,
+    reasons: &Reasons,
+    cpu: Cpu,
+    kind: BootKind,
+    list: &mut Vec<Caveat>,
+) -> Result<(), AllocError>
+    requires power { IsTrue (B.state board.now).powered }
+    requires free { HasFree pool.old }
+    requires reasons { reasons.now ≡ reasons_in (B.state board.now).content cpu kind }
+    ensures exact { OnOk result (list.new.items ≡ list.old.items
+        ++ window_caveats (B.state board.now).content cpu reasons.now) }
+    ensures kept { KeepsOut pool.old pool.new }
+{
+    let looks = reasons.looks.as_slice();
+    add_late_firsts(board, &reasons.decision, reasons.size, looks, list)?;
+    add_item_orders(board, cpu, looks, list)?;
+    add_may_starts(looks, list)?;
+    let table = taken_table(reasons.table, &reasons.first, &reasons.second);
+    add_owned_images(board, pool, cpu, table, list)?;
+    add_unread(table, list)?;
+    add(list, table_tie(&reasons.first, &reasons.second))
+}
+
+/// The caveats of an answer whose reasons are known.
+pub fn caveats_by<B: Board>(
+    alloc: Global,
+    board: &B,
+    pool: &mut SectorPool,
+    cpu: Cpu,
+    kind: BootKind,
+    reasons: &Reasons,
+) -> Result<Vec<Caveat>, AllocError>
+    requires power { IsTrue (B.state board.now).powered }
+    requires free { HasFree pool.old }
+    requires reasons { reasons.now ≡ reasons_in (B.state board.now).content cpu kind }
+    ensures exact { IfOk result
+        (λ list. list.items ≡ caveats_in (B.state board.now).content cpu kind) }
+    ensures kept { KeepsOut pool.old pool.new }
+{
+    let mut list = Vec::new(alloc);
+    add_board(board, reasons, cpu, kind, &mut list)?;
+    add_choice(board, pool, reasons, cpu, kind, &mut list)?;
+    add_windows(board, pool, reasons, cpu, kind, &mut list)?;
+    Ok(list)
+}
+
+/// The caveats of the answer of a boot: each point of this very answer at which the chip may decide
+/// otherwise, in the order of the variants. It fails only where memory is out, and the pool keeps
+/// what is out.
+pub fn caveats_of<B: Board>(
+    alloc: Global,
+    board: &B,
+    pool: &mut SectorPool,
+    cpu: Cpu,
+    kind: BootKind,
+) -> Result<Vec<Caveat>, AllocError>
+    requires power { IsTrue (B.state board.now).powered }
+    requires lease { HasFree pool.old }
+    ensures rules { IfOk result
+        (λ list. AreCaveats (B.state board.now).content cpu kind list.items) }
+    ensures function { IfOk result
+        (λ list. list.items ≡ caveats_in (B.state board.now).content cpu kind) }
+    ensures pool { KeepsOut pool.old pool.new }
+{
+    let reasons = gather(board, pool, cpu, kind);
+    caveats_by(alloc, board, pool, cpu, kind, &reasons)
+}
