@@ -1,0 +1,115 @@
+//! The lines of caveats.
+
+ghost use Rattle.std.specs.Prelude.{◌≡◌, ◌++◌, IfOk, codes, decimal, string_bytes};
+ghost use Rattle.std.specs.List.{flat_map};
+ghost use Rattle.text_words.specs.Writing.{hex_row, hex_word};
+ghost use Rattle.text_lines.specs.Texts.{window_text};
+ghost use Rattle.boot_caveats.specs.declared.caveat.Caveat.TheVariants.{MayStart};
+ghost use Rattle.cli_caveats.specs.Texts.{caveat_line, caveat_text, hex_bits};
+
+use boot_caveats::Caveat;
+use image_check::Why;
+use pico_board::Window;
+use std::alloc::{AllocError, Global};
+use text_lines::{place_text, why_text};
+
+/// A caveat of a window, by its name.
+fn window_text(alloc: Global, name: &str, window: Window) -> Result<String, AllocError>
+    ensures { IfOk result (λ t. string_bytes t
+        ≡ codes "caveat " ++ (name.now ++ (codes " " ++ window_text window))) }
+{
+    let window = place_text(alloc, window)?;
+    format!(in alloc; "caveat {name} {window}")
+}
+
+/// A caveat of a partition, by its name.
+fn partition_text(alloc: Global, name: &str, part: u32) -> Result<String, AllocError>
+    ensures { IfOk result (λ t. string_bytes t
+        ≡ codes "caveat " ++ (name.now ++ (codes " partition=" ++ decimal part))) }
+{
+    format!(in alloc; "caveat {name} partition={part}")
+}
+
+/// A table in the loop of an image.
+fn table_text(alloc: Global, window: Window, at: u32) -> Result<String, AllocError>
+    ensures { IfOk result (λ t. string_bytes t
+        ≡ codes "caveat table-in-image " ++ (window_text window ++ (codes " at=" ++ hex_word at))) }
+{
+    let window = place_text(alloc, window)?;
+    format!(in alloc; "caveat table-in-image {window} at=0x{at:08x}")
+}
+
+/// Two images of one version.
+fn tie_text(alloc: Global, window: Window, other: Window) -> Result<String, AllocError>
+    ensures { IfOk result (λ t. string_bytes t
+        ≡ codes "caveat tie " ++ (window_text window ++ (codes " " ++ window_text other))) }
+{
+    let window = place_text(alloc, window)?;
+    let other = place_text(alloc, other)?;
+    format!(in alloc; "caveat tie {window} {other}")
+}
+
+/// An image that fails a rule by which the chip may not judge.
+fn may_start_text(alloc: Global, window: Window, why: Why) -> Result<String, AllocError>
+    ensures { IfOk result (λ t. string_bytes t ≡ caveat_text (MayStart window why)) }
+{
+    let window = place_text(alloc, window)?;
+    let why = why_text(alloc, why)?;
+    format!(in alloc; "caveat may-start {window} fault={why}")
+}
+
+/// A caveat, as a text.
+pub fn caveat_text(alloc: Global, caveat: Caveat) -> Result<String, AllocError>
+    ensures { IfOk result (λ t. string_bytes t ≡ caveat_text caveat) }
+{
+    match caveat {
+        Caveat::SecureBoot => format!(in alloc; "caveat secure-boot"),
+        Caveat::RawFlags(row, bits) => {
+            format!(in alloc; "caveat raw-flags row=0x{row:03x} bits=0x{bits:06x}")
+        }
+        Caveat::RawSlotSize(bits) => format!(in alloc; "caveat raw-slot-size bits=0x{bits:06x}"),
+        Caveat::ShortFlash(slot, part) => {
+            format!(in alloc; "caveat short-flash slot={slot} partition={part}")
+        }
+        Caveat::TableInImage(window, at) => table_text(alloc, window, at),
+        Caveat::OtherProcessor(window) => window_text(alloc, "other-processor", window),
+        Caveat::SlotImage(window) => window_text(alloc, "slot-1-image", window),
+        Caveat::Tie(window, other) => tie_text(alloc, window, other),
+        Caveat::UpdateOfSlot(base) => {
+            format!(in alloc; "caveat update-of-slot base=0x{base:08x}")
+        }
+        Caveat::UpdateMovesUnit(part) => partition_text(alloc, "update-moves-unit", part),
+        Caveat::RollbackRows(window) => window_text(alloc, "rollback-rows", window),
+        Caveat::RollbackFull(window) => window_text(alloc, "rollback-full", window),
+        Caveat::RollbackGap(row) => format!(in alloc; "caveat rollback-gap row=0x{row:03x}"),
+        Caveat::FirstBlock(window) => window_text(alloc, "first-block", window),
+        Caveat::ItemOrder(window) => window_text(alloc, "item-order", window),
+        Caveat::MayStart(window, why) => may_start_text(alloc, window, why),
+        Caveat::OwnedImage(part) => partition_text(alloc, "owned-image", part),
+        Caveat::UnreadTargets(bits) => {
+            format!(in alloc; "caveat unread-bits unpartitioned=0x{bits:08x}")
+        }
+        Caveat::UnreadSide(part) => partition_text(alloc, "unread-bits", part),
+        Caveat::TableTie => format!(in alloc; "caveat table-tie"),
+    }
+}
+
+/// The line of a caveat.
+fn caveat_line(alloc: Global, caveat: Caveat) -> Result<String, AllocError>
+    ensures { IfOk result (λ t. string_bytes t ≡ caveat_line caveat) }
+{
+    let text = caveat_text(alloc, caveat)?;
+    format!(in alloc; "{text}\n")
+}
+
+/// The lines of caveats.
+pub(crate) fn caveat_lines(alloc: Global, caveats: &[Caveat]) -> Result<String, AllocError>
+    ensures { IfOk result (λ t. string_bytes t ≡ flat_map caveat_line caveats.now) }
+{
+    let mut text = String::new(alloc);
+    for caveat in caveats {
+        let line = caveat_line(alloc, *caveat)?;
+        text.push_str(&line)?;
+    }
+    Ok(text)
+}
