@@ -12,18 +12,22 @@ use Rattle.boot_rules.proofs.DecisionLemmas.{decision-chosen, chosen-decision}
 use Rattle.cli_course.specs.declared.status.Status.TheVariants.{Input as Refused, Bootsel}
 use Rattle.cli_course.specs.Outcomes.{AreOfBytes, AnswerView, Answers, found, outcome_found}
 use Rattle.cli_course.proofs.ReadLemmas.{found-long}
-use Rattle.cli_words.specs.Commands.{CommandLineView, Boot, Info, OwnedData, Explain, Map, Replay, Sweep, Chart, Seal, Elf, Firm, Table, Usage, Help, Release, Uf2, Plan, Copy, ListScript, WriteScript, Gen, Load}
+use Rattle.cli_words.specs.Commands.{CommandLineView, Boot, Info, OwnedData, Explain, Map, Replay, Sweep, Chart, Seal, Elf, Firm, Table, Usage, Help, Release, Uf2, Plan, Copy, ListScript, WriteScript, Gen, Load, Caveats, OtpFile}
 use Rattle.cli_words.specs.Usages.{usage_text, help_text, release_line}
-use Rattle.cli_inputs.specs.declared.forms.Form.TheVariants.{Flash, Otp}
+use Rattle.cli_inputs.specs.declared.forms.Form.TheVariants.{Flash, Otp, OtpText}
 use Rattle.cli_inputs.specs.Forms.{HasForm, content_of_files}
 use Rattle.cli_inputs.specs.Inputs.{flash_and_otp, readings, first_input_fault, unless_refused}
 use Rattle.cli_inputs.specs.Rules.{WorksBy}
 use Rattle.cli_inputs.proofs.InputLemmas.{Judged, all_formed, one_faulty, judged-first, formed-none, readings-long}
+use Rattle.cli_inputs.specs.Jsons.{otp_read}
+use Rattle.cli_inputs.proofs.JsonLemmas.{otp-gives}
 use Rattle.cli_inputs.proofs.WorkLemmas.{work-obeys, work-only, work-refused, none-works}
 use Rattle.cli_boot.specs.Rules.{decided_status}
 use Rattle.cli_boot.proofs.BoardWorkLemmas.{boot-works, info-works, data-works}
 use Rattle.cli_explain.proofs.ReasonWorkLemmas.{explain-works}
+use Rattle.cli_caveats.proofs.CaveatWorkLemmas.{caveats-works}
 use Rattle.cli_map.proofs.MapWorkLemmas.{map-works}
+use Rattle.cli_otp.proofs.OtpWorkLemmas.{otp-works}
 use Rattle.cli_scripts.proofs.ReplayRuleLemmas.{replay-works}
 use Rattle.cli_sweep.proofs.ChartRuleLemmas.{chart-works}
 use Rattle.cli_sweep.proofs.FirmRuleLemmas.{firm-works}
@@ -42,6 +46,7 @@ works (Boot flash otp cpu kind) = boot-works flash otp cpu kind
 works (Info flash otp cpu) = info-works flash otp cpu
 works (OwnedData flash otp cpu kind) = data-works flash otp cpu kind
 works (Explain flash otp cpu kind) = explain-works flash otp cpu kind
+works (Caveats flash otp cpu kind) = caveats-works flash otp cpu kind
 works (Map flash otp cpu out) = map-works flash otp out cpu
 works (Replay flash otp cpu script out_flash out_otp) = replay-works flash otp script out_flash out_otp cpu
 works (Sweep flash otp cpu script pattern) = sweep-works flash otp script pattern cpu
@@ -50,6 +55,7 @@ works (Seal binary spec out) = seal-works binary spec out
 works (Elf elf spec out) = elf-works elf spec out
 works (Firm image cpu) = firm-works image cpu
 works (Table json out) = table-works json out
+works (OtpFile json out) = otp-works OtpText otp_read (λ j has. has.1) otp-gives json out
 works (Uf2 image family out) = uf2-works image out family
 works (Plan flash otp cpu image out) = plan-works flash otp image out cpu
 works (Load flash otp cpu image out) = load-works flash otp image out cpu
@@ -91,6 +97,7 @@ bytes-serve (Boot flash otp cpu kind) read small = tt
 bytes-serve (Info flash otp cpu) read small = tt
 bytes-serve (OwnedData flash otp cpu kind) read small = tt
 bytes-serve (Explain flash otp cpu kind) read small = tt
+bytes-serve (Caveats flash otp cpu kind) read small = tt
 bytes-serve (Map flash otp cpu out) read small = small
 bytes-serve (Replay flash otp cpu script out_flash out_otp) read small = small
 bytes-serve (Sweep flash otp cpu script pattern) read small = small
@@ -99,6 +106,7 @@ bytes-serve (Seal binary spec out) read small = tt
 bytes-serve (Elf elf spec out) read small = small
 bytes-serve (Firm image cpu) read small = tt
 bytes-serve (Table json out) read small = tt
+bytes-serve (OtpFile json out) read small = tt
 bytes-serve (Uf2 image family out) read small = tt
 bytes-serve (Plan flash otp cpu image out) read small = tt
 bytes-serve (Load flash otp cpu image out) read small = tt

@@ -5,15 +5,17 @@ use Rattle.part_table.specs.declared.target.Target.{Target}
 use Rattle.script_plan.specs.declared.writing.WriteOrder.{WriteOrder}
 use Rattle.script_plan.specs.declared.writing.WriteOrder.TheVariants.{FirstLast, Ascending}
 use Rattle.cli_course.specs.Outcomes.{AnswerView, Work, Answers, Refuses, Judges, worked}
-use Rattle.cli_words.specs.Commands.{CommandLineView, Boot, Info, OwnedData, Explain, Map, Replay, Sweep, Chart, Seal, Elf, Firm, Table, Usage, Help, Release, Uf2, Plan, Load, Copy, ListScript, WriteScript, Gen}
+use Rattle.cli_words.specs.Commands.{CommandLineView, Boot, Info, OwnedData, Explain, Caveats, Map, Replay, Sweep, Chart, Seal, Elf, Firm, Table, OtpFile, Usage, Help, Release, Uf2, Plan, Load, Copy, ListScript, WriteScript, Gen}
 use Rattle.pico_board.specs.declared.boot.Cpu.{Cpu}
 use Rattle.cli_inputs.specs.Forms.{content_of_files}
-use Rattle.cli_inputs.specs.Jsons.{spec_read, table_read}
+use Rattle.cli_inputs.specs.Jsons.{spec_read, table_read, otp_read}
 use Rattle.cli_inputs.specs.Inputs.{of_one, of_two, of_three, of_four, first_input_fault, unless_refused}
 use Rattle.cli_inputs.proofs.InputLemmas.{Judged, one_faulty, judged-first}
 use Rattle.cli_boot.specs.Works.{boot_work, info_work, data_work}
 use Rattle.cli_explain.specs.Works.{explain_work}
+use Rattle.cli_caveats.specs.Works.{caveats_work}
 use Rattle.cli_map.specs.Works.{map_work}
+use Rattle.cli_otp.specs.OtpWords.{otp_work}
 use Rattle.cli_scripts.specs.ReplayWorks.{replay_work}
 use Rattle.cli_scripts.specs.Copies.{copy_work}
 use Rattle.cli_scripts.specs.TextWorks.{list_work, read_work, write_work}
@@ -100,6 +102,8 @@ plain (Info flash otp cpu) h read = on-two (λ f g. info_work (content_of_files 
 plain (OwnedData flash otp cpu kind) h read = on-two (λ f g. data_work (content_of_files f g) cpu kind) (λ f g. tt) read
 plain (Explain flash otp cpu kind) h read =
     on-two (λ f g. explain_work (content_of_files f g) cpu kind) (λ f g. tt) read
+plain (Caveats flash otp cpu kind) h read =
+    on-two (λ f g. caveats_work (content_of_files f g) cpu kind) (λ f g. tt) read
 plain (Map flash otp cpu out) h read = on-two (λ f g. map_work (content_of_files f g) cpu out) (λ f g. tt) read
 plain (Replay flash otp cpu script out_flash out_otp) h read =
     on-three (λ f g s. replay_work (content_of_files f g) cpu s out_flash out_otp) (λ f g s. tt) read
@@ -121,6 +125,9 @@ plain (Firm image cpu) h read = on-one (λ i. firm_work image i cpu) (λ i. firm
 plain (Table json out) h read =
     on-one (λ j. table_work out (table_read j))
     (λ j. by-result (table_work out) (λ t. tt) (λ e. tt) (table_read j)) read
+plain (OtpFile json out) h read =
+    on-one (λ j. otp_work out (otp_read j))
+    (λ j. by-result (otp_work out) (λ spec. tt) (λ e. tt) (otp_read j)) read
 plain (Uf2 image family out) h read = on-one (uf2_work image family out) (λ i. by-test (length i == 0) _ _ tt tt) read
 plain (Plan flash otp cpu image out) h read =
     on-three (λ f g i. plan_work (content_of_files f g) cpu image out i)

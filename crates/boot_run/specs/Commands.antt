@@ -4,14 +4,17 @@
 use Rattle.std.specs.Prelude.{ℕ, Bool, true, false, List, [], Option, Some, None, ◌≡◌, ⊤}
 use Rattle.pico_board.specs.Files.{File}
 use Rattle.cli_course.specs.Outcomes.{LimitedInputView, AnswerView, Work, Answers, not_understood, found, outcome_found, AreOfBytes}
-use Rattle.cli_words.specs.Commands.{CommandLineView, Boot, Info, OwnedData, Explain, Map, Replay, Sweep, Chart, Seal, Elf, Firm, Table, Usage, Help, Release, Uf2, Plan, Copy, ListScript, WriteScript, Gen, Load}
+use Rattle.cli_words.specs.Commands.{CommandLineView, Boot, Info, OwnedData, Explain, Map, Replay, Sweep, Chart, Seal, Elf, Firm, Table, Usage, Help, Release, Uf2, Plan, Copy, ListScript, WriteScript, Gen, Load, Caveats, OtpFile}
 use Rattle.cli_words.specs.Usages.{usage_text, help_text, release_line}
 use Rattle.cli_inputs.specs.Forms.{content_of_files, HasForm}
-use Rattle.cli_inputs.specs.Jsons.{spec_read, table_read}
-use Rattle.cli_inputs.specs.Inputs.{FormInputView, readings, flash_and_otp, flash_otp_script, flash_otp_script_pattern, flash_otp_image, binary_and_spec, elf_and_spec, one_json, image_alone, uf2_alone, script_alone, text_alone, of_one, of_two, of_three, of_four, outcome_by}
+use Rattle.cli_inputs.specs.Jsons.{spec_read, table_read, otp_read}
+use Rattle.cli_inputs.specs.Inputs.{FormInputView, readings, flash_and_otp, flash_otp_script, flash_otp_script_pattern, flash_otp_image, binary_and_spec, elf_and_spec, one_json, otp_told, image_alone, uf2_alone, script_alone, text_alone, of_one, of_two, of_three, of_four, outcome_by}
 use Rattle.cli_boot.specs.Works.{boot_work, info_work, data_work}
 use Rattle.cli_explain.specs.Works.{explain_work}
+use Rattle.cli_caveats.specs.Works.{caveats_work}
 use Rattle.cli_map.specs.Works.{map_work}
+use Rattle.cli_otp.specs.OtpOutcomes.{IsOtpOf}
+use Rattle.cli_otp.specs.OtpWords.{otp_work}
 use Rattle.cli_scripts.specs.ReplayWorks.{replay_work}
 use Rattle.cli_sweep.specs.ChartWorks.{chart_work}
 use Rattle.cli_sweep.specs.FirmWorks.{firm_work}
@@ -35,6 +38,7 @@ use Rattle.cli_inputs.specs.declared.forms.Form.TheVariants.{Flash, Otp}
 use Rattle.cli_inputs.specs.Rules.{OfOne, OfTwo, OfThree, OfFour, IsRefusedFor, IsWorked}
 use Rattle.cli_boot.specs.Rules.{decided_status, IsBootOutcome, IsInfoOutcome, IsDataOutcome}
 use Rattle.cli_explain.specs.Rules.{IsExplainOf}
+use Rattle.cli_caveats.specs.Rules.{IsCaveatsOf}
 use Rattle.cli_map.specs.Rules.{IsMapOf}
 use Rattle.cli_scripts.specs.ReplayRules.{IsReplayOf}
 use Rattle.cli_scripts.specs.TextRules.{IsCopyOf, IsListOf, IsTextRefused, IsWrittenOf}
@@ -50,6 +54,7 @@ inputs_of (Boot flash otp cpu kind) = flash_and_otp flash otp
 inputs_of (Info flash otp cpu) = flash_and_otp flash otp
 inputs_of (OwnedData flash otp cpu kind) = flash_and_otp flash otp
 inputs_of (Explain flash otp cpu kind) = flash_and_otp flash otp
+inputs_of (Caveats flash otp cpu kind) = flash_and_otp flash otp
 inputs_of (Map flash otp cpu out) = flash_and_otp flash otp
 inputs_of (Replay flash otp cpu script out_flash out_otp) = flash_otp_script flash otp script
 inputs_of (Sweep flash otp cpu script pattern) =
@@ -60,6 +65,7 @@ inputs_of (Seal binary spec out) = binary_and_spec binary spec
 inputs_of (Elf elf spec out) = elf_and_spec elf spec
 inputs_of (Firm image cpu) = image_alone image
 inputs_of (Table json out) = one_json json
+inputs_of (OtpFile json out) = otp_told json
 inputs_of (Uf2 image family out) = image_alone image
 inputs_of (Plan flash otp cpu image out) = flash_otp_image flash otp image
 inputs_of (Load flash otp cpu image out) = flash_otp_image flash otp image
@@ -78,6 +84,8 @@ work_of (Info flash otp cpu) = of_two (λ f g. info_work (content_of_files f g) 
 work_of (OwnedData flash otp cpu kind) = of_two (λ f g. data_work (content_of_files f g) cpu kind)
 work_of (Explain flash otp cpu kind) =
     of_two (λ f g. explain_work (content_of_files f g) cpu kind)
+work_of (Caveats flash otp cpu kind) =
+    of_two (λ f g. caveats_work (content_of_files f g) cpu kind)
 work_of (Map flash otp cpu out) = of_two (λ f g. map_work (content_of_files f g) cpu out)
 work_of (Replay flash otp cpu script out_flash out_otp) =
     of_three (λ f g s. replay_work (content_of_files f g) cpu s out_flash out_otp)
@@ -89,6 +97,8 @@ work_of (Seal binary spec out) = of_two (λ b s. seal_work binary spec out b (sp
 work_of (Elf elf spec out) = of_two (λ e s. elf_work elf spec out e (spec_read s))
 work_of (Firm image cpu) = of_one (λ i. firm_work image i cpu)
 work_of (Table json out) = of_one (λ j. table_work out (table_read j))
+work_of (OtpFile json out) =
+    of_one (λ j. otp_work out (otp_read j))
 work_of (Uf2 image family out) = of_one (uf2_work image family out)
 work_of (Plan flash otp cpu image out) =
     of_three (λ f g i. plan_work (content_of_files f g) cpu image out i)
@@ -160,6 +170,8 @@ IsRight (OwnedData flash otp cpu kind) read o =
     OfTwo (λ f g. IsDataOutcome (content_of_files f g) cpu kind o) read
 IsRight (Explain flash otp cpu kind) read o =
     OfTwo (λ f g. IsExplainOf (content_of_files f g) cpu kind o) read
+IsRight (Caveats flash otp cpu kind) read o =
+    OfTwo (λ f g. IsCaveatsOf (content_of_files f g) cpu kind o) read
 IsRight (Map flash otp cpu out) read o =
     OfTwo (λ f g. IsMapOf (content_of_files f g) cpu out o) read
 IsRight (Replay flash otp cpu script out_flash out_otp) read o =
@@ -172,6 +184,8 @@ IsRight (Seal binary spec out) read o = OfTwo (λ b s. IsSealedOf out b s o) rea
 IsRight (Elf elf spec out) read o = OfTwo (λ e s. IsElfOf out e s o) read
 IsRight (Firm image cpu) read o = OfOne (λ i. IsFirmOf i cpu o) read
 IsRight (Table json out) read o = OfOne (λ j. IsTableOf out j o) read
+IsRight (OtpFile json out) read o =
+    OfOne (λ j. IsOtpOf out j o) read
 IsRight (Uf2 image family out) read o = OfOne (λ i. IsUf2Of i family out o) read
 IsRight (Plan flash otp cpu image out) read o =
     OfThree (λ f g i. IsPlanOf (content_of_files f g) cpu i out o) read

@@ -12,15 +12,17 @@ ghost use Rattle.boot_run.specs.Commands.{command_outcome, inputs_of, work_of};
 
 use boot_script::Script;
 use cli_boot::{boot, data, info};
+use cli_caveats::caveats;
 use cli_course::{Answer, told};
 use cli_explain::explain;
 use cli_inputs::{
     Form, FormInput, binary_and_spec, board_files, board_of, elf_and_spec, elf_files,
     first_input_fault, flash_and_otp, flash_otp_image, flash_otp_script, flash_otp_script_pattern,
-    image_alone, image_files, lone_file, one_json, script_alone, script_files, seal_files,
-    sweep_files, text_alone, uf2_alone,
+    image_alone, image_files, lone_file, one_json, otp_in, otp_told, script_alone, script_files,
+    seal_files, sweep_files, text_alone, uf2_alone,
 };
 use cli_map::map_flash;
+use cli_otp::otp;
 use cli_scripts::{copy_uf2, list_script, replay, write_script};
 use cli_sweep::{chart_script, firm_image, sweep_script};
 use cli_tools::{load, made_flash, pack_elf, plan_image, seal_binary, table, uf2};
@@ -40,6 +42,7 @@ pub fn inputs<'a>(
         CommandLine::Info { flash, otp, .. } => flash_and_otp(alloc, flash, otp),
         CommandLine::OwnedData { flash, otp, .. } => flash_and_otp(alloc, flash, otp),
         CommandLine::Explain { flash, otp, .. } => flash_and_otp(alloc, flash, otp),
+        CommandLine::Caveats { flash, otp, .. } => flash_and_otp(alloc, flash, otp),
         CommandLine::Map { flash, otp, .. } => flash_and_otp(alloc, flash, otp),
         CommandLine::Replay {
             flash,
@@ -65,6 +68,7 @@ pub fn inputs<'a>(
         CommandLine::Elf { elf, spec, .. } => elf_and_spec(alloc, elf, spec),
         CommandLine::Firm { image, .. } => image_alone(alloc, image),
         CommandLine::Table { json, .. } => one_json(alloc, json),
+        CommandLine::OtpFile { json, .. } => otp_told(alloc, json),
         CommandLine::Uf2 { image, .. } => image_alone(alloc, image),
         CommandLine::Plan {
             flash,
@@ -124,6 +128,10 @@ fn work<'a>(
             let (flash, otp) = board_files(files);
             explain(alloc, board_of(alloc, flash, &otp)?, *cpu, *kind)
         }
+        CommandLine::Caveats { cpu, kind, .. } => {
+            let (flash, otp) = board_files(files);
+            caveats(alloc, board_of(alloc, flash, &otp)?, *cpu, *kind)
+        }
         CommandLine::Map { cpu, out, .. } => {
             let (flash, otp) = board_files(files);
             map_flash(alloc, board_of(alloc, flash, &otp)?, *cpu, out)
@@ -171,6 +179,10 @@ fn work<'a>(
         CommandLine::Table { out, .. } => {
             let text = lone_file(files, Form::Json);
             table(alloc, &text, out)
+        }
+        CommandLine::OtpFile { out, .. } => {
+            let text = lone_file(files, Form::OtpText);
+            otp(alloc, &otp_in(alloc, &text)?, out)
         }
         CommandLine::Uf2 { image, family, out } => {
             let bytes = lone_file(files, Form::Image);

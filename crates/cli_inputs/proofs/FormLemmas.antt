@@ -4,14 +4,16 @@ use Rattle.std.proofs.lemmas.Bool.{ltb-true, ltb-false, lt-ltb, le-ltb, eqb-true
 use Rattle.std.proofs.lemmas.List.Elements.{All-cons, All-head, All-tail}
 use Rattle.pico_board.specs.Rows.{IsFirstWide}
 use Rattle.cli_inputs.specs.declared.forms.Form.{Form}
-use Rattle.cli_inputs.specs.declared.forms.Form.TheVariants.{Flash, Otp, Script, Pattern, Binary, Spec, Json, Image, Elf, Uf2, Text}
+use Rattle.cli_inputs.specs.declared.forms.Form.TheVariants.{Flash, Otp, Script, Pattern, Binary, Spec, Json, OtpText, Image, Elf, Uf2, Text}
 use Rattle.text_words.specs.Writing.{hex_row}
 use Rattle.cli_inputs.specs.Forms.{limit_of, rows_of, HasForm, AreWholeUf2Blocks, uf2_fault, IsOwnFault, IsFormFault, wide_from, otp_fault, own_fault, form_fault}
-use Rattle.cli_inputs.proofs.JsonLemmas.{spec-gives, table-gives, spec-formed, spec-faulty, spec-exact, spec-apart, table-formed, table-faulty, table-exact, table-apart}
+use Rattle.cli_inputs.proofs.JsonLemmas.{spec-gives, table-gives, spec-formed, spec-faulty, spec-exact, spec-apart, table-formed, table-faulty, table-exact, table-apart, otp-gives, otp-formed as otp-text_formed, otp-text_faulty, otp-text_exact, otp-text_apart}
 use Rattle.image_pack.specs.declared.spec.SealSpec.{SealSpec}
 use Rattle.part_table.specs.declared.table.Table.{Table}
 use Rattle.table_json.specs.declared.fault.JsonFault.{JsonFault}
-use Rattle.cli_inputs.specs.Jsons.{spec_read, table_read}
+use Rattle.table_json.specs.declared.otps.OtpSpec.{OtpSpec}
+use Rattle.table_json.specs.Otps.{otp_answer}
+use Rattle.cli_inputs.specs.Jsons.{spec_read, table_read, otp_read}
 use Rattle.cli_inputs.proofs.ScriptLemmas.{script-none, script-faulty, script-apart, script-exact}
 
 abbrev pub IsNarrow : List ℕ → Type 0
@@ -154,6 +156,7 @@ own-formed Pattern (b ∷ bytes) few h = (λ (e : (b ∷ bytes) ≡ []). cc, few
 own-formed Binary bytes few h = few
 own-formed Spec bytes few h = (few, spec-formed bytes h)
 own-formed Json bytes few h = (few, table-formed bytes h)
+own-formed OtpText bytes few h = (few, otp-text_formed bytes h)
 own-formed Image bytes few h = few
 own-formed Elf bytes few h = few
 own-formed Uf2 bytes few h = (few, uf2-formed bytes h)
@@ -169,6 +172,7 @@ own-faulty Pattern (b ∷ bytes) fault h = cc
 own-faulty Binary bytes fault h = cc
 own-faulty Spec bytes fault h = spec-faulty bytes fault h
 own-faulty Json bytes fault h = table-faulty bytes fault h
+own-faulty OtpText bytes fault h = otp-text_faulty bytes fault h
 own-faulty Image bytes fault h = cc
 own-faulty Elf bytes fault h = cc
 own-faulty Uf2 bytes fault h = uf2-faulty bytes fault h
@@ -210,6 +214,8 @@ form-apart Spec bytes fault form (inl large) = let few = form.0 in let many = la
 form-apart Spec bytes fault form (inr (few, own)) = spec-apart bytes fault form.1.0 form.1.1 own
 form-apart Json bytes fault form (inl large) = let few = form.0 in let many = large.0 in omega arith
 form-apart Json bytes fault form (inr (few, own)) = table-apart bytes fault form.1.0 form.1.1 own
+form-apart OtpText bytes fault form (inl large) = let few = form.0 in let many = large.0 in omega arith
+form-apart OtpText bytes fault form (inr (few, own)) = otp-text_apart bytes fault form.1.0 form.1.1 own
 form-apart Image bytes fault form (inl large) = let few = form in let many = large.0 in omega arith
 form-apart Elf bytes fault form (inl large) = let few = form in let many = large.0 in omega arith
 form-apart Uf2 bytes fault form (inl large) = let few = form.0 in let many = large.0 in omega arith
@@ -242,6 +248,7 @@ own-exact Pattern (b ∷ bytes) fault own = let e : (b ∷ bytes) ≡ [] = own.0
 own-exact Binary bytes fault own = absurd own
 own-exact Spec bytes fault own = spec-exact bytes fault own
 own-exact Json bytes fault own = table-exact bytes fault own
+own-exact OtpText bytes fault own = otp-text_exact bytes fault own
 own-exact Image bytes fault own = absurd own
 own-exact Elf bytes fault own = absurd own
 own-exact Uf2 bytes fault own = uf2-exact bytes fault own
@@ -266,3 +273,9 @@ pub table-never : (bytes : List ℕ) (r : Result Table JsonFault) (f : JsonFault
     → r ≡ table_read bytes → r ≡ Err f → ⊥
 table-never bytes r f form is err =
     let e : Ok form.1.0 ≡ Err f = sym (table-gives bytes form.1.0 form.1.1) ∙ (sym is ∙ err) in cc
+
+pub otp-never : (bytes : List ℕ) (r : Result OtpSpec JsonFault) (f : JsonFault) → HasForm OtpText bytes
+    → otp_answer r ≡ otp_read bytes → r ≡ Err f → ⊥
+otp-never bytes r f form is err =
+    let e : Ok form.1.0 ≡ Err f =
+    sym (otp-gives bytes form.1.0 form.1.1) ∙ (sym is ∙ ap (λ (q : Result OtpSpec JsonFault). otp_answer q) err) in cc

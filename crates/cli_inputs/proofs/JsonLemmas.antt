@@ -14,13 +14,15 @@ use Rattle.part_table.proofs.RuleLemmas.{first_to_rules, rules_to_first, none_to
 use Rattle.image_pack.specs.declared.spec.SealSpec.{SealSpec}
 use Rattle.table_json.specs.declared.fault.JsonFault.{JsonFault}
 use Rattle.table_json.specs.declared.fault.JsonFault.TheVariants.{NotJson, Unknown, Missing, Value, TooLong, Table as Faulty, Memory}
+use Rattle.table_json.specs.declared.otps.OtpSpec.{OtpSpec}
+use Rattle.table_json.specs.Otps.{OtpView, otp_answer, otp_from, otp_spec_from}
 use Rattle.table_json.specs.Seals.{spec_from}
 use Rattle.table_json.specs.Steps.{◌>>=◌}
 use Rattle.table_json.specs.Tables.{table_fields, judged, unless_faulty, table_of_value}
 use Rattle.table_json.specs.Texts.{IsJsonText}
-use Rattle.table_json.proofs.RuleLemmas.{fields_first, spec_first}
+use Rattle.table_json.proofs.RuleLemmas.{fields_first, otp_first, spec_first}
 use Rattle.cli_inputs.specs.JsonTexts.{json_text}
-use Rattle.cli_inputs.specs.Jsons.{IsNoText, IsSpecText, IsTableText, IsSpecFault, IsTableFault, IsTextFault, value_of, read_by, read_fault, spec_read, table_read}
+use Rattle.cli_inputs.specs.Jsons.{IsNoText, IsSpecText, IsTableText, IsOtpText, IsSpecFault, IsTableFault, IsOtpFault, IsTextFault, value_of, read_by, read_fault, spec_read, table_read, otp_read}
 
 -- the value of a text is the one that is read
 value-text : (bytes : List ℕ) (d : Data) → value_of bytes ≡ Some d → IsJsonText bytes d
@@ -110,6 +112,12 @@ spec-wrong d f is = sym (spec_first d) ∙ err-fault (spec_from d) f is
 
 spec-right : (d : Data) (f : JsonFault) → IsSpecFault d f → spec_from d ≡ Err f
 spec-right d f is = err-answer (spec_from d) f (spec_first d ∙ is)
+
+otp-wrong : (d : Data) (f : JsonFault) → otp_from d ≡ Err f → IsOtpFault d f
+otp-wrong d f is = sym (otp_first d) ∙ err-fault (otp_from d) f is
+
+otp-right : (d : Data) (f : JsonFault) → IsOtpFault d f → otp_from d ≡ Err f
+otp-right d f is = err-answer (otp_from d) f (otp_first d ∙ is)
 
 -- the fault of the fields of a table, or of a table that they give
 judged-wrong : (d : Data) (f : JsonFault) (t : Table) → table_fields d ≡ Ok t → judged t ≡ Err f → IsTableFault d f
@@ -254,6 +262,35 @@ pub table-exact : (bytes text : List ℕ) → IsTextFault IsTableFault bytes tex
 unfolding table_read
 table-exact bytes text is = faulty-read table_of_value IsTableFault table-wrong table-right bytes text is
 
+-- the OTP of a text
+pub otp-formed : (bytes : List ℕ) → read_fault (otp_read bytes) ≡ None → (spec : OtpView) × IsOtpText bytes spec
+unfolding otp_read
+otp-formed bytes h =
+    let read_is = none-read otp_from IsOtpFault otp-wrong otp-right bytes h in
+    let given = read-gives otp_from IsOtpFault otp-wrong otp-right bytes read_is.0 read_is.1 in (
+      read_is.0,
+      record {
+        value = given.0;
+        text = given.1;
+        unbroken = sym (otp_first given.0) ∙ ok-fault (otp_from given.0) read_is.0 given.2;
+        gives = given.2;
+      },
+    )
+
+pub otp-gives : (bytes : List ℕ) (spec : OtpView) → IsOtpText bytes spec → otp_read bytes ≡ Ok spec
+unfolding otp_read
+otp-gives bytes spec is = gives-read otp_from IsOtpFault otp-wrong otp-right bytes is.value spec is.text is.gives
+
+pub otp-text_faulty : (bytes text : List ℕ) → read_fault (otp_read bytes) ≡ Some text
+    → IsTextFault IsOtpFault bytes text
+unfolding otp_read
+otp-text_faulty bytes text h = read-faulty otp_from IsOtpFault otp-wrong otp-right bytes text h
+
+pub otp-text_exact : (bytes text : List ℕ) → IsTextFault IsOtpFault bytes text
+    → read_fault (otp_read bytes) ≡ Some text
+unfolding otp_read
+otp-text_exact bytes text is = faulty-read otp_from IsOtpFault otp-wrong otp-right bytes text is
+
 -- what gives a value has no fault
 apart-by : {A : Type 0} (r : Result A JsonFault) (a : A) (text : List ℕ) → r ≡ Ok a → read_fault r ≡ Some text → ⊥
 apart-by (Ok b) a text is h = cc
@@ -268,6 +305,11 @@ pub table-apart : (bytes text : List ℕ) (table : Table) → IsTableText bytes 
     → IsTextFault IsTableFault bytes text → ⊥
 table-apart bytes text table is fault =
     apart-by (table_read bytes) table text (table-gives bytes table is) (table-exact bytes text fault)
+
+pub otp-text_apart : (bytes text : List ℕ) (spec : OtpView) → IsOtpText bytes spec
+    → IsTextFault IsOtpFault bytes text → ⊥
+otp-text_apart bytes text spec is fault =
+    apart-by (otp_read bytes) spec text (otp-gives bytes spec is) (otp-text_exact bytes text fault)
 
 -- what a reader answers is what is read, by what it says of the value
 pub read-exactly : {A : Type 0} (from : Data → Result A JsonFault) (bytes : List ℕ) (r : Result A JsonFault)
@@ -314,3 +356,20 @@ pub exact-table : (bytes : List ℕ) (r : Result Table JsonFault)
     → r ≢ Err Memory → r ≡ table_read bytes
 unfolding table_read
 exact-table bytes r ok err exact some = read-exactly table_of_value bytes r ok err exact some
+
+no-room : (fault : JsonFault) → fault ≢ Memory → (q : Result OtpView JsonFault) → q ≡ Err fault → q ≢ Err Memory
+no-room fault room q is e = let same : fault ≡ Memory = cc in room same
+
+pub exact-otp : (bytes : List ℕ) (r : Result OtpSpec JsonFault)
+    → IfOk r (λ a. (d : Data) × IsJsonText bytes d × (otp_from d ≡ Ok (otp_spec_from a)))
+    → IfErr r (λ f. f ≢ NotJson → f ≢ Memory → (d : Data) × IsJsonText bytes d × (otp_from d ≡ Err f))
+    → ((d : Data) → IsJsonText bytes d → r ≢ Err Memory → otp_answer r ≡ otp_from d)
+    → r ≢ Err Memory → otp_answer r ≡ otp_read bytes
+unfolding otp_read
+exact-otp bytes (Ok spec) ok err exact some =
+    read-exactly otp_from bytes (Ok (otp_spec_from spec)) ok err
+    (λ d is room. exact d is some) (λ (e : Ok (otp_spec_from spec) ≡ Err Memory). cc)
+exact-otp bytes (Err fault) ok err exact some =
+    let room : fault ≢ Memory = λ e. some (ap (λ (f : JsonFault). Err f) e) in
+    read-exactly otp_from bytes (Err fault) ok err
+    (λ d is h. exact d is some) (no-room fault room (Err fault) refl)

@@ -9,12 +9,13 @@ use Rattle.boot_script.specs.declared.event.ScriptError.TheVariants.{TooLarge, R
 use Rattle.boot_script.specs.declared.limits.TheConstants.{SCRIPT_LIMIT}
 use Rattle.boot_script.specs.Judging.{IsScript, IsScriptError, script_error}
 use Rattle.cli_inputs.specs.declared.forms.Form.{Form}
-use Rattle.cli_inputs.specs.declared.forms.Form.TheVariants.{Flash, Otp, Script, Pattern, Binary, Spec, Json, Image, Elf, Uf2, Text}
+use Rattle.cli_inputs.specs.declared.forms.Form.TheVariants.{Flash, Otp, Script, Pattern, Binary, Spec, Json, OtpText, Image, Elf, Uf2, Text}
 use Rattle.cli_inputs.specs.declared.forms.TheConstants.{FLASH_LIMIT, OTP_LIMIT, PATTERN_LIMIT, BINARY_LIMIT, JSON_LIMIT, IMAGE_LIMIT, ELF_LIMIT, UF2_LIMIT, TEXT_LIMIT}
 use Rattle.image_pack.specs.declared.spec.SealSpec.{SealSpec}
 use Rattle.part_table.specs.declared.table.Table.{Table}
+use Rattle.table_json.specs.Otps.{OtpView}
 use Rattle.text_words.specs.Writing.{hex_row}
-use Rattle.cli_inputs.specs.Jsons.{IsSpecText, IsTableText, IsSpecFault, IsTableFault, IsTextFault, spec_read, table_read, read_fault}
+use Rattle.cli_inputs.specs.Jsons.{IsSpecText, IsTableText, IsOtpText, IsSpecFault, IsTableFault, IsOtpFault, IsTextFault, spec_read, table_read, otp_read, read_fault}
 
 -- why bytes are no script, by the offset of the first faulty record where there is one
 abbrev pub script_text : ScriptError → List ℕ
@@ -33,6 +34,7 @@ limit_of Pattern = PATTERN_LIMIT
 limit_of Binary = BINARY_LIMIT
 limit_of Spec = JSON_LIMIT
 limit_of Json = JSON_LIMIT
+limit_of OtpText = JSON_LIMIT
 limit_of Image = IMAGE_LIMIT
 limit_of Elf = ELF_LIMIT
 limit_of Uf2 = UF2_LIMIT
@@ -48,8 +50,8 @@ AreWholeUf2Blocks bytes = (bytes ≢ []) × (length bytes % 512 ≡ 0)
 
 -- a file has its form: a flash file is not empty, an OTP file is of whole rows of 24 bits, a script
 -- has an end among its first records, with no fault before it, a pattern is not empty, a JSON text
--- gives a spec or a table, a UF2 file is one of whole blocks, and none of them is too long; of a
--- binary, an image, an ELF file and the text of a script nothing else is asked
+-- gives a spec, a table or an OTP, a UF2 file is one of whole blocks, and none of them is too long;
+-- of a binary, an image, an ELF file and the text of a script nothing else is asked
 abbrev pub HasForm : Form → List ℕ → Type 0
 HasForm Flash bytes = (bytes ≢ []) × (length bytes ≤ FLASH_LIMIT)
 HasForm Otp bytes =
@@ -59,6 +61,7 @@ HasForm Pattern bytes = (bytes ≢ []) × (length bytes ≤ PATTERN_LIMIT)
 HasForm Binary bytes = length bytes ≤ BINARY_LIMIT
 HasForm Spec bytes = (length bytes ≤ JSON_LIMIT) × ((spec : SealSpec) × IsSpecText bytes spec)
 HasForm Json bytes = (length bytes ≤ JSON_LIMIT) × ((table : Table) × IsTableText bytes table)
+HasForm OtpText bytes = (length bytes ≤ JSON_LIMIT) × ((spec : OtpView) × IsOtpText bytes spec)
 HasForm Image bytes = length bytes ≤ IMAGE_LIMIT
 HasForm Elf bytes = length bytes ≤ ELF_LIMIT
 HasForm Uf2 bytes = (length bytes ≤ UF2_LIMIT) × AreWholeUf2Blocks bytes
@@ -71,8 +74,8 @@ IsTooLarge form bytes fault = (limit_of form < length bytes) × (fault ≡ codes
 -- the fault of a file that is not too long: a flash file is empty; an OTP file has a part of a row
 -- at its end, or has a row of more bits, of which the least is named; a script has a fault among
 -- its first records, or these have neither a fault nor an end; a pattern is empty; a JSON text has
--- the first fault by the rules of a spec or a table; a UF2 file is not of whole blocks; a binary,
--- an image, an ELF file and a text have none
+-- the first fault by the rules of a spec, a table or an OTP; a UF2 file is not of whole blocks; a
+-- binary, an image, an ELF file and a text have none
 abbrev pub IsOwnFault : Form → List ℕ → List ℕ → Type 0
 IsOwnFault Flash bytes fault = (bytes ≡ []) × (fault ≡ codes "empty")
 IsOwnFault Otp bytes fault =
@@ -85,6 +88,7 @@ IsOwnFault Pattern bytes fault = (bytes ≡ []) × (fault ≡ codes "pattern-len
 IsOwnFault Binary bytes fault = ⊥
 IsOwnFault Spec bytes fault = IsTextFault IsSpecFault bytes fault
 IsOwnFault Json bytes fault = IsTextFault IsTableFault bytes fault
+IsOwnFault OtpText bytes fault = IsTextFault IsOtpFault bytes fault
 IsOwnFault Image bytes fault = ⊥
 IsOwnFault Elf bytes fault = ⊥
 IsOwnFault Uf2 bytes fault = (AreWholeUf2Blocks bytes → ⊥) × (fault ≡ codes "uf2-length")
@@ -124,6 +128,7 @@ own_fault Pattern (b ∷ bytes) = None
 own_fault Binary bytes = None
 own_fault Spec bytes = read_fault (spec_read bytes)
 own_fault Json bytes = read_fault (table_read bytes)
+own_fault OtpText bytes = read_fault (otp_read bytes)
 own_fault Image bytes = None
 own_fault Elf bytes = None
 own_fault Uf2 bytes = uf2_fault bytes

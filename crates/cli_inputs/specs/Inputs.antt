@@ -3,7 +3,7 @@ use Rattle.std.specs.Prelude.{ℕ, false, List, [], ◌∷◌, map, Option, Some
 use Rattle.std.specs.Option.{option_or}
 use Rattle.cli_course.specs.Outcomes.{LimitedInputView, AnswerView, Work, Answers, refused, worked}
 use Rattle.cli_inputs.specs.declared.forms.Form.{Form}
-use Rattle.cli_inputs.specs.declared.forms.Form.TheVariants.{Flash, Otp, Script, Pattern, Binary, Spec, Json, Image, Elf, Uf2, Text}
+use Rattle.cli_inputs.specs.declared.forms.Form.TheVariants.{Flash, Otp, Script, Pattern, Binary, Spec, Json, OtpText, Image, Elf, Uf2, Text}
 use Rattle.cli_inputs.specs.Forms.{limit_of, form_fault}
 
 -- an input of a command: its name and its form
@@ -53,6 +53,10 @@ elf_and_spec elf spec = record { name = elf; form = Elf } ∷ record { name = sp
 -- a table's text
 abbrev pub one_json : List ℕ → List FormInputView
 one_json json = record { name = json; form = Json } ∷ []
+
+-- what is told of an OTP
+abbrev pub otp_told : List ℕ → List FormInputView
+otp_told json = record { name = json; form = OtpText } ∷ []
 
 -- an image
 abbrev pub image_alone : List ℕ → List FormInputView

@@ -10,6 +10,8 @@ use Rattle.part_table.specs.Written.{written_size}
 use Rattle.image_pack.specs.declared.spec.SealSpec.{SealSpec}
 use Rattle.table_json.specs.declared.fault.JsonFault.{JsonFault}
 use Rattle.table_json.specs.declared.fault.JsonFault.TheVariants.{NotJson, TooLong, Table as Faulty}
+use Rattle.table_json.specs.Otps.{OtpView, otp_from}
+pub use Rattle.table_json.specs.OtpRules.{IsOtpText, IsOtpFault}
 use Rattle.table_json.specs.Rules.{first_broken, table_rules, spec_rules}
 use Rattle.table_json.specs.Seals.{spec_from}
 use Rattle.table_json.specs.Tables.{table_fields, table_of_value}
@@ -74,6 +76,10 @@ spec_read bytes = read_by spec_from (value_of bytes)
 -- the table of a text, or its first fault
 unfoldable pub table_read : List ℕ → Result Table JsonFault
 table_read bytes = read_by table_of_value (value_of bytes)
+
+-- the OTP of a text, or its first fault
+unfoldable pub otp_read : List ℕ → Result OtpView JsonFault
+otp_read bytes = read_by otp_from (value_of bytes)
 
 -- the text of the fault that was read, if any
 abbrev pub read_fault : {A : Type 0} → Result A JsonFault → Option (List ℕ)

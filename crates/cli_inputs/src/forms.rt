@@ -7,7 +7,7 @@ ghost use Rattle.pico_board.specs.MemBoard.{state_of, new_state};
 ghost use Rattle.boot_script.specs.Judging.{script_error};
 ghost use Rattle.cli_inputs.specs.Forms.{limit_of, form_fault, otp_fault, own_fault, script_text, wide_from, rows_of, HasForm, filled_flash, filled_length, otp_of};
 
-use crate::json::{spec_fault, table_fault};
+use crate::json::{otp_text_fault, spec_fault, table_fault};
 use boot_script::{SCRIPT_LIMIT, Script, ScriptError, ScriptFault};
 use byteorder::{ByteOrder, LittleEndian};
 use pico_board::{BoardError, MOST_FLASH_BYTES, MemBoard};
@@ -57,6 +57,8 @@ pub enum Form {
     Spec,
     /// The JSON text of a partition table.
     Json,
+    /// The JSON text that tells of an OTP.
+    OtpText,
     /// The bytes of an image.
     Image,
     /// An ELF file, of which an image is made.
@@ -78,7 +80,7 @@ impl Form {
             Form::Script => SCRIPT_LIMIT,
             Form::Pattern => PATTERN_LIMIT,
             Form::Binary => BINARY_LIMIT,
-            Form::Spec | Form::Json => JSON_LIMIT,
+            Form::Spec | Form::Json | Form::OtpText => JSON_LIMIT,
             Form::Image => IMAGE_LIMIT,
             Form::Elf => ELF_LIMIT,
             Form::Uf2 => UF2_LIMIT,
@@ -162,6 +164,7 @@ fn own_fault(alloc: Global, form: Form, file: &[u8]) -> Result<Option<String>, A
         Form::Binary => Ok(None),
         Form::Spec => spec_fault(alloc, file),
         Form::Json => table_fault(alloc, file),
+        Form::OtpText => otp_text_fault(alloc, file),
         Form::Uf2 if file.is_empty() || file.len() % 512 != 0 => {
             Ok(Some(String::from_str(alloc, "uf2-length")?))
         }

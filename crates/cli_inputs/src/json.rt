@@ -1,16 +1,18 @@
-//! The faults of JSON texts: of the specs of sealed images, and of tables.
+//! The faults of JSON texts: of the specs of sealed images, of tables, and of OTPs.
 
 ghost use Rattle.std.specs.Prelude.{◌≡◌, ◌≢◌, ◌≤◌, All, None, Ok, Err, IfOk, option_map, string_bytes};
 ghost use Rattle.part_table.specs.Written.{AgreesWithFlags, written_size};
 ghost use Rattle.cli_inputs.specs.declared.forms.Form.{Form};
 ghost use Rattle.cli_inputs.specs.Forms.{HasForm};
 ghost use Rattle.cli_inputs.specs.JsonTexts.{object_text, json_member_text, json_table_fault_text, json_text};
-ghost use Rattle.cli_inputs.specs.Jsons.{spec_read, table_read, read_fault};
+ghost use Rattle.cli_inputs.specs.Jsons.{spec_read, table_read, otp_read, read_fault};
+ghost use Rattle.table_json.specs.Otps.{otp_answer, otp_spec_from};
+ghost use Rattle.table_json.specs.OtpRules.{IsSound};
 
 use image_pack::SealSpec;
 use part_table::{Table, TableFault};
 use std::alloc::{AllocError, Global};
-use table_json::{Field, JsonFault, Place, spec_of, table_of};
+use table_json::{Field, JsonFault, OtpSpec, Place, otp_spec_of, spec_of, table_of};
 
 /// An object of a text.
 fn object_text(alloc: Global, place: Place) -> Result<String, AllocError>
@@ -101,6 +103,14 @@ fn exact_table(alloc: Global, text: &[u8]) -> Result<Table, JsonFault>
     table_of(alloc, text)
 }
 
+/// The OTP of a text, or its first fault, or `Memory`.
+fn exact_otp(alloc: Global, text: &[u8]) -> Result<OtpSpec, JsonFault>
+    ensures value { result ≢ Err JsonFault.Memory → otp_answer result ≡ otp_read text.now }
+    ensures sound { IfOk result (λ spec. IsSound (otp_spec_from spec)) }
+{
+    otp_spec_of(alloc, text)
+}
+
 /// The spec of a text, or its first fault. It fails only where memory is out.
 fn read_spec(alloc: Global, text: &[u8]) -> Result<Result<SealSpec, JsonFault>, AllocError>
     ensures { IfOk result (λ read. read ≡ spec_read text.now) }
@@ -118,6 +128,17 @@ fn read_table(alloc: Global, text: &[u8]) -> Result<Result<Table, JsonFault>, Al
     ensures fits { IfOk result (λ read. IfOk read (λ t. written_size t ≤ 640)) }
 {
     match exact_table(alloc, text) {
+        Err(JsonFault::Memory) => Err(AllocError),
+        read => Ok(read),
+    }
+}
+
+/// The OTP of a text, or its first fault. It fails only where memory is out.
+fn read_otp(alloc: Global, text: &[u8]) -> Result<Result<OtpSpec, JsonFault>, AllocError>
+    ensures value { IfOk result (λ read. otp_answer read ≡ otp_read text.now) }
+    ensures sound { IfOk result (λ read. IfOk read (λ spec. IsSound (otp_spec_from spec))) }
+{
+    match exact_otp(alloc, text) {
         Err(JsonFault::Memory) => Err(AllocError),
         read => Ok(read),
     }
@@ -145,6 +166,17 @@ pub fn table_fault(alloc: Global, text: &[u8]) -> Result<Option<String>, AllocEr
     }
 }
 
+/// The fault of the text of an OTP.
+pub fn otp_text_fault(alloc: Global, text: &[u8]) -> Result<Option<String>, AllocError>
+    ensures { IfOk result
+        (λ fault. option_map string_bytes fault ≡ read_fault (otp_read text.now)) }
+{
+    match read_otp(alloc, text)? {
+        Ok(_) => Ok(None),
+        Err(fault) => Ok(Some(json_text(alloc, fault)?)),
+    }
+}
+
 /// The spec of a text that has its form. It fails only where memory is out.
 pub fn spec_in(alloc: Global, text: &[u8]) -> Result<SealSpec, AllocError>
     requires { HasForm Form.Spec text.now }
@@ -165,6 +197,18 @@ pub fn table_in(alloc: Global, text: &[u8]) -> Result<Table, AllocError>
 {
     match read_table(alloc, text)? {
         Ok(table) => Ok(table),
+        Err(_) => unreachable!(),
+    }
+}
+
+/// What a text that has its form tells of an OTP. It fails only where memory is out.
+pub fn otp_in(alloc: Global, text: &[u8]) -> Result<OtpSpec, AllocError>
+    requires { HasForm Form.OtpText text.now }
+    ensures otp { IfOk result (λ spec. otp_read text.now ≡ Ok (otp_spec_from spec)) }
+    ensures sound { IfOk result (λ spec. IsSound (otp_spec_from spec)) }
+{
+    match read_otp(alloc, text)? {
+        Ok(spec) => Ok(spec),
         Err(_) => unreachable!(),
     }
 }

@@ -20,9 +20,9 @@ pub use inputs::{
     FormInput, board_files, elf_files, first_input_fault, image_files, lone_file, readings,
     script_files, seal_files, sweep_files,
 };
-pub use json::{spec_in, table_in};
+pub use json::{otp_in, spec_in, table_in};
 pub use pool::new_pool;
 pub use shapes::{
     binary_and_spec, elf_and_spec, flash_and_otp, flash_otp_image, flash_otp_script,
-    flash_otp_script_pattern, image_alone, one_json, script_alone, text_alone, uf2_alone,
+    flash_otp_script_pattern, image_alone, one_json, otp_told, script_alone, text_alone, uf2_alone,
 };

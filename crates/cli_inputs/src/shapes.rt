@@ -1,7 +1,7 @@
 //! The inputs of commands, by their names.
 
 ghost use Rattle.std.specs.Prelude.{◌≡◌, IfOk, map};
-ghost use Rattle.cli_inputs.specs.Inputs.{flash_and_otp, flash_otp_script, flash_otp_script_pattern, flash_otp_image, binary_and_spec, elf_and_spec, one_json, image_alone, uf2_alone, script_alone, text_alone};
+ghost use Rattle.cli_inputs.specs.Inputs.{flash_and_otp, flash_otp_script, flash_otp_script_pattern, flash_otp_image, binary_and_spec, elf_and_spec, one_json, otp_told, image_alone, uf2_alone, script_alone, text_alone};
 ghost use Rattle.cli_inputs.specs.Views.{form_input_from};
 
 use crate::forms::Form;
@@ -93,6 +93,13 @@ pub fn one_json<'a>(alloc: Global, json: &'a str) -> Result<Vec<FormInput<'a>>, 
     ensures { IfOk result (λ inputs. map form_input_from inputs.items ≡ one_json json.entry.now) }
 {
     Ok(vec![in alloc; input(json, Form::Json)]?)
+}
+
+/// What is told of an OTP, as an input. It fails only where memory is out.
+pub fn otp_told<'a>(alloc: Global, json: &'a str) -> Result<Vec<FormInput<'a>>, AllocError>
+    ensures { IfOk result (λ inputs. map form_input_from inputs.items ≡ otp_told json.entry.now) }
+{
+    Ok(vec![in alloc; input(json, Form::OtpText)]?)
 }
 
 /// An image as an input. It fails only where memory is out.

@@ -24,6 +24,7 @@ pub data CommandLineView : Type 0 where
   Info : (flash otp : List ℕ) → (cpu : Cpu) → CommandLineView
   OwnedData : (flash otp : List ℕ) → (cpu : Cpu) → (kind : BootKind) → CommandLineView
   Explain : (flash otp : List ℕ) → (cpu : Cpu) → (kind : BootKind) → CommandLineView
+  Caveats : (flash otp : List ℕ) → (cpu : Cpu) → (kind : BootKind) → CommandLineView
   Map : (flash otp : List ℕ) → (cpu : Cpu) → (out : List ℕ) → CommandLineView
   Replay : (flash otp : List ℕ) → (cpu : Cpu) → (script out_flash out_otp : List ℕ)
       → CommandLineView
@@ -33,6 +34,7 @@ pub data CommandLineView : Type 0 where
   Elf : (elf spec out : List ℕ) → CommandLineView
   Firm : (image : List ℕ) → (cpu : Cpu) → CommandLineView
   Table : (json out : List ℕ) → CommandLineView
+  OtpFile : (json out : List ℕ) → CommandLineView
   Uf2 : (image : List ℕ) → (family : ℕ) → (out : List ℕ) → CommandLineView
   Plan : (flash otp : List ℕ) → (cpu : Cpu) → (image out : List ℕ) → CommandLineView
   Load : (flash otp : List ℕ) → (cpu : Cpu) → (image out : List ℕ) → CommandLineView
@@ -110,6 +112,8 @@ built verbs.Boot words v = Boot (word_at 0 words) (word_at 1 words) v.cpu v.kind
 built verbs.Info words v = Info (word_at 0 words) (word_at 1 words) v.cpu
 built verbs.OwnedData words v = OwnedData (word_at 0 words) (word_at 1 words) v.cpu v.kind
 built verbs.Explain words v = Explain (word_at 0 words) (word_at 1 words) v.cpu v.kind
+built verbs.Caveats words v =
+    Caveats (word_at 0 words) (word_at 1 words) v.cpu v.kind
 built verbs.Map words v = Map (word_at 0 words) (word_at 1 words) v.cpu (word_at 3 words)
 built verbs.Replay words v =
     Replay (word_at 0 words) (word_at 1 words) v.cpu (word_at 3 words) (word_at 4 words)
@@ -123,6 +127,8 @@ built verbs.Seal words v = Seal (word_at 0 words) (word_at 1 words) (word_at 2 w
 built verbs.Elf words v = Elf (word_at 0 words) (word_at 1 words) (word_at 2 words)
 built verbs.Firm words v = Firm (word_at 0 words) v.cpu
 built verbs.Table words v = Table (word_at 0 words) (word_at 1 words)
+built verbs.OtpFile words v =
+    OtpFile (word_at 0 words) (word_at 1 words)
 built verbs.Uf2 words v = Uf2 (word_at 0 words) v.family (word_at 2 words)
 built verbs.Plan words v =
     Plan (word_at 0 words) (word_at 1 words) v.cpu (word_at 3 words) (word_at 4 words)
@@ -166,6 +172,8 @@ command_from (words.Boot flash otp cpu kind) = Boot flash.now otp.now cpu kind
 command_from (words.Info flash otp cpu) = Info flash.now otp.now cpu
 command_from (words.OwnedData flash otp cpu kind) = OwnedData flash.now otp.now cpu kind
 command_from (words.Explain flash otp cpu kind) = Explain flash.now otp.now cpu kind
+command_from (words.Caveats flash otp cpu kind) =
+    Caveats flash.now otp.now cpu kind
 command_from (words.Map flash otp cpu out) = Map flash.now otp.now cpu out.now
 command_from (words.Replay flash otp cpu script out_flash out_otp) =
     Replay flash.now otp.now cpu script.now out_flash.now out_otp.now
@@ -177,6 +185,8 @@ command_from (words.Seal binary spec out) = Seal binary.now spec.now out.now
 command_from (words.Elf elf spec out) = Elf elf.now spec.now out.now
 command_from (words.Firm image cpu) = Firm image.now cpu
 command_from (words.Table json out) = Table json.now out.now
+command_from (words.OtpFile json out) =
+    OtpFile json.now out.now
 command_from (words.Uf2 image family out) = Uf2 image.now family out.now
 command_from (words.Plan flash otp cpu image out) =
     Plan flash.now otp.now cpu image.now out.now

@@ -63,7 +63,7 @@ word_note kinds.Elf =
 word_note kinds.Spec =
     codes "SPEC    a JSON text of at most 65536 bytes: processor, version, rollback, rows and trial\n        of the image; those of the binary, and its window delta, are lost, also if left out\n"
 word_note kinds.Json =
-    codes "JSON    a JSON text of at most 65536 bytes: version, singleton, unpartitioned and partitions\n"
+    codes "JSON    a JSON text of at most 65536 bytes: for table version, singleton, unpartitioned and\n        partitions; for otp rollback_required, flash_off, slot_size and rows\n"
 word_note kinds.Image =
     codes "IMAGE   a file of 1 to 16777216 bytes; for plan and load at most as many as there is room for\n"
 word_note kinds.Uf2 =
@@ -75,7 +75,7 @@ word_note kinds.Family =
 word_note kinds.Number =
     codes "N       a number below 4294967296, of 1 to 10 decimal digits\n"
 word_note kinds.Out =
-    codes "OUT     a file to write: the sealed image; the first sector of a flash with the table; the UF2 file,\n        in blocks of 512 bytes; the script; or the picture\n"
+    codes "OUT     a file to write: the sealed image; the first sector of a flash with the table; the OTP file;\n        the UF2 file, in blocks of 512 bytes; the script; or the picture\n"
 word_note kinds.Command =
     codes "COMMAND  the first word of a line above\n"
 
@@ -104,6 +104,12 @@ row_of verbs.Explain =
       name = codes "explain";
       words = kinds.Flash ∷ kinds.Otp ∷ kinds.Cpu ∷ kinds.Kind ∷ [];
       does = codes "why a boot decides so: each table, partition, unit and image";
+    }
+row_of verbs.Caveats =
+    record {
+      name = codes "caveats";
+      words = kinds.Flash ∷ kinds.Otp ∷ kinds.Cpu ∷ kinds.Kind ∷ [];
+      does = codes "the same as boot, and where the chip may decide otherwise";
     }
 row_of verbs.Map =
     record {
@@ -152,6 +158,12 @@ row_of verbs.Table =
       name = codes "table";
       words = kinds.Json ∷ kinds.Out ∷ [];
       does = codes "the partition table of a text, as the first sector of a flash";
+    }
+row_of verbs.OtpFile =
+    record {
+      name = codes "otp";
+      words = kinds.Json ∷ kinds.Out ∷ [];
+      does = codes "the OTP file of a board that is told in words";
     }
 row_of verbs.Uf2 =
     record {

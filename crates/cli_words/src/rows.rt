@@ -125,7 +125,8 @@ impl Word {
 "
             }
             Word::Json => {
-                "JSON    a JSON text of at most 65536 bytes: version, singleton, unpartitioned and partitions
+                "JSON    a JSON text of at most 65536 bytes: for table version, singleton, unpartitioned and
+        partitions; for otp rollback_required, flash_off, slot_size and rows
 "
             }
             Word::Image => {
@@ -149,8 +150,8 @@ impl Word {
 "
             }
             Word::Out => {
-                "OUT     a file to write: the sealed image; the first sector of a flash with the table; the UF2 file,
-        in blocks of 512 bytes; the script; or the picture
+                "OUT     a file to write: the sealed image; the first sector of a flash with the table; the OTP file;
+        the UF2 file, in blocks of 512 bytes; the script; or the picture
 "
             }
             Word::Command => {
@@ -172,6 +173,8 @@ pub enum Verb {
     OwnedData,
     /// Why a boot decides as it does.
     Explain,
+    /// Where the model and the chip may part on a boot.
+    Caveats,
     /// A picture of a flash.
     Map,
     /// What a script does to a machine.
@@ -188,6 +191,8 @@ pub enum Verb {
     Firm,
     /// The partition table of a text.
     Table,
+    /// The OTP file of a board that is told in words.
+    OtpFile,
     /// The UF2 file of an image.
     Uf2,
     /// The script that writes an image to where a download goes.
@@ -251,6 +256,11 @@ impl Verb {
                 words: &[Word::Flash, Word::Otp, Word::Cpu, Word::Kind],
                 does: "why a boot decides so: each table, partition, unit and image",
             },
+            Verb::Caveats => Row {
+                name: "caveats",
+                words: &[Word::Flash, Word::Otp, Word::Cpu, Word::Kind],
+                does: "the same as boot, and where the chip may decide otherwise",
+            },
             Verb::Map => Row {
                 name: "map",
                 words: &[Word::Flash, Word::Otp, Word::Cpu, Word::Out],
@@ -310,6 +320,11 @@ impl Verb {
                 name: "table",
                 words: &[Word::Json, Word::Out],
                 does: "the partition table of a text, as the first sector of a flash",
+            },
+            Verb::OtpFile => Row {
+                name: "otp",
+                words: &[Word::Json, Word::Out],
+                does: "the OTP file of a board that is told in words",
             },
             Verb::Uf2 => Row {
                 name: "uf2",
@@ -376,11 +391,12 @@ impl Verb {
 }
 
 /// The rows, in the order of the usage.
-pub const VERBS: [Verb; 24] = [
+pub const VERBS: [Verb; 26] = [
     Verb::Boot,
     Verb::Info,
     Verb::OwnedData,
     Verb::Explain,
+    Verb::Caveats,
     Verb::Map,
     Verb::Replay,
     Verb::Sweep,
@@ -389,6 +405,7 @@ pub const VERBS: [Verb; 24] = [
     Verb::Elf,
     Verb::Firm,
     Verb::Table,
+    Verb::OtpFile,
     Verb::Uf2,
     Verb::Plan,
     Verb::Load,

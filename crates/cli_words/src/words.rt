@@ -37,6 +37,13 @@ pub enum CommandLine<'a> {
         cpu: Cpu,
         kind: BootKind,
     },
+    /// Where the model and the chip may part on a boot.
+    Caveats {
+        flash: &'a str,
+        otp: &'a str,
+        cpu: Cpu,
+        kind: BootKind,
+    },
     /// A picture of a flash.
     Map {
         flash: &'a str,
@@ -89,6 +96,11 @@ pub enum CommandLine<'a> {
     },
     /// The partition table of a text.
     Table {
+        json: &'a str,
+        out: &'a str,
+    },
+    /// The OTP file of a board that is told in words.
+    OtpFile {
         json: &'a str,
         out: &'a str,
     },
@@ -180,6 +192,12 @@ fn built<'a>(verb: Verb, words: &'a [String], values: Values) -> CommandLine<'a>
             cpu: values.cpu,
             kind: values.kind,
         },
+        Verb::Caveats => CommandLine::Caveats {
+            flash: word_at(words, 0),
+            otp: word_at(words, 1),
+            cpu: values.cpu,
+            kind: values.kind,
+        },
         Verb::Map => CommandLine::Map {
             flash: word_at(words, 0),
             otp: word_at(words, 1),
@@ -224,6 +242,10 @@ fn built<'a>(verb: Verb, words: &'a [String], values: Values) -> CommandLine<'a>
             cpu: values.cpu,
         },
         Verb::Table => CommandLine::Table {
+            json: word_at(words, 0),
+            out: word_at(words, 1),
+        },
+        Verb::OtpFile => CommandLine::OtpFile {
             json: word_at(words, 0),
             out: word_at(words, 1),
         },

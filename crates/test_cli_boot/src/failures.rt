@@ -7,11 +7,12 @@ use std::test::Fail;
 use test_fixtures::{ARM_1_0, PAIR, VECTORS, elf_file, flash, words};
 
 /// The words of each command that reads a file or writes one, its reads, and its writes.
-const COMMANDS: [(&[&str], u64, u64); 19] = [
+const COMMANDS: [(&[&str], u64, u64); 21] = [
     (&["boot", "f", "o", "arm", "normal"], 2, 0),
     (&["info", "f", "o", "arm"], 2, 0),
     (&["data", "f", "o", "arm", "normal"], 2, 0),
     (&["explain", "f", "o", "arm", "normal"], 2, 0),
+    (&["caveats", "f", "o", "arm", "normal"], 2, 0),
     (&["map", "f", "o", "arm", "a"], 2, 1),
     (&["replay", "f", "o", "arm", "s", "a", "b"], 3, 2),
     (&["sweep", "f", "o", "arm", "s", "t"], 4, 0),
@@ -20,6 +21,7 @@ const COMMANDS: [(&[&str], u64, u64); 19] = [
     (&["elf", "e", "p", "a"], 2, 1),
     (&["firm", "i", "arm"], 1, 0),
     (&["table", "t", "a"], 1, 1),
+    (&["otp", "j", "a"], 1, 1),
     (&["uf2", "i", "rp2350-arm-s", "a"], 1, 1),
     (&["plan", "f", "o", "arm", "i", "a"], 3, 1),
     (&["load", "f", "o", "arm", "i", "a"], 3, 1),
@@ -29,8 +31,8 @@ const COMMANDS: [(&[&str], u64, u64); 19] = [
     (&["gen", "7"], 0, 0),
 ];
 
-/// A store of a flash, an OTP, a script, an image, an ELF file, a spec, a table, a UF2 file and a
-/// text, whose listed read and write fail.
+/// A store of a flash, an OTP, a script, an image, an ELF file, a spec, a table, a UF2 file, a
+/// text and what is told of an OTP, whose listed read and write fail.
 fn store(alloc: Global, bad_read: u64, bad_write: u64) -> Result<MemStore, Fail> {
     let parts: [(usize, &[u32]); 3] = [(0, &PAIR), (0x2000, &VECTORS), (0x2100, &ARM_1_0)];
     let image: [(usize, &[u32]); 2] = [(0, &VECTORS), (0x100, &ARM_1_0)];
@@ -56,6 +58,10 @@ fn store(alloc: Global, bad_read: u64, bad_write: u64) -> Result<MemStore, Fail>
         (
             String::from_str(alloc, "t")?,
             Vec::from_slice(alloc, table)?
+        ),
+        (
+            String::from_str(alloc, "j")?,
+            Vec::from_slice(alloc, b"{}".as_slice())?
         ),
     ]?;
     let bad_reads = vec![in alloc; bad_read]?;

@@ -4,7 +4,7 @@
 ghost use Rattle.std.specs.Prelude.{◌≡◌, [], ◌∷◌, codes, Some, None};
 ghost use Rattle.pico_board.specs.declared.boot.Cpu.TheVariants.{Arm};
 ghost use Rattle.pico_board.specs.declared.boot.BootKind.TheVariants.{Normal};
-ghost use Rattle.cli_words.specs.Commands.{Table, Boot, Info, OwnedData, Replay, Seal, Elf, Uf2, Plan, Load};
+ghost use Rattle.cli_words.specs.Commands.{Table, OtpFile, Boot, Caveats, Info, OwnedData, Replay, Seal, Elf, Uf2, Plan, Load};
 ghost use Rattle.boot_run.specs.Commands.{Names, command_outcome, outcome_on};
 ghost use Rattle.boot_run.specs.Examples.{no_start, sink_of};
 ghost use Rattle.cli_course.specs.Outcomes.{refused, unread, not_understood};
@@ -18,6 +18,8 @@ pub fn first_faults()
     ensures otp { command_outcome (Info (codes "f") (codes "o") Arm) ((0 ∷ []) ∷ (0 ∷ []) ∷ [])
         ≡ refused (codes "o") (codes "otp-length") }
     ensures data { command_outcome (OwnedData (codes "f") (codes "o") Arm Normal)
+        ([] ∷ (0 ∷ []) ∷ []) ≡ refused (codes "f") (codes "empty") }
+    ensures caveats { command_outcome (Caveats (codes "f") (codes "o") Arm Normal)
         ([] ∷ (0 ∷ []) ∷ []) ≡ refused (codes "f") (codes "empty") }
     ensures replay_flash { command_outcome
         (Replay (codes "f") (codes "o") Arm (codes "s") (codes "a") (codes "b"))
@@ -45,6 +47,8 @@ pub fn refusals_of_sealings()
         ≡ refused (codes "s") (codes "missing top processor") }
     ensures table { command_outcome (Table (codes "t") (codes "a")) (codes "[]" ∷ [])
         ≡ refused (codes "t") (codes "value top partitions") }
+    ensures otp { command_outcome (OtpFile (codes "t") (codes "a")) (codes "{\"x\":1}" ∷ [])
+        ≡ refused (codes "t") (codes "unknown top") }
 {}
 
 /// An image is refused by the first fault, under its own name, behind the faults of the forms.

@@ -6,7 +6,7 @@ ghost use Rattle.pico_board.specs.declared.boot.Cpu.{Cpu};
 ghost use Rattle.pico_board.specs.declared.boot.BootKind.{BootKind};
 ghost use Rattle.pico_board.specs.Files.{File};
 ghost use Rattle.cli_course.specs.declared.status.Status.TheVariants.{Input, Bootsel};
-ghost use Rattle.cli_words.specs.Commands.{CommandLineView, Boot, OwnedData};
+ghost use Rattle.cli_words.specs.Commands.{CommandLineView, Boot, Caveats, OwnedData};
 ghost use Rattle.cli_inputs.specs.Inputs.{readings};
 ghost use Rattle.cli_course.specs.Outcomes.{AnswerView, found};
 ghost use Rattle.boot_run.specs.Commands.{inputs_of, command_outcome, outcome_on, Obeys, FallsOn, NeedsBytes, IsRefusedCommand, judges, is_verdict};
@@ -37,6 +37,9 @@ pub fn statuses_come_exactly()
         ↔ FallsOn f g cpu kind }
     ensures data { (flash otp f g : List ℕ) (cpu : Cpu) (kind : BootKind)
         → ((command_outcome (OwnedData flash otp cpu kind) (f ∷ g ∷ [])).status ≡ Bootsel)
+        ↔ FallsOn f g cpu kind }
+    ensures caveats { (flash otp f g : List ℕ) (cpu : Cpu) (kind : BootKind)
+        → ((command_outcome (Caveats flash otp cpu kind) (f ∷ g ∷ [])).status ≡ Bootsel)
         ↔ FallsOn f g cpu kind }
     ensures verdict { (command : CommandLineView) (read : List (List ℕ))
         → length read ≡ length (inputs_of command) → judges command ≡ false

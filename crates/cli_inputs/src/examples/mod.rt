@@ -4,7 +4,7 @@
 ghost use Rattle.std.specs.Prelude.{◌≡◌, ◌*◌, [], ◌∷◌, ◌++◌, codes, replicate, slice_get, Some, None, true, false};
 ghost use Rattle.part_table.specs.declared.table.TableFault.TheVariants.{Overlap, BadItem, Permissions, Range, Link, Hash};
 ghost use Rattle.cli_course.specs.Outcomes.{Answers, Refuses};
-ghost use Rattle.cli_inputs.specs.declared.forms.Form.TheVariants.{Flash, Otp, Script, Pattern, Binary, Spec, Json, Image, Elf, Uf2, Text};
+ghost use Rattle.cli_inputs.specs.declared.forms.Form.TheVariants.{Flash, Otp, Script, Pattern, Binary, Spec, Json, Image, Elf, Uf2, Text, OtpText};
 ghost use Rattle.boot_script.specs.declared.event.ScriptError.TheVariants.{TooMany};
 ghost use Rattle.cli_inputs.specs.Forms.{limit_of, form_fault, script_text, filled_flash, filled_length, rows_of, otp_of};
 ghost use Rattle.cli_inputs.specs.Inputs.{of_one, of_two, of_three, of_four};
@@ -108,6 +108,10 @@ pub fn forms_of_texts()
     ensures list { form_fault Json (codes "[]") ≡ Some (codes "value top partitions") }
     ensures list_of_spec { form_fault Spec (codes "[]") ≡ Some (codes "value top processor") }
     ensures unknown { form_fault Json (codes "{\"x\":1}") ≡ Some (codes "unknown top") }
+    ensures otp { form_fault OtpText (codes "{}") ≡ None }
+    ensures list_of_otp { form_fault OtpText (codes "[]")
+        ≡ Some (codes "value top rollback_required") }
+    ensures otp_unknown { form_fault OtpText (codes "{\"x\":1}") ≡ Some (codes "unknown top") }
 {}
 
 /// An image has a bound, and no byte is no fault of its form.

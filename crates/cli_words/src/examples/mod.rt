@@ -4,7 +4,7 @@
 ghost use Rattle.std.specs.Prelude.{◌≡◌, [], ◌∷◌, ◌++◌, codes, Some, None};
 ghost use Rattle.pico_board.specs.declared.boot.Cpu.TheVariants.{Arm, Riscv};
 ghost use Rattle.pico_board.specs.declared.boot.BootKind.TheVariants.{Normal, Bootsel as AskBootsel, Update};
-ghost use Rattle.cli_words.specs.Commands.{Table, command_of, boot_kind_of, Boot, Info, OwnedData, Explain, Map, Replay, Usage, Help, Release, Sweep, Chart, Seal, Elf, Firm, Uf2, Plan, Load, Copy, ListScript, WriteScript, Gen};
+ghost use Rattle.cli_words.specs.Commands.{Table, OtpFile, command_of, boot_kind_of, Boot, Info, OwnedData, Explain, Caveats, Map, Replay, Usage, Help, Release, Sweep, Chart, Seal, Elf, Firm, Uf2, Plan, Load, Copy, ListScript, WriteScript, Gen};
 ghost use Rattle.cli_words.specs.declared.rows.TheConstants.{STATUSES};
 ghost use Rattle.cli_words.specs.declared.rows.Verb.TheVariants as verbs;
 ghost use Rattle.cli_words.specs.Rows.{row_of};
@@ -27,6 +27,9 @@ pub fn words_of_commands()
     ensures explain { command_of
         (codes "explain" ∷ codes "f" ∷ codes "o" ∷ codes "riscv" ∷ codes "bootsel" ∷ [])
         ≡ Some (Explain (codes "f") (codes "o") Riscv AskBootsel) }
+    ensures caveats { command_of
+        (codes "caveats" ∷ codes "f" ∷ codes "o" ∷ codes "riscv" ∷ codes "normal" ∷ [])
+        ≡ Some (Caveats (codes "f") (codes "o") Riscv Normal) }
     ensures map { command_of
         (codes "map" ∷ codes "f" ∷ codes "o" ∷ codes "riscv" ∷ codes "a" ∷ [])
         ≡ Some (Map (codes "f") (codes "o") Riscv (codes "a")) }
@@ -112,6 +115,8 @@ pub fn words_of_sealings()
         ≡ Some (Seal (codes "b") (codes "s") (codes "a")) }
     ensures table { command_of (codes "table" ∷ codes "t" ∷ codes "a" ∷ [])
         ≡ Some (Table (codes "t") (codes "a")) }
+    ensures otp { command_of (codes "otp" ∷ codes "t" ∷ codes "a" ∷ [])
+        ≡ Some (OtpFile (codes "t") (codes "a")) }
     ensures elf { command_of (codes "elf" ∷ codes "e" ∷ codes "s" ∷ codes "a" ∷ [])
         ≡ Some (Elf (codes "e") (codes "s") (codes "a")) }
     ensures elf_of_three { command_of (codes "elf" ∷ codes "e" ∷ codes "s" ∷ []) ≡ None }

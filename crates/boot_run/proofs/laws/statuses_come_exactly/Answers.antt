@@ -1,6 +1,7 @@
 use Rattle.boot_rules.specs.Choosing.{decision_in}
 use Rattle.cli_inputs.specs.Forms.{content_of_files}
 use Rattle.cli_boot.specs.Works.{boot_work, data_work}
+use Rattle.cli_caveats.specs.Works.{caveats_work}
 use Rattle.cli_course.specs.Outcomes.{worked}
 use Rattle.boot_run.proofs.RuleLemmas.{refused-exactly, falls-exactly}
 use Rattle.boot_run.proofs.VerdictLemmas.{no-verdict}
@@ -18,6 +19,11 @@ returns-clause-boot c = λ flash otp f g cpu kind.
 pub returns-clause-data : goal.returns-clause-data
 returns-clause-data c = λ flash otp f g cpu kind.
     falls-exactly flash otp f g cpu kind (worked (data_work (content_of_files f g) cpu kind))
+    (fall-status (decision_in (content_of_files f g) cpu kind))
+
+pub returns-clause-caveats : goal.returns-clause-caveats
+returns-clause-caveats c = λ flash otp f g cpu kind.
+    falls-exactly flash otp f g cpu kind (worked (caveats_work (content_of_files f g) cpu kind))
     (fall-status (decision_in (content_of_files f g) cpu kind))
 
 pub returns-clause-verdict : goal.returns-clause-verdict

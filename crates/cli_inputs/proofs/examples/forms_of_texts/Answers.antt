@@ -1,7 +1,7 @@
 use Rattle.std.proofs.Common.{refl}
 use Rattle.std.specs.Str.{is_utf8, chars}
 use Rattle.serde_json.proofs.OnLiterals.{serde_json_on_literals}
-use Rattle.cli_inputs.specs.Jsons.{spec_read, table_read}
+use Rattle.cli_inputs.specs.Jsons.{spec_read, table_read, otp_read}
 use Rattle.cli_inputs.proofs.examples.forms_of_texts.Goals as goal
 
 pub returns-clause-empty : goal.returns-clause-empty
@@ -31,3 +31,15 @@ returns-clause-list_of_spec c = refl
 pub returns-clause-unknown : goal.returns-clause-unknown
 unfolding serde_json_on_literals is_utf8 chars spec_read table_read
 returns-clause-unknown c = refl
+
+pub returns-clause-otp : goal.returns-clause-otp
+unfolding serde_json_on_literals is_utf8 chars otp_read
+returns-clause-otp c = refl
+
+pub returns-clause-list_of_otp : goal.returns-clause-list_of_otp
+unfolding serde_json_on_literals is_utf8 chars otp_read
+returns-clause-list_of_otp c = refl
+
+pub returns-clause-otp_unknown : goal.returns-clause-otp_unknown
+unfolding serde_json_on_literals is_utf8 chars otp_read
+returns-clause-otp_unknown c = refl
