@@ -12,7 +12,7 @@ use Rattle.boot_cuts.specs.Runs.{runs_of}
 use Rattle.boot_cuts.specs.Traces.{trace, trace_steps}
 
 -- the most steps of a trace whose cuts are judged
-unfoldable pub trace_limit : ℕ
+abbrev pub trace_limit : ℕ
 trace_limit = 262144
 
 -- the trace of a script has at most so many steps

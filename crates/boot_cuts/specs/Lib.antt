@@ -7,3 +7,7 @@ pub mod Answers
 pub mod Runs
 pub mod Kinds
 pub mod Found
+pub mod Tracing
+pub mod Moving
+pub mod Playing
+pub mod Judging

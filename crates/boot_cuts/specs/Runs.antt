@@ -1,10 +1,11 @@
 -- Runs of cuts: as many cuts, one after the other, as have one class and one decision.
-use Rattle.std.specs.Prelude.{◌≡◌, ◌≢◌, ⊤, ℕ, ◌+◌, ◌≤◌, ◌&&◌, Bool, true, false, if◌then◌else◌, List, [], ◌∷◌, length, slice_get, Some}
+use Rattle.std.specs.Prelude.{◌≡◌, ◌≢◌, ⊤, ℕ, ◌+◌, ◌≤◌, ◌&&◌, Bool, true, false, if◌then◌else◌, List, [], ◌∷◌, ◌++◌, length, slice_get, Option, Some, None}
 use Rattle.boot_sweep.specs.Comparing.{is_same_decision}
 use Rattle.boot_cuts.specs.declared.answers.Answer.{Answer}
 use Rattle.boot_cuts.specs.declared.answers.Class.{Class}
 use Rattle.boot_cuts.specs.declared.answers.Class.TheVariants.{Former, Finished, Neither}
 use Rattle.boot_cuts.specs.declared.runs.Run.{Run}
+use Rattle.boot_cuts.specs.declared.runs.Runs.{Runs}
 
 -- each cut of a run has its answer
 pub record IsRun (answers : List Answer) (run : Run) : Type 0 where
@@ -63,3 +64,27 @@ runs_behind run k (answer ∷ answers) =
 abbrev pub runs_of : List Answer → List Run
 runs_of [] = []
 runs_of (answer ∷ answers) = runs_behind (lone_run 0 answer) 1 answers
+
+-- the run that ends before the cut k, if one does, and the one that the cut belongs to
+abbrev pub run_after : Run → ℕ → Answer → Option Run × Run
+run_after run k answer =
+    if is_same_answer answer run.answer then (None, longer_run run k)
+    else (Some run, lone_run k answer)
+
+abbrev pub next_runs : Option Run → ℕ → Answer → Option Run × Run
+next_runs None k answer = (None, lone_run k answer)
+next_runs (Some run) k answer = run_after run k answer
+
+abbrev pub option_list : {A : Type 0} → Option A → List A
+option_list None = []
+option_list (Some x) = x ∷ []
+
+-- the runs of the cuts from k on, the first of which may belong to a run that goes on
+abbrev pub open_runs : Option Run → ℕ → List Answer → List Run
+open_runs None k [] = []
+open_runs None k (answer ∷ answers) = runs_behind (lone_run k answer) (k + 1) answers
+open_runs (Some run) k answers = runs_behind run k answers
+
+-- all runs, where cuts with these answers follow
+abbrev pub all_runs : Runs → List Answer → List Run
+all_runs runs answers = runs.ended.items ++ open_runs runs.current runs.next answers

@@ -1,9 +1,29 @@
 //! What is found of the cuts of a script.
 
+ghost use Rattle.std.specs.Prelude.{◌≡◌, true, IfOk, List};
+ghost use Rattle.pico_board.specs.Cuts.{IsPattern};
+ghost use Rattle.pico_board.specs.MemBoard.{state_of};
+ghost use Rattle.sector_pool.specs.Pool.{HasFree};
+ghost use Rattle.boot_script.specs.Events.{EventView};
+ghost use Rattle.boot_script.specs.Scripts.{script_events};
+ghost use Rattle.boot_session.specs.Standing.{IsUnarmed};
+ghost use Rattle.boot_cuts.specs.Found.{AreCutsFound, AreCutsOf};
+ghost use Rattle.boot_cuts.specs.Moving.{done_steps, moves_from};
+ghost use Rattle.boot_cuts.specs.Playing.{IsTraceOf};
+
 use crate::answers::Class;
+use crate::copying::copy_of;
+use crate::judging::{Ends, answer_on};
+use crate::moves::Move;
+use crate::playing::trace_on;
 use crate::runs::Run;
-use boot_rules::Decision;
-use pico_board::Step;
+use crate::trace::Trace;
+use crate::walking::runs_on;
+use boot_rules::{Decision, decide};
+use boot_script::Script;
+use pico_board::{BootKind, Cpu, MemBoard, Step};
+use sector_pool::SectorPool;
+use std::alloc::{AllocError, Global};
 
 /// What is found of the cuts of a script.
 #[derive(Drop)]
@@ -18,4 +38,84 @@ pub struct Cuts {
     pub finished: Decision,
     /// The class of what the script leaves.
     pub end_: Class,
+}
+
+/// The steps that complete.
+fn steps_of(alloc: Global, moves: &[Move<'_>]) -> Result<Vec<Step>, AllocError>
+    ensures { IfOk result (λ steps. steps.items ≡ done_steps (moves_from moves.now)) }
+{
+    let mut steps = Vec::new(alloc);
+    for moved in moves {
+        if let Move::Done(step) = moved {
+            steps.push(*step)?;
+        }
+    }
+    Ok(steps)
+}
+
+/// A pool with free sectors.
+#[tactic(auto, using(crate::proofs::PoolLemmas::one_free))]
+fn pool_of(alloc: Global) -> Result<SectorPool, AllocError>
+    ensures { IfOk result HasFree }
+{
+    SectorPool::make(alloc, 2)
+}
+
+/// What is found of the cuts of what a script does to a board.
+pub fn cuts_of(
+    alloc: Global,
+    board: MemBoard,
+    cpu: Cpu,
+    trace: &Trace<'_>,
+    pattern: &[u8],
+) -> Result<Cuts, AllocError>
+    requires ready { IsUnarmed (state_of board) }
+    requires trace { (events : List EventView)
+        × IsTraceOf (state_of board).content cpu events trace.now }
+    requires pattern { IsPattern true pattern.now }
+    ensures { IfOk result (λ found. (events : List EventView)
+        → IsTraceOf (state_of board).content cpu events trace.now
+        → AreCutsOf (state_of board).content cpu events pattern.now found) }
+{
+    let mut pool = pool_of(alloc)?;
+    let mut beside = copy_of(alloc, &board)?;
+    let ends = Ends {
+        cpu,
+        start: &board,
+        end: &trace.board,
+        former: decide(&board, &mut pool, cpu, BootKind::Normal),
+        finished: decide(&trace.board, &mut pool, cpu, BootKind::Normal),
+    };
+    let runs = runs_on(alloc, &mut beside, &mut pool, &ends, &trace.moves, pattern)?;
+    let end = answer_on(&trace.board, &mut pool, &ends);
+    let steps = steps_of(alloc, &trace.moves)?;
+    Ok(Cuts {
+        steps,
+        runs,
+        former: ends.former,
+        finished: ends.finished,
+        end_: end.class,
+    })
+}
+
+/// What the next normal boot makes of a loss of power before and within each step that a script
+/// completes on a board, from a machine without power on; none where it completes more than
+/// 262,144. It fails only where memory is out.
+pub fn cuts_on(
+    alloc: Global,
+    board: MemBoard,
+    cpu: Cpu,
+    script: &Script<'_>,
+    pattern: &[u8],
+) -> Result<Option<Cuts>, AllocError>
+    requires ready { IsUnarmed (state_of board) }
+    requires pattern { IsPattern true pattern.now }
+    ensures { IfOk result (AreCutsFound (state_of board).content cpu
+        (script_events script.now.bytes.now) pattern.now) }
+{
+    let copy = copy_of(alloc, &board)?;
+    match trace_on(alloc, copy, cpu, script)? {
+        Some(trace) => Ok(Some(cuts_of(alloc, board, cpu, &trace, pattern)?)),
+        None => Ok(None),
+    }
 }

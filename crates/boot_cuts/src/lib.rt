@@ -8,11 +8,24 @@
 #![tactic(auto)]
 
 mod answers;
+mod copying;
 mod found;
+mod judging;
 mod kinds;
+mod moves;
+mod playing;
 mod runs;
+mod trace;
+mod tracer;
+mod tracing;
+mod walking;
 
 pub use answers::{Answer, Class};
-pub use found::Cuts;
+pub use copying::copy_of;
+pub use found::{Cuts, cuts_of, cuts_on};
 pub use kinds::Kind;
+pub use moves::Move;
+pub use playing::trace_on;
 pub use runs::Run;
+pub use trace::Trace;
+pub use tracer::TRACE_LIMIT;

@@ -1,4 +1,4 @@
-mod RedoneLemmas
+pub mod RedoneLemmas
 mod PageLemmas
 pub mod ResultLemmas
 mod LineLemmas

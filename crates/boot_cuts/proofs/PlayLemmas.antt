@@ -1,0 +1,469 @@
+-- A play whose cuts stand beside the machine is the play of the machine.
+use Rattle.std.proofs.Common.{◌≡◌, ◌≢◌, ℕ, ◌+◌, ◌-◌, ◌<◌, ◌≤◌, Bool, true, false, cond, zero, suc, List, [], ◌∷◌, ◌++◌, length, take, drop, Option, Some, None, refl, sym, ap, ◌∙◌, subst, arith, inl, inr, append_assoc, length-append}
+use Rattle.std.specs.Prelude.{All, IfOk, Result, Ok, Err, if◌then◌else◌, min, option_map}
+use Rattle.std.specs.List.{AllByRecursion}
+use Rattle.std.proofs.lemmas.Bool.{cases_lt}
+use Rattle.std.proofs.lemmas.List.{append-nil, length-drop, length-take, take-append-drop, take_all}
+use Rattle.std.proofs.lemmas.List.Elements.{All-drop, All-from_recursion, All-take}
+use Rattle.pico_board.proofs.CuttingLemmas.{length-after_all}
+use Rattle.std.proofs.Math.Seq.{drop-append_seam, take-append-add}
+use Rattle.pico_board.specs.declared.mem_board.MemBoard.{MemBoard}
+use Rattle.pico_board.specs.declared.Step.{Step}
+use Rattle.pico_board.specs.declared.boot.Cpu.{Cpu}
+use Rattle.pico_board.specs.Content.{Content}
+use Rattle.pico_board.specs.Cuts.{Cut, CutOutcome, cut_steps, cut_with}
+use Rattle.pico_board.specs.MemBoard.{state_of}
+use Rattle.pico_board.specs.Steps.{IsStepIn, after, after_all}
+use Rattle.boot_script.specs.Events.{EventView}
+use Rattle.boot_machine.specs.declared.parts.Parts.{Parts}
+use Rattle.boot_machine.specs.Boots.{Effect}
+use Rattle.boot_machine.specs.Machines.{MachineView, Off}
+use Rattle.boot_machine.specs.Moves.{IsLost, Moves, MovesBy, armed_for, effect, lost_text}
+use Rattle.boot_machine.specs.Standing.{IsStep, Stands, StandsAt}
+use Rattle.boot_plays.specs.Plays.{Moved, moved_as, moved_machine, played, powerless, told_cut}
+use Rattle.boot_plays.proofs.PlayLemmas.{moved-as}
+use Rattle.boot_cuts.specs.declared.trace.ArmedCut.{ArmedCut}
+use Rattle.boot_cuts.specs.declared.trace.Trace.{Trace}
+use Rattle.boot_cuts.specs.declared.tracer.Tracer.{Tracer}
+use Rattle.boot_session.specs.Standing.{IsUnarmed}
+use Rattle.boot_cuts.specs.Moving.{AreMovesIn, after_moves, done_count, moves_from, traced_by}
+use Rattle.boot_cuts.specs.Playing.{CutMoves, HasFollowed, HasPattern, IsFollowed, IsLeftBy, IsLong, IsPlay, IsPlayedTo, IsReady, IsStepped, IsTraceOf, bare, cut_from, cut_in, cut_moves, told_of, traced_state}
+use Rattle.boot_cuts.specs.Traces.{Traced, completed, event_steps, traced, traced_from}
+use Rattle.boot_cuts.specs.Tracing.{HasTraced, first_steps}
+use Rattle.boot_cuts.proofs.TraceLemmas.{after-append, completed-more, count-append, count-traced, cut-steps, first-all, length-traced, prefix-lost, traced-append, traced-steps, whole-is}
+
+-- what an event does is the same with no cut armed
+pub effect-bare : (m : MachineView) (event : EventView) → effect (bare m) event ≡ effect m event
+effect-bare m EventView.End = refl
+effect-bare m (EventView.Command command payload) = refl
+effect-bare m (EventView.Uf2 block) = refl
+effect-bare m (EventView.Cut left within pattern) = refl
+effect-bare m EventView.PowerOn = refl
+effect-bare m (EventView.Reset kind) = refl
+effect-bare m EventView.Buy = refl
+
+-- an event that arms no cut leaves the one that is armed
+pub armed-stays : (armed : Option (Option Cut)) (event : EventView) → cut_in event ≡ None
+    → armed_for armed event ≡ armed
+armed-stays armed EventView.End uncut = refl
+armed-stays armed (EventView.Command command payload) uncut = refl
+armed-stays armed (EventView.Uf2 block) uncut = refl
+armed-stays armed (EventView.Cut left within pattern) uncut = cc
+armed-stays armed EventView.PowerOn uncut = refl
+armed-stays armed (EventView.Reset kind) uncut = refl
+armed-stays armed EventView.Buy uncut = refl
+
+-- what an event comes to, by what is done of its steps
+abbrev outcome_by : Content → CutMoves → CutOutcome
+outcome_by c w = record { answer = w.whole; content = after_moves c w.moves; armed = w.armed }
+
+pub moved-by : (m : MachineView) (cut : Option Cut) (event : EventView) → m.armed ≡ Some cut → cut_in event ≡ None
+    → moved_machine m event
+    ≡ moved_as m (effect m event) (outcome_by m.content (cut_moves cut (effect m event).steps))
+moved-by m cut event told uncut =
+    moved-as m event cut (armed-stays m.armed event uncut ∙ told)
+    ∙ ap (moved_as m (effect m event)) (cut-steps (effect m event).steps cut m.content)
+
+steps-by : (m : MachineView) (cut : Option Cut) (event : EventView) → m.armed ≡ Some cut → cut_in event ≡ None
+    → event_steps m event ≡ completed cut (effect m event).steps
+steps-by m cut event told uncut =
+    ap (λ a. completed (told_cut a) (effect m event).steps) (armed-stays m.armed event uncut ∙ told)
+
+-- what was traced of the steps of an event
+fresh-of : {X : Type 0} (n : ℕ) (h es : List X) → length h ≤ n
+    → drop (length h) (take n (h ++ es)) ≡ take (n - length h) es
+fresh-of n h es few =
+    let at : n ≡ length h + (n - length h) = omega arith in
+    ap (λ k. drop (length h) (take k (h ++ es))) at
+    ∙ (ap (drop (length h)) (take-append-add h es (n - length h))
+    ∙ drop-append_seam h (take (n - length h) es))
+
+-- what the machine's board did in an event
+pub record IsDoneBy (om nm : Parts (Tracer MemBoard)) (mid : MachineView) (e : Effect) : Type 0 where
+  pub stands : Stands traced_state nm (record {
+    content = after_all mid.content e.steps;
+    armed = Some None;
+    cpu = mid.cpu;
+    place = e.place;
+  })
+  pub kept : nm.board.steps.items ≡ first_steps (om.board.steps.items ++ e.steps)
+  pub inside : AllByRecursion (IsStepIn (length (after_all mid.content e.steps).flash))
+      (om.board.steps.items ++ e.steps)
+
+pub done-by : (om nm : Parts (Tracer MemBoard)) (ot : Trace) (mid : MachineView) (event : EventView)
+    → cut_in event ≡ None → IsFollowed om ot mid → ot.done ≤ 262144
+    → ((n : MachineView) → Stands traced_state om n → armed_for n.armed event ≡ Some None
+    → IsStepped om n (effect n event) nm)
+    → IsDoneBy om nm mid (effect mid event)
+done-by om nm ot mid event uncut followed short stepped =
+    let h = om.board.steps.items in
+    let is : IsStepped om (bare mid) (effect mid event) nm =
+    subst (λ e. IsStepped om (bare mid) e nm) (effect-bare mid event)
+    (stepped (bare mid) followed.stands (armed-stays (Some None) event uncut)) in
+    let few = followed.few in
+    let former : HasTraced state_of om.board h = record {
+      kept = sym (first-all h (omega (arith, few, short)));
+      inside = subst (λ (c : Content). AllByRecursion (IsStepIn (length c.flash)) h) followed.stands.content followed.inside;
+    } in
+    let now = is.traced_ h former in record {
+      stands = is.stands;
+      kept = now.kept;
+      inside = subst (λ (c : Content). AllByRecursion (IsStepIn (length c.flash)) (h ++ (effect mid event).steps))
+          (sym is.stands.content) now.inside;
+    }
+
+-- what was traced of the event is the front of its steps
+pub record IsFront (h es fresh : List Step) : Type 0 where
+  pub front : fresh ≡ take (262145 - length h) es
+  pub both : es ≡ fresh ++ drop (262145 - length h) es
+
+pub front-of : (h es steps fresh : List Step) → length h ≤ 262144 → steps ≡ first_steps (h ++ es)
+    → fresh ≡ drop (length h) steps → IsFront h es fresh
+unfolding first_steps
+front-of h es steps fresh few kept is =
+    let n = 262145 - length h in
+    let front : fresh ≡ take n es =
+    is ∙ (ap (drop (length h)) kept ∙ fresh-of 262145 h es (omega (arith, few))) in record {
+      front = front;
+      both = sym (take-append-drop n es) ∙ ap (λ xs. xs ++ drop n es) (sym front);
+    }
+
+-- where all that was traced completes and is not too much, it is all
+pub front-all : (h es fresh : List Step) (done : ℕ) → IsFront h es fresh → length h ≤ done
+    → done + length fresh ≤ 262144 → fresh ≡ es
+front-all h es fresh done is few short =
+    let long = ap (λ (xs : List Step). length xs) is.front in
+    let size = length-take (262145 - length h) es in
+    is.front ∙ take_all (262145 - length h) es (omega (arith, long, size, few, short))
+
+-- what is done of the steps that were traced is what is done of all
+pub same-moves : (h es fresh : List Step) (cut : Option Cut) (done : ℕ) (whole : Bool) → IsFront h es fresh
+    → length h ≤ done → whole ≡ (cut_moves cut fresh).whole
+    → done + done_count (cut_moves cut fresh).moves ≤ 262144 → (c : Content)
+    → cut_moves cut es ≡ cut_moves cut fresh
+same-moves h es fresh cut done false is few whole short c =
+    ap (cut_moves cut) is.both ∙ prefix-lost fresh (drop (262145 - length h) es) cut (sym whole)
+same-moves h es fresh cut done true is few whole short c =
+    let all = whole-is fresh cut c (sym whole) in
+    let count = all.count in
+    ap (cut_moves cut) (sym (front-all h es fresh done is few (omega (arith, short, count))))
+
+-- where the event's steps are many, so is the trace
+pub long-by : (ot nt : Trace) (m mid : MachineView) (all left : List EventView) (event : EventView)
+    (fresh : List Step) (whole : Bool) (h : List Step)
+    → IsPlayedTo ot m all (event ∷ left) mid → cut_in event ≡ None
+    → IsFront h (effect mid event).steps fresh
+    → IsLeftBy ot (cut_moves (told_of ot) fresh) whole nt → IsLong nt m all
+long-by ot nt m mid all left event fresh whole h to uncut front is many =
+    let es = (effect mid event).steps in
+    let cut = told_of ot in
+    let rest = traced (moved_machine mid event).next left in
+    let past = traced_by m.content (moves_from ot.moves.items) in
+    let here = traced_from mid.content (event_steps mid event) in
+    let sum : length (traced m all) ≡ length past + (length here + length rest) =
+    ap (λ (ts : List Traced). length ts) (sym to.steps)
+    ∙ (length-append past (here ++ rest) ∙ ap (λ n. length past + n) (length-append here rest)) in
+    let before : ot.done ≡ length past = to.counted ∙ count-traced m.content (moves_from ot.moves.items) in
+    let now : length here ≡ length (completed cut es) =
+    length-traced mid.content (event_steps mid event)
+    ∙ ap (λ (xs : List Step). length xs) (steps-by mid cut event to.told uncut) in
+    let more : length (completed cut fresh) ≤ length (completed cut es) =
+    subst (λ (xs : List Step). length (completed cut fresh) ≤ length (completed cut xs)) (sym front.both)
+    (completed-more cut fresh (drop (262145 - length h) es)) in
+    let count : done_count (cut_moves cut fresh).moves ≡ length (completed cut fresh) =
+    count-traced mid.content (cut_moves cut fresh).moves
+    ∙ (ap (λ (ts : List Traced). length ts) (traced-steps fresh cut mid.content)
+    ∙ length-traced mid.content (completed cut fresh)) in
+    let done = is.done in omega (arith, sum, before, now, more, count, done, many)
+
+-- the trace is that of one event more
+pub played-more : (ot nt : Trace) (m mid : MachineView) (all left : List EventView) (event : EventView) (w : CutMoves)
+    (whole : Bool) → IsPlayedTo ot m all (event ∷ left) mid → cut_in event ≡ None
+    → w ≡ cut_moves (told_of ot) (effect mid event).steps → IsLeftBy ot w whole nt
+    → IsPlayedTo nt m all left (moved_as mid (effect mid event) (outcome_by mid.content w)).next
+played-more ot nt m mid all left event w whole to uncut w_is is =
+    let e = effect mid event in
+    let cut = told_of ot in
+    let moved : moved_machine mid event ≡ moved_as mid e (outcome_by mid.content w) =
+    moved-by mid cut event to.told uncut ∙ ap (λ x. moved_as mid e (outcome_by mid.content x)) (sym w_is) in
+    let next = (moved_as mid e (outcome_by mid.content w)).next in
+    let past = moves_from ot.moves.items in
+    let here : after_moves m.content past ≡ mid.content = sym (to.content ∙ to.moved) in
+    let steps : traced_by mid.content w.moves ≡ traced_from mid.content (event_steps mid event) =
+    ap (λ (x : CutMoves). traced_by mid.content x.moves) w_is
+    ∙ (traced-steps e.steps cut mid.content
+    ∙ ap (traced_from mid.content) (sym (steps-by mid cut event to.told uncut))) in record {
+      told = ap (λ a. Some a) (sym is.armed);
+      cpu = to.cpu;
+      content = ap (λ c. after_moves c w.moves) to.content ∙ sym is.content;
+      moved = is.content ∙ (ap (λ c. after_moves c w.moves) to.moved
+          ∙ (sym (after-append m.content past w.moves) ∙ ap (after_moves m.content) (sym is.moves)));
+      steps = ap (λ ms. traced_by m.content ms ++ traced next left) is.moves
+          ∙ (ap (λ ts. ts ++ traced next left) (traced-append m.content past w.moves)
+          ∙ (ap (λ c. (traced_by m.content past ++ traced_by c w.moves) ++ traced next left) here
+          ∙ (ap (λ ts. (traced_by m.content past ++ ts) ++ traced next left) steps
+          ∙ (append_assoc (traced_by m.content past) (traced_from mid.content (event_steps mid event)) (traced next left)
+          ∙ (ap (λ (x : Moved). traced_by m.content past
+          ++ (traced_from mid.content (event_steps mid event) ++ traced x.next left)) (sym moved)
+          ∙ to.steps)))));
+      last = ap (λ (x : Moved). (played x.next left).last.content) (sym moved) ∙ to.last;
+      counted =
+          let d = is.done in let n = to.counted in
+          let sum = ap done_count is.moves ∙ count-append past w.moves in omega (arith, d, n, sum);
+      size = is.size ∙ to.size;
+    }
+
+pub play-on : (om nm : Parts (Tracer MemBoard)) (ot nt : Trace) (m : MachineView) (all left : List EventView)
+    (event : EventView) (whole : Bool) (fresh : List Step) → IsPlay om ot m all (event ∷ left)
+    → cut_in event ≡ None
+    → ((n : MachineView) → Stands traced_state om n → armed_for n.armed event ≡ Some None
+    → IsStepped om n (effect n event) nm)
+    → fresh ≡ drop (length om.board.steps.items) nm.board.steps.items
+    → IsLeftBy ot (cut_moves (told_of ot) fresh) whole nt → ot.done ≤ 262144
+    → IsLong nt m all × (nt.done ≤ 262144 → HasFollowed whole nm nt m all left)
+play-on om nm ot nt m all left event whole fresh play uncut stepped fresh_is is short =
+    let mid = play.mid in
+    let to = play.to in
+    let e = effect mid event in
+    let h = om.board.steps.items in
+    let few = play.followed.few in
+    let done = done-by om nm ot mid event uncut play.followed short stepped in
+    let front = front-of h e.steps nm.board.steps.items fresh (omega (arith, few, short)) done.kept fresh_is in
+    (long-by ot nt m mid all left event fresh whole h to uncut front is, λ less.
+      let w = cut_moves (told_of ot) fresh in
+      let count = is.done in
+      let same : cut_moves (told_of ot) e.steps ≡ w =
+      same-moves h e.steps fresh (told_of ot) ot.done whole front few is.whole_ (omega (arith, count, less)) mid.content in
+      let next = (moved_as mid e (outcome_by mid.content w)).next in record {
+        mid = next;
+        to = played-more ot nt m mid all left event w whole to uncut (sym same) is;
+        goes = λ yes.
+            let wh : w.whole ≡ true = sym is.whole_ ∙ yes in
+            let all_of = whole-is fresh (told_of ot) mid.content wh in
+            let size = all_of.count in
+            let whole_fresh : fresh ≡ e.steps =
+            front-all h e.steps fresh ot.done front few (omega (arith, count, less, size)) in
+            let left_as : after_moves mid.content w.moves ≡ after_all mid.content e.steps =
+            all_of.content ∙ ap (after_all mid.content) whole_fresh in
+            let long = length-append h e.steps in
+            let same_long = ap (λ (xs : List Step). length xs) whole_fresh in
+            let kept : nm.board.steps.items ≡ h ++ e.steps =
+            done.kept ∙ first-all (h ++ e.steps) (omega (arith, long, same_long, few, count, less, size)) in
+            let kept_long = ap (λ (xs : List Step). length xs) kept in record {
+              stands = record {
+                content = left_as ∙ done.stands.content;
+                armed = done.stands.armed;
+                cpu = done.stands.cpu;
+                place = subst (λ b. StandsAt nm (if b then e.place else Off)) (sym wh) done.stands.place;
+              };
+              few = omega (arith, kept_long, long, same_long, few, count, size);
+              inside = subst (λ xs. AllByRecursion (IsStepIn (length (after_moves mid.content w.moves).flash)) xs) (sym kept)
+                  (subst (λ (c : Content). AllByRecursion (IsStepIn (length c.flash)) (h ++ e.steps)) (sym left_as)
+                  done.inside);
+            };
+        stops = λ no. ap (λ b. if b then e.place else Off) (sym is.whole_ ∙ no);
+      })
+
+-- a machine that is made anew
+pub made-anew : (machine : Parts (Tracer MemBoard)) (trace : Trace) (m mid : MachineView) (all left : List EventView)
+    (cpu : Cpu) → m.cpu ≡ cpu → IsPlayedTo trace m all left mid → mid.place ≡ Off
+    → Stands traced_state machine (powerless (state_of trace.board).content cpu)
+    → machine.board.steps.items ≡ [] → IsPlay machine trace m all left
+made-anew machine trace m mid all left cpu is to off stands none = record {
+  mid = mid;
+  to = to;
+  followed = record {
+    stands = record {
+      content = to.content ∙ stands.content;
+      armed = stands.armed;
+      cpu = to.cpu ∙ (is ∙ stands.cpu);
+      place = subst (λ p. StandsAt machine p) (sym off) stands.place;
+    };
+    few = let n = ap (λ (xs : List Step). length xs) none in omega (arith, n);
+    inside = subst (λ xs. AllByRecursion (IsStepIn (length mid.content.flash)) xs) (sym none) tt;
+  };
+}
+
+-- before the first event
+pub play-first : (machine : Parts (Tracer MemBoard)) (trace : Trace) (c : Content) (cpu : Cpu)
+    (events : List EventView) → (state_of trace.board).content ≡ c → trace.moves.items ≡ [] → trace.done ≡ 0
+    → trace.armed ≡ None → Stands traced_state machine (powerless c cpu)
+    → machine.board.steps.items ≡ [] → IsPlay machine trace (powerless c cpu) events events
+play-first machine trace c cpu events board moves done armed stands none =
+    made-anew machine trace (powerless c cpu) (powerless c cpu) events events cpu refl (record {
+      told = ap (λ a. Some (option_map cut_from a)) (sym armed);
+      cpu = refl;
+      content = sym board;
+      moved = board ∙ ap (λ ms. after_moves c (moves_from ms)) (sym moves);
+      steps = ap (λ ms. traced_by c (moves_from ms) ++ traced (powerless c cpu) events) moves;
+      last = refl;
+      counted = done ∙ ap (λ ms. done_count (moves_from ms)) (sym moves);
+      size = ap (λ (x : Content). length x.flash) board;
+    }) refl (subst (λ x. Stands traced_state machine (powerless x cpu)) (sym board) stands) none
+
+take-nothing : {X : Type 0} (n : ℕ) → (let none : List X = [] in take n none ≡ none)
+take-nothing zero = refl
+take-nothing (suc n) = refl
+
+completed-none : (cut : Option Cut) → completed cut [] ≡ []
+completed-none None = refl
+completed-none (Some cut) = take-nothing cut.left
+
+-- an event that arms a cut
+pub play-armed : (machine : Parts (Tracer MemBoard)) (old new : Trace) (m : MachineView) (all left : List EventView)
+    (event : EventView) (cut : ArmedCut) → cut_in event ≡ Some (cut_from cut) → new.board ≡ old.board
+    → new.moves ≡ old.moves → new.done ≡ old.done → new.armed ≡ Some cut
+    → IsPlay machine old m all (event ∷ left) → IsPlay machine new m all left
+play-armed machine old new m all left (EventView.Cut n within pattern) cut is board moves done armed play =
+    let mid = play.mid in
+    let to = play.to in
+    let event : EventView = EventView.Cut n within pattern in
+    let same : Some (cut_with n within pattern) ≡ Some (cut_from cut) = is in
+    let next : MachineView = record {
+      content = mid.content;
+      armed = Some (Some (cut_from cut));
+      cpu = mid.cpu;
+      place = mid.place;
+    } in
+    let moved : (moved_machine mid event).next ≡ next =
+    ap (λ (x : Moved). x.next) (moved-as mid event (Some (cut_from cut))
+    (ap (option_map (λ former. Some (cut_with n within pattern))) to.told ∙ ap (λ a. Some a) same)) in
+    let none : event_steps mid event ≡ [] = completed-none (told_cut (armed_for mid.armed event)) in record {
+      mid = next;
+      to = record {
+        told = ap (λ a. Some (option_map cut_from a)) (sym armed);
+        cpu = to.cpu;
+        content = to.content ∙ ap (λ b. (state_of b).content) (sym board);
+        moved = ap (λ b. (state_of b).content) board ∙ (to.moved
+            ∙ ap (λ ms. after_moves m.content (moves_from ms.items)) (sym moves));
+        steps = ap (λ ms. traced_by m.content (moves_from ms.items) ++ traced next left) moves
+            ∙ (ap (λ x. traced_by m.content (moves_from old.moves.items) ++ traced x left) (sym moved)
+            ∙ (ap (λ (xs : List Step). traced_by m.content (moves_from old.moves.items)
+            ++ (traced_from mid.content xs ++ traced (moved_machine mid event).next left)) (sym none) ∙ to.steps));
+        last = ap (λ x. (played x left).last.content) (sym moved) ∙ to.last;
+        counted = done ∙ (to.counted ∙ ap (λ ms. done_count (moves_from ms.items)) (sym moves));
+        size = ap (λ b. length (state_of b).content.flash) board ∙ to.size;
+      };
+      followed = record {
+        stands = play.followed.stands;
+        few = let few = play.followed.few in omega (arith, few, done);
+        inside = play.followed.inside;
+      };
+    }
+play-armed machine old new m all left EventView.End cut is board moves done armed play = cc
+play-armed machine old new m all left (EventView.Command command payload) cut is board moves done armed play = cc
+play-armed machine old new m all left (EventView.Uf2 block) cut is board moves done armed play = cc
+play-armed machine old new m all left EventView.PowerOn cut is board moves done armed play = cc
+play-armed machine old new m all left (EventView.Reset kind) cut is board moves done armed play = cc
+play-armed machine old new m all left EventView.Buy cut is board moves done armed play = cc
+
+told-none : (steps : List Step) (c : Content)
+    → cut_steps steps None c ≡ (record { answer = true; content = after_all c steps; armed = None })
+told-none [] c = refl
+told-none (step ∷ steps) c = told-none steps (after c step)
+
+no-loss : (m : MachineView) (e : Effect) (n : MachineView) (line : List ℕ) → IsLost m (Some None) e n line → ⊥
+no-loss m e n line lost =
+    let no : true ≡ false = sym (ap (λ (o : CutOutcome). o.answer) (told-none e.steps m.content))
+    ∙ lost.armed_cut.answer in cc
+
+-- an event on a board of which no cut is armed does its steps whole
+pub stepped-by : (old : Parts (Tracer MemBoard)) (m : MachineView) (event : EventView) (new : Parts (Tracer MemBoard))
+    (line : List ℕ) → armed_for m.armed event ≡ Some None
+    → IsStep traced_state (HasTraced state_of) old m event new line
+    → ((n : MachineView) (text : List ℕ) → Moves m event n text → text ≡ lost_text
+    → IsLost m (armed_for m.armed event) (effect m event) n text)
+    → IsStepped old m (effect m event) new
+stepped-by old m event new line none is says =
+    go (subst (λ a. MovesBy m a (effect m event) is.next line) none is.moves)
+    (λ lost. no-loss m (effect m event) is.next line
+    (subst (λ a. IsLost m a (effect m event) is.next line) none (says is.next line is.moves lost)))
+  where
+    go : MovesBy m (Some None) (effect m event) is.next line → line ≢ lost_text
+        → IsStepped old m (effect m event) new
+    go (inr lost) kept = absurd (no-loss m (effect m event) is.next line lost)
+    go (inl done) kept = record {
+      stands = record {
+        content = sym done.content ∙ is.stands.content;
+        armed = sym (done.armed_cut.next
+            ∙ ap (λ (o : CutOutcome). Some o.armed) (told-none (effect m event).steps m.content)) ∙ is.stands.armed;
+        cpu = sym done.cpu ∙ is.stands.cpu;
+        place = subst (λ p. StandsAt new p) done.place is.stands.place;
+      };
+      traced_ = is.recorded kept;
+    }
+
+-- the whole trace of a script
+pub traced-end : (machine : Parts (Tracer MemBoard)) (trace_ : Trace) (c : Content) (cpu : Cpu)
+    (events left : List EventView) → left ≡ [] → IsReady trace_ → trace_.done ≤ 262144
+    → IsPlay machine trace_ (powerless c cpu) events left → IsTraceOf c cpu events trace_
+traced-end machine trace_ c cpu events left none ready short play =
+    let mid = play.mid in
+    let to = play.to in
+    let steps : traced_by c (moves_from trace_.moves.items) ≡ traced (powerless c cpu) events =
+    sym (append-nil (traced_by c (moves_from trace_.moves.items)))
+    ∙ (ap (λ es. traced_by c (moves_from trace_.moves.items) ++ traced mid es) (sym none) ∙ to.steps) in
+    let count : trace_.done ≡ length (traced (powerless c cpu) events) =
+    to.counted ∙ (count-traced c (moves_from trace_.moves.items) ∙ ap (λ (ts : List Traced). length ts) steps) in record {
+      ready = ready;
+      steps = steps;
+      content = sym to.content ∙ (ap (λ es. (played mid es).last.content) (sym none) ∙ to.last);
+      moved = to.moved;
+      short = omega (arith, count, short);
+      size = to.size;
+    }
+
+-- what was traced of an event is more than before
+pub former-within : (om nm : Parts (Tracer MemBoard)) (mid : MachineView) (e : Effect) (ot : Trace)
+    → IsFollowed om ot mid → ot.done ≤ 262144 → IsDoneBy om nm mid e
+    → length om.board.steps.items ≤ length nm.board.steps.items
+unfolding first_steps
+former-within om nm mid e ot followed short done =
+    let h = om.board.steps.items in
+    let few = followed.few in
+    let long = ap (λ (xs : List Step). length xs) done.kept in
+    let size = length-take 262145 (h ++ e.steps) in
+    let sum = length-append h e.steps in omega (arith, few, short, long, size, sum)
+
+-- what was traced of an event lies in the flash
+pub fresh-in : (om nm : Parts (Tracer MemBoard)) (mid : MachineView) (e : Effect) (n k : ℕ) (read : List Step)
+    → IsDoneBy om nm mid e → read ≡ nm.board.steps.items → n ≡ length mid.content.flash
+    → All (IsStepIn n) (take (length read - k) (drop k read))
+unfolding first_steps
+fresh-in om nm mid e n k read done read_is long =
+    let P : Step → Type 0 = IsStepIn n in
+    let same : length (after_all mid.content e.steps).flash ≡ n = length-after_all mid.content e.steps ∙ sym long in
+    let all : All P (om.board.steps.items ++ e.steps) =
+    All-from_recursion P (om.board.steps.items ++ e.steps)
+    (subst (λ j. AllByRecursion (IsStepIn j) (om.board.steps.items ++ e.steps)) same done.inside) in
+    All-take P (length read - k) (drop k read) (All-drop P k read
+    (subst (λ xs. All P xs) (sym (read_is ∙ done.kept)) (All-take P 262145 (om.board.steps.items ++ e.steps) all)))
+
+-- a part up to the end
+pub rest-is : (k : ℕ) (xs : List Step) → take (length xs - k) (drop k xs) ≡ drop k xs
+rest-is k xs = take_all (length xs - k) (drop k xs) (let long = length-drop k xs in omega (arith, long))
+
+pub if-ok : {A E : Type 0} (r : Result A E) (P Q : A → Type 0) → ((a : A) → P a → Q a) → IfOk r P → IfOk r Q
+if-ok (Ok a) P Q f h = f a h
+if-ok (Err e) P Q f h = tt
+
+-- an event that was followed
+pub follow-whole : (nm : Parts (Tracer MemBoard)) (nt : Trace) (m : MachineView) (all left : List EventView)
+    (whole : Bool) → whole ≡ true → HasFollowed whole nm nt m all left → IsPlay nm nt m all left
+follow-whole nm nt m all left whole held is = record { mid = is.mid; to = is.to; followed = is.goes held }
+
+pub follow-anew : (nm machine : Parts (Tracer MemBoard)) (nt : Trace) (m : MachineView) (all left : List EventView)
+    (whole : Bool) (cpu : Cpu) → whole ≡ false → m.cpu ≡ cpu → HasFollowed whole nm nt m all left
+    → Stands traced_state machine (powerless (state_of nt.board).content cpu)
+    → machine.board.steps.items ≡ [] → IsPlay machine nt m all left
+follow-anew nm machine nt m all left whole cpu fell is has stands none =
+    made-anew machine nt m has.mid all left cpu is has.to (has.stops fell) stands none
+
+-- a trace that has not begun
+pub begins-ready : (trace_ : Trace) (board : MemBoard) → IsUnarmed (state_of board) → trace_.board ≡ board
+    → trace_.moves.items ≡ [] → trace_.armed ≡ None → IsReady trace_
+begins-ready trace_ board ready is none unarmed = record {
+  unarmed = subst (λ b. IsUnarmed (state_of b)) (sym is) ready;
+  pattern = subst (λ a. HasPattern (option_map cut_from a)) (sym unarmed) tt;
+  inside = subst (λ ms. AreMovesIn (length (state_of trace_.board).content.flash) ms) (sym none) tt;
+}

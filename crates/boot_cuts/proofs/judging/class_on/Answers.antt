@@ -1,0 +1,18 @@
+use Rattle.std.proofs.Common.{subst, sym}
+use Rattle.pico_board.specs.MemBoard.{state_of}
+use Rattle.pico_board.specs.declared.boot.BootKind.TheVariants.{Normal}
+use Rattle.boot_rules.specs.Chosen.{Chosen}
+use Rattle.boot_rules.proofs.DecisionLemmas.{decision-chosen}
+use Rattle.boot_cuts.proofs.judging.class_on.Goals as goal
+
+pub is_as_on-requires-clause-chosen : goal.is_as_on-requires-clause-chosen
+is_as_on-requires-clause-chosen c =
+    subst (λ x. Chosen (state_of c.args.ends.now.start.now).content c.args.ends.now.cpu Normal x)
+    (sym c.requires.ends.former)
+    (decision-chosen (state_of c.args.ends.now.start.now).content c.args.ends.now.cpu Normal)
+
+pub is_as_on-requires-then-is_start-clause-chosen : goal.is_as_on-requires-then-is_start-clause-chosen
+is_as_on-requires-then-is_start-clause-chosen c =
+    subst (λ x. Chosen (state_of c.args.ends.now.end.now).content c.args.ends.now.cpu Normal x)
+    (sym c.requires.ends.finished)
+    (decision-chosen (state_of c.args.ends.now.end.now).content c.args.ends.now.cpu Normal)

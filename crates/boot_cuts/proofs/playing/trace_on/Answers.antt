@@ -1,0 +1,54 @@
+use Rattle.std.proofs.Common.{◌≤◌, ◌∙◌, List, [], ap, refl, subst, sym, arith, length}
+use Rattle.pico_board.specs.MemBoard.{state_of}
+use Rattle.boot_script.specs.Events.{EventView, event_from}
+use Rattle.boot_script.specs.Scripts.{script_events}
+use Rattle.boot_plays.specs.Plays.{powerless}
+use Rattle.boot_cuts.specs.Playing.{IsPlay, IsReady}
+use Rattle.boot_cuts.proofs.PlayLemmas.{begins-ready, play-first, traced-end}
+use Rattle.boot_cuts.proofs.playing.trace_on.Goals as goal
+
+pub loop-event-init : goal.loop-event-init
+loop-event-init c =
+    let content = (state_of c.args.board).content in
+    let events = script_events c.args.script.now.bytes.now in
+    let begun = c.begin-trace.ensures in
+    let none = begun.done in record {
+      ready = begins-ready c.begin-trace.result c.args.board c.requires begun.board begun.none begun.unarmed;
+      short = omega (arith, none);
+      play = subst (λ es. IsPlay c.in_ok-machine.machine c.begin-trace.result (powerless content c.args.cpu) events es)
+          (sym (c.into_iter-event-iterator.ensures.into_iter_gives ∙ c.events-event-items.ensures))
+          (play-first c.in_ok-machine.machine c.begin-trace.result content c.args.cpu events
+          (ap (λ b. (state_of b).content) begun.board) begun.none begun.done begun.unarmed
+          c.in_ok-machine.ensures.stands c.in_ok-machine.ensures.none);
+    }
+
+pub follow-requires-clause-writable : goal.follow-requires-clause-writable
+follow-requires-clause-writable c = c.in-Some.ensures.steps.1
+
+pub loop-event-preserved : goal.loop-event-preserved
+loop-event-preserved c =
+    let content = (state_of c.args.board).content in
+    let events = script_events c.args.script.now.bytes.now in
+    let m = powerless content c.args.cpu in record {
+      ready = c.in_ok-follow.ensures.ready;
+      short = c.if-trace-gt-TRACE_LIMIT.false;
+      play = (c.in_ok-follow.ensures.played m events c.next.new.self refl
+          (subst (λ es. IsPlay c.loop-event.machine c.loop-event.trace m events es) c.in-Some.ensures.steps.0
+          c.loop-event.invariant.play)).1 c.if-trace-gt-TRACE_LIMIT.false;
+    }
+
+pub returns-then-trace-gt-TRACE_LIMIT : goal.returns-then-trace-gt-TRACE_LIMIT
+returns-then-trace-gt-TRACE_LIMIT c =
+    let content = (state_of c.args.board).content in
+    let events = script_events c.args.script.now.bytes.now in
+    let m = powerless content c.args.cpu in
+    (c.in_ok-follow.ensures.played m events c.next.new.self refl
+    (subst (λ es. IsPlay c.loop-event.machine c.loop-event.trace m events es) c.in-Some.ensures.steps.0
+    c.loop-event.invariant.play)).0 c.if-trace-gt-TRACE_LIMIT.true
+
+pub returns : goal.returns
+returns c =
+    let content = (state_of c.args.board).content in
+    let events = script_events c.args.script.now.bytes.now in
+    traced-end c.loop-event.machine c.loop-event.trace content c.args.cpu events c.loop-event.event-iterator
+    c.in-None.ensures.steps.0 c.loop-event.invariant.ready c.loop-event.invariant.short c.loop-event.invariant.play

@@ -1,0 +1,30 @@
+-- Where a script leads from and to.
+use Rattle.std.specs.Prelude.{◌≡◌, ℕ, ◌+◌, IsTrue, List, [], ◌∷◌, ◌++◌, map, length}
+use Rattle.pico_board.specs.declared.boot.Cpu.{Cpu}
+use Rattle.pico_board.specs.declared.boot.BootKind.TheVariants.{Normal}
+use Rattle.pico_board.specs.Content.{Content}
+use Rattle.pico_board.specs.MemBoard.{state_of}
+use Rattle.boot_rules.specs.Choosing.{decision_in}
+use Rattle.boot_cuts.specs.declared.answers.Answer.{Answer}
+use Rattle.boot_cuts.specs.declared.judging.Ends.{Ends}
+use Rattle.boot_cuts.specs.Answers.{answer_of}
+use Rattle.boot_cuts.specs.Contents.{cut_contents}
+use Rattle.boot_cuts.specs.Moving.{MoveView, traced_by}
+
+-- both boards have power and a flash of this length, and the decisions are theirs
+pub record AreEnds (ends : Ends) (long : ℕ) : Type 0 where
+  pub start_power : IsTrue (state_of ends.start.now).powered
+  pub end_power : IsTrue (state_of ends.end.now).powered
+  pub start_long : length (state_of ends.start.now).content.flash ≡ long
+  pub end_long : length (state_of ends.end.now).content.flash ≡ long
+  pub former : ends.former ≡ decision_in (state_of ends.start.now).content ends.cpu Normal
+  pub finished : ends.finished ≡ decision_in (state_of ends.end.now).content ends.cpu Normal
+
+-- the answer on a content
+abbrev pub judge : Ends → Content → Answer
+judge ends d =
+    answer_of (state_of ends.start.now).content (state_of ends.end.now).content ends.cpu d
+
+-- the answers of the cuts of what a script does, from the content c on
+abbrev pub told_answers : Ends → List ℕ → Content → List MoveView → List Answer
+told_answers ends pattern c moves = map (judge ends) (cut_contents pattern (traced_by c moves))

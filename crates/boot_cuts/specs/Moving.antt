@@ -1,0 +1,59 @@
+-- What a script does to a board, step by step: steps that complete, and steps that its own cuts cut.
+use Rattle.std.specs.Prelude.{ℕ, ◌+◌, Bool, List, [], ◌∷◌, map}
+use Rattle.std.specs.List.{AllByRecursion}
+use Rattle.pico_board.specs.declared.Step.{Step}
+use Rattle.pico_board.specs.Content.{Content}
+use Rattle.pico_board.specs.Cuts.{IsPattern, cut_by, cut_with}
+use Rattle.pico_board.specs.Steps.{IsStepIn, after}
+use Rattle.boot_cuts.specs.declared.moves.Move.{Move}
+use Rattle.boot_cuts.specs.declared.moves.Move.TheVariants as rust
+use Rattle.boot_cuts.specs.Traces.{Traced}
+
+-- a step that completes, or one that a cut of the script cuts
+pub data MoveView : Type 0 where
+  Done : (step : Step) → MoveView
+  Torn : (step : Step) → (within : Bool) → (pattern : List ℕ) → MoveView
+
+abbrev pub move_from : Move → MoveView
+move_from (rust.Done step) = Done step
+move_from (rust.Torn step within pattern) = Torn step within pattern.now
+
+abbrev pub moves_from : List Move → List MoveView
+moves_from moves = map move_from moves
+
+-- the step's range lies in a flash of n bytes, and a pattern is as a bench asks
+abbrev pub IsMoveIn : ℕ → MoveView → Type 0
+IsMoveIn n (Done step) = IsStepIn n step
+IsMoveIn n (Torn step within pattern) = IsStepIn n step × IsPattern within pattern
+
+abbrev pub AreMovesIn : ℕ → List Move → Type 0
+AreMovesIn n moves = AllByRecursion (IsMoveIn n) (moves_from moves)
+
+-- the content that is left
+abbrev pub after_move : Content → MoveView → Content
+after_move c (Done step) = after c step
+after_move c (Torn step within pattern) = cut_by (cut_with 0 within pattern) c step
+
+abbrev pub after_moves : Content → List MoveView → Content
+after_moves c [] = c
+after_moves c (moved ∷ moves) = after_moves (after_move c moved) moves
+
+-- the steps that complete, each with the content before it
+abbrev pub traced_by : Content → List MoveView → List Traced
+traced_by c [] = []
+traced_by c (Done step ∷ moves) =
+    record { before = c; step = step } ∷ traced_by (after c step) moves
+traced_by c (Torn step within pattern ∷ moves) =
+    traced_by (cut_by (cut_with 0 within pattern) c step) moves
+
+-- how many steps complete
+abbrev pub done_count : List MoveView → ℕ
+done_count [] = 0
+done_count (Done step ∷ moves) = done_count moves + 1
+done_count (Torn step within pattern ∷ moves) = done_count moves
+
+-- the steps that complete
+abbrev pub done_steps : List MoveView → List Step
+done_steps [] = []
+done_steps (Done step ∷ moves) = step ∷ done_steps moves
+done_steps (Torn step within pattern ∷ moves) = done_steps moves

@@ -1,0 +1,179 @@
+-- What the steps of an event come to where a cut of the script is armed, and a play on its way.
+use Rattle.std.specs.Prelude.{◌≡◌, ⊤, ℕ, ◌+◌, ◌<◌, ◌≤◌, ◌==◌, Bool, true, false, if◌then◌else◌, List, [], ◌∷◌, ◌++◌, length, Option, Some, None, option_map}
+use Rattle.std.specs.List.{AllByRecursion}
+use Rattle.pico_board.specs.declared.mem_board.MemBoard.{MemBoard}
+use Rattle.pico_board.specs.MemBoard.{state_of}
+use Rattle.pico_board.specs.Histories.{Extends}
+use Rattle.pico_board.specs.Content.{Content}
+use Rattle.pico_board.specs.declared.boot.Cpu.{Cpu}
+use Rattle.pico_board.specs.Steps.{IsStepIn, after, after_all}
+use Rattle.boot_script.specs.Events.{EventView}
+use Rattle.boot_session.specs.Standing.{IsUnarmed}
+use Rattle.boot_machine.specs.declared.parts.Parts.{Parts}
+use Rattle.boot_machine.specs.Machines.{MachineView, Off}
+use Rattle.boot_machine.specs.Boots.{Effect}
+use Rattle.boot_machine.specs.Standing.{Stands}
+use Rattle.boot_plays.specs.Plays.{played}
+use Rattle.boot_cuts.specs.declared.trace.Trace.{Trace}
+use Rattle.boot_cuts.specs.declared.tracer.Tracer.{Tracer}
+use Rattle.boot_cuts.specs.Traces.{trace, traced}
+use Rattle.boot_cuts.specs.Tracing.{HasTraced}
+use Rattle.pico_board.specs.Board.{State}
+use Rattle.pico_board.specs.declared.Step.{Step}
+use Rattle.pico_board.specs.Cuts.{Cut, IsPattern, cut_by, cut_with, nearer}
+use Rattle.boot_cuts.specs.declared.trace.ArmedCut.{ArmedCut}
+use Rattle.boot_cuts.specs.Moving.{AreMovesIn, MoveView, Done, Torn, after_moves, done_count, moves_from, traced_by}
+
+-- the armed cut as plain data
+abbrev pub cut_from : ArmedCut → Cut
+cut_from cut = record { left = cut.left; within = cut.within; pattern = cut.pattern.now }
+
+-- what is done, whether all steps complete, and the cut that is armed then
+pub record CutMoves : Type 0 where
+  pub moves : List MoveView
+  pub whole : Bool
+  pub armed : Option Cut
+
+abbrev pub move_first : MoveView → CutMoves → CutMoves
+move_first moved w = record { moves = moved ∷ w.moves; whole = w.whole; armed = w.armed }
+
+-- the steps complete up to the one that the armed cut cuts
+abbrev pub cut_moves : Option Cut → List Step → CutMoves
+cut_moves cut [] = record { moves = []; whole = true; armed = cut }
+cut_moves None (step ∷ steps) = move_first (Done step) (cut_moves None steps)
+cut_moves (Some cut) (step ∷ steps) =
+    if cut.left == 0 then record {
+      moves = Torn step cut.within cut.pattern ∷ [];
+      whole = false;
+      armed = None;
+    }
+    else move_first (Done step) (cut_moves (Some (nearer cut)) steps)
+
+-- the cut that the script has armed
+abbrev pub told_of : Trace → Option Cut
+told_of trace = option_map cut_from trace.armed
+
+-- its pattern is as a bench asks
+abbrev pub HasPattern : Option Cut → Type 0
+HasPattern None = ⊤
+HasPattern (Some cut) = IsPattern cut.within cut.pattern
+
+abbrev pub flash_long : Trace → ℕ
+flash_long trace = length (state_of trace.board).content.flash
+
+-- the board has power and no armed cut; the pattern of the script's cut is as a bench asks; and
+-- what was done lies in the flash
+pub record IsReady (trace : Trace) : Type 0 where
+  pub unarmed : IsUnarmed (state_of trace.board)
+  pub pattern : HasPattern (told_of trace)
+  pub inside : AreMovesIn (flash_long trace) trace.moves.items
+
+-- a step completed; the cut that is armed stays
+pub record HasCompleted (old : Trace) (step : Step) (new : Trace) : Type 0 where
+  pub moves : moves_from new.moves.items ≡ moves_from old.moves.items ++ Done step ∷ []
+  pub armed : new.armed ≡ old.armed
+  pub content : (state_of new.board).content ≡ after (state_of old.board).content step
+  pub done : new.done ≡ old.done + 1
+  pub size : flash_long new ≡ flash_long old
+
+-- the armed cut cut the step
+pub record HasLost (old : Trace) (step : Step) (cut : Cut) (new : Trace) : Type 0 where
+  pub moves : moves_from new.moves.items
+      ≡ moves_from old.moves.items ++ Torn step cut.within cut.pattern ∷ []
+  pub armed : new.armed ≡ None
+  pub content : (state_of new.board).content
+      ≡ cut_by (cut_with 0 cut.within cut.pattern) (state_of old.board).content step
+  pub done : new.done ≡ old.done
+  pub size : flash_long new ≡ flash_long old
+
+-- the trace has these moves more, and the board is as they leave it
+pub record IsLeftBy (old : Trace) (w : CutMoves) (whole : Bool) (new : Trace) : Type 0 where
+  pub moves : moves_from new.moves.items ≡ moves_from old.moves.items ++ w.moves
+  pub whole_ : whole ≡ w.whole
+  pub armed : told_of new ≡ w.armed
+  pub content : (state_of new.board).content
+      ≡ after_moves (state_of old.board).content w.moves
+  pub done : new.done ≡ old.done + done_count w.moves
+  pub size : flash_long new ≡ flash_long old
+
+-- the steps were done up to the one that the armed cut cut
+abbrev pub HasTaken : Trace → List Step → Bool → Trace → Type 0
+HasTaken old steps whole new = IsLeftBy old (cut_moves (told_of old) steps) whole new
+
+-- the machine with no cut armed
+abbrev pub bare : MachineView → MachineView
+bare m = record { content = m.content; armed = Some None; cpu = m.cpu; place = m.place }
+
+-- the trace is that of the events before those that are left, which lead m to mid
+pub record IsPlayedTo (trace : Trace) (m : MachineView) (all left : List EventView)
+    (mid : MachineView) : Type 0 where
+  pub told : mid.armed ≡ Some (told_of trace)
+  pub cpu : mid.cpu ≡ m.cpu
+  pub content : mid.content ≡ (state_of trace.board).content
+  pub moved : (state_of trace.board).content
+      ≡ after_moves m.content (moves_from trace.moves.items)
+  pub steps : traced_by m.content (moves_from trace.moves.items) ++ traced mid left
+      ≡ traced m all
+  pub last : (played mid left).last.content ≡ (played m all).last.content
+  pub counted : trace.done ≡ done_count (moves_from trace.moves.items)
+  pub size : flash_long trace ≡ length m.content.flash
+
+-- the board that a tracer stands round
+abbrev pub traced_state : Tracer MemBoard → State
+traced_state tracer = state_of tracer.bench
+
+-- the machine stands for mid but for the cut, and its tracer has kept no more steps than completed
+pub record IsFollowed (machine : Parts (Tracer MemBoard)) (trace : Trace) (mid : MachineView)
+    : Type 0 where
+  pub stands : Stands traced_state machine (bare mid)
+  pub few : length machine.board.steps.items ≤ trace.done
+  pub inside : AllByRecursion (IsStepIn (length mid.content.flash)) machine.board.steps.items
+
+-- a play on its way
+pub record IsPlay (machine : Parts (Tracer MemBoard)) (trace : Trace) (m : MachineView)
+    (all left : List EventView) : Type 0 where
+  pub mid : MachineView
+  pub to : IsPlayedTo trace m all left mid
+  pub followed : IsFollowed machine trace mid
+
+-- an event was played: the trace is that of one event more, and the machine stands where all its
+-- steps completed, and otherwise is off; or too many steps completed
+pub record HasFollowed (whole : Bool) (machine : Parts (Tracer MemBoard)) (trace : Trace)
+    (m : MachineView) (all left : List EventView) : Type 0 where
+  pub mid : MachineView
+  pub to : IsPlayedTo trace m all left mid
+  pub goes : whole ≡ true → IsFollowed machine trace mid
+  pub stops : whole ≡ false → mid.place ≡ Off
+
+-- so many steps completed that the whole trace is too long
+abbrev pub IsLong : Trace → MachineView → List EventView → Type 0
+IsLong trace m all = 262144 < trace.done → 262144 < length (traced m all)
+
+-- the cut that an event arms
+abbrev pub cut_in : EventView → Option Cut
+cut_in (EventView.Cut left within pattern) = Some (cut_with left within pattern)
+cut_in event = None
+
+-- an event did its steps whole, from m on, and the tracer has traced them
+pub record IsStepped (old : Parts (Tracer MemBoard)) (m : MachineView) (e : Effect)
+    (new : Parts (Tracer MemBoard)) : Type 0 where
+  pub stands : Stands traced_state new (record {
+    content = after_all m.content e.steps;
+    armed = Some None;
+    cpu = m.cpu;
+    place = e.place;
+  })
+  pub traced_ : Extends (HasTraced state_of) old.board e.steps new.board
+
+-- the trace of a script is this one
+pub record IsTraceOf (c : Content) (cpu : Cpu) (events : List EventView) (found : Trace)
+    : Type 0 where
+  pub ready : IsReady found
+  pub steps : traced_by c (moves_from found.moves.items) ≡ (trace c cpu events).done
+  pub content : (state_of found.board).content ≡ (trace c cpu events).last
+  pub moved : (state_of found.board).content ≡ after_moves c (moves_from found.moves.items)
+  pub short : length (trace c cpu events).done ≤ 262144
+  pub size : flash_long found ≡ length c.flash
+
+abbrev pub IsTracedTooLong : Content → Cpu → List EventView → Type 0
+IsTracedTooLong c cpu events = 262144 < length (trace c cpu events).done
