@@ -1,5 +1,7 @@
 mod PoolLemmas
 pub mod RunLemmas
+pub mod RunLawLemmas
+pub mod ClassLemmas
 pub mod TraceLemmas
 pub mod PlayLemmas
 pub mod FoundLemmas

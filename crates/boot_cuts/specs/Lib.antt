@@ -11,3 +11,4 @@ pub mod Tracing
 pub mod Moving
 pub mod Playing
 pub mod Judging
+pub mod Told

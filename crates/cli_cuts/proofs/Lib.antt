@@ -1,0 +1,2 @@
+mod StatusLemmas
+pub mod CutsRuleLemmas

@@ -1,0 +1,75 @@
+//! The cuts of a script on a board in memory.
+
+ghost use Rattle.std.specs.Prelude.{◌≡◌, ◌∷◌, IfOk, true};
+ghost use Rattle.pico_board.specs.Cuts.{IsPattern};
+ghost use Rattle.pico_board.specs.MemBoard.{state_of};
+ghost use Rattle.boot_session.specs.Standing.{IsUnarmed};
+ghost use Rattle.cli_course.specs.Outcomes.{verdict_status, worked};
+ghost use Rattle.cli_course.specs.Views.{answer_from};
+ghost use Rattle.cli_cuts.specs.CutsWorks.{cuts_work, has_any, run_answers, verdict_of};
+
+use crate::texts::cuts_text;
+use boot_cuts::{Cuts, Kind, Run, cuts_on, is_kind, kind_of};
+use boot_script::Script;
+use cli_course::{Answer, Status, ended, refusal};
+use pico_board::{Cpu, MemBoard};
+use std::alloc::{AllocError, Global};
+
+/// Whether one of the runs has an answer of this kind.
+fn has_any(kind: Kind, runs: &[Run]) -> bool
+    ensures { result ≡ has_any kind (run_answers runs.now) }
+{
+    for run in runs {
+        if is_kind(kind, kind_of(run.answer.class, &run.answer.decision)) {
+            return true;
+        }
+    }
+    false
+}
+
+/// Whether one of the lines has an answer of this kind.
+fn has_line(kind: Kind, found: &Cuts) -> bool
+    ensures { result ≡ has_any kind (record { class = found.now.end_;
+        decision = found.now.finished } ∷ run_answers found.now.runs.items) }
+{
+    is_kind(kind, kind_of(found.end_, &found.finished)) || has_any(kind, &found.runs)
+}
+
+/// The status of the lines.
+fn status_of(found: &Cuts) -> Status
+    ensures { result ≡ verdict_status (verdict_of (record { class = found.now.end_;
+        decision = found.now.finished } ∷ run_answers found.now.runs.items)) }
+{
+    if has_line(Kind::Strange, found) {
+        Status::Neither
+    } else if has_line(Kind::Dead, found) {
+        Status::Unbootable
+    } else {
+        Status::Done
+    }
+}
+
+/// The work of `cuts` on a board, a script and a pattern: what the next normal boot makes of a loss
+/// of power before and within each step that the script completes, as many cuts as have one class
+/// and one decision to a line, and the status of the lines. It fails only where memory is out.
+pub fn cuts<'a>(
+    alloc: Global,
+    board: MemBoard,
+    cpu: Cpu,
+    script_name: &str,
+    script: Script<'_>,
+    pattern: &[u8],
+) -> Result<Answer<'a>, AllocError>
+    requires ready { IsUnarmed (state_of board) }
+    requires pattern { IsPattern true pattern.now }
+    ensures { IfOk result (λ answer. answer_from answer ≡ worked (cuts_work
+        (state_of board).content cpu script_name.now script.entry.bytes.now pattern.now)) }
+{
+    match cuts_on(alloc, board, cpu, &script, pattern)? {
+        Some(found) => {
+            let text = cuts_text(alloc, &found)?;
+            Ok(ended(alloc, status_of(&found), text))
+        }
+        None => refusal(alloc, script_name, "too-many-steps"),
+    }
+}
