@@ -228,41 +228,43 @@ play-on om nm ot nt m all left event whole fresh play uncut stepped fresh_is is 
     let h = om.board.steps.items in
     let few = play.followed.few in
     let done = done-by om nm ot mid event uncut play.followed short stepped in
-    let front = front-of h e.steps nm.board.steps.items fresh (omega (arith, few, short)) done.kept fresh_is in
-    (long-by ot nt m mid all left event fresh whole h to uncut front is, λ less.
-      let w = cut_moves (told_of ot) fresh in
-      let count = is.done in
-      let same : cut_moves (told_of ot) e.steps ≡ w =
-      same-moves h e.steps fresh (told_of ot) ot.done whole front few is.whole_ (omega (arith, count, less)) mid.content in
-      let next = (moved_as mid e (outcome_by mid.content w)).next in record {
-        mid = next;
-        to = played-more ot nt m mid all left event w whole to uncut (sym same) is;
-        goes = λ yes.
-            let wh : w.whole ≡ true = sym is.whole_ ∙ yes in
-            let all_of = whole-is fresh (told_of ot) mid.content wh in
-            let size = all_of.count in
-            let whole_fresh : fresh ≡ e.steps =
-            front-all h e.steps fresh ot.done front few (omega (arith, count, less, size)) in
-            let left_as : after_moves mid.content w.moves ≡ after_all mid.content e.steps =
-            all_of.content ∙ ap (after_all mid.content) whole_fresh in
-            let long = length-append h e.steps in
-            let same_long = ap (λ (xs : List Step). length xs) whole_fresh in
-            let kept : nm.board.steps.items ≡ h ++ e.steps =
-            done.kept ∙ first-all (h ++ e.steps) (omega (arith, long, same_long, few, count, less, size)) in
-            let kept_long = ap (λ (xs : List Step). length xs) kept in record {
-              stands = record {
-                content = left_as ∙ done.stands.content;
-                armed = done.stands.armed;
-                cpu = done.stands.cpu;
-                place = subst (λ b. StandsAt nm (if b then e.place else Off)) (sym wh) done.stands.place;
-              };
-              few = omega (arith, kept_long, long, same_long, few, count, size);
-              inside = subst (λ xs. AllByRecursion (IsStepIn (length (after_moves mid.content w.moves).flash)) xs) (sym kept)
-                  (subst (λ (c : Content). AllByRecursion (IsStepIn (length c.flash)) (h ++ e.steps)) (sym left_as)
-                  done.inside);
-            };
-        stops = λ no. ap (λ b. if b then e.place else Off) (sym is.whole_ ∙ no);
-      })
+    let front = front-of h e.steps nm.board.steps.items fresh (omega (arith, few, short)) done.kept fresh_is in (
+      long-by ot nt m mid all left event fresh whole h to uncut front is,
+      λ less.
+          let w = cut_moves (told_of ot) fresh in
+          let count = is.done in
+          let same : cut_moves (told_of ot) e.steps ≡ w =
+          same-moves h e.steps fresh (told_of ot) ot.done whole front few is.whole_ (omega (arith, count, less)) mid.content in
+          let next = (moved_as mid e (outcome_by mid.content w)).next in record {
+            mid = next;
+            to = played-more ot nt m mid all left event w whole to uncut (sym same) is;
+            goes = λ yes.
+                let wh : w.whole ≡ true = sym is.whole_ ∙ yes in
+                let all_of = whole-is fresh (told_of ot) mid.content wh in
+                let size = all_of.count in
+                let whole_fresh : fresh ≡ e.steps =
+                front-all h e.steps fresh ot.done front few (omega (arith, count, less, size)) in
+                let left_as : after_moves mid.content w.moves ≡ after_all mid.content e.steps =
+                all_of.content ∙ ap (after_all mid.content) whole_fresh in
+                let long = length-append h e.steps in
+                let same_long = ap (λ (xs : List Step). length xs) whole_fresh in
+                let kept : nm.board.steps.items ≡ h ++ e.steps =
+                done.kept ∙ first-all (h ++ e.steps) (omega (arith, long, same_long, few, count, less, size)) in
+                let kept_long = ap (λ (xs : List Step). length xs) kept in record {
+                  stands = record {
+                    content = left_as ∙ done.stands.content;
+                    armed = done.stands.armed;
+                    cpu = done.stands.cpu;
+                    place = subst (λ b. StandsAt nm (if b then e.place else Off)) (sym wh) done.stands.place;
+                  };
+                  few = omega (arith, kept_long, long, same_long, few, count, size);
+                  inside = subst (λ xs. AllByRecursion (IsStepIn (length (after_moves mid.content w.moves).flash)) xs) (sym kept)
+                      (subst (λ (c : Content). AllByRecursion (IsStepIn (length c.flash)) (h ++ e.steps)) (sym left_as)
+                      done.inside);
+                };
+            stops = λ no. ap (λ b. if b then e.place else Off) (sym is.whole_ ∙ no);
+          },
+    )
 
 -- a machine that is made anew
 pub made-anew : (machine : Parts (Tracer MemBoard)) (trace : Trace) (m mid : MachineView) (all left : List EventView)

@@ -61,10 +61,10 @@ tracer-does state history old new step does inside more = record {
   rose = does.rose;
   told = does.told;
   recorded = λ h is. record {
-      kept = more ∙ (ap (λ xs. traced_more xs step) is.kept ∙ sym (first-more h step));
-      inside = subst (λ n. AllByRecursion (IsStepIn n) (h ++ step ∷ [])) (sym does.size)
-          (all-append (IsStepIn (length (state old.bench).content.flash)) h (step ∷ []) is.inside (inside, tt));
-    };
+    kept = more ∙ (ap (λ xs. traced_more xs step) is.kept ∙ sym (first-more h step));
+    inside = subst (λ n. AllByRecursion (IsStepIn n) (h ++ step ∷ [])) (sym does.size)
+        (all-append (IsStepIn (length (state old.bench).content.flash)) h (step ∷ []) is.inside (inside, tt));
+  };
 }
 
 -- what follows, where all steps before it complete

@@ -1,11 +1,12 @@
 //! The cuts of a script on a board in memory.
 
-ghost use Rattle.std.specs.Prelude.{◌≡◌, ◌∷◌, IfOk, true};
+ghost use Rattle.std.specs.Prelude.{◌≡◌, ◌∷◌, IfOk, codes, true};
 ghost use Rattle.pico_board.specs.Cuts.{IsPattern};
 ghost use Rattle.pico_board.specs.MemBoard.{state_of};
 ghost use Rattle.boot_session.specs.Standing.{IsUnarmed};
-ghost use Rattle.cli_course.specs.Outcomes.{verdict_status, worked};
+ghost use Rattle.cli_course.specs.Outcomes.{ended, refused, verdict_status, worked};
 ghost use Rattle.cli_course.specs.Views.{answer_from};
+ghost use Rattle.cli_cuts.specs.CutsTexts.{cuts_text};
 ghost use Rattle.cli_cuts.specs.CutsWorks.{cuts_work, has_any, run_answers, verdict_of};
 
 use crate::texts::cuts_text;
@@ -29,16 +30,20 @@ fn has_any(kind: Kind, runs: &[Run]) -> bool
 
 /// Whether one of the lines has an answer of this kind.
 fn has_line(kind: Kind, found: &Cuts) -> bool
-    ensures { result ≡ has_any kind (record { class = found.now.end_;
-        decision = found.now.finished } ∷ run_answers found.now.runs.items) }
+    ensures { result ≡ has_any kind (record {
+      class = found.now.end_;
+      decision = found.now.finished;
+    } ∷ run_answers found.now.runs.items) }
 {
     is_kind(kind, kind_of(found.end_, &found.finished)) || has_any(kind, &found.runs)
 }
 
 /// The status of the lines.
 fn status_of(found: &Cuts) -> Status
-    ensures { result ≡ verdict_status (verdict_of (record { class = found.now.end_;
-        decision = found.now.finished } ∷ run_answers found.now.runs.items)) }
+    ensures { result ≡ verdict_status (verdict_of (record {
+      class = found.now.end_;
+      decision = found.now.finished;
+    } ∷ run_answers found.now.runs.items)) }
 {
     if has_line(Kind::Strange, found) {
         Status::Neither
@@ -47,6 +52,26 @@ fn status_of(found: &Cuts) -> Status
     } else {
         Status::Done
     }
+}
+
+/// The answer that tells what was found.
+fn told_cuts<'a>(alloc: Global, found: &Cuts) -> Result<Answer<'a>, AllocError>
+    ensures { IfOk result (λ answer. answer_from answer ≡ ended (verdict_status (verdict_of
+        (record { class = found.now.end_; decision = found.now.finished }
+        ∷ run_answers found.now.runs.items)))
+        (cuts_text found.now.steps.items found.now.runs.items found.now.end_
+        found.now.finished)) }
+{
+    let text = cuts_text(alloc, found)?;
+    Ok(ended(alloc, status_of(found), text))
+}
+
+/// The answer that refuses a script whose trace is too long.
+fn too_long<'a>(alloc: Global, name: &str) -> Result<Answer<'a>, AllocError>
+    ensures { IfOk result (λ answer. answer_from answer
+        ≡ refused name.now (codes "too-many-steps")) }
+{
+    refusal(alloc, name, "too-many-steps")
 }
 
 /// The work of `cuts` on a board, a script and a pattern: what the next normal boot makes of a loss
@@ -66,10 +91,7 @@ pub fn cuts<'a>(
         (state_of board).content cpu script_name.now script.entry.bytes.now pattern.now)) }
 {
     match cuts_on(alloc, board, cpu, &script, pattern)? {
-        Some(found) => {
-            let text = cuts_text(alloc, &found)?;
-            Ok(ended(alloc, status_of(&found), text))
-        }
-        None => refusal(alloc, script_name, "too-many-steps"),
+        Some(found) => told_cuts(alloc, &found),
+        None => too_long(alloc, script_name),
     }
 }

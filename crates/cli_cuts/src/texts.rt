@@ -78,12 +78,7 @@ fn answer_words(alloc: Global, class: Class, decision: &Decision) -> Result<Stri
 }
 
 /// Appends the line of a run.
-fn push_run(
-    alloc: Global,
-    text: &mut String,
-    steps: &[Step],
-    run: &Run,
-) -> Result<(), AllocError>
+fn push_run(alloc: Global, text: &mut String, steps: &[Step], run: &Run) -> Result<(), AllocError>
     ensures { OnOk result
         (string_bytes text.new ≡ string_bytes text.old ++ run_text steps.now run.now) }
 {

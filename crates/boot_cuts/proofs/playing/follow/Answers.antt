@@ -5,10 +5,10 @@ use Rattle.boot_cuts.proofs.playing.follow.Goals as goal
 
 pub returns-in-Some-clause-played : goal.returns-in-Some-clause-played
 returns-in-Some-clause-played c = λ m all left is play. (
-    λ many. let short = c.requires.short in absurd (omega (arith, many, short)),
-    λ few. play-armed c.args.machine.now c.args.trace.now _ m all left (event_from c.args.event.now) c.in-Some.cut
-        (sym c.in-Some.ensures) refl refl refl refl play,
-  )
+  λ many. let short = c.requires.short in absurd (omega (arith, many, short)),
+  λ few. play-armed c.args.machine.now c.args.trace.now _ m all left (event_from c.args.event.now) c.in-Some.cut
+      (sym c.in-Some.ensures) refl refl refl refl play,
+)
 
 pub returns-in_ok-machine-clause-played : goal.returns-in_ok-machine-clause-played
 returns-in_ok-machine-clause-played c = λ m all left is play.
