@@ -19,7 +19,7 @@ use cli_inputs::{
     Form, FormInput, binary_and_spec, board_files, board_of, elf_and_spec, elf_files,
     first_input_fault, flash_and_otp, flash_otp_image, flash_otp_script, flash_otp_script_pattern,
     image_alone, image_files, lone_file, one_json, otp_in, otp_told, script_alone, script_files,
-    seal_files, sweep_files, text_alone, uf2_alone,
+    seal_files, spec_in, sweep_files, table_in, text_alone, uf2_alone,
 };
 use cli_map::map_flash;
 use cli_otp::otp;
@@ -166,11 +166,13 @@ fn work<'a>(
         }
         CommandLine::Seal { binary, spec, out } => {
             let (bytes, text) = seal_files(files);
-            seal_binary(alloc, binary, spec, out, &bytes, &text)
+            let asked = spec_in(alloc, &text)?;
+            seal_binary(alloc, binary, spec, out, &bytes, &asked)
         }
         CommandLine::Elf { elf, spec, out } => {
             let (bytes, text) = elf_files(files);
-            pack_elf(alloc, elf, spec, out, &bytes, &text)
+            let asked = spec_in(alloc, &text)?;
+            pack_elf(alloc, elf, spec, out, &bytes, &asked)
         }
         CommandLine::Firm { image, cpu } => {
             let bytes = lone_file(files, Form::Image);
@@ -178,7 +180,7 @@ fn work<'a>(
         }
         CommandLine::Table { out, .. } => {
             let text = lone_file(files, Form::Json);
-            table(alloc, &text, out)
+            table(alloc, &table_in(alloc, &text)?, out)
         }
         CommandLine::OtpFile { out, .. } => {
             let text = lone_file(files, Form::OtpText);

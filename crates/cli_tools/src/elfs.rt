@@ -1,19 +1,15 @@
 //! The sealed image of an ELF file.
 
-ghost use Rattle.std.specs.Prelude.{◌≡◌, ◌≤◌, IfErr, IfOk, None, OnOk, Some, length, string_bytes};
+ghost use Rattle.std.specs.Prelude.{◌≡◌, ◌≤◌, IfErr, IfOk, None, Ok, OnOk, Some, length, string_bytes};
 ghost use Rattle.image_pack.specs.Faults.{block_offset};
 ghost use Rattle.image_pack.specs.Sealing.{sealed_text};
 ghost use Rattle.elf_pack.specs.Binaries.{elf_binary};
 ghost use Rattle.cli_course.specs.Outcomes.{refused, worked};
 ghost use Rattle.cli_course.specs.Views.{answer_from};
-ghost use Rattle.cli_inputs.specs.declared.forms.Form.{Form};
-ghost use Rattle.cli_inputs.specs.Forms.{HasForm};
-ghost use Rattle.cli_inputs.specs.Jsons.{spec_read};
 ghost use Rattle.cli_tools.specs.Elfs.{elf_blamed, elf_text, elf_work, image_fault};
 
 use crate::tools::{blamed, image_answer, seal_text};
 use cli_course::{Answer, refusal};
-use cli_inputs::spec_in;
 use elf_pack::{ElfFault, elf_image};
 use image_pack::SealSpec;
 use std::alloc::{AllocError, Global};
@@ -93,24 +89,22 @@ pub fn unpacked<'a>(
     refusal(alloc, elf_blamed(elf, spec, fault), &text)
 }
 
-/// The work of `elf` on an ELF file and the text of a spec, which have their forms: the line of the
-/// sealed image, and its file; or the first fault, told of the ELF file or of the spec by its word.
-/// It fails only where memory is out.
+/// The work of `elf` on an ELF file that is not too long and a spec: the line of the sealed image,
+/// and its file; or the first fault, told of the ELF file or of the spec by its word. It fails only
+/// where memory is out.
 pub fn pack_elf<'a>(
     alloc: Global,
     elf: &str,
     spec: &str,
     out: &'a str,
     bytes: &[u8],
-    text: &[u8],
+    asked: &SealSpec,
 ) -> Result<Answer<'a>, AllocError>
-    requires elf { HasForm Form.Elf bytes.now }
-    requires spec { HasForm Form.Spec text.now }
+    requires { length bytes.now ≤ 67108864 }
     ensures { IfOk result (λ answer. answer_from answer
-        ≡ worked (elf_work elf.now spec.now out.entry.now bytes.now (spec_read text.now))) }
+        ≡ worked (elf_work elf.now spec.now out.entry.now bytes.now (Ok asked.now))) }
 {
-    let asked = spec_in(alloc, text)?;
-    match packed(alloc, bytes, &asked)? {
+    match packed(alloc, bytes, asked)? {
         Ok((image, block)) => image_answer(alloc, image, block, out),
         Err(fault) => unpacked(alloc, elf, spec, fault),
     }

@@ -5,9 +5,6 @@ ghost use Rattle.pico_board.specs.declared.window.TheConstants.{MOST_FLASH_BYTES
 ghost use Rattle.part_table.specs.Written.{AgreesWithFlags, written_table, written_size};
 ghost use Rattle.image_pack.specs.Faults.{block_offset};
 ghost use Rattle.image_pack.specs.Sealing.{sealed_text};
-ghost use Rattle.cli_inputs.specs.declared.forms.Form.{Form};
-ghost use Rattle.cli_inputs.specs.Forms.{HasForm};
-ghost use Rattle.cli_inputs.specs.Jsons.{spec_read, table_read};
 ghost use Rattle.cli_course.specs.Outcomes.{Answers, one_file, worked};
 ghost use Rattle.text_lines.specs.Faults.{why_text};
 ghost use Rattle.cli_tools.specs.Seals.{seal_error, seal_text, blamed, sealed_line};
@@ -16,7 +13,6 @@ ghost use Rattle.cli_course.specs.Views.{answer_from};
 
 use crate::elfs::unpacked;
 use cli_course::{Answer, one_file};
-use cli_inputs::{spec_in, table_in};
 use elf_pack::ElfFault;
 use image_check::Why;
 use image_pack::{SealError, SealSpec, SpecField, seal};
@@ -59,16 +55,16 @@ fn table_file(alloc: Global, table: &Table) -> Result<Vec<u8>, AllocError>
     Ok(bytes)
 }
 
-/// The work of `table` on a text that has its form: the line of the table, and its file. It fails
-/// only where memory is out.
-pub fn table<'a>(alloc: Global, text: &[u8], out: &'a str) -> Result<Answer<'a>, AllocError>
-    requires { HasForm Form.Json text.now }
+/// The work of `table` on a table whose block is not too long: the line of the table, and its file.
+/// It fails only where memory is out.
+pub fn table<'a>(alloc: Global, table: &Table, out: &'a str) -> Result<Answer<'a>, AllocError>
+    requires agree { All AgreesWithFlags table.now.parts.items }
+    requires fits { written_size table.now ≤ 640 }
     ensures { IfOk result
-        (λ answer. answer_from answer ≡ worked (table_work out.entry.now (table_read text.now))) }
+        (λ answer. answer_from answer ≡ worked (table_work out.entry.now (Ok table.now))) }
 {
-    let table = table_in(alloc, text)?;
     let line = table_line(alloc, table.parts.len())?;
-    let bytes = table_file(alloc, &table)?;
+    let bytes = table_file(alloc, table)?;
     one_file(alloc, line, out, bytes)
 }
 
@@ -165,24 +161,22 @@ pub fn image_answer<'a>(
     one_file(alloc, line, out, image)
 }
 
-/// The work of `seal` on a binary and the text of a spec, which have their forms: the line of the
-/// sealed image, and its file; or the first error, told of the binary or of the spec by its word.
-/// It fails only where memory is out.
+/// The work of `seal` on a binary that is not too long and a spec: the line of the sealed image, and
+/// its file; or the first error, told of the binary or of the spec by its word. It fails only where
+/// memory is out.
 pub fn seal_binary<'a>(
     alloc: Global,
     binary: &str,
     spec: &str,
     out: &'a str,
     bytes: &[u8],
-    text: &[u8],
+    asked: &SealSpec,
 ) -> Result<Answer<'a>, AllocError>
-    requires binary { HasForm Form.Binary bytes.now }
-    requires spec { HasForm Form.Spec text.now }
+    requires { length bytes.now ≤ MOST_FLASH_BYTES }
     ensures { IfOk result (λ answer. answer_from answer
-        ≡ worked (seal_work binary.now spec.now out.entry.now bytes.now (spec_read text.now))) }
+        ≡ worked (seal_work binary.now spec.now out.entry.now bytes.now (Ok asked.now))) }
 {
-    let asked = spec_in(alloc, text)?;
-    match sealed(alloc, bytes, &asked)? {
+    match sealed(alloc, bytes, asked)? {
         Ok((image, block)) => image_answer(alloc, image, block, out),
         Err(error) => unpacked(alloc, binary, spec, ElfFault::Seal(error)),
     }
