@@ -1,15 +1,17 @@
 -- Which commands judge nothing: their works answer or refuse.
-use Rattle.std.proofs.Common.{ℕ, ◌≡◌, Bool, true, false, List, [], ◌∷◌, length, Option, Some, None, Result, Ok, Err, cond, refl}
+use Rattle.std.proofs.Common.{ℕ, ◌≡◌, ◌⊎◌, ◌↔◌, ◌∙◌, sym, ap, inl, inr, Bool, true, false, List, [], ◌∷◌, length, Option, Some, None, Result, Ok, Err, cond, refl}
 use Rattle.std.specs.Prelude.{⊤, nat_lt, ◌==◌}
 use Rattle.part_table.specs.declared.target.Target.{Target}
 use Rattle.script_plan.specs.declared.writing.WriteOrder.{WriteOrder}
 use Rattle.script_plan.specs.declared.writing.WriteOrder.TheVariants.{FirstLast, Ascending}
-use Rattle.cli_course.specs.Outcomes.{AnswerView, Work, Answers, Refuses, Judges, worked}
-use Rattle.cli_words.specs.Commands.{CommandLineView, Boot, Info, OwnedData, Explain, Caveats, Map, Replay, Sweep, Chart, Seal, Elf, Firm, Table, OtpFile, Usage, Help, Release, Uf2, Plan, Load, Copy, ListScript, WriteScript, Gen}
+use Rattle.cli_course.specs.Outcomes.{AnswerView, Work, Answers, Refuses, Judges, refused, worked}
+use Rattle.cli_words.specs.Commands.{CommandLineView, Boot, Info, OwnedData, Explain, Caveats, Map, Replay, Sweep, Chart, Cuts, Seal, Elf, Firm, Table, OtpFile, Usage, Help, Release, Uf2, Plan, Load, Copy, ListScript, WriteScript, Gen}
 use Rattle.pico_board.specs.declared.boot.Cpu.{Cpu}
 use Rattle.cli_inputs.specs.Forms.{content_of_files}
 use Rattle.cli_inputs.specs.Jsons.{spec_read, table_read, otp_read}
 use Rattle.cli_inputs.specs.Inputs.{of_one, of_two, of_three, of_four, first_input_fault, unless_refused}
+use Rattle.cli_course.specs.declared.status.Status.{Status}
+use Rattle.cli_inputs.specs.Rules.{AreFormed, IsRefusedFor}
 use Rattle.cli_inputs.proofs.InputLemmas.{Judged, one_faulty, judged-first}
 use Rattle.cli_boot.specs.Works.{boot_work, info_work, data_work}
 use Rattle.cli_explain.specs.Works.{explain_work}
@@ -25,7 +27,8 @@ use Rattle.cli_sweep.specs.SweepWorks.{sweep_work, swept_work}
 use Rattle.cli_tools.specs.Elfs.{elf_work, packed_work}
 use Rattle.cli_tools.specs.Tools.{seal_work, table_work, judged_work as seal_judged}
 use Rattle.cli_tools.specs.ToolWorks.{uf2_work, plan_work, load_work, target_work}
-use Rattle.boot_run.specs.Commands.{inputs_of, work_of, command_outcome, judges, is_verdict}
+use Rattle.boot_run.specs.Commands.{inputs_of, work_of, command_outcome, IsRefusedWork, IsRight, IsRightWith, NeedsBytes, judges, is_verdict}
+use Rattle.boot_run.proofs.RuleLemmas.{obeys, only}
 
 -- a work that answers or refuses
 abbrev IsPlain : Work → Type 0
@@ -113,6 +116,7 @@ plain (Sweep flash otp cpu script pattern) h read =
 plain (Chart flash otp cpu script pattern out) h read =
     on-four (λ f g s p. chart_work (content_of_files f g) cpu script out s p)
     (λ f g s p. by-option (drawn_work script out _ _) tt (λ e. tt) _) read
+plain (Cuts flash otp cpu script pattern) h read = cc
 plain (Seal binary spec out) h read =
     on-two (λ b s. seal_work binary spec out b (spec_read s))
     (λ b s. by-result (seal_work binary spec out b)
@@ -154,3 +158,28 @@ no-verdict command read long h =
         → is_verdict (unless_refused o (worked (work_of command read))).status ≡ false
     go None j = plain-status (work_of command read) (plain command h read)
     go (Some _) (one_faulty name fault first) = refl
+
+-- a verdict comes exactly where each input has its form and what is right for the command ends with it
+pub verdict-exactly : (command : CommandLineView) (read : List (List ℕ)) (status : Status)
+    → length read ≡ length (inputs_of command) → NeedsBytes command read → is_verdict status ≡ true
+    → ((command_outcome command read).status ≡ status) ↔ IsRightWith command read status
+verdict-exactly command read status long need verdict = (
+  λ h. go h (obeys command read long need).is,
+  λ is. ap (λ (o : AnswerView). o.status)
+      (sym (only command read is.o (record { long = long; is = inr (is.formed, is.right) }))) ∙ is.ends,
+)
+  where
+    none : (o : AnswerView) (name fault : List ℕ) → o ≡ refused name fault → o.status ≡ status → ⊥
+    none o name fault is h =
+        let e : true ≡ false =
+        sym verdict ∙ (sym (ap is_verdict h) ∙ ap (λ (x : AnswerView). is_verdict x.status) is) in cc
+
+    go : (command_outcome command read).status ≡ status
+        → ((name : List ℕ) × (fault : List ℕ)
+        × IsRefusedFor (inputs_of command) (IsRefusedWork command read) read name fault
+        × (command_outcome command read ≡ refused name fault))
+        ⊎ (AreFormed (inputs_of command) read × IsRight command read (command_outcome command read))
+        → IsRightWith command read status
+    go h (inl (name, fault, refuses, is)) = absurd (none (command_outcome command read) name fault is h)
+    go h (inr (all, right)) =
+        record { formed = all; o = command_outcome command read; right = right; ends = h }

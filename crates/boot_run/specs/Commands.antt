@@ -4,13 +4,15 @@
 use Rattle.std.specs.Prelude.{ℕ, Bool, true, false, List, [], Option, Some, None, ◌≡◌, ⊤}
 use Rattle.pico_board.specs.Files.{File}
 use Rattle.cli_course.specs.Outcomes.{LimitedInputView, AnswerView, Work, Answers, not_understood, found, outcome_found, AreOfBytes}
-use Rattle.cli_words.specs.Commands.{CommandLineView, Boot, Info, OwnedData, Explain, Map, Replay, Sweep, Chart, Seal, Elf, Firm, Table, Usage, Help, Release, Uf2, Plan, Copy, ListScript, WriteScript, Gen, Load, Caveats, OtpFile}
+use Rattle.cli_words.specs.Commands.{CommandLineView, Boot, Info, OwnedData, Explain, Map, Replay, Sweep, Chart, Seal, Elf, Firm, Table, Usage, Help, Release, Uf2, Plan, Copy, ListScript, WriteScript, Gen, Load, Caveats, OtpFile, Cuts}
 use Rattle.cli_words.specs.Usages.{usage_text, help_text, release_line}
 use Rattle.cli_inputs.specs.Forms.{content_of_files, HasForm}
 use Rattle.cli_inputs.specs.Jsons.{spec_read, table_read, otp_read}
 use Rattle.cli_inputs.specs.Inputs.{FormInputView, readings, flash_and_otp, flash_otp_script, flash_otp_script_pattern, flash_otp_image, binary_and_spec, elf_and_spec, one_json, otp_told, image_alone, uf2_alone, script_alone, text_alone, of_one, of_two, of_three, of_four, outcome_by}
 use Rattle.cli_boot.specs.Works.{boot_work, info_work, data_work}
 use Rattle.cli_explain.specs.Works.{explain_work}
+use Rattle.cli_cuts.specs.CutsRules.{IsCutsOf, IsCutsRefused}
+use Rattle.cli_cuts.specs.CutsWorks.{cuts_work}
 use Rattle.cli_caveats.specs.Works.{caveats_work}
 use Rattle.cli_map.specs.Works.{map_work}
 use Rattle.cli_otp.specs.OtpOutcomes.{IsOtpOf}
@@ -35,7 +37,7 @@ use Rattle.cli_course.specs.declared.status.Status.{Status}
 use Rattle.cli_course.specs.declared.status.Status.TheVariants.{Done, Unbootable, Neither, NoEffect, Refused}
 use Rattle.text_lines.specs.Texts.{decision_line}
 use Rattle.cli_inputs.specs.declared.forms.Form.TheVariants.{Flash, Otp}
-use Rattle.cli_inputs.specs.Rules.{OfOne, OfTwo, OfThree, OfFour, IsRefusedFor, IsWorked}
+use Rattle.cli_inputs.specs.Rules.{AreFormed, OfOne, OfTwo, OfThree, OfFour, IsRefusedFor, IsWorked}
 use Rattle.cli_boot.specs.Rules.{decided_status, IsBootOutcome, IsInfoOutcome, IsDataOutcome}
 use Rattle.cli_explain.specs.Rules.{IsExplainOf}
 use Rattle.cli_caveats.specs.Rules.{IsCaveatsOf}
@@ -60,6 +62,8 @@ inputs_of (Replay flash otp cpu script out_flash out_otp) = flash_otp_script fla
 inputs_of (Sweep flash otp cpu script pattern) =
     flash_otp_script_pattern flash otp script pattern
 inputs_of (Chart flash otp cpu script pattern out) =
+    flash_otp_script_pattern flash otp script pattern
+inputs_of (Cuts flash otp cpu script pattern) =
     flash_otp_script_pattern flash otp script pattern
 inputs_of (Seal binary spec out) = binary_and_spec binary spec
 inputs_of (Elf elf spec out) = elf_and_spec elf spec
@@ -93,6 +97,8 @@ work_of (Sweep flash otp cpu script pattern) =
     of_four (λ f g s p. sweep_work (content_of_files f g) cpu script s p)
 work_of (Chart flash otp cpu script pattern out) =
     of_four (λ f g s p. chart_work (content_of_files f g) cpu script out s p)
+work_of (Cuts flash otp cpu script pattern) =
+    of_four (λ f g s p. cuts_work (content_of_files f g) cpu script s p)
 work_of (Seal binary spec out) = of_two (λ b s. seal_work binary spec out b (spec_read s))
 work_of (Elf elf spec out) = of_two (λ e s. elf_work elf spec out e (spec_read s))
 work_of (Firm image cpu) = of_one (λ i. firm_work image i cpu)
@@ -136,6 +142,8 @@ IsRefusedWork (Sweep flash otp cpu script pattern) read name fault =
     OfFour (λ f g s p. IsSweepRefused script (content_of_files f g) cpu s name fault) read
 IsRefusedWork (Chart flash otp cpu script pattern out) read name fault =
     OfFour (λ f g s p. IsSweepRefused script (content_of_files f g) cpu s name fault) read
+IsRefusedWork (Cuts flash otp cpu script pattern) read name fault =
+    OfFour (λ f g s p. IsCutsRefused script (content_of_files f g) cpu s name fault) read
 IsRefusedWork (Seal binary spec out) read name fault =
     OfTwo (λ b s. IsUnsealed binary spec b s name fault) read
 IsRefusedWork (Elf elf spec out) read name fault =
@@ -180,6 +188,8 @@ IsRight (Sweep flash otp cpu script pattern) read o =
     OfFour (λ f g s p. IsSweepOf (content_of_files f g) cpu s p o) read
 IsRight (Chart flash otp cpu script pattern out) read o =
     OfFour (λ f g s p. IsChartOf (content_of_files f g) cpu out s p o) read
+IsRight (Cuts flash otp cpu script pattern) read o =
+    OfFour (λ f g s p. IsCutsOf (content_of_files f g) cpu s p o) read
 IsRight (Seal binary spec out) read o = OfTwo (λ b s. IsSealedOf out b s o) read
 IsRight (Elf elf spec out) read o = OfTwo (λ e s. IsElfOf out e s o) read
 IsRight (Firm image cpu) read o = OfOne (λ i. IsFirmOf i cpu o) read
@@ -217,8 +227,9 @@ NeedsBytes (Chart flash otp cpu script pattern out) read = AreOfBytes read
 NeedsBytes (Elf elf spec out) read = AreOfBytes read
 NeedsBytes command read = ⊤
 
--- the command judges a script, so that it may end with a verdict; none does yet
+-- the command judges a script, so that it may end with a verdict
 abbrev pub judges : CommandLineView → Bool
+judges (Cuts flash otp cpu script pattern) = true
 judges _ = false
 
 -- a status of a verdict that is no pass
@@ -228,6 +239,14 @@ is_verdict Neither = true
 is_verdict NoEffect = true
 is_verdict Refused = true
 is_verdict _ = false
+
+-- each input has its form, and what is right for the command ends with this status
+pub record IsRightWith (command : CommandLineView) (read : List (List ℕ)) (status : Status)
+    : Type 0 where
+  pub formed : AreFormed (inputs_of command) read
+  pub o : AnswerView
+  pub right : IsRight command read o
+  pub ends : o.status ≡ status
 
 -- a run named a decision: it ended with its status, and put its line
 abbrev pub Names : Decision → Status → SinkState → SinkState → Type 0

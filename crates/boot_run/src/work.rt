@@ -14,6 +14,7 @@ use boot_script::Script;
 use cli_boot::{boot, data, info};
 use cli_caveats::caveats;
 use cli_course::{Answer, told};
+use cli_cuts::cuts;
 use cli_explain::explain;
 use cli_inputs::{
     Form, FormInput, binary_and_spec, board_files, board_of, elf_and_spec, elf_files,
@@ -58,6 +59,13 @@ pub fn inputs<'a>(
             ..
         } => flash_otp_script_pattern(alloc, flash, otp, script, pattern),
         CommandLine::Chart {
+            flash,
+            otp,
+            script,
+            pattern,
+            ..
+        } => flash_otp_script_pattern(alloc, flash, otp, script, pattern),
+        CommandLine::Cuts {
             flash,
             otp,
             script,
@@ -163,6 +171,12 @@ fn work<'a>(
             let board = board_of(alloc, flash, &otp)?;
             let events = whole_script(&events);
             chart_script(alloc, board, *cpu, script, events, &pattern, out)
+        }
+        CommandLine::Cuts { cpu, script, .. } => {
+            let (flash, otp, events, pattern) = sweep_files(files);
+            let board = board_of(alloc, flash, &otp)?;
+            let events = whole_script(&events);
+            cuts(alloc, board, *cpu, script, events, &pattern)
         }
         CommandLine::Seal { binary, spec, out } => {
             let (bytes, text) = seal_files(files);

@@ -135,6 +135,12 @@ row_of verbs.Chart =
       words = kinds.Flash ∷ kinds.Otp ∷ kinds.Cpu ∷ kinds.Script ∷ kinds.Pattern ∷ kinds.Out ∷ [];
       does = codes "the same as a picture: a file in SVG";
     }
+row_of verbs.Cuts =
+    record {
+      name = codes "cuts";
+      words = kinds.Flash ∷ kinds.Otp ∷ kinds.Cpu ∷ kinds.Script ∷ kinds.Pattern ∷ [];
+      does = codes "what a boot makes of each loss of power in any script";
+    }
 row_of verbs.Seal =
     record {
       name = codes "seal";

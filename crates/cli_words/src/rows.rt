@@ -183,6 +183,8 @@ pub enum Verb {
     Sweep,
     /// A picture of a sweep.
     Chart,
+    /// What a normal boot makes of each loss of power in a script.
+    Cuts,
     /// The sealed image of a binary.
     Seal,
     /// The sealed image of an ELF file.
@@ -301,6 +303,17 @@ impl Verb {
                 ],
                 does: "the same as a picture: a file in SVG",
             },
+            Verb::Cuts => Row {
+                name: "cuts",
+                words: &[
+                    Word::Flash,
+                    Word::Otp,
+                    Word::Cpu,
+                    Word::Script,
+                    Word::Pattern,
+                ],
+                does: "what a boot makes of each loss of power in any script",
+            },
             Verb::Seal => Row {
                 name: "seal",
                 words: &[Word::Binary, Word::Spec, Word::Out],
@@ -391,7 +404,7 @@ impl Verb {
 }
 
 /// The rows, in the order of the usage.
-pub const VERBS: [Verb; 26] = [
+pub const VERBS: [Verb; 27] = [
     Verb::Boot,
     Verb::Info,
     Verb::OwnedData,
@@ -401,6 +414,7 @@ pub const VERBS: [Verb; 26] = [
     Verb::Replay,
     Verb::Sweep,
     Verb::Chart,
+    Verb::Cuts,
     Verb::Seal,
     Verb::Elf,
     Verb::Firm,

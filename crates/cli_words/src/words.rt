@@ -77,6 +77,14 @@ pub enum CommandLine<'a> {
         pattern: &'a str,
         out: &'a str,
     },
+    /// What a normal boot makes of each loss of power in a script.
+    Cuts {
+        flash: &'a str,
+        otp: &'a str,
+        cpu: Cpu,
+        script: &'a str,
+        pattern: &'a str,
+    },
     /// The sealed image of a binary.
     Seal {
         binary: &'a str,
@@ -226,6 +234,13 @@ fn built<'a>(verb: Verb, words: &'a [String], values: Values) -> CommandLine<'a>
             script: word_at(words, 3),
             pattern: word_at(words, 4),
             out: word_at(words, 5),
+        },
+        Verb::Cuts => CommandLine::Cuts {
+            flash: word_at(words, 0),
+            otp: word_at(words, 1),
+            cpu: values.cpu,
+            script: word_at(words, 3),
+            pattern: word_at(words, 4),
         },
         Verb::Seal => CommandLine::Seal {
             binary: word_at(words, 0),

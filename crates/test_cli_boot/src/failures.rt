@@ -7,7 +7,7 @@ use std::test::Fail;
 use test_fixtures::{ARM_1_0, PAIR, VECTORS, elf_file, flash, words};
 
 /// The words of each command that reads a file or writes one, its reads, and its writes.
-const COMMANDS: [(&[&str], u64, u64); 21] = [
+const COMMANDS: [(&[&str], u64, u64); 22] = [
     (&["boot", "f", "o", "arm", "normal"], 2, 0),
     (&["info", "f", "o", "arm"], 2, 0),
     (&["data", "f", "o", "arm", "normal"], 2, 0),
@@ -17,6 +17,7 @@ const COMMANDS: [(&[&str], u64, u64); 21] = [
     (&["replay", "f", "o", "arm", "s", "a", "b"], 3, 2),
     (&["sweep", "f", "o", "arm", "s", "t"], 4, 0),
     (&["chart", "f", "o", "arm", "s", "t", "a"], 4, 1),
+    (&["cuts", "f", "o", "arm", "s", "t"], 4, 0),
     (&["seal", "i", "p", "a"], 2, 1),
     (&["elf", "e", "p", "a"], 2, 1),
     (&["firm", "i", "arm"], 1, 0),

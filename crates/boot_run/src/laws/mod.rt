@@ -1,15 +1,16 @@
 //! Laws of the program's definitions, proved: each is the `ensures` of a function that does
 //! nothing.
 
-ghost use Rattle.std.specs.Prelude.{◌≡◌, ◌↔◌, ℕ, List, [], ◌∷◌, Some, false, length};
+ghost use Rattle.std.specs.Prelude.{◌≡◌, ◌↔◌, ℕ, List, [], ◌∷◌, Some, false, true, length};
 ghost use Rattle.pico_board.specs.declared.boot.Cpu.{Cpu};
 ghost use Rattle.pico_board.specs.declared.boot.BootKind.{BootKind};
 ghost use Rattle.pico_board.specs.Files.{File};
+ghost use Rattle.cli_course.specs.declared.status.Status.{Status};
 ghost use Rattle.cli_course.specs.declared.status.Status.TheVariants.{Input, Bootsel};
 ghost use Rattle.cli_words.specs.Commands.{CommandLineView, Boot, Caveats, OwnedData};
 ghost use Rattle.cli_inputs.specs.Inputs.{readings};
 ghost use Rattle.cli_course.specs.Outcomes.{AnswerView, found};
-ghost use Rattle.boot_run.specs.Commands.{inputs_of, command_outcome, outcome_on, Obeys, FallsOn, NeedsBytes, IsRefusedCommand, judges, is_verdict};
+ghost use Rattle.boot_run.specs.Commands.{inputs_of, command_outcome, outcome_on, Obeys, FallsOn, NeedsBytes, IsRefusedCommand, IsRightWith, judges, is_verdict};
 ghost use Rattle.cli_course.specs.Ends.{cut};
 
 /// The outcome of a command on the bytes of its inputs is the one that is right by the rules. Of
@@ -27,7 +28,8 @@ pub fn outcomes_are_right()
 
 /// The status is Input exactly where an input breaks its form, or each has its form and the work
 /// refuses one, and Bootsel exactly where a boot that was asked for falls. A verdict that is no pass
-/// comes of no command but those that judge a script.
+/// comes exactly where each input has its form and what is right for the command ends with it, and
+/// of no command but those that judge a script.
 pub fn statuses_come_exactly()
     ensures input { (command : CommandLineView) (read : List (List ℕ))
         → length read ≡ length (inputs_of command)
@@ -41,6 +43,10 @@ pub fn statuses_come_exactly()
     ensures caveats { (flash otp f g : List ℕ) (cpu : Cpu) (kind : BootKind)
         → ((command_outcome (Caveats flash otp cpu kind) (f ∷ g ∷ [])).status ≡ Bootsel)
         ↔ FallsOn f g cpu kind }
+    ensures judged { (command : CommandLineView) (read : List (List ℕ)) (status : Status)
+        → length read ≡ length (inputs_of command) → NeedsBytes command read
+        → is_verdict status ≡ true
+        → ((command_outcome command read).status ≡ status) ↔ IsRightWith command read status }
     ensures verdict { (command : CommandLineView) (read : List (List ℕ))
         → length read ≡ length (inputs_of command) → judges command ≡ false
         → is_verdict (command_outcome command read).status ≡ false }
