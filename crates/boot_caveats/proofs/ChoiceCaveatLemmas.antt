@@ -417,7 +417,7 @@ moved-says us k part e = go (k == 0) refl e
       by (slice_get us k) refl same,
     )
 
-says-moved : (us : List SlotUnit) (k part : ℕ) (u : SlotUnit) → k ≢ 0 → slice_get us k ≡ Some u → u.a_part ≡ Some part
+pub says-moved : (us : List SlotUnit) (k part : ℕ) (u : SlotUnit) → k ≢ 0 → slice_get us k ≡ Some u → u.a_part ≡ Some part
     → moved_part us k ≡ Some part
 says-moved us k part u some at first = go (k == 0) refl
   where

@@ -10,3 +10,6 @@ pub mod ChoiceCaveatLemmas
 pub mod StartCaveatLemmas
 pub mod ImageCaveatLemmas
 pub mod CaveatLemmas
+pub mod DoubtLemmas
+pub mod ProcessorLaws
+pub mod ChoiceLaws

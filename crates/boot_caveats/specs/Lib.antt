@@ -13,3 +13,4 @@ pub mod ImageRules
 pub mod Reads
 pub mod Caveats
 pub mod Rules
+pub mod Alternatives

@@ -1,5 +1,7 @@
 //! Laws of the definitions, proved: each is the `ensures` of a function that does nothing.
 
+pub mod doubts;
+
 ghost use Rattle.std.specs.Prelude.{◌≡◌, List};
 ghost use Rattle.pico_board.specs.declared.boot.Cpu.{Cpu};
 ghost use Rattle.pico_board.specs.declared.boot.BootKind.{BootKind};
