@@ -13,3 +13,4 @@ pub mod CaveatLemmas
 pub mod DoubtLemmas
 pub mod ProcessorLaws
 pub mod ChoiceLaws
+pub mod WindowLaws

@@ -179,9 +179,13 @@ early_from (suc n) x bytes =
 abbrev pub early_first : List ℕ → Option BlockView
 early_first w = early_from 1024 0 w
 
+-- the loop that begins at a first block, or none
+abbrev pub loop_from : List ℕ → Option BlockView → Result (List BlockView) LoopFault
+loop_from w None = Err NoFirst
+loop_from w (Some b) = follow 31 w b.at (b ∷ []) b
+
 abbrev pub early_loop : List ℕ → Result (List BlockView) LoopFault
-early_loop w =
-    elim (early_first w) [ None ↦ Err NoFirst | Some b ↦ follow 31 w b.at (b ∷ []) b ]
+early_loop w = loop_from w (early_first w)
 
 abbrev pub early_slot_answer : Content → ℕ → Result Table SlotFault
 early_slot_answer c number =
