@@ -1,5 +1,5 @@
 -- The caveats of a boot's answer, by the function and in the words of the rules.
-use Rattle.std.proofs.Common.{◌≡◌, List, [], ◌∷◌, ◌++◌, length, Vec, Global, Ok, Err, append_assoc, refl, sym, ap, ◌∙◌, subst}
+use Rattle.std.proofs.Common.{◌≡◌, List, [], ◌++◌, length, Vec, Global, Ok, Err, append_assoc, sym, ap, ◌∙◌, subst}
 use Rattle.std.specs.Prelude.{IfOk, Result}
 use Rattle.std.specs.declared.alloc.AllocError.{AllocError}
 use Rattle.pico_board.specs.declared.boot.Cpu.{Cpu}

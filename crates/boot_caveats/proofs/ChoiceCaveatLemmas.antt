@@ -1,11 +1,11 @@
 -- Where the choice of a boot rests on a rule that the chip may have otherwise, by the functions and in the words of the
 -- rules.
-use Rattle.std.proofs.Common.{◌≡◌, ◌≢◌, ◌⊎◌, ℕ, zero, suc, ◌+◌, ◌-◌, ◌<◌, ◌≤◌, ◌==◌, ◌&&◌, ◌||◌, not, nat_le, nat_lt, Bool, true, false, cond, List, [], ◌∷◌, ◌++◌, length, get_or, slice_get, position, Option, Some, None, Result, Ok, Err, is_some, option_map, option_and_then, refl, sym, ap, ◌∙◌, subst, inl, inr, arith}
+use Rattle.std.proofs.Common.{◌≡◌, ◌≢◌, ◌⊎◌, ℕ, ◌+◌, ◌-◌, ◌<◌, ◌≤◌, ◌==◌, ◌&&◌, ◌||◌, nat_le, Bool, true, false, cond, List, [], ◌∷◌, ◌++◌, length, get_or, slice_get, position, Option, Some, None, Result, Ok, Err, is_some, option_map, option_and_then, refl, sym, ap, ◌∙◌, subst, inl, inr, arith}
 use Rattle.std.specs.Prelude.{find, is_ok, option_to_list}
 use Rattle.std.specs.Bool.{Decides}
 use Rattle.std.specs.Option.{option_map_or}
 use Rattle.std.proofs.lemmas.Bool.{eqb-true, eq-eqb}
-use Rattle.std.proofs.lemmas.Bool.Decides.{leb_tells, nat_tests}
+use Rattle.std.proofs.lemmas.Bool.Decides.{nat_tests}
 use Rattle.std.proofs.Math.Seq.{get_or-append_seam}
 use Rattle.std.proofs.lemmas.List.{get_or_append_left}
 use Rattle.std.proofs.lemmas.Option.{same_Some, slice_get-get_or}
@@ -25,12 +25,9 @@ use Rattle.image_check.specs.Image.{image_at}
 use Rattle.image_check.specs.Valid.{Valid}
 use Rattle.image_check.proofs.LawLemmas.{at-valid, valid-at}
 use Rattle.otp_roll.specs.Flags.{slot_size}
-use Rattle.part_table.proofs.TestLemmas.{Absent, Found as FoundAt, first_position, search_of}
-use Rattle.part_table.specs.declared.table.Table.{Table}
+use Rattle.part_table.proofs.TestLemmas.{first_position, search_of}
 use Rattle.slot_choice.specs.declared.unit.Member.{Member}
-use Rattle.slot_choice.specs.declared.unit.Member.TheVariants.{A, B}
 use Rattle.slot_choice.specs.declared.unit.SlotUnit.{SlotUnit}
-use Rattle.slot_choice.specs.declared.choice.Choice.{Choice}
 use Rattle.slot_choice.specs.Units.{IsMember, member_window}
 use Rattle.slot_choice.specs.Updates.{IsUpdateOf, has_member_at, member_at, updated_member}
 use Rattle.slot_choice.proofs.UpdateLemmas.{member_starts, none_starts, updated}
@@ -51,8 +48,8 @@ use Rattle.boot_reasons.specs.declared.looks.UnitReason.{UnitReason}
 use Rattle.boot_reasons.specs.declared.looks.UnitReason.TheVariants.{Updated, Only, Version, Tie as IsTied}
 use Rattle.boot_reasons.specs.SlotRules.{IsTableInForce}
 use Rattle.boot_caveats.specs.declared.caveat.Caveat.{Caveat}
-use Rattle.boot_caveats.specs.declared.caveat.Caveat.TheVariants.{OtherProcessor, SlotImage, Tie, UpdateOfSlot, UpdateMovesUnit}
-use Rattle.boot_caveats.specs.Listing.{IsFirstWith, caveat_if}
+use Rattle.boot_caveats.specs.declared.caveat.Caveat.TheVariants.{OtherProcessor, Tie, UpdateOfSlot, UpdateMovesUnit}
+use Rattle.boot_caveats.specs.Listing.{caveat_if}
 use Rattle.boot_caveats.specs.ChoiceCaveats.{first_tie, has_normal_image, has_typed_first, is_slot_address, is_tie, lacks_image, lone_slot_images, moved_by, moved_part, other_cpu, other_processor, slot_images, started_window, takes_image, tie_of, tied_in, update_moves, update_of_slot}
 use Rattle.boot_caveats.specs.ChoiceRules.{AreSlotImages, HasTypedFirst, IsMovedPart, IsOtherProcessor, IsPassedOver, IsTableless, IsTie, IsTiedPair, IsUpdateMovesUnit, IsUpdateOfSlot, StartsIn}
 use Rattle.boot_caveats.proofs.ListingLemmas.{IsJust, both-just, first-found, found-first, never-just, one-just, where-just}

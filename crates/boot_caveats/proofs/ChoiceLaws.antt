@@ -1,10 +1,8 @@
 -- No caveat, no doubt: ties, and updates that move a unit.
-use Rattle.std.proofs.Common.{◌≡◌, ◌≢◌, ◌⊎◌, ℕ, zero, suc, ◌+◌, ◌-◌, ◌==◌, ◌||◌, ◌&&◌, nat_lt, nat_le, Bool, true, false, cond, if◌then◌else◌, List, [], ◌∷◌, ◌++◌, length, take, drop, remove, slice_get, position, Option, Some, None, Result, Ok, Err, is_some, option_map, option_and_then, refl, sym, ap, ◌∙◌, subst, inl, inr, arith}
+use Rattle.std.proofs.Common.{◌≡◌, ◌≢◌, ℕ, zero, suc, ◌-◌, nat_le, Bool, true, false, cond, if◌then◌else◌, List, [], ◌∷◌, length, slice_get, position, Option, Some, None, is_some, option_map, option_and_then, refl, sym, ap, ◌∙◌, subst, inl, inr, arith}
 use Rattle.std.specs.Prelude.{Contains, find, option_to_list}
 use Rattle.std.specs.Option.{option_map_or, option_or}
 use Rattle.std.specs.Result.{result_ok}
-use Rattle.std.proofs.lemmas.Bool.{eqb-true, eq-eqb}
-use Rattle.std.proofs.lemmas.Bool.Decides.{nat_tests}
 use Rattle.std.proofs.lemmas.Option.{same_Some}
 use Rattle.std.proofs.lemmas.List.Elements.{Contains-append_left, Contains-append_right}
 use Rattle.pico_board.specs.declared.boot.Cpu.{Cpu}
@@ -12,11 +10,9 @@ use Rattle.pico_board.specs.declared.boot.BootKind.{BootKind}
 use Rattle.pico_board.specs.declared.boot.BootKind.TheVariants.{Normal, Update, Bootsel as AskBootsel}
 use Rattle.pico_board.specs.declared.window.Window.{Window}
 use Rattle.pico_board.specs.Content.{Content, flash_base}
-use Rattle.block_codec.specs.declared.versions.Version.{Version}
 use Rattle.image_def.specs.declared.started.Started.{Started}
-use Rattle.image_check.specs.declared.why.Why.{Why}
 use Rattle.image_check.specs.Image.{image_at}
-use Rattle.otp_roll.specs.Flags.{flash_off, slot_size}
+use Rattle.otp_roll.specs.Flags.{slot_size}
 use Rattle.part_table.specs.declared.table.Table.{Table}
 use Rattle.part_table.proofs.TestLemmas.{search_of}
 use Rattle.slot_choice.specs.declared.unit.Member.{Member}
@@ -24,19 +20,17 @@ use Rattle.slot_choice.specs.declared.unit.Member.TheVariants.{A, B}
 use Rattle.slot_choice.specs.declared.unit.SlotUnit.{SlotUnit}
 use Rattle.slot_choice.specs.declared.choice.Choice.{Choice}
 use Rattle.slot_choice.specs.Units.{tableless_unit, units}
-use Rattle.slot_choice.specs.Updates.{has_member_at, member_at, moved_to_front, update_order, updated_member}
+use Rattle.slot_choice.specs.Updates.{has_member_at, member_at, moved_to_front}
 use Rattle.slot_choice.specs.Versions.{better, is_below}
 use Rattle.slot_choice.proofs.PlaceLemmas.{boot_unit}
 use Rattle.slot_choice.proofs.VersionLemmas.{irreflexive, transitive}
-use Rattle.boot_rules.specs.declared.decision.Decision.{Decision}
-use Rattle.boot_rules.specs.Choosing.{boot_units_in, choose, images_in, member_image, of_better, order_of, ordered_choice, unit_choice, version_of_image}
+use Rattle.boot_rules.specs.Choosing.{boot_units_in, choose, images_in, of_better, order_of, ordered_choice, unit_choice, version_of_image}
 use Rattle.boot_rules.specs.Chosen.{Chosen}
 use Rattle.boot_rules.specs.Tables.{table_of_content}
 use Rattle.boot_reasons.specs.declared.looks.UnitReport.{UnitReport}
-use Rattle.boot_reasons.specs.declared.looks.TakenImage.{TakenImage}
 use Rattle.boot_reasons.specs.declared.looks.UnitReason.TheVariants.{Version as Greater, Tie as IsTied}
-use Rattle.boot_reasons.specs.Looks.{better_image, report_on, reports_of, second_counted, second_image, taken_image, taken_of}
-use Rattle.boot_reasons.specs.Reasons.{does_report, reasons_in, reports_in, results_in}
+use Rattle.boot_reasons.specs.Looks.{better_image, report_on, reports_of, taken_image, taken_of}
+use Rattle.boot_reasons.specs.Reasons.{reasons_in, reports_in, results_in}
 use Rattle.boot_reasons.proofs.LookLemmas.{choice-of-unit, second-counted, takes-choice}
 use Rattle.boot_caveats.specs.declared.caveat.Caveat.{Caveat}
 use Rattle.boot_caveats.specs.declared.caveat.Caveat.TheVariants.{Tie, UpdateMovesUnit}

@@ -1,12 +1,12 @@
 -- What is to be looked up of the windows that a boot looks at, and of owned partitions, by the functions and in the
 -- words of the rules.
-use Rattle.std.proofs.Common.{◌≡◌, ◌⊎◌, ℕ, ◌+◌, ◌<◌, ◌==◌, ◌&&◌, ◌||◌, not, nat_lt, Bool, true, false, cond, List, [], ◌∷◌, ◌++◌, length, slice_get, Option, Some, None, Result, Ok, Err, option_map, option_and_then, refl, sym, ap, ◌∙◌, subst, inl, inr, arith}
-use Rattle.std.specs.Prelude.{find, option_to_list, reverse}
+use Rattle.std.proofs.Common.{◌≡◌, ◌⊎◌, ℕ, ◌+◌, ◌<◌, ◌==◌, ◌&&◌, ◌||◌, not, nat_lt, Bool, true, false, cond, List, [], slice_get, Option, Some, None, Result, Ok, Err, option_and_then, refl, sym, ap, ◌∙◌, subst, inl, inr, arith}
+use Rattle.std.specs.Prelude.{option_to_list}
 use Rattle.std.specs.Bool.{Decides}
 use Rattle.std.specs.List.{filter_map, flat_map}
 use Rattle.std.specs.Option.{option_map_or}
 use Rattle.std.specs.Result.{result_ok}
-use Rattle.std.proofs.lemmas.Bool.{eqb-true, eq-eqb}
+use Rattle.std.proofs.lemmas.Bool.{eqb-true}
 use Rattle.std.proofs.lemmas.Bool.Decides.{nat_tests}
 use Rattle.std.proofs.lemmas.Option.{same_Some}
 use Rattle.pico_board.specs.declared.boot.Cpu.{Cpu}
@@ -23,7 +23,6 @@ use Rattle.block_loop.specs.declared.fault.LoopFault.{LoopFault}
 use Rattle.block_loop.proofs.ChainLemmas.{first_block-found, first_block-stands, loop_of-loop}
 use Rattle.block_loop.proofs.SameLoopLemmas.{IsLoop-from_answer}
 use Rattle.image_def.specs.declared.started.Started.{Started}
-use Rattle.image_def.specs.declared.fault.DefFault.{DefFault}
 use Rattle.image_def.specs.declared.fault.DefFault.TheVariants.{Repeated, BadItem, BadRow, RepeatedRow}
 use Rattle.image_def.specs.Suits.{does_suit, last_suiting}
 use Rattle.load_map.specs.declared.load.MapFault.TheVariants.{Storage, Runtime, CoversBlock}
@@ -36,17 +35,16 @@ use Rattle.part_table.specs.declared.table.Table.{Table}
 use Rattle.part_table.specs.Links.{is_owned}
 use Rattle.part_table.specs.Partitions.{part_at}
 use Rattle.part_table.specs.Windows.{part_window}
-use Rattle.slot_choice.specs.declared.choice.Choice.{Choice}
 use Rattle.boot_rules.specs.declared.decision.Decision.{Decision}
 use Rattle.boot_rules.specs.declared.decision.Decision.TheVariants.{Start, Bootsel}
 use Rattle.boot_rules.specs.declared.decision.Fall.TheVariants.{Requested, FlashOff, NoImage}
 use Rattle.boot_reasons.specs.declared.looks.UnitReport.{UnitReport}
 use Rattle.boot_caveats.specs.declared.caveat.Caveat.{Caveat}
-use Rattle.boot_caveats.specs.declared.caveat.Caveat.TheVariants.{FirstBlock, ItemOrder, MayStart, OwnedImage}
+use Rattle.boot_caveats.specs.declared.caveat.Caveat.TheVariants.{FirstBlock, ItemOrder, MayStart}
 use Rattle.boot_caveats.specs.Listing.{AreOfEach, IsWhere, caveat_if}
 use Rattle.boot_caveats.specs.ChoiceCaveats.{has_normal_image}
 use Rattle.boot_caveats.specs.ImageCaveats.{begins_otherwise, definition_in, ends_late, first_places, is_doubtful, item_order, late_first, late_firsts, look_may_start, looked_windows, may_start, owned_image, owned_images, read_windows, reads_blocks, second_may_start}
-use Rattle.boot_caveats.specs.ImageRules.{AreFirstPlaces, AreItemOrders, AreLateFirsts, AreMayStarts, AreOwnedImages, BeginsOtherwise, HasLateFirst, IsDoubtful, IsMayStart, IsOwnedImage, IsSecondMayStart, ReadsBlocks, bad_row, covers_block, runtime, bad_hash_def, bad_hash_value, entry, delta}
+use Rattle.boot_caveats.specs.ImageRules.{AreItemOrders, AreLateFirsts, AreMayStarts, AreOwnedImages, BeginsOtherwise, HasLateFirst, IsDoubtful, IsMayStart, IsOwnedImage, IsSecondMayStart, ReadsBlocks, bad_row, covers_block, runtime, bad_hash_def, bad_hash_value, entry, delta}
 use Rattle.boot_caveats.proofs.WindowLemmas.{places-only, places-right}
 use Rattle.boot_caveats.proofs.ChoiceCaveatLemmas.{normal-decides}
 use Rattle.boot_caveats.proofs.TableCaveatLemmas.{no-parts, parts-just}

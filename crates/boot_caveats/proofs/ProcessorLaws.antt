@@ -1,7 +1,6 @@
 -- No caveat, no doubt: the other processor, and the slots of a flash without a table.
-use Rattle.std.proofs.Common.{◌≡◌, ◌≢◌, ◌⊎◌, ◌↔◌, ℕ, zero, suc, ◌==◌, ◌&&◌, ◌||◌, Bool, true, false, cond, List, [], ◌∷◌, ◌++◌, length, slice_get, Option, Some, None, option_map, refl, sym, ap, ◌∙◌, subst, inl, inr, arith}
+use Rattle.std.proofs.Common.{◌≡◌, ◌≢◌, ◌⊎◌, ◌↔◌, ℕ, zero, suc, ◌==◌, ◌&&◌, ◌||◌, Bool, true, false, cond, List, [], ◌∷◌, slice_get, Option, Some, None, option_map, refl, sym, ap, ◌∙◌, subst, inl, inr}
 use Rattle.std.specs.Prelude.{Contains, option_to_list}
-use Rattle.std.specs.Bool.{Decides}
 use Rattle.std.proofs.lemmas.Bool.{eqb-true, eq-eqb}
 use Rattle.std.proofs.lemmas.Option.{same_Some}
 use Rattle.std.proofs.lemmas.List.Elements.{Contains-append_left, Contains-append_right}
@@ -12,7 +11,7 @@ use Rattle.pico_board.specs.declared.window.TheConstants.{SMALLEST_SLOT}
 use Rattle.pico_board.specs.Content.{Content}
 use Rattle.image_def.specs.declared.started.Started.{Started}
 use Rattle.image_check.specs.Valid.{Valid}
-use Rattle.otp_roll.specs.Flags.{flash_off, slot_size}
+use Rattle.otp_roll.specs.Flags.{flash_off}
 use Rattle.slot_choice.specs.declared.unit.Member.{Member}
 use Rattle.slot_choice.specs.declared.unit.Member.TheVariants.{A, B}
 use Rattle.slot_choice.specs.declared.unit.SlotUnit.{SlotUnit}
@@ -27,15 +26,15 @@ use Rattle.boot_rules.specs.Tables.{slot_window}
 use Rattle.boot_rules.proofs.DecisionLemmas.{chosen-decision, decision-chosen}
 use Rattle.boot_reasons.specs.declared.slots.TableInForce.{TableInForce}
 use Rattle.boot_reasons.specs.declared.reasons.Reasons.{Reasons}
-use Rattle.boot_reasons.specs.Reasons.{reasons_in, reported_decision}
+use Rattle.boot_reasons.specs.Reasons.{reasons_in}
 use Rattle.boot_reasons.specs.SlotRules.{IsTableInForce}
 use Rattle.boot_reasons.proofs.ReasonLemmas.{reasons-right}
 use Rattle.boot_caveats.specs.declared.caveat.Caveat.{Caveat}
 use Rattle.boot_caveats.specs.declared.caveat.Caveat.TheVariants.{OtherProcessor, SlotImage}
 use Rattle.boot_caveats.specs.Listing.{caveat_if}
-use Rattle.boot_caveats.specs.Caveats.{caveats_in, choice_caveats}
+use Rattle.boot_caveats.specs.Caveats.{choice_caveats}
 use Rattle.boot_caveats.specs.Rules.{AreCaveats}
-use Rattle.boot_caveats.specs.ChoiceCaveats.{first_slot_image, has_normal_image, has_typed_first, lacks_image, lone_slot_images, other_cpu, other_processor, second_slot_image, slot_images, started_window}
+use Rattle.boot_caveats.specs.ChoiceCaveats.{first_slot_image, has_normal_image, has_typed_first, lacks_image, lone_slot_images, other_cpu, other_processor, slot_images, started_window}
 use Rattle.boot_caveats.specs.ChoiceRules.{IsTableless}
 use Rattle.boot_caveats.specs.Alternatives.{ChosenOfBoth, ChosenWithSlots, slots_alone}
 use Rattle.boot_caveats.proofs.CaveatLemmas.{caveats-only}

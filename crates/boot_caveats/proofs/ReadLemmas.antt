@@ -6,21 +6,20 @@ use Rattle.std.proofs.lemmas.Option.{same_Some}
 use Rattle.pico_board.specs.declared.boot.Cpu.{Cpu}
 use Rattle.pico_board.specs.declared.boot.BootKind.{BootKind}
 use Rattle.pico_board.specs.declared.window.Window.{Window}
-use Rattle.pico_board.specs.Content.{Content, IsContent, window_bytes}
+use Rattle.pico_board.specs.Content.{Content, IsContent}
 use Rattle.image_def.specs.declared.started.Started.{Started}
 use Rattle.image_def.proofs.GuaranteeLemmas.{definition_from_ok}
 use Rattle.image_check.specs.declared.why.Why.{Why}
 use Rattle.image_check.specs.Valid.{Valid}
 use Rattle.image_check.proofs.LawLemmas.{valid-window}
 use Rattle.image_check.proofs.RuleLemmas.{suits-type}
-use Rattle.otp_roll.specs.Flags.{flash_off, slot_size}
+use Rattle.otp_roll.specs.Flags.{flash_off}
 use Rattle.otp_roll.specs.Rows.{AreRollbackRows}
 use Rattle.part_table.specs.declared.table.Table.{Table}
 use Rattle.part_table.specs.Sound.{IsSoundTable}
 use Rattle.slot_choice.specs.declared.unit.Member.{Member}
 use Rattle.slot_choice.specs.declared.unit.Member.TheVariants.{A, B}
 use Rattle.slot_choice.specs.declared.unit.SlotUnit.{SlotUnit}
-use Rattle.slot_choice.specs.declared.choice.Choice.{Choice}
 use Rattle.slot_choice.specs.Units.{member_window}
 use Rattle.boot_rules.specs.declared.decision.Decision.{Decision}
 use Rattle.boot_rules.specs.declared.decision.Decision.TheVariants.{Start, Bootsel}

@@ -1,5 +1,5 @@
 -- What is to be looked up of the image that a boot starts, by the functions and in the words of the rules.
-use Rattle.std.proofs.Common.{◌≡◌, ◌≢◌, ℕ, ◌+◌, ◌*◌, ◌^◌, ◌≤◌, ◌==◌, not, Bool, true, false, cond, List, [], ◌∷◌, ◌++◌, length, Option, Some, None, Result, Ok, Err, option_map, option_and_then, refl, sym, ap, ◌∙◌, subst, inl, inr, arith}
+use Rattle.std.proofs.Common.{◌≡◌, ℕ, ◌*◌, not, Bool, true, false, List, [], ◌∷◌, ◌++◌, length, Option, Some, None, Result, Ok, Err, option_map, option_and_then, refl, sym, ap, ◌∙◌, subst}
 use Rattle.std.specs.Prelude.{find, option_to_list}
 use Rattle.std.specs.Bool.{Decides}
 use Rattle.std.specs.List.{AllByRecursion}
@@ -9,7 +9,7 @@ use Rattle.std.proofs.lemmas.Option.{same_Some}
 use Rattle.pico_board.specs.declared.window.Window.{Window}
 use Rattle.pico_board.specs.Content.{Content, window_bytes}
 use Rattle.block_codec.specs.Blocks.{BlockView}
-use Rattle.block_loop.specs.Loop.{IsLoop, loop_of}
+use Rattle.block_loop.specs.Loop.{loop_of}
 use Rattle.block_loop.specs.declared.fault.LoopFault.{LoopFault}
 use Rattle.block_loop.proofs.ChainLemmas.{loop_of-loop}
 use Rattle.block_loop.proofs.SameLoopLemmas.{IsLoop-from_answer}

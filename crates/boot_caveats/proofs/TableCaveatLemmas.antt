@@ -1,6 +1,6 @@
 -- What the tables of the slots say that the model does not read or judges otherwise, by the functions and in the words
 -- of the rules.
-use Rattle.std.proofs.Common.{◌≡◌, ◌≢◌, ◌⊎◌, ℕ, ◌<◌, ◌==◌, ◌&&◌, not, nat_lt, bytes_eq, Bool, true, false, cond, List, [], ◌∷◌, ◌++◌, length, Option, Some, None, Result, Ok, Err, option_map, refl, sym, ap, ◌∙◌, subst, inl, inr, arith}
+use Rattle.std.proofs.Common.{◌≡◌, ◌≢◌, ℕ, ◌<◌, ◌==◌, ◌&&◌, not, nat_lt, Bool, true, false, cond, List, [], length, Option, Some, None, Result, Ok, Err, option_map, refl, sym, ap, ◌∙◌, subst, inl, inr, arith}
 use Rattle.std.specs.Prelude.{option_to_list}
 use lib.Pointwise.{pointwise}
 use Rattle.std.specs.Bool.{Decides}
@@ -13,7 +13,6 @@ use Rattle.pico_board.specs.declared.window.TheConstants.{MOST_FLASH_BYTES}
 use Rattle.block_codec.specs.declared.versions.Version.{Version}
 use Rattle.part_table.specs.declared.partition.Partition.{Partition}
 use Rattle.part_table.specs.declared.table.Table.{Table}
-use Rattle.part_table.specs.declared.table.TableFault.{TableFault}
 use Rattle.part_table.specs.declared.table.TableFault.TheVariants.{BadItem, Permissions, Range, Overlap, Link, Hash}
 use Rattle.part_table.specs.Fields.{has_bit}
 use Rattle.part_table.specs.Partitions.{part_at}
@@ -21,8 +20,8 @@ use Rattle.part_table.proofs.TestLemmas.{both_of_two}
 use Rattle.boot_rules.specs.declared.slots.SlotFault.{SlotFault}
 use Rattle.boot_rules.specs.declared.slots.SlotFault.TheVariants.{Loop, NoTable, Table as Faulty}
 use Rattle.boot_caveats.specs.declared.caveat.Caveat.{Caveat}
-use Rattle.boot_caveats.specs.declared.caveat.Caveat.TheVariants.{ShortFlash, UnreadTargets, UnreadSide, TableTie}
-use Rattle.boot_caveats.specs.Listing.{AreOfEach, IsWhere, caveat_if}
+use Rattle.boot_caveats.specs.declared.caveat.Caveat.TheVariants.{ShortFlash, UnreadTargets}
+use Rattle.boot_caveats.specs.Listing.{AreOfEach, caveat_if}
 use Rattle.boot_caveats.specs.TableCaveats.{are_tied, is_same_flag, is_same_id, is_same_name, is_same_part, is_same_table, is_same_version, range_of, short_flash, table_tie, unread_caveats, unread_families, unread_side, unread_targets}
 use Rattle.boot_caveats.specs.TableRules.{AreOfParts, AreTied, AreUnread, IsShortFlash, IsTableTie, IsUnreadSide, IsUnreadTargets}
 use Rattle.boot_caveats.proofs.OtpLemmas.{some-bits}

@@ -1,6 +1,6 @@
 -- No caveat, no doubt: the order of a definition's items, and first blocks.
-use Rattle.std.proofs.Common.{◌≡◌, ◌≢◌, ◌⊎◌, ℕ, zero, suc, ◌+◌, ◌*◌, ◌/◌, ◌<◌, ◌&&◌, not, Bool, true, false, cond, if◌then◌else◌, List, [], ◌∷◌, ◌++◌, length, drop, slice_get, Option, Some, None, Result, Ok, Err, option_map, option_and_then, refl, sym, ap, ◌∙◌, subst, inl, inr, arith}
-use Rattle.std.specs.Prelude.{Contains, find, option_to_list, reverse}
+use Rattle.std.proofs.Common.{◌≡◌, ◌⊎◌, ℕ, zero, suc, ◌+◌, ◌*◌, ◌/◌, ◌&&◌, not, Bool, true, false, cond, if◌then◌else◌, List, [], ◌∷◌, ◌++◌, length, drop, Option, Some, None, Result, Ok, Err, option_map, option_and_then, refl, sym, ap, ◌∙◌, subst, inl, inr, arith}
+use Rattle.std.specs.Prelude.{Contains, find, reverse}
 use Rattle.std.specs.List.{filter_map, list_any}
 use Rattle.std.specs.Option.{option_map_or}
 use Rattle.std.specs.Result.{result_ok}
@@ -10,10 +10,7 @@ use Rattle.pico_board.specs.declared.boot.BootKind.{BootKind}
 use Rattle.pico_board.specs.declared.boot.BootKind.TheVariants.{Normal, Update, Bootsel as AskBootsel}
 use Rattle.pico_board.specs.declared.window.Window.{Window}
 use Rattle.pico_board.specs.Content.{Content, window_bytes}
-use Rattle.block_codec.specs.declared.kinds.TheConstants.{IMAGE_TYPE}
 use Rattle.block_codec.specs.Blocks.{BlockView}
-use Rattle.block_codec.specs.Items.{items_of}
-use Rattle.block_codec.specs.Kinds.{is_of_kind}
 use Rattle.block_codec.specs.Reading.{front_block}
 use Rattle.block_loop.specs.declared.fault.LoopFault.{LoopFault}
 use Rattle.block_loop.specs.declared.fault.LoopFault.TheVariants.{NoBlock as NoFirst, Broken, TooMany, Overlap}
@@ -23,37 +20,31 @@ use Rattle.image_def.specs.Suits.{does_suit, has_image_type, last_suiting}
 use Rattle.image_check.specs.declared.examining.Defined.{Defined}
 use Rattle.image_check.specs.declared.why.Why.{Why}
 use Rattle.image_check.specs.declared.why.Why.TheVariants.{NoDefinition, NotForProcessor}
-use Rattle.image_check.specs.Addressing.{in_flash}
 use Rattle.image_check.specs.Answers.{and_then, or_fault}
 use Rattle.image_check.specs.Image.{defined_in, image_in}
 use Rattle.image_check.specs.Rules.{definition_answer, items_answer, loop_answer}
 use Rattle.otp_roll.specs.Flags.{flash_off, slot_size}
 use Rattle.part_table.specs.declared.table.Table.{Table}
-use Rattle.slot_choice.specs.declared.unit.SlotUnit.{SlotUnit}
 use Rattle.slot_choice.specs.declared.choice.Choice.{Choice}
 use Rattle.slot_choice.specs.Units.{units}
-use Rattle.boot_rules.specs.declared.decision.Decision.{Decision}
-use Rattle.boot_rules.specs.declared.decision.Decision.TheVariants.{Start, Bootsel}
 use Rattle.boot_rules.specs.declared.slots.SlotFault.{SlotFault}
 use Rattle.boot_rules.specs.declared.tables.Found.{Found}
-use Rattle.boot_rules.specs.Choosing.{Order, boot_units_in, choose, decision_of, images_in, order_of}
+use Rattle.boot_rules.specs.Choosing.{boot_units_in, choose, images_in, order_of}
 use Rattle.boot_rules.specs.Chosen.{Chosen}
 use Rattle.boot_rules.specs.Tables.{answer_in_loop, found_of, slot_answer_in, slot_window, table_of_content}
 use Rattle.boot_rules.proofs.SlotLemmas.{table-found}
 use Rattle.boot_reasons.specs.declared.looks.UnitReport.{UnitReport}
-use Rattle.boot_reasons.specs.Looks.{reports_of}
-use Rattle.boot_reasons.specs.Reasons.{does_report, reasons_in, reported_decision, reports_in, results_in}
-use Rattle.boot_reasons.proofs.ReasonLemmas.{reasons-right}
+use Rattle.boot_reasons.specs.Reasons.{does_report, reasons_in, reported_decision, reports_in}
 use Rattle.boot_caveats.specs.declared.caveat.Caveat.{Caveat}
 use Rattle.boot_caveats.specs.declared.caveat.Caveat.TheVariants.{FirstBlock, ItemOrder}
 use Rattle.boot_caveats.specs.Listing.{caveat_if}
 use Rattle.boot_caveats.specs.Caveats.{window_caveats}
 use Rattle.boot_caveats.specs.Rules.{AreCaveats}
 use Rattle.boot_caveats.specs.ImageCaveats.{begins_otherwise, definition_in, ends_late, first_places, is_window, item_order, late_first, late_firsts, looked_windows, read_windows, reads_blocks}
-use Rattle.boot_caveats.specs.Alternatives.{begins_typed, decision_early, decision_typed, defined_by, definition_by, early_first, early_from, early_loop, early_slot_answer, early_table, early_units, image_of, images_by, loop_from, suits_first}
+use Rattle.boot_caveats.specs.Alternatives.{begins_typed, decision_early, decision_typed, defined_by, definition_by, early_from, early_loop, early_slot_answer, early_table, early_units, image_of, images_by, loop_from, suits_first}
 use Rattle.boot_caveats.proofs.CaveatLemmas.{caveats-only}
 use Rattle.boot_caveats.proofs.WindowLemmas.{among-decides}
-use Rattle.boot_caveats.proofs.DoubtLemmas.{AgreeOn, IsIn, choice-agrees, decided, in-filtered, in-windows, reasons-decide, reports-when, same-chosen}
+use Rattle.boot_caveats.proofs.DoubtLemmas.{IsIn, choice-agrees, decided, in-filtered, in-windows, reasons-decide, reports-when, same-chosen}
 
 -- ---- the image of a window by another loop and another definition
 

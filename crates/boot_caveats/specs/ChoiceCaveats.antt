@@ -1,5 +1,5 @@
 -- Where the choice of a boot rests on a rule that the chip may have otherwise, as functions.
-use Rattle.std.specs.Prelude.{ℕ, ◌+◌, ◌-◌, ◌*◌, ◌==◌, ◌&&◌, ◌||◌, nat_le, Bool, true, false, if◌then◌else◌, List, [], ◌∷◌, ◌++◌, find, is_some, position, slice_get, length, Option, Some, None, option_map, option_and_then, option_to_list, is_ok}
+use Rattle.std.specs.Prelude.{ℕ, ◌+◌, ◌-◌, ◌==◌, ◌&&◌, ◌||◌, nat_le, Bool, true, false, if◌then◌else◌, List, [], ◌++◌, find, is_some, position, slice_get, Option, Some, None, option_map, option_and_then, option_to_list, is_ok}
 use Rattle.std.specs.Option.{option_map_or}
 use Rattle.pico_board.specs.declared.boot.Cpu.{Cpu}
 use Rattle.pico_board.specs.declared.boot.Cpu.TheVariants.{Arm, Riscv}
@@ -8,14 +8,10 @@ use Rattle.pico_board.specs.declared.boot.BootKind.TheVariants.{Normal, Update, 
 use Rattle.pico_board.specs.declared.window.Window.{Window}
 use Rattle.pico_board.specs.declared.window.TheConstants.{SMALLEST_SLOT}
 use Rattle.pico_board.specs.Content.{Content, flash_base, window_bytes}
-use Rattle.block_codec.specs.Blocks.{BlockView}
 use Rattle.block_loop.specs.Loop.{first_block}
-use Rattle.image_def.specs.declared.started.Started.{Started}
 use Rattle.image_def.specs.Suits.{has_image_type}
 use Rattle.image_check.specs.Image.{image_at}
-use Rattle.part_table.specs.declared.table.Table.{Table}
 use Rattle.slot_choice.specs.declared.unit.SlotUnit.{SlotUnit}
-use Rattle.slot_choice.specs.declared.choice.Choice.{Choice}
 use Rattle.slot_choice.specs.Updates.{has_member_at}
 use Rattle.boot_rules.specs.declared.decision.Decision.{Decision}
 use Rattle.boot_rules.specs.declared.decision.Decision.TheVariants.{Start, Bootsel}

@@ -1,16 +1,13 @@
 -- What is to be looked up of the image that a boot starts, as functions.
-use Rattle.std.specs.Prelude.{ℕ, ◌+◌, ◌-◌, ◌*◌, ◌^◌, ◌==◌, not, Bool, true, false, if◌then◌else◌, List, [], ◌∷◌, ◌++◌, find, length, Option, Some, None, option_map, option_and_then, option_to_list}
-use Rattle.std.specs.Option.{option_map_or}
+use Rattle.std.specs.Prelude.{ℕ, ◌+◌, ◌-◌, ◌*◌, ◌^◌, ◌==◌, not, Bool, false, List, [], ◌∷◌, ◌++◌, find, length, Option, Some, None, option_map, option_and_then, option_to_list}
 use Rattle.std.specs.Result.{result_ok}
 use Rattle.std.specs.List.{list_any, range_with_len}
 use Rattle.pico_board.specs.declared.window.Window.{Window}
 use Rattle.pico_board.specs.Content.{Content, window_bytes}
 use Rattle.block_codec.specs.Blocks.{BlockView}
 use Rattle.block_loop.specs.Loop.{loop_of}
-use Rattle.image_def.specs.declared.started.Started.{Started}
 use Rattle.otp_roll.specs.Rows.{majority}
 use Rattle.part_table.specs.TableOf.{has_table}
-use Rattle.slot_choice.specs.declared.choice.Choice.{Choice}
 use Rattle.boot_rules.specs.declared.decision.Decision.{Decision}
 use Rattle.boot_rules.specs.declared.decision.Decision.TheVariants.{Start, Bootsel}
 use Rattle.boot_caveats.specs.declared.caveat.Caveat.{Caveat}

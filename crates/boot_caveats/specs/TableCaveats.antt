@@ -1,5 +1,5 @@
 -- What the tables of the slots say that the model does not read or judges otherwise, as functions.
-use Rattle.std.specs.Prelude.{ℕ, ◌+◌, ◌*◌, ◌/◌, ◌%◌, ◌^◌, ◌==◌, ◌&&◌, not, nat_lt, bytes_eq, Bool, true, false, if◌then◌else◌, List, [], ◌++◌, length, Option, Some, None, option_map, option_and_then, option_to_list, Result, Ok, Err}
+use Rattle.std.specs.Prelude.{ℕ, ◌+◌, ◌*◌, ◌/◌, ◌%◌, ◌^◌, ◌==◌, ◌&&◌, not, nat_lt, bytes_eq, Bool, true, false, if◌then◌else◌, List, [], ◌++◌, length, Option, Some, None, option_map, option_to_list, Result, Ok, Err}
 use Rattle.std.specs.List.{filter_map, range_with_len}
 use lib.Pointwise.{pointwise}
 use Rattle.arrayvec.specs.ArrayVec.{ArrayVec}

@@ -1,4 +1,4 @@
-use Rattle.std.proofs.Common.{length, subst, sym, Option, ap, ◌∙◌}
+use Rattle.std.proofs.Common.{length, subst, sym, Option}
 use Rattle.std.specs.Prelude.{IfSome}
 use Rattle.part_table.specs.declared.table.Table.{Table}
 use Rattle.boot_caveats.specs.Reads.{AreLooksInside, ArePartsInside}

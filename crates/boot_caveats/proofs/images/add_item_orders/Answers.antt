@@ -1,4 +1,3 @@
-use Rattle.std.proofs.Common.{◌≡◌, ◌++◌, ap, ◌∙◌, length, take}
 use Rattle.boot_caveats.specs.ImageCaveats.{item_order}
 use Rattle.boot_caveats.proofs.WindowLemmas.{orders-more}
 use Rattle.boot_caveats.proofs.images.add_item_orders.Goals as goal

@@ -1,4 +1,4 @@
-use Rattle.std.proofs.Common.{◌≡◌, ◌++◌, ap, ◌∙◌, length, take}
+use Rattle.std.proofs.Common.{◌++◌, ap, ◌∙◌, take}
 use Rattle.std.specs.Prelude.{option_to_list}
 use Rattle.std.proofs.lemmas.List.{take_more}
 use Rattle.pico_board.specs.declared.window.Window.{Window}

@@ -1,4 +1,4 @@
-use Rattle.std.proofs.Common.{◌≡◌, ◌≤◌, length, arith, sym, ◌∙◌}
+use Rattle.std.proofs.Common.{◌≤◌, length, arith, sym, ◌∙◌}
 use Rattle.part_table.specs.TableOf.{has_table}
 use Rattle.block_loop.proofs.PlaceLemmas.{as-many}
 use Rattle.boot_caveats.proofs.SeenLemmas.{first-here, first-more, first-none}

@@ -1,4 +1,4 @@
-use Rattle.std.proofs.Common.{◌≡◌, ◌≤◌, Bool, cond, Some, length, arith, ap, sym, ◌∙◌}
+use Rattle.std.proofs.Common.{◌≤◌, Bool, cond, Some, length, arith, ap, sym, ◌∙◌}
 use Rattle.image_def.specs.Suits.{does_suit}
 use Rattle.block_loop.proofs.PlaceLemmas.{as-many}
 use Rattle.boot_caveats.proofs.SeenLemmas.{last-all, last-more}

@@ -1,4 +1,4 @@
-use Rattle.std.proofs.Common.{◌≡◌, sym, ◌∙◌}
+use Rattle.std.proofs.Common.{sym, ◌∙◌}
 use Rattle.boot_caveats.proofs.FilledLemmas.{filled-end, filled-here, filled-more, shift-whole}
 use Rattle.boot_caveats.proofs.starts.is_filled.Goals as goal
 
