@@ -14,3 +14,4 @@ pub mod Reads
 pub mod Caveats
 pub mod Rules
 pub mod Alternatives
+pub mod Examples

@@ -1,1 +1,234 @@
-//! Worked examples of the definitions, proved by computing.
+//! Worked examples of the definitions, proved by computing: each is the `ensures` of a function
+//! that does nothing.
+
+pub mod flashes;
+
+ghost use Rattle.std.specs.Prelude.{◌≡◌, ℕ, [], ◌∷◌, ◌++◌, None, Some, Ok, Err, true, false};
+ghost use Rattle.pico_board.specs.declared.boot.BootKind.TheVariants.{Normal, Update};
+ghost use Rattle.pico_board.specs.declared.boot.Cpu.TheVariants.{Arm, Riscv};
+ghost use Rattle.image_check.specs.declared.why.Why.{Why};
+ghost use Rattle.image_check.specs.declared.why.Why.TheVariants.{Below};
+ghost use Rattle.image_check.specs.declared.why.EntryFault.{EntryFault};
+ghost use Rattle.image_def.specs.declared.fault.DefFault.{DefFault};
+ghost use Rattle.load_map.specs.declared.load.MapFault.{MapFault};
+ghost use Rattle.block_loop.specs.declared.fault.LoopFault.{LoopFault};
+ghost use Rattle.part_table.specs.declared.table.TableFault.{TableFault};
+ghost use Rattle.slot_choice.specs.declared.unit.Member.TheVariants.{A, B};
+ghost use Rattle.boot_rules.specs.declared.slots.SlotFault.{SlotFault};
+ghost use Rattle.boot_rules.specs.declared.decision.Decision.TheVariants.{Bootsel, Start};
+ghost use Rattle.boot_rules.specs.declared.decision.Fall.{Fall};
+ghost use Rattle.boot_rules.specs.Tables.{slot_window};
+ghost use Rattle.boot_reasons.specs.declared.looks.UnitReason.{UnitReason};
+ghost use Rattle.worked_flashes.specs.Images.{image_of_version};
+ghost use Rattle.boot_caveats.specs.declared.caveat.Caveat.{Caveat};
+ghost use Rattle.boot_caveats.specs.OtpCaveats.{otp_caveats, raw_flags, raw_slot_size, secure_boot};
+ghost use Rattle.boot_caveats.specs.TableCaveats.{short_flash, table_tie, unread_caveats, unread_families};
+ghost use Rattle.boot_caveats.specs.ChoiceCaveats.{first_tie, lacks_image, moved_by, other_cpu, slot_images, update_of_slot};
+ghost use Rattle.boot_caveats.specs.StartCaveats.{is_filled, row_caveats};
+ghost use Rattle.boot_caveats.specs.ImageCaveats.{begins_otherwise, ends_late, first_places, is_doubtful, look_may_start, read_windows, reads_blocks};
+ghost use Rattle.boot_caveats.specs.Alternatives.{better_last, suits_first};
+ghost use Rattle.boot_caveats.specs.Examples.{block_with, first, first_pair, in_slot, lone_report, lone_third, otp_from, pair_report, part_with, second, start_of, table_of_parts, taken_by, third};
+
+/// Secure boot is asked for by three of the rows 0x040 to 0x047, by bit 0 alone.
+pub fn rows_of_secure_boot()
+    ensures two { secure_boot (otp_from 0x040 (1 ∷ 1 ∷ [])) ≡ None }
+    ensures three { secure_boot (otp_from 0x040 (1 ∷ 0xffffff ∷ 3 ∷ [])) ≡ Some Caveat.SecureBoot }
+    ensures last { secure_boot (otp_from 0x045 (1 ∷ 1 ∷ 1 ∷ [])) ≡ Some Caveat.SecureBoot }
+    ensures apart { secure_boot (otp_from 0x040 (1 ∷ 0 ∷ 0 ∷ 1 ∷ 0 ∷ 0 ∷ 0 ∷ 1 ∷ []))
+        ≡ Some Caveat.SecureBoot }
+    ensures before { secure_boot (otp_from 0x03f (1 ∷ 1 ∷ 1 ∷ [])) ≡ None }
+    ensures behind { secure_boot (otp_from 0x046 (1 ∷ 1 ∷ 1 ∷ [])) ≡ None }
+    ensures other_bits { secure_boot (otp_from 0x040 (2 ∷ 4 ∷ 0xfffffe ∷ 8 ∷ [])) ≡ None }
+{}
+
+/// The bits of the boot flags and of the slot size that are not read.
+pub fn rows_that_are_not_read()
+    ensures read { raw_flags (otp_from 0x048 (3 ∷ [])) 0x048 ≡ None }
+    ensures unread { raw_flags (otp_from 0x048 (4 ∷ [])) 0x048 ≡ Some (Caveat.RawFlags 0x048 4) }
+    ensures all { raw_flags (otp_from 0x048 (0xffffff ∷ [])) 0x048
+        ≡ Some (Caveat.RawFlags 0x048 0xfffffc) }
+    ensures copy { raw_flags (otp_from 0x049 (3 ∷ [])) 0x049 ≡ Some (Caveat.RawFlags 0x049 3) }
+    ensures no_copy { raw_flags (otp_from 0x049 (0 ∷ [])) 0x049 ≡ None }
+    ensures size { raw_slot_size (otp_from 0x055 (15 ∷ [])) ≡ None }
+    ensures unread_size { raw_slot_size (otp_from 0x055 (16 ∷ [])) ≡ Some (Caveat.RawSlotSize 16) }
+    ensures whole_size { raw_slot_size (otp_from 0x055 (0x512345 ∷ []))
+        ≡ Some (Caveat.RawSlotSize 0x512340) }
+    ensures order { otp_caveats (otp_from 0x040
+        (1 ∷ 1 ∷ 1 ∷ 0 ∷ 0 ∷ 0 ∷ 0 ∷ 0 ∷ 5 ∷ 6 ∷ 7 ∷ 0 ∷ 0 ∷ 0 ∷ 0 ∷ 0 ∷ 0 ∷ 0 ∷ 0 ∷ 0 ∷ 0
+        ∷ 0x11 ∷ []))
+        ≡ Caveat.SecureBoot ∷ Caveat.RawFlags 0x048 4 ∷ Caveat.RawFlags 0x049 6
+        ∷ Caveat.RawFlags 0x04a 7 ∷ Caveat.RawSlotSize 16 ∷ [] }
+{}
+
+/// A table's range fault is told in a flash that is shorter than 16 MiB.
+pub fn tables_for_a_longer_flash()
+    ensures shorter { short_flash 0xfff000 1 (Err (SlotFault.Table (TableFault.Range 2)))
+        ≡ Some (Caveat.ShortFlash 1 2) }
+    ensures whole { short_flash 0x1000000 1 (Err (SlotFault.Table (TableFault.Range 2))) ≡ None }
+    ensures other { short_flash 0x2000 1 (Err (SlotFault.Table (TableFault.Overlap 0 2))) ≡ None }
+    ensures no_table { short_flash 0x2000 1 (Err SlotFault.NoTable) ≡ None }
+    ensures table { short_flash 0x2000 0 (Ok (table_of_parts false 0 0 [])) ≡ None }
+{}
+
+/// What is not read of a table: family bits of its unpartitioned word, and flag bit 11.
+pub fn bits_of_tables()
+    ensures absolute { unread_families 0xfc008000 ≡ 0 }
+    ensures families { unread_families 0xfc0fc000 ≡ 0xf4000 }
+    ensures lowest { unread_families 0x4000 ≡ 0x4000 }
+    ensures below { unread_families 0x2000 ≡ 0 }
+    ensures highest { unread_families 0x80000 ≡ 0x80000 }
+    ensures above { unread_families 0x100000 ≡ 0 }
+    ensures sides { unread_caveats (Some (table_of_parts false 0 0xfc018000
+        (part_with 0x800 ∷ part_with 0x1400 ∷ part_with 0xfff ∷ [])))
+        ≡ Caveat.UnreadTargets 0x10000 ∷ Caveat.UnreadSide 0 ∷ Caveat.UnreadSide 2 ∷ [] }
+    ensures none { unread_caveats (Some (table_of_parts false 0 0xfc008000 (part_with 0 ∷ [])))
+        ≡ [] }
+    ensures no_table { unread_caveats None ≡ [] }
+{}
+
+/// Two tables of one version, of which the first is no singleton, that differ in some field.
+pub fn tables_of_one_version()
+    ensures words { table_tie (Ok (table_of_parts false 9 1 [])) (Ok (table_of_parts false 9 2 []))
+        ≡ Some Caveat.TableTie }
+    ensures same { table_tie (Ok (table_of_parts false 9 1 [])) (Ok (table_of_parts false 9 1 []))
+        ≡ None }
+    ensures alone { table_tie (Ok (table_of_parts true 9 1 [])) (Ok (table_of_parts false 9 2 []))
+        ≡ None }
+    ensures other_alone { table_tie (Ok (table_of_parts false 9 1 []))
+        (Ok (table_of_parts true 9 1 [])) ≡ Some Caveat.TableTie }
+    ensures versions { table_tie (Ok (table_of_parts false 9 1 []))
+        (Ok (table_of_parts false 10 2 [])) ≡ None }
+    ensures parts { table_tie (Ok (table_of_parts false 9 1 (part_with 0 ∷ [])))
+        (Ok (table_of_parts false 9 1 (part_with 1 ∷ []))) ≡ Some Caveat.TableTie }
+    ensures more { table_tie (Ok (table_of_parts false 9 1 (part_with 0 ∷ [])))
+        (Ok (table_of_parts false 9 1 [])) ≡ Some Caveat.TableTie }
+    ensures one { table_tie (Ok (table_of_parts false 9 1 [])) (Err SlotFault.NoTable) ≡ None }
+    ensures other { table_tie (Err SlotFault.NoTable) (Ok (table_of_parts false 9 1 [])) ≡ None }
+{}
+
+/// A tie of the first unit that takes an image; the one that is taken is told first.
+pub fn ties_of_units()
+    ensures tie { first_tie (pair_report (taken_by A first UnitReason.Tie) ∷ [])
+        ≡ Some (Caveat.Tie first second) }
+    ensures version { first_tie (pair_report (taken_by A first UnitReason.Version) ∷ []) ≡ None }
+    ensures behind { first_tie (lone_report None
+        ∷ pair_report (taken_by A first UnitReason.Tie) ∷ []) ≡ Some (Caveat.Tie first second) }
+    ensures unreached { first_tie (lone_report (taken_by A third UnitReason.Only)
+        ∷ pair_report (taken_by A first UnitReason.Tie) ∷ []) ≡ None }
+    ensures none { first_tie (pair_report None ∷ lone_report None ∷ []) ≡ None }
+{}
+
+/// An update of the address of a table slot, where there is a table.
+pub fn updates_of_slots()
+    ensures first { update_of_slot (Update 0x10000000) 0x2000 in_slot
+        ≡ Some (Caveat.UpdateOfSlot 0x10000000) }
+    ensures second { update_of_slot (Update 0x10002000) 0x2000 in_slot
+        ≡ Some (Caveat.UpdateOfSlot 0x10002000) }
+    ensures smaller { update_of_slot (Update 0x10001000) 0x2000 in_slot ≡ None }
+    ensures behind { update_of_slot (Update 0x10004000) 0x2000 in_slot ≡ None }
+    ensures offset { update_of_slot (Update 0x2000) 0x2000 in_slot ≡ None }
+    ensures no_table { update_of_slot (Update 0x10000000) 0x2000 None ≡ None }
+    ensures no_update { update_of_slot Normal 0x2000 in_slot ≡ None }
+{}
+
+/// An update that moves a unit is told by the partition of its A, also where B is updated.
+pub fn updates_that_move_a_unit()
+    ensures front { moved_by (first_pair ∷ lone_third ∷ []) 0x10004000 ≡ None }
+    ensures lone { moved_by (first_pair ∷ lone_third ∷ []) 0x10006000 ≡ Some 2 }
+    ensures second_member { moved_by (lone_third ∷ first_pair ∷ []) 0x10004000 ≡ Some 0 }
+    ensures first_member { moved_by (lone_third ∷ first_pair ∷ []) 0x10002000 ≡ Some 0 }
+    ensures elsewhere { moved_by (lone_third ∷ first_pair ∷ []) 0x10003000 ≡ None }
+    ensures below { moved_by (lone_third ∷ first_pair ∷ []) 0x2000 ≡ None }
+{}
+
+/// The rows of an image that starts: its rollback version against 24 times their number, and the
+/// first gap in listed order.
+pub fn rows_of_images()
+    ensures none { row_caveats [] first (Some 24) [] ≡ [] }
+    ensures plain { row_caveats (otp_from 0xc0 (7 ∷ 7 ∷ 0 ∷ [])) first (Some 23) (0xc0 ∷ [])
+        ≡ Caveat.RollbackRows first ∷ [] }
+    ensures full { row_caveats (otp_from 0xc0 (7 ∷ 7 ∷ 0 ∷ [])) first (Some 24) (0xc0 ∷ [])
+        ≡ Caveat.RollbackRows first ∷ Caveat.RollbackFull first ∷ [] }
+    ensures two_rows { row_caveats [] first (Some 24) (0xc0 ∷ 0xc3 ∷ [])
+        ≡ Caveat.RollbackRows first ∷ [] }
+    ensures no_version { row_caveats [] first None (0xc0 ∷ []) ≡ Caveat.RollbackRows first ∷ [] }
+    ensures gap { row_caveats (otp_from 0xc0 (7 ∷ 7 ∷ 0 ∷ 5 ∷ 0 ∷ 5 ∷ 4 ∷ 4 ∷ 4 ∷ [])) first
+        (Some 48) (0xc6 ∷ 0xc0 ∷ 0xc3 ∷ [])
+        ≡ Caveat.RollbackRows first ∷ Caveat.RollbackGap 0xc6 ∷ [] }
+    ensures alone { row_caveats (otp_from 0xc0 (7 ∷ 2 ∷ 3 ∷ [])) first None (0xc0 ∷ [])
+        ≡ Caveat.RollbackRows first ∷ [] }
+{}
+
+/// Values that are one less than a power of two, which 0 is.
+pub fn values_without_a_gap()
+    ensures zero { is_filled 0 ≡ true }
+    ensures one { is_filled 1 ≡ true }
+    ensures two { is_filled 2 ≡ false }
+    ensures three { is_filled 3 ≡ true }
+    ensures five { is_filled 5 ≡ false }
+    ensures six { is_filled 6 ≡ false }
+    ensures all { is_filled 0xffffff ≡ true }
+    ensures highest { is_filled 0x7fffff ≡ true }
+    ensures alone { is_filled 0x800000 ≡ false }
+{}
+
+/// The windows that are read: the slots, then the members in the order of looking; and each once.
+pub fn windows_that_are_read()
+    ensures order { read_windows 0x1000 (pair_report None ∷ lone_report None ∷ [])
+        ≡ slot_window 0x1000 0 ∷ slot_window 0x1000 1 ∷ first ∷ second ∷ third ∷ [] }
+    ensures once { first_places [] (first ∷ second ∷ first ∷ third ∷ second ∷ [])
+        ≡ first ∷ second ∷ third ∷ [] }
+    ensures lengths { first_places [] (slot_window 0x1000 0 ∷ slot_window 0x2000 0 ∷ [])
+        ≡ slot_window 0x1000 0 ∷ slot_window 0x2000 0 ∷ [] }
+    ensures start { reads_blocks (Start (start_of first)) ≡ true }
+    ensures no_image { reads_blocks (Bootsel Fall.NoImage) ≡ true }
+    ensures off { reads_blocks (Bootsel Fall.FlashOff) ≡ false }
+    ensures requested { reads_blocks (Bootsel Fall.Requested) ≡ false }
+{}
+
+/// A block that ends with the first 4096 bytes does not end late; the order of its items, by their
+/// first one.
+pub fn blocks_of_windows()
+    ensures with { ends_late (block_with 4080 []) ≡ false }
+    ensures behind { ends_late (block_with 4084 []) ≡ true }
+    ensures longer { ends_late (block_with 4076 (0x10210142 ∷ 0x10210142 ∷ [])) ≡ true }
+    ensures first { begins_otherwise (block_with 0 (0x10210142 ∷ 0x00000248 ∷ 0 ∷ [])) ≡ false }
+    ensures later { begins_otherwise (block_with 0 (0x00000248 ∷ 0 ∷ 0x10210142 ∷ [])) ≡ true }
+    ensures suits { suits_first Arm (block_with 0 (0x10210142 ∷ 0x00000248 ∷ 0 ∷ [])) ≡ true }
+    ensures suits_not { suits_first Arm (block_with 0 (0x00000248 ∷ 0 ∷ 0x10210142 ∷ []))
+        ≡ false }
+    ensures other { suits_first Riscv (block_with 0 (0x10210142 ∷ 0x00000248 ∷ 0 ∷ [])) ≡ false }
+{}
+
+/// The rules that the chip may not judge, and those that it does.
+pub fn rules_that_are_in_doubt()
+    ensures row { is_doubtful (Why.Items (DefFault.BadRow 0x04e)) ≡ true }
+    ensures twice { is_doubtful (Why.Items (DefFault.RepeatedRow 0x0c0)) ≡ false }
+    ensures hash_def { is_doubtful (Why.Items (DefFault.BadItem 0x47)) ≡ true }
+    ensures hash_value { is_doubtful (Why.Items (DefFault.BadItem 0x4b)) ≡ true }
+    ensures version { is_doubtful (Why.Items (DefFault.BadItem 0x48)) ≡ false }
+    ensures repeated { is_doubtful (Why.Items (DefFault.Repeated 0x47)) ≡ false }
+    ensures covers { is_doubtful (Why.Map (MapFault.CoversBlock 0)) ≡ true }
+    ensures runtime { is_doubtful (Why.Map (MapFault.Runtime 3)) ≡ true }
+    ensures storage { is_doubtful (Why.Map (MapFault.Storage 3)) ≡ false }
+    ensures entry { is_doubtful (Why.Entry EntryFault.Pc) ≡ true }
+    ensures delta { is_doubtful Why.Delta ≡ true }
+    ensures digest { is_doubtful Why.Digest ≡ false }
+    ensures trial { is_doubtful Why.Trial ≡ false }
+    ensures required { is_doubtful Why.RollbackRequired ≡ false }
+    ensures below { is_doubtful (Below 1 2) ≡ false }
+    ensures broken { is_doubtful (Why.Loop (LoopFault.Broken 0)) ≡ false }
+    ensures members { look_may_start (pair_report None) ≡ Caveat.MayStart second Why.Delta ∷ [] }
+    ensures lone { look_may_start (lone_report None) ≡ [] }
+{}
+
+/// On a tie B is the better one by another rule, and the greater version is by both.
+pub fn versions_by_another_rule()
+    ensures tie { better_last (Some (image_of_version first 1 9 false).version)
+        (Some (image_of_version second 1 9 false).version) ≡ Some B }
+    ensures first { better_last (Some (image_of_version first 1 10 false).version)
+        (Some (image_of_version second 1 9 false).version) ≡ Some A }
+    ensures second { better_last (Some (image_of_version first 1 9 false).version)
+        (Some (image_of_version second 2 0 false).version) ≡ Some B }
+    ensures only { better_last (Some (image_of_version first 1 9 false).version) None ≡ Some A }
+{}

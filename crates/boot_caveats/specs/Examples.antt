@@ -1,0 +1,104 @@
+-- Rows, tables, units, reports and blocks of the worked examples.
+use Rattle.std.specs.Prelude.{ℕ, ◌+◌, Bool, true, false, List, [], ◌∷◌, ◌++◌, replicate, pos, Option, Some, None, Result, Ok, Err}
+use Rattle.pico_board.specs.declared.window.Window.{Window}
+use Rattle.pico_board.specs.Content.{Content}
+use Rattle.block_codec.specs.Blocks.{BlockView}
+use Rattle.image_def.specs.declared.started.Started.{Started}
+use Rattle.image_check.specs.declared.why.Why.{Why}
+use Rattle.part_table.specs.declared.partition.Partition.{Partition}
+use Rattle.part_table.specs.declared.table.Table.{Table}
+use Rattle.slot_choice.specs.declared.unit.Member.{Member}
+use Rattle.slot_choice.specs.declared.unit.Member.TheVariants.{A, B}
+use Rattle.slot_choice.specs.declared.unit.SlotUnit.{SlotUnit}
+use Rattle.slot_choice.specs.declared.choice.Choice.{Choice}
+use Rattle.worked_flashes.specs.Tables.{lone_unit, pair_unit, plain_partition, sectors, window_at}
+use Rattle.worked_flashes.specs.Flashes.{framed, region, rows_with}
+use Rattle.worked_flashes.specs.Images.{image_of_version}
+use Rattle.boot_reasons.specs.declared.slots.TableInForce.{TableInForce}
+use Rattle.boot_reasons.specs.declared.slots.TableReason.{TableReason}
+use Rattle.boot_reasons.specs.declared.looks.UnitReport.{UnitReport}
+use Rattle.boot_reasons.specs.declared.looks.TakenImage.{TakenImage}
+use Rattle.boot_reasons.specs.declared.looks.UnitReason.{UnitReason}
+
+-- rows that hold these values from a row on, behind rows of 0
+abbrev pub otp_from : ℕ → List ℕ → List ℕ
+otp_from row values = replicate row 0 ++ values
+
+-- a partition of sectors 2 and 3 with these flags below its permissions
+abbrev pub part_with : ℕ → Partition
+part_with flags = plain_partition (sectors 2 3) (0xfc000000 + flags)
+
+-- a table of this version with this unpartitioned word and these partitions
+abbrev pub table_of_parts : Bool → ℕ → ℕ → List Partition → Table
+table_of_parts alone minor word parts = record {
+  version = record { major = 1; minor = minor };
+  singleton = alone;
+  unpartitioned = word;
+  parts = record { items = parts };
+}
+
+-- the windows of three pairs of sectors, a pair of the first two, and the third alone
+abbrev pub first : Window
+first = window_at 0x2000 0x2000
+
+abbrev pub second : Window
+second = window_at 0x4000 0x2000
+
+abbrev pub third : Window
+third = window_at 0x6000 0x2000
+
+abbrev pub first_pair : SlotUnit
+first_pair = pair_unit first 0 second 1
+
+abbrev pub lone_third : SlotUnit
+lone_third = lone_unit third 2
+
+-- the report on the pair, whose members' images are taken or not
+abbrev pub taken_by : Member → Window → UnitReason → Option TakenImage
+taken_by m w because = Some (record { member = m; window = w; because = because })
+
+abbrev pub pair_report : Option TakenImage → UnitReport
+pair_report taken = record {
+  unit = first_pair;
+  first = Err Why.NoBlock;
+  second = Some (Err Why.Delta);
+  taken = taken;
+}
+
+abbrev pub lone_report : Option TakenImage → UnitReport
+lone_report taken = record { unit = lone_third; first = Err Why.Trial; second = None; taken = taken }
+
+-- a table of a slot is that of the flash
+abbrev pub in_slot : Option TableInForce
+in_slot = Some (record { slot = 1; because = TableReason.Version })
+
+-- a start of an image in a window
+abbrev pub start_of : Window → Choice
+start_of w =
+    record { image = image_of_version w 1 0 false; member = A; other = None; updated = false }
+
+-- a block at an offset with these item words
+abbrev pub block_with : ℕ → List ℕ → BlockView
+block_with at items = record { at = at; items = items; link = pos 0 }
+
+-- flashes of 12 KiB without a table: nothing stands in the first sector, or an image of this type,
+-- and what stands in the second
+abbrev pub sector_with : List ℕ → List ℕ
+sector_with items =
+    region 0x100 (0x20082000 ∷ 0x10000201 ∷ []) ++ region 0xf00 (framed items 0)
+
+abbrev pub three_sectors : ℕ → ℕ → List ℕ → List ℕ → Content
+three_sectors flags size one two = record {
+  flash = one ++ (two ++ replicate 0x1000 255);
+  otp = rows_with flags size;
+}
+
+abbrev pub bare : List ℕ
+bare = replicate 0x1000 255
+
+-- words of images: for Arm, for RISC-V, and a version of its own
+abbrev pub arm_word : ℕ
+arm_word = 0x10210142
+
+abbrev pub riscv_word : ℕ
+riscv_word = 0x11010142
