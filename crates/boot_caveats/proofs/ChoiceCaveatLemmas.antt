@@ -124,7 +124,8 @@ other-just c cpu kind d = one-just (IsOther c cpu kind d) OtherProcessor (other_
     to false is o starts caveat e = cc
 
     from : (w : Window) → IsOther c cpu kind d w → (b : Bool) → b ≡ true
-        → cond b (option_map OtherProcessor (started_window (decision_in c (other_cpu cpu) kind))) None ≡ Some (OtherProcessor w)
+        → cond b (option_map OtherProcessor (started_window (decision_in c (other_cpu cpu) kind))) None
+        ≡ Some (OtherProcessor w)
     from w is false e = cc
     from w is true e =
         ap (λ o. option_map OtherProcessor o)
@@ -208,7 +209,8 @@ tie-says Only e = cc
 tie-says Version e = cc
 tie-says IsTied e = refl
 
-pub tied-says : (second : Option Window) (taken : Option TakenImage) (caveat : Caveat) → tied_in second taken ≡ Some caveat
+pub tied-says : (second : Option Window) (taken : Option TakenImage) (caveat : Caveat) → tied_in second taken
+    ≡ Some caveat
     → (w : Window) × (t : TakenImage) × (second ≡ Some w) × (taken ≡ Some t) × (t.because ≡ IsTied)
     × (caveat ≡ Tie t.window w)
 tied-says None taken caveat e = cc
@@ -284,7 +286,8 @@ module _ (c : Content) (size : ℕ) (size_is : size ≡ slot_size c.otp (length 
   unsized base (inr e) = inr (e ∙ ap (λ z. flash_base + z) (sym size_is))
 
   no-update : (kind : BootKind) → ((base : ℕ) → kind ≡ Update base → ⊥) → IsJust (IsUpdateOfSlot c kind) []
-  no-update kind never = one-just (IsSlotUpdate kind) UpdateOfSlot None (λ caveat e. cc) (λ base is. absurd (never base is.0))
+  no-update kind never = one-just (IsSlotUpdate kind) UpdateOfSlot None (λ caveat e. cc)
+      (λ base is. absurd (never base is.0))
 
   pub slot-update-just : (kind : BootKind) (table : Option TableInForce) → IsTableInForce c table
       → IsJust (IsUpdateOfSlot c kind) (option_to_list (update_of_slot kind size table))
@@ -312,7 +315,8 @@ module _ (c : Content) (size : ℕ) (size_is : size ≡ slot_size c.otp (length 
       from b u false e =
           let yes : is_slot_address size base ≡ true =
           (address-decides size base).1 (unsized base (subst
-          (λ x. (x ≡ flash_base) ⊎ (x ≡ flash_base + slot_size c.otp (length c.flash))) (sym (same-base base b u.0)) u.2)) in
+          (λ x. (x ≡ flash_base) ⊎ (x ≡ flash_base + slot_size c.otp (length c.flash))) (sym (same-base base b u.0))
+          u.2)) in
           cc
 
 -- ---- an update that moves a unit
@@ -342,7 +346,8 @@ has-there start u m w stands at = go (has_member_at start u) refl
     go true e = refl
     go false e = absurd (none_starts start u e w (is-member m u w stands) at)
 
-lacks-there : (start : ℕ) (u : SlotUnit) → ((w : Window) → IsMember u w → w.start ≢ start) → has_member_at start u ≡ false
+lacks-there : (start : ℕ) (u : SlotUnit) → ((w : Window) → IsMember u w → w.start ≢ start) → has_member_at start u
+    ≡ false
 lacks-there start u never = go (member_at start u) refl
   where
     go : (o : Option Member) → member_at start u ≡ o → is_some o ≡ false
@@ -391,7 +396,8 @@ place-updates us base k above place =
     by u sought (Some m) at some = (
       m,
       ap (λ b. cond b
-          (option_and_then (member_at (base - flash_base)) (find (has_member_at (base - flash_base)) us)) None) above ∙ (ap (option_and_then (member_at (base - flash_base))) sought ∙ at),
+          (option_and_then (member_at (base - flash_base)) (find (has_member_at (base - flash_base)) us)) None) above
+          ∙ (ap (option_and_then (member_at (base - flash_base))) sought ∙ at),
     )
 
 -- the part that is moved, at a place
@@ -414,7 +420,8 @@ moved-says us k part e = go (k == 0) refl e
       by (slice_get us k) refl same,
     )
 
-pub says-moved : (us : List SlotUnit) (k part : ℕ) (u : SlotUnit) → k ≢ 0 → slice_get us k ≡ Some u → u.a_part ≡ Some part
+pub says-moved : (us : List SlotUnit) (k part : ℕ) (u : SlotUnit) → k ≢ 0 → slice_get us k ≡ Some u → u.a_part
+    ≡ Some part
     → moved_part us k ≡ Some part
 says-moved us k part u some at first = go (k == 0) refl
   where
@@ -480,7 +487,8 @@ module _ (us : List SlotUnit) where
   IsMovedBy kind part = (base : ℕ) × (kind ≡ Update base) × IsMovedPart us base part
 
   stays : (kind : BootKind) → ((base : ℕ) → kind ≡ Update base → ⊥) → IsJust (IsUpdateMovesUnit kind us) []
-  stays kind never = one-just (IsMovedBy kind) UpdateMovesUnit None (λ caveat e. cc) (λ part is. absurd (never is.0 is.1))
+  stays kind never = one-just (IsMovedBy kind) UpdateMovesUnit None (λ caveat e. cc)
+      (λ part is. absurd (never is.0 is.1))
 
   pub moves-just : (kind : BootKind) → IsJust (IsUpdateMovesUnit kind us) (option_to_list (update_moves kind us))
   moves-just Normal = stays Normal (λ base e. cc)

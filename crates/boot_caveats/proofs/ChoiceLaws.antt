@@ -203,7 +203,8 @@ module _ (images : Window → Bool → Option Started) (start : ℕ) where
       ap (λ b. cond b
       (option_or (unit_choice images v (member_at start v)) (ordered_choice images vs None))
       (option_or (unit_choice images v None) (unmoved_from images start vs))) (ap (has_member_at start) same ∙ is)
-      ∙ (ap (λ (x : SlotUnit). option_or (unit_choice images v (member_at start x)) (ordered_choice images vs None)) same
+      ∙ (ap (λ (x : SlotUnit). option_or (unit_choice images v (member_at start x)) (ordered_choice images vs None))
+      same
       ∙ ap (λ xs. ordered_choice images xs (member_at start u)) (sym (front v vs)))
     where
       front : (v : SlotUnit) (vs : List SlotUnit) → moved_to_front (v ∷ vs) 0 ≡ v ∷ vs
@@ -229,7 +230,8 @@ unmoved c cpu base stays = go (nat_le flash_base base) refl
         elim (search_of (has_member_at (base - flash_base)) (boot_units_in c cpu)) [
           | inl absent ↦ unmoved-none (images_in c cpu) (base - flash_base) (boot_units_in c cpu) absent.fails
               ∙ (ap (λ o. ordered_choice (images_in c cpu)
-              (option_map_or (moved_to_front (boot_units_in c cpu)) o (boot_units_in c cpu)) None) (sym absent.placeless)
+              (option_map_or (moved_to_front (boot_units_in c cpu)) o (boot_units_in c cpu)) None)
+              (sym absent.placeless)
               ∙ ap (λ o. ordered_choice (images_in c cpu) (option_map_or (moved_to_front (boot_units_in c cpu))
               (position (has_member_at (base - flash_base)) (boot_units_in c cpu)) (boot_units_in c cpu))
               (option_and_then (member_at (base - flash_base)) o)) (sym absent.unfound))

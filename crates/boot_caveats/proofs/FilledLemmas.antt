@@ -7,7 +7,8 @@ use Rattle.std.proofs.Math.Pow.{pow_mono}
 use Rattle.boot_caveats.specs.StartCaveats.{is_filled_from}
 use Rattle.boot_caveats.proofs.MoreLemmas.{range-first}
 
-step : (p : ℕ → Bool) (k n : ℕ) → 0 < n → list_any p (range_with_len k n) ≡ (p k || list_any p (range_with_len (k + 1) (n - 1)))
+step : (p : ℕ → Bool) (k n : ℕ) → 0 < n → list_any p (range_with_len k n)
+    ≡ (p k || list_any p (range_with_len (k + 1) (n - 1)))
 step p k n some = ap (list_any p) (range-first k n some)
 
 or-true : (a b : Bool) → a ≡ true → (a || b) ≡ true
@@ -22,7 +23,8 @@ pub filled-here : (value k : ℕ) → k < 25 → value + 1 ≡ 2 ^ k → is_fill
 unfolding is_filled_from
 filled-here value k lt e =
     step (λ j. value + 1 == 2 ^ j) k (25 - k) (omega arith)
-    ∙ or-true (value + 1 == 2 ^ k) (list_any (λ j. value + 1 == 2 ^ j) (range_with_len (k + 1) (25 - k - 1))) (eq-eqb (value + 1) (2 ^ k) e)
+    ∙ or-true (value + 1 == 2 ^ k) (list_any (λ j. value + 1 == 2 ^ j) (range_with_len (k + 1) (25 - k - 1)))
+    (eq-eqb (value + 1) (2 ^ k) e)
 
 pub filled-more : (value k : ℕ) → k < 25 → value + 1 ≢ 2 ^ k → is_filled_from value k ≡ is_filled_from value (k + 1)
 unfolding is_filled_from

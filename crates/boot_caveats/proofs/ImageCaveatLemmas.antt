@@ -147,7 +147,8 @@ says-item : (b : BlockView)
     → begins_otherwise b ≡ true
 says-item b never = go (slice_get (items_of b.items) 0) refl
   where
-    go : (o : Option Item) → slice_get (items_of b.items) 0 ≡ o → not (option_map_or (is_of_kind IMAGE_TYPE) o false) ≡ true
+    go : (o : Option Item) → slice_get (items_of b.items) 0 ≡ o → not (option_map_or (is_of_kind IMAGE_TYPE) o false)
+        ≡ true
     go None at = refl
     go (Some item) at = says-not (is_of_kind IMAGE_TYPE item) (never item at)
 
@@ -225,9 +226,11 @@ says-doubt _ bad_hash_value = refl
 says-doubt _ (entry fault) = refl
 says-doubt _ delta = refl
 
-pub may-just : (w : Window) (image : Result Started Why) → IsJust (IsMayStart w image) (option_to_list (may_start w image))
+pub may-just : (w : Window) (image : Result Started Why)
+    → IsJust (IsMayStart w image) (option_to_list (may_start w image))
 may-just w (Ok s) =
-    one-just (λ why. (Ok s ≡ Err why) × IsDoubtful why) (MayStart w) None (λ caveat e. cc) (λ why is. absurd (apart s why is.0))
+    one-just (λ why. (Ok s ≡ Err why) × IsDoubtful why) (MayStart w) None (λ caveat e. cc)
+    (λ why is. absurd (apart s why is.0))
   where
     apart : (s : Started) (why : Why) → (let r : Result Started Why = Ok s in r ≡ Err why) → ⊥
     apart s why e = cc
@@ -240,7 +243,8 @@ may-just w (Err y) =
     same-why a b e = cc
 
     to : (b : Bool) → is_doubtful y ≡ b → (caveat : Caveat) → caveat_if b (MayStart w y) ≡ Some caveat
-        → (why : Why) × ((let r : Result Started Why = Err y in r ≡ Err why) × IsDoubtful why) × (caveat ≡ MayStart w why)
+        → (why : Why) × ((let r : Result Started Why = Err y in r ≡ Err why) × IsDoubtful why)
+        × (caveat ≡ MayStart w why)
     to true is caveat e = (y, (refl, doubt-says y is), sym (same_Some _ _ e))
     to false is caveat e = cc
 

@@ -58,7 +58,8 @@ pub counted-more : (p : ℕ → Bool) (a k n : ℕ) (count after whole : ℕ) �
 counted-more p a k n count after whole lt was now =
     let split : count_by p (range_with_len (a + k) (n - k))
     ≡ cond (p (a + k)) 1 0 + count_by p (range_with_len (a + (k + 1)) (n - (k + 1))) =
-    counted (range_with_len (a + k) (n - k)) (a + k) (range_with_len (a + (k + 1)) (n - (k + 1))) (range-rest a k n lt) in
+    counted (range_with_len (a + k) (n - k)) (a + k) (range_with_len (a + (k + 1)) (n - (k + 1)))
+    (range-rest a k n lt) in
     joined count after whole (cond (p (a + k)) 1 0) (count_by p (range_with_len (a + k) (n - k)))
     (count_by p (range_with_len (a + (k + 1)) (n - (k + 1)))) split was now
   where

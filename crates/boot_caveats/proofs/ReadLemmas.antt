@@ -75,7 +75,8 @@ readable-start c cpu kind (Start choice) right chosen =
     let inside = all-at (AreInside (length c.flash)) order.units start.place start.unit
     (order-all (AreInside (length c.flash)) kind (boot_units_in c cpu) (boot-units-inside c cpu right)) counts.tried in
     record {
-      inside = subst (IsInside (length c.flash)) (sym (valid-window c counts.window cpu trial choice.image counts.valid))
+      inside = subst (IsInside (length c.flash))
+          (sym (valid-window c counts.window cpu trial choice.image counts.valid))
           (member-inside (length c.flash) start.unit choice.member counts.window inside counts.stands);
       rows = valid-rows c counts.window cpu trial choice.image counts.valid;
     }

@@ -94,7 +94,8 @@ table-just c (Start choice) =
     from v at starts is =
         let same : v ≡ choice.image.window =
         sym starts.2 ∙ ap (λ (x : Choice). x.image.window) (sym (start-same choice starts.0 starts.1)) in
-        subst (λ (x : Window). option_map (TableInImage x) (table_place (window_bytes c x)) ≡ Some (TableInImage v at)) same
+        subst (λ (x : Window). option_map (TableInImage x) (table_place (window_bytes c x))
+        ≡ Some (TableInImage v at)) same
         (ap (option_map (TableInImage v)) (says-place (window_bytes c v) at is))
 
 -- ---- rollback rows
@@ -182,7 +183,8 @@ module _ (otp : List ℕ) (d : Decision) (s : Started) (starts : StartsWithRows 
   some-rows =
       one-just (λ w. (t : Started) × StartsWithRows d t × (t.window ≡ w)) RollbackRows (Some (RollbackRows s.window))
       (λ caveat e. (s.window, (s, starts, refl), sym (same_Some _ _ e)))
-      (λ w is. ap (λ (t : Started). Some (RollbackRows t.window)) (sym (once is.0 is.1)) ∙ ap (λ v. Some (RollbackRows v)) is.2)
+      (λ w is. ap (λ (t : Started). Some (RollbackRows t.window)) (sym (once is.0 is.1))
+      ∙ ap (λ v. Some (RollbackRows v)) is.2)
 
   some-full : IsJust (IsRollbackFull d)
       (option_to_list (caveat_if (is_full s.rollback (length s.rows.items)) (RollbackFull s.window)))
@@ -215,7 +217,8 @@ module _ (otp : List ℕ) (d : Decision) (s : Started) (starts : StartsWithRows 
       (λ row is. ap (option_map RollbackGap) (says-gap otp s.rows.items row
       (subst (λ (t : Started). IsFirstGap otp t.rows.items row) (once is.0 is.1) is.2)))
     where
-      to : (o : Option ℕ) → find (has_gap otp) s.rows.items ≡ o → (caveat : Caveat) → option_map RollbackGap o ≡ Some caveat
+      to : (o : Option ℕ) → find (has_gap otp) s.rows.items ≡ o → (caveat : Caveat) → option_map RollbackGap o
+          ≡ Some caveat
           → (row : ℕ) × ((t : Started) × StartsWithRows d t × IsFirstGap otp t.rows.items row)
           × (caveat ≡ RollbackGap row)
       to None is caveat e = cc

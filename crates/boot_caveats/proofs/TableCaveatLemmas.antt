@@ -44,7 +44,8 @@ pub short-just : (n number : ℕ) (answer : Result Table SlotFault)
     → IsJust (IsShortFlash n number answer) (option_to_list (short_flash n number answer))
 short-just n number answer =
     one-just (λ i. (answer ≡ Err (Faulty (Range i))) × (n < MOST_FLASH_BYTES)) (ShortFlash number)
-    (short_flash n number answer) (to (nat_lt n MOST_FLASH_BYTES) refl) (λ i is. from i is.0 (nat_lt n MOST_FLASH_BYTES) refl is.1)
+    (short_flash n number answer) (to (nat_lt n MOST_FLASH_BYTES) refl)
+    (λ i is. from i is.0 (nat_lt n MOST_FLASH_BYTES) refl is.1)
   where
     told : (o : Option ℕ) → range_of answer ≡ o → n < MOST_FLASH_BYTES → (caveat : Caveat)
         → option_map (ShortFlash number) o ≡ Some caveat
@@ -96,7 +97,8 @@ targets-just t =
         let one : t ≡ u = cc in
         let value : unread_families t.unpartitioned ≡ bits =
         ap (λ (x : Table). unread_families x.unpartitioned) one ∙ sym is in
-        go b ((sym decides) ∙ (some-bits (unread_families t.unpartitioned)).1 (λ zero_is. some (sym value ∙ zero_is))) value
+        go b ((sym decides) ∙ (some-bits (unread_families t.unpartitioned)).1 (λ zero_is. some (sym value ∙ zero_is)))
+        value
       where
         go : (c : Bool) → c ≡ true → unread_families t.unpartitioned ≡ bits
             → caveat_if c (UnreadTargets (unread_families t.unpartitioned)) ≡ Some (UnreadTargets bits)
@@ -132,7 +134,8 @@ parts-just Is f just t =
         let one : t ≡ u = cc in
         (each-one-just (Is t.parts.items) (f t.parts.items) (just t.parts.items)
         (range_with_len 0 (length t.parts.items))).only other
-        (subst (λ (x : Table). AreOfEach (Is x.parts.items) (range_with_len 0 (length x.parts.items)) other) (sym one) is)
+        (subst (λ (x : Table). AreOfEach (Is x.parts.items) (range_with_len 0 (length x.parts.items)) other) (sym one)
+        is)
 
 pub no-parts : (Is : List Partition → ℕ → List Caveat → Type 0) → IsJust (AreOfParts None Is) []
 no-parts Is = record {
@@ -240,7 +243,12 @@ table-decides t u = (to, from)
         ((flag-decides t.singleton u.singleton).0 one.1)
         ∙ (ap (λ x. record { version = u.version; singleton = u.singleton; unpartitioned = x; parts = t.parts })
         (eqb-true t.unpartitioned u.unpartitioned two.1)
-        ∙ ap (λ x. record { version = u.version; singleton = u.singleton; unpartitioned = u.unpartitioned; parts = record { items = x } })
+        ∙ ap (λ x. record {
+          version = u.version;
+          singleton = u.singleton;
+          unpartitioned = u.unpartitioned;
+          parts = record { items = x };
+        })
         (parts.0 three.1)))
 
     from : t ≡ u → is_same_table t u ≡ true
@@ -302,7 +310,8 @@ tied-decides t u = (
         (not-is (is_same_table t u) (λ same.
         is.differ (sym first ∙ ((table-decides t u).0 same ∙ second))))
 
-pub tie-just : (first second : Result Table SlotFault) → IsJust (IsTableTie first second) (option_to_list (table_tie first second))
+pub tie-just : (first second : Result Table SlotFault)
+    → IsJust (IsTableTie first second) (option_to_list (table_tie first second))
 tie-just (Ok t) (Ok u) = where-just _ _ (are_tied t u) (tied-decides t u)
 tie-just (Ok t) (Err fault) = never-just _ _ (λ is. no-table (Err fault) fault is.other refl is.beside)
 tie-just (Err fault) answer = never-just _ _ (λ is. no-table (Err fault) fault is.table refl is.stands)

@@ -179,7 +179,8 @@ loop-first bytes = go (first_block bytes) refl
     go None is = sym (loop_of-none bytes is)
     go (Some b) is = sym (loop_of-first bytes b is)
 
-early-loop : (bytes : List ℕ) → option_map_or ends_late (first_block bytes) false ≡ false → early_loop bytes ≡ loop_of bytes
+early-loop : (bytes : List ℕ) → option_map_or ends_late (first_block bytes) false ≡ false → early_loop bytes
+    ≡ loop_of bytes
 early-loop bytes e = ap (loop_from bytes) (early-same 1024 0 bytes e) ∙ loop-first bytes
 
 early-defined : (cpu : Cpu) (bytes : List ℕ) → option_map_or ends_late (first_block bytes) false ≡ false
@@ -243,7 +244,8 @@ module _ (c : Content) (cpu : Cpu) (kind : BootKind) (list : List Caveat) (are :
       (λ w is trial. image-same loop_of (suits_first cpu) c cpu w trial (typed-defined cpu (window_bytes c w)
       (bool-or (option_map_or begins_otherwise (definition_in cpu (window_bytes c w)) false)
       (λ e. never w (listed (ItemOrder w) (there w e
-      (subst (λ (looks : List UnitReport). IsIn w (looked_windows looks)) (sym (reports-when c cpu kind does)) is))))))))
+      (subst (λ (looks : List UnitReport). IsIn w (looked_windows looks)) (sym (reports-when c cpu kind does))
+      is))))))))
     where
       there : (w : Window) → option_map_or begins_otherwise (definition_in cpu (window_bytes c w)) false ≡ true
           → IsIn w (looked_windows (reports_in c cpu kind))
@@ -254,7 +256,8 @@ module _ (c : Content) (cpu : Cpu) (kind : BootKind) (list : List Caveat) (are :
           (Contains-append_left _ _ _ (in-filtered (item_order c cpu) w (ItemOrder w)
           (looked_windows (reports_in c cpu kind)) is (ap (λ b. caveat_if b (ItemOrder w)) e)))
 
-  module _ (never : (w : Window) → Contains list (FirstBlock w) → ⊥) (does : does_report kind (flash_off c.otp) ≡ true) where
+  module _ (never : (w : Window) → Contains list (FirstBlock w) → ⊥)
+      (does : does_report kind (flash_off c.otp) ≡ true) where
     -- no window that is read has a first block that ends late
     early-read : (w : Window) → IsIn w (read_windows (slot_size c.otp (length c.flash)) (reports_in c cpu kind))
         → option_map_or ends_late (first_block (window_bytes c w)) false ≡ false
@@ -281,9 +284,11 @@ module _ (c : Content) (cpu : Cpu) (kind : BootKind) (list : List Caveat) (are :
             (reasons_in c cpu kind).looks.items) (FirstBlock w)
         there e among =
             subst (λ (b : Bool). Contains (cond b (filter_map (late_first c)
-            (first_places [] (read_windows (slot_size c.otp (length c.flash)) (reports_in c cpu kind)))) []) (FirstBlock w))
+            (first_places [] (read_windows (slot_size c.otp (length c.flash)) (reports_in c cpu kind)))) [])
+            (FirstBlock w))
             (sym reads) (in-filtered (late_first c) w (FirstBlock w)
-            (first_places [] (read_windows (slot_size c.otp (length c.flash)) (reports_in c cpu kind))) among (ap (λ b. caveat_if b (FirstBlock w)) e))
+            (first_places [] (read_windows (slot_size c.otp (length c.flash)) (reports_in c cpu kind))) among
+            (ap (λ b. caveat_if b (FirstBlock w)) e))
 
     slot-same : (number : ℕ)
         → IsIn (slot_window (slot_size c.otp (length c.flash)) number)

@@ -177,5 +177,6 @@ places-only before (w ∷ ws) ys is =
         → ys ≡ cond b (first_places before ws) (w ∷ first_places (before ++ w ∷ []) ws)
     go true e same more (inl told) = same told.1
     go true e same more (inr told) = absurd (told.0 ((among-decides w before).0 e))
-    go false e same more (inl told) = absurd (apart (list_any (is_window w) before) ((among-decides w before).1 told.0) e)
+    go false e same more (inl told) =
+        absurd (apart (list_any (is_window w) before) ((among-decides w before).1 told.0) e)
     go false e same more (inr told) = told.1.1 ∙ ap (λ l. w ∷ l) (more told.1.0 told.1.2)

@@ -98,8 +98,8 @@ decision_last c cpu kind =
     reported_decision kind (flash_off c.otp)
     (choose_last (images_in c cpu) (order_of kind (boot_units_in c cpu)))
 
--- ---- update-moves-unit: an update boot leaves the units in table order; the updated member's image
--- is still taken before the other one's of its unit, and it alone may be a trial
+-- ---- update-moves-unit: an update boot leaves the units in table order; the updated member's
+-- image is still taken before the other one's of its unit, and it alone may be a trial
 
 abbrev pub unmoved_from : (Window → Bool → Option Started) → ℕ → List SlotUnit → Option Choice
 unmoved_from images start [] = None
@@ -121,8 +121,8 @@ decision_unmoved c cpu kind =
     reported_decision kind (flash_off c.otp)
     (choose_unmoved (images_in c cpu) kind (boot_units_in c cpu))
 
--- ---- the image of a window by other loops and other definitions: as `image_in`, but for the loop of
--- the bytes and for which blocks suit
+-- ---- the image of a window by other loops and other definitions: as `image_in`, but for the loop
+-- of the bytes and for which blocks suit
 
 abbrev pub definition_by : (BlockView → Bool) → List BlockView → Result BlockView Why
 definition_by suits loop =

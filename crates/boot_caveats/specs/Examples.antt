@@ -66,7 +66,8 @@ pair_report taken = record {
 }
 
 abbrev pub lone_report : Option TakenImage → UnitReport
-lone_report taken = record { unit = lone_third; first = Err Why.Trial; second = None; taken = taken }
+lone_report taken =
+    record { unit = lone_third; first = Err Why.Trial; second = None; taken = taken }
 
 -- a table of a slot is that of the flash
 abbrev pub in_slot : Option TableInForce

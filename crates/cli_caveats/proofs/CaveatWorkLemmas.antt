@@ -49,7 +49,8 @@ pub caveats-only-of : (c : Content) (cpu : Cpu) (kind : BootKind) (o : AnswerVie
     → o ≡ worked (caveats_work c cpu kind)
 unfolding told
 caveats-only-of c cpu kind o right =
-    same-outcome o (decided_status right.decision) (caveats_text right.decision right.caveats) [] right.status right.text
+    same-outcome o (decided_status right.decision) (caveats_text right.decision right.caveats) [] right.status
+    right.text
     right.files
     ∙ (ap (λ d. told d right.caveats) (chosen-decision c cpu kind right.decision right.chosen)
     ∙ (ap (told (decision_in c cpu kind)) (caveats-only c cpu kind right.caveats right.listed)
@@ -98,7 +99,8 @@ pub answered : (c : Content) (cpu : Cpu) (kind : BootKind) (s : Status) (text li
     → lines ≡ flat_map caveat_line list → files ≡ [] → Chosen c cpu kind d → list ≡ caveats_in c cpu kind
     → record { status = s; text = text; files = files } ≡ worked (caveats_work c cpu kind)
 answered c cpu kind s text lines files d list e0 e1 e2 e3 chosen e5 =
-    same-outcome (record { status = s; text = text; files = files }) (answered_status (is_fall d)) (caveats_text d list) []
+    same-outcome (record { status = s; text = text; files = files }) (answered_status (is_fall d))
+    (caveats_text d list) []
     e0 (e1 ∙ ap (λ l. decision_line d ++ l) e2) e3
     ∙ (ap (λ x. record { status = answered_status (is_fall x); text = caveats_text x list; files = [] })
     (chosen-decision c cpu kind d chosen)

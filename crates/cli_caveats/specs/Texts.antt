@@ -23,7 +23,8 @@ caveat_text (TableInImage w at) =
     codes "caveat table-in-image " ++ (window_text w ++ (codes " at=" ++ hex_word at))
 caveat_text (OtherProcessor w) = codes "caveat other-processor " ++ window_text w
 caveat_text (SlotImage w) = codes "caveat slot-1-image " ++ window_text w
-caveat_text (Tie w other) = codes "caveat tie " ++ (window_text w ++ (codes " " ++ window_text other))
+caveat_text (Tie w other) =
+    codes "caveat tie " ++ (window_text w ++ (codes " " ++ window_text other))
 caveat_text (UpdateOfSlot base) = codes "caveat update-of-slot base=" ++ hex_word base
 caveat_text (UpdateMovesUnit part) = codes "caveat update-moves-unit partition=" ++ decimal part
 caveat_text (RollbackRows w) = codes "caveat rollback-rows " ++ window_text w

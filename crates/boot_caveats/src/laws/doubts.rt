@@ -52,8 +52,8 @@ pub fn no_doubt_of_the_item_order()
         → Chosen c cpu kind (decision_typed c cpu kind) }
 {}
 
-/// A first block may have to end within 4096 bytes: without the caveat of a first block that decides
-/// as the model does.
+/// A first block may have to end within 4096 bytes: without the caveat of a first block that
+/// decides as the model does.
 pub fn no_doubt_of_first_blocks()
     ensures { (c : Content) (cpu : Cpu) (kind : BootKind) (list : List Caveat)
         → AreCaveats c cpu kind list → ((w : Window) → Contains list (FirstBlock w) → ⊥)

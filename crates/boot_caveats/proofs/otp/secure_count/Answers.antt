@@ -17,9 +17,13 @@ loop-place-preserved g c =
     let now : c.if-otp_read-eq1.count ≡ c.loop-place.count + cond (has_lowest_bit otp (64 + c.loop-place.place)) 1 0 =
     elim c.if-otp_read-eq1.branch [
       | then-otp_read-eq1 w ↦ subst (λ (v : ℕ). c.if-otp_read-eq1.count ≡ c.loop-place.count + cond (v % 2 == 1) 1 0)
-          c.otp_read.ensures.value (counts-one c.loop-place.count c.if-otp_read-eq1.count c.otp_read.result w.count-is w.if-otp_read-eq1.true)
+          c.otp_read.ensures.value
+          (counts-one c.loop-place.count c.if-otp_read-eq1.count c.otp_read.result w.count-is
+          w.if-otp_read-eq1.true)
       | else-otp_read-eq1 w ↦ subst (λ (v : ℕ). c.if-otp_read-eq1.count ≡ c.loop-place.count + cond (v % 2 == 1) 1 0)
-          c.otp_read.ensures.value (counts-none c.loop-place.count c.if-otp_read-eq1.count c.otp_read.result w.count-is w.if-otp_read-eq1.false)
+          c.otp_read.ensures.value
+          (counts-none c.loop-place.count c.if-otp_read-eq1.count c.otp_read.result w.count-is
+          w.if-otp_read-eq1.false)
     ] in
     record {
       most = elim c.if-otp_read-eq1.branch [
