@@ -5,3 +5,4 @@ pub mod ClassLemmas
 pub mod TraceLemmas
 pub mod PlayLemmas
 pub mod FoundLemmas
+pub mod ReplayLemmas

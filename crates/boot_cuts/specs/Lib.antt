@@ -12,3 +12,4 @@ pub mod Moving
 pub mod Playing
 pub mod Judging
 pub mod Told
+pub mod Replaying

@@ -1,14 +1,26 @@
 //! Laws of cuts, each the contract of a function that does nothing.
 
-ghost use Rattle.std.specs.Prelude.{◌≡◌, ◌↔◌, List, map};
+ghost use Rattle.std.specs.Prelude.{◌≡◌, ◌↔◌, ◌+◌, ◌*◌, ◌++◌, ◌∷◌, [], ℕ, Bool, List, None, Some, codes, false, length, map, slice_get, true};
 ghost use Rattle.pico_board.specs.Content.{Content};
 ghost use Rattle.pico_board.specs.declared.boot.Cpu.{Cpu};
+ghost use Rattle.pico_board.specs.Cuts.{cut_by, cut_with};
+ghost use Rattle.pico_board.specs.declared.boot.BootKind.TheVariants.{Normal};
+ghost use Rattle.boot_rules.specs.Choosing.{decision_in};
+ghost use Rattle.boot_script.specs.Events.{EventView};
+ghost use Rattle.boot_machine.specs.Machines.{MachineView};
+ghost use Rattle.boot_machine.specs.Moves.{lost_text};
+ghost use Rattle.boot_plays.specs.Plays.{played, powerless};
+ghost use Rattle.text_lines.specs.Texts.{decision_text};
 ghost use Rattle.boot_cuts.specs.declared.answers.Answer.{Answer};
 ghost use Rattle.boot_cuts.specs.declared.answers.Class.{Class};
 ghost use Rattle.boot_cuts.specs.declared.runs.Run.{Run};
 ghost use Rattle.boot_cuts.specs.Answers.{answer_of};
 ghost use Rattle.boot_cuts.specs.Classes.{IsClass};
 ghost use Rattle.boot_cuts.specs.Classing.{class_of};
+ghost use Rattle.boot_cuts.specs.Contents.{cut_content, cut_contents};
+ghost use Rattle.boot_cuts.specs.Playing.{cut_in};
+ghost use Rattle.boot_cuts.specs.Replaying.{replay_of};
+ghost use Rattle.boot_cuts.specs.Traces.{Traced, event_steps, traced, traced_from};
 ghost use Rattle.boot_cuts.specs.Runs.{AreRuns, runs_of};
 ghost use Rattle.boot_cuts.specs.Told.{AreAnswers};
 
@@ -35,4 +47,31 @@ pub fn runs_are_runs()
 pub fn runs_are_the_only_ones()
     ensures { (answers : List Answer) (a b : List Run)
         → AreRuns answers a → AreRuns answers b → a ≡ b }
+{}
+
+/// A cut is a replay. The script that is the events before one, then a Cut event that is due in
+/// step k of that event, then that event and power that comes back, tells a boot with the decision
+/// of a normal boot on the content that this cut leaves. A cut that was armed there is replaced.
+/// The step stands in the trace behind those of the events before it, and the cuts before and
+/// within step k of a trace are those of the numbers 2k and 2k + 1.
+pub fn a_cut_is_a_replay()
+    ensures boots { (c : Content) (cpu : Cpu) (before : List EventView) (event : EventView) (k : ℕ)
+        (within : Bool) (pattern : List ℕ) (t : Traced) → cut_in event ≡ None
+        → slice_get (traced_from (played (powerless c cpu) before).last.content
+        (event_steps (played (powerless c cpu) before).last event)) k ≡ Some t
+        → (played (powerless c cpu) (replay_of before event k within pattern)).texts
+        ≡ (played (powerless c cpu) before).texts ++ (codes "cut armed" ∷ lost_text
+        ∷ (codes "boot " ++ decision_text (decision_in
+        (cut_by (cut_with 0 within pattern) t.before t.step) cpu Normal)) ∷ []) }
+    ensures stands { (m : MachineView) (before others : List EventView) (event : EventView) (k : ℕ)
+        (t : Traced)
+        → slice_get (traced_from (played m before).last.content
+        (event_steps (played m before).last event)) k ≡ Some t
+        → slice_get (traced m (before ++ event ∷ others)) (length (traced m before) + k)
+        ≡ Some t }
+    ensures numbers { (pattern : List ℕ) (done : List Traced) (k : ℕ) (t : Traced)
+        → slice_get done k ≡ Some t
+        → (slice_get (cut_contents pattern done) (2 * k) ≡ Some (cut_content pattern t false))
+        × (slice_get (cut_contents pattern done) (2 * k + 1)
+        ≡ Some (cut_content pattern t true)) }
 {}
