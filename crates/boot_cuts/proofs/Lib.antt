@@ -6,3 +6,4 @@ pub mod TraceLemmas
 pub mod PlayLemmas
 pub mod FoundLemmas
 pub mod ReplayLemmas
+mod BesideLemmas

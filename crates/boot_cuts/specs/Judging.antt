@@ -14,16 +14,16 @@ use Rattle.boot_cuts.specs.Moving.{MoveView, traced_by}
 -- both boards have power and a flash of this length, and the decisions are theirs
 pub record AreEnds (ends : Ends) (long : ℕ) : Type 0 where
   pub start_power : IsTrue (state_of ends.start.now).powered
-  pub end_power : IsTrue (state_of ends.end.now).powered
+  pub end_power : IsTrue (state_of ends.ends.board.now).powered
   pub start_long : length (state_of ends.start.now).content.flash ≡ long
-  pub end_long : length (state_of ends.end.now).content.flash ≡ long
-  pub former : ends.former ≡ decision_in (state_of ends.start.now).content ends.cpu Normal
-  pub finished : ends.finished ≡ decision_in (state_of ends.end.now).content ends.cpu Normal
+  pub end_long : length (state_of ends.ends.board.now).content.flash ≡ long
+  pub former : ends.ends.former ≡ decision_in (state_of ends.start.now).content ends.ends.cpu Normal
+  pub finished : ends.ends.finished ≡ decision_in (state_of ends.ends.board.now).content ends.ends.cpu Normal
 
 -- the answer on a content
 abbrev pub judge : Ends → Content → Answer
 judge ends d =
-    answer_of (state_of ends.start.now).content (state_of ends.end.now).content ends.cpu d
+    answer_of (state_of ends.start.now).content (state_of ends.ends.board.now).content ends.ends.cpu d
 
 -- the answers of the cuts of what a script does, from the content c on
 abbrev pub told_answers : Ends → List ℕ → Content → List MoveView → List Answer

@@ -13,3 +13,4 @@ pub mod Playing
 pub mod Judging
 pub mod Told
 pub mod Replaying
+pub mod Beside

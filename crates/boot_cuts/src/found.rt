@@ -1,12 +1,14 @@
 //! What is found of the cuts of a script.
 
-ghost use Rattle.std.specs.Prelude.{◌≡◌, true, IfOk, List};
+ghost use Rattle.std.specs.Prelude.{◌≡◌, true, IfOk, IfSome, IsTrue, List};
 ghost use Rattle.pico_board.specs.Cuts.{IsPattern};
 ghost use Rattle.pico_board.specs.MemBoard.{state_of};
 ghost use Rattle.sector_pool.specs.Pool.{HasFree};
 ghost use Rattle.boot_script.specs.Events.{EventView};
 ghost use Rattle.boot_script.specs.Scripts.{script_events};
 ghost use Rattle.boot_session.specs.Standing.{IsUnarmed};
+ghost use Rattle.boot_sweep.specs.Verdicts.{IsSweptSlot};
+ghost use Rattle.boot_cuts.specs.Beside.{AreMovesBeside};
 ghost use Rattle.boot_cuts.specs.Found.{AreCutsFound, AreCutsOf};
 ghost use Rattle.boot_cuts.specs.Moving.{done_steps, moves_from};
 ghost use Rattle.boot_cuts.specs.Playing.{IsTraceOf};
@@ -21,6 +23,7 @@ use crate::trace::Trace;
 use crate::walking::runs_on;
 use boot_rules::{Decision, decide};
 use boot_script::Script;
+use boot_sweep::{Ends as SweepEnds, Slot, slot_of};
 use pico_board::{BootKind, Cpu, MemBoard, Step};
 use sector_pool::SectorPool;
 use std::alloc::{AllocError, Global};
@@ -53,6 +56,20 @@ fn steps_of(alloc: Global, moves: &[Move<'_>]) -> Result<Vec<Step>, AllocError>
     Ok(steps)
 }
 
+/// The member of a pair in which the steps lie, where all that the script does is these steps.
+fn slot_beside(board: &MemBoard, cpu: Cpu, steps: &[Step], moves: &[Move<'_>]) -> Option<Slot>
+    requires power { IsTrue (state_of board.now).powered }
+    requires steps { steps.now ≡ done_steps (moves_from moves.now) }
+    ensures slot { IfSome result (IsSweptSlot (state_of board.now).content cpu steps.now) }
+    ensures moves { AreMovesBeside result moves.now }
+{
+    if steps.len() == moves.len() {
+        slot_of(board, cpu, steps)
+    } else {
+        None
+    }
+}
+
 /// A pool with free sectors.
 #[tactic(auto, using(crate::proofs::PoolLemmas::one_free))]
 fn pool_of(alloc: Global) -> Result<SectorPool, AllocError>
@@ -80,20 +97,31 @@ pub fn cuts_of(
     let mut pool = pool_of(alloc)?;
     let mut beside = copy_of(alloc, &board)?;
     let ends = Ends {
-        cpu,
         start: &board,
-        end: &trace.board,
-        former: decide(&board, &mut pool, cpu, BootKind::Normal),
-        finished: decide(&trace.board, &mut pool, cpu, BootKind::Normal),
+        ends: SweepEnds {
+            cpu,
+            former: decide(&board, &mut pool, cpu, BootKind::Normal),
+            finished: decide(&trace.board, &mut pool, cpu, BootKind::Normal),
+            board: &trace.board,
+        },
     };
-    let runs = runs_on(alloc, &mut beside, &mut pool, &ends, &trace.moves, pattern)?;
-    let end = answer_on(&trace.board, &mut pool, &ends);
     let steps = steps_of(alloc, &trace.moves)?;
+    let slot = slot_beside(&beside, cpu, &steps, &trace.moves);
+    let runs = runs_on(
+        alloc,
+        &mut beside,
+        &mut pool,
+        &ends,
+        slot,
+        &trace.moves,
+        pattern,
+    )?;
+    let end = answer_on(&trace.board, &mut pool, &ends);
     Ok(Cuts {
         steps,
         runs,
-        former: ends.former,
-        finished: ends.finished,
+        former: ends.ends.former,
+        finished: ends.ends.finished,
         end_: end.class,
     })
 }

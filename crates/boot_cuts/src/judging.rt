@@ -14,7 +14,7 @@ ghost use Rattle.boot_cuts.specs.Judging.{AreEnds};
 
 use crate::answers::{Answer, Class};
 use boot_rules::{Decision, decide};
-use boot_sweep::is_same_decision;
+use boot_sweep::{Ends as SweepEnds, is_same_decision};
 use image_check::same_content;
 use pico_board::{Board, BootKind, Cpu, FlashView, MemBoard};
 use sector_pool::SectorPool;
@@ -23,16 +23,10 @@ use sector_pool::SectorPool;
 /// decides on each.
 #[derive(Drop)]
 pub struct Ends<'a> {
-    /// The processor that boots.
-    pub cpu: Cpu,
     /// The board before the script.
     pub start: &'a MemBoard,
-    /// The board after it.
-    pub end: &'a MemBoard,
-    /// The decision before the script.
-    pub former: Decision,
-    /// The decision after it.
-    pub finished: Decision,
+    /// The processor, the decisions before the script and after it, and the board after it.
+    pub ends: SweepEnds<'a, MemBoard>,
 }
 
 /// Whether the decision is a start of an image.
@@ -89,17 +83,29 @@ fn is_as_on(
 }
 
 /// The class of a decision on a board.
-fn class_on(board: &MemBoard, ends: &Ends<'_>, decision: &Decision) -> Class
+pub fn class_on(board: &MemBoard, ends: &Ends<'_>, decision: &Decision) -> Class
     requires power { IsTrue (state_of board.now).powered }
     requires ends { AreEnds ends.now (length (state_of board.now).content.flash) }
-    ensures { result ≡ class_by ends.now.former ends.now.finished ends.now.cpu
-        (state_of ends.now.start.now).content (state_of ends.now.end.now).content
+    ensures { result ≡ class_by ends.now.ends.former ends.now.ends.finished ends.now.ends.cpu
+        (state_of ends.now.start.now).content (state_of ends.now.ends.board.now).content
         (state_of board.now).content decision.now }
 {
-    if is_as_on(ends.start, board, ends.cpu, &ends.former, decision) {
+    if is_as_on(
+        ends.start,
+        board,
+        ends.ends.cpu,
+        &ends.ends.former,
+        decision,
+    ) {
         Class::Former
-    } else if is_start(&ends.finished)
-        && is_as_on(ends.end, board, ends.cpu, &ends.finished, decision)
+    } else if is_start(&ends.ends.finished)
+        && is_as_on(
+            ends.ends.board,
+            board,
+            ends.ends.cpu,
+            &ends.ends.finished,
+            decision,
+        )
     {
         Class::Finished
     } else {
@@ -113,10 +119,10 @@ pub fn answer_on(board: &MemBoard, pool: &mut SectorPool, ends: &Ends<'_>) -> An
     requires free { HasFree pool.old }
     requires ends { AreEnds ends.now (length (state_of board.now).content.flash) }
     ensures exact { result ≡ answer_of (state_of ends.now.start.now).content
-        (state_of ends.now.end.now).content ends.now.cpu (state_of board.now).content }
+        (state_of ends.now.ends.board.now).content ends.now.ends.cpu (state_of board.now).content }
     ensures kept { KeepsOut pool.old pool.new }
 {
-    let decision = decide(board, pool, ends.cpu, BootKind::Normal);
+    let decision = decide(board, pool, ends.ends.cpu, BootKind::Normal);
     let class = class_on(board, ends, &decision);
     Answer { class, decision }
 }

@@ -8,6 +8,7 @@
 #![tactic(auto)]
 
 mod answers;
+mod beside;
 mod copying;
 mod found;
 mod judging;

@@ -3,7 +3,7 @@ mod PageLemmas
 pub mod ResultLemmas
 mod LineLemmas
 mod VerdictLemmas
-mod KnownLemmas
+pub mod KnownLemmas
 mod GateLemmas
 mod RefusalLemmas
 mod ChanceLemmas

@@ -159,7 +159,7 @@ fn recalled(last: &Option<Last>, image: &Option<Started>) -> Option<Verdict>
 
 /// Which decision a normal boot makes on the board, which is that of before where the slot has the
 /// image of before.
-fn verdict_beside<B: Board, Z: Board>(
+pub fn verdict_beside<B: Board, Z: Board>(
     board: &B,
     pool: &mut SectorPool,
     ends: &Ends<'_, Z>,

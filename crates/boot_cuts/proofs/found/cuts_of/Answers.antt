@@ -1,5 +1,8 @@
-use Rattle.std.proofs.Common.{◌∙◌, ap, length, refl}
-use Rattle.std.specs.Prelude.{map}
+use Rattle.std.proofs.Common.{◌∙◌, None, ap, length, refl, subst, sym}
+use Rattle.std.specs.Prelude.{IfSome, map}
+use Rattle.boot_sweep.specs.Verdicts.{IsSweptSlot, Knows}
+use Rattle.boot_sweep.proofs.KnownLemmas.{first-known}
+use Rattle.boot_cuts.specs.Beside.{AreMovesBeside}
 use Rattle.pico_board.specs.declared.boot.BootKind.TheVariants.{Normal}
 use Rattle.boot_rules.specs.Choosing.{decision_in}
 use Rattle.boot_cuts.specs.Answers.{answer_of}
@@ -15,14 +18,29 @@ use Rattle.boot_cuts.proofs.found.cuts_of.Goals as goal
 
 pub runs_on-requires-clause-range : goal.runs_on-requires-clause-range
 runs_on-requires-clause-range c =
-    moves-inside (state_of c.args.board).content c.args.cpu c.requires.trace.0 c.args.trace.now c.deref.result.now
-    (length (state_of c.in_ok-beside.beside).content.flash) c.requires.trace.1 c.deref.ensures.value
+    moves-inside (state_of c.args.board).content c.args.cpu c.requires.trace.0 c.args.trace.now c.deref-4.result.now
+    (length (state_of c.in_ok-beside.beside).content.flash) c.requires.trace.1 c.deref-4.ensures.value
     (ap (λ (x : Content). length x.flash) c.in_ok-beside.ensures.same)
 
 pub runs_on-requires-clause-few : goal.runs_on-requires-clause-few
 runs_on-requires-clause-few c =
-    moves-few (state_of c.args.board).content c.args.cpu c.requires.trace.0 c.args.trace.now c.deref.result.now
-    c.requires.trace.1 c.deref.ensures.value
+    moves-few (state_of c.args.board).content c.args.cpu c.requires.trace.0 c.args.trace.now c.deref-4.result.now
+    c.requires.trace.1 c.deref-4.ensures.value
+
+pub runs_on-requires-clause-known : goal.runs_on-requires-clause-known
+runs_on-requires-clause-known c =
+    let start = (state_of c.args.board).content in
+    subst (λ d. Knows start c.args.cpu c.decide.result c.decide-2.result c.slot_beside-slot.result None d)
+    (sym c.in_ok-beside.ensures.same)
+    (first-known start c.args.cpu c.decide.result c.decide-2.result c.deref-2.result.now c.slot_beside-slot.result
+    c.args.board.sizes
+    (subst (λ d. IfSome c.slot_beside-slot.result (IsSweptSlot d c.args.cpu c.deref-2.result.now))
+    c.in_ok-beside.ensures.same c.slot_beside-slot.ensures.slot))
+
+pub runs_on-requires-clause-slot : goal.runs_on-requires-clause-slot
+runs_on-requires-clause-slot c =
+    subst (λ ms. AreMovesBeside c.slot_beside-slot.result ms) (c.deref-3.ensures.value ∙ sym c.deref-4.ensures.value)
+    c.slot_beside-slot.ensures.moves
 
 pub returns : goal.returns
 returns c = λ events is.
@@ -30,13 +48,13 @@ returns c = λ events is.
     let z = (state_of c.args.trace.now.board).content in
     let cpu = c.args.cpu in record {
       short = is.short;
-      steps = steps-found start cpu events c.args.trace.now c.in_ok-steps.steps.items c.deref-2.result.now is
-          c.deref-2.ensures.value c.in_ok-steps.ensures;
+      steps = steps-found start cpu events c.args.trace.now c.in_ok-steps.steps.items c.deref.result.now is
+          c.deref.ensures.value c.in_ok-steps.ensures;
       runs = runs-found start z cpu events c.args.pattern.now c.args.trace.now c.in_ok-runs.runs.items
-          c.deref.result.now is c.deref.ensures.value refl
+          c.deref-4.result.now is c.deref-4.ensures.value refl
           (c.in_ok-runs.ensures.told
           ∙ ap (λ x. runs_of (map (answer_of start z cpu) (cut_contents c.args.pattern.now
-          (traced_by x (moves_from c.deref.result.now))))) c.in_ok-beside.ensures.same);
+          (traced_by x (moves_from c.deref-4.result.now))))) c.in_ok-beside.ensures.same);
       former = c.decide.ensures.function;
       finished = c.decide-2.ensures.function ∙ ap (λ x. decision_in x cpu Normal) is.content;
       end_ = ap (λ (a : Answer). a.class) c.answer_on-end.ensures.exact

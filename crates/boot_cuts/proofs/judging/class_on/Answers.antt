@@ -7,12 +7,12 @@ use Rattle.boot_cuts.proofs.judging.class_on.Goals as goal
 
 pub is_as_on-requires-clause-chosen : goal.is_as_on-requires-clause-chosen
 is_as_on-requires-clause-chosen c =
-    subst (λ x. Chosen (state_of c.args.ends.now.start.now).content c.args.ends.now.cpu Normal x)
+    subst (λ x. Chosen (state_of c.args.ends.now.start.now).content c.args.ends.now.ends.cpu Normal x)
     (sym c.requires.ends.former)
-    (decision-chosen (state_of c.args.ends.now.start.now).content c.args.ends.now.cpu Normal)
+    (decision-chosen (state_of c.args.ends.now.start.now).content c.args.ends.now.ends.cpu Normal)
 
 pub is_as_on-requires-then-is_start-clause-chosen : goal.is_as_on-requires-then-is_start-clause-chosen
 is_as_on-requires-then-is_start-clause-chosen c =
-    subst (λ x. Chosen (state_of c.args.ends.now.end.now).content c.args.ends.now.cpu Normal x)
+    subst (λ x. Chosen (state_of c.args.ends.now.ends.board.now).content c.args.ends.now.ends.cpu Normal x)
     (sym c.requires.ends.finished)
-    (decision-chosen (state_of c.args.ends.now.end.now).content c.args.ends.now.cpu Normal)
+    (decision-chosen (state_of c.args.ends.now.ends.board.now).content c.args.ends.now.ends.cpu Normal)

@@ -2,6 +2,9 @@ use Rattle.std.proofs.Common.{◌≡◌, ◌≤◌, ◌+◌, ◌*◌, drop, leng
 use Rattle.pico_board.specs.MemBoard.{state_of}
 use Rattle.sector_pool.specs.Keeping.{KeepsOut}
 use Rattle.boot_session.specs.Standing.{IsUnarmed}
+use Rattle.std.specs.List.{AllByRecursion}
+use Rattle.boot_sweep.specs.Verdicts.{Knows}
+use Rattle.boot_cuts.specs.Beside.{IsMoveBeside}
 use Rattle.boot_cuts.specs.Judging.{told_answers}
 use Rattle.boot_cuts.specs.Moving.{AreMovesIn, done_count, moves_from}
 use Rattle.boot_cuts.specs.Runs.{all_runs, runs_of}
@@ -18,4 +21,7 @@ invariant-loop-moved l = record {
       (moves_from (drop l.moved-index l.moves)))
       ≡ runs_of (told_answers l.ends l.pattern (state_of l.fn.board).content (moves_from l.moves));
   kept : KeepsOut l.fn.pool l.pool;
+  beside : AllByRecursion (IsMoveBeside l.slot) (moves_from (drop l.moved-index l.moves));
+  known : Knows (state_of l.ends.start.now).content l.ends.ends.cpu l.ends.ends.former l.ends.ends.finished l.slot
+      l.last (state_of l.board).content;
 }
