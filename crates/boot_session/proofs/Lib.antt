@@ -15,7 +15,7 @@ mod CutWithinLemmas
 mod OutsideLaws
 mod RecorderLemmas
 mod MarkLemmas
-mod ServedLemmas
+pub mod ServedLemmas
 mod SessionLemmas
 mod PoolLemmas
 pub mod SlotLemmas

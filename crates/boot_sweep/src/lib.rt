@@ -21,6 +21,7 @@ pub use boot_session::Recorder;
 pub use comparing::{is_same_decision, is_same_started};
 pub use error::SweepError;
 pub use firmness::firm;
+pub use gating::ungated;
 pub use results::{CutResult, Ends, StepResults, SweepResults, Verdict};
 pub use script::{sweep, swept, swept_text};
 pub use slots::{Last, Slot, slot_of, verdict_beside};

@@ -1,0 +1,5 @@
+mod PoolLemmas
+mod RecordLemmas
+mod ServingLemmas
+mod CountLemmas
+mod FindingLemmas

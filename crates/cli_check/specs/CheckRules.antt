@@ -1,0 +1,99 @@
+-- What is right for `check`, in the words of the rules.
+use Rattle.std.specs.Prelude.{◌≡◌, ◌≢◌, ◌⊎◌, ℕ, ◌<◌, true, false, List, [], length, slice_get, Option, Some, None, codes}
+use Rattle.pico_board.specs.declared.boot.Cpu.{Cpu}
+use Rattle.pico_board.specs.declared.boot.BootKind.TheVariants.{Normal}
+use Rattle.pico_board.specs.Content.{Content, IsContent}
+use Rattle.boot_rules.specs.Chosen.{Chosen}
+use Rattle.boot_script.specs.Events.{EventView}
+use Rattle.boot_script.specs.Scripts.{script_events}
+use Rattle.boot_plays.specs.Plays.{played, powerless}
+use Rattle.boot_cuts.specs.declared.answers.Answer.{Answer}
+use Rattle.boot_cuts.specs.declared.answers.Class.TheVariants.{Neither}
+use Rattle.boot_cuts.specs.Classes.{IsClass}
+use Rattle.boot_cuts.specs.Contents.{cut_contents}
+use Rattle.boot_cuts.specs.Found.{IsShort, trace_limit}
+use Rattle.boot_cuts.specs.Traces.{trace, trace_steps}
+use Rattle.cli_course.specs.Outcomes.{AnswerView, verdict_status, Verdict, Passes, IsUnbootable, IsNeither, HasNoEffect, IsRefused}
+use Rattle.cli_check.specs.declared.findings.Findings.{Findings}
+use Rattle.cli_check.specs.CheckWorks.{counts_of, hash_of, raise_count}
+use Rattle.cli_check.specs.Findings.{findings_text, has_effect}
+use Rattle.cli_check.specs.Records.{does_nothing}
+use Rattle.cli_check.specs.SessionLaws.{IsSessionLaw}
+
+-- event number n is the first whose text tells that it did nothing, or none is
+abbrev pub IsFirstRefused : List (List ℕ) → Option ℕ → Type 0
+IsFirstRefused texts None =
+    (k : ℕ) (text : List ℕ) → slice_get texts k ≡ Some text → does_nothing text ≡ false
+IsFirstRefused texts (Some n) =
+    ((text : List ℕ) × (slice_get texts n ≡ Some text) × (does_nothing text ≡ true))
+    × ((k : ℕ) (text : List ℕ) → k < n → slice_get texts k ≡ Some text
+    → does_nothing text ≡ false)
+
+-- the answer of a cut that leaves d: the decision of a normal boot on d, and its class
+pub record IsCutAnswer (c z : Content) (cpu : Cpu) (d : Content) (a : Answer) : Type 0 where
+  pub decision : Chosen d cpu Normal a.decision
+  pub class_is : IsClass c z d cpu a.class
+
+-- the answers of the cuts before and within each step of a trace, in their order
+pub record AreCutAnswers (c z : Content) (cpu : Cpu) (contents : List Content)
+    (found : List Answer) : Type 0 where
+  pub count : length found ≡ length contents
+  pub each : (k : ℕ) (d : Content) (a : Answer) → slice_get contents k ≡ Some d
+      → slice_get found k ≡ Some a → IsCutAnswer c z cpu d a
+
+-- the verdict: an update passes where no loss of power leaves something else than the former or the
+-- finished answer, each record did something and there is an effect; otherwise it is the first of
+-- the others that holds
+abbrev pub IsSafe : Findings → Type 0
+IsSafe f = (f.cuts.bootsel ≡ 0) × (f.cuts.other ≡ 0)
+
+abbrev pub IsPassing : Findings → Type 0
+IsPassing f = IsSafe f × (f.refused ≡ None) × (has_effect f ≡ true)
+
+abbrev pub IsLeftDead : Findings → Type 0
+IsLeftDead f = (f.cuts.bootsel ≢ 0) ⊎ (f.end_class ≡ Neither)
+
+abbrev pub IsVerdict : Findings → Verdict → Type 0
+IsVerdict f Passes = IsPassing f
+IsVerdict f IsNeither = (IsPassing f → ⊥) × (f.cuts.other ≢ 0)
+IsVerdict f IsUnbootable = (IsPassing f → ⊥) × (f.cuts.other ≡ 0) × IsLeftDead f
+IsVerdict f IsRefused =
+    (IsPassing f → ⊥) × (f.cuts.other ≡ 0) × (IsLeftDead f → ⊥) × (f.refused ≢ None)
+IsVerdict f HasNoEffect =
+    (IsPassing f → ⊥) × (f.cuts.other ≡ 0) × (IsLeftDead f → ⊥) × (f.refused ≡ None)
+
+-- what is found of a script on the content c: what a normal boot decides on c and on the content z
+-- that the script leaves, the class of z, the first record that did nothing, whether the image that
+-- starts on z has a digest, the raises, the law, and the cuts of each kind
+pub record AreFindings (c : Content) (cpu : Cpu) (events : List EventView) (pattern : List ℕ)
+    (f : Findings) : Type 0 where
+  pub former : Chosen c cpu Normal f.former
+  pub finished : Chosen (trace c cpu events).last cpu Normal f.finished
+  pub end_class : IsClass c (trace c cpu events).last (trace c cpu events).last cpu f.end_class
+  pub refused : IsFirstRefused (played (powerless c cpu) events).texts f.refused
+  pub hashed : f.hashed ≡ hash_of (trace c cpu events).last cpu f.finished
+  pub raised : f.raised ≡ raise_count (trace_steps (trace c cpu events).done)
+  pub law_is : IsSessionLaw c cpu events f.law
+  pub found : List Answer
+  pub answered : AreCutAnswers c (trace c cpu events).last cpu
+      (cut_contents pattern (trace c cpu events).done) found
+  pub counted : f.cuts ≡ counts_of found
+
+-- `check`: the outcome tells what is found, in eight lines, and ends with the verdict's status
+pub record IsCheckOf (c : Content) (cpu : Cpu) (script pattern : List ℕ) (o : AnswerView)
+    : Type 0 where
+  pub right : IsContent c
+  pub short : IsShort c cpu (script_events script)
+  pub findings : Findings
+  pub are : AreFindings c cpu (script_events script) pattern findings
+  pub verdict : Verdict
+  pub judged : IsVerdict findings verdict
+  pub status : o.status ≡ verdict_status verdict
+  pub text : o.text ≡ findings_text findings
+  pub files : o.files ≡ []
+
+-- the script is refused exactly where its trace has too many steps
+abbrev pub IsCheckRefused : List ℕ → Content → Cpu → List ℕ → List ℕ → List ℕ → Type 0
+IsCheckRefused script c cpu bytes name fault =
+    (trace_limit < length (trace c cpu (script_events bytes)).done)
+    × (name ≡ script) × (fault ≡ codes "too-many-steps")
