@@ -37,7 +37,7 @@ use Rattle.boot_session.proofs.NeighbourLemmas.{placed}
 use Rattle.boot_session.proofs.SlotLemmas.{confined-is, slot-found}
 
 -- the slot of the steps
-all-confined : (w : Window) (steps : List Step) → list_all (is_confined w) steps ≡ true → Confined steps w
+pub all-confined : (w : Window) (steps : List Step) → list_all (is_confined w) steps ≡ true → Confined steps w
 all-confined w [] e = tt
 all-confined w (step ∷ steps) e =
     let p = and_parts _ _ e in (confined-is w step p.0, all-confined w steps p.1)

@@ -4,7 +4,7 @@ pub mod ResultLemmas
 mod LineLemmas
 mod VerdictLemmas
 pub mod KnownLemmas
-mod GateLemmas
+pub mod GateLemmas
 mod RefusalLemmas
 mod ChanceLemmas
 mod CountLemmas

@@ -68,7 +68,7 @@ start-in w (Start choice) e =
         → (let v : Window = record { start = a; len = b } in let w : Window = record { start = c; len = d } in v ≡ w)
     of-parts a b c d e f = cc
 
-in-start : (w : Window) (d : Decision) (choice : Choice) → d ≡ Start choice → choice.image.window ≡ w
+pub in-start : (w : Window) (d : Decision) (choice : Choice) → d ≡ Start choice → choice.image.window ≡ w
     → is_start_in w d ≡ true
 in-start w d choice is same =
     let s = ap (λ (v : Window). v.start) same in

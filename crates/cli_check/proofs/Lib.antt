@@ -3,3 +3,4 @@ mod RecordLemmas
 mod ServingLemmas
 mod CountLemmas
 mod FindingLemmas
+mod LawLemmas

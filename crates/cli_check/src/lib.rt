@@ -9,6 +9,7 @@ mod checking;
 mod counting;
 pub mod examples;
 mod findings;
+pub mod laws;
 mod lines;
 mod records;
 mod serving;
