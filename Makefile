@@ -1,14 +1,21 @@
 # make demo       builds the program without proving it as out/dugnatsew, and boots the example image
 # make            proves the program and every crate below it, builds it as crates/boot_cli/out/boot_cli, and boots the example image
-# make test       the gate: proves everything, tries the must-fail edits, and runs the tests and the program
+# make test       the gate: proves everything, tries the must-fail edits, and runs the tests and the program; then lists what no example holds
+# make examples   writes the files that the documents take as examples into examples/
 # make readme     runs each session of the documents with the newer of the two programs, and compares the manual page, the
-#                 completions and the page of faults with the program; needs bash, and tries zsh and mandoc where they are
+#                 completions, the page of faults and the sizes of the pages; needs bash, and tries zsh and mandoc where they are
+# make interface  writes the completions and the manual's synopsis anew, as the program's own --help has them
 # make faults     compares the page of faults with the program's code; needs no program
+# make faults-io  makes each file call of each command fail in turn; needs strace
+# make fuzz       changes the example files at random for a quarter of an hour, and looks at how each command ends
+# make board      makes the cases for a board, compares their sheet, and plays them on the program in a board's place
+# make record     tries tools/record.py on captures of USB that are made for it; needs tshark
 # make real       links small firmware with the toolchains that are there, and takes it from its ELF file to a swept update;
 #                 installs nothing, and says which of Debian's packages it uses
-# make pictures   draws flashes and sweeps, compares the README's with docs/map.svg and docs/chart.svg, and renders them where Chromium is there, into out/pictures
-# make install    puts the proved program, its manual page, its completions and two pages of docs/ below PREFIX; make it first
+# make pictures   draws flashes and sweeps, compares the documents' with docs/map.svg and docs/chart.svg, and renders them where Chromium is there, into out/pictures
+# make install    puts the proved program, its manual page, its completions and the pages for users below PREFIX; make it first
 # make uninstall  takes them away again
+# make dist       writes a tarball of the proved program and of what an installation has into out/, with its SHA-256, for a machine without rt
 # make bench      proves, builds for processors of x86-64-v3, and then times the program beside `openssl dgst -sha256` on flashes of 16 MiB
 
 PREFIX = /usr/local
@@ -20,9 +27,15 @@ PAGES = $(DESTDIR)$(PREFIX)/share/doc/dugnatsew
 
 PROVED = crates/boot_cli/out/boot_cli
 UNPROVED = out/dugnatsew
-SESSIONS = README.md docs/MODEL.md
+SESSIONS = README.md docs/GUIDE.md docs/TUTORIAL.md docs/MODEL.md
+USERS = docs/GUIDE.md docs/TUTORIAL.md docs/REFERENCE.md docs/PROMISE.md docs/FAQ.md docs/MODEL.md docs/FAULTS.md docs/GLOSSARY.md
 
-.PHONY: all demo test readme faults real pictures install uninstall bench
+# The newer of the two programs.
+NEWER = program=$$(ls -t $(PROVED) $(UNPROVED) 2> /dev/null | head -n 1); \
+	if [ -z "$$program" ]; then echo 'There is no program: "make demo" builds one, and "make" a proved one.' >&2; exit 1; fi; \
+	echo "With $$program:"
+
+.PHONY: all demo test examples readme interface faults faults-io fuzz board record real pictures install uninstall dist bench
 
 all:
 	cd crates/boot_cli && rt run -- boot data/flash data/otp arm normal
@@ -33,29 +46,41 @@ demo:
 
 test:
 	rt ci
+	@python3 tools/premises.py
+
+examples:
+	@$(NEWER); python3 tools/examples.py "$$program" examples
 
 readme: faults
-	@program=$$(ls -t $(PROVED) $(UNPROVED) 2> /dev/null | head -n 1); \
-	if [ -z "$$program" ]; then echo 'There is no program: "make demo" builds one, and "make" a proved one.' >&2; exit 1; fi; \
-	echo "With $$program:"; \
-	python3 tools/interface.py "$$program" && python3 tools/sessions.py "$$program" $(SESSIONS)
+	@$(NEWER); python3 tools/interface.py "$$program" && python3 tools/pages.py && python3 tools/sessions.py "$$program" $(SESSIONS)
+
+interface:
+	@$(NEWER); python3 tools/interface.py --write "$$program"
 
 faults:
 	@python3 tools/faults.py
 
+faults-io:
+	@$(NEWER); python3 tools/faults_of_io.py "$$program"
+
+fuzz:
+	@$(NEWER); python3 tools/fuzz.py "$$program"
+
+board:
+	@$(NEWER); python3 real/board/make.py "$$program" out/board real/board/sheet.tsv && \
+	python3 real/board/play.py --fake "$$program" real/board/sheet.tsv out/board out/board/sheet.out
+
+record:
+	@$(NEWER); python3 tools/record_test.py "$$program"
+
 real:
-	@program=$$(ls -t $(PROVED) $(UNPROVED) 2> /dev/null | head -n 1); \
-	if [ -z "$$program" ]; then echo 'There is no program: "make demo" builds one, and "make" a proved one.' >&2; exit 1; fi; \
-	echo "With $$program, and of Debian's packages gcc-arm-none-eabi, gcc-riscv64-unknown-elf, clang and lld:"; \
+	@$(NEWER); echo "Of Debian's packages gcc-arm-none-eabi, gcc-riscv64-unknown-elf, clang and lld:"; \
 	python3 real/real.py "$$program" && \
-	if command -v arm-none-eabi-gcc > /dev/null; then python3 tools/sessions.py --needing arm-none-eabi-gcc "$$program" README.md; \
-	else echo "The README's walk from a toolchain to an update is not run: there is no arm-none-eabi-gcc"; fi
+	if command -v arm-none-eabi-gcc > /dev/null; then python3 tools/sessions.py --needing arm-none-eabi-gcc "$$program" docs/TUTORIAL.md; \
+	else echo "The tutorial's walk from a toolchain to an update is not run: there is no arm-none-eabi-gcc"; fi
 
 pictures:
-	@program=$$(ls -t $(PROVED) $(UNPROVED) 2> /dev/null | head -n 1); \
-	if [ -z "$$program" ]; then echo 'There is no program: "make demo" builds one, and "make" a proved one.' >&2; exit 1; fi; \
-	echo "With $$program:"; \
-	python3 tools/pictures.py "$$program" out/pictures
+	@$(NEWER); python3 tools/pictures.py "$$program" out/pictures
 
 install:
 	@test -x $(PROVED) || { echo 'There is no proved program: "make" builds it.' >&2; exit 1; }
@@ -64,12 +89,16 @@ install:
 	install -m 644 man/dugnatsew.1 $(MANUAL)
 	install -m 644 completions/dugnatsew.bash $(BASH_WORDS)
 	install -m 644 completions/_dugnatsew $(ZSH_WORDS)
-	install -m 644 docs/MODEL.md docs/FAULTS.md $(PAGES)
+	install -m 644 $(USERS) $(PAGES)
 
 uninstall:
 	rm -f $(BIN) $(MANUAL) $(BASH_WORDS) $(ZSH_WORDS)
-	rm -f $(PAGES)/MODEL.md $(PAGES)/FAULTS.md
+	rm -f $(addprefix $(PAGES)/,$(notdir $(USERS)))
 	-rmdir $(PAGES)
+
+dist:
+	@rm -rf out/dist && $(MAKE) --no-print-directory install DESTDIR=out/dist PREFIX=
+	@python3 tools/dist.py out/dist out
 
 bench:
 	cd crates/boot_cli && rt run --cpu x86-64-v3 -- boot data/flash data/otp arm normal

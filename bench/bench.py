@@ -16,7 +16,12 @@ which reads the same files and writes as much. The most memory that a run of it 
 second of two slots of 8 MiB, of which the first holds an older image of the same length. It stands
 beside `boot` of that flash; two further sweeps, of the plan's steps up to the first program and up to
 the first one of the slot's first sector, tell by their difference what a line costs that judges no new
-image.
+image. `cuts` of the same plan stands beside `sweep`.
+
+`cuts` judges each cut of the script of `load` that writes a sealed image of 1 MiB over another one, on
+a flash of 4 MiB without a table. It stands beside `boot` of the flash that is left.
+
+The greatest inputs: `replay` and `list` of a script of 64 MiB. Their time and their memory are told.
 """
 
 import hashlib
@@ -30,7 +35,7 @@ import time
 
 RUNS = 7
 MEASURE = """import resource, subprocess, sys
-subprocess.run(sys.argv[1:], stdout=subprocess.DEVNULL, check=True)
+subprocess.run(sys.argv[1:], stdout=subprocess.DEVNULL, check=False)
 print(resource.getrusage(resource.RUSAGE_CHILDREN).ru_maxrss)"""
 MIB = 1 << 20
 FLASH = 16 * MIB
@@ -51,6 +56,9 @@ SLOT_SIZE_ROW = 0x55
 SLOT_SIZE = 11  # of 4096 * 2^11 bytes
 WRITE = 0x05  # the id of a command that writes
 SWEEP_RUNS = 3
+PLAIN_FLASH = 4 * MIB
+MOST_SCRIPT = 64 * MIB
+UNBOOTABLE = 8  # the status of a script of which some cut leaves nothing to start
 LINE_RUNS = 15
 SEALED_WORDS = 22  # of a sealing block
 HASHED_WORDS = 10  # of it, before the digest
@@ -123,14 +131,14 @@ def front_of(plan, to_first_sector):
     sys.exit("the plan has no such write")
 
 
-def least(command, wanted, runs=RUNS):
+def least(command, wanted, runs=RUNS, statuses=(0,)):
     """The least time of a command in seconds, where each run's output has the wanted lines."""
     best = None
     for _ in range(runs):
         begun = time.perf_counter()
-        done = subprocess.run(command, stdout=subprocess.PIPE, check=True)
+        done = subprocess.run(command, stdout=subprocess.PIPE, check=False)
         taken = time.perf_counter() - begun
-        if not wanted(done.stdout.decode().splitlines()):
+        if done.returncode not in statuses or not wanted(done.stdout.decode().splitlines()):
             sys.exit(f"{' '.join(command)}: unexpected output")
         best = taken if best is None else min(best, taken)
     return best
@@ -177,6 +185,44 @@ def sweeps(program, folder, size, name):
     most = memory([program, "sweep", *board, paths["plan"], paths["pattern"]])
     print(f"sweep of a plan of {name}, {2 * steps:,} lines: {whole:.2f} s, boot {1000 * boot:.1f} ms, "
           f"ratio {whole / boot:.1f}, {1e6 * line:.1f} us a line before the last pages, {most:.0f} MiB at most")
+    command = [program, "cuts", *board, paths["plan"], paths["pattern"]]
+    cuts = least(command, lambda lines: lines[-1].startswith(f"end {steps} finished "), SWEEP_RUNS)
+    print(f"cuts of the same plan: {cuts:.2f} s, ratio to sweep {cuts / whole:.2f}, {memory(command):.0f} MiB at most")
+
+
+def loads(program, folder):
+    """Tells of the cuts of a load over a running image, beside `boot` of what it leaves."""
+    paths = {it: os.path.join(folder, it) for it in ("plain", "none", "new", "load", "left", "rows", "byte")}
+    files = (("plain", sealed(MIB, 3).ljust(PLAIN_FLASH, b"\xff")), ("none", b""), ("byte", b"\0"),
+             ("new", sealed(MIB, 4, VERSION + 1)))
+    for it, data in files:
+        with open(paths[it], "wb") as file:
+            file.write(data)
+    board = [paths["plain"], paths["none"], "arm"]
+    subprocess.run([program, "load", *board, paths["new"], paths["load"]], stdout=subprocess.DEVNULL, check=True)
+    subprocess.run([program, "replay", *board, paths["load"], paths["left"], paths["rows"]],
+                   stdout=subprocess.DEVNULL, check=True)
+    boot = least([program, "boot", paths["left"], paths["none"], "arm", "normal"], lambda lines: "version=1.1" in lines[0])
+    steps = MIB // SECTOR + MIB // PAGE
+    command = [program, "cuts", *board, paths["load"], paths["byte"]]
+    cuts = least(command, lambda lines: lines[-1].startswith(f"end {steps} finished "), SWEEP_RUNS, (UNBOOTABLE,))
+    print(f"cuts of a load of 1 MiB, {steps:,} steps: {cuts:.2f} s, boot {1000 * boot:.1f} ms, "
+          f"ratio {cuts / boot:.0f}, {memory(command):.0f} MiB at most")
+
+
+def greatest(program, folder):
+    """Tells of the time and the memory of commands on the greatest script, over the greatest flash."""
+    paths = {it: os.path.join(folder, it) for it in ("erased", "otp", "greatest", "out_flash", "out_otp")}
+    record = b"\2" + words(UF2_START, UF2_SECOND, 0x2000, FLASH_START, PAGE, 0, 1, ABSOLUTE) + bytes(480)
+    count = min(MOST_SCRIPT // len(record), (1 << 19) - 1)
+    with open(paths["greatest"], "wb") as file:
+        file.write((record * count)[:MOST_SCRIPT - 1] + b"\0")
+    for name, command in (
+        ("replay", ["replay", paths["erased"], paths["otp"], "arm", paths["greatest"], paths["out_flash"], paths["out_otp"]]),
+        ("list", ["list", paths["greatest"]]),
+    ):
+        took = least([program, *command], lambda lines: len(lines) > count, 1)
+        print(f"{name} of {count:,} records, 64 MiB: {took:.2f} s, {memory([program, *command]):.0f} MiB at most")
 
 
 def main(arguments):
@@ -210,6 +256,8 @@ def main(arguments):
         print(f"replay of 65,536 blocks: {replay:.2f} s, cat {copy:.2f} s, {memory(command):.0f} MiB at most")
         for size, name in ((64 << 10, "64 KiB"), (MIB, "1 MiB"), (SLOT, "8 MiB")):
             sweeps(program, folder, size, name)
+        loads(program, folder)
+        greatest(program, folder)
 
 
 if __name__ == "__main__":

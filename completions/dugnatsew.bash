@@ -1,4 +1,5 @@
-# Completion of dugnatsew's words for bash: source this file, or install it where bash looks.
+# Completion of dugnatsew's arguments for bash: source this file, or install it where bash looks.
+# It is made by tools/interface.py.
 
 _dugnatsew() {
     local word=${COMP_WORDS[COMP_CWORD]} words=""
@@ -22,21 +23,21 @@ _dugnatsew() {
     fi
 }
 
-# What stands at a place of the words that begin with this command.
+# What stands at a place of the arguments that begin with this command.
 _dugnatsew_form() {
     local -a forms=(COMMAND)
     case $1 in
         boot | data | explain) forms+=(FILE FILE CPU KIND) ;;
-        map) forms+=(FILE FILE CPU FILE) ;;
         info) forms+=(FILE FILE CPU) ;;
+        map) forms+=(FILE FILE CPU FILE) ;;
         replay | chart) forms+=(FILE FILE CPU FILE FILE FILE) ;;
-        sweep) forms+=(FILE FILE CPU FILE FILE) ;;
+        sweep | plan) forms+=(FILE FILE CPU FILE FILE) ;;
         seal | elf) forms+=(FILE FILE FILE) ;;
         firm) forms+=(FILE CPU) ;;
         table | copy | script) forms+=(FILE FILE) ;;
-        list) forms+=(FILE) ;;
         uf2) forms+=(FILE FAMILY FILE) ;;
-        plan) forms+=(FILE FILE CPU FILE FILE) ;;
+        list) forms+=(FILE) ;;
+        gen) forms+=(N) ;;
     esac
     echo "${forms[$2 - 1]}"
 }

@@ -1,11 +1,13 @@
 #!/usr/bin/env python3
-"""Compares the manual page and the completions with what the program says of its use.
+"""Makes the completions and the manual's synopsis of what the program says of its use.
 
-    interface.py PROGRAM
+    interface.py PROGRAM            compares them with the files that are there, and tries them
+    interface.py --write PROGRAM    writes the files
 
 Run it at the top of the repository. Each command of `PROGRAM --help` has to stand in the manual
-with its words, and at each place of a command bash and zsh have to offer what its word names. The
-manual is judged by `mandoc -T lint`. A tool that is not there is passed over, and said to be.
+with its arguments, and at each place of a command bash and zsh have to offer what its argument
+names. The manual is judged by `mandoc -T lint`. A tool that is not there is passed over, and the
+last lines say which.
 """
 
 import os
@@ -19,6 +21,8 @@ MANUAL = "man/dugnatsew.1"
 BASH = "completions/dugnatsew.bash"
 ZSH = "completions/_dugnatsew"
 FILE = "a-file"  # the one file of the folder in which completions are tried
+FORMS = ("CPU", "KIND", "FAMILY", "COMMAND", "N")  # the arguments that are no file
+OPTIONS = ("--help", "-h", "--version")
 
 IN_BASH = """
 compopt() { :; }
@@ -37,26 +41,191 @@ words=("$@"); CURRENT=$#
 source $file
 """
 
+BASH_TEXT = """\
+# Completion of dugnatsew's arguments for bash: source this file, or install it where bash looks.
+# It is made by tools/interface.py.
+
+_dugnatsew() {
+    local word=${COMP_WORDS[COMP_CWORD]} words=""
+    COMPREPLY=()
+    case $(_dugnatsew_form "${COMP_WORDS[1]}" "$COMP_CWORD") in
+        COMMAND) words="%(commands)s" ;;
+        CPU) words="arm riscv" ;;
+        KIND) words="normal bootsel update=0x" ;;
+        FAMILY) words="%(families)s" ;;
+        FILE)
+            compopt -o filenames 2> /dev/null
+            mapfile -t COMPREPLY < <(compgen -f -- "$word")
+            ;;
+    esac
+    if [ -n "$words" ]; then
+        mapfile -t COMPREPLY < <(compgen -W "$words" -- "$word")
+    fi
+    # eight digits follow
+    if [ "${COMPREPLY[*]}" = "update=0x" ]; then
+        compopt -o nospace 2> /dev/null
+    fi
+}
+
+# What stands at a place of the arguments that begin with this command.
+_dugnatsew_form() {
+    local -a forms=(COMMAND)
+    case $1 in
+%(cases)s
+    esac
+    echo "${forms[$2 - 1]}"
+}
+
+complete -F _dugnatsew dugnatsew
+"""
+
+ZSH_TEXT = """\
+#compdef dugnatsew
+# Completion of dugnatsew's arguments for zsh: put this file into a folder of $fpath.
+# It is made by tools/interface.py.
+
+_dugnatsew() {
+    local -a commands forms
+    commands=(
+%(commands)s
+    )
+    case $words[2] in
+%(cases)s
+    esac
+    if (( CURRENT == 2 )); then
+        _describe -t commands command commands
+        return
+    fi
+    case $forms[CURRENT-2] in
+        (COMMAND) compadd ${commands%%%%:*} ;;
+        (CPU) compadd arm riscv ;;
+        (KIND)
+            compadd normal bootsel
+            compadd -S '' update=0x # eight digits follow
+            ;;
+        (FAMILY) compadd %(families)s ;;
+        (FILE) _files ;;
+    esac
+}
+
+_dugnatsew "$@"
+"""
+
 
 def lines_of(words, **how):
     ran = subprocess.run(words, capture_output=True, text=True, check=False, **how)
     return ran.stdout.splitlines()
 
 
+class Command:
+    """A command of the usage: its name, its arguments, and what it does."""
+
+    def __init__(self, line):
+        match = re.match(r"(\S+)((?: [A-Z0-9]+)*)\s{2,}(.*)", line)
+        self.name = match.group(1)
+        self.arguments = match.group(2).split()
+        self.does = match.group(3)
+
+    def forms(self):
+        return [it if it in FORMS else "FILE" for it in self.arguments]
+
+
 def usage(program):
-    """The commands, each a list of its words, and the families."""
+    """The commands, and the families."""
     lines = lines_of([program, "--help"])
-    shown = [re.match(r"\S+(?: [A-Z0-9]+)*", it).group() for it in lines[:lines.index("")]]
+    commands = [Command(it) for it in lines[:lines.index("")]]
     families = next(it for it in lines if it.startswith("FAMILY "))
-    return [it.split() for it in shown], re.split(r",? +(?:or )?", families)[1:]
+    return commands, re.split(r",? +(?:or )?", families)[1:]
 
 
-def offers(word, families):
-    """What a shell offers for a word of the usage."""
+def names_of(commands):
+    """The names, each once, in the order of the usage."""
+    return list(dict.fromkeys(it.name for it in commands))
+
+
+def cases(commands, line):
+    """A line for each form of arguments, with the commands that have it."""
+    by_form = {}
+    for it in commands:
+        if it.arguments:
+            by_form.setdefault(tuple(it.forms()), []).append(it.name)
+    return "\n".join(line(names, " ".join(forms)) for forms, names in by_form.items())
+
+
+def bash_text(commands, families):
+    return BASH_TEXT % {
+        "commands": " ".join(names_of(commands)),
+        "families": " ".join(families),
+        "cases": cases(commands, lambda names, forms: f"        {' | '.join(names)}) forms+=({forms}) ;;"),
+    }
+
+
+def zsh_text(commands, families):
+    seen, described = set(), []
+    for it in commands:
+        if it.name not in seen:
+            seen.add(it.name)
+            does = it.does.replace("'", "").replace(":", ",")
+            described.append(f"        '{it.name}:{does}'")
+    return ZSH_TEXT % {
+        "commands": "\n".join(described),
+        "families": " ".join(families),
+        "cases": cases(commands, lambda names, forms: f"        ({'|'.join(names)}) forms=({forms}) ;;"),
+    }
+
+
+def synopsis(commands):
+    """The manual's section SYNOPSIS."""
+    made = [".Sh SYNOPSIS"]
+    for it in commands:
+        if it.name in OPTIONS:
+            continue
+        arguments = f" Ar {' '.join(it.arguments)}" if it.arguments else ""
+        made += [".Nm", f".Cm {it.name}{arguments}"]
+    made += [".Nm", ".Fl h | -help | -version"]
+    return "\n".join(made) + "\n"
+
+
+def manual_text(manual, commands):
+    begin, end = manual.index(".Sh SYNOPSIS\n"), manual.index(".Sh DESCRIPTION\n")
+    return manual[:begin] + synopsis(commands) + manual[end:]
+
+
+def read(path):
+    with open(path, encoding="utf-8") as file:
+        return file.read()
+
+
+def made_files(commands, families):
+    """Each file that is made, with its text."""
+    return {
+        BASH: bash_text(commands, families),
+        ZSH: zsh_text(commands, families),
+        MANUAL: manual_text(read(MANUAL), commands),
+    }
+
+
+def write(files):
+    for path, text in files.items():
+        with open(path, "w", encoding="utf-8") as file:
+            file.write(text)
+
+
+def compare(files):
+    """The number of files that are not as they are made."""
+    wrong = [path for path, text in files.items() if read(path) != text]
+    for path in wrong:
+        print(f"{path} is not as tools/interface.py --write makes it")
+    return len(wrong)
+
+
+def offers(word, families, names):
+    """What a shell offers for an argument of the usage."""
     values = {
         "CPU": ["arm", "riscv"],
         "KIND": ["normal", "bootsel", "update=0x"],
         "FAMILY": families,
+        "COMMAND": names,
         "N": [],
     }
     return values.get(word, [FILE])
@@ -64,11 +233,14 @@ def offers(word, families):
 
 def tries(commands, families):
     """Words to complete the last of, with what has to be offered."""
-    yield ["dugnatsew", ""], [it[0] for it in commands]
-    for name, *words in commands:
-        typed = ["dugnatsew", name]
-        for word in words:
-            yield [*typed, ""], offers(word, families)
+    names = names_of(commands)
+    yield ["dugnatsew", ""], names
+    for it in commands:
+        if not it.arguments and any(other.arguments for other in commands if other.name == it.name):
+            continue
+        typed = ["dugnatsew", it.name]
+        for word in it.arguments:
+            yield [*typed, ""], offers(word, families, names)
             typed.append("x")
         yield [*typed, ""], []
 
@@ -80,7 +252,6 @@ def completed(shell, script, file, words, folder):
 
 def check_shell(shell, script, file, wanted):
     if not shutil.which(shell):
-        print(f"{file} is not tried: there is no {shell}")
         return 0
     wrong = 0
     with tempfile.TemporaryDirectory() as folder:
@@ -95,32 +266,38 @@ def check_shell(shell, script, file, wanted):
 
 
 def check_manual(commands):
-    with open(MANUAL, encoding="utf-8") as file:
-        manual = file.read()
-    wrong = 0
-    for name, *words in commands:
-        line = f".It Cm {name} Ar {' '.join(words)}"
-        if name.startswith("--"):
-            line = f".It Fl {name[1:]}"
+    manual, wrong = read(MANUAL), 0
+    for it in commands:
+        arguments = f" Ar {' '.join(it.arguments)}" if it.arguments else ""
+        line = f".It Fl {it.name[1:]}" if it.name in OPTIONS else f".It Cm {it.name}{arguments}"
         if f"\n{line}\n" not in manual:
             wrong += 1
             print(f"{MANUAL} does not have: {line}")
     if not shutil.which("mandoc"):
-        print(f"{MANUAL} is not judged: there is no mandoc")
         return wrong
-    said = lines_of(["mandoc", "-T", "lint", MANUAL])
+    said = lines_of(["mandoc", "-T", "lint", "-W", "style", MANUAL])
     print("\n".join(said), end="\n" if said else "")
     return wrong + len(said)
 
 
 def main():
-    if len(sys.argv) != 2:
+    words = sys.argv[1:]
+    writes = words[:1] == ["--write"]
+    words = words[1:] if writes else words
+    if len(words) != 1:
         sys.exit(__doc__)
-    commands, families = usage(sys.argv[1])
+    commands, families = usage(words[0])
+    files = made_files(commands, families)
+    if writes:
+        write(files)
+        return
     wanted = list(tries(commands, families))
-    wrong = check_manual(commands)
+    wrong = compare(files) + check_manual(commands)
     wrong += check_shell("bash", IN_BASH, BASH, wanted)
     wrong += check_shell("zsh", IN_ZSH, ZSH, wanted)
+    missing = [it for it in ("mandoc", "zsh") if not shutil.which(it)]
+    if missing:
+        print(f"Not there, so not tried: {', '.join(missing)}")
     print(f"{len(commands)} commands, {len(wanted)} places, {wrong} wrong")
     sys.exit(1 if wrong else 0)
 

@@ -6,13 +6,13 @@
 A session stands in a block that is indented by four spaces. A line of it that begins with `$ ` is a
 command, the lines behind that begin with `> ` belong to the command, and the lines up to the next
 command are what it prints, standard error included. The commands of a document run in one bash, in
-a new folder, in which the program is called `dugnatsew`; each has to end with status 0, so that
-another status is shown by `; echo $?`. The last line is `N commands as shown, M not`, and the
-status is 0 where M is 0.
+a new folder, in which the program is called `dugnatsew`, with the files of `make examples` in
+`examples/`; each has to end with status 0, so that another status is shown by `; echo $?`. The last
+line is `N commands as shown, M not`, and the status is 0 where M is 0.
 
 A line `<!-- needs TOOL -->` says that the commands up to the next heading of its section's level
-need that tool. They run for themselves, where it is installed, and are skipped with a word where it
-is not. With `--needing TOOL` the commands that need it are the only ones that run.
+need that tool. They run for themselves, where it is installed, and are skipped where it is not, which
+is said at the end. With `--needing TOOL` the commands that need it are the only ones that run.
 """
 
 import os
@@ -22,8 +22,10 @@ import subprocess
 import sys
 import tempfile
 
+HERE = os.path.dirname(os.path.abspath(__file__))
 INDENT = " " * 4
 NAME = "dugnatsew"
+MISSING = set()  # the tools that a part needs, and that are not there
 
 
 class Command:
@@ -104,6 +106,8 @@ def run(commands, program, folder):
     for part in ("bin", "kept", "work"):
         os.mkdir(os.path.join(folder, part))
     os.symlink(os.path.abspath(program), os.path.join(folder, "bin", NAME))
+    examples = os.path.join(folder, "work", "examples")
+    subprocess.run([sys.executable, os.path.join(HERE, "examples.py"), program, examples], check=True)
     kept = os.path.join(folder, "kept")
     path = os.path.join(folder, "bin") + os.pathsep + os.environ["PATH"]
     subprocess.run(
@@ -152,7 +156,7 @@ def check(document, program, needing):
         if needing and tool != needing:
             continue
         if tool and not shutil.which(tool):
-            print(f"{document}:{part[0][0]}: these commands are not run: there is no {tool}")
+            MISSING.add(tool)
             continue
         good, bad = compare(document, part, program)
         right, wrong = right + good, wrong + bad
@@ -170,6 +174,8 @@ def main():
     for document in words[1:]:
         good, bad = check(document, words[0], needing)
         right, wrong = right + good, wrong + bad
+    if MISSING:
+        print(f"Not there, so not tried: {', '.join(sorted(MISSING))}")
     print(f"{right} commands as shown, {wrong} not")
     sys.exit(0 if right and not wrong else 1)
 
