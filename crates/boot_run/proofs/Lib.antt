@@ -1,3 +1,4 @@
 mod RunLemmas
 mod RuleLemmas
 mod VerdictLemmas
+mod CheckLemmas

@@ -12,7 +12,7 @@ use Rattle.boot_rules.proofs.DecisionLemmas.{decision-chosen, chosen-decision}
 use Rattle.cli_course.specs.declared.status.Status.TheVariants.{Input as Refused, Bootsel}
 use Rattle.cli_course.specs.Outcomes.{AreOfBytes, AnswerView, Answers, found, outcome_found}
 use Rattle.cli_course.proofs.ReadLemmas.{found-long}
-use Rattle.cli_words.specs.Commands.{CommandLineView, Boot, Info, OwnedData, Explain, Map, Replay, Sweep, Chart, Seal, Elf, Firm, Table, Usage, Help, Release, Uf2, Plan, Copy, ListScript, WriteScript, Gen, Load, Caveats, OtpFile, Cuts}
+use Rattle.cli_words.specs.Commands.{CommandLineView, Boot, Info, OwnedData, Explain, Map, Replay, Sweep, Chart, Seal, Elf, Firm, Table, Usage, Help, Release, Uf2, Plan, Copy, ListScript, WriteScript, Gen, Load, Caveats, OtpFile, Cuts, Check}
 use Rattle.cli_words.specs.Usages.{usage_text, help_text, release_line}
 use Rattle.cli_inputs.specs.declared.forms.Form.TheVariants.{Flash, Otp, OtpText}
 use Rattle.cli_inputs.specs.Forms.{HasForm, content_of_files}
@@ -25,6 +25,7 @@ use Rattle.cli_inputs.proofs.WorkLemmas.{work-obeys, work-only, work-refused, no
 use Rattle.cli_boot.specs.Rules.{decided_status}
 use Rattle.cli_boot.proofs.BoardWorkLemmas.{boot-works, info-works, data-works}
 use Rattle.cli_explain.proofs.ReasonWorkLemmas.{explain-works}
+use Rattle.boot_run.proofs.CheckLemmas.{check-works}
 use Rattle.cli_cuts.proofs.CutsRuleLemmas.{cuts-works}
 use Rattle.cli_caveats.proofs.CaveatWorkLemmas.{caveats-works}
 use Rattle.cli_map.proofs.MapWorkLemmas.{map-works}
@@ -53,6 +54,7 @@ works (Replay flash otp cpu script out_flash out_otp) = replay-works flash otp s
 works (Sweep flash otp cpu script pattern) = sweep-works flash otp script pattern cpu
 works (Chart flash otp cpu script pattern out) = chart-works flash otp script pattern out cpu
 works (Cuts flash otp cpu script pattern) = cuts-works flash otp script pattern cpu
+works (Check flash otp cpu script pattern) = check-works flash otp script pattern cpu
 works (Seal binary spec out) = seal-works binary spec out
 works (Elf elf spec out) = elf-works elf spec out
 works (Firm image cpu) = firm-works image cpu
@@ -105,6 +107,7 @@ bytes-serve (Replay flash otp cpu script out_flash out_otp) read small = small
 bytes-serve (Sweep flash otp cpu script pattern) read small = small
 bytes-serve (Chart flash otp cpu script pattern out) read small = small
 bytes-serve (Cuts flash otp cpu script pattern) read small = tt
+bytes-serve (Check flash otp cpu script pattern) read small = tt
 bytes-serve (Seal binary spec out) read small = tt
 bytes-serve (Elf elf spec out) read small = small
 bytes-serve (Firm image cpu) read small = tt

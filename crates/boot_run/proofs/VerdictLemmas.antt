@@ -5,7 +5,7 @@ use Rattle.part_table.specs.declared.target.Target.{Target}
 use Rattle.script_plan.specs.declared.writing.WriteOrder.{WriteOrder}
 use Rattle.script_plan.specs.declared.writing.WriteOrder.TheVariants.{FirstLast, Ascending}
 use Rattle.cli_course.specs.Outcomes.{AnswerView, Work, Answers, Refuses, Judges, refused, worked}
-use Rattle.cli_words.specs.Commands.{CommandLineView, Boot, Info, OwnedData, Explain, Caveats, Map, Replay, Sweep, Chart, Cuts, Seal, Elf, Firm, Table, OtpFile, Usage, Help, Release, Uf2, Plan, Load, Copy, ListScript, WriteScript, Gen}
+use Rattle.cli_words.specs.Commands.{CommandLineView, Boot, Info, OwnedData, Explain, Caveats, Map, Replay, Sweep, Chart, Cuts, Check, Seal, Elf, Firm, Table, OtpFile, Usage, Help, Release, Uf2, Plan, Load, Copy, ListScript, WriteScript, Gen}
 use Rattle.pico_board.specs.declared.boot.Cpu.{Cpu}
 use Rattle.cli_inputs.specs.Forms.{content_of_files}
 use Rattle.cli_inputs.specs.Jsons.{spec_read, table_read, otp_read}
@@ -117,6 +117,7 @@ plain (Chart flash otp cpu script pattern out) h read =
     on-four (λ f g s p. chart_work (content_of_files f g) cpu script out s p)
     (λ f g s p. by-option (drawn_work script out _ _) tt (λ e. tt) _) read
 plain (Cuts flash otp cpu script pattern) h read = cc
+plain (Check flash otp cpu script pattern) h read = cc
 plain (Seal binary spec out) h read =
     on-two (λ b s. seal_work binary spec out b (spec_read s))
     (λ b s. by-result (seal_work binary spec out b)

@@ -1,16 +1,22 @@
 -- The commands: the inputs of each, its work on their bytes, from which the outcome of a run
 -- follows, and what is right for it in the words of the rules. This project's own, over the rules
 -- of a boot.
-use Rattle.std.specs.Prelude.{ℕ, Bool, true, false, List, [], Option, Some, None, ◌≡◌, ⊤}
+use Rattle.std.specs.Prelude.{ℕ, ◌≤◌, length, Bool, true, false, List, [], Option, Some, None, ◌≡◌, ⊤}
+use Rattle.pico_board.specs.Content.{Content}
 use Rattle.pico_board.specs.Files.{File}
-use Rattle.cli_course.specs.Outcomes.{LimitedInputView, AnswerView, Work, Answers, not_understood, found, outcome_found, AreOfBytes}
-use Rattle.cli_words.specs.Commands.{CommandLineView, Boot, Info, OwnedData, Explain, Map, Replay, Sweep, Chart, Seal, Elf, Firm, Table, Usage, Help, Release, Uf2, Plan, Copy, ListScript, WriteScript, Gen, Load, Caveats, OtpFile, Cuts}
+use Rattle.boot_script.specs.Scripts.{script_events}
+use Rattle.boot_cuts.specs.Found.{trace_limit}
+use Rattle.boot_cuts.specs.Traces.{trace}
+use Rattle.cli_course.specs.Outcomes.{LimitedInputView, AnswerView, Work, Answers, worked, not_understood, found, outcome_found, AreOfBytes}
+use Rattle.cli_words.specs.Commands.{CommandLineView, Boot, Info, OwnedData, Explain, Map, Replay, Sweep, Chart, Seal, Elf, Firm, Table, Usage, Help, Release, Uf2, Plan, Copy, ListScript, WriteScript, Gen, Load, Caveats, OtpFile, Cuts, Check}
 use Rattle.cli_words.specs.Usages.{usage_text, help_text, release_line}
 use Rattle.cli_inputs.specs.Forms.{content_of_files, HasForm}
 use Rattle.cli_inputs.specs.Jsons.{spec_read, table_read, otp_read}
 use Rattle.cli_inputs.specs.Inputs.{FormInputView, readings, flash_and_otp, flash_otp_script, flash_otp_script_pattern, flash_otp_image, binary_and_spec, elf_and_spec, one_json, otp_told, image_alone, uf2_alone, script_alone, text_alone, of_one, of_two, of_three, of_four, outcome_by}
 use Rattle.cli_boot.specs.Works.{boot_work, info_work, data_work}
 use Rattle.cli_explain.specs.Works.{explain_work}
+use Rattle.cli_check.specs.CheckRules.{IsCheckRefused}
+use Rattle.cli_check.specs.CheckWorks.{check_work, found_work, findings_of}
 use Rattle.cli_cuts.specs.CutsRules.{IsCutsOf, IsCutsRefused}
 use Rattle.cli_cuts.specs.CutsWorks.{cuts_work}
 use Rattle.cli_caveats.specs.Works.{caveats_work}
@@ -65,6 +71,8 @@ inputs_of (Chart flash otp cpu script pattern out) =
     flash_otp_script_pattern flash otp script pattern
 inputs_of (Cuts flash otp cpu script pattern) =
     flash_otp_script_pattern flash otp script pattern
+inputs_of (Check flash otp cpu script pattern) =
+    flash_otp_script_pattern flash otp script pattern
 inputs_of (Seal binary spec out) = binary_and_spec binary spec
 inputs_of (Elf elf spec out) = elf_and_spec elf spec
 inputs_of (Firm image cpu) = image_alone image
@@ -99,6 +107,8 @@ work_of (Chart flash otp cpu script pattern out) =
     of_four (λ f g s p. chart_work (content_of_files f g) cpu script out s p)
 work_of (Cuts flash otp cpu script pattern) =
     of_four (λ f g s p. cuts_work (content_of_files f g) cpu script s p)
+work_of (Check flash otp cpu script pattern) =
+    of_four (λ f g s p. check_work (content_of_files f g) cpu script s p)
 work_of (Seal binary spec out) = of_two (λ b s. seal_work binary spec out b (spec_read s))
 work_of (Elf elf spec out) = of_two (λ e s. elf_work elf spec out e (spec_read s))
 work_of (Firm image cpu) = of_one (λ i. firm_work image i cpu)
@@ -144,6 +154,8 @@ IsRefusedWork (Chart flash otp cpu script pattern out) read name fault =
     OfFour (λ f g s p. IsSweepRefused script (content_of_files f g) cpu s name fault) read
 IsRefusedWork (Cuts flash otp cpu script pattern) read name fault =
     OfFour (λ f g s p. IsCutsRefused script (content_of_files f g) cpu s name fault) read
+IsRefusedWork (Check flash otp cpu script pattern) read name fault =
+    OfFour (λ f g s p. IsCheckRefused script (content_of_files f g) cpu s name fault) read
 IsRefusedWork (Seal binary spec out) read name fault =
     OfTwo (λ b s. IsUnsealed binary spec b s name fault) read
 IsRefusedWork (Elf elf spec out) read name fault =
@@ -169,6 +181,13 @@ IsRefusedCommand command read = (name : List ℕ) × (fault : List ℕ)
 abbrev pub Tells : List ℕ → AnswerView → Type 0
 Tells text o = o ≡ record { status = Done; text = text; files = [] }
 
+-- `check`: the script completes no more steps than are judged, and the outcome tells what is found
+-- and ends with the verdict of it
+pub record IsCheckBy (c : Content) (cpu : Cpu) (script pattern : List ℕ) (o : AnswerView)
+    : Type 0 where
+  pub short : length (trace c cpu (script_events script)).done ≤ trace_limit
+  pub is : o ≡ worked (found_work (findings_of c cpu (script_events script) pattern))
+
 -- the outcome is right for a command on inputs that have their forms
 abbrev pub IsRight : CommandLineView → List (List ℕ) → AnswerView → Type 0
 IsRight (Boot flash otp cpu kind) read o = OfTwo
@@ -190,6 +209,8 @@ IsRight (Chart flash otp cpu script pattern out) read o =
     OfFour (λ f g s p. IsChartOf (content_of_files f g) cpu out s p o) read
 IsRight (Cuts flash otp cpu script pattern) read o =
     OfFour (λ f g s p. IsCutsOf (content_of_files f g) cpu s p o) read
+IsRight (Check flash otp cpu script pattern) read o =
+    OfFour (λ f g s p. IsCheckBy (content_of_files f g) cpu s p o) read
 IsRight (Seal binary spec out) read o = OfTwo (λ b s. IsSealedOf out b s o) read
 IsRight (Elf elf spec out) read o = OfTwo (λ e s. IsElfOf out e s o) read
 IsRight (Firm image cpu) read o = OfOne (λ i. IsFirmOf i cpu o) read
@@ -230,6 +251,7 @@ NeedsBytes command read = ⊤
 -- the command judges a script, so that it may end with a verdict
 abbrev pub judges : CommandLineView → Bool
 judges (Cuts flash otp cpu script pattern) = true
+judges (Check flash otp cpu script pattern) = true
 judges _ = false
 
 -- a status of a verdict that is no pass

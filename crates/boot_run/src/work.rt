@@ -13,6 +13,7 @@ ghost use Rattle.boot_run.specs.Commands.{command_outcome, inputs_of, work_of};
 use boot_script::Script;
 use cli_boot::{boot, data, info};
 use cli_caveats::caveats;
+use cli_check::check;
 use cli_course::{Answer, told};
 use cli_cuts::cuts;
 use cli_explain::explain;
@@ -66,6 +67,13 @@ pub fn inputs<'a>(
             ..
         } => flash_otp_script_pattern(alloc, flash, otp, script, pattern),
         CommandLine::Cuts {
+            flash,
+            otp,
+            script,
+            pattern,
+            ..
+        } => flash_otp_script_pattern(alloc, flash, otp, script, pattern),
+        CommandLine::Check {
             flash,
             otp,
             script,
@@ -177,6 +185,12 @@ fn work<'a>(
             let board = board_of(alloc, flash, &otp)?;
             let events = whole_script(&events);
             cuts(alloc, board, *cpu, script, events, &pattern)
+        }
+        CommandLine::Check { cpu, script, .. } => {
+            let (flash, otp, events, pattern) = sweep_files(files);
+            let board = board_of(alloc, flash, &otp)?;
+            let events = whole_script(&events);
+            check(alloc, board, *cpu, script, events, &pattern)
         }
         CommandLine::Seal { binary, spec, out } => {
             let (bytes, text) = seal_files(files);

@@ -31,6 +31,7 @@ pub data CommandLineView : Type 0 where
   Sweep : (flash otp : List ℕ) → (cpu : Cpu) → (script pattern : List ℕ) → CommandLineView
   Chart : (flash otp : List ℕ) → (cpu : Cpu) → (script pattern out : List ℕ) → CommandLineView
   Cuts : (flash otp : List ℕ) → (cpu : Cpu) → (script pattern : List ℕ) → CommandLineView
+  Check : (flash otp : List ℕ) → (cpu : Cpu) → (script pattern : List ℕ) → CommandLineView
   Seal : (binary spec out : List ℕ) → CommandLineView
   Elf : (elf spec out : List ℕ) → CommandLineView
   Firm : (image : List ℕ) → (cpu : Cpu) → CommandLineView
@@ -126,6 +127,8 @@ built verbs.Chart words v =
     (word_at 5 words)
 built verbs.Cuts words v =
     Cuts (word_at 0 words) (word_at 1 words) v.cpu (word_at 3 words) (word_at 4 words)
+built verbs.Check words v =
+    Check (word_at 0 words) (word_at 1 words) v.cpu (word_at 3 words) (word_at 4 words)
 built verbs.Seal words v = Seal (word_at 0 words) (word_at 1 words) (word_at 2 words)
 built verbs.Elf words v = Elf (word_at 0 words) (word_at 1 words) (word_at 2 words)
 built verbs.Firm words v = Firm (word_at 0 words) v.cpu
@@ -186,6 +189,8 @@ command_from (words.Chart flash otp cpu script pattern out) =
     Chart flash.now otp.now cpu script.now pattern.now out.now
 command_from (words.Cuts flash otp cpu script pattern) =
     Cuts flash.now otp.now cpu script.now pattern.now
+command_from (words.Check flash otp cpu script pattern) =
+    Check flash.now otp.now cpu script.now pattern.now
 command_from (words.Seal binary spec out) = Seal binary.now spec.now out.now
 command_from (words.Elf elf spec out) = Elf elf.now spec.now out.now
 command_from (words.Firm image cpu) = Firm image.now cpu

@@ -141,6 +141,12 @@ row_of verbs.Cuts =
       words = kinds.Flash ∷ kinds.Otp ∷ kinds.Cpu ∷ kinds.Script ∷ kinds.Pattern ∷ [];
       does = codes "what a boot makes of each loss of power in any script";
     }
+row_of verbs.Check =
+    record {
+      name = codes "check";
+      words = kinds.Flash ∷ kinds.Otp ∷ kinds.Cpu ∷ kinds.Script ∷ kinds.Pattern ∷ [];
+      does = codes "whether a script does what an update is for";
+    }
 row_of verbs.Seal =
     record {
       name = codes "seal";

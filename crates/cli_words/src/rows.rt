@@ -185,6 +185,8 @@ pub enum Verb {
     Chart,
     /// What a normal boot makes of each loss of power in a script.
     Cuts,
+    /// Whether an update does what it is for, whatever power is lost in it.
+    Check,
     /// The sealed image of a binary.
     Seal,
     /// The sealed image of an ELF file.
@@ -314,6 +316,17 @@ impl Verb {
                 ],
                 does: "what a boot makes of each loss of power in any script",
             },
+            Verb::Check => Row {
+                name: "check",
+                words: &[
+                    Word::Flash,
+                    Word::Otp,
+                    Word::Cpu,
+                    Word::Script,
+                    Word::Pattern,
+                ],
+                does: "whether a script does what an update is for",
+            },
             Verb::Seal => Row {
                 name: "seal",
                 words: &[Word::Binary, Word::Spec, Word::Out],
@@ -404,7 +417,7 @@ impl Verb {
 }
 
 /// The rows, in the order of the usage.
-pub const VERBS: [Verb; 27] = [
+pub const VERBS: [Verb; 28] = [
     Verb::Boot,
     Verb::Info,
     Verb::OwnedData,
@@ -415,6 +428,7 @@ pub const VERBS: [Verb; 27] = [
     Verb::Sweep,
     Verb::Chart,
     Verb::Cuts,
+    Verb::Check,
     Verb::Seal,
     Verb::Elf,
     Verb::Firm,

@@ -85,6 +85,14 @@ pub enum CommandLine<'a> {
         script: &'a str,
         pattern: &'a str,
     },
+    /// Whether an update does what it is for, whatever power is lost in it.
+    Check {
+        flash: &'a str,
+        otp: &'a str,
+        cpu: Cpu,
+        script: &'a str,
+        pattern: &'a str,
+    },
     /// The sealed image of a binary.
     Seal {
         binary: &'a str,
@@ -236,6 +244,13 @@ fn built<'a>(verb: Verb, words: &'a [String], values: Values) -> CommandLine<'a>
             out: word_at(words, 5),
         },
         Verb::Cuts => CommandLine::Cuts {
+            flash: word_at(words, 0),
+            otp: word_at(words, 1),
+            cpu: values.cpu,
+            script: word_at(words, 3),
+            pattern: word_at(words, 4),
+        },
+        Verb::Check => CommandLine::Check {
             flash: word_at(words, 0),
             otp: word_at(words, 1),
             cpu: values.cpu,

@@ -123,3 +123,18 @@ fn a_name_that_the_store_lacks_is_a_read_fault(rt: HostRuntime) -> Result<(), Fa
     }
     Ok(())
 }
+
+#[test]
+fn a_check_of_no_effect_ends_with_its_verdict(rt: HostRuntime) -> Result<(), Fail> {
+    let alloc = rt.alloc();
+    let words: &[&str] = &["check", "f", "o", "arm", "s", "t"];
+    let end = ended(alloc, words, (4, 0, 1))?;
+    assert_eq!(rt; end, (Status::NoEffect, false, false, true));
+    for read in 0..4 {
+        let end = ended(alloc, words, (read, 0, 1))?;
+        assert_eq!(rt; end, (Status::ReadFault, false, false, false), "read {read}");
+    }
+    let end = ended(alloc, words, (4, 0, 0))?;
+    assert_eq!(rt; end, (Status::OutputFault, false, false, false));
+    Ok(())
+}

@@ -4,7 +4,7 @@
 ghost use Rattle.std.specs.Prelude.{◌≡◌, [], ◌∷◌, ◌++◌, codes, Some, None};
 ghost use Rattle.pico_board.specs.declared.boot.Cpu.TheVariants.{Arm, Riscv};
 ghost use Rattle.pico_board.specs.declared.boot.BootKind.TheVariants.{Normal, Bootsel as AskBootsel, Update};
-ghost use Rattle.cli_words.specs.Commands.{Table, OtpFile, command_of, boot_kind_of, Boot, Info, OwnedData, Explain, Caveats, Map, Replay, Usage, Help, Release, Sweep, Chart, Cuts, Seal, Elf, Firm, Uf2, Plan, Load, Copy, ListScript, WriteScript, Gen};
+ghost use Rattle.cli_words.specs.Commands.{Table, OtpFile, command_of, boot_kind_of, Boot, Info, OwnedData, Explain, Caveats, Map, Replay, Usage, Help, Release, Sweep, Chart, Cuts, Check, Seal, Elf, Firm, Uf2, Plan, Load, Copy, ListScript, WriteScript, Gen};
 ghost use Rattle.cli_words.specs.declared.rows.TheConstants.{STATUSES};
 ghost use Rattle.cli_words.specs.declared.rows.Verb.TheVariants as verbs;
 ghost use Rattle.cli_words.specs.Rows.{row_of};
@@ -47,6 +47,9 @@ pub fn words_of_commands()
     ensures cuts { command_of
         (codes "cuts" ∷ codes "f" ∷ codes "o" ∷ codes "arm" ∷ codes "s" ∷ codes "p" ∷ [])
         ≡ Some (Cuts (codes "f") (codes "o") Arm (codes "s") (codes "p")) }
+    ensures check { command_of
+        (codes "check" ∷ codes "f" ∷ codes "o" ∷ codes "arm" ∷ codes "s" ∷ codes "p" ∷ [])
+        ≡ Some (Check (codes "f") (codes "o") Arm (codes "s") (codes "p")) }
     ensures help { command_of (codes "--help" ∷ []) ≡ Some Usage }
     ensures short_help { command_of (codes "-h" ∷ []) ≡ Some Usage }
     ensures help_word { command_of (codes "help" ∷ []) ≡ Some Usage }
