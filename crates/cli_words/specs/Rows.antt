@@ -163,7 +163,7 @@ row_of verbs.Firm =
     record {
       name = codes "firm";
       words = kinds.Image ∷ kinds.Cpu ∷ [];
-      does = codes "whether an image is firm: cut between pages it starts whole or not at all";
+      does = codes "whether an image is firm: its definition and digest follow its first sector";
     }
 row_of verbs.Table =
     record {

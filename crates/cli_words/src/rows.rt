@@ -340,7 +340,7 @@ impl Verb {
             Verb::Firm => Row {
                 name: "firm",
                 words: &[Word::Image, Word::Cpu],
-                does: "whether an image is firm: cut between pages it starts whole or not at all",
+                does: "whether an image is firm: its definition and digest follow its first sector",
             },
             Verb::Table => Row {
                 name: "table",

@@ -132,7 +132,11 @@ fn a_check_of_no_effect_ends_with_its_verdict(rt: HostRuntime) -> Result<(), Fai
     assert_eq!(rt; end, (Status::NoEffect, false, false, true));
     for read in 0..4 {
         let end = ended(alloc, words, (read, 0, 1))?;
-        assert_eq!(rt; end, (Status::ReadFault, false, false, false), "read {read}");
+        assert_eq!(rt;
+            end,
+            (Status::ReadFault, false, false, false),
+            "read {read}"
+        );
     }
     let end = ended(alloc, words, (4, 0, 0))?;
     assert_eq!(rt; end, (Status::OutputFault, false, false, false));
