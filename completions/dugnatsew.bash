@@ -5,7 +5,7 @@ _dugnatsew() {
     local word=${COMP_WORDS[COMP_CWORD]} words=""
     COMPREPLY=()
     case $(_dugnatsew_form "${COMP_WORDS[1]}" "$COMP_CWORD") in
-        COMMAND) words="boot info data explain map replay sweep chart seal elf firm table uf2 plan copy list script gen --help --version" ;;
+        COMMAND) words="boot info data explain caveats map replay sweep chart cuts check seal elf firm table otp uf2 plan load copy list script gen --help -h help --version" ;;
         CPU) words="arm riscv" ;;
         KIND) words="normal bootsel update=0x" ;;
         FAMILY) words="rp2040 absolute data rp2350-arm-s rp2350-riscv rp2350-arm-ns" ;;
@@ -27,17 +27,18 @@ _dugnatsew() {
 _dugnatsew_form() {
     local -a forms=(COMMAND)
     case $1 in
-        boot | data | explain) forms+=(FILE FILE CPU KIND) ;;
+        boot | data | explain | caveats) forms+=(FILE FILE CPU KIND) ;;
         info) forms+=(FILE FILE CPU) ;;
         map) forms+=(FILE FILE CPU FILE) ;;
         replay | chart) forms+=(FILE FILE CPU FILE FILE FILE) ;;
-        sweep | plan) forms+=(FILE FILE CPU FILE FILE) ;;
+        sweep | cuts | check | plan | load) forms+=(FILE FILE CPU FILE FILE) ;;
         seal | elf) forms+=(FILE FILE FILE) ;;
         firm) forms+=(FILE CPU) ;;
-        table | copy | script) forms+=(FILE FILE) ;;
+        table | otp | copy | script) forms+=(FILE FILE) ;;
         uf2) forms+=(FILE FAMILY FILE) ;;
         list) forms+=(FILE) ;;
         gen) forms+=(N) ;;
+        help) forms+=(COMMAND) ;;
     esac
     echo "${forms[$2 - 1]}"
 }

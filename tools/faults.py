@@ -24,6 +24,8 @@ NO_FILE = re.compile(r"(^|[/_])(tests?|examples|laws|usage|words|values)(/|\.rt$
 
 # A file whose faults are put in parts: what begins with a blank goes on with the part before it.
 IN_PARTS = "crates/text_lines/src/faults.rt"
+# A file whose lines are put by two calls, of a name and a window or a partition.
+CAVEATS = "crates/cli_caveats/src/texts.rt"
 
 # Texts that tell no fault.
 OTHERS = """
@@ -45,6 +47,9 @@ slot|slot {} fault={}|slots|table {} partitions={} singleton={}|table slot={} be
 unit {} not-reached|unit {} takes|updated|version|w|whole
 {} {} to {}|{} to {}|chart steps={} former={} finished={} chance={}|steps|steps 0 to {}|within
 {} starts|free|map windows={}|partition {} name={} families={}
+caveat {name} {}|caveat {name} partition={}|{} {} bytes={}|{} {}{}|{} rows={}|cmd 0x|load|plan|neither|s
+{}{}{}|cuts former={} finished={} bootsel={} other={}|former {}end {}effect {}|image hash={}|image none
+law confined|law gated|records ok|rows raised={}{}{}
 """
 
 
@@ -78,6 +83,9 @@ def code_texts(files):
         code = pathlib.Path(file).read_text(encoding="utf-8")
         code = re.sub(r"(?m)^\s*(//|ghost use|#\[).*$", "", code)
         code = re.sub(r"(?s)\b(requires|ensures)\b[^{]*\{.*?\}\n", "\n", code)
+        if file == CAVEATS:
+            code = re.sub(r'window_text\(alloc, "', '("caveat ', code)
+            code = re.sub(r'partition_text\(alloc, "([^"]*)"', r'("caveat \1 partition={}"', code)
         texts = re.findall(r'"((?:[^"\\]|\\.)*)"', code)
         for text in joined(texts) if file == IN_PARTS else texts:
             # what begins or ends with a blank or a sign is a part of a line
