@@ -28,7 +28,7 @@ PAGES = $(DESTDIR)$(PREFIX)/share/doc/dugnatsew
 PROVED = crates/boot_cli/out/boot_cli
 UNPROVED = out/dugnatsew
 SESSIONS = README.md docs/GUIDE.md docs/TUTORIAL.md docs/MODEL.md
-USERS = docs/GUIDE.md docs/TUTORIAL.md docs/REFERENCE.md docs/PROMISE.md docs/FAQ.md docs/MODEL.md docs/FAULTS.md docs/GLOSSARY.md
+USERS = docs/GUIDE.md docs/TUTORIAL.md docs/REFERENCE.md docs/PROMISE.md docs/PROVED.md docs/FAQ.md docs/MODEL.md docs/FAULTS.md docs/GLOSSARY.md
 
 # The newer of the two programs.
 NEWER = program=$$(ls -t $(PROVED) $(UNPROVED) 2> /dev/null | head -n 1); \

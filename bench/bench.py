@@ -21,7 +21,7 @@ image. `cuts` of the same plan stands beside `sweep`.
 `cuts` judges each cut of the script of `load` that writes a sealed image of 1 MiB over another one, on
 a flash of 4 MiB without a table. It stands beside `boot` of the flash that is left.
 
-The greatest inputs: `replay` and `list` of a script of 64 MiB. Their time and their memory are told.
+The greatest inputs of the commands: their time and their memory are told.
 """
 
 import hashlib
@@ -58,6 +58,9 @@ WRITE = 0x05  # the id of a command that writes
 SWEEP_RUNS = 3
 PLAIN_FLASH = 4 * MIB
 MOST_SCRIPT = 64 * MIB
+MOST_ELF = 64 * MIB
+MOST_TEXT = 192 * MIB
+INPUT = 2  # the status of a refused input
 UNBOOTABLE = 8  # the status of a script of which some cut leaves nothing to start
 LINE_RUNS = 15
 SEALED_WORDS = 22  # of a sealing block
@@ -192,13 +195,15 @@ def sweeps(program, folder, size, name):
 
 def loads(program, folder):
     """Tells of the cuts of a load over a running image, beside `boot` of what it leaves."""
-    paths = {it: os.path.join(folder, it) for it in ("plain", "none", "new", "load", "left", "rows", "byte")}
+    names = ("plain", "none", "binary", "spec", "new", "load", "left", "rows", "byte")
+    paths = {it: os.path.join(folder, it) for it in names}
     files = (("plain", sealed(MIB, 3).ljust(PLAIN_FLASH, b"\xff")), ("none", b""), ("byte", b"\0"),
-             ("new", sealed(MIB, 4, VERSION + 1)))
+             ("binary", sealed(MIB - SECTOR, 4)), ("spec", b'{"processor": "arm", "version": [1, 1]}'))
     for it, data in files:
         with open(paths[it], "wb") as file:
             file.write(data)
     board = [paths["plain"], paths["none"], "arm"]
+    subprocess.run([program, "seal", paths["binary"], paths["spec"], paths["new"]], stdout=subprocess.DEVNULL, check=True)
     subprocess.run([program, "load", *board, paths["new"], paths["load"]], stdout=subprocess.DEVNULL, check=True)
     subprocess.run([program, "replay", *board, paths["load"], paths["left"], paths["rows"]],
                    stdout=subprocess.DEVNULL, check=True)
@@ -210,19 +215,44 @@ def loads(program, folder):
           f"ratio {cuts / boot:.0f}, {memory(command):.0f} MiB at most")
 
 
-def greatest(program, folder):
-    """Tells of the time and the memory of commands on the greatest script, over the greatest flash."""
-    paths = {it: os.path.join(folder, it) for it in ("erased", "otp", "greatest", "out_flash", "out_otp")}
+def greatest_files(folder):
+    """Writes the greatest inputs of the commands, and answers their paths."""
     record = b"\2" + words(UF2_START, UF2_SECOND, 0x2000, FLASH_START, PAGE, 0, 1, ABSOLUTE) + bytes(480)
     count = min(MOST_SCRIPT // len(record), (1 << 19) - 1)
-    with open(paths["greatest"], "wb") as file:
-        file.write((record * count)[:MOST_SCRIPT - 1] + b"\0")
-    for name, command in (
-        ("replay", ["replay", paths["erased"], paths["otp"], "arm", paths["greatest"], paths["out_flash"], paths["out_otp"]]),
-        ("list", ["list", paths["greatest"]]),
+    image = sealed(FLASH - 65536, 5)
+    segment = words(1, 84, FLASH_START, FLASH_START, len(image), len(image), 5, 4)
+    header = b"\x7fELF\1\1\1" + bytes(9) + struct.pack("<HHIIIIIHHHHHH", 2, 40, 1, CODE, 52, 0, 0x05000000, 52, 32, 1, 0, 0, 0)
+    comment = b"# " + b"x" * 97 + b"\n"
+    end = b"\nend\n"
+    files = {
+        "script": (record * count)[:MOST_SCRIPT - 1] + b"\0", "binary": image, "brackets": b"[" * 65536,
+        "spec": b'{"processor": "arm", "version": [1, 1]}', "image": random.Random(6).randbytes(FLASH),
+        "elf": (header + segment + image).ljust(MOST_ELF, b"\0"), "erased": b"\xff" * FLASH, "otp": bytes(16384),
+        "text": (comment * (MOST_TEXT // len(comment) + 1))[:MOST_TEXT - len(end)] + end,
+    }
+    paths = {it: os.path.join(folder, f"greatest_{it}") for it in (*files, "out", "sealed", "uf2", "left", "rows")}
+    for it, data in files.items():
+        with open(paths[it], "wb") as file:
+            file.write(data)
+    return paths
+
+
+def greatest(program, folder):
+    """Tells of the time and the memory of commands on their greatest inputs."""
+    at = greatest_files(folder)
+    board, left = [at["erased"], at["otp"], "arm"], [at["left"], at["rows"], "arm"]
+    for command in (
+        ["replay", *board, at["script"], at["out"], at["out"]], ["list", at["script"]], ["script", at["text"], at["out"]],
+        ["table", at["brackets"], at["out"]], ["otp", at["brackets"], at["out"]],
+        ["elf", at["elf"], at["spec"], at["out"]], ["seal", at["binary"], at["spec"], at["sealed"]],
+        ["uf2", at["image"], "absolute", at["uf2"]], ["copy", at["uf2"], at["out"]],
+        ["plan", *board, at["sealed"], at["out"]], ["load", *board, at["sealed"], at["out"]],
+        ["replay", *board, at["out"], at["left"], at["rows"]], ["boot", *left, "normal"], ["info", *left],
+        ["data", *left, "normal"], ["explain", *left, "normal"], ["caveats", *left, "normal"], ["map", *left, at["out"]],
+        ["firm", at["sealed"], "arm"],
     ):
-        took = least([program, *command], lambda lines: len(lines) > count, 1)
-        print(f"{name} of {count:,} records, 64 MiB: {took:.2f} s, {memory([program, *command]):.0f} MiB at most")
+        took = least([program, *command], bool, 1, (INPUT,) if at["brackets"] in command else (0,))
+        print(f"greatest input of {command[0]}: {took:.2f} s, {memory([program, *command]):.0f} MiB at most")
 
 
 def main(arguments):
