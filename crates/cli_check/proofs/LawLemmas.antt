@@ -83,7 +83,7 @@ outside w (Start choice) e =
     no false a e = cc
 outside w (Bootsel fall) e = tt
 
-of-not : (b : Bool) → not b ≡ true → b ≡ false
+pub of-not : (b : Bool) → not b ≡ true → b ≡ false
 of-not true e = cc
 of-not false e = refl
 
@@ -118,7 +118,7 @@ gated-has w None has e = refl
 gated-has w (Some k) true e = cc
 gated-has w (Some k) false e = cc
 
-none-stays : (a b : Option Found) → gains_table a b ≡ false → a ≡ None → b ≡ None
+pub none-stays : (a b : Option Found) → gains_table a b ≡ false → a ≡ None → b ≡ None
 none-stays None None e none = refl
 none-stays None (Some f) e none = cc
 none-stays (Some f) b e none = cc

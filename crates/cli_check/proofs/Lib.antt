@@ -4,3 +4,7 @@ mod ServingLemmas
 mod CountLemmas
 mod FindingLemmas
 mod LawLemmas
+mod WholeLemmas
+mod SessionLawLemmas
+mod VerdictLemmas
+pub mod CheckRuleLemmas

@@ -12,6 +12,7 @@ use Rattle.boot_cuts.specs.declared.answers.Class.TheVariants.{Neither}
 use Rattle.boot_cuts.specs.Classes.{IsClass}
 use Rattle.boot_cuts.specs.Contents.{cut_contents}
 use Rattle.boot_cuts.specs.Found.{IsShort, trace_limit}
+use Rattle.boot_cuts.specs.Told.{AreAnswers}
 use Rattle.boot_cuts.specs.Traces.{trace, trace_steps}
 use Rattle.cli_course.specs.Outcomes.{AnswerView, verdict_status, Verdict, Passes, IsUnbootable, IsNeither, HasNoEffect, IsRefused}
 use Rattle.cli_check.specs.declared.findings.Findings.{Findings}
@@ -28,18 +29,6 @@ IsFirstRefused texts (Some n) =
     ((text : List ℕ) × (slice_get texts n ≡ Some text) × (does_nothing text ≡ true))
     × ((k : ℕ) (text : List ℕ) → k < n → slice_get texts k ≡ Some text
     → does_nothing text ≡ false)
-
--- the answer of a cut that leaves d: the decision of a normal boot on d, and its class
-pub record IsCutAnswer (c z : Content) (cpu : Cpu) (d : Content) (a : Answer) : Type 0 where
-  pub decision : Chosen d cpu Normal a.decision
-  pub class_is : IsClass c z d cpu a.class
-
--- the answers of the cuts before and within each step of a trace, in their order
-pub record AreCutAnswers (c z : Content) (cpu : Cpu) (contents : List Content)
-    (found : List Answer) : Type 0 where
-  pub count : length found ≡ length contents
-  pub each : (k : ℕ) (d : Content) (a : Answer) → slice_get contents k ≡ Some d
-      → slice_get found k ≡ Some a → IsCutAnswer c z cpu d a
 
 -- the verdict: an update passes where no loss of power leaves something else than the former or the
 -- finished answer, each record did something and there is an effect; otherwise it is the first of
@@ -75,7 +64,7 @@ pub record AreFindings (c : Content) (cpu : Cpu) (events : List EventView) (patt
   pub raised : f.raised ≡ raise_count (trace_steps (trace c cpu events).done)
   pub law_is : IsSessionLaw c cpu events f.law
   pub found : List Answer
-  pub answered : AreCutAnswers c (trace c cpu events).last cpu
+  pub answered : AreAnswers c (trace c cpu events).last cpu
       (cut_contents pattern (trace c cpu events).done) found
   pub counted : f.cuts ≡ counts_of found
 

@@ -1,7 +1,8 @@
-//! Laws on the line `law`, each the contract of a function that does nothing: what it tells of the
-//! files at hand is what the laws of `boot_session` say of every torn content.
+//! Laws of the work and of its line `law`, each the contract of a function that does nothing: the
+//! work is right by its rules, and what the line tells of the files at hand is what the laws of
+//! `boot_session` say of every torn content.
 
-ghost use Rattle.std.specs.Prelude.{◌≡◌, ◌⊎◌, List};
+ghost use Rattle.std.specs.Prelude.{◌≡◌, ◌⊎◌, ℕ, List};
 ghost use Rattle.pico_board.specs.declared.boot.BootKind.TheVariants.{Normal};
 ghost use Rattle.pico_board.specs.declared.boot.Cpu.{Cpu};
 ghost use Rattle.pico_board.specs.declared.window.Window.{Window};
@@ -14,8 +15,25 @@ ghost use Rattle.boot_rules.specs.Chosen.{Chosen};
 ghost use Rattle.boot_script.specs.Events.{EventView};
 ghost use Rattle.boot_session.specs.CutSessions.{StartsFinished, StartsThere};
 ghost use Rattle.boot_cuts.specs.Traces.{trace, trace_steps};
+ghost use Rattle.cli_course.specs.Outcomes.{AreOfBytes};
+ghost use Rattle.cli_inputs.specs.Forms.{content_of_files};
+ghost use Rattle.cli_inputs.specs.Inputs.{flash_otp_script_pattern, of_four};
+ghost use Rattle.cli_inputs.specs.Rules.{OfFour, WorksBy};
 ghost use Rattle.cli_check.specs.declared.findings.SessionLaw.TheVariants.{ConfinedTo, GatedOn};
+ghost use Rattle.cli_check.specs.CheckRules.{IsCheckOf, IsCheckRefused};
+ghost use Rattle.cli_check.specs.CheckWorks.{check_work};
 ghost use Rattle.cli_check.specs.SessionLaws.{law_of};
+
+/// On files of bytes that have their forms the work of `check` is right by its rules, and no other
+/// outcome is; it refuses a script exactly where its trace is too long.
+pub fn works_are_right()
+    ensures { (flash otp script pattern : List ℕ) (cpu : Cpu)
+        → WorksBy (flash_otp_script_pattern flash otp script pattern) AreOfBytes
+        (of_four (λ f g s p. check_work (content_of_files f g) cpu script s p))
+        (λ read name fault. OfFour (λ f g s p. IsCheckRefused script
+        (content_of_files f g) cpu s name fault) read)
+        (λ read o. OfFour (λ f g s p. IsCheckOf (content_of_files f g) cpu s p o) read) }
+{}
 
 /// Where `law confined` is told of a slot, the next normal boot after the script's steps, or after
 /// power was lost in them, whatever bytes that tears, decides as before, or starts a valid image of
