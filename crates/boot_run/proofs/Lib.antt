@@ -1,4 +1,3 @@
 mod RunLemmas
 mod RuleLemmas
 mod VerdictLemmas
-mod CheckLemmas

@@ -25,7 +25,7 @@ use Rattle.cli_inputs.proofs.WorkLemmas.{work-obeys, work-only, work-refused, no
 use Rattle.cli_boot.specs.Rules.{decided_status}
 use Rattle.cli_boot.proofs.BoardWorkLemmas.{boot-works, info-works, data-works}
 use Rattle.cli_explain.proofs.ReasonWorkLemmas.{explain-works}
-use Rattle.boot_run.proofs.CheckLemmas.{check-works}
+use Rattle.cli_check.proofs.CheckRuleLemmas.{check-works}
 use Rattle.cli_cuts.proofs.CutsRuleLemmas.{cuts-works}
 use Rattle.cli_caveats.proofs.CaveatWorkLemmas.{caveats-works}
 use Rattle.cli_map.proofs.MapWorkLemmas.{map-works}
@@ -107,7 +107,7 @@ bytes-serve (Replay flash otp cpu script out_flash out_otp) read small = small
 bytes-serve (Sweep flash otp cpu script pattern) read small = small
 bytes-serve (Chart flash otp cpu script pattern out) read small = small
 bytes-serve (Cuts flash otp cpu script pattern) read small = tt
-bytes-serve (Check flash otp cpu script pattern) read small = tt
+bytes-serve (Check flash otp cpu script pattern) read small = small
 bytes-serve (Seal binary spec out) read small = tt
 bytes-serve (Elf elf spec out) read small = small
 bytes-serve (Firm image cpu) read small = tt

@@ -1,13 +1,9 @@
 -- The commands: the inputs of each, its work on their bytes, from which the outcome of a run
 -- follows, and what is right for it in the words of the rules. This project's own, over the rules
 -- of a boot.
-use Rattle.std.specs.Prelude.{ℕ, ◌≤◌, length, Bool, true, false, List, [], Option, Some, None, ◌≡◌, ⊤}
-use Rattle.pico_board.specs.Content.{Content}
+use Rattle.std.specs.Prelude.{ℕ, Bool, true, false, List, [], Option, Some, None, ◌≡◌, ⊤}
 use Rattle.pico_board.specs.Files.{File}
-use Rattle.boot_script.specs.Scripts.{script_events}
-use Rattle.boot_cuts.specs.Found.{trace_limit}
-use Rattle.boot_cuts.specs.Traces.{trace}
-use Rattle.cli_course.specs.Outcomes.{LimitedInputView, AnswerView, Work, Answers, worked, not_understood, found, outcome_found, AreOfBytes}
+use Rattle.cli_course.specs.Outcomes.{LimitedInputView, AnswerView, Work, Answers, not_understood, found, outcome_found, AreOfBytes}
 use Rattle.cli_words.specs.Commands.{CommandLineView, Boot, Info, OwnedData, Explain, Map, Replay, Sweep, Chart, Seal, Elf, Firm, Table, Usage, Help, Release, Uf2, Plan, Copy, ListScript, WriteScript, Gen, Load, Caveats, OtpFile, Cuts, Check}
 use Rattle.cli_words.specs.Usages.{usage_text, help_text, release_line}
 use Rattle.cli_inputs.specs.Forms.{content_of_files, HasForm}
@@ -15,8 +11,8 @@ use Rattle.cli_inputs.specs.Jsons.{spec_read, table_read, otp_read}
 use Rattle.cli_inputs.specs.Inputs.{FormInputView, readings, flash_and_otp, flash_otp_script, flash_otp_script_pattern, flash_otp_image, binary_and_spec, elf_and_spec, one_json, otp_told, image_alone, uf2_alone, script_alone, text_alone, of_one, of_two, of_three, of_four, outcome_by}
 use Rattle.cli_boot.specs.Works.{boot_work, info_work, data_work}
 use Rattle.cli_explain.specs.Works.{explain_work}
-use Rattle.cli_check.specs.CheckRules.{IsCheckRefused}
-use Rattle.cli_check.specs.CheckWorks.{check_work, found_work, findings_of}
+use Rattle.cli_check.specs.CheckRules.{IsCheckOf, IsCheckRefused}
+use Rattle.cli_check.specs.CheckWorks.{check_work}
 use Rattle.cli_cuts.specs.CutsRules.{IsCutsOf, IsCutsRefused}
 use Rattle.cli_cuts.specs.CutsWorks.{cuts_work}
 use Rattle.cli_caveats.specs.Works.{caveats_work}
@@ -181,13 +177,6 @@ IsRefusedCommand command read = (name : List ℕ) × (fault : List ℕ)
 abbrev pub Tells : List ℕ → AnswerView → Type 0
 Tells text o = o ≡ record { status = Done; text = text; files = [] }
 
--- `check`: the script completes no more steps than are judged, and the outcome tells what is found
--- and ends with the verdict of it
-pub record IsCheckBy (c : Content) (cpu : Cpu) (script pattern : List ℕ) (o : AnswerView)
-    : Type 0 where
-  pub short : length (trace c cpu (script_events script)).done ≤ trace_limit
-  pub is : o ≡ worked (found_work (findings_of c cpu (script_events script) pattern))
-
 -- the outcome is right for a command on inputs that have their forms
 abbrev pub IsRight : CommandLineView → List (List ℕ) → AnswerView → Type 0
 IsRight (Boot flash otp cpu kind) read o = OfTwo
@@ -210,7 +199,7 @@ IsRight (Chart flash otp cpu script pattern out) read o =
 IsRight (Cuts flash otp cpu script pattern) read o =
     OfFour (λ f g s p. IsCutsOf (content_of_files f g) cpu s p o) read
 IsRight (Check flash otp cpu script pattern) read o =
-    OfFour (λ f g s p. IsCheckBy (content_of_files f g) cpu s p o) read
+    OfFour (λ f g s p. IsCheckOf (content_of_files f g) cpu s p o) read
 IsRight (Seal binary spec out) read o = OfTwo (λ b s. IsSealedOf out b s o) read
 IsRight (Elf elf spec out) read o = OfTwo (λ e s. IsElfOf out e s o) read
 IsRight (Firm image cpu) read o = OfOne (λ i. IsFirmOf i cpu o) read
@@ -237,14 +226,15 @@ abbrev pub Obeys : CommandLineView → List (List ℕ) → AnswerView → Type 0
 Obeys command read o =
     IsWorked (inputs_of command) (IsRefusedWork command read) (IsRight command read) read o
 
--- the picture of a flash asks that its inputs are of bytes, since a content is; so do a replay, a
--- sweep and its picture, since power that is lost in an erase leaves bytes, and the packing of an
--- ELF file, since its entry is a word; the other commands ask nothing
+-- the picture of a flash and the check of an update ask that their inputs are of bytes, since a
+-- content is; so do a replay, a sweep and its picture, since power that is lost in an erase leaves
+-- bytes, and the packing of an ELF file, since its entry is a word; the other commands ask nothing
 abbrev pub NeedsBytes : CommandLineView → List (List ℕ) → Type 0
 NeedsBytes (Map flash otp cpu out) read = AreOfBytes read
 NeedsBytes (Replay flash otp cpu script out_flash out_otp) read = AreOfBytes read
 NeedsBytes (Sweep flash otp cpu script pattern) read = AreOfBytes read
 NeedsBytes (Chart flash otp cpu script pattern out) read = AreOfBytes read
+NeedsBytes (Check flash otp cpu script pattern) read = AreOfBytes read
 NeedsBytes (Elf elf spec out) read = AreOfBytes read
 NeedsBytes command read = ⊤
 

@@ -1,5 +1,5 @@
 -- `check` is right by its rules.
-use Rattle.std.proofs.Common.{◌≡◌, ◌⊎◌, ℕ, ◌<◌, ◌≤◌, Bool, List, [], length, codes, cond, Option, refl, sym, ap, ◌∙◌, subst, inl, inr}
+use Rattle.std.proofs.Common.{◌≡◌, ◌⊎◌, ℕ, ◌<◌, ◌≤◌, Bool, List, [], length, codes, cond, Option, refl, sym, ap, ◌∙◌, inl, inr}
 use Rattle.std.proofs.lemmas.Bool.{cases_lt, le-ltb, lt-ltb}
 use Rattle.pico_board.specs.declared.boot.Cpu.{Cpu}
 use Rattle.pico_board.specs.declared.boot.BootKind.TheVariants.{Normal}
@@ -10,7 +10,6 @@ use Rattle.boot_rules.proofs.DecisionLemmas.{chosen-decision, decision-chosen}
 use Rattle.boot_script.specs.Events.{EventView}
 use Rattle.boot_script.specs.Scripts.{script_events}
 use Rattle.boot_plays.specs.Plays.{played, powerless}
-use Rattle.boot_cuts.specs.declared.answers.Answer.{Answer}
 use Rattle.boot_cuts.specs.declared.answers.Class.{Class}
 use Rattle.boot_cuts.specs.Answers.{answers, end_answer}
 use Rattle.boot_cuts.specs.Contents.{cut_contents}
@@ -18,7 +17,7 @@ use Rattle.boot_cuts.specs.Found.{trace_limit}
 use Rattle.boot_cuts.specs.Traces.{trace, trace_steps}
 use Rattle.boot_cuts.proofs.ClassLemmas.{answer-is, answers-are, class-exactly, one-answers}
 use Rattle.cli_course.specs.declared.status.Status.TheVariants.{Input as Refused}
-use Rattle.cli_course.specs.Outcomes.{AreOfBytes, AnswerView, Refuses, Verdict, refused, verdict_status, worked}
+use Rattle.cli_course.specs.Outcomes.{AreOfBytes, AnswerView, Refuses, refused, verdict_status, worked}
 use Rattle.cli_inputs.specs.declared.forms.Form.TheVariants.{Flash, Otp, Pattern, Script}
 use Rattle.cli_inputs.specs.Forms.{content_of_files}
 use Rattle.cli_inputs.specs.Inputs.{flash_otp_script_pattern, of_four}

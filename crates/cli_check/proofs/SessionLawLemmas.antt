@@ -1,6 +1,6 @@
 -- The law that is told of a script is that of its sentences, and no other is.
 use Rattle.std.proofs.Common.{◌≡◌, ℕ, not, Bool, true, false, if◌then◌else◌, is_none, is_some, List, [], ◌∷◌, Option, Some, None, refl, sym, ap, ◌∙◌, subst}
-use Rattle.std.specs.Prelude.{◌==◌, ◌&&◌}
+use Rattle.std.specs.Prelude.{◌&&◌}
 use Rattle.std.specs.List.{list_all}
 use Rattle.std.proofs.lemmas.Bool.{and_from, and_parts, eqb-true}
 use Rattle.std.proofs.lemmas.Option.{same_Some}
@@ -122,11 +122,14 @@ module _ (c : Content) (cpu : Cpu) (events : List EventView) (right : IsContent 
       → ungated_in w steps ≡ o → table_in c ≡ t
       → IsSessionLaw c cpu events (if is_none o then GatedOn w else if is_some t then ConfinedTo w else NoLaw)
   gate-is w at keeps None t gate table = (keeps, (refl, none-gated w steps keeps.confined gate))
-  gate-is w at keeps (Some k) (Some found) gate table = (keeps, (
-    refl,
-    λ gated. let e : None ≡ Some k = sym (gated-none w steps gated) ∙ gate in cc,
-    λ none. let e : None ≡ Some found = sym none ∙ table in cc,
-  ))
+  gate-is w at keeps (Some k) (Some found) gate table = (
+    keeps,
+    (
+      refl,
+      λ gated. let e : None ≡ Some k = sym (gated-none w steps gated) ∙ gate in cc,
+      λ none. let e : None ≡ Some found = sym none ∙ table in cc,
+    ),
+  )
   gate-is w at keeps (Some k) None gate table = λ v other. (
     λ gated.
         let same : w ≡ v = same_Some w v (sym at ∙ slot-is c cpu steps v right other.slot) in
