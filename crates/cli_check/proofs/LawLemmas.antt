@@ -31,6 +31,7 @@ use Rattle.cli_check.specs.declared.findings.SessionLaw.{SessionLaw}
 use Rattle.cli_check.specs.declared.findings.SessionLaw.TheVariants.{GatedOn, ConfinedTo, NoLaw}
 use Rattle.cli_check.specs.SessionLaws.{keeps_slot, kept_law, law_by, law_of, slot_law}
 use Rattle.cli_check.specs.Sessions.{is_one_session}
+use Rattle.cli_check.proofs.WholeLemmas.{session-whole}
 
 -- the slot of which a law is told
 abbrev told_slot : SessionLaw → Option Window
@@ -143,13 +144,12 @@ confined-told c cpu events w d right told leaves =
 
 pub gated-told : (c : Content) (cpu : Cpu) (events : List EventView) (w : Window) (d : Content) → IsContent c
     → law_of c cpu events ≡ GatedOn w
-    → (trace c cpu events).last ≡ after_all c (trace_steps (trace c cpu events).done)
     → CutOf c (trace_steps (trace c cpu events).done) d
     → (Unfinished c (trace_steps (trace c cpu events).done) w d
     → HasNoAccidentalImage c (after_all c (trace_steps (trace c cpu events).done)) d w cpu)
     → Chosen d cpu Normal (decision_in c cpu Normal)
     ⊎ StartsFinished (after_all c (trace_steps (trace c cpu events).done)) d cpu
-gated-told c cpu events w d right told leads cut fresh =
+gated-told c cpu events w d right told cut fresh =
     gated-decision c w cpu steps d (decision_in c cpu Normal) (record {
       right = right;
       boot_member = k.boot_member;
@@ -166,6 +166,13 @@ gated-told c cpu events w d right told leads cut fresh =
 
     z : Content
     z = (trace c cpu events).last
+
+    one-of : (b : Bool) → law_by c cpu z steps b ≡ GatedOn w → b ≡ true
+    one-of true is = refl
+    one-of false is = cc
+
+    leads : z ≡ after_all c steps
+    leads = session-whole c cpu events (one-of (is_one_session c cpu events) told)
 
     is : IsKept c cpu z steps w (GatedOn w)
     is = kept c cpu z steps (is_one_session c cpu events) w (GatedOn w) told refl

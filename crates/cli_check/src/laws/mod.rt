@@ -45,14 +45,13 @@ pub fn a_confined_law_holds()
         → Chosen d cpu Normal (decision_in c cpu Normal) ⊎ StartsThere d w cpu }
 {}
 
-/// Where `law gated` is told of a slot, and the script leaves what its steps do, the next normal
-/// boot after power was lost in them, whatever bytes that tears, decides as before, or makes the
-/// start that it makes after them, of an image with the same bytes. That an unfinished content has
-/// no accidental image in the slot is the premise that no file can show.
+/// Where `law gated` is told of a slot, the next normal boot after power was lost in the script's
+/// steps, whatever bytes that tears, decides as before, or makes the start that it makes after them,
+/// of an image with the same bytes. That an unfinished content has no accidental image in the slot
+/// is the premise that no file can show.
 pub fn a_gated_law_holds()
     ensures { (c : Content) (cpu : Cpu) (events : List EventView) (w : Window) (d : Content)
         → IsContent c → law_of c cpu events ≡ GatedOn w
-        → (trace c cpu events).last ≡ after_all c (trace_steps (trace c cpu events).done)
         → CutOf c (trace_steps (trace c cpu events).done) d
         → (Unfinished c (trace_steps (trace c cpu events).done) w d
         → HasNoAccidentalImage c (after_all c (trace_steps (trace c cpu events).done)) d w cpu)
