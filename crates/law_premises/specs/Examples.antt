@@ -1,6 +1,8 @@
 -- What the worked premises are said of.
-use Rattle.std.specs.Prelude.{ℕ, ◌*◌, ◌+◌, ◌==◌, Bool, false, if◌then◌else◌, List, [], replicate, Option, None, Some, Err}
+use Rattle.std.specs.Prelude.{ℕ, ◌*◌, ◌+◌, ◌==◌, Bool, false, true, if◌then◌else◌, pos, List, [], ◌∷◌, ◌++◌, replicate, Option, None, Some, Err}
 use Rattle.pico_board.specs.declared.window.Window.{Window}
+use Rattle.block_codec.specs.Blocks.{BlockView}
+use Rattle.sector_pool.specs.Pool.{Pool, erased}
 use Rattle.part_table.specs.declared.target.Target.{Target}
 use Rattle.slot_choice.specs.declared.unit.SlotUnit.{SlotUnit}
 use Rattle.slot_choice.specs.Examples.{the_pair, window_at, pair_unit}
@@ -10,8 +12,18 @@ use Rattle.boot_rules.specs.Changes.{Images}
 use Rattle.boot_reasons.specs.declared.looks.UnitReport.{UnitReport}
 use Rattle.uf2_place.specs.declared.block.Uf2.{Uf2}
 use Rattle.uf2_place.specs.declared.current.Current.{Current}
-use Rattle.worked_flashes.specs.Choices.{to}
-use Rattle.worked_flashes.specs.Images.{in_b}
+use Rattle.uf2_place.specs.Accepting.{DownloadView}
+use Rattle.boot_sweep.specs.declared.slots.Slot.{Slot}
+use Rattle.pico_board.specs.declared.boot.Cpu.TheVariants.{Arm}
+use Rattle.pico_board.specs.declared.Step.{Step}
+use Rattle.pico_board.specs.declared.Step.TheVariants.{Erase}
+use Rattle.pico_board.specs.Content.{Content}
+use Rattle.pico_board.specs.Steps.{after}
+use Rattle.trial_buy.specs.Buying.{cleared_sector, page_program, trial_place}
+use Rattle.boot_machine.specs.Machines.{FromFlash, MachineView, Off, Running}
+use Rattle.worked_flashes.specs.Flashes.{framed, region, rows_with, whole_flash_of}
+use Rattle.worked_flashes.specs.Choices.{running_trial, to}
+use Rattle.worked_flashes.specs.Images.{arm_type, in_b, trial_type, window_with}
 use Rattle.worked_flashes.specs.Writes.{slot}
 
 -- a block of a download of two, of rp2350-arm-s, with a page of zeros
@@ -63,3 +75,72 @@ owned_second = window_at 0x1a000 0x8000
 
 abbrev pub owned_unit : SlotUnit
 owned_unit = pair_unit (window_at 0x12000 0x8000) 2 owned_second 3
+
+-- a window of two pages, of which the first has bytes 7, and the second bytes of this value
+abbrev pub two_pages : ℕ → List ℕ
+two_pages second = replicate 256 7 ++ replicate 256 second
+
+-- the bytes of a window with one block, at offset 8, and a block there that has another link
+abbrev pub one_block_window : List ℕ
+one_block_window = window_with 0x10000201 (arm_type ∷ []) 0
+
+abbrev pub linked_block : BlockView
+linked_block = record { at = 8; items = arm_type ∷ []; link = pos 256 }
+
+-- a pool of two free sectors
+abbrev pub free_pool : Pool
+free_pool = record { out = false ∷ false ∷ []; sectors = erased ∷ erased ∷ [] }
+
+-- a download of two blocks behind its first one: number 0 is taken, and sector 32 is erased
+abbrev pub begun_download : DownloadView
+begun_download = record {
+  current = Some current_of_two;
+  marks = record { numbers = 1 ∷ []; sectors = 0x100000000 ∷ [] };
+}
+
+-- no download
+abbrev pub no_download : DownloadView
+no_download = record { current = None; marks = record { numbers = []; sectors = [] } }
+
+-- the second slot of the worked pair, in a flash with a table
+abbrev pub swept_slot : Slot
+swept_slot = record { window = slot; has_table = true }
+
+-- a flash of two sectors with a trial image, and the same with another row of boot flags
+abbrev pub trial_flash : Content
+trial_flash = whole_flash_of (region 0x1000 (0x20082000 ∷ 0x20000001 ∷ framed (trial_type ∷ []) 0))
+
+abbrev pub flagged_flash : Content
+flagged_flash = record { flash = trial_flash.flash; otp = rows_with 1 0 }
+
+-- the machine that runs the trial image, on a board that tells that no cut is armed
+abbrev pub trial_machine : MachineView
+trial_machine = record {
+  content = trial_flash;
+  armed = Some None;
+  cpu = Arm;
+  place = Running (FromFlash running_trial);
+}
+
+-- that machine with a cut armed before the second step that follows
+abbrev pub armed_machine : MachineView
+armed_machine = record {
+  content = trial_flash;
+  armed = Some (Some (record { left = 1; within = false; pattern = [] }));
+  cpu = Arm;
+  place = Running (FromFlash running_trial);
+}
+
+-- that step of its buy: the program of the first page, behind the erase of its sector
+abbrev pub first_program : Step
+first_program =
+    page_program 0 (cleared_sector trial_flash.flash (trial_place running_trial.image)) 0
+
+-- the machine without power, with its first sector erased
+abbrev pub lost_machine : MachineView
+lost_machine = record {
+  content = after trial_flash (Erase 0);
+  armed = Some None;
+  cpu = Arm;
+  place = Off;
+}

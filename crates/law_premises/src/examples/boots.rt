@@ -1,14 +1,21 @@
 //! Premises on boots and their reasons.
 
 ghost use Rattle.std.specs.Prelude.{◌≡◌, ◌∷◌, [], true, false, None, Some};
+ghost use Rattle.pico_board.specs.declared.boot.Cpu.TheVariants.{Arm};
 ghost use Rattle.pico_board.specs.declared.boot.BootKind.TheVariants.{Bootsel, Normal};
 ghost use Rattle.slot_choice.specs.Examples.{the_pair};
+ghost use Rattle.slot_choice.specs.declared.unit.Member.TheVariants.{A, B};
+ghost use Rattle.image_def.specs.declared.started.Started.{Started};
+ghost use Rattle.boot_rules.specs.AccidentalImages.{HasNoImage};
+ghost use Rattle.boot_rules.specs.Picking.{IsNormalImage};
 ghost use Rattle.boot_rules.specs.Changes.{HaveSameImages, HaveSameImagesBut, IsNotIn};
 ghost use Rattle.boot_rules.specs.Starts.{IsOwnedPair};
 ghost use Rattle.boot_reasons.specs.Rules.{FallsBefore, TakeNone};
 ghost use Rattle.part_table.specs.Examples.{owned_table};
 ghost use Rattle.worked_flashes.specs.Choices.{small_first, small_former, small_slot};
-ghost use Rattle.worked_flashes.specs.Flashes.{rows_with};
+ghost use Rattle.worked_flashes.specs.Flashes.{arm_member, bare, beside_former, rows_with};
+ghost use Rattle.worked_flashes.specs.Images.{in_a};
+ghost use Rattle.worked_flashes.specs.Writes.{slot};
 ghost use Rattle.law_premises.specs.Examples.{bare_report, images_with_second, no_images, owned_unit, owned_second, second_window};
 
 /// A boot that asks for BOOTSEL, one where flash boot is off, and one that is neither.
@@ -39,4 +46,16 @@ pub fn a_choice_in_another_slot()
 /// The pair of data that a pair of images owns.
 pub fn an_owned_pair()
     ensures owned { IsOwnedPair owned_table owned_unit owned_second }
+{}
+
+/// A bare slot beside version 1.9 has no image, and one in which version 1.10 stands has one.
+pub fn a_slot_without_an_image()
+    ensures bare { HasNoImage (beside_former bare) slot Arm }
+    ensures written { HasNoImage (beside_former (arm_member 0x0001000a)) slot Arm → ⊥ }
+{}
+
+/// The image of the A of a pair, and the bare B of that pair.
+pub fn a_normal_image_of_a_pair()
+    ensures first { IsNormalImage (beside_former bare) Arm the_pair A (in_a 1 9 false) }
+    ensures second { (s : Started) → IsNormalImage (beside_former bare) Arm the_pair B s → ⊥ }
 {}

@@ -1,6 +1,12 @@
 //! Premises on bytes, rows, tables and pictures.
 
 ghost use Rattle.std.specs.Prelude.{◌∷◌, [], None, Some, codes};
+ghost use Rattle.block_codec.specs.Pages.{IsPartlyWritten};
+ghost use Rattle.block_loop.specs.Cycles.{KeepsLinks};
+ghost use Rattle.law_plans.specs.Examples.{crowded, firm};
+ghost use Rattle.law_plans.specs.Lone.{HasLoneLoop};
+ghost use Rattle.law_premises.specs.Examples.{linked_block, one_block_window, two_pages};
+ghost use Rattle.worked_flashes.specs.Images.{small_block};
 ghost use Rattle.block_codec.specs.HighByte.{ChangesHighByte};
 ghost use Rattle.part_table.specs.Examples.{pair_table, plain_partition};
 ghost use Rattle.pico_board.specs.Content.{Content};
@@ -13,6 +19,8 @@ ghost use Rattle.elf_pack.specs.Faults.{HasAddress};
 ghost use Rattle.svg_marks.specs.Texts.{HasTexts};
 ghost use Rattle.image_pack.specs.Starts.{IsLoadedFrom};
 ghost use Rattle.otp_roll.specs.Rows.{Rises};
+
+use law_plans::examples::firm::{a_firm_image, an_image_with_another_block};
 
 /// An IMAGE_TYPE word whose trial bit is set.
 pub fn a_word_with_its_trial_bit()
@@ -74,3 +82,24 @@ pub fn a_byte_that_is_loaded()
     ensures { IsLoadedFrom (record { storage = Some 0; runtime = 0x20000000; size = 8 }
         ∷ record { storage = Some 16; runtime = 0x20000004; size = 4 } ∷ []) 0x20000005 17 }
 {}
+
+/// A window whose second page is still erased, and one whose second page has other bytes.
+pub fn windows_that_are_partly_written()
+    ensures erased { IsPartlyWritten (two_pages 8) (two_pages 255) }
+    ensures other { IsPartlyWritten (two_pages 8) (two_pages 9) → ⊥ }
+{}
+
+/// A window in which the one block has the link of the block of a list, and another link.
+pub fn a_window_that_keeps_links()
+    ensures kept { KeepsLinks (small_block 8 ∷ []) one_block_window }
+    ensures other { KeepsLinks (linked_block ∷ []) one_block_window → ⊥ }
+{}
+
+/// An image whose first sector has the blocks of its loop alone, and one with a block beside them.
+pub fn an_image_with_a_lone_loop()
+    ensures lone { HasLoneLoop firm }
+    ensures crowded { HasLoneLoop crowded → ⊥ }
+{
+    a_firm_image();
+    an_image_with_another_block();
+}
