@@ -1,4 +1,4 @@
-use Rattle.std.proofs.Common.{◌≡◌, ℕ, ℤ, pos, negsuc, zero, suc, [], ◌∷◌, List, Some, refl, sym, ap, subst, arith, ◌∙◌, slice_get}
+use Rattle.std.proofs.Common.{◌≡◌, ℕ, ℤ, pos, negsuc, zero, suc, [], ◌∷◌, Some, refl, sym, ap, subst, arith, ◌∙◌, slice_get}
 use Rattle.std.proofs.lemmas.Option.{none-some, same_Some}
 use Rattle.block_codec.specs.Blocks.{BlockAt, BlockView, frame}
 use Rattle.block_codec.specs.Items.{size_of}

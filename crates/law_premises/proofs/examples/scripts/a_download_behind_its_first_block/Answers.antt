@@ -1,5 +1,5 @@
-use Rattle.std.proofs.Common.{◌≡◌, Some, true, false, refl, sym, ap, subst, ◌∙◌}
-use Rattle.std.proofs.lemmas.Option.{none-some, same_Some}
+use Rattle.std.proofs.Common.{◌≡◌, true, false, refl, sym}
+use Rattle.std.proofs.lemmas.Option.{none-some}
 use Rattle.uf2_place.specs.Marks.{is_marked}
 use Rattle.law_premises.specs.Examples.{current_of_two}
 use Rattle.law_premises.proofs.DownloadLemmas.{stands}

@@ -1,5 +1,5 @@
 -- By computing.
-use Rattle.std.proofs.Common.{◌≡◌, ◌<◌, ℕ, List, [], ◌∷◌, Bool, true, false, Err, Ok, None, Some, inl, inr, refl, sym, subst, arith, ◌∙◌, All}
+use Rattle.std.proofs.Common.{◌≡◌, ◌<◌, ℕ, List, [], ◌∷◌, false, Err, Ok, None, Some, inl, inr, refl, sym, subst, arith, ◌∙◌, All}
 use Rattle.std.specs.Fmt.{padded_integral, digits, char_count}
 use Rattle.std.proofs.lemmas.Option.{none-some}
 use Rattle.pico_board.specs.declared.Step.TheVariants.{Erase}
@@ -7,7 +7,7 @@ use Rattle.pico_board.specs.declared.boot.BootKind.TheVariants.{Update}
 use Rattle.pico_board.specs.declared.boot.Cpu.TheVariants.{Arm}
 use Rattle.pico_board.specs.declared.window.Window.{Window}
 use Rattle.pico_board.specs.Content.{Content, IsContent}
-use Rattle.pico_board.specs.Steps.{IsCutAt, after, after_all}
+use Rattle.pico_board.specs.Steps.{IsCutAt, after}
 use Rattle.block_codec.specs.Blocks.{frame}
 use Rattle.block_codec.specs.Items.{size_of}
 use Rattle.block_codec.specs.Reading.{block_at, front_block, item_words}
@@ -29,7 +29,7 @@ use Rattle.boot_machine.specs.Moves.{Moves, Plays, lost_text}
 use Rattle.boot_plays.specs.Plays.{IsTelling, moved_machine, played, powerless}
 use Rattle.law_boot_cuts.specs.Crashes.{IsUnitWindow}
 use Rattle.law_boot_cuts.specs.Examples.{whole_unit}
-use Rattle.law_buy_cuts.specs.Running.{RunsTrial, buys}
+use Rattle.law_buy_cuts.specs.Running.{buys}
 use Rattle.worked_flashes.specs.Choices.{running_trial}
 use Rattle.worked_flashes.proofs.ContentLemmas.{all_below, content-by, torn-before}
 use Rattle.law_premises.specs.Examples.{armed_machine, first_program, lost_machine, trial_flash}

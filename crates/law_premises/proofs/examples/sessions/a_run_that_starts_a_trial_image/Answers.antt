@@ -1,9 +1,8 @@
 -- By computing.
-use Rattle.std.proofs.Common.{◌≡◌, ℕ, List, [], ◌∷◌, None, refl, subst}
+use Rattle.std.proofs.Common.{◌≡◌, List, [], ◌∷◌, None, refl, subst}
 use Rattle.std.specs.Fmt.{padded_integral, digits, char_count}
 use Rattle.pico_board.specs.declared.boot.BootKind.TheVariants.{Update}
 use Rattle.pico_board.specs.declared.boot.Cpu.TheVariants.{Arm}
-use Rattle.pico_board.specs.Content.{IsContent}
 use Rattle.block_codec.specs.Blocks.{frame}
 use Rattle.block_codec.specs.Items.{size_of}
 use Rattle.block_codec.specs.Reading.{block_at, front_block, item_words}
