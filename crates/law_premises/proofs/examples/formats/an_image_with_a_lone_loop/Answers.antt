@@ -20,7 +20,8 @@ pub returns-clause-lone : goal.returns-clause-lone
 returns-clause-lone c =
     let f = c.a_firm_image.ensures in
     subst (λ (bytes : List ℕ). (loop : List BlockView) → IsLoop bytes loop → HasNoOtherBlock bytes loop) firm-whole
-    (λ loop closes. subst (HasNoOtherBlock firm) (IsLoop-unique firm f.held.sound.loop loop f.held.sound.defined.closes closes)
+    (λ loop closes. subst (HasNoOtherBlock firm)
+    (IsLoop-unique firm f.held.sound.loop loop f.held.sound.defined.closes closes)
     f.alone)
 
 pub returns-clause-crowded : goal.returns-clause-crowded

@@ -18,10 +18,12 @@ behind : (x i : ℕ) → 512 ≤ i → slice_index (two_pages x) i ≡ 0
 behind x i past = get_or_past (two_pages x) i 0 past
 
 pages : (q : ℕ) → IsBlankWindowPage q (two_pages 255) ⊎ IsSameWindowPage q (two_pages 8) (two_pages 255)
-pages zero = inr (λ i low. first 255 (256 * 0 + i) (omega (arith, low)) ∙ sym (first 8 (256 * 0 + i) (omega (arith, low))))
+pages zero = inr (λ i low. first 255 (256 * 0 + i) (omega (arith, low))
+    ∙ sym (first 8 (256 * 0 + i) (omega (arith, low))))
 pages (suc zero) = inl (λ i low. second 255 (256 * 1 + i) (omega (arith, low)) (omega (arith, low)))
 pages (suc (suc q)) =
-    inr (λ i low. behind 255 (256 * suc (suc q) + i) (omega (arith, low)) ∙ sym (behind 8 (256 * suc (suc q) + i) (omega (arith, low))))
+    inr (λ i low. behind 255 (256 * suc (suc q) + i) (omega (arith, low))
+    ∙ sym (behind 8 (256 * suc (suc q) + i) (omega (arith, low))))
 
 pub returns-clause-erased : goal.returns-clause-erased
 returns-clause-erased c = record { long = refl; pages = pages }

@@ -52,7 +52,12 @@ telling : IsTelling start
 telling = record { cut = None; told = refl; pattern = tt; flash = right.flash_bytes }
 
 telling-armed : IsTelling armed_machine
-telling-armed = record { cut = Some (record { left = 1; within = false; pattern = [] }); told = refl; pattern = no-bytes; flash = right.flash_bytes }
+telling-armed = record {
+  cut = Some (record { left = 1; within = false; pattern = [] });
+  told = refl;
+  pattern = no-bytes;
+  flash = right.flash_bytes;
+}
 
 last : (played start events).last ≡ armed_machine
 unfolding moved_machine decision_in padded_integral digits char_count table_in image_in def_of loop_of follow block_from
@@ -95,7 +100,8 @@ lone z = empty-lucky trial_flash z lost_machine.content running_trial.image.wind
 
 in-unit : (z : Content) (v : Window) → IsUnitWindow running_trial v
     → HasNoAccidentalImage trial_flash z lost_machine.content v Arm
-in-unit z v (inl is) = subst (λ (w : Window). HasNoAccidentalImage trial_flash z lost_machine.content w Arm) (sym is) (lone z)
+in-unit z v (inl is) =
+    subst (λ (w : Window). HasNoAccidentalImage trial_flash z lost_machine.content w Arm) (sym is) (lone z)
 in-unit z v (inr other) = absurd (none-some v other)
 
 pub returns : goal.returns
