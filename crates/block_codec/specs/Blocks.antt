@@ -6,7 +6,7 @@ use Rattle.block_codec.specs.Words.{bytes_of, AreWords}
 use Rattle.block_codec.specs.Items.{AreItems}
 
 -- what contracts see of a block: the offset of its first byte in its window, its item words, and
--- the signed offset in bytes from its first byte to the next block's
+-- its link; the link is the signed offset in bytes from its first byte to the next block's
 pub record BlockView : Type 0 where
   pub at : ℕ
   pub items : List ℕ

@@ -1,13 +1,13 @@
--- A change of the fourth byte of an IMAGE_TYPE header, as a buy makes it where it clears the trial
--- bit (RP2350 Datasheet, chapter 5, Bootrom, "Try before you buy").
+-- A change of the fourth byte of an IMAGE_TYPE header. A buy makes such a change, and clears the
+-- trial bit by it (RP2350 Datasheet, chapter 5, Bootrom, "Try before you buy").
 use Rattle.std.specs.Prelude.{◌≡◌, ◌≢◌, ℕ, ◌+◌, ◌-◌, ◌*◌, ◌/◌, ◌%◌, ◌<◌, ◌≤◌, ◌==◌, ◌&&◌, nat_le, nat_lt, if◌then◌else◌, List, length, slice_index, slice_set}
 use Rattle.std.specs.Int.{cast_signed, w32}
 use Rattle.block_codec.specs.Blocks.{BlockView}
 use Rattle.block_codec.specs.Items.{high_byte}
 use Rattle.block_codec.specs.declared.items.Item.{Item}
 
--- v is w but for the fourth byte of the word at offset a, a multiple of 4, whose first byte is the
--- type byte of IMAGE_TYPE
+-- v is w but for the fourth byte of the word at offset a; a is a multiple of 4, and the first byte
+-- of this word is the type byte of IMAGE_TYPE
 pub record ChangesHighByte (w v : List ℕ) (a : ℕ) : Type 0 where
   pub aligned : a % 4 ≡ 0
   pub inside : a + 4 ≤ length w

@@ -20,8 +20,8 @@ high_byte h = h / 16777216 % 256
 unfoldable pub size_of : ℕ → ℕ
 size_of h = if nat_le 128 (type_byte h) then h / 256 % 65536 else h / 256 % 256
 
--- k words of an item that has begun, and then whole items: each begins with a header whose type
--- byte is not 0xff and whose size n is at least 1, and has n words
+-- k words of an item that has begun, and then whole items: each item begins with a header; the
+-- header's type byte is not 0xff, its size n is at least 1, and the item has n words
 abbrev pub AreItemsAfter : ℕ → List ℕ → Type 0
 AreItemsAfter zero [] = Unit {0}
 AreItemsAfter (suc k) [] = ⊥
@@ -54,8 +54,8 @@ items_from place (suc k) (w ∷ ws) = items_from (place + 1) k ws
 abbrev pub items_of : List ℕ → List Item
 items_of ws = items_from 1 0 ws
 
--- what callers may rest on of an item of these item words: where it lies, and that it is what its
--- header says
+-- what callers may assume of an item of these item words: where the item lies, and that the item
+-- is what its header says
 pub record IsItemOf (ws : List ℕ) (item : Item) : Type 0 where
   pub first : 1 ≤ item.first
   pub some : 1 ≤ item.words

@@ -30,9 +30,9 @@ item_of_kind kind items = find (is_of_kind kind) items
 abbrev pub version_words : ℕ → ℕ
 version_words rows = if rows == 0 then 2 else 2 + (rows + 2) / 2
 
--- the version of a VERSION item among a block's words, whose fourth header byte is the number of
--- rows: minor in the low half of the word after the header and major in the high half; None exactly
--- where its size is wrong
+-- the version of a VERSION item among a block's words: minor in the low half of the word after the
+-- header and major in the high half; the fourth header byte is the number of rows; None exactly
+-- where the item's size is wrong
 abbrev pub version_of : List ℕ → Item → Option Version
 version_of words item =
     if item.words == version_words item.high

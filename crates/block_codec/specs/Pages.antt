@@ -1,5 +1,5 @@
--- Flash that was erased and then programmed in part, in whole pages of 256 bytes (RP2350 Datasheet,
--- chapter 5, Bootrom: a flash page is the unit of a program).
+-- Flash that was erased and then programmed in part, in whole pages of 256 bytes (RP2350
+-- Datasheet, chapter 5, Bootrom: a flash page is the unit of a program).
 use Rattle.std.specs.Prelude.{◌≡◌, ℕ, ◌+◌, ◌*◌, ◌<◌, ◌⊎◌, List, length, slice_index}
 use Rattle.block_codec.specs.Items.{headers_of}
 use Rattle.block_codec.specs.Blocks.{BlockView}

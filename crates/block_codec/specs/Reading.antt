@@ -1,6 +1,6 @@
--- The exact reader that the grammar of blocks amounts to, and what it goes by between the words and
--- the block. The form is that of the RP2350 Datasheet (chapter 5, Bootrom, "Blocks and block
--- loops"); the reader is this project's own.
+-- The exact reader of the grammar of blocks, and its steps from the words to the block. The form
+-- is that of the RP2350 Datasheet (chapter 5, Bootrom, "Blocks and block loops"); the reader is
+-- this project's own.
 use Rattle.std.specs.Prelude.{◌≡◌, ℕ, zero, suc, ◌+◌, ◌-◌, ◌*◌, ◌%◌, ◌≤◌, ◌==◌, ◌&&◌, Bool, true, false, if◌then◌else◌, List, [], ◌∷◌, length, take, drop, slice_index, Option, Some, None}
 use Rattle.std.specs.Option.{option_map, option_and_then}
 use Rattle.std.specs.Int.{cast_signed, w32}
@@ -8,8 +8,8 @@ use Rattle.block_codec.specs.Words.{word_of, words_of, are_bytes}
 use Rattle.block_codec.specs.Items.{AreItems, size_of, type_byte}
 use Rattle.block_codec.specs.Blocks.{BlockView, start_word, end_word, last_item}
 
--- how many words come before the first header whose type byte is 0xff, after k words of an item
--- that has begun; None where an item has size 0 or no such header comes
+-- after k words of an item that has begun, how many words come before the first header with type
+-- byte 0xff; None where an item has size 0 or no such header comes
 abbrev pub words_before : ℕ → List ℕ → Option ℕ
 words_before k [] = None
 words_before zero (h ∷ ws) =
@@ -17,7 +17,7 @@ words_before zero (h ∷ ws) =
     else (if size_of h == 0 then None else option_map suc (words_before (size_of h - 1) ws))
 words_before (suc k) (w ∷ ws) = option_map suc (words_before k ws)
 
--- the number of item words, where the right last item stands after them and the end word two
+-- the number of item words, where the right last item stands after them and the end word two words
 -- further
 abbrev pub if_ended : List ℕ → ℕ → Option ℕ
 if_ended ws n =
@@ -30,7 +30,7 @@ unfoldable pub item_words : List ℕ → Option ℕ
 item_words ws = option_and_then (if_ended ws) (words_before 0 (drop 1 ws))
 
 -- the block at an offset with the first n of the words after the start word as its item words,
--- where the bytes that it was read from are bytes
+-- where the numbers that it was read from are bytes
 abbrev pub framed_block : ℕ → List ℕ → List ℕ → ℕ → Option BlockView
 framed_block x bytes ws n =
     if are_bytes (take (4 * n + 16) bytes)

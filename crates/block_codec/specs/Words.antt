@@ -1,5 +1,5 @@
--- Words of 32 bits as four bytes each, the lowest byte first, as the RP2350 Datasheet has them
--- (chapter 5, Bootrom, "Blocks and block loops").
+-- Words of 32 bits as four bytes each, the lowest byte first (RP2350 Datasheet, chapter 5,
+-- Bootrom, "Blocks and block loops").
 use Rattle.std.specs.Prelude.{ℕ, ◌/◌, ◌%◌, ◌^◌, ◌<◌, Bool, nat_lt, List, [], ◌∷◌}
 use Rattle.std.specs.List.{flat_map, list_all, AllByRecursion}
 use Rattle.byteorder.specs.Endian.{little_bytes, little_number}

@@ -1,4 +1,4 @@
-//! The record of an image definition, which stands here since several readers of blocks share it.
+//! The record of an image definition. It stands here since several readers of blocks share it.
 
 ghost use Rattle.std.specs.Prelude.{◌≡◌};
 

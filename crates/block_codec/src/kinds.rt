@@ -62,7 +62,7 @@ pub fn hash_count(block: &Block, item: &Item) -> Option<u32>
     }
 }
 
-/// The bytes of the eight words of an item behind its header, in order.
+/// The bytes of the eight words of an item after its header, in order.
 fn digest_bytes(block: &Block, item: &Item) -> ArrayVec<u8, 32>
     requires of_block { Contains (items_of block.now.items) item.now }
     requires size { item.now.words ≡ 9 }

@@ -12,7 +12,7 @@ use arrayvec::ArrayVec;
 use byteorder::{ByteOrder, LittleEndian};
 use std::alloc::Global;
 
-/// The least place at which an item begins whose type or size is wrong, where there is one.
+/// The lowest place at which an item of a wrong type or size begins, where there is one.
 fn first_bad(items: &[u32]) -> Option<u32>
     requires { length items.now ≤ 156 }
     ensures found { IfSome result (λ i. IsBadAt items.now i) }

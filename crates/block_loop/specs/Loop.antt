@@ -1,7 +1,7 @@
--- Block loops, by the rules of the RP2350 Datasheet (chapter 5, Bootrom, "Blocks and block loops"):
--- as relations over whole chains of blocks, and as the function that goes from link to link. That
--- the first block may end past offset 4096, and that a loop has at most 32 blocks, is this
--- project's own.
+-- Block loops, by the rules of the RP2350 Datasheet (chapter 5, Bootrom, "Blocks and block
+-- loops"): as relations over whole chains of blocks, and as the function that goes from link to
+-- link. Two limits are this project's own: the first block may end past offset 4096, and a loop
+-- has at most 32 blocks.
 use Rattle.std.specs.Prelude.{◌≡◌, ◌≢◌, ℕ, zero, suc, ◌+◌, ◌-◌, ◌<◌, ◌≤◌, ◌==◌, ◌&&◌, nat_lt, Bool, true, false, ℤ, pos, negsuc, ◌+ℤ◌, List, [], ◌∷◌, ◌++◌, length, drop, slice_get, Option, Some, None, Result, Ok, Err}
 use Rattle.std.specs.List.{position_from}
 use Rattle.block_codec.specs.Blocks.{BlockView, BlockAt, block_size}
@@ -17,7 +17,7 @@ target b = pos b.at +ℤ b.link
 abbrev pub shares : BlockView → BlockView → Bool
 shares a b = nat_lt a.at (b.at + block_size b) && nat_lt b.at (a.at + block_size a)
 
--- the block stands at the least offset below 4096 at which a block stands in w
+-- the block stands at the lowest offset below 4096 at which a block stands in w
 pub record IsFirstBlock (w : List ℕ) (b : BlockView) : Type 0 where
   pub stands : BlockAt w b.at b
   pub low : b.at < 4096
@@ -71,14 +71,14 @@ IsLoopFault w (Overlap i j) =
     (bs : List BlockView) × IsOpenChain w bs × (length bs ≡ j) × (j < 32)
     × ((c : BlockView) × IsNextBlock w bs c × IsFirstShared bs c i)
 
--- the first block at one of the next n multiples of 4 from offset x on, where the bytes from x on
--- are given
+-- the first block at one of the next n multiples of 4 from offset x on; the list has the bytes
+-- from x on
 unfoldable pub block_from : ℕ → ℕ → List ℕ → Option BlockView
 block_from zero x bytes = None
 block_from (suc n) x bytes =
     elim (front_block x bytes) [ Some b ↦ Some b | None ↦ block_from n (x + 4) (drop 4 bytes) ]
 
--- the first block of a window: the one at the least multiple of 4 below 4096
+-- the first block of a window: the one at the lowest multiple of 4 below 4096
 abbrev pub first_block : List ℕ → Option BlockView
 first_block w = block_from 1024 0 w
 
@@ -96,8 +96,8 @@ is_offset (negsuc n) y = false
 abbrev pub first_shared : List BlockView → BlockView → Option ℕ
 first_shared bs c = position_from (λ (b : BlockView). shares b c) 0 bs
 
--- the loop or its fault, where the blocks bs were found already, the first at offset x and the last
--- of them z, and at most n more may come
+-- the loop or its fault, where the blocks bs were found already and at most n more may come; the
+-- first of bs stands at offset x, and z is the last
 unfoldable pub follow : ℕ → List ℕ → ℕ → List BlockView → BlockView
     → Result (List BlockView) LoopFault
 follow zero w x bs z = elim (is_offset (target z) x) [ true ↦ Ok bs | false ↦ Err TooMany ]

@@ -8,7 +8,7 @@ ghost use Rattle.block_loop.specs.Loop.{first_block, block_at_offset};
 use block_codec::{Block, read_block};
 use pico_board::View;
 
-/// The block at an offset of the view, whose bytes are read into the piece, as many as a block can
+/// The block at an offset of the view. Its bytes are read into the piece, as many as a block can
 /// have.
 fn block_in<V: View>(view: &V, at: u32, piece: &mut [u8]) -> Option<Block>
     requires inside { at < length (V.bytes view.now) }
@@ -51,7 +51,7 @@ pub(crate) fn block_to<V: View>(view: &V, to: i64) -> Option<Block>
     block_at(view, to as u32)
 }
 
-/// The first block of the view: the one at the least multiple of 4 below 4096.
+/// The first block of the view: the one at the lowest multiple of 4 below 4096.
 pub(crate) fn first_block<V: View>(view: &V) -> Option<Block>
     ensures exact { result ≡ first_block (V.bytes view.now) }
     ensures whole { IfSome result (λ b. IsWholeBlock b) }

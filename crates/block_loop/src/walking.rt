@@ -93,8 +93,8 @@ fn loop_in<V: View>(view: &V) -> Result<BlockLoop, LoopFault>
     }
 }
 
-/// The loop of a view's blocks: from its first block along the links, back to the first. Each fault
-/// comes exactly where the view has it in place of a loop.
+/// The loop of a view's blocks: from its first block along the links, back to the first. Each
+/// fault comes exactly where the view has it in place of a loop.
 pub fn walk<V: View>(view: &V) -> Result<BlockLoop, LoopFault>
     ensures exact { result ≡ loop_offsets (loop_of (V.bytes view.now)) }
     ensures loop_ { IfOk result (λ offsets. AreLoop (V.bytes view.now) offsets) }

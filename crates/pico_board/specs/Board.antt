@@ -8,8 +8,8 @@ use Rattle.pico_board.specs.Cuts.{Cut, CutOutcome, cut_step, cut_steps}
 use Rattle.pico_board.specs.Histories.{Extends}
 
 -- what is known of a board: its content, whether it is powered, how often power was lost, and its
--- armed cut, where the outer option is None for a board that does not tell it and the inner one is
--- None where no cut is armed
+-- armed cut; the outer option is None for a board that does not tell its armed cut; the inner
+-- option is None where no cut is armed
 pub record State : Type 0 where
   pub content : Content
   pub powered : Bool
@@ -26,14 +26,14 @@ pub record HasCutOutcome (o : CutOutcome) (ok : Bool) (t : State) : Type 0 where
   pub content : t.content ≡ o.content
   pub armed : t.armed ≡ Some o.armed
 
--- a board that tells its armed cut does with the step what the cut says, and tells the cut that is
--- armed afterwards; a board that does not tell its cut does not tell it afterwards either
+-- a board that tells its armed cut does with the step what the cut says, and tells the next armed
+-- cut; a board that does not tell its cut does not tell it afterwards either
 abbrev pub IsCutAsArmed : Option (Option Cut) → Content → Step → Bool → State → Type 0
 IsCutAsArmed None c step ok t = t.armed ≡ None
 IsCutAsArmed (Some cut) c step ok t = HasCutOutcome (cut_step cut c step) ok t
 
--- a board that tells its armed cut does with a list of steps what the cut says, and tells the cut
--- that is armed afterwards; a board that does not tell its cut does not tell it afterwards either
+-- a board that tells its armed cut does with a list of steps what the cut says, and tells the next
+-- armed cut; a board that does not tell its cut does not tell it afterwards either
 abbrev pub AreCutAsArmed : Option (Option Cut) → Content → List Step → Bool → State → Type 0
 AreCutAsArmed None c steps ok t = t.armed ≡ None
 AreCutAsArmed (Some cut) c steps ok t = HasCutOutcome (cut_steps steps cut c) ok t
@@ -41,7 +41,8 @@ AreCutAsArmed (Some cut) c steps ok t = HasCutOutcome (cut_steps steps cut c) ok
 -- The old board does the step and is then the new one. Where the answer is Ok, the step completed,
 -- the board is powered, and the step is appended to the history. Otherwise power was lost in the
 -- step, the board is not powered, and the count of cuts rose (it saturates). The flash keeps its
--- length, the count of cuts never falls, and where the board tells its armed cut, that cut decides.
+-- length, and the count of cuts never falls. Where the board tells its armed cut, that cut
+-- decides.
 pub record Does {B : Type 0} (state : B → State) (history : B → List Step → Type 0) (old : B)
     (step : Step) (ok : Bool) (new : B) : Type 0 where
   pub done : OnTrue ok ((state new).content ≡ after (state old).content step)

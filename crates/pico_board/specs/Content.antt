@@ -10,15 +10,15 @@ pub record Content : Type 0 where
   pub flash : List ℕ
   pub otp : List ℕ
 
--- a flash has whole sectors of 4096 bytes, at least two of them and at most 4096 (RP2350 Datasheet,
--- section 4.4: 16 MiB a chip select)
+-- a flash has whole sectors of 4096 bytes, at least two of them and at most 4096 (RP2350
+-- Datasheet, section 4.4: 16 MiB a chip select)
 pub record IsFlashLength (n : ℕ) : Type 0 where
   pub whole : n % 4096 ≡ 0
   pub least : 8192 ≤ n
   pub most : n ≤ MOST_FLASH_BYTES
 
--- a content has a flash of whole sectors, whose elements are bytes, and 4096 rows of 24 bits
--- (RP2350 Datasheet, chapter 13, OTP)
+-- a content has a flash of whole sectors, made of bytes, and 4096 rows of 24 bits (RP2350
+-- Datasheet, chapter 13, OTP)
 pub record IsContent (c : Content) : Type 0 where
   pub flash_length : IsFlashLength (length c.flash)
   pub flash_bytes : All (λ b. b < 256) c.flash

@@ -1,10 +1,10 @@
--- The armed cut of a board that tells it, as a test bench has it.
+-- The armed cut of a board that tells its cut, as a test bench has it.
 use Rattle.std.specs.Prelude.{◌≡◌, ℕ, ◌+◌, ◌-◌, ◌*◌, ◌%◌, ◌≤◌, ◌==◌, Bool, true, false, if◌then◌else◌, Option, None, Some, List, [], ◌∷◌, length, slice_index, slice_set, bit_and, bit_or, bit_xor}
 use Rattle.pico_board.specs.Content.{Content}
 use Rattle.pico_board.specs.Steps.{Step, Erase, Program, Raise, changed, after}
 
--- a cut that is armed: the steps that complete before it, whether it falls within the next step or
--- before it, and the pattern that a cut within leaves
+-- a cut that is armed: how many steps complete before the cut, and whether it falls within the
+-- next step or before it; a cut within a step leaves the pattern
 pub record Cut : Type 0 where
   pub left : ℕ
   pub within : Bool
@@ -28,8 +28,9 @@ abbrev pub pattern_row : List ℕ → ℕ
 pattern_row pattern =
     pattern_at pattern 0 + 256 * pattern_at pattern 1 + 65536 * pattern_at pattern 2
 
--- what a cut within the step leaves: an erase the pattern's bytes, a program `old & (d | pattern)`,
--- and a raise `row | (bits & !pattern)`, the complement being that of 24 bits
+-- what a cut within the step leaves: of an erase the pattern's bytes, of a program
+-- `old & (d | pattern)`, and of a raise `row | (bits & !pattern)`, where `!` is the complement of
+-- 24 bits
 abbrev pub torn_by : List ℕ → Content → Step → Content
 torn_by pattern c (Erase s) =
     record { flash = changed (λ i b. pattern_at pattern i) (4096 * s) 4096 c.flash; otp = c.otp }
@@ -60,8 +61,8 @@ pub record CutOutcome : Type 0 where
 abbrev pub nearer : Cut → Cut
 nearer cut = record { left = cut.left - 1; within = cut.within; pattern = cut.pattern }
 
--- a step: power is lost exactly where the cut has no step left, which leaves what the cut does and
--- no cut armed; a completed step takes one from the steps left
+-- a step: power is lost exactly where the cut has no step left; then what the cut does is left,
+-- and no cut is armed; a completed step takes one from the steps left
 abbrev pub cut_step : Option Cut → Content → Step → CutOutcome
 cut_step None c step = record { answer = true; content = after c step; armed = None }
 cut_step (Some cut) c step =

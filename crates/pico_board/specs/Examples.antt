@@ -30,8 +30,8 @@ first_sector_steps page = Program 32 page ∷ []
 abbrev pub two_pages : List ℕ → List ℕ → List Step
 two_pages page other = Erase 2 ∷ Erase 3 ∷ Program 48 other ∷ Program 32 page ∷ []
 
--- what is left of a content when power is lost in the last of these steps, which is torn by the
--- pattern 0x0f: it clears no bit among the low four of a byte
+-- what is left of a content when power is lost in the last of these steps; the pattern 0x0f tears
+-- this step: it clears no bit among the low four of a byte
 abbrev pub half_done : Content → List ℕ → List ℕ → Content
 half_done c page other = cut_by (cut_with 0 true (0x0f ∷ []))
     (after_all c (Erase 2 ∷ Erase 3 ∷ Program 48 other ∷ [])) (Program 32 page)
@@ -67,8 +67,8 @@ counting_store reads writes steady = record {
 abbrev pub putting : ℕ → Bool → SinkState
 putting faults steady = record { bytes = Some (1 ∷ []); faults = faults; steady = steady }
 
--- the first takes a put of no byte with this answer, and is then the second; of what was put before
--- nothing is known
+-- the first takes a put of no byte with this answer, and is then the second; of what was put
+-- before nothing is known
 abbrev pub TakesNothing : SinkState → Result (Unit {0}) SinkFail → SinkState → Type 0
 TakesNothing old answer new =
     Takes (λ s. s) (λ s puts. ⊤) old (record { bytes = []; answer = answer }) new

@@ -19,8 +19,8 @@ file_of [] name = None
 file_of (file ∷ files) name =
     if bytes_eq file.name name then Some file.bytes else file_of files name
 
--- what is known of a store: its files, where it tells them; how many reads and how many writes were
--- at fault; and whether it is steady, that is, tells that it has no faults of its own
+-- what is known of a store: its files, where it tells them; how many reads and how many writes
+-- were at fault; and whether it is steady, that is, tells that it has no faults of its own
 pub record StoreState : Type 0 where
   pub files : Option (List File)
   pub read_faults : ℕ
@@ -44,8 +44,8 @@ pub record GoesOn (s t : StoreState) : Type 0 where
   pub writes : s.write_faults ≤ t.write_faults
   pub steady : OnTrue s.steady (IsTrue t.steady)
 
--- what was read is the first `limit + 1` bytes of the file of this name, which the told files have,
--- or all where it has fewer; where no files are told, it is at most so many bytes
+-- what was read is the first `limit + 1` bytes of the file of this name, or all where it has
+-- fewer; the told files have this name; where no files are told, it is at most `limit + 1` bytes
 abbrev pub IsReadOf : Option (List File) → List ℕ → ℕ → List ℕ → Type 0
 IsReadOf None name limit read = length read ≤ limit + 1
 IsReadOf (Some files) name limit read =
@@ -87,9 +87,10 @@ pub record ShowsRead (s : StoreState) (name : List ℕ) (limit : ℕ)
   pub steady : IsTrue s.steady → answer ≡ Err Fault → Lacks s.files name
   pub files : t.files ≡ s.files
 
--- What a store shows after a write with this answer: after Ok the bytes stand under the name; after
--- an error nothing is known of that name; other names keep what they have. Where the write is at
--- fault, the count of faults rose (it saturates). A write of a steady store is never at fault.
+-- What a store shows after a write with this answer: after Ok the bytes stand under the name;
+-- after an error nothing is known of that name; other names keep what they have. Where the write
+-- is at fault, the count of faults rose (it saturates). A write of a steady store is never at
+-- fault.
 pub record ShowsWrite (s : StoreState) (name bytes : List ℕ) (answer : Result (Unit {0}) StoreFail)
     (t : StoreState) : Type 0 where
   pub ok : OnOk answer (IsWritten s.files name bytes t.files)
@@ -109,8 +110,8 @@ pub record Serves {S : Type 0} (state : S → StoreState) (history : S → List 
   pub counts : GoesOn (state old) (state new)
   pub recorded : Extends history old (call ∷ []) new
 
--- the old store answers these calls, in their order, and is then the new one; each call is appended
--- to the history
+-- the old store answers these calls, in their order, and is then the new one; each call is
+-- appended to the history
 abbrev pub ServesAll : {S : Type 0} → (S → StoreState) → (S → List Access → Type 0) → S
     → List Access → S → Type 0
 ServesAll state history old [] new = new ≡ old

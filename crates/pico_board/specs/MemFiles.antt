@@ -61,8 +61,8 @@ is_write (Writes name bytes answer) = true
 abbrev pub counted_to : ℕ → ℕ
 counted_to n = min n (2 ^ 64 - 1)
 
--- A store in memory may have answered these calls: it has counted as many reads and as many writes.
--- It keeps no more of them.
+-- A store in memory may have answered these calls: it has counted as many reads and as many
+-- writes. It keeps no more of them.
 pub record HasAnswered (store : MemStore) (calls : List Access) : Type 0 where
   pub reads : reads_of store ≡ counted_to (count_by is_read calls)
   pub writes : writes_of store ≡ counted_to (count_by is_write calls)
@@ -95,8 +95,8 @@ appended bytes (Err fail) = []
 abbrev pub appended_by : Put → List ℕ
 appended_by put = appended put.bytes put.answer
 
--- A sink in memory may have answered these puts: it has counted as many, and its bytes are those of
--- the ones that succeeded.
+-- A sink in memory may have answered these puts: it has counted as many, and its bytes are those
+-- of the ones that succeeded.
 pub record HasTakenPuts (sink : MemSink) (puts : List Put) : Type 0 where
   pub number : puts_of sink ≡ counted_to (length puts)
   pub bytes : put_bytes sink ≡ flat_map appended_by puts

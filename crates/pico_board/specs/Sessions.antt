@@ -39,7 +39,7 @@ pages_of (Erase s ∷ steps) = pages_of steps
 pages_of (Program p d ∷ steps) = p ∷ pages_of steps
 pages_of (Raise r b ∷ steps) = pages_of steps
 
--- the steps are confined to the window and are the erase of its first sector s, then steps
+-- the steps are confined to the window: first the erase of its first sector s, then steps
 -- elsewhere, and then programs of different pages of that sector
 pub record IsGated (steps : List Step) (w : Window) (s : ℕ)
     (elsewhere last : List Step) : Type 0 where
@@ -50,13 +50,13 @@ pub record IsGated (steps : List Step) (w : Window) (s : ℕ)
   pub final : AllByRecursion (IsProgramIn s) last
   pub distinct : IsDistinct nat_eq (pages_of last)
 
--- the list is empty, or it is confined, begins with the erase of the window's first sector, goes on
--- with steps elsewhere and ends with programs of different pages of the first sector
+-- the list is empty, or it is confined and has three parts: the erase of the window's first
+-- sector, steps elsewhere, and programs of different pages of the first sector
 abbrev pub Gated : List Step → Window → Type 0
 Gated steps w = (steps ≡ []) ⊎
     ((s : ℕ) × (elsewhere : List Step) × (last : List Step) × IsGated steps w s elsewhere last)
 
--- d is neither the content before the steps nor the one after them, and some byte of the window's
+-- d is neither the content before the steps nor the one after them; some byte of the window's
 -- first sector in d is not 0xff
 pub record Unfinished (c : Content) (steps : List Step) (w : Window) (d : Content) : Type 0 where
   pub moved : d ≢ c
@@ -86,8 +86,8 @@ pub record SameButSector (s : ℕ) (c d : Content) : Type 0 where
   pub rows : d.otp ≡ c.otp
 
 -- power was lost in the program of page p of sector s, the last sector written: d is the finished
--- content z but for sector s, whose other pages are each 0xff or z's, and page p lies bit by bit
--- between 0xff and z's
+-- content z but for sector s; page p of this sector lies bit by bit between 0xff and z's; each
+-- other page of it is 0xff or z's
 pub record IsClosing (z : Content) (s p : ℕ) (d : Content) : Type 0 where
   pub same : SameButSector s z d
   pub page : IsPageOf s p

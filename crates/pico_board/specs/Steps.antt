@@ -22,13 +22,13 @@ changed_from k f at n [] = []
 changed_from k f at n (x ∷ xs) =
     (if nat_le at k && nat_lt k (at + n) then f (k - at) x else x) ∷ changed_from (k + 1) f at n xs
 
--- the list whose n elements from `at` on are changed by f, which takes the place in the range and
--- what was there
+-- the list with its n elements from `at` on changed by f; f takes the place in the range and what
+-- was there
 abbrev pub changed : (ℕ → ℕ → ℕ) → ℕ → ℕ → List ℕ → List ℕ
 changed f at n xs = changed_from 0 f at n xs
 
--- the content after the step: an erase makes each byte of its sector 0xff, a program makes each
--- byte b of its page `b & d`, and a raise makes its row v `v | b`
+-- the content after the step: an erase makes each byte of its sector 0xff; a program makes each
+-- byte b of its page `b & d`; a raise makes its row v `v | b`
 abbrev pub after : Content → Step → Content
 after c (Erase s) = record { flash = changed (λ i b. 255) (4096 * s) 4096 c.flash; otp = c.otp }
 after c (Program p d) = record
@@ -51,14 +51,14 @@ pub record SameOutside (at n : ℕ) (old new : List ℕ) : Type 0 where
   pub below : (i : ℕ) → i < at → slice_index new i ≡ slice_index old i
   pub above : (i : ℕ) → at + n ≤ i → slice_index new i ≡ slice_index old i
 
--- an erase that power was lost in leaves any bytes in its sector, and all else as it was
+-- power was lost in an erase: its sector has any bytes, and all else is as it was
 pub record TornErase (c : Content) (s : ℕ) (d : Content) : Type 0 where
   pub outside : SameOutside (4096 * s) 4096 c.flash d.flash
   pub bytes : (i : ℕ) → i < 4096 → slice_index d.flash (4096 * s + i) < 256
   pub rows : d.otp ≡ c.otp
 
--- a program that power was lost in leaves each bit of its page as it was or as the program would
--- leave it, and all else as it was
+-- power was lost in a program: each bit of its page is as it was or as the program would leave it;
+-- all else is as it was
 pub record TornProgram (c : Content) (p : ℕ) (bytes : List ℕ) (d : Content) : Type 0 where
   pub outside : SameOutside (256 * p) 256 c.flash d.flash
   pub between : (i : ℕ) → i < 256
@@ -67,16 +67,16 @@ pub record TornProgram (c : Content) (p : ℕ) (bytes : List ℕ) (d : Content) 
       (slice_index d.flash (256 * p + i))
   pub rows : d.otp ≡ c.otp
 
--- a raise that power was lost in leaves each bit of its row as it was or as the raise would leave
--- it, and all else as it was
+-- power was lost in a raise: each bit of its row is as it was or as the raise would leave it; all
+-- else is as it was
 pub record TornRaise (c : Content) (r b : ℕ) (d : Content) : Type 0 where
   pub outside : SameOutside r 1 c.otp d.otp
   pub between : IsBetween (slice_index c.otp r) (slice_index (after c (Raise r b)).otp r)
       (slice_index d.otp r)
   pub bytes : d.flash ≡ c.flash
 
--- d is a content that the loss of power in the step may leave; where the range stays as in c, power
--- was lost before the step
+-- d is a content that the loss of power in the step may leave; where the range stays as in c,
+-- power was lost before the step
 abbrev pub Torn : Content → Step → Content → Type 0
 Torn c (Erase s) d = TornErase c s d
 Torn c (Program p bytes) d = TornProgram c p bytes d
@@ -88,8 +88,8 @@ abbrev pub CutOf : Content → List Step → Content → Type 0
 CutOf c [] d = ⊥
 CutOf c (step ∷ steps) d = Torn c step d ⊎ CutOf (after c step) steps d
 
--- d is a content that the steps may leave: that after all of them, or one that the loss of power in
--- one of them leaves
+-- d is a content that the steps may leave: that after all of them, or one that the loss of power
+-- in one of them leaves
 abbrev pub MayLeave : Content → List Step → Content → Type 0
 MayLeave c steps d = (d ≡ after_all c steps) ⊎ CutOf c steps d
 
@@ -109,8 +109,8 @@ pub record IsRaisedIn (c d z : Content) : Type 0 where
   pub former : (i : ℕ) → HasBitsOf (slice_index d.otp i) (slice_index c.otp i)
   pub later : (i : ℕ) → HasBitsOf (slice_index z.otp i) (slice_index d.otp i)
 
--- the step is number k, counted from 0, and d is left when the steps before it are done and power
--- is lost in it
+-- the step is number k, counted from 0; d is left when the steps before it are done and power is
+-- lost in it
 pub record IsCutAt (c : Content) (steps : List Step) (k : ℕ) (step : Step)
     (d : Content) : Type 0 where
   pub stands : slice_get steps k ≡ Some step

@@ -1,4 +1,4 @@
--- The supply of a board in memory: the cut that is armed, and whether it falls due.
+-- The power of a board in memory: the cut that is armed, and whether it falls due.
 use Rattle.std.specs.Prelude.{◌==◌, Bool, if◌then◌else◌, Option, None, Some}
 use Rattle.pico_board.specs.declared.supply.Supply.{Supply}
 use Rattle.pico_board.specs.Cuts.{Cut, cut_with}

@@ -1,5 +1,5 @@
--- The bytes of a window are a view. It is a proof, and stands here since the view of a window
--- gives it out.
+-- The bytes of a window are a view. This is a proof, and stands here since the view of a window
+-- hands it to its callers.
 use Rattle.std.specs.Prelude.{ℕ, ◌<◌, ◌≤◌, ◌+◌, length}
 use Rattle.std.proofs.Common.{◌≡◌, ◌-◌, arith, sym, subst}
 use Rattle.std.proofs.lemmas.List.Edits.{length-between, get_or-between}

@@ -1,5 +1,5 @@
-//! The board: a flash and an OTP that are read, and written by steps of which each completes or is
-//! torn by a lost supply.
+//! The board: a flash and an OTP that are read, and that are written by steps. Each step
+//! completes, or a loss of power tears it.
 
 ghost use Rattle.std.specs.Prelude.{◌≡◌, ◌+◌, ◌*◌, ◌^◌, ◌<◌, ◌≤◌, List, length, IsTrue, is_ok, slice_index, slice_range};
 ghost use Rattle.pico_board.specs.Content.{IsContent};
@@ -17,8 +17,9 @@ pub struct PowerLost;
 
 /// A board: its flash, its OTP, whether it is powered, and how often power was lost.
 ///
-/// `erase`, `program` and `raise` are the atomic steps. Each answers Ok with the step completed and
-/// the board powered, or PowerLost with the step torn and the board not powered. Reads cannot fail.
+/// `erase`, `program` and `raise` are the atomic steps. Each answers Ok with the step completed
+/// and the board powered, or PowerLost with the step torn and the board not powered. Reads cannot
+/// fail.
 pub trait Board {
     ghost state: { Self → State };
 
@@ -68,10 +69,11 @@ pub trait Board {
     ghost is_content: { (board : Self) → IsContent (state board).content };
 }
 
-/// A board on a test bench, whose supply can be cut and can come back.
+/// A board on a test bench, whose power can be cut and can come back.
 pub trait Bench: Board {
     /// Arms a cut in place of a former one: the step after `after` further completed steps loses
-    /// power, within it or before it. A cut within leaves what the pattern says. It needs no power.
+    /// power, within it or before it. A cut within leaves what the pattern says. It needs no
+    /// power.
     fn arm_cut(&mut self, after: u32, within: bool, pattern: &[u8])
         requires { IsPattern within pattern.now }
         ensures { Becomes Self.state Self.history self.old

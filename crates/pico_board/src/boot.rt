@@ -1,7 +1,7 @@
 //! The processor that boots, and the kind of a boot.
 
-/// The processor that an image is for: the RP2350 has Arm Cortex-M33 cores and Hazard3 RISC-V cores
-/// (RP2350 Datasheet, chapter 3).
+/// The processor that an image is for: the RP2350 has Arm Cortex-M33 cores and Hazard3 RISC-V
+/// cores (RP2350 Datasheet, chapter 3).
 #[derive(Clone, Copy, Debug, PartialEq, Eq)]
 pub enum Cpu {
     /// The Arm cores.
@@ -17,7 +17,7 @@ pub enum BootKind {
     Normal,
     /// A boot into the BOOTSEL mode.
     Bootsel,
-    /// A flash update boot, with the address of the updated region: 0x10000000 and more is in
+    /// A flash update boot, with the address of the updated region: 0x10000000 and above is in
     /// flash.
     Update(u32),
 }

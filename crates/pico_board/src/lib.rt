@@ -1,6 +1,6 @@
-//! The board of the RP2350 as its boot decision sees it: flash and OTP, the three writes that can
-//! be torn by a lost supply, views of flash windows, and the store and the sink of a program's
-//! files and text.
+//! The board of the RP2350 as its boot decision sees it: flash and OTP, and the three writes that
+//! a loss of power can tear. Also here are views of flash windows, and the store and the sink of a
+//! program's files and text.
 #![tactic(auto)]
 
 mod board;

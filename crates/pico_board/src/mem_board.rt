@@ -17,13 +17,13 @@ use thiserror::Error;
 /// Why a board in memory was not made.
 #[derive(Clone, Copy, Debug, PartialEq, Eq, Error)]
 pub enum BoardError {
-    /// The flash has not whole sectors of 4096 bytes, at least two and at most 4096 of them.
+    /// The flash does not have whole sectors of 4096 bytes, at least two and at most 4096 of them.
     #[error("the flash has no length of a flash")]
     BadFlashLength,
     /// There are not 4096 OTP rows.
     #[error("there are not 4096 OTP rows")]
     BadOtpLength,
-    /// The least OTP row that has more than 24 bits.
+    /// The lowest OTP row that has more than 24 bits.
     #[error("OTP row {0:#05x} has more than 24 bits")]
     OtpRowWide(u32),
     /// There was no memory.
@@ -31,8 +31,8 @@ pub enum BoardError {
     Memory,
 }
 
-/// A board in memory, on a bench. It tells its armed cut, and loses power exactly where that falls
-/// due.
+/// A board in memory, on a bench. The board tells its armed cut, and loses power exactly where
+/// this cut falls due.
 #[derive(Drop)]
 pub struct MemBoard {
     flash: Vec<u8>,
@@ -48,7 +48,7 @@ fn is_flash_length(n: usize) -> bool
     n % SECTOR as usize == 0 && n >= 2 * SECTOR as usize && n <= MOST_FLASH_BYTES
 }
 
-/// The least row that has more than 24 bits.
+/// The lowest row that has more than 24 bits.
 fn first_wide(rows: &[u32]) -> Option<u32>
     requires { length rows.now ≤ 4096 }
     ensures { MatchOption result (All (λ v. v < 2 ^ 24) rows.now) (IsFirstWide rows.now) }

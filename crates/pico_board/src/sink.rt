@@ -16,8 +16,8 @@ pub enum SinkFail {
     Memory,
 }
 
-/// Takes bytes in order. A sink may tell the bytes that were put so far, and one that does may also
-/// be steady, that is, tell that no put of it is ever at fault.
+/// Takes bytes in order. A sink may tell the bytes that were put so far. Such a sink may also be
+/// steady: no put of a steady sink is ever at fault.
 pub trait Sink {
     ghost state: { Self → SinkState };
 

@@ -16,8 +16,8 @@ pub enum StoreFail {
     Memory,
 }
 
-/// Files by name. A store may tell its files, and one that does may also be steady, that is, tell
-/// that it faults only on a read of a missing name.
+/// Files by name. A store may tell its files. Such a store may also be steady: a steady store
+/// faults only on a read of a missing name.
 pub trait Store {
     ghost state: { Self → StoreState };
 

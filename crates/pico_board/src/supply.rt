@@ -1,4 +1,4 @@
-//! The supply of a board in memory: its power, its armed cut, and what it counts.
+//! The power of a board in memory: whether it is on, the armed cut, and what is counted.
 
 ghost use Rattle.std.specs.Prelude.{◌≡◌, ◌+◌, ◌-◌, ◌^◌, ◌<◌, ◌≤◌, min, true, false, All, IfOk, IsTrue, length, None, Some, option_map, vec_capacity};
 
@@ -7,8 +7,8 @@ use std::alloc::{AllocError, Global};
 /// The most bytes of a pattern.
 const PATTERN: usize = 4096;
 
-/// The supply: its power, the cut that is armed, and what it counts. The room for a pattern is
-/// taken when it is made.
+/// Whether power is on, the cut that is armed, and what is counted. The room for a pattern is
+/// taken when this is made.
 #[derive(Drop)]
 pub struct Supply {
     pub powered: bool,
@@ -27,7 +27,7 @@ impl Supply {
     ghost use Rattle.pico_board.specs.Cuts.{IsPattern, cut_with, nearer};
     ghost use Rattle.pico_board.specs.Supply.{armed_of, due_of};
 
-    /// A powered supply with no cut armed, which has counted nothing.
+    /// Power is on, no cut is armed, and nothing is counted yet.
     pub fn new(alloc: Global) -> Result<Supply, AllocError>
         ensures armed { IfOk result (λ s. armed_of s ≡ None) }
         ensures powered { IfOk result (λ s. s.powered ≡ true) }

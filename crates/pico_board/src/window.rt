@@ -1,7 +1,7 @@
 //! The flash as the processors see it, windows of it, and the units of flash and OTP.
 
-/// The address at which the first byte of the flash is seen (RP2350 Datasheet, section 2.2, Address
-/// map).
+/// The address at which the first byte of the flash is seen (RP2350 Datasheet, section 2.2,
+/// Address map).
 pub const FLASH_BASE: u32 = 0x1000_0000;
 /// The most bytes of a flash: 16 MiB, those of a chip select (RP2350 Datasheet, section 4.4).
 pub const MOST_FLASH_BYTES: usize = 16_777_216;
@@ -16,8 +16,8 @@ pub const SMALLEST_SLOT: u32 = SECTOR;
 /// The rows of the OTP (RP2350 Datasheet, chapter 13, OTP).
 pub const ROWS: u32 = 4096;
 
-/// A range of the flash: `len` bytes from the byte `start` on, both in bytes. Offset x of a window
-/// is seen by the processors at the address `0x10000000 + x` (RP2350 Datasheet, section 12.14, QMI
+/// A range of the flash: `len` bytes from the byte `start` on, both in bytes. The processors see
+/// offset x of a window at the address `0x10000000 + x` (RP2350 Datasheet, section 12.14, QMI
 /// address translation; chapter 5, Bootrom).
 #[derive(Clone, Copy, Default, Debug, PartialEq, Eq)]
 pub struct Window {

@@ -14,9 +14,9 @@ pub record KeepsOutBut (k : ℕ) (old new : Pool) : Type 0 where
   pub kept : (j : ℕ) → j ≢ k → slice_get old.out j ≡ Some true
       → slice_get new.sectors j ≡ slice_get old.sectors j
 
--- the caller had one lease or none and now has another one, the same or none: the one that it has
--- is out, and was free before where it is another; the one that it had and has no more is free;
--- every other number is as it was, and every sector of these that is out keeps its bytes
+-- the caller had one lease or none, and now has another one, the same one or none: the lease that
+-- it has is out, and was free before where it is another one; a lease that it has no more is free;
+-- every other number is as it was, and where it is out, its sector keeps its bytes
 pub record HandsOver (had has : Option ℕ) (old new : Pool) : Type 0 where
   pub mine : (k : ℕ) → has ≡ Some k → slice_get new.out k ≡ Some true
   pub fresh : (k : ℕ) → has ≡ Some k → had ≢ Some k → slice_get old.out k ≡ Some false

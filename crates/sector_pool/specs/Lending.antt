@@ -4,6 +4,6 @@ use Rattle.std.specs.Borrow.{Lends, MutBor, Fml, Array, u8}
 use Rattle.sector_pool.specs.Pool.{Pool, pool_with_sector}
 use Rattle.sector_pool.specs.contracts.pool.SectorPool.{the_row}
 
--- the pool ends with the last bytes behind the result in sector k, and is otherwise as it was
+-- the pool ends with the last bytes of the result in sector k, and is otherwise as it was
 abbrev pub LendsSector : MutBor Pool → ℕ → MutBor (List ℕ) → Fml
 LendsSector pool k result = Lends the_row (Array u8 0) pool result (pool_with_sector pool.now k)

@@ -69,7 +69,7 @@ impl SectorPool {
         self.out.iter().filter(|is_out| !**is_out).count() as u32
     }
 
-    /// Lends the free sector of the least number, with all its bytes 0xff. None exactly where all
+    /// Lends the free sector of the lowest number, with all its bytes 0xff. None exactly where all
     /// are out.
     pub fn lease(&mut self) -> Option<Lease>
         ensures none { IsNone result ↔ All (λ is_out. is_out ≡ true) self.old.out }
@@ -86,7 +86,7 @@ impl SectorPool {
         self.take_least()
     }
 
-    /// The lease of the least free number, as [`SectorPool::lease`] gives it.
+    /// The lease of the lowest free number, as [`SectorPool::lease`] gives it.
     #[tactic(auto, unfolding(crate::specs::Pool::erased))]
     fn take_least(&mut self) -> Option<Lease>
         ensures none { IsNone result ↔ All (λ is_out. is_out ≡ true) self.old.out }

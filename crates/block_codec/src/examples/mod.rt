@@ -59,8 +59,8 @@ pub fn headers_of_items()
     ensures none { headers_of [] ≡ [] }
 {}
 
-/// A VERSION item has two words without rows, and otherwise a word more for each two of the
-/// rollback version and the rows; minor is the low half of its version word and major the high
+/// A VERSION item has two words without rows. With rows it has a word more for each two of the
+/// rollback version and the rows. Minor is the low half of its version word and major the high
 /// half.
 #[tactic(auto, unfolding(crate::specs::Items::size_of))]
 pub fn versions_of_items()
@@ -76,8 +76,8 @@ pub fn versions_of_items()
         ≡ None }
 {}
 
-/// A HASH_DEF item has two words and names SHA-256 by a fourth byte of 1; its number of words is
-/// the low half of the word behind its header.
+/// A HASH_DEF item has two words and names SHA-256 by a fourth byte of 1. Its number of hashed
+/// words is the low half of the word after its header.
 #[tactic(auto, unfolding(crate::specs::Items::size_of))]
 pub fn hash_counts_of_items()
     ensures low_half { hash_count_of (7 ∷ 0x01000247 ∷ 0x00050009 ∷ []) (item_at 1 0x01000247)
@@ -86,7 +86,8 @@ pub fn hash_counts_of_items()
     ensures too_long { hash_count_of (7 ∷ 0x01000347 ∷ 9 ∷ 0 ∷ []) (item_at 1 0x01000347) ≡ None }
 {}
 
-/// A HASH_VALUE item has nine words: its digest is the bytes of those behind its header, in order.
+/// A HASH_VALUE item has nine words: its digest is the bytes of the eight after its header, in
+/// order.
 #[tactic(auto, unfolding(crate::specs::Items::size_of, crate::specs::Words::word_bytes))]
 pub fn digests_of_items()
     ensures in_order { digest_of

@@ -34,15 +34,15 @@ pub fn read_again()
         → front_block x (p ++ rest) ≡ Some (record { at = x; items = items; link = link }) }
 {}
 
-/// Words are items where the first is a header whose type is not 0xff and whose size is at least 1,
-/// they have that many words, and those behind are items.
+/// Words are items where three things hold: the first word is a header with a type other than 0xff
+/// and a size of at least 1; there are that many words; and the words after these are items.
 pub fn items_by_headers()
     ensures { (h : ℕ) (ws : List ℕ)
         → AreItems (h ∷ ws) ↔ ((type_byte h ≢ 255) × (1 ≤ size_of h)
         × (size_of h ≤ length (h ∷ ws)) × AreItems (drop (size_of h) (h ∷ ws))) }
 {}
 
-/// A block begins with the byte 0xd3 and ends with 0xab; so erased bytes behind a list add no block
+/// A block begins with the byte 0xd3 and ends with 0xab. So erased bytes after a list add no block
 /// and take none away, and no block stands in an erased range.
 pub fn erased_bytes()
     ensures first { (w : List ℕ) (x : ℕ) (b : BlockView) → BlockAt w x b → slice_index w x ≡ 0xd3 }
@@ -53,8 +53,8 @@ pub fn erased_bytes()
         → x < end_ → block_at w x ≡ None }
 {}
 
-/// A change of the fourth byte of a word with first byte 0x42, as of an IMAGE_TYPE header, moves no
-/// block and resizes none: each block is the one before with that word in it.
+/// The fourth byte of a word with first byte 0x42 changes, as that of an IMAGE_TYPE header. This
+/// moves no block and resizes none: each block is the former one with the changed word in it.
 pub fn high_byte_changed()
     ensures blocks { (w v : List ℕ) (a x : ℕ) → ChangesHighByte w v a
         → block_at v x ≡ option_map (changed_block a (word_of (drop a v))) (block_at w x) }
@@ -66,15 +66,15 @@ pub fn high_byte_changed()
         ≡ map (with_high ((a - b.at) / 4) (word_of (drop a v))) (items_of b.items) }
 {}
 
-/// Where a block stands in flash that was erased and programmed in part, page by page, the finished
-/// flash has a block of the same headers and the same link there.
+/// Flash was erased, and programmed in part, page by page. Where a block stands in it then, the
+/// finished flash has a block of the same headers and the same link.
 pub fn partly_written()
     ensures { (w v : List ℕ) (x : ℕ) (b : BlockView) → IsPartlyWritten w v → All (λ n. n < 256) w
         → BlockAt v x b → (c : BlockView) × BlockAt w x c × HasHeadersOf b c }
 {}
 
-/// Worked blocks: the least block of an image, the same with a last item whose fourth byte is not
-/// 0, and one with an item of size 0.
+/// Worked blocks: the minimal block of an image; the same block, but the fourth byte of its last
+/// item is not 0; and a block with an item of size 0.
 pub fn worked_blocks()
     ensures minimal { block_at (bytes_of
         (7 ∷ 0xffffded3 ∷ 0x10210142 ∷ 0x1ff ∷ 0xffffffec ∷ 0xab123579 ∷ 7 ∷ [])) 4

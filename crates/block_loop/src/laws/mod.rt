@@ -12,7 +12,7 @@ ghost use Rattle.block_loop.specs.Cycles.{IsSameCycle, BeginsAmong, KeepsLinks};
 
 use crate::fault::LoopFault;
 
-/// The function that goes from link to link answers exactly the loop and exactly the fault of the
+/// The function that goes from link to link answers exactly the loop, or exactly the fault, of the
 /// relations over whole chains.
 pub fn loop_of_exact()
     ensures loop_ { (w : List ℕ) (bs : List BlockView) → (loop_of w ≡ Ok bs) ↔ IsLoop w bs }
@@ -29,8 +29,8 @@ pub fn one_loop_or_fault()
         → ((bs : List BlockView) × IsLoop w bs) ⊎ ((f : LoopFault) × IsLoopFault w f) }
 {}
 
-/// Windows in which the same blocks stand have the same loop or fault; so erased bytes behind a
-/// window leave them, and a window whose first 4096 bytes are erased has no block.
+/// Windows in which the same blocks stand have the same loop or fault. So erased bytes after a
+/// window leave its loop or fault. A window whose first 4096 bytes are erased has no block.
 pub fn same_blocks()
     ensures same { (w v : List ℕ) → ((x : ℕ) → block_at w x ≡ block_at v x)
         → loop_of w ≡ loop_of v }
@@ -51,9 +51,9 @@ pub fn high_byte_changed()
         → slice_get bs i ≡ Some b → changed_block a (word_of (drop a v)) b ≡ b }
 {}
 
-/// A loop of a window that begins where a block of another window's loop stands, while the blocks
-/// that stand at the offsets of that loop have its links, is that loop: as many blocks, each at the
-/// same offset and with the same link.
+/// One window's loop begins where a block of another window's loop stands. In the first window,
+/// the blocks at the offsets of that other loop have its links. Then both are the same loop: as
+/// many blocks, each at the same offset and with the same link.
 pub fn same_cycle()
     ensures same { (w v : List ℕ) (bs cs : List BlockView) → IsLoop w bs → IsLoop v cs
         → BeginsAmong bs cs → KeepsLinks bs v → IsSameCycle bs cs }

@@ -1,5 +1,5 @@
-//! Worked examples: which lists of steps are confined and gated, a content that the loss of power
-//! leaves unfinished, the patterns of cuts and what they leave, and what counts, reads, writes and
+//! Worked examples: which lists of steps are confined and gated; a content that the loss of power
+//! leaves unfinished; the patterns of cuts and what they leave; and what counts, reads, writes and
 //! puts tell.
 
 ghost use Rattle.std.specs.Prelude.{◌≡◌, ◌≢◌, ℕ, ◌<◌, ◌≤◌, All, List, None, Some, Ok, Err, [], ◌∷◌, ◌⊎◌, false, length, slice_index, true};
@@ -17,8 +17,8 @@ ghost use Rattle.pico_board.specs.Sessions.{Confined, Gated, IsBlankPage, IsElse
 ghost use Rattle.pico_board.specs.Views.{IsViewed};
 ghost use Rattle.pico_board.specs.Examples.{TakesNothing, counting_store, first_sector_steps, half_done, holding, name_a, name_b, of_a, of_b, putting, second_sector, telling, two_pages, two_sectors, window_at};
 
-/// Steps on the first and the last sector and page of the window of sectors 2 and 3 are confined to
-/// it, and steps on the sectors and pages beside it are not; nor is a raise.
+/// The window has sectors 2 and 3. Steps on its first and its last sector and page are confined to
+/// it. Steps on the sectors and pages next to it are not, and a raise is not.
 pub fn confined_lists()
     ensures erases { Confined (Erase 2 ∷ Erase 3 ∷ []) two_sectors }
     ensures programs { (bytes : List ℕ)
@@ -30,7 +30,7 @@ pub fn confined_lists()
     ensures raise { (row bits : ℕ) → ¬ (Confined (Raise row bits ∷ []) two_sectors) }
 {}
 
-/// Pages 32 to 47 are those of sector 2: a program of one of them is one in that sector, and other
+/// Pages 32 to 47 are those of sector 2. A program of one of these pages is in that sector. Other
 /// programs and the erases of other sectors are elsewhere.
 pub fn steps_in_and_beside_a_sector()
     ensures first { IsPageOf 2 32 }
@@ -49,8 +49,8 @@ pub fn steps_in_and_beside_a_sector()
     ensures erase_of_it { ¬ (IsElsewhere 2 (Erase 2)) }
 {}
 
-/// The least flash has two sectors of sixteen pages each, and an OTP has 4096 rows of 24 bits: the
-/// last steps in them, and those past them.
+/// The minimal flash has two sectors of sixteen pages each, and an OTP has 4096 rows of 24 bits:
+/// the last steps inside each of these, and the first steps past them.
 pub fn steps_of_a_small_board()
     ensures last_sector { IsStepIn 8192 (Erase 1) }
     ensures sector_above { ¬ (IsStepIn 8192 (Erase 2)) }
@@ -75,9 +75,10 @@ pub fn windows_and_views()
     ensures longer { (xs : List ℕ) → length xs ≡ 16777217 → ¬ (IsViewed xs) }
 {}
 
-/// A list that erases the first sector, writes the other one and programs the first one at the end
-/// is gated, and so is the empty list. A list is not gated that begins with another sector, that
-/// programs the first sector before a step on another one, or that programs a page of it twice.
+/// A list is gated that erases the first sector, writes the other one and programs the first one
+/// at the end. The empty list is gated too. A list is not gated that begins with another sector,
+/// or that programs a page of the first sector twice. Nor is one that programs the first sector
+/// before a step on another one.
 pub fn gated_lists()
     ensures two_pages { (page other : List ℕ) → IsGated (two_pages page other) two_sectors 2
         (second_sector other) (first_sector_steps page) }
@@ -99,7 +100,8 @@ pub fn unfinished_contents()
         → Unfinished c (two_pages page other) two_sectors (half_done c page other) }
 {}
 
-/// The pattern of a cut within a step has 1 to 4096 bytes, and that of a cut before a step none.
+/// The pattern of a cut within a step has 1 to 4096 bytes. The pattern of a cut before a step has
+/// none.
 pub fn patterns_of_cuts()
     ensures within_empty { ¬ (IsPattern true []) }
     ensures within_least { (byte : ℕ) → IsPattern true (byte ∷ []) }
@@ -109,7 +111,8 @@ pub fn patterns_of_cuts()
     ensures before_one { (byte : ℕ) → ¬ (IsPattern false (byte ∷ [])) }
 {}
 
-/// A count that rose is greater than it was, unless it stood at its greatest value, where it stays.
+/// A count that rose is greater than it was, unless it stood at its greatest value, where it
+/// stays.
 pub fn counts_that_rose()
     ensures greater { (before now : ℕ) → before < 0xffff_ffff_ffff_ffff → Rose before now
         → before < now }
@@ -146,9 +149,10 @@ pub fn pages_that_are_the_same()
         → ¬ (IsSamePage 1 z d) }
 {}
 
-/// Sector 2 is finished in part where each of its pages, 32 to 47, is blank or the finished one. It
-/// is not where a page has a byte that is not erased and another one that is not finished, nor
-/// where a byte beside the sector or a row is not the finished one.
+/// Sector 2 is finished in part where each of its pages, 32 to 47, is blank or the finished one.
+/// The sector is not finished in part where a page has a byte that is not erased and another one
+/// that is not finished. Nor is it where a byte outside the sector, or a row, is not the finished
+/// one.
 pub fn sectors_that_are_finished_in_part()
     ensures pages { (z d : Content) → SameButSector 2 z d
         → ((q : ℕ) → 32 ≤ q → q ≤ 47 → IsBlankPage q d ⊎ IsSamePage q z d) → IsPartial z 2 d }
@@ -171,8 +175,8 @@ pub fn files_beside_the_written_one()
     ensures made { ¬ (KeepsOthers (of_a 1 ∷ []) name_a (of_a 1 ∷ of_b 2 ∷ [])) }
 {}
 
-/// After a write that is Ok the bytes stand under the name, and after one that failed they may
-/// stand there or not; in both cases the other files are as they were, and told files are told.
+/// After a write that is Ok the bytes stand under the name. After a failed write they may stand
+/// there or not. In both cases the other files are as they were, and told files are told.
 pub fn files_after_a_write()
     ensures ok_old { ¬ (ShowsWrite (telling (of_a 1 ∷ of_b 2 ∷ [])) name_a (7 ∷ []) (Ok tt)
         (telling (of_a 1 ∷ of_b 2 ∷ []))) }
@@ -238,8 +242,8 @@ pub fn counts_that_go_on()
     ensures put_steady { ¬ (PutsOn (putting 2 true) (putting 2 false)) }
 {}
 
-/// A put that is Ok appends all of its bytes, and one that failed none, some of the first, or all
-/// of them, and nothing else.
+/// A put that is Ok appends all of its bytes. A failed put appends none of its bytes, some of the
+/// first, or all of them, and nothing else.
 pub fn bytes_after_a_put()
     ensures ok { IsPutBy (Some (1 ∷ [])) (7 ∷ 8 ∷ []) (Ok tt) (Some (1 ∷ 7 ∷ 8 ∷ [])) }
     ensures ok_in_part { ¬ (IsPutBy (Some (1 ∷ [])) (7 ∷ 8 ∷ []) (Ok tt) (Some (1 ∷ 7 ∷ []))) }

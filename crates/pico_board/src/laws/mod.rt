@@ -21,7 +21,8 @@ pub fn cut_of_two_lists()
         → CutOf c (xs ++ ys) d ↔ (CutOf c xs d ⊎ CutOf (after_all c xs) ys d) }
 {}
 
-/// Power may be lost before a step has changed anything, and after it has changed all of its range.
+/// Power may be lost before a step has changed anything, and after it has changed all of its
+/// range.
 pub fn torn_may_be_either_end()
     ensures before { (c : Content) (step : Step) → IsContent c → Torn c step c }
     ensures after { (c : Content) (step : Step) → IsContent c → IsStepIn (length c.flash) step
@@ -36,8 +37,8 @@ pub fn prefix_is_a_cut()
 {}
 
 /// What is left after all of the steps, and what each loss of power in them leaves, is what they
-/// may leave. Power may be lost once the last step has changed all of its range, and no power is
-/// lost where there is no step.
+/// may leave. Power may be lost after the last step has changed all of its range. Where there is
+/// no step, no power is lost.
 pub fn what_steps_may_leave()
     ensures whole { (c : Content) (steps : List Step) → MayLeave c steps (after_all c steps) }
     ensures cut { (c : Content) (steps : List Step) (d : Content) → CutOf c steps d
@@ -63,8 +64,8 @@ pub fn confined_steps_keep_the_rest()
         → SameButWindow w c d → AreApart w v → window_bytes d v ≡ window_bytes c v }
 {}
 
-/// A torn raise, and what the loss of power leaves of a list of raises, lies bit by bit between
-/// before and after.
+/// What a torn raise leaves lies bit by bit between before and after. So does what the loss of
+/// power leaves of a list of raises.
 pub fn raises_only_set_bits()
     ensures one { (c : Content) (row bits : ℕ) (d : Content)
         → Torn c (Raise row bits) d → IsRaisedIn c d (after c (Raise row bits)) }
@@ -73,8 +74,8 @@ pub fn raises_only_set_bits()
         → IsRaisedIn c d (after_all c steps) }
 {}
 
-/// A told cut falls in the step whose number is that of its steps left, or comes nearer by the
-/// number of the steps.
+/// A told cut falls in the step whose number is that of its steps left. Where there are fewer
+/// steps, the cut comes nearer by their number.
 pub fn told_cut_falls_at_its_step()
     ensures none { (steps : List Step) (c : Content)
         → cut_steps steps None c ≡ record
@@ -103,9 +104,10 @@ pub fn prefix_of_gated_is_gated()
         → IsGated steps w s elsewhere last → length last ≤ 16 }
 {}
 
-/// A sector is made of its pages: it is blank exactly where each of them is, and two contents that
-/// differ in it alone are equal where they have the same pages of it. Where power is lost while the
-/// last sector is written, each bit of that sector is set or is the finished one.
+/// A sector is made of its pages. The sector is blank exactly where each of its pages is. Two
+/// contents that differ in this sector alone are equal where its pages are the same in both. Where
+/// power is lost while the last sector is written, each bit of that sector is set or is the
+/// finished one.
 pub fn pages_make_a_sector()
     ensures blank { (s : ℕ) (d : Content)
         → IsBlank s d ↔ ((q : ℕ) → IsPageOf s q → IsBlankPage q d) }
@@ -116,11 +118,11 @@ pub fn pages_make_a_sector()
         → IsBetween 255 (slice_index z.flash (4096 * s + i)) (slice_index d.flash (4096 * s + i)) }
 {}
 
-/// The phases of a gated list of a window inside the flash: the loss of power leaves its first
-/// sector torn and all else as before, or its first sector blank, or the finished content but for
-/// some pages of the first sector. Only the first and the last of these can be unfinished. A prefix
-/// that is done leaves the content before, or the first sector blank, or the finished content but
-/// for blank pages of the first sector.
+/// The phases of a gated list of a window inside the flash. The loss of power leaves one of three:
+/// the window's first sector torn and all else as before; the first sector blank; or the finished
+/// content but for some pages of the first sector. Only the first and the last of these can be
+/// unfinished. A prefix that is done leaves one of three too: the content before; the first sector
+/// blank; or the finished content but for blank pages of the first sector.
 pub fn phases_of_a_gated_list()
     ensures cut { (c : Content) (steps : List Step) (w : Window) (s : ℕ)
         (elsewhere last : List Step) (d : Content)
@@ -138,9 +140,9 @@ pub fn phases_of_a_gated_list()
         ⊎ IsPartial (after_all c steps) s (after_all c xs)) }
 {}
 
-/// Which cuts of a gated list of a window inside the flash leave no unfinished content: those in
-/// any step but the first and the final programs, one before the first step, and one before the
-/// first of the final programs.
+/// Which cuts of a gated list of a window inside the flash leave no unfinished content: a cut in
+/// any step but the first and the final programs; a cut before the first step; and a cut before
+/// the first of the final programs.
 pub fn cuts_that_leave_nothing_unfinished()
     ensures elsewhere { (c : Content) (steps : List Step) (w : Window) (s : ℕ)
         (elsewhere last : List Step)

@@ -1,4 +1,4 @@
-//! Laws of the words by which calls that borrow from a pool say what they leave as it was.
+//! Laws of the definitions in which a call that borrows from a pool says what it leaves as it was.
 
 ghost use Rattle.std.specs.Prelude.{◌≡◌, ◌≢◌, ℕ, All, List, None, Option, Some, true, false, slice_get};
 ghost use Rattle.sector_pool.specs.Keeping.{HandsOver, KeepsOut, KeepsOutBut};
@@ -22,15 +22,15 @@ pub fn writing_leaves_others()
         → KeepsOutBut k pool (pool_with_sector pool k bytes) }
 {}
 
-/// A free sector that is lent, written while it is out and given back leaves every other sector
-/// that is out as it was.
+/// A free sector is lent, written while it is out and given back. Every other sector that is out
+/// is then as it was.
 pub fn lending_leaves_others()
     ensures { (old new : Pool) (k : ℕ) → slice_get old.out k ≡ Some false
         → KeepsOutBut k (leased old k) new → KeepsOut old (returned new k) }
 {}
 
-/// A caller that leases, writes through its lease or gives it back hands over what it holds, and so
-/// do two such calls.
+/// A caller hands over what it holds where it leases, writes through its lease or gives it back.
+/// So do two such calls.
 pub fn handing_over_composes()
     ensures leased { (old : Pool) (k : ℕ) → slice_get old.out k ≡ Some false
         → HandsOver None (Some k) old (leased old k) }
@@ -49,9 +49,9 @@ pub fn a_free_sector_is_not_out()
     ensures none { (pool : Pool) → All (λ is_out. is_out ≡ true) pool.out → HasFree pool → ⊥ }
 {}
 
-/// Keeping what is out says something of each number and of each sector that is out: another list
-/// of numbers out does not keep it, nor do other bytes in a sector that is out, but for the one
-/// sector that may be written.
+/// Keeping what is out says something of each number and of each sector that is out. Another list
+/// of numbers out does not keep it. Other bytes in a sector that is out do not keep it either, but
+/// for the one sector that may be written.
 pub fn keeping_is_of_every_sector()
     ensures numbers { (old new : Pool) → new.out ≢ old.out → ¬ (KeepsOut old new) }
     ensures bytes { (old new : Pool) (j : ℕ) → slice_get old.out j ≡ Some true
@@ -61,8 +61,8 @@ pub fn keeping_is_of_every_sector()
         → slice_get new.sectors j ≢ slice_get old.sectors j → ¬ (KeepsOutBut k old new) }
 {}
 
-/// Handing over says which number was free and is out, which one was out and is free, and that
-/// every other one is as it was and keeps its bytes where it is out.
+/// Handing over says which number was free and is out, and which one was out and is free. Every
+/// other number is as it was, and its sector keeps its bytes where it is out.
 pub fn handing_over_is_of_every_sector()
     ensures mine { (had : Option ℕ) (k : ℕ) (old new : Pool) → slice_get new.out k ≢ Some true
         → ¬ (HandsOver had (Some k) old new) }
