@@ -46,12 +46,12 @@ def_with flags hashed = record {
 abbrev pub arm_def : Def
 arm_def = def_with 0x1021 0
 
--- a block at this offset with this IMAGE_TYPE item and n items of one word that are passed over; it
--- has 20 + 4 * n bytes
+-- a block at this offset with this IMAGE_TYPE item and n items of one word that are passed over;
+-- it has 20 + 4 * n bytes
 abbrev pub padded_block : ℕ → ℕ → ℕ → BlockView
 padded_block at image n = record { at = at; items = image ∷ replicate n 0x000001fe; link = pos 0 }
 
--- the words of a HASH_VALUE item with the bytes 0 to 31, behind its header
+-- the words after the header of a HASH_VALUE item with the bytes 0 to 31
 abbrev pub digest_words : List ℕ
 digest_words =
     0x03020100 ∷ 0x07060504 ∷ 0x0b0a0908 ∷ 0x0f0e0d0c
@@ -59,7 +59,7 @@ digest_words =
 
 -- the block of an item of each kind: one that is passed over, IMAGE_TYPE with the trial bit,
 -- VECTOR_TABLE, ENTRY_POINT with a limit, ROLLING_WINDOW_DELTA, LOAD_MAP, HASH_DEF, VERSION with
--- three rows, and HASH_VALUE, which begins at word 21
+-- three rows, and HASH_VALUE; the last one begins at word 21
 abbrev pub full_block : BlockView
 full_block = block_with (
     0x000001fe ∷ 0x90210142 ∷ 0x00000203 ∷ 0x10000200

@@ -14,8 +14,8 @@ use Rattle.image_def.specs.declared.fault.DefFault.TheVariants.{Repeated, BadIte
 use Rattle.image_def.specs.Found.{is_read_kind}
 use Rattle.image_def.specs.Rows.{rollback_in, rows_in, row_fault}
 
--- a VERSION item of the right size, with at most 32 rows and a rollback version of at most 24 for
--- each of them
+-- a VERSION item of the right size, with at most 32 rows; its rollback version is at most 24 for
+-- each row
 abbrev pub is_right_version : List ℕ → Item → Bool
 is_right_version words item =
     is_some (version_of words item) && nat_le item.high 32
@@ -38,7 +38,7 @@ is_well_formed_as kind words item =
 abbrev pub is_well_formed : List ℕ → Item → Bool
 is_well_formed words item = is_well_formed_as (first_spelling item.kind) words item
 
--- the fault of an item behind the items before it
+-- the fault of an item after the items before it
 abbrev pub item_fault : List ℕ → List Item → Item → Option DefFault
 item_fault words before item =
     let kind = first_spelling item.kind in
@@ -48,12 +48,12 @@ item_fault words before item =
     else if kind == VERSION then first_fault row_fault (rows_in words item)
     else None
 
--- the fault of the least item of a block that has one
+-- the fault of the first item of a block that has one
 abbrev pub first_item_fault : BlockView → Option DefFault
 first_item_fault b = first_fault (item_fault (block_words b)) (items_of b.items)
 
--- the fault for after all items, by the place of the HASH_VALUE item, the number of words that the
--- HASH_DEF item names, and the number of the block's words
+-- the fault that is judged after all items: by the place of the HASH_VALUE item, the number of
+-- words that the HASH_DEF item names, and the number of the block's words
 abbrev pub hashed_fault : Option ℕ → Option ℕ → ℕ → Option DefFault
 hashed_fault (Some place) None size = Some (BadItem HASH_VALUE)
 hashed_fault (Some place) (Some count) size =
@@ -69,13 +69,13 @@ hash_count_in words items = option_and_then (hash_count_of words) (item_of_kind 
 abbrev pub hash_value_place : List Item → Option ℕ
 hash_value_place items = option_map (λ item. item.first) (item_of_kind HASH_VALUE items)
 
--- the fault for after all items
+-- the fault that is judged after all items
 abbrev pub last_fault : List ℕ → List Item → Option DefFault
 last_fault words items =
     hashed_fault (hash_value_place items) (hash_count_in words items) (length words)
 
--- the first fault of a block: that of the least item that has one, or else the one for after all
--- items
+-- the first fault of a block: that of the first item that has one, or else the one that is judged
+-- after all items
 abbrev pub def_fault : List ℕ → List Item → Option DefFault
 def_fault words items = option_or (first_fault (item_fault words) items) (last_fault words items)
 
@@ -91,8 +91,9 @@ pub record ListsRows (words : List ℕ) (before : List Item) (item : Item) : Typ
   pub first : IsRepeated VERSION before → ⊥
   pub right : is_right_version words item ≡ true
 
--- f is the fault of an item behind the items before it: it stands again; or it is the first of its
--- kind and wrong; or it is a right VERSION item, and f is the first fault of its rows
+-- f is the fault of an item after the items before it: an item of its kind came before; or it is
+-- the first of its kind and wrong; or it is a right VERSION item, and f is the first fault of its
+-- rows
 abbrev pub IsItemFault : List ℕ → List Item → Item → DefFault → Type 0
 IsItemFault words before item (Repeated kind) =
     (is_read_kind kind ≡ true) × (is_of_kind kind item ≡ true) × IsRepeated kind before
@@ -102,13 +103,13 @@ IsItemFault words before item (BadItem kind) =
 IsItemFault words before item f =
     ListsRows words before item × ((i : ℕ) × IsFirst row_fault (rows_in words item) i f)
 
--- no item has a fault, and there is none for after all items
+-- no item has a fault, and none is found after all items
 pub record IsFaultless (b : BlockView) : Type 0 where
   pub items : AreSound (item_fault (block_words b)) (items_of b.items) (length (items_of b.items))
   pub after : last_fault (block_words b) (items_of b.items) ≡ None
 
--- f is the first fault of a block: that of the least item that has one, judged by the items before
--- it; or no item has one, and f is the one for after all items
+-- f is the first fault of a block: that of the first item that has one, judged by the items before
+-- it; or no item has a fault, and f is the one that is judged after all items
 abbrev pub IsDefFault : BlockView → DefFault → Type 0
 IsDefFault b f =
     let words = block_words b in

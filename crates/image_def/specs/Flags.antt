@@ -1,5 +1,5 @@
--- The flags of an IMAGE_TYPE item, which are the third and the fourth byte of its header (RP2350
--- Datasheet, chapter 5, "Image definition items").
+-- The flags of an IMAGE_TYPE item: the third and the fourth byte of its header (RP2350 Datasheet,
+-- chapter 5, "Image definition items").
 use Rattle.std.specs.Prelude.{ℕ, ◌+◌, ◌*◌, ◌/◌, ◌%◌, ◌^◌, Bool, ◌==◌}
 use Rattle.block_codec.specs.declared.items.Item.{Item}
 

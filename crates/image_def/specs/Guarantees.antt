@@ -1,4 +1,4 @@
--- What is true of each definition that a block gives, for those who rest their own work on it.
+-- What is true of each definition that a block gives, for callers that rely on it.
 use Rattle.std.specs.Prelude.{◌≡◌, ◌↔◌, ℕ, ◌+◌, ◌*◌, ◌%◌, ◌^◌, ◌<◌, ◌≤◌, true, List, [], length, slice_get, Some, None, IfSome}
 use Rattle.block_codec.specs.declared.items.Item.{Item}
 use Rattle.block_codec.specs.declared.kinds.TheConstants.{LOAD_MAP, HASH_VALUE}
@@ -33,7 +33,7 @@ pub record IsDigestItem (b : BlockView) (words : ℕ) (digest : List ℕ) (item 
   pub long : length digest ≡ 32
   pub behind : words ≤ item.first
 
--- what callers may rest on of the definition that a block gives
+-- what callers may assume of the definition that a block gives
 pub record IsDefinition (b : BlockView) (def : Def) : Type 0 where
   pub flags : def.flags < 2 ^ 16
   pub image : (item : Item) × IsImageItem b def.flags def.image_word item

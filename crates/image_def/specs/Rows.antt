@@ -12,7 +12,7 @@ use Rattle.image_def.specs.declared.fault.DefFault.TheVariants.{BadRow, Repeated
 abbrev pub halves_of : List ℕ → List ℕ
 halves_of words = flat_map (λ w. low_half w ∷ high_half w ∷ []) words
 
--- the halves of a VERSION item behind its version word
+-- the halves of a VERSION item after its version word
 abbrev pub version_tail : List ℕ → Item → List ℕ
 version_tail words item = halves_of (drop (item.first + 2) words)
 
@@ -29,7 +29,7 @@ rows_in words item = take item.high (drop 1 (version_tail words item))
 abbrev pub is_near : ℕ → ℕ → Bool
 is_near row other = nat_lt row (other + 3) && nat_lt other (row + 3)
 
--- the fault of a row behind the rows before it
+-- the fault of a row after the rows before it
 abbrev pub row_fault : List ℕ → ℕ → Option DefFault
 row_fault before row =
     if nat_lt row FIRST_ROW || nat_lt LAST_ROW row then Some (BadRow row)

@@ -1,4 +1,4 @@
--- A block whose trial bit is cleared, as a buy leaves it (RP2350 Datasheet, chapter 5, Bootrom,
+-- A block with its trial bit cleared, as a buy leaves it (RP2350 Datasheet, chapter 5, Bootrom,
 -- "Try before you buy").
 use Rattle.std.specs.Prelude.{ℕ, ◌-◌, ◌%◌, ◌^◌, slice_index, slice_set, Result, Ok, Err}
 use Rattle.std.specs.Option.{option_map_or}
@@ -7,7 +7,7 @@ use Rattle.block_codec.specs.Blocks.{BlockView}
 use Rattle.image_def.specs.declared.fault.DefFault.{DefFault}
 use Rattle.image_def.specs.Suits.{image_type_of}
 
--- the block with the topmost bit cleared of the word at this place of it, which is among its items
+-- the block with the topmost bit cleared of its word at this place, which is a word of its items
 abbrev pub top_cleared : BlockView → ℕ → BlockView
 top_cleared b place = record {
   at = b.at;

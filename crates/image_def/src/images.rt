@@ -43,8 +43,8 @@ pub fn image_flags(block: &Block) -> Option<u16>
     None
 }
 
-/// Whether the flags are those of an executable for the RP2350 and this processor; for Arm a secure
-/// one.
+/// Whether the flags are those of an executable for the RP2350 and this processor; for Arm a
+/// secure one.
 fn are_for(cpu: Cpu, flags: u16) -> bool
     ensures { result ≡ suits_flags cpu flags }
 {
@@ -56,8 +56,9 @@ fn are_for(cpu: Cpu, flags: u16) -> bool
     }
 }
 
-/// Whether the block is a definition for the processor: it has at most 384 bytes, and its first
-/// IMAGE_TYPE item says an executable for the RP2350 and this processor, and for Arm a secure one.
+/// Whether the block is a definition for the processor. Such a block has at most 384 bytes. Its
+/// first IMAGE_TYPE item says an executable for the RP2350 and this processor, and for Arm a
+/// secure one.
 pub fn suits(block: &Block, cpu: Cpu) -> bool
     ensures { result ≡ does_suit cpu block.now }
 {

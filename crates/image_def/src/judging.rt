@@ -19,8 +19,8 @@ use block_codec::{Block, Item, version_item};
 /// The greatest number of rows that an image may list.
 const MOST_ROWS: u8 = 32;
 
-/// Whether a VERSION item has the right size, at most 32 rows, and a rollback version of at most 24
-/// for each of them.
+/// Whether a VERSION item has the right size, at most 32 rows, and a rollback version of at most
+/// 24 for each row.
 fn is_version(block: &Block, item: &Item) -> bool
     requires of_block { Contains (items_of block.now.items) item.now }
     requires kind { item.now.kind ≡ 0x48 }
@@ -53,7 +53,7 @@ fn is_right(block: &Block, item: &Item) -> bool
     }
 }
 
-/// The fault of an item behind those before it.
+/// The fault of an item after those before it.
 fn fault_of(block: &Block, found: &Found, item: &Item) -> Option<DefFault>
     requires of_block { Contains (items_of block.now.items) item.now }
     ensures { (before : List _) → found.now ≡ found_in before
@@ -101,7 +101,7 @@ pub(crate) fn hashed_words(block: &Block, found: &Found) -> Option<u32>
     }
 }
 
-/// The fault for after all items.
+/// The fault that is judged after all items.
 pub(crate) fn fault_after(block: &Block, found: &Found) -> Option<DefFault>
     requires { found.now ≡ found_in (items_of block.now.items) }
     ensures { result ≡ last_fault (block_words block.now) (items_of block.now.items) }

@@ -3,7 +3,7 @@
 //!
 //! The definitions stand in `specs/`: `Flags` and `Suits` say which block is the definition,
 //! `Rows` what a VERSION item lists, `Faults` the first fault of a block's items, and `Definition`
-//! what a block says. `Guarantees` is what callers may rest on of each definition, and `Trial` what
+//! what a block says. `Guarantees` is what callers may assume of each definition, and `Trial` what
 //! a cleared trial bit leaves.
 #![tactic(auto)]
 

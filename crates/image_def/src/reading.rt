@@ -129,7 +129,7 @@ fn rows_of(block: &Block, item: Option<Item>) -> ArrayVec<u16, 32>
     }
 }
 
-/// What the items of a block say, none of which has a fault.
+/// What the items of a block say, where none of them has a fault.
 fn def_from(block: &Block, found: &Found) -> Def
     requires found { found.now ≡ found_in (items_of block.now.items) }
     requires sound { first_item_fault block.now ≡ None }
@@ -163,8 +163,9 @@ fn read_items(block: &Block) -> Result<Def, DefFault>
     }
 }
 
-/// The definition of a block that has an IMAGE_TYPE item, or its first fault: that of the least
-/// item that has one, judged by the items before it, and otherwise the one for after all items.
+/// The definition of a block that has an IMAGE_TYPE item, or its first fault. This is the fault of
+/// the first item that has one, judged by the items before it. Where no item has a fault, it is
+/// the one that is judged after all items.
 pub fn read_def(block: &Block) -> Result<Def, DefFault>
     requires { has_image_type block.now ≡ true }
     ensures value { result ≡ def_of block.now }

@@ -13,7 +13,7 @@ use arrayvec::ArrayVec;
 use block_codec::{Block, Item};
 use otp_roll::{FIRST_ROW, LAST_ROW};
 
-/// A half word of a VERSION item behind its version: the rollback version, and then the rows.
+/// A half word of a VERSION item after its version: the rollback version, and then the rows.
 fn tail_half(block: &Block, item: &Item, k: u8) -> u16
     requires of_block { Contains (items_of block.now.items) item.now }
     requires size { item.now.words ≡ version_words item.now.high }
@@ -76,7 +76,7 @@ fn is_near_one(rows: &[u16], row: u16) -> bool
     false
 }
 
-/// The fault of a row behind the rows before it.
+/// The fault of a row after the rows before it.
 fn fault_behind(before: &[u16], row: u16) -> Option<DefFault>
     ensures { result ≡ row_fault before.now row }
 {

@@ -17,15 +17,15 @@ pub record AgreeOn (loads : List Load) (w v : List ℕ) : Type 0 where
   pub same : (load : Load) (i : ℕ) → Contains loads load → IsStoredAt load i
       → slice_index v i ≡ slice_index w i
 
--- blocks b and c stand at the same offset, are equally long and have the same words for the
--- entries of this LOAD_MAP item
+-- blocks b and c stand at the same offset and are equally long; the words for the entries of this
+-- LOAD_MAP item are the same in both
 pub record HaveSameEntries (item : Item) (b c : BlockView) : Type 0 where
   pub at : c.at ≡ b.at
   pub size : length c.items ≡ length b.items
   pub words : (k : ℕ) → item.first < k → k ≤ item.first + 3 * entry_count item
       → slice_index (block_words c) k ≡ slice_index (block_words b) k
 
--- blocks b and c stand at the same offset, are equally long and have the same words, but that the
+-- blocks b and c stand at the same offset and are equally long; their words are the same, but the
 -- trial bit of the word at place k may differ
 pub record SameButTrial (k : ℕ) (b c : BlockView) : Type 0 where
   pub at : c.at ≡ b.at

@@ -1,6 +1,6 @@
 -- The bytes that the digest of an image covers. Source: RP2350 Datasheet, chapter 5, Bootrom,
--- "HASH_DEF item", which says that the load map's entries and the first words of the block are
--- hashed; the order and the trial bit are this project's own.
+-- "HASH_DEF item": the load map's entries and the first words of the block are hashed. The order
+-- and the trial bit are this project's own.
 use Rattle.std.specs.Prelude.{ℕ, ◌+◌, ◌%◌, ◌^◌, ◌++◌, List, take, slice_index, slice_range, slice_set, Option, None, Some}
 use Rattle.std.specs.List.{flat_map}
 use Rattle.block_codec.specs.Blocks.{BlockView, block_words}
@@ -26,9 +26,9 @@ without_trial word = word % 2 ^ 31
 abbrev pub masked_words : List ℕ → ℕ → List ℕ
 masked_words words k = slice_set words k (without_trial (slice_index words k))
 
--- the covered bytes: of each load in order its storage bytes or its size, and then the first words
--- of the definition's block, as many as are hashed, with the trial bit read as 0. An image without
--- a load map has no loads.
+-- the covered bytes: first of each load in order its storage bytes or its size; then the first
+-- words of the definition's block, as many as are hashed, with the trial bit read as 0. An image
+-- without a load map has no loads.
 abbrev pub covered : List ℕ → List Load → BlockView → ℕ → ℕ → List ℕ
 covered window loads b hash_words image_word =
     flat_map (covered_load window) loads

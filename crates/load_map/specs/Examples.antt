@@ -8,7 +8,7 @@ use Rattle.load_map.specs.Reading.{loads_of}
 use Rattle.load_map.specs.declared.load.Load.{Load}
 use Rattle.load_map.specs.declared.load.MapFault.{MapFault}
 
--- a block at offset 0x100 that closes its loop by itself and has an IMAGE_TYPE item for Arm, and
+-- a block at offset 0x100 that closes its loop by itself: it has an IMAGE_TYPE item for Arm, and
 -- then these item words; with one entry it ends at 0x124, with two at 0x130
 abbrev pub example_block : List ℕ → BlockView
 example_block words = record { at = 0x100; items = 0x10210142 ∷ words; link = pos 0 }
@@ -22,8 +22,8 @@ abbrev pub loads_in_flash : ℕ → List ℕ → Result (List Load) MapFault
 loads_in_flash header entries =
     loads_of flash_base false 8192 (example_block (header ∷ entries)) (second_item header)
 
--- what the load map with this header and these entries gives for an image of 8192 bytes that is
--- put at the start of SRAM and runs there
+-- what the load map with this header and these entries gives for an image of 8192 bytes; the image
+-- is put at the start of SRAM and runs there
 abbrev pub loads_in_ram : ℕ → List ℕ → Result (List Load) MapFault
 loads_in_ram header entries =
     loads_of 0x2000_0000 true 8192 (example_block (header ∷ entries)) (second_item header)
@@ -36,8 +36,8 @@ stored x runtime size = record { storage = Some x; runtime = runtime; size = siz
 abbrev pub cleared_load : ℕ → ℕ → Load
 cleared_load runtime size = record { storage = None; runtime = runtime; size = size }
 
--- four bytes cleared at the start of SRAM, and then the second byte of the window loaded over the
--- first of them
+-- four bytes cleared at the start of SRAM; then the second byte of the window is loaded over the
+-- first of these
 abbrev pub two_loads : List Load
 two_loads = cleared_load 0x2000_0000 4 ∷ stored 1 0x2000_0000 1 ∷ []
 

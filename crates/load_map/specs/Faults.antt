@@ -1,4 +1,4 @@
--- The words in which laws say when a load is right.
+-- The definitions by which laws say when a load is right.
 use Rattle.std.specs.Prelude.{◌≡◌, ℕ, ◌+◌, ◌<◌, ◌≤◌, Bool, false, Option, Some}
 use Rattle.block_codec.specs.Blocks.{BlockView, block_size}
 use Rattle.load_map.specs.declared.addresses.TheConstants.{SRAM_START, SRAM_END}

@@ -1,6 +1,6 @@
--- What the bytes of a window and of the SRAM are once an image's load map was obeyed. Source:
--- RP2350 Datasheet, chapter 5, Bootrom,
--- "Load map"; that the last entry decides is this project's own.
+-- What the bytes of a window and of the SRAM are after an image's load map was obeyed. Source:
+-- RP2350 Datasheet, chapter 5, Bootrom, "Load map"; that the last entry decides is this project's
+-- own.
 use Rattle.std.specs.Prelude.{ℕ, ◌+◌, ◌-◌, ◌&&◌, nat_le, nat_lt, Bool, if◌then◌else◌, List, [], ◌∷◌, length, slice_index, find, reverse, Option, None, Some}
 use Rattle.std.specs.Option.{option_map}
 use Rattle.block_codec.specs.Words.{word_of}

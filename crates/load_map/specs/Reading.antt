@@ -26,14 +26,14 @@ abbrev pub stored_at : Entry → ℕ → ℕ → Load
 stored_at entry size x = record { storage = Some x; runtime = entry.runtime; size = size }
 
 -- a relative entry: its first word is the signed offset of its storage from the LOAD_MAP item's
--- first byte, and its third word its size
+-- first byte; its third word is its size
 abbrev pub relative_load : Setting → Entry → Option Load
 relative_load s entry =
     option_map (stored_at entry entry.extent)
     (offset_within s.len (pos s.item_at +ℤ cast_signed w32 entry.place) entry.extent)
 
--- an absolute entry: its first word is the address at which its storage starts, and its third word
--- that at which it ends
+-- an absolute entry: its storage starts at the address in its first word, and ends at the address
+-- in its third word
 abbrev pub absolute_load : Setting → Entry → Option Load
 absolute_load s entry =
     if nat_le s.base entry.place && nat_le entry.place entry.extent && nat_le entry.extent
@@ -57,8 +57,8 @@ abbrev pub is_used_in_place : ℕ → Option ℕ → ℕ → Bool
 is_used_in_place base None runtime = false
 is_used_in_place base (Some x) runtime = runtime == base + x
 
--- the load is used where it is stored, or, of an image that may have others, lies in SRAM as a
--- whole
+-- the load is used where it is stored; or it lies in SRAM as a whole, where the image may have
+-- such loads
 abbrev pub is_runtime_right : Setting → Load → Bool
 is_runtime_right s load =
     is_used_in_place s.base load.storage load.runtime
@@ -91,8 +91,8 @@ abbrev pub setting_of : ℕ → Bool → ℕ → BlockView → Item → Setting
 setting_of base in_place n b item =
     record { base = base; in_place = in_place; len = n; item_at = b.at + 4 * item.first }
 
--- the loads of a LOAD_MAP item of block b in a window of n bytes whose first byte is seen at the
--- address `base`, or the fault of the least entry that has one
+-- the loads of a LOAD_MAP item of block b, or the fault of the first entry that has one; the
+-- window has n bytes, and its first byte is seen at the address `base`
 abbrev pub loads_of : ℕ → Bool → ℕ → BlockView → Item → Result (List Load) MapFault
 loads_of base in_place n b item =
     loads_or_fault (setting_of base in_place n b item) b (is_absolute item)

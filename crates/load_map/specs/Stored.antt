@@ -1,5 +1,5 @@
--- Loads that lie in a window and keep off a block: what a load map without a fault has, and what
--- reading its loads asks for.
+-- Loads that lie in a window and do not share a byte with a block. A load map without a fault has
+-- such loads, and reading the loads asks for such ones.
 use Rattle.std.specs.Prelude.{◌⊎◌, ◌≡◌, ℕ, ◌+◌, ◌≤◌, true, List, Option, None, Some}
 use Rattle.std.specs.List.{AllByRecursion}
 use Rattle.block_codec.specs.Blocks.{BlockView, block_size}

@@ -1,4 +1,5 @@
-//! The addresses of SRAM, into which a load map loads (RP2350 Datasheet, section 2.2, Address map).
+//! The addresses of SRAM, into which a load map loads (RP2350 Datasheet, section 2.2, Address
+//! map).
 
 /// The first address of SRAM.
 pub const SRAM_START: u32 = 0x2000_0000;

@@ -110,10 +110,10 @@ fn digest_through<V: View>(
     hasher.finalize()
 }
 
-/// The SHA-256 of the bytes that an image's digest covers: of each load in order its storage
-/// bytes, or its size where it is a clear entry, and then the first words of the definition's
-/// block, as many as are hashed, with the trial bit read as 0. An image without a load map has no
-/// loads.
+/// The SHA-256 of the bytes that an image's digest covers. First come the loads in order: of each
+/// its storage bytes, or its size where it is a clear entry. Then come the first words of the
+/// definition's block, as many as are hashed, with the trial bit read as 0. An image without a
+/// load map has no loads.
 ///
 /// The storage bytes alone stream through one free sector of the pool, and no memory is taken.
 pub fn covered_digest<V: View>(

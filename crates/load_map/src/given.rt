@@ -1,4 +1,4 @@
-//! The bytes that are given at addresses once a load map was obeyed.
+//! The bytes that are given at addresses after a load map was obeyed.
 
 ghost use Rattle.std.specs.Prelude.{◌≡◌, ℕ, ◌<◌, IsTrue, length, slice_index, find, reverse, IfSome};
 ghost use Rattle.pico_board.specs.Content.{flash_base};
@@ -80,8 +80,9 @@ fn byte_at<V: View>(view: &V, loads: &[Load], base: u32, address: u64) -> Option
     Some(loaded_byte(view, &load, address))
 }
 
-/// The little-endian word at an address, in a window whose first byte is seen at the address
-/// `base` and whose load map was obeyed; None exactly where one of its bytes is not given.
+/// The little-endian word at an address, after the window's load map was obeyed. The window's
+/// first byte is seen at the address `base`. None exactly where one of the word's bytes is not
+/// given.
 #[tactic(auto, unfolding(block_codec::specs::Words::word_of))]
 pub fn loaded_word_at<V: View>(view: &V, loads: &Loads, base: u32, address: u32) -> Option<u32>
     requires stored { AreStoredIn (length (V.bytes view.now)) loads.now.items }

@@ -1,5 +1,5 @@
-//! Load maps: what an image's LOAD_MAP item has loaded into SRAM, the bytes that it gives there,
-//! and the bytes that the image's digest covers.
+//! Load maps: what an image's LOAD_MAP item loads into SRAM, which bytes it gives there, and which
+//! bytes the image's digest covers.
 #![tactic(auto)]
 
 mod addresses;

@@ -15,8 +15,8 @@ pub struct Load {
     pub size: u32,
 }
 
-/// The entries of a load map, in order: at most 51, since a block has at most 156 item words, of
-/// which an entry has three beside the item's header.
+/// The entries of a load map, in order. There are at most 51: a block has at most 156 item words,
+/// the item's header takes one, and each entry takes three.
 pub type Loads = ArrayVec<Load, 51>;
 
 /// Why a load map is refused: the first rule that its first faulty entry breaks, with the entry's
@@ -26,8 +26,9 @@ pub enum MapFault {
     /// The entry's storage leaves the window, or ends before it starts.
     #[error("load map entry {0} is stored outside the window")]
     Storage(u32),
-    /// The entry's bytes are neither loaded into SRAM as a whole nor used where they are stored;
-    /// of an image that is to run where it is stored, they are not used where they are stored.
+    /// The entry's bytes are neither loaded into SRAM as a whole nor used where they are stored.
+    /// An image that is to run where it is stored has this fault wherever its bytes are not used
+    /// where they are stored.
     #[error("load map entry {0} is loaded to a wrong address")]
     Runtime(u32),
     /// The entry's storage shares a byte with the block that has the load map.

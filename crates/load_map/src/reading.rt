@@ -52,9 +52,9 @@ fn read_entries(setting: &Setting, block: &Block, item: &Item) -> Result<Loads, 
     Ok(loads)
 }
 
-/// The loads of a LOAD_MAP item of the block, which is the item at place `item`, in a window of
-/// `window_len` bytes whose first byte is seen at the address `base`; or the first fault. Where
-/// `in_place` is true each entry must be used where it is stored, as in RAM images.
+/// The loads of the LOAD_MAP item at place `item` of the block, or the first fault. The window has
+/// `window_len` bytes, and its first byte is seen at the address `base`. Where `in_place` is true
+/// each entry must be used where it is stored, as in RAM images.
 pub fn read_map_at(
     block: &Block,
     item: u32,
@@ -78,8 +78,8 @@ pub fn read_map_at(
     read_entries(&setting, block, &map)
 }
 
-/// The loads of a LOAD_MAP item of the block, which is the item at place `item`, in a window of
-/// `window_len` bytes in flash, or the first fault.
+/// The loads of the LOAD_MAP item at place `item` of the block, in a window of `window_len` bytes
+/// in flash, or the first fault.
 pub fn read_map(block: &Block, item: u32, window_len: u32) -> Result<Loads, MapFault>
     requires map { IsMapAt block.now item }
     ensures exact { (map : Item) → slice_get (items_of block.now.items) item ≡ Some map

@@ -12,7 +12,7 @@ abbrev pub flash_off : List ℕ → Bool
 flash_off otp = slice_index otp BOOT_FLAGS / 2 % 2 == 1
 
 -- the slot size that a number n stands for: 4096 * 2^n where n is at most 11 and two such slots
--- fit into a flash of this length, and otherwise 4096
+-- fit into a flash of this length; otherwise 4096
 abbrev pub slot_size_of : ℕ → ℕ → ℕ
 slot_size_of n flash_len =
     if nat_le n 11 && nat_le (2 * (4096 * 2 ^ n)) flash_len then 4096 * 2 ^ n else 4096

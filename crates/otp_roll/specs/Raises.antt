@@ -1,12 +1,12 @@
--- The raises that take listed rollback rows to a version, as a list of steps over the OTP before
--- the first of them.
+-- The raises that take listed rollback rows to a version, as a list of steps. Their OTP is the one
+-- before the first step.
 use Rattle.std.specs.Prelude.{ℕ, zero, suc, ◌+◌, ◌-◌, ◌*◌, ◌/◌, ◌%◌, ◌==◌, if◌then◌else◌, min, List, [], ◌∷◌, ◌++◌, slice_index, bit_and, bit_xor, count_ones}
 use Rattle.pico_board.specs.declared.Step.{Step}
 use Rattle.pico_board.specs.declared.Step.TheVariants.{Raise}
 use Rattle.otp_roll.specs.Rows.{majority, count}
 
--- the n lowest of the clear bits among the first `places` bits of v, or all of them where they
--- are fewer than n
+-- the n lowest of the clear bits among the first `places` bits of v; all of these where there are
+-- fewer than n
 abbrev pub lowest_clear_among : ℕ → ℕ → ℕ → ℕ
 lowest_clear_among zero n v = 0
 lowest_clear_among (suc places) zero v = 0
@@ -26,20 +26,20 @@ clear_count otp r = 24 - count_ones (majority otp r)
 abbrev pub lacking : ℕ → ℕ → ℕ
 lacking b v = bit_and b (bit_xor v 0xff_ffff)
 
--- one raise of a row of the value v by the bits of b that it lacks, where it lacks one
+-- one raise of row r of the value v by the bits of b that v lacks; none where it lacks no bit
 abbrev pub raise_lacking : ℕ → ℕ → ℕ → List Step
 raise_lacking b v r = if lacking b v == 0 then [] else Raise r (lacking b v) ∷ []
 
--- the raises of the three rows from r on, ascending, by the bits of b that each lacks, where it
--- lacks one
+-- the raises of the three rows from r on, ascending; each by the bits of b that the row lacks, and
+-- none where it lacks no bit
 abbrev pub raise_triple : List ℕ → ℕ → ℕ → List Step
 raise_triple otp b r =
     raise_lacking b (slice_index otp r) r
     ++ (raise_lacking b (slice_index otp (r + 1)) (r + 1)
     ++ raise_lacking b (slice_index otp (r + 2)) (r + 2))
 
--- how many bits the listed row r takes of those that are wanted: as many as its majority has
--- clear ones
+-- how many of the wanted bits the listed row r takes: all of them, or as many as its majority has
+-- clear bits
 abbrev pub taken_bits : List ℕ → ℕ → ℕ → ℕ
 taken_bits otp wanted r = min (clear_count otp r) wanted
 

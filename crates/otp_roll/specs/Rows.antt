@@ -1,6 +1,6 @@
--- Rollback rows of the OTP and what counts as raised in them. The rows stand three by three, as
--- the RP2350 Datasheet has rollback versions in OTP (chapter 5, Bootrom, and chapter 13, OTP: a
--- vote of three copies); the count over listed rows is this project's own.
+-- Rollback rows of the OTP and what counts as raised in them. The rows stand three by three.
+-- Source: RP2350 Datasheet, chapter 5, Bootrom, and chapter 13, OTP: a vote of three copies. The
+-- count over listed rows is this project's own.
 use Rattle.std.specs.Prelude.{◌≡◌, ◌⊎◌, ℕ, ◌+◌, ◌*◌, ◌<◌, ◌≤◌, List, length, All, AllPairs, slice_index, bit_and, bit_or, count_ones, sum_by}
 use Rattle.pico_board.specs.Steps.{HasBitsOf}
 use Rattle.otp_roll.specs.declared.rows.TheConstants.{FIRST_ROW, LAST_ROW}
@@ -28,8 +28,8 @@ count otp rows = sum_by (λ r. count_ones (majority otp r)) rows
 abbrev pub AreRowsApart : ℕ → ℕ → Type 0
 AreRowsApart r s = (r + 3 ≤ s) ⊎ (s + 3 ≤ r)
 
--- what an image may list: at most 32 rows from the first one to the last one, of which any two
--- differ by at least 3
+-- what an image may list: at most 32 rows, from `FIRST_ROW` to `LAST_ROW`; any two of them differ
+-- by at least 3
 pub record AreRollbackRows (rows : List ℕ) : Type 0 where
   pub few : length rows ≤ 32
   pub in_range : All (λ r. (FIRST_ROW ≤ r) × (r ≤ LAST_ROW)) rows

@@ -1,6 +1,6 @@
 //! The rollback rows of the OTP: what counts as raised, and the raises that take an image's rows
-//! to its rollback version. Beside them the flags of the boot and the slot size, which stand in
-//! the OTP too.
+//! to its rollback version. The flags of the boot and the slot size stand in the OTP too, and are
+//! here.
 #![tactic(auto)]
 
 pub mod examples;

@@ -14,8 +14,8 @@ const ALL_BITS: u32 = 0xff_ffff;
 
 /// Raises listed rows, in their order, until the count of their raised bits is at the version.
 ///
-/// Each takes the lowest clear bits of its majority, and each row of its triple is raised by
-/// those that it lacks.
+/// Each listed row takes the lowest clear bits of its majority. Each row of its triple is raised
+/// by those of these bits that it lacks.
 pub fn raise_to<B: Board>(
     board: &mut B,
     rows: &ArrayVec<u16, 32>,
@@ -36,8 +36,8 @@ pub fn raise_to<B: Board>(
     Ok(())
 }
 
-/// Raises the lowest clear bits of the majority of a listed row, as many as are wanted or it has,
-/// and answers how many these are.
+/// Raises the lowest clear bits of the majority of a listed row: as many as are wanted, or as many
+/// as there are. Answers how many these are.
 fn raise_row<B: Board>(board: &mut B, row: u16, wanted: u32) -> Result<u32, PowerLost>
     requires power { IsTrue (B.state board.old).powered }
     requires range { row + 2 < 4096 }

@@ -6,10 +6,10 @@ ghost use Rattle.otp_roll.specs.Rows.{AreRollbackRows, count, majority};
 use arrayvec::ArrayVec;
 use pico_board::Board;
 
-/// The least row that an image may list, the first of a triple.
+/// The lowest row that an image may list, the first of a triple.
 pub const FIRST_ROW: u16 = 0x0c0;
 
-/// The greatest row that an image may list, the first of a triple.
+/// The highest row that an image may list, the first of a triple.
 pub const LAST_ROW: u16 = 0xefd;
 
 /// The number of raised bits in the majorities of listed rows.

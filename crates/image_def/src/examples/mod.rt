@@ -36,8 +36,8 @@ pub fn bits_of_flags()
     ensures below { is_trial 0x7fff ≡ false }
 {}
 
-/// The flags of a block are those of its first IMAGE_TYPE item, of whatever size. The type byte has
-/// one spelling.
+/// The flags of a block are those of its first IMAGE_TYPE item, of whatever size. The type byte
+/// has one spelling.
 pub fn first_image_type()
     ensures none { image_flags_of (block_with []) ≡ None }
     ensures first { image_flags_of (block_with (arm_item ∷ riscv_item ∷ [])) ≡ Some 0x1021 }
@@ -134,8 +134,8 @@ pub fn fields_of_definitions()
         ≡ Ok arm_def }
 {}
 
-/// An ENTRY_POINT item of three words has no limit, and the header bytes that nothing names are not
-/// read.
+/// An ENTRY_POINT item of three words has no limit, and the header bytes that nothing names are
+/// not read.
 pub fn entry_without_limit()
     ensures { def_of (arm_block (0xabcd0344 ∷ 0x10000301 ∷ 0x20001000 ∷ 0xabcd0203 ∷ 5 ∷ 0xabcd0205
         ∷ 0xffffffff ∷ []))
@@ -229,8 +229,8 @@ pub fn long_spellings()
         }) }
 {}
 
-/// An item of each kind that stands a second time, in either spelling, and behind other items, is a
-/// fault.
+/// An item of each kind that stands a second time is a fault: in either spelling, and also after
+/// other items.
 pub fn items_that_stand_twice()
     ensures image_type { arm_fault (riscv_item ∷ []) ≡ Some (Repeated 0x42) }
     ensures vector_table { arm_fault (0x00000203 ∷ 0 ∷ 0x000001fe ∷ 0x00000203 ∷ 0 ∷ [])
@@ -276,8 +276,8 @@ pub fn items_of_wrong_size()
         ≡ Some (BadItem 0x4b) }
 {}
 
-/// A HASH_DEF names SHA-256 by the number 1, and a VERSION item has at most 32 rows and a rollback
-/// version of at most 24 for each of them.
+/// A HASH_DEF names SHA-256 by the number 1. A VERSION item has at most 32 rows, and a rollback
+/// version of at most 24 for each row.
 pub fn contents_of_items()
     ensures no_hash { arm_fault (0x00000247 ∷ 1 ∷ []) ≡ Some (BadItem 0x47) }
     ensures other_hash { arm_fault (0x02000247 ∷ 1 ∷ []) ≡ Some (BadItem 0x47) }
@@ -296,8 +296,8 @@ pub fn contents_of_items()
         ≡ Some (BadItem 0x48) }
 {}
 
-/// A listed row lies from 0x0c0 to 0xefd, and two rows differ by 3 or more, in whatever order and
-/// with rows between them.
+/// A listed row lies from 0x0c0 to 0xefd. Two rows differ by 3 or more, in whatever order, and
+/// also with rows between them.
 pub fn bounds_of_rows()
     ensures below { arm_fault (0x01000348 ∷ 0 ∷ 0x00bf0000 ∷ []) ≡ Some (BadRow 0x0bf) }
     ensures first { arm_fault (0x01000348 ∷ 0 ∷ 0x00c00000 ∷ []) ≡ None }
@@ -335,9 +335,10 @@ pub fn bounds_of_hashed_words()
         ≡ Some (BadItem 0x4b) }
 {}
 
-/// Where two faults stand together the first is the answer: that of the least item, standing twice
-/// before a wrong size or content, that before rows, each row in order and its range before its
-/// nearness, and all of these before what is judged after all items.
+/// Where two faults stand together the first is the answer. The fault of an earlier item comes
+/// first. Of one item, standing twice comes before a wrong size or content, and that before its
+/// rows. Rows are judged in order, and the range of a row before its nearness. All of these come
+/// before what is judged after all items.
 pub fn order_of_faults()
     ensures twice_and_wrong { arm_fault (0x00000203 ∷ 0 ∷ 0x00000103 ∷ []) ≡ Some (Repeated 0x03) }
     ensures twice_and_row { arm_fault (0x00000248 ∷ 0 ∷ 0x01000348 ∷ 0 ∷ 0x00bf0000 ∷ [])
@@ -376,8 +377,8 @@ pub fn trial_bits()
     ensures other { trial_cleared (block_with (0x900001fe ∷ [])) ≡ block_with (0x900001fe ∷ []) }
 {}
 
-/// The flags of a definition are 16 bits, and so many words of its block are hashed at most: the
-/// block of one item word has five.
+/// The flags of a definition are 16 bits. At most all words of its block are hashed: the block of
+/// one item word has five.
 pub fn bounds_of_definitions()
     ensures flags { (b : BlockView) (hashed : ℕ) → ¬ (IsDefinition b (def_with 0x1_0000 hashed)) }
     ensures hashed { (flags : ℕ) → ¬ (IsDefinition (arm_block []) (def_with flags 6)) }

@@ -18,8 +18,8 @@ ghost use Rattle.pico_board.specs.declared.boot.Cpu.{Cpu};
 
 use crate::fault::DefFault;
 
-/// A block gives a definition exactly where it has no fault, and then what its items say; and it
-/// gives a fault exactly where that is the first, by the relation over items in order.
+/// A block gives a definition exactly where it has no fault, and the definition is what its items
+/// say. It gives a fault exactly where that is the first, by the relation over items in order.
 pub fn first_fault_exact()
     ensures defined { (b : BlockView) (def : Def)
         → (def_of b ≡ Ok def)
@@ -29,16 +29,16 @@ pub fn first_fault_exact()
         → (item_fault words before item ≡ Some f) ↔ IsItemFault words before item f }
 {}
 
-/// Of each definition: its flags and place are those of the block's IMAGE_TYPE item; its load map's
-/// index is that of a LOAD_MAP item of the right size; the hashed words are in the block, and
-/// before the HASH_VALUE item, where there is one; its rows are rollback rows, at most 32; and
+/// Of each definition: its flags and place are those of the block's IMAGE_TYPE item; its load
+/// map's index is that of a LOAD_MAP item of the right size; the hashed words are in the block,
+/// and before the HASH_VALUE item, where there is one; its rows are rollback rows, at most 32; and
 /// there is a rollback version, within its bound, exactly where rows are listed.
 pub fn definitions_are_sound()
     ensures { (b : BlockView) (def : Def)
         → AreItems b.items → has_image_type b ≡ true → def_of b ≡ Ok def → IsDefinition b def }
 {}
 
-/// No word of a block's digest, nor one behind it, is among those that it covers.
+/// A block's digest covers no word of itself, and none after it.
 pub fn a_digest_covers_what_stands_before_it()
     ensures { (b : BlockView) (words : ℕ) (digest : List ℕ) (item : Item) → item.first < words
         → ¬ (IsDigestItem b words digest item) }
@@ -52,9 +52,9 @@ pub fn one_item_of_each_kind()
         → slice_get (items_of b.items) j ≡ Some other → is_of_kind kind other ≡ true → i ≡ j }
 {}
 
-/// A block whose trial bit is cleared, as a buy leaves it, gives the same definition but for that
-/// bit of its flags, or the same fault; it has the same size, the same other items, and suits the
-/// same processors.
+/// A block has its trial bit cleared, as a buy leaves it. Then it gives the same definition but
+/// for that bit of its flags, or the same fault. It has the same size and the same other items,
+/// and suits the same processors.
 pub fn trial_bit_cleared()
     ensures definition { (b : BlockView) → AreItems b.items → has_image_type b ≡ true
         → def_of (trial_cleared b) ≡ untried_answer (def_of b) }

@@ -1,5 +1,5 @@
-//! Worked examples of load maps. The block stands at offset 0x100 of a window of 8192 bytes and
-//! its LOAD_MAP item at 0x108, from which relative storages count.
+//! Worked examples of load maps. The block stands at offset 0x100 of a window of 8192 bytes. Its
+//! LOAD_MAP item stands at 0x108, and relative storages count from there.
 
 ghost use Rattle.std.specs.Prelude.{◌≡◌, [], ◌∷◌, Ok, Err, Some, None};
 ghost use Rattle.pico_board.specs.Content.{flash_base};
@@ -36,8 +36,8 @@ pub fn a_second_entry_at_the_end_of_sram()
         ≡ Err (MapFault.Runtime 1) }
 {}
 
-/// Of an entry with more than one fault the storage is told first, then the runtime address. A
-/// fault of an earlier entry comes before one of a later entry.
+/// Of an entry with more than one fault the storage is the answer first, then the runtime address.
+/// A fault of an earlier entry comes before one of a later entry.
 #[tactic(auto, unfolding(block_codec::specs::Blocks::frame, block_codec::specs::Items::size_of))]
 pub fn the_first_fault_is_told()
     ensures storage_runtime { loads_in_flash 0x0100_0406 (0x1ef8 ∷ 0x1fff_ffff ∷ 0x1 ∷ [])
@@ -140,8 +140,8 @@ pub fn a_load_into_sram()
         ≡ Err (MapFault.Runtime 0) }
 {}
 
-/// A load that is used where it is stored is right in flash, and in a RAM image, which may have no
-/// other loads.
+/// A load that is used where it is stored is right in flash and in a RAM image. A RAM image may
+/// have no other loads.
 #[tactic(auto, unfolding(block_codec::specs::Blocks::frame, block_codec::specs::Items::size_of))]
 pub fn a_load_that_is_used_in_place()
     ensures flash { loads_in_flash 0x0100_0406 (0xf8 ∷ 0x1000_0200 ∷ 0x20 ∷ [])
@@ -162,8 +162,8 @@ pub fn a_load_that_is_used_in_place()
         ≡ Err (MapFault.Runtime 0) }
 {}
 
-/// A storage may end where its block begins and begin where it ends, and an empty one shares no
-/// byte with it.
+/// A storage may end where its block begins, and may begin where its block ends. An empty storage
+/// shares no byte with its block.
 #[tactic(auto, unfolding(block_codec::specs::Blocks::frame, block_codec::specs::Items::size_of))]
 pub fn a_storage_beside_its_block()
     ensures ends { loads_in_flash 0x0100_0406 (0xffff_ffe8 ∷ 0x2000_0000 ∷ 0x10 ∷ [])
@@ -189,7 +189,7 @@ pub fn a_storage_beside_its_block()
 {}
 
 /// The byte at an address of the window is the window's. In SRAM the last load that holds an
-/// address gives its byte, a clear entry's is 0, and no byte is given elsewhere.
+/// address gives its byte. A clear entry gives 0. No byte is given elsewhere.
 #[tactic(auto, unfolding(block_codec::specs::Words::word_of))]
 pub fn bytes_at_addresses()
     ensures first { byte_at flash_base (7 ∷ 8 ∷ []) [] 0x1000_0000 ≡ Some 7 }
@@ -235,8 +235,8 @@ pub fn words_at_addresses()
 {}
 
 /// The trial bit is read as 0 in the covered words, wherever its word stands, and no other bit is.
-/// A clear entry is covered by its size, four bytes with the lowest first, and another by its
-/// bytes; the loads come first, in order, and the words follow.
+/// A clear entry is covered by its size, four bytes with the lowest first. Another entry is
+/// covered by its bytes. The loads come first, in order, and the words follow.
 #[tactic(auto, unfolding(block_codec::specs::Blocks::frame, block_codec::specs::Words::word_bytes))]
 pub fn covered_texts()
     ensures words { covered [] [] trial_block 2 1

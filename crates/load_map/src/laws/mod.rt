@@ -25,8 +25,8 @@ ghost use Rattle.load_map.specs.declared.setting.Setting.{Setting};
 
 use crate::load::MapFault;
 
-/// A LOAD_MAP item has as many entries as bits 0 to 6 of its fourth header byte say, of three
-/// words each, one behind the other.
+/// A LOAD_MAP item has as many entries as bits 0 to 6 of its fourth header byte say. Each entry
+/// has three words, and one entry follows the other.
 pub fn three_words_an_entry()
     ensures count { (words : List ℕ) (item : Item)
         → length (entries_of words item) ≡ item.high % 128 }
@@ -38,19 +38,19 @@ pub fn three_words_an_entry()
         }) }
 {}
 
-/// A LOAD_MAP item has either spelling of its type byte, and three words for each entry behind its
-/// header.
+/// A LOAD_MAP item has either spelling of its type byte. After its header it has three words for
+/// each entry.
 pub fn a_load_map_item()
     ensures { (b : BlockView) (k : ℕ) (item : Item) → slice_get (items_of b.items) k ≡ Some item
         → IsMapAt b k
         ↔ (((item.kind ≡ 0x06) ⊎ (item.kind ≡ 0x86)) × (item.words ≡ 1 + 3 * (item.high % 128))) }
 {}
 
-/// What an entry loads. One whose first word is 0 is a clear entry of the size in its third word.
-/// A relative one is stored from the signed offset in its first word on, counted from the first
-/// byte of the LOAD_MAP item, and an absolute one between two addresses; either has no load, which
-/// is the fault Storage, where that range leaves the window, starts below its first address or
-/// ends before it starts.
+/// What an entry loads. An entry with a first word of 0 is a clear entry of the size in its third
+/// word. A relative entry is stored from the signed offset in its first word on, counted from the
+/// first byte of the LOAD_MAP item. An absolute entry is stored between two addresses. Either has
+/// no load, which is the fault Storage, where its range is wrong: the range leaves the window,
+/// starts below the window's first address or ends before it starts.
 pub fn what_an_entry_loads()
     ensures clear { (s : Setting) (absolute : Bool) (entry : Entry) → entry.place ≡ 0
         → load_of s absolute entry
@@ -77,8 +77,8 @@ pub fn what_an_entry_loads()
         → load_of s true entry ≡ None }
 {}
 
-/// A load is right where its runtime address is the one at which its storage is seen, or where it
-/// lies in SRAM as a whole and need not be used where it is stored.
+/// A load is right where its runtime address is the one at which its storage is seen. It is also
+/// right where it lies in SRAM as a whole and need not be used where it is stored.
 pub fn where_a_load_is_right()
     ensures { (s : Setting) (load : Load) → (is_runtime_right s load ≡ true)
         ↔ (IsUsedInPlace s.base load.storage load.runtime ⊎ IsLoadedToSram s.in_place load) }
@@ -130,8 +130,8 @@ pub fn the_first_fault()
         (entries_of (block_words b) item)) }
 {}
 
-/// The loads of a map without a fault, one for each entry, are stored in the window, share no byte
-/// with the map's block, and are used where they are stored or lie in SRAM as a whole.
+/// A map without a fault has one load for each entry. The loads are stored in the window and share
+/// no byte with the map's block. Each is used where it is stored, or lies in SRAM as a whole.
 pub fn loads_without_a_fault()
     ensures stored { (base n : ℕ) (in_place : Bool) (b : BlockView) (item : Item)
         (loads : List Load) → loads_of base in_place n b item ≡ Ok loads → AreStoredIn n loads }
@@ -145,8 +145,8 @@ pub fn loads_without_a_fault()
         → length loads ≡ entry_count item }
 {}
 
-/// A storage lies in a window where it ends in it, and is clear of a block where they have no byte
-/// in common; a clear entry has no storage.
+/// A storage lies in a window where it ends in it. It is clear of a block where they have no byte
+/// in common. A clear entry has no storage.
 pub fn where_storages_lie()
     ensures inside { (n x size : ℕ) → IsStoredIn n (Some x) size ↔ (x + size ≤ n) }
     ensures apart { (b : BlockView) (x size : ℕ)
@@ -161,8 +161,8 @@ pub fn a_longer_window_has_the_same_loads()
         → loads_of base in_place m b item ≡ Ok loads }
 {}
 
-/// Loads depend on the block's offset and size, the words of the map's entries and the length of
-/// the window alone; so the trial bit in the header of another item changes none.
+/// Loads depend on four things alone: the block's offset and size, the words of the map's entries,
+/// and the length of the window. So the trial bit in the header of another item changes no load.
 pub fn what_loads_depend_on()
     ensures entries { (base n : ℕ) (in_place : Bool) (b c : BlockView) (item : Item)
         → HaveSameEntries item b c → loads_of base in_place n c item
@@ -174,9 +174,9 @@ pub fn what_loads_depend_on()
         ≡ loads_of base in_place n b map }
 {}
 
-/// The byte at an address is the window's where one is seen there; otherwise, in SRAM, it is given
-/// by the last load whose runtime range holds the address, as its storage byte, or 0 of a clear
-/// entry; otherwise it is not given.
+/// The byte at an address is the window's where one is seen there. Otherwise, in SRAM, the last
+/// load whose runtime range holds the address gives it: its storage byte, or 0 of a clear entry.
+/// Otherwise no byte is given.
 pub fn the_byte_at_an_address()
     ensures window { (base : ℕ) (w : List ℕ) (loads : List Load) (a : ℕ) → base ≤ a
         → a < base + length w → byte_at base w loads a ≡ Some (slice_index w (a - base)) }
@@ -229,9 +229,9 @@ pub fn what_given_bytes_depend_on()
         → given_word base v loads a ≡ given_word base w loads a }
 {}
 
-/// The covered text is that of each load in order, and then that of the block's words, of which
-/// the IMAGE_TYPE word has its trial bit read as 0. The digest is the SHA-256 of that text, with
-/// the number of words and the place of the IMAGE_TYPE word of the definition.
+/// The covered text is that of each load in order, and then that of the block's words. The trial
+/// bit of the IMAGE_TYPE word is read as 0. The digest is the SHA-256 of that text; the definition
+/// names the number of words and the place of the IMAGE_TYPE word.
 pub fn the_covered_text()
     ensures load { (w : List ℕ) (load : Load) (loads : List Load) (b : BlockView) (n k : ℕ)
         → covered w (load ∷ loads) b n k ≡ covered_load w load ++ covered w loads b n k }
@@ -241,8 +241,8 @@ pub fn the_covered_text()
         → covered_digest w b def loads ≡ sha256 (covered w loads b def.hash_words def.image_word) }
 {}
 
-/// Of the words of a block the one at the given place has its topmost bit read as 0, and no other.
-/// Where that word lies behind the hashed words, these are the block's own.
+/// The topmost bit of a block's word at the given place is read as 0, and of no other word. Where
+/// that word lies after the hashed words, these are the block's own.
 pub fn the_trial_bit_is_masked()
     ensures here { (words : List ℕ) (k : ℕ) → k < length words
         → slice_index (masked_words words k) k ≡ slice_index words k % 2 ^ 31 }
@@ -253,9 +253,9 @@ pub fn the_trial_bit_is_masked()
         → take n (masked_words words k) ≡ take n words }
 {}
 
-/// The covered bytes and their digest depend on the bytes where the loads are stored and on the
-/// block's words without the trial bit alone, wherever the IMAGE_TYPE word stands and however many
-/// words are hashed.
+/// The covered bytes and their digest depend on two things alone: the bytes where the loads are
+/// stored, and the block's words without the trial bit. This holds wherever the IMAGE_TYPE word
+/// stands and however many words are hashed.
 pub fn what_covered_bytes_depend_on()
     ensures text { (w v : List ℕ) (loads : List Load) (b c : BlockView) (n k : ℕ)
         → AgreeOn loads w v → SameButTrial k b c → covered v loads c n k ≡ covered w loads b n k }
@@ -265,8 +265,8 @@ pub fn what_covered_bytes_depend_on()
         ≡ covered_digest w b def loads }
 {}
 
-/// Windows agree with themselves, and a block with a changed word is the same but for the trial
-/// bit where that word is the same without it.
+/// A window agrees with itself. A block with a changed word is the same but for the trial bit
+/// where that word is the same without this bit.
 pub fn a_changed_trial_bit()
     ensures window { (loads : List Load) (w : List ℕ) → AgreeOn loads w w }
     ensures block { (a u : ℕ) (b : BlockView) → a % 4 ≡ b.at % 4 → b.at + 4 ≤ a
@@ -275,8 +275,8 @@ pub fn a_changed_trial_bit()
         → SameButTrial ((a - b.at) / 4) b (changed_block a u b) }
 {}
 
-/// A window with more bytes behind it covers the same bytes; and where it ends below SRAM, as in
-/// flash, each byte and each word that was given is given as it was.
+/// A window with more bytes after it covers the same bytes. Where it ends below SRAM, as in flash,
+/// each byte and each word that was given is given as it was.
 pub fn a_longer_window_gives_and_covers_the_same()
     ensures text { (w f : List ℕ) (loads : List Load) (b : BlockView) (n k : ℕ)
         → AreStoredIn (length w) loads → covered (w ++ f) loads b n k ≡ covered w loads b n k }
@@ -291,8 +291,8 @@ pub fn a_longer_window_gives_and_covers_the_same()
         → given_word base w loads a ≡ Some x → given_word base (w ++ f) loads a ≡ Some x }
 {}
 
-/// Windows agree on loads though a byte differs where none of them is stored, and blocks have the
-/// same entries though a word differs that is none of theirs.
+/// Windows agree on loads though a byte differs where none of the loads is stored. Blocks have the
+/// same entries though a word differs that is no word of an entry.
 pub fn what_agreement_leaves_out()
     ensures byte { (w : List ℕ) (load : Load) (start i x : ℕ) → load.storage ≡ Some start
         → (i < start) ⊎ (start + load.size ≤ i) → AgreeOn (load ∷ []) w (slice_set w i x) }

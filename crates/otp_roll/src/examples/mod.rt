@@ -7,8 +7,8 @@ ghost use Rattle.otp_roll.specs.Raises.{raises};
 ghost use Rattle.otp_roll.specs.Flags.{flash_off, rollback_required, slot_size};
 ghost use Rattle.pico_board.specs.declared.Step.TheVariants.{Raise};
 
-/// Where the three rows from 0x0c0 on hold 0x000003, two bits count, and a version of 3 raises
-/// bit 2 in each row.
+/// The three rows from 0x0c0 on hold 0x000003. Then two bits count, and a version of 3 raises bit
+/// 2 in each row.
 pub fn three_equal_rows()
     ensures majority { (otp : List ℕ) → HoldsTriple otp 0x0c0 3 3 3 → majority otp 0x0c0 ≡ 3 }
     ensures count { (otp : List ℕ) → HoldsTriple otp 0x0c0 3 3 3 → count otp (0x0c0 ∷ []) ≡ 2 }
@@ -23,7 +23,7 @@ pub fn rows_at_the_version()
         → raises otp (0x0c0 ∷ []) 3 ≡ [] }
 {}
 
-/// Two rows of 0x00000f and one of 0x000007 count 4, which a version of 3 is below.
+/// Two rows of 0x00000f and one of 0x000007 count 4. A version of 3 is below that.
 pub fn two_rows_are_a_majority()
     ensures majority { (otp : List ℕ) → HoldsTriple otp 0x0c0 0xf 0xf 7
         → majority otp 0x0c0 ≡ 0xf }
@@ -38,10 +38,11 @@ pub fn one_row_alone_counts_as_nothing()
         → raises otp (0x0c0 ∷ []) 3 ≡ [] }
 {}
 
-/// Two listed rows, of which the first in the list is the greater. Its majority lacks bits 1 and
-/// 3, and of its three rows the middle one has bit 3; the other's majority lacks all, and its
-/// middle row has bit 0. A version that wants one bit more takes bit 1 of the first row alone,
-/// two bits take both, and a third one is bit 0 of the second row.
+/// Two listed rows: the first in the list has the greater number. The majority of the first lacks
+/// bits 1 and 3, and the middle one of its three rows has bit 3. The majority of the second lacks
+/// all bits, and its middle row has bit 0. A version that wants one bit more takes bit 1 of the
+/// first row alone. Two bits more take both bits of the first row, and a third bit is bit 0 of the
+/// second row.
 pub fn raises_go_in_the_order_of_the_list()
     ensures one { (otp : List ℕ) → HoldsTriple otp 0x0c3 0xff_fff5 0xff_fffd 0xff_fff5
         → HoldsTriple otp 0x0c0 0 1 0
@@ -67,8 +68,8 @@ pub fn full_rows_take_no_bit()
         → raises otp (0x0c0 ∷ 0x0c3 ∷ []) 48 ≡ Raise 0x0c3 0x80_0000 ∷ Raise 0x0c4 0x80_0000 ∷ [] }
 {}
 
-/// Rows from 0x0c0 to 0xefd may be listed, at most 32 of them, in any order, of which two differ
-/// by at least 3.
+/// Rows from 0x0c0 to 0xefd may be listed, at most 32 of them, in any order. Two of them differ by
+/// at least 3.
 pub fn rows_that_may_be_listed()
     ensures first { AreRollbackRows (0x0c0 ∷ []) }
     ensures below { ¬ (AreRollbackRows (0x0bf ∷ [])) }
@@ -99,8 +100,9 @@ pub fn boot_flags()
         → (rollback_required otp ≡ true) × (flash_off otp ≡ true) }
 {}
 
-/// In a flash of 262,144 bytes 5 in row 0x055 stands for slots of 131,072 bytes, and 6 for ones
-/// of 4096 bytes, since two of 262,144 bytes don't fit. Bits 4 and above of the row are not read.
+/// In a flash of 262,144 bytes 5 in row 0x055 stands for slots of 131,072 bytes. There 6 stands
+/// for slots of 4096 bytes, since two of 262,144 bytes don't fit. Bits 4 and above of the row are
+/// not read.
 pub fn two_slots_fit_or_not()
     ensures five { (otp : List ℕ) → slice_index otp 0x055 ≡ 5 → slot_size otp 262144 ≡ 131072 }
     ensures six { (otp : List ℕ) → slice_index otp 0x055 ≡ 6 → slot_size otp 262144 ≡ 4096 }

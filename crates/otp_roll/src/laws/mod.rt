@@ -24,8 +24,8 @@ pub fn a_triple_has_three_rows()
     ensures apart { (r s : ℕ) → AreRowsApart r s ↔ ((i : ℕ) → IsOutside i r ⊎ IsOutside i s) }
 {}
 
-/// The `n` lowest clear bits of a row are clear in it, every bit below one of them is set or one
-/// of them, and they are `n`, or all that are clear where those are fewer.
+/// The `n` lowest clear bits of a row are clear in it. Every bit below one of them is set in the
+/// row, or is one of them. They are `n`, or all clear bits of the row where it has fewer.
 pub fn the_lowest_clear_bits_of_a_row()
     ensures clear { (n v k : ℕ) → bit_at (lowest_clear n v) k ≡ 1 → bit_at v k ≡ 0 }
     ensures lowest { (n v j k : ℕ) → j < k → bit_at (lowest_clear n v) k ≡ 1
@@ -48,8 +48,9 @@ pub fn no_raise_at_the_version()
     ensures no_rows { (otp : List ℕ) (version : ℕ) → raises otp [] version ≡ [] }
 {}
 
-/// Of rows that follow others the first ones are raised to what the last ones do not count
-/// themselves, and then the last ones to what the first ones cannot hold.
+/// One list of rows follows another. The rows of the first list are raised to the part of the
+/// version that the last rows do not count. Then the last rows are raised to the part that the
+/// first rows cannot hold.
 pub fn raises_of_appended_rows()
     ensures { (otp xs ys : List ℕ) (version : ℕ) → All (λ v. v < 2 ^ 24) otp
         → raises otp (xs ++ ys) version
@@ -82,8 +83,8 @@ pub fn rows_that_no_step_raises_stay()
         → slice_index d.otp i ≡ slice_index c.otp i }
 {}
 
-/// Raises, done or torn, leave the flash, every row outside the listed triples, and so the boot
-/// flags and the slot size.
+/// Raises, done or torn, leave the flash and every row outside the listed triples. So they leave
+/// the boot flags and the slot size.
 pub fn raises_leave_the_rest()
     ensures flash { (c : Content) (rows : List ℕ) (version : ℕ) (d : Content)
         → MayLeave c (raises c.otp rows version) d → d.flash ≡ c.flash }
@@ -102,8 +103,8 @@ pub fn raises_leave_the_rest()
         → MayLeave c (raises c.otp rows version) d → slot_size d.otp n ≡ slot_size c.otp n }
 {}
 
-/// What the loss of power leaves in the raises stays bit by bit between the rows before them and
-/// after them, and so does each majority and each count.
+/// What the loss of power in the raises leaves lies bit by bit between the rows before and after
+/// the raises. So does each majority and each count.
 pub fn a_cut_of_raises_stays_between()
     ensures bits { (c d : Content) (rows : List ℕ) (version : ℕ)
         → CutOf c (raises c.otp rows version) d
