@@ -1,5 +1,5 @@
--- What makes the items of a block no table, as the rules say it, beside the functions of Contents.
--- This project's own where the public source is open.
+-- Which items of a block make no table, as rules; Contents says the same as functions. This
+-- project's own where the public source is open.
 use Rattle.std.specs.Prelude.{◌≡◌, ◌≢◌, ◌⊎◌, ℕ, zero, suc, ◌+◌, ◌%◌, ◌<◌, true, List, [], ◌∷◌, length, drop, slice_get, slice_index, Some}
 use Rattle.block_codec.specs.declared.items.Item.{Item}
 use Rattle.block_codec.specs.declared.kinds.TheConstants.{HASH_DEF, HASH_VALUE, PARTITION_TABLE, VERSION}
@@ -39,21 +39,21 @@ HasWrong items kind IsWrong = (x : Item) × HasItem items kind x × IsWrong x
 abbrev pub IsWrongVersion : Item → Type 0
 IsWrongVersion x = x.words ≢ version_words x.high
 
--- a HASH_DEF item has not two words, or names another hash than SHA-256 (RP2350 Datasheet, chapter
--- 5, Bootrom)
+-- a HASH_DEF item does not have two words, or names another hash than SHA-256 (RP2350 Datasheet,
+-- chapter 5, Bootrom)
 abbrev pub IsWrongHashDef : Item → Type 0
 IsWrongHashDef x = (x.words ≢ 2) ⊎ (x.high ≢ 1)
 
--- a HASH_VALUE item has not nine words (RP2350 Datasheet, chapter 5, Bootrom)
+-- a HASH_VALUE item does not have nine words (RP2350 Datasheet, chapter 5, Bootrom)
 abbrev pub IsWrongHashValue : Item → Type 0
 IsWrongHashValue x = x.words ≢ 9
 
--- the number of hashed words that a HASH_DEF item tells (RP2350 Datasheet, chapter 5, Bootrom)
+-- the number of hashed words in a HASH_DEF item (RP2350 Datasheet, chapter 5, Bootrom)
 abbrev pub told_words : List ℕ → Item → ℕ
 told_words words x = low_half (slice_index words (x.first + 1))
 
--- a HASH_VALUE has no HASH_DEF; or the hashed words pass the word at which it begins; or there is
--- none, and they pass the block
+-- a HASH_VALUE has no HASH_DEF; or the hashed words pass the word at which the HASH_VALUE begins;
+-- or there is no HASH_VALUE, and they pass the block
 abbrev pub IsMisplacedHash : List ℕ → List Item → Type 0
 IsMisplacedHash words items =
     ((value : Item) × HasItem items HASH_VALUE value × HasNoItem items HASH_DEF)
@@ -62,13 +62,13 @@ IsMisplacedHash words items =
     ⊎ ((def : Item) × HasNoItem items HASH_VALUE × HasItem items HASH_DEF def
     × (length words < told_words words def))
 
--- so many partitions, one behind the other, fill the words exactly
+-- so many partitions, one after the other, fill the words exactly
 abbrev pub Fill : ℕ → List ℕ → Type 0
 Fill zero ws = ws ≡ []
 Fill (suc n) ws = (size : ℕ) × (partition_words ws ≡ Some size) × Fill n (drop size ws)
 
--- the fields of a table fill the words behind a PARTITION_TABLE header exactly: the unpartitioned
--- word, and as many partitions as the header's fourth byte tells in its low four bits
+-- the fields of a table fill the words after a PARTITION_TABLE header exactly: the unpartitioned
+-- word, and then the partitions; the low four bits of the header's fourth byte are their number
 abbrev pub AreFilled : ℕ → List ℕ → Type 0
 AreFilled high [] = ⊥
 AreFilled high (word ∷ ws) = Fill (high % 16) ws
@@ -89,8 +89,8 @@ HasWrongItem items =
     HasWrong items VERSION IsWrongVersion ⊎ HasWrong items HASH_DEF IsWrongHashDef
     ⊎ HasWrong items HASH_VALUE IsWrongHashValue
 
--- a block's items say no table: a kind stands twice, an item has a wrong size or header, the hash
--- is misplaced, the fields do not fill their item, or there is no PARTITION_TABLE item
+-- a block's items say no table: a kind stands twice; an item has a wrong size or header; the hash
+-- is misplaced; the fields do not fill their item; or there is no PARTITION_TABLE item
 abbrev pub HasBadItem : List ℕ → List Item → Type 0
 HasBadItem words items =
     IsRepeatedKind items ⊎ HasWrongItem items ⊎ IsMisplacedHash words items

@@ -19,9 +19,9 @@ use Rattle.part_table.specs.Partitions.{partitions_in}
 abbrev pub body_of : List ℕ → Item → List ℕ
 body_of words x = slice_range words (x.first + 1) (x.first + x.words)
 
--- a PARTITION_TABLE item has in header byte 3 the singleton bit and the number of partitions, then
--- the unpartitioned word, then the partitions, which fill it exactly (RP2350 Datasheet, chapter 5,
--- Bootrom)
+-- header byte 3 of a PARTITION_TABLE item has the singleton bit and the number of partitions; then
+-- come the unpartitioned word and the partitions, which fill the item exactly (RP2350 Datasheet,
+-- chapter 5, Bootrom)
 abbrev pub table_from : Version → ℕ → List ℕ → Option Table
 table_from v high [] = None
 table_from v high (word ∷ ws) =
@@ -37,7 +37,7 @@ table_from v high (word ∷ ws) =
 abbrev pub is_repeated : List Item → ℕ → Bool
 is_repeated items kind = nat_le 2 (length (items_of_kind kind items))
 
--- an item is misread where the reading of its kind refuses it, for its size or its header (RP2350
+-- an item is misread where the reader of its kind refuses its size or its header (RP2350
 -- Datasheet, chapter 5, Bootrom)
 abbrev pub is_misread : {A : Type 0} → (Item → Option A) → Option Item → Bool
 is_misread read None = false
@@ -55,8 +55,8 @@ said read kind items = option_and_then read (item_of_kind kind items)
 abbrev pub hash_count : List ℕ → List Item → Option ℕ
 hash_count words items = said (hash_count_of words) HASH_DEF items
 
--- a digest is misplaced where no HASH_DEF tells its words, or these pass the word at which the
--- HASH_VALUE item begins; without a HASH_VALUE item the words may not pass the block
+-- a digest is misplaced where no HASH_DEF has its number of words, or these words pass the word at
+-- which the HASH_VALUE item begins; without a HASH_VALUE item the words may not pass the block
 abbrev pub is_misplaced_digest : ℕ → Option Item → Option ℕ → Bool
 is_misplaced_digest size None None = false
 is_misplaced_digest size None (Some count) = nat_lt size count
@@ -76,8 +76,8 @@ version_in words items =
     unwrap_or (said (version_of words) VERSION items) (record { major = 0; minor = 0 })
 
 -- the fields of a block's words and items are what its PARTITION_TABLE item says, with the
--- version; there are none where one of these two kinds is bad, there is no such item, or its
--- partitions do not fill it exactly
+-- version; there are none where one of these two kinds is bad, where there is no PARTITION_TABLE
+-- item, or where its partitions do not fill it exactly
 abbrev pub fields_of_items : List ℕ → List Item → Option Table
 fields_of_items words items =
     if is_repeated items PARTITION_TABLE || is_bad (version_of words) VERSION items then None
@@ -88,19 +88,20 @@ fields_of_items words items =
 abbrev pub table_of_items : List ℕ → List Item → Option Table
 table_of_items words items = if has_bad_hash words items then None else fields_of_items words items
 
--- the hash that a block states is its HASH_VALUE's digest, with the number of the HASH_DEF (RP2350
--- Datasheet, chapter 5, Bootrom)
+-- the hash that a block states is the digest of its HASH_VALUE, with the number of words in its
+-- HASH_DEF (RP2350 Datasheet, chapter 5, Bootrom)
 abbrev pub stated_hash : List ℕ → List Item → Option StatedHash
 stated_hash words items =
     option_map (λ bytes. record { words = unwrap_or (hash_count words items) 0; digest = bytes })
     (said (digest_of words) HASH_VALUE items)
 
--- a stated hash is wrong where its digest is not the SHA-256 of the block's first words, as many as
--- it tells (RP2350 Datasheet, chapter 5, Bootrom)
+-- a stated hash is wrong where its digest is not the SHA-256 of the block's first words, as many
+-- as it states (RP2350 Datasheet, chapter 5, Bootrom)
 abbrev pub is_wrong_hash : List ℕ → StatedHash → Bool
 is_wrong_hash words hash = not (bytes_eq hash.digest (sha256 (bytes_of (take hash.words words))))
 
--- a block has a wrong hash where it states one that is wrong (RP2350 Datasheet, chapter 5, Bootrom)
+-- a block has a wrong hash where it states one that is wrong (RP2350 Datasheet, chapter 5,
+-- Bootrom)
 abbrev pub has_wrong_hash : List ℕ → List Item → Bool
 has_wrong_hash words items = option_map_or (is_wrong_hash words) (stated_hash words items) false
 

@@ -1,4 +1,4 @@
--- Worked examples of tables, with their answers reckoned by hand from the rules.
+-- Worked examples of tables, with their answers worked out by hand from the rules.
 use Rattle.std.specs.Prelude.{drop, ℕ, ◌+◌, ◌*◌, true, false, List, [], ◌∷◌, ◌++◌, pos, replicate, Option, None, Some, Result}
 use Rattle.arrayvec.specs.ArrayVec.{ArrayVec}
 use Rattle.block_codec.specs.Blocks.{BlockView}
@@ -26,7 +26,7 @@ sectors first last = 0xfc000000 + 8192 * last + first
 abbrev pub block_with : List ℕ → BlockView
 block_with words = record { at = 0; items = words; link = pos 0 }
 
--- the table of that block in a flash of 64 sectors, of which the first two are not free
+-- the table of that block in a flash of 64 sectors; the first two are not free
 abbrev pub table_in_64 : List ℕ → Result Table TableFault
 table_in_64 words = table_of (block_with words) 64 2
 
@@ -40,8 +40,8 @@ table_with ps = record {
   parts = record { items = ps };
 }
 
--- the item words of a table of two partitions, sectors 2 to 31 and 32 to 61, the second of which is
--- the B of the first; both have all rights and accept rp2350-arm-s
+-- the item words of a table of two partitions, sectors 2 to 31 and 32 to 61; the second is the B
+-- of the first; both have all rights and accept rp2350-arm-s
 abbrev pub pair_items : List ℕ
 pair_items = 0x0200060a ∷ 0xfc008000 ∷ 0xfc03e002 ∷ 0xfc020000 ∷ 0xfc07a020 ∷ 0xfc020002 ∷ []
 
@@ -78,14 +78,14 @@ three_parts a_location a_flags b_location b_flags c_location c_flags =
 abbrev pub placed_parts : ℕ → ℕ → ℕ → List ℕ
 placed_parts one two three = three_parts one 0xfc000000 two 0xfc000000 three 0xfc000000
 
--- a table of three partitions, sectors 2 to 3, 4 to 5 and 6 to 7, with these flag words below their
--- permissions
+-- the item words of a table of three partitions, sectors 2 to 3, 4 to 5 and 6 to 7; these are the
+-- flag words below their permissions
 abbrev pub linked_parts : ℕ → ℕ → ℕ → List ℕ
 linked_parts one two three =
     three_parts (sectors 2 3) (0xfc000000 + one) (sectors 4 5) (0xfc000000 + two) (sectors 6 7)
     (0xfc000000 + three)
 
--- the table of three partitions, sectors 2 to 3, 4 to 5 and 6 to 7, with these flag words below
+-- the table of three partitions, sectors 2 to 3, 4 to 5 and 6 to 7; these are the flag words below
 -- their permissions
 abbrev pub linked_table : ℕ → ℕ → ℕ → Table
 linked_table one two three =
@@ -102,8 +102,8 @@ pair_and words = pair_items ++ words
 abbrev pub eight_words : List ℕ
 eight_words = 0 ∷ 0 ∷ 0 ∷ 0 ∷ 0 ∷ 0 ∷ 0 ∷ 0 ∷ []
 
--- a singleton table of one partition, sectors 2 to 3, with an id, two extra families and a name of
--- four bytes; bit 7 of the name's length byte is set
+-- a singleton table of one partition, sectors 2 to 3: it has an id, two extra families and a name
+-- of four bytes; bit 7 of the name's length byte is set
 abbrev pub named_items : List ℕ
 named_items =
     0x81000a0a ∷ 0 ∷ 0xfc006002 ∷ 0xfc001101 ∷ 0x44332211 ∷ 0x88776655 ∷ 0x11111111 ∷ 0xe48bff5a
@@ -168,8 +168,9 @@ versioned_table high low word = record {
 }
 
 -- the table of that partition, of 39 words, two partitions of 34 words with the longest name, and
--- one more of these with these extra families; with the one word before the partitions, the header
--- and 17 words around them it is written in 160 words where there is no extra family
+-- a third such partition with these extra families; the partitions have one word before them, the
+-- item's header, and 17 words of the block around them; so the table is written in 160 words where
+-- there is no extra family
 abbrev pub long_table : ℕ → List ℕ → Table
 long_table flag_word extra =
     table_with
@@ -178,8 +179,8 @@ long_table flag_word extra =
     ∷ named_partition_of 0x1000 longest_name.items
     ∷ partition_with flag_word None extra (Some longest_name) ∷ [])
 
--- a pair of images, sectors 2 to 9 and 10 to 17, and a pair of data, sectors 18 to 25 and 26 to 33,
--- whose A has the first image partition as its owner
+-- a pair of images, sectors 2 to 9 and 10 to 17, and a pair of data, sectors 18 to 25 and 26 to
+-- 33; the first image partition is the owner of the A of the data
 abbrev pub owned_items : List ℕ
 owned_items =
     0x04000a0a ∷ 0xfc008000 ∷ 0xfc012002 ∷ 0xfc020000 ∷ 0xfc02200a ∷ 0xfc020002 ∷ 0xfc032012
@@ -194,8 +195,8 @@ owned_table =
     ∷ plain_partition 0xfc032012 0xfc010004
     ∷ plain_partition 0xfc04201a 0xfc010012 ∷ [])
 
--- the table of two partitions in which the bootloader may not write the first, and may not write
--- the unpartitioned sectors
+-- the table of two partitions; the bootloader may not write the first, and may not write the
+-- unpartitioned sectors
 abbrev pub guarded_table : Table
 guarded_table = record {
   version = record { major = 0; minor = 0 };
@@ -207,7 +208,7 @@ guarded_table = record {
   };
 }
 
--- the table of two partitions in which the bootloader may not read the first, and may not read the
+-- the table of two partitions; the bootloader may not read the first, and may not read the
 -- unpartitioned sectors
 abbrev pub unread_table : Table
 unread_table = record {
@@ -221,7 +222,7 @@ unread_table = record {
 }
 
 -- the items that are written for the pair's table: its version 0.0, the count of the 11 words
--- before the digest, and their SHA-256, reckoned outside
+-- before the digest, and their SHA-256, which another program computed
 abbrev pub pair_digest : List ℕ
 pair_digest =
     0xa3e4cc17 ∷ 0x575b5c0a ∷ 0xb635cc2f ∷ 0xb84edf57 ∷ 0x3084ded1 ∷ 0xe1c8ec62 ∷ 0xbe5df4e2

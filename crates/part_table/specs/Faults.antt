@@ -1,4 +1,5 @@
--- The faults of a table's partitions, each the one of the least partition that has one.
+-- The faults of a table's partitions: of each kind, the fault of the lowest partition that has
+-- one.
 use Rattle.std.specs.Prelude.{ℕ, Bool, true, ◌+◌, ◌==◌, ◌&&◌, ◌||◌, not, List, length, drop, slice_get, nat_lt, nat_le, if◌then◌else◌, position}
 use Rattle.std.specs.Prelude.{Option, None, Some, option_map}
 use Rattle.std.specs.Option.{option_or, option_map_or}
@@ -19,7 +20,7 @@ judge_permissions before p =
     if permissions_of p.location == permissions_of p.flags then None
     else Some (Permissions (length before))
 
--- a partition is out of range in a flash of n sectors, of which m stand before the first free one,
+-- in a flash of n sectors with m sectors before the first free one, a partition is out of range
 -- where its first sector is below m or above its last, or its last is not below n
 abbrev pub is_out_of_range : ℕ → ℕ → Partition → Bool
 is_out_of_range n m p =
@@ -29,23 +30,23 @@ is_out_of_range n m p =
 abbrev pub judge_range : ℕ → ℕ → List Partition → Partition → Option TableFault
 judge_range n m before p = if is_out_of_range n m p then Some (Range (length before)) else None
 
--- a partition overlaps with the least later one that shares a sector with it (RP2350 Datasheet,
+-- a partition overlaps with the first later one that shares a sector with it (RP2350 Datasheet,
 -- chapter 5, Bootrom)
 abbrev pub judge_overlap : List Partition → List Partition → Partition → Option TableFault
 judge_overlap parts before p =
     option_map (λ k. Overlap (length before) (length before + 1 + k))
     (position (shares_sector p) (drop (length before + 1) parts))
 
--- a link "A is" is wrong where the partition that it names is none, is the partition itself or has
--- such a link too, or is the A of a partition before
+-- a link "A is" is wrong where it names no partition, or the partition itself, or a partition that
+-- has such a link too, or the A of a partition before
 abbrev pub is_wrong_pair : List Partition → List Partition → Partition → Bool
 is_wrong_pair parts before p =
     option_map_or is_second (slice_get parts (link_value p)) true
     || link_value p == length before
     || list_any (is_second_of (link_value p)) before
 
--- an owner link is wrong where the partition that it names is none, is the partition itself or has
--- a link
+-- an owner link is wrong where it names no partition, or the partition itself, or a partition that
+-- has a link
 abbrev pub is_wrong_owner : List Partition → List Partition → Partition → Bool
 is_wrong_owner parts before p =
     option_map_or (λ q. not (link_type q == 0)) (slice_get parts (link_value p)) true
@@ -63,24 +64,24 @@ abbrev pub judge_link : List Partition → List Partition → Partition → Opti
 judge_link parts before p =
     if is_wrong_link parts before p then Some (Link (length before)) else None
 
--- the first fault of permissions is that of the least partition that has one
+-- the first fault of permissions is that of the lowest partition that has one
 abbrev pub permissions_fault : List Partition → Option TableFault
 permissions_fault parts = first_fault judge_permissions parts
 
--- the first fault of range is that of the least partition that has one
+-- the first fault of range is that of the lowest partition that has one
 abbrev pub range_fault : ℕ → ℕ → List Partition → Option TableFault
 range_fault n m parts = first_fault (judge_range n m) parts
 
--- the first overlap is that of the least partition that has one
+-- the first overlap is that of the lowest partition that has one
 abbrev pub overlap_fault : List Partition → Option TableFault
 overlap_fault parts = first_fault (judge_overlap parts) parts
 
--- the first fault of a link is that of the least partition that has one
+-- the first fault of a link is that of the lowest partition that has one
 abbrev pub link_fault : List Partition → Option TableFault
 link_fault parts = first_fault (judge_link parts) parts
 
--- the first fault of a table's partitions in a flash of n sectors, of which m stand before the
--- first free one, is sought over the whole table for permissions, then range, then overlaps, then
+-- the first fault of a table's partitions in a flash of n sectors with m sectors before the first
+-- free one: it is sought over the whole table for permissions, then range, then overlaps, then
 -- links
 abbrev pub parts_fault : List Partition → ℕ → ℕ → Option TableFault
 parts_fault parts n m =

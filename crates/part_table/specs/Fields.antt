@@ -19,7 +19,7 @@ first_sector p = p.location % 2 ^ 13
 abbrev pub last_sector : Partition → ℕ
 last_sector p = p.location / 2 ^ 13 % 2 ^ 13
 
--- the permissions of a location word, a flag word or an unpartitioned word are its bits 26 to 31
+-- the permissions in a location word, a flag word or an unpartitioned word are bits 26 to 31
 -- (RP2350 Datasheet, chapter 5, Bootrom)
 abbrev pub permissions_of : ℕ → ℕ
 permissions_of word = word / 2 ^ 26 % 2 ^ 6
@@ -43,8 +43,8 @@ link_value p = p.flags / 2 ^ 3 % 2 ^ 4
 abbrev pub family_count : ℕ → ℕ
 family_count flags = flags / 2 ^ 7 % 2 ^ 2
 
--- a partition is ignored in the boot of a processor where bit 9 of its flag word, for Arm, or bit
--- 10, for RISC-V, is set (RP2350 Datasheet, chapter 5, Bootrom)
+-- a partition is ignored in an Arm boot where bit 9 of its flag word is set, and in a RISC-V boot
+-- where bit 10 is (RP2350 Datasheet, chapter 5, Bootrom)
 abbrev pub is_ignored : Cpu → Partition → Bool
 is_ignored Arm p = has_bit p.flags 9
 is_ignored Riscv p = has_bit p.flags 10
@@ -54,7 +54,7 @@ is_ignored Riscv p = has_bit p.flags 10
 abbrev pub has_name : ℕ → Bool
 has_name flags = has_bit flags 12
 
--- a download into a partition is followed by no boot where bit 13 of its flag word is set (RP2350
+-- no boot follows a download into a partition where bit 13 of its flag word is set (RP2350
 -- Datasheet, chapter 5, Bootrom)
 abbrev pub is_staying : Partition → Bool
 is_staying p = has_bit p.flags 13

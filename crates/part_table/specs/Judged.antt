@@ -7,9 +7,9 @@ use Rattle.part_table.specs.declared.table.Table.{Table}
 use Rattle.part_table.specs.Faults.{table_fault}
 use Rattle.part_table.specs.TableOf.{has_table, table_of}
 
--- bytes are judged as a table in a flash of n sectors, of which m stand before the first free one,
--- where a block stands at their front, whatever follows them and wherever they stand, and this
--- block is read as the table, or to the first fault of its partitions
+-- bytes are judged as a table in a flash of n sectors with m sectors before the first free one: a
+-- block stands at their front, whatever follows them and wherever they stand; it is read as the
+-- table, or to the first fault of the table's partitions
 abbrev pub IsJudgedAs : List ℕ → Table → ℕ → ℕ → Type 0
 IsJudgedAs bytes t n m =
     (at : ℕ) (rest : List ℕ)

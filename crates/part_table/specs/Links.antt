@@ -13,17 +13,17 @@ is_second p = link_type p == 1
 abbrev pub is_owned : Partition → Bool
 is_owned p = link_type p == 2
 
--- a partition is the B of the partition a where its link says that A is a (RP2350 Datasheet,
--- chapter 5, Bootrom)
+-- a partition is the B of the partition a where its link "A is" names a (RP2350 Datasheet, chapter
+-- 5, Bootrom)
 abbrev pub is_second_of : ℕ → Partition → Bool
 is_second_of a p = is_second p && link_value p == a
 
--- the B of the partition a is the partition whose link says that A is a, if there is one (RP2350
+-- the B of the partition a is the partition whose link "A is" names a, if there is one (RP2350
 -- Datasheet, chapter 5, Bootrom)
 abbrev pub pair_of : List Partition → ℕ → Option ℕ
 pair_of parts a = position (is_second_of a) parts
 
--- the owner of a partition is the one that its owner link names, if it has such a link (RP2350
--- Datasheet, chapter 5, Bootrom)
+-- the owner of a partition is the partition that its owner link names, if there is such a link
+-- (RP2350 Datasheet, chapter 5, Bootrom)
 abbrev pub owner_of : Partition → Option ℕ
 owner_of p = if is_owned p then Some (link_value p) else None

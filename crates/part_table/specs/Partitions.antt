@@ -1,5 +1,5 @@
--- The partitions of a list of words. The order and the layout of the id, the extra families and the
--- name are this project's own.
+-- The partitions of a list of words. The order and the layout of the id, the extra families and
+-- the name are this project's own.
 use Rattle.std.specs.Prelude.{ℕ, zero, suc, ◌+◌, ◌*◌, ◌/◌, ◌%◌, ◌^◌, List, [], ◌∷◌, length, take, drop, slice_index, slice_index_or, nat_le, if◌then◌else◌}
 use Rattle.std.specs.Prelude.{Option, None, Some, option_map, option_and_then}
 use Rattle.arrayvec.specs.ArrayVec.{ArrayVec}
@@ -54,8 +54,8 @@ partition_of at flag_word ws = record {
   name = name_of flag_word ws;
 }
 
--- the partition at the front of a list of words takes its two words and those of its id, its extra
--- families and its name; there is none where these are not all there
+-- how many words the partition at the front of a list of words takes: its two words and those of
+-- its id, its extra families and its name; None where these are not all there
 abbrev pub partition_words : List ℕ → Option ℕ
 partition_words [] = None
 partition_words (location ∷ []) = None
@@ -66,8 +66,8 @@ partition_words (location ∷ flags ∷ ws) =
 abbrev pub partition_from : List ℕ → Partition
 partition_from ws = partition_of (slice_index ws 0) (slice_index ws 1) (drop 2 ws)
 
--- a list of words is read as n partitions, one behind the other, where these fill it exactly, and
--- is refused otherwise
+-- a list of words is read as n partitions, one after the other, where these fill it exactly;
+-- otherwise it is refused
 abbrev pub partitions_in : ℕ → List ℕ → Option (List Partition)
 partitions_in zero [] = Some []
 partitions_in zero (w ∷ ws) = None
@@ -76,7 +76,7 @@ partitions_in (suc n) ws =
     (λ size. option_map (λ parts. partition_from ws ∷ parts) (partitions_in n (drop size ws)))
     (partition_words ws)
 
--- what stands for a partition past a table's end is a partition of no right, no link and no family
+-- past a table's end stands a partition of no right, no link and no family
 abbrev pub no_partition : Partition
 no_partition =
     record { location = 0; flags = 0; id = None; families = record { items = [] }; name = None }

@@ -8,14 +8,14 @@ use Rattle.part_table.specs.declared.table.Right.TheVariants.{BootRead, BootWrit
 use Rattle.part_table.specs.Fields.{has_bit}
 use Rattle.part_table.specs.Windows.{has_sector}
 
--- the bootloader's right to read is bit 30 of a word with permissions, and that to write is bit 31
--- (RP2350 Datasheet, chapter 5, Bootrom)
+-- in a word with permissions bit 30 is the bootloader's right to read, and bit 31 its right to
+-- write (RP2350 Datasheet, chapter 5, Bootrom)
 abbrev pub right_bit : Right → ℕ
 right_bit BootRead = 30
 right_bit BootWrite = 31
 
--- the permissions of a sector are those of its partition's location word, or of the unpartitioned
--- word where it is in no partition (RP2350 Datasheet, chapter 5, Bootrom)
+-- the permissions of a sector are those of its partition's location word; of a sector in no
+-- partition, those of the unpartitioned word (RP2350 Datasheet, chapter 5, Bootrom)
 abbrev pub right_word : Table → ℕ → ℕ
 right_word t sector =
     option_map_or (λ p. p.location) (find (has_sector sector) t.parts.items) t.unpartitioned

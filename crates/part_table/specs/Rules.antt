@@ -1,5 +1,5 @@
--- The faults of a table's partitions as the rules say them, beside the functions of Faults; the
--- numbers of partitions count from 0. This project's own where the public source is open.
+-- The faults of a table's partitions as rules; Faults says the same as functions. Partitions are
+-- numbered from 0. This project's own where the public source is open.
 use Rattle.std.specs.Prelude.{◌≡◌, ◌≢◌, ℕ, ◌<◌, ◌≤◌, ◌⊎◌, Bool, true, false, List, length, Option, None, Some, Result, Ok, Err}
 use Rattle.block_codec.specs.Blocks.{BlockView, block_words}
 use Rattle.block_codec.specs.Items.{items_of}
@@ -16,7 +16,7 @@ abbrev pub HasTwoPermissions : List Partition → ℕ → Type 0
 HasTwoPermissions parts i =
     permissions_of (part_at parts i).location ≢ permissions_of (part_at parts i).flags
 
--- the first sector of partition i is below m or above its last, or its last is not below n
+-- the first sector of partition i is below m or above its last sector, or its last is not below n
 abbrev pub IsOutOfRange : ℕ → ℕ → List Partition → ℕ → Type 0
 IsOutOfRange n m parts i =
     (first_sector (part_at parts i) < m)
@@ -27,15 +27,15 @@ IsOutOfRange n m parts i =
 abbrev pub HasSector : List Partition → ℕ → ℕ → Type 0
 HasSector parts i s = (first_sector (part_at parts i) ≤ s) × (s ≤ last_sector (part_at parts i))
 
--- partition j is the least above i that shares a sector with i
+-- partition j is the lowest above i that shares a sector with i
 pub record IsSharedFirst (parts : List Partition) (i j : ℕ) : Type 0 where
   pub above : i < j
   pub inside : j < length parts
   pub shared : (s : ℕ) × HasSector parts i s × HasSector parts j s
   pub least : (k s : ℕ) → i < k → k < j → HasSector parts i s → HasSector parts k s → ⊥
 
--- the link "A is v" of partition i is wrong: v is no partition, is i itself, has such a link
--- itself, or is the A of a smaller number than i
+-- the link "A is v" of partition i is wrong: v is no partition, or i itself, or has such a link
+-- itself, or is the A of a lower partition than i
 abbrev pub IsWrongPair : List Partition → ℕ → ℕ → Type 0
 IsWrongPair parts i v =
     (length parts ≤ v)
@@ -71,7 +71,7 @@ LinkFault parts i f = (f ≡ Link i) × HasWrongLink parts i
 abbrev pub HasNo : List Partition → (ℕ → TableFault → Type 0) → Type 0
 HasNo parts Has = (i : ℕ) (f : TableFault) → i < length parts → Has i f → ⊥
 
--- f is the fault of the least partition that has one of a kind
+-- f is the fault of the lowest partition that has one of a kind
 pub record IsLeast (parts : List Partition) (Has : ℕ → TableFault → Type 0)
     (f : TableFault) : Type 0 where
   pub place : ℕ
@@ -79,7 +79,7 @@ pub record IsLeast (parts : List Partition) (Has : ℕ → TableFault → Type 0
   pub here : Has place f
   pub before : (j : ℕ) (g : TableFault) → j < place → Has j g → ⊥
 
--- f is the first fault of a table's partitions in a flash of n sectors, of which m stand before the
+-- f is the first fault of a table's partitions in a flash of n sectors with m sectors before the
 -- first free one: of permissions, else of range, else of overlap, else of a link
 abbrev pub IsFirstTableFault : List Partition → ℕ → ℕ → TableFault → Type 0
 IsFirstTableFault parts n m f =
@@ -98,8 +98,8 @@ pub record HasNoFault (parts : List Partition) (n m : ℕ) : Type 0 where
   pub overlap : HasNo parts (OverlapFault parts)
   pub links : HasNo parts (LinkFault parts)
 
--- what a block's items and its hash say is answered so: BadItem where they say no table, else the
--- first fault of the table's partitions, else Hash where the hash is wrong, else the table
+-- the answer to what a block's items and its hash say: BadItem where the items say no table; else
+-- the first fault of the table's partitions; else Hash where the hash is wrong; else the table
 abbrev pub IsTableAnswer : Option Table → Bool → ℕ → ℕ → Result Table TableFault → Type 0
 IsTableAnswer says wrong_hash n m (Ok t) = (says ≡ Some t) × HasNoFault t.parts.items n m
     × (wrong_hash ≡ false)

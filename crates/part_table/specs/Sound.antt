@@ -4,8 +4,8 @@ use Rattle.part_table.specs.declared.table.Table.{Table}
 use Rattle.part_table.specs.Fields.{first_sector, last_sector}
 use Rattle.part_table.specs.Faults.{permissions_fault, overlap_fault, link_fault}
 
--- a table is sound for a flash of n sectors where it has no fault of permissions, overlap or link,
--- and each partition's first sector is not above its last and its last is below n
+-- a table is sound for a flash of n sectors where it has no fault of permissions, overlap or link;
+-- each partition's first sector is not above its last, and its last is below n
 pub record IsSoundTable (t : Table) (n : ℕ) : Type 0 where
   pub permissions : permissions_fault t.parts.items ≡ None
   pub overlap : overlap_fault t.parts.items ≡ None

@@ -22,13 +22,13 @@ has_table b = is_some (item_of_kind PARTITION_TABLE (items_of b.items))
 abbrev pub wrong_hash_fault : List ℕ → List Item → Option TableFault
 wrong_hash_fault words items = if has_wrong_hash words items then Some Hash else None
 
--- a table that was read is judged by its partitions and then by its digest, and one that was not
--- has a bad item
+-- a table that was read is judged by its partitions and then by its digest; where no table was
+-- read, an item is bad
 abbrev pub table_or_fault : Option Table → ℕ → ℕ → Option TableFault → Result Table TableFault
 table_or_fault None n m wrong_hash = Err BadItem
 table_or_fault (Some t) n m wrong_hash = ok_unless (option_or (table_fault t n m) wrong_hash) t
 
--- the table of a block in a flash of n sectors, of which m stand before the first free one, or its
+-- the table of a block in a flash of n sectors with m sectors before the first free one, or its
 -- first fault
 abbrev pub table_of : BlockView → ℕ → ℕ → Result Table TableFault
 table_of b n m =

@@ -11,14 +11,14 @@ use Rattle.part_table.specs.Partitions.{part_at}
 abbrev pub has_sector : ℕ → Partition → Bool
 has_sector sector p = nat_le (first_sector p) sector && nat_le sector (last_sector p)
 
--- two partitions share a sector where neither ends before the other begins; that is judged by first
--- and last sectors, so it is meant for partitions whose first is not above their last (RP2350
+-- two partitions share a sector where neither ends before the other begins; first and last sectors
+-- judge this, so it is meant for partitions whose first sector is not above their last (RP2350
 -- Datasheet, chapter 5, Bootrom)
 abbrev pub shares_sector : Partition → Partition → Bool
 shares_sector p q =
     nat_le (first_sector p) (last_sector q) && nat_le (first_sector q) (last_sector p)
 
--- a partition is the window of its first to its last sector, of 4096 bytes each (RP2350 Datasheet,
+-- the window of a partition is its first to its last sector, of 4096 bytes each (RP2350 Datasheet,
 -- chapter 5, Bootrom)
 abbrev pub part_window : Partition → Window
 part_window p =
@@ -29,8 +29,8 @@ part_window p =
 abbrev pub partition_window : Table → ℕ → Window
 partition_window t i = part_window (part_at t.parts.items i)
 
--- a window is of whole sectors, at least one, stands inside a flash of n sectors, and begins at
--- sector m or behind it
+-- a window is of whole sectors, at least one; it stands inside a flash of n sectors, and begins at
+-- sector m or after it
 pub record IsPlacedWindow (w : Window) (n m : ℕ) : Type 0 where
   pub starts : w.start % 4096 ≡ 0
   pub whole : w.len % 4096 ≡ 0

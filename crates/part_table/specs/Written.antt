@@ -15,21 +15,21 @@ use Rattle.block_codec.specs.declared.kinds.TheConstants.{HASH_DEF, HASH_VALUE, 
 use Rattle.part_table.specs.Fields.{has_id, family_count, has_name}
 use Rattle.part_table.specs.TableOf.{has_table, table_of}
 
--- a partition agrees with its flag word where this tells of its id, its extra families and its
--- name
+-- a partition agrees with its flag word where the word says whether it has an id and a name, and
+-- how many extra families
 pub record AgreesWithFlags (p : Partition) : Type 0 where
   pub id : has_id p.flags ≡ is_some p.id
   pub families : family_count p.flags ≡ length p.families.items
   pub name : has_name p.flags ≡ is_some p.name
 
--- what is written for a partition can be read as it where it agrees with its flag word and its
--- name has bytes, at most 127
+-- what is written for a partition is read as that partition again where it agrees with its flag
+-- word, and its name is of at most 127 bytes
 pub record IsReadablePartition (p : Partition) : Type 0 where
   pub agrees : AgreesWithFlags p
   pub short : IfSome p.name (λ name. length name.items < 128)
   pub bytes : IfSome p.name (λ name. (i : ℕ) → slice_index name.items i < 256)
 
--- a partition can be written where besides its words and its id are in their ranges
+-- a partition can be written where it is readable, and its words and its id are in their ranges
 pub record IsWritablePartition (p : Partition) : Type 0 where
   pub readable : IsReadablePartition p
   pub location : p.location < 2 ^ 32
@@ -57,8 +57,8 @@ abbrev pub written_partition : Partition → List ℕ
 written_partition p = p.location ∷ p.flags ∷ written_id p.id ++ p.families.items
     ++ written_name p.name
 
--- the header of an item with a size of one byte and no third byte has the type byte, the size and
--- the fourth byte (RP2350 Datasheet, chapter 5, Bootrom)
+-- the header of an item with a size of one byte: the type byte, the size, a third byte 0 and the
+-- fourth byte (RP2350 Datasheet, chapter 5, Bootrom)
 abbrev pub header : ℕ → ℕ → ℕ → ℕ
 header kind size high = kind + 256 * size + 16777216 * high
 
@@ -67,7 +67,7 @@ header kind size high = kind + 256 * size + 16777216 * high
 abbrev pub table_body : Table → List ℕ
 table_body t = t.unpartitioned ∷ flat_map written_partition t.parts.items
 
--- the fourth byte of the PARTITION_TABLE item's header has the singleton bit and the number of
+-- the fourth header byte of the PARTITION_TABLE item has the singleton bit and the number of
 -- partitions (RP2350 Datasheet, chapter 5, Bootrom)
 abbrev pub table_byte : Table → ℕ
 table_byte t = (if t.singleton then 128 else 0) + length t.parts.items
@@ -87,14 +87,14 @@ bare_version_item v = header VERSION 2 0 ∷ (v.minor + 65536 * v.major) ∷ []
 abbrev pub hash_def_item : ℕ → List ℕ
 hash_def_item count = header HASH_DEF 2 1 ∷ count ∷ []
 
--- the words before the HASH_VALUE item are the start word, the table, its version and the HASH_DEF
--- that counts them all
+-- the words before the HASH_VALUE item are the start word, the table, its version and the
+-- HASH_DEF; the HASH_DEF counts all of them
 abbrev pub hashed_table_items : Table → List ℕ
 hashed_table_items t = table_item t ++ bare_version_item t.version
     ++ hash_def_item (length (table_item t) + 5)
 
--- the item words of a table's block are the hashed ones and the HASH_VALUE item with the SHA-256
--- of these and the start word
+-- the item words of a table's block are the hashed ones and the HASH_VALUE item; its digest is the
+-- SHA-256 of the start word and the hashed ones
 abbrev pub written_items : Table → List ℕ
 written_items t =
     hashed_table_items t
@@ -104,13 +104,14 @@ written_items t =
 abbrev pub written_table : Table → List ℕ
 written_table t = bytes_of (frame (written_items t) (pos 0))
 
--- the size of that block in bytes counts the table's item, 13 words of the other items and four of
--- the frame
+-- the size of that block in bytes: it has the table's item, 13 words of the other items and four
+-- of the frame
 abbrev pub written_size : Table → ℕ
 written_size t = 4 * (length (table_item t) + 17)
 
--- what is written for a table can be read as it where that is so of its partitions, it has at most
--- 15 of them, its version has two halves of a word, and its block has at most 640 bytes
+-- what is written for a table can be read as that table under these conditions: its partitions can
+-- be read and are at most 15; its version has two halves of a word; its block has at most 640
+-- bytes
 pub record IsReadableTable (t : Table) : Type 0 where
   pub parts : AllByRecursion IsReadablePartition t.parts.items
   pub few : length t.parts.items ≤ 15
@@ -118,16 +119,16 @@ pub record IsReadableTable (t : Table) : Type 0 where
   pub minor : t.version.minor < 2 ^ 16
   pub fits : written_size t ≤ 640
 
--- a table can be written where besides its partitions can and its unpartitioned word is in its
--- range
+-- a table can be written where it is readable, its partitions can be written and its unpartitioned
+-- word is in its range
 pub record IsWritableTable (t : Table) : Type 0 where
   pub readable : IsReadableTable t
   pub parts : AllByRecursion IsWritablePartition t.parts.items
   pub unpartitioned : t.unpartitioned < 2 ^ 32
 
--- bytes are read as a table in a flash of n sectors, of which m stand before the first free one,
--- where a block stands at their front, whatever follows them and wherever they stand, and this
--- block has that table
+-- bytes are read as a table in a flash of n sectors with m sectors before the first free one: a
+-- block stands at their front, whatever follows them and wherever they stand, and this block has
+-- that table
 abbrev pub IsReadAs : List ℕ → Table → ℕ → ℕ → Type 0
 IsReadAs bytes t n m =
     (at : ℕ) (rest : List ℕ)

@@ -98,7 +98,7 @@ fn bytes_of(words: &[u32]) -> ArrayVec<u8, 128>
     bytes
 }
 
-/// The bytes of a name of this length, which stand behind its length byte.
+/// The bytes of a name of this length, which stand after its length byte.
 fn name_in(words: &[u32], count: usize) -> ArrayVec<u8, 127>
     requires few { length words.now ≤ 32 }
     requires room { count + 1 ≤ 4 * length words.now }
@@ -164,7 +164,7 @@ fn partition_from(words: &[u32]) -> Partition
     partition_of(words[0], words[1], &words[2..])
 }
 
-/// The words as so many partitions, one behind the other; None where these do not fill them
+/// The words as so many partitions, one after the other; None where these do not fill the words
 /// exactly.
 fn partitions_in(count: u8, words: &[u32]) -> Option<ArrayVec<Partition, 15>>
     requires { count ≤ 15 }

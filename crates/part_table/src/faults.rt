@@ -1,4 +1,5 @@
-//! The faults of a table's partitions, each the one of the least partition that has one.
+//! The faults of a table's partitions: of each kind, the fault of the lowest partition that has
+//! one.
 
 ghost use Rattle.std.specs.Prelude.{◌≡◌, ◌+◌, ◌*◌, ◌<◌, ◌≤◌, length, take, drop, position};
 ghost use Rattle.std.specs.List.{list_any};
@@ -24,8 +25,8 @@ fn permissions_fault(parts: &[Partition]) -> Option<TableFault>
     None
 }
 
-/// Whether a partition is out of range in a flash of so many sectors, of which some stand before
-/// the first free one.
+/// Whether a partition is out of range in a flash of so many sectors, `first` of which stand
+/// before the first free one.
 fn is_out_of_range(sectors: u32, first: u32, part: &Partition) -> bool
     ensures { result ≡ is_out_of_range sectors first part.now }
 {
@@ -135,8 +136,8 @@ fn link_fault(parts: &[Partition]) -> Option<TableFault>
     None
 }
 
-/// The first fault of the partitions of a table in a flash of so many sectors, of which some stand
-/// before the first free one.
+/// The first fault of the partitions of a table in a flash of so many sectors, `first` of which
+/// stand before the first free one.
 pub(crate) fn parts_fault(parts: &[Partition], sectors: u32, first: u32) -> Option<TableFault>
     requires { length parts.now ≤ 15 }
     ensures { result ≡ parts_fault parts.now sectors first }

@@ -21,7 +21,7 @@ pub(crate) struct StatedHash {
     pub(crate) digest: [u8; 32],
 }
 
-/// The hash that the block states, if it does.
+/// The hash that the block states, if it states one.
 pub(crate) fn read_hash(block: &Block) -> Result<Option<StatedHash>, TableFault>
     ensures value { let words = block_words block.now in
         let items = items_of block.now.items in

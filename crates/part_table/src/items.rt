@@ -55,7 +55,7 @@ pub(crate) fn read_version(block: &Block) -> Result<Version, TableFault>
     }
 }
 
-/// The number of hashed words that the block's HASH_DEF item tells, if there is one.
+/// The number of hashed words in the block's HASH_DEF item, if there is one.
 pub(crate) fn read_hash_count(block: &Block) -> Result<Option<u32>, TableFault>
     ensures { let words = block_words block.now in
         let items = items_of block.now.items in
@@ -95,7 +95,8 @@ pub(crate) fn read_digest(block: &Block) -> Result<Option<[u8; 32]>, TableFault>
 }
 
 /// Whether this number of hashed words does not fit the block: it passes the word at which the
-/// HASH_VALUE item begins, or the block's end without such an item; or the item has no number.
+/// HASH_VALUE item begins; or it passes the block's end where there is no such item; or there is a
+/// HASH_VALUE item and no number.
 pub(crate) fn is_misplaced_digest(block: &Block, count: Option<u32>) -> bool
     ensures { result
         ≡ is_misplaced_digest (length (block_words block.now))
@@ -109,7 +110,7 @@ pub(crate) fn is_misplaced_digest(block: &Block, count: Option<u32>) -> bool
     }
 }
 
-/// The words of an item behind its header.
+/// The words of an item after its header.
 pub(crate) fn item_body(block: &Block, item: &Item) -> ArrayVec<u32, 156>
     requires of_block { Contains (items_of block.now.items) item.now }
     requires inside { IsItemOf block.now.items item.now }

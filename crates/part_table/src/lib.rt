@@ -1,9 +1,9 @@
 //! Partition tables of the RP2350: what a table block says of the flash, and its faults.
 //!
-//! The fields are of the RP2350 Datasheet, chapter 5, Bootrom. The layout of the id, the extra
-//! families and the name of a partition, the places of the default-family bits, the faults and
-//! their order, the version without a VERSION item and the rule on the absolute family are this
-//! project's own.
+//! The fields are of the RP2350 Datasheet, chapter 5, Bootrom. This project's own are: the layout
+//! of the id, the extra families and the name of a partition; the places of the default-family
+//! bits; the faults and their order; the version without a VERSION item; and the rule on the
+//! absolute family.
 #![tactic(auto)]
 
 mod contents;

@@ -13,15 +13,27 @@ use pico_board::{Cpu, Window};
 /// A partition of a table: its words as they stand in the table, and the parts that follow them.
 #[derive(Clone, Default, PartialEq, Eq, Debug, Drop)]
 pub struct Partition {
-    /// The location word: bits 0 to 12 the first sector, 13 to 25 the last sector, and the
-    /// permissions, 26 secure read, 27 secure write, 28 non-secure read, 29 non-secure write, 30
-    /// bootloader read, 31 bootloader write.
+    /// The location word. Its bits from 26 on are the permissions:
+    /// - bits 0 to 12: the first sector
+    /// - bits 13 to 25: the last sector
+    /// - bit 26: secure read
+    /// - bit 27: secure write
+    /// - bit 28: non-secure read
+    /// - bit 29: non-secure write
+    /// - bit 30: bootloader read
+    /// - bit 31: bootloader write
     pub location: u32,
-    /// The flag word: bit 0 says that there is an id, bits 1 to 2 the link type (0 none, 1 "A is",
-    /// 2 owner), 3 to 6 the partition that the link names, 7 to 8 the number of extra families, 9
-    /// ignored in an Arm boot, 10 ignored in a RISC-V boot, 12 says that there is a name, 13 no
-    /// reboot after a UF2 download, 14 to 19 the families accepted, from 0xe48bff56 on, 26 to 31
-    /// the permissions again. Other bits are kept and not read.
+    /// The flag word. Bits that are not listed are kept and not read:
+    /// - bit 0: there is an id
+    /// - bits 1 to 2: the link type (0 none, 1 "A is", 2 owner)
+    /// - bits 3 to 6: the partition that the link names
+    /// - bits 7 to 8: the number of extra families
+    /// - bit 9: ignored in an Arm boot
+    /// - bit 10: ignored in a RISC-V boot
+    /// - bit 12: there is a name
+    /// - bit 13: no reboot after a UF2 download
+    /// - bits 14 to 19: the families accepted, from 0xe48bff56 on
+    /// - bits 26 to 31: the permissions again
     pub flags: u32,
     /// The id, where flag bit 0 is set.
     pub id: Option<u64>,
@@ -57,7 +69,7 @@ pub(crate) fn has_id(flags: u32) -> bool
     has_bit(flags, 0)
 }
 
-/// How many extra families a flag word tells of.
+/// How many extra families a flag word says that there are.
 pub(crate) fn family_count(flags: u32) -> u32
     ensures value { result ≡ family_count flags }
     ensures few { result ≤ 3 }
@@ -145,7 +157,7 @@ impl Partition {
         }
     }
 
-    /// Whether a download into the partition is followed by no boot.
+    /// Whether no boot follows a download into the partition.
     pub fn is_staying(&self) -> bool
         ensures { result ≡ is_staying self.now }
     {
@@ -166,8 +178,8 @@ impl Partition {
         self.first_sector() <= sector && sector <= self.last_sector()
     }
 
-    /// Whether the two partitions share a sector. That is judged by their first and last sectors,
-    /// so it is meant for partitions whose first sector is not above their last.
+    /// Whether the two partitions share a sector. Their first and last sectors judge this, so it
+    /// is meant for partitions whose first sector is not above their last.
     pub fn shares_sector(&self, other: &Partition) -> bool
         ensures { result ≡ shares_sector self.now other.now }
     {

@@ -42,8 +42,8 @@ fn read_fields(block: &Block) -> Result<Table, TableFault>
     }
 }
 
-/// The table of the block in a flash of so many sectors whose first free one is `first`, or its
-/// first fault.
+/// The table of the block in a flash of so many sectors, or its first fault. The first free sector
+/// is `first`.
 fn table_of(block: &Block, sectors: u32, first: u32) -> Result<Table, TableFault>
     ensures { result ≡ table_of block.now sectors first }
 {
@@ -58,8 +58,8 @@ fn table_of(block: &Block, sectors: u32, first: u32) -> Result<Table, TableFault
     }
 }
 
-/// The table of the block in a flash of so many sectors, `first` of which stand before the first
-/// free one; or its first fault.
+/// The table of the block in a flash of so many sectors, or its first fault. `first` sectors stand
+/// before the first free one.
 pub fn read_table(block: &Block, sectors: u32, first: u32) -> Result<Table, TableFault>
     requires { has_table block.now ≡ true }
     ensures exact { result ≡ table_of block.now sectors first }

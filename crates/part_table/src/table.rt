@@ -13,9 +13,9 @@ pub struct Table {
     pub version: Version,
     /// Whether the table says that it is the only one.
     pub singleton: bool,
-    /// The word for the sectors that no partition has: bits 26 to 31 the permissions, as in a
-    /// location word, and bits 14 to 19 the families accepted, of which bit 15 alone, the absolute
-    /// family, is read.
+    /// The word for the sectors that no partition has. Bits 26 to 31 are the permissions, as in a
+    /// location word. Bits 14 to 19 are the families accepted; bit 15 alone, the absolute family,
+    /// is read.
     pub unpartitioned: u32,
     /// The partitions, in the table's order.
     pub parts: ArrayVec<Partition, 15>,
@@ -28,17 +28,17 @@ pub enum TableFault {
     /// wrong.
     #[error("a table item stands twice or is wrong")]
     BadItem,
-    /// The least partition whose two permission fields differ.
+    /// The lowest partition whose two permission fields differ.
     #[error("the two permission fields of partition {0} differ")]
     Permissions(u32),
-    /// The least partition whose sectors are none, stand below the first free sector, or leave the
-    /// flash.
+    /// The lowest partition whose sectors are none, stand below the first free sector, or leave
+    /// the flash.
     #[error("the sectors of partition {0} are out of range")]
     Range(u32),
-    /// The least partition that shares a sector with a later one, and the least such one.
+    /// The lowest partition that shares a sector with a later one, and the lowest such later one.
     #[error("partitions {0} and {1} share a sector")]
     Overlap(u32, u32),
-    /// The least partition whose link names what it may not name.
+    /// The lowest partition whose link names what it may not name.
     #[error("the link of partition {0} is wrong")]
     Link(u32),
     /// The HASH_VALUE is not the SHA-256 of the hashed words.
@@ -46,8 +46,8 @@ pub enum TableFault {
     Hash,
 }
 
-/// A right to a sector of the flash, as the bootloader permissions of its partition, or of the
-/// unpartitioned word, give it.
+/// A right to a sector of the flash. The bootloader permissions of the sector's partition, or of
+/// the unpartitioned word, give it.
 #[derive(Clone, Copy, PartialEq, Eq, Debug)]
 pub enum Right {
     /// Bootloader read, bit 30.
@@ -103,7 +103,7 @@ impl Table {
     }
 
     /// The word with the permissions of a sector: its partition's location word, or the
-    /// unpartitioned word where it is in no partition.
+    /// unpartitioned word for a sector in no partition.
     fn right_word(&self, sector: u32) -> u32
         ensures { result ≡ right_word self.now sector }
     {
@@ -115,8 +115,8 @@ impl Table {
         self.unpartitioned
     }
 
-    /// The first fault of the table's partitions in a flash of so many sectors, `first` of which
-    /// stand before the first free one: of permissions, then range, then overlap, then a link.
+    /// The first fault of the table's partitions: of permissions, then range, then overlap, then a
+    /// link. The flash has so many sectors, and `first` of them stand before the first free one.
     pub fn fault(&self, sectors: u32, first: u32) -> Option<TableFault>
         ensures { result ≡ table_fault self.now sectors first }
     {

@@ -139,7 +139,7 @@ fn header(kind: u8, size: u32, high: u32) -> u32
     u32::from(kind) + 256 * size + 16777216 * high
 }
 
-/// The PARTITION_TABLE item, which has this many words.
+/// The PARTITION_TABLE item, of this many words.
 fn table_item(table: &Table, size: usize) -> ArrayVec<u32, 156>
     requires size { size ≡ length (table_item table.now) }
     requires few { size ≤ 143 }
@@ -159,7 +159,7 @@ fn table_item(table: &Table, size: usize) -> ArrayVec<u32, 156>
     words
 }
 
-/// The words before the HASH_VALUE item, of which the table's item has this many.
+/// The words before the HASH_VALUE item, where the table's item has this many.
 fn hashed_table_items(table: &Table, size: usize) -> ArrayVec<u32, 156>
     requires size { size ≡ length (table_item table.now) }
     requires few { size ≤ 143 }
@@ -189,7 +189,7 @@ fn digest_of(words: &[u32]) -> [u8; 32]
     hasher.finalize()
 }
 
-/// The item words of the table's block, of which the table's item has this many.
+/// The item words of the table's block, where the table's item has this many.
 fn written_items(table: &Table, size: usize) -> ArrayVec<u32, 156>
     requires size { size ≡ length (table_item table.now) }
     requires few { size ≤ 143 }

@@ -19,8 +19,8 @@ ghost use Rattle.part_table.specs.TableOf.{has_table, table_of};
 ghost use Rattle.part_table.specs.Windows.{IsPlacedIn, partition_window};
 ghost use Rattle.part_table.specs.Written.{IsReadablePartition, IsReadableTable, IsWritablePartition, IsWritableTable, hashed_table_items, table_item, written_items, written_size};
 
-/// The block of a pair stands in its bytes and is read as its table, in a flash of 64 sectors whose
-/// first two hold the table slots.
+/// The block of a pair stands in its bytes and is read as its table. The flash has 64 sectors, and
+/// its first two hold the table slots.
 pub fn pair_is_read()
     ensures block { block_at
         (bytes_of (0xffffded3 ∷ pair_items ++ 0x000006ff ∷ 0 ∷ 0xab123579 ∷ [])) 0
@@ -65,8 +65,8 @@ pub fn fields_are_read()
     ensures not_staying { is_staying (plain_partition 0 0xffffdfff) ≡ false }
 {}
 
-/// The six families by their bits, which no other family has; and the absolute family of a table by
-/// bit 15 of its unpartitioned word.
+/// The six families by their bits; no other family has one. The absolute family of a table by bit
+/// 15 of its unpartitioned word.
 pub fn families_are_read()
     ensures rp2040 { accepts (plain_partition 0 (2 ^ 14)) 0xe48bff56 ≡ true }
     ensures absolute { accepts (plain_partition 0 (2 ^ 15)) 0xe48bff57 ≡ true }
@@ -97,9 +97,9 @@ pub fn families_are_read()
     }) ≡ true }
 {}
 
-/// The long spelling of the item, its header bits that are not read, a version of 1.9, and one of
-/// 2.1 that lists 33 rows and a rollback version above all that these can hold, which is no fault
-/// in a table.
+/// The long spelling of the item, its header bits that are not read, and a version of 1.9. A
+/// version of 2.1 lists 33 rows and a rollback version above all that these can hold: in a table
+/// this is no fault.
 pub fn spellings_are_read()
     ensures long { table_in_64
         (0x0200068a ∷ 0xfc008000 ∷ 0xfc03e002 ∷ 0xfc020000 ∷ 0xfc07a020 ∷ 0xfc020002 ∷ [])
@@ -134,7 +134,7 @@ pub fn parts_of_partition_are_read()
 {}
 
 /// How many words a partition takes: two, two for an id, one for each extra family, and for a name
-/// as many as hold its length byte and its bytes; and none where they are not all there.
+/// as many as hold its length byte and its bytes. None where these words are not all there.
 pub fn partitions_have_sizes()
     ensures plain { partition_words (0 ∷ 0 ∷ []) ≡ Some 2 }
     ensures id { partition_words (0 ∷ 1 ∷ 0 ∷ 0 ∷ []) ≡ Some 4 }
@@ -151,7 +151,7 @@ pub fn partitions_have_sizes()
 {}
 
 /// The items that are written for the pair's table before its digest, the size of its block, and
-/// the item of the named partition, whose length byte has bit 7 clear.
+/// the item of the named partition. Bit 7 of the name's length byte is clear.
 pub fn tables_are_written()
     ensures items { hashed_table_items pair_table
         ≡ pair_items ++ 0x00000248 ∷ 0 ∷ 0x01000247 ∷ 11 ∷ [] }
@@ -165,8 +165,9 @@ pub fn tables_are_written()
 {}
 
 /// The greatest words, id, families, bytes and length of a name that can be written for a
-/// partition, and beside each the next one; and a partition whose flag word tells nothing of its
-/// id, its families or its name, or tells of them where there are none.
+/// partition, and the next one after each. Also a partition whose flag word says nothing of its
+/// id, its families or its name, and one whose flag word says that there are some where there are
+/// none.
 pub fn partitions_that_can_be_written()
     ensures greatest { IsWritablePartition widest_partition }
     ensures location { ¬ (IsWritablePartition (plain_partition (2 ^ 32) 0)) }
@@ -184,7 +185,7 @@ pub fn partitions_that_can_be_written()
 {}
 
 /// The greatest version, unpartitioned word, number of partitions and size of a block that can be
-/// written for a table, and beside each the next one.
+/// written for a table, and the next one after each.
 pub fn tables_that_can_be_written()
     ensures greatest { IsWritableTable (versioned_table 65535 65535 0xffffffff) }
     ensures major { ¬ (IsWritableTable (versioned_table 65536 0 0)) }
@@ -221,8 +222,8 @@ pub fn bad_items_are_found()
         ≡ Err BadItem }
 {}
 
-/// Digests without their number of words, with one that passes the digest's item or the block, and
-/// with another hash.
+/// Digests without their number of words, with a number that passes the digest's item or the
+/// block, and with another hash.
 pub fn bad_digests_are_found()
     ensures alone { table_in_64 (pair_and (0x0000094b ∷ eight_words)) ≡ Err BadItem }
     ensures long { table_in_64 (pair_and (0x000009cb ∷ eight_words)) ≡ Err BadItem }
@@ -233,8 +234,8 @@ pub fn bad_digests_are_found()
     ensures other { table_in_64 (pair_and (0x02000247 ∷ 12 ∷ [])) ≡ Err BadItem }
 {}
 
-/// Permission fields that differ in the lowest and in the highest bit, and the first two of them;
-/// and fields that differ below.
+/// Permission fields that differ in the lowest and in the highest bit, and the first of two such
+/// partitions. Also words that differ below these fields.
 pub fn permissions_are_compared()
     ensures highest { table_in_64 (two_parts 0xfc03e002 0xfc020000 0xfc07a020 0x7c020002)
         ≡ Err (Permissions 1) }
@@ -246,8 +247,8 @@ pub fn permissions_are_compared()
         ≡ Ok (table_with (plain_partition 0x0003e002 0x02020000 ∷ [])) }
 {}
 
-/// Sectors before the first free one, past the flash, and in the wrong order, and beside them the
-/// last that are in range; and the first two that are not.
+/// Sectors before the first free one, past the flash, and in the wrong order; and next to each the
+/// last ones that are in range. Also the first of two partitions out of range.
 pub fn ranges_are_found()
     ensures first { table_of (block_with pair_items) 64 3 ≡ Err (Range 0) }
     ensures last { table_of (block_with pair_items) 61 2 ≡ Err (Range 1) }
@@ -261,8 +262,8 @@ pub fn ranges_are_found()
     ensures least { table_of (block_with pair_items) 20 2 ≡ Err (Range 0) }
 {}
 
-/// Partitions that share one sector, at either end; the least of them, and the least that shares
-/// one with it; and partitions that touch.
+/// Partitions that share one sector, at either end; the lowest such partition, and the lowest one
+/// that shares a sector with it; and partitions that touch.
 pub fn overlaps_are_found()
     ensures end { table_in_64 (placed_parts (sectors 2 32) (sectors 32 61) (sectors 62 63))
         ≡ Err (Overlap 0 1) }
@@ -281,7 +282,7 @@ pub fn overlaps_are_found()
 
 /// Links of type 3; links "A is" to no partition, to itself, to a B, and to an A that has a B;
 /// owner links to no partition, to itself, and to a partition with a link; and the first of two.
-/// Beside them the link of a B to a later A, and two partitions with one owner.
+/// Right links too: the link of a B to a later A, and two partitions with one owner.
 pub fn links_are_found()
     ensures kind { table_in_64 (linked_parts 0 6 0) ≡ Err (Link 1) }
     ensures past { table_in_64 (linked_parts 0 0x1a 0) ≡ Err (Link 1) }
@@ -299,7 +300,7 @@ pub fn links_are_found()
     ensures least { table_in_64 (linked_parts 0 6 6) ≡ Err (Link 1) }
 {}
 
-/// Two faults for each two kinds that follow one another, the earlier kind at the later partition.
+/// Two faults for each two neighbouring kinds, the earlier kind at the later partition.
 pub fn faults_are_in_order()
     ensures item { table_in_64
         (two_parts 0xfc03e002 0x7c020000 0xfc07a020 0xfc020002 ++ 0x00000348 ∷ 0 ∷ 0 ∷ [])
@@ -339,9 +340,9 @@ pub fn rights_are_read()
     ensures by { allowed_by (Some guarded_table) 62 BootWrite ≡ false }
 {}
 
-/// A digest that is that of the words before it, one that is not in its first and in its last byte,
-/// and one that is not beside a fault of range; and the items that are written for the pair's
-/// table.
+/// A digest that is that of the words before it; digests with a wrong first and a wrong last byte;
+/// and a wrong digest together with a fault of range. Also the items that are written for the
+/// pair's table.
 pub fn digests_are_compared()
     ensures right { table_in_64 pair_hashed ≡ Ok pair_table }
     ensures wrong { table_in_64 pair_misdigested ≡ Err Hash }
@@ -350,9 +351,9 @@ pub fn digests_are_compared()
     ensures written { written_items pair_table ≡ pair_hashed }
 {}
 
-/// In the least flash stand the windows of its first, of its last and of both sectors, and none
-/// that leaves it, that has no sector or that has a part of one; in the greatest one stands no
-/// window of a sector more than it has.
+/// In the minimal flash stand the windows of its first, of its last and of both sectors. No window
+/// stands there that leaves it, that has no sector or that has a part of one. In the greatest
+/// flash stands no window of a sector more than the flash has.
 pub fn windows_in_a_flash()
     ensures first { (c : Content) → length c.flash ≡ 0x2000 → IsPlacedIn c (window_at 0 0x1000) }
     ensures last { (c : Content) → length c.flash ≡ 0x2000

@@ -25,16 +25,16 @@ ghost use Rattle.part_table.specs.TableOf.{table_of};
 ghost use Rattle.part_table.specs.Written.{IsReadablePartition, IsWritableTable, IsReadAs, written_partition, written_items, written_table, written_size};
 ghost use Rattle.part_table.specs.Windows.{IsPlacedWindow, has_sector, partition_window};
 
-/// A table that a block reads as has no fault of its partitions, and is sound for the same number
-/// of sectors.
+/// A table that was read from a block has no fault of its partitions, and is sound for the same
+/// number of sectors.
 pub fn read_tables_are_sound()
     ensures faultless { (b : BlockView) (n m : ℕ) (t : Table) → table_of b n m ≡ Ok t
         → table_fault t n m ≡ None }
     ensures sound { (t : Table) (n m : ℕ) → table_fault t n m ≡ None → IsSoundTable t n }
 {}
 
-/// The first fault of a table's partitions, in each flash, is the one that the rules name, and
-/// there is none exactly where no rule finds one.
+/// In each flash the first fault of a table's partitions is the one that the rules name. There is
+/// none exactly where no rule finds one.
 pub fn faults_are_the_first()
     ensures first { (parts : List Partition) (n m : ℕ) (f : TableFault)
         → (parts_fault parts n m ≡ Some f) ↔ IsFirstTableFault parts n m f }
@@ -42,9 +42,10 @@ pub fn faults_are_the_first()
         → (parts_fault parts n m ≡ None) ↔ HasNoFault parts n m }
 {}
 
-/// A block's items say no table exactly where one of the kinds that are read stands twice, an item
-/// has a wrong size or header, the hash is misplaced, the fields do not fill the PARTITION_TABLE
-/// item exactly, or there is no such item; and then, and only then, the answer is BadItem.
+/// A block's items say no table exactly in these cases: one of the kinds that are read stands
+/// twice; an item has a wrong size or header; the hash is misplaced; the fields do not fill the
+/// PARTITION_TABLE item exactly; or there is no such item. Then, and only then, the answer is
+/// BadItem.
 pub fn bad_items_come_by_their_rules()
     ensures items { (words : List ℕ) (items : List Item)
         → (table_of_items words items ≡ None) ↔ HasBadItem words items }
@@ -52,15 +53,15 @@ pub fn bad_items_come_by_their_rules()
         ↔ HasBadItem (block_words b) (items_of b.items) }
 {}
 
-/// What a block is read as, in each flash: BadItem where its items say no table, else the first
-/// fault of the partitions, else Hash where its hash is wrong, else the table.
+/// What a block is read as, in each flash: BadItem where its items say no table; else the first
+/// fault of the partitions; else Hash where its hash is wrong; else the table.
 pub fn answers_are_in_order()
     ensures { (b : BlockView) (n m : ℕ) (r : Result Table TableFault)
         → (table_of b n m ≡ r) ↔ IsReadTo b n m r }
 {}
 
-/// Each partition of a table without faults is a window of whole sectors, at least one, inside the
-/// flash and behind the sectors that are not free; and two partitions share no byte.
+/// Each partition of a table without faults is a window of whole sectors, at least one. It lies
+/// inside the flash and after the sectors that are not free. Two partitions share no byte.
 pub fn partitions_are_placed()
     ensures placed { (t : Table) (n m : ℕ) → table_fault t n m ≡ None
         → (i : ℕ) → i < length t.parts.items → IsPlacedWindow (partition_window t i) n m }
@@ -72,8 +73,8 @@ pub fn partitions_are_placed()
 {}
 
 /// Where no two partitions overlap, the permissions of each sector of a partition are those of the
-/// partition; where there is no fault of permissions, it has them in both its words. Those of each
-/// sector of no partition are those of the unpartitioned word.
+/// partition. Where there is no fault of permissions, the partition has them in both its words.
+/// The permissions of each sector of no partition are those of the unpartitioned word.
 pub fn sectors_have_one_right()
     ensures own { (t : Table) → overlap_fault t.parts.items ≡ None
         → (i sector : ℕ) → i < length t.parts.items
@@ -88,8 +89,8 @@ pub fn sectors_have_one_right()
         → right_word t sector ≡ t.unpartitioned }
 {}
 
-/// The A of a pair is a partition, another one than its B, and no B itself; it has one B, which is
-/// the one that is found.
+/// The A of a pair is a partition, another one than its B, and no B itself. It has one B, and this
+/// one is found.
 pub fn pairs_are_right()
     ensures first { (parts : List Partition) → link_fault parts ≡ None
         → (a b : ℕ) → b < length parts → is_second_of a (part_at parts b) ≡ true
@@ -127,10 +128,11 @@ pub fn partitions_are_read_back()
         → partitions_in (length parts) (flat_map written_partition parts) ≡ Some parts }
 {}
 
-/// The bytes that are written for a table, whose words, ids, families and names are in their
-/// ranges, are a block. It stands at their front, whatever follows them, and is read as the same
-/// table in each flash for which that has no fault, and to the first fault in each other one. For
-/// each table, in its ranges or not, as many bytes are written as its written size says.
+/// The words, ids, families and names of a table are in their ranges. Then the bytes that are
+/// written for it are a block. The block stands at their front, whatever follows them. In each
+/// flash for which the table has no fault, the block is read as the same table; in each other
+/// flash it is read to the first fault. For each table, in its ranges or not, as many bytes are
+/// written as its written size says.
 pub fn tables_are_read_back()
     ensures block { (t : Table) → IsWritableTable t
         → IsBlock (written_table t) (written_items t) (pos 0) }
