@@ -15,8 +15,8 @@ owner_pair parts i = option_map (λ owner. (owner, pair_of parts owner)) (owner_
 abbrev pub is_owned_by : ℕ → Partition → Bool
 is_owned_by owner p = is_owned p && link_value p == owner
 
--- of a pair of data the B is taken where the second is asked for, and a partition without a B
--- itself in any case
+-- of a pair of data the B is taken where the second is asked for; a partition without a B is
+-- always taken itself
 abbrev pub taken_part : List Partition → Bool → ℕ → ℕ
 taken_part parts second i = if second then unwrap_or (pair_of parts i) i else i
 
@@ -25,8 +25,8 @@ abbrev pub data_parts : List Partition → ℕ → Bool → List ℕ
 data_parts parts owner second =
     map (taken_part parts second) (parts_where (is_owned_by owner) parts)
 
--- partition j is data of an owner: it is, of a partition i with this owner, the B where the second
--- is asked for and i has one, and i itself otherwise
+-- partition j is data of an owner, by a partition i that has this owner: where the second is asked
+-- for and i has a B, j is the B of i; otherwise j is i itself
 pub record IsDataOf (parts : List Partition) (owner : ℕ) (second : Bool) (i j : ℕ) : Type 0 where
   pub owned : owner_of (part_at parts i) ≡ Some owner
   pub first : second ≡ false → j ≡ i

@@ -32,7 +32,7 @@ fn is_owned_by(part: &Partition, owner: u32) -> bool
 }
 
 /// The partition that is taken of a pair of data: the B where the second is asked for and there is
-/// one, and the partition itself otherwise.
+/// one, or else the partition itself.
 fn taken_part(parts: &[Partition], second: bool, first: u32) -> u32
     requires few { length parts.now ≤ 15 }
     ensures { result ≡ taken_part parts.now second first }
@@ -46,7 +46,7 @@ fn taken_part(parts: &[Partition], second: bool, first: u32) -> u32
     }
 }
 
-/// The data among these partitions of an owner, which is one of them.
+/// The data of an owner among these partitions; the owner is one of them.
 fn data_of(parts: &[Partition], owner: u32, second: bool) -> ArrayVec<u32, 14>
     requires few { length parts.now ≤ 15 }
     requires owner { owner < length parts.now }
@@ -62,8 +62,8 @@ fn data_of(parts: &[Partition], owner: u32, second: bool) -> ArrayVec<u32, 14>
     data
 }
 
-/// The data partitions of an owner, in table order: of each partition that has this owner its B
-/// where the second is asked for and it has one, and the partition itself otherwise.
+/// The data partitions of an owner, in table order. Of each partition that has this owner the B is
+/// taken where the second is asked for and there is one. Otherwise the partition itself is taken.
 pub fn data_parts(table: &Table, owner: u32, second: bool) -> ArrayVec<u32, 14>
     requires owner { owner < length table.now.parts.items }
     requires links { link_fault table.now.parts.items ≡ None }

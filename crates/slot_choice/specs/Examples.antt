@@ -1,4 +1,4 @@
--- Worked examples of units, with their answers reckoned by hand from the rules.
+-- Worked examples of units, with their answers worked out by hand from the rules.
 use Rattle.std.specs.Prelude.{ℕ, ◌+◌, false, List, [], ◌∷◌, None, Some}
 use Rattle.block_codec.specs.declared.versions.Version.{Version}
 use Rattle.pico_board.specs.declared.window.Window.{Window}
@@ -21,8 +21,7 @@ lone_unit one i = record { a = one; b = None; a_part = Some i; b_part = None }
 abbrev pub the_pair : SlotUnit
 the_pair = pair_unit (window_at 0x2000 0x1e000) 0 (window_at 0x20000 0x1e000) 1
 
--- a table of these partitions, in which the unpartitioned sectors have all rights and take no
--- family
+-- a table of these partitions: its unpartitioned sectors have all rights and take no family
 abbrev pub table_without_families : List Partition → Table
 table_without_families partitions = record {
   version = record { major = 0; minor = 0 };
@@ -71,8 +70,8 @@ extra_partition at family = record {
 }
 
 -- partitions of two sectors each, from sector 2 on: the first accepts rp2040, and has the bit of
--- the absolute family, the second accepts data, the third rp2350-arm-s, the fourth rp2350-arm-s and
--- rp2350-riscv, the fifth rp2350-arm-ns, and the sixth the family 0x11111111
+-- the absolute family; the second accepts data; the third rp2350-arm-s; the fourth rp2350-arm-s
+-- and rp2350-riscv; the fifth rp2350-arm-ns; and the sixth the family 0x11111111
 abbrev pub family_table : Table
 family_table =
     table_without_families

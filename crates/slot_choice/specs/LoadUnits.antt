@@ -27,15 +27,15 @@ abbrev pub absolute_unit : Option Table → ℕ → Option SlotUnit
 absolute_unit t n = if option_map_or accepts_absolute t true then Some (whole_flash n) else None
 
 -- without a table the one boot unit takes the families data, rp2350-arm-s, rp2350-riscv and
--- rp2350-arm-ns, whose numbers follow each other, and no other family has a unit
+-- rp2350-arm-ns; their numbers follow each other; no other family has a unit
 abbrev pub family_unit : Option Table → ℕ → ℕ → ℕ → Option SlotUnit
 family_unit None n z family =
     if nat_le data_family family && nat_le family arm_ns_family then Some (tableless_unit n z)
     else None
 family_unit (Some t) n z family = accepting_unit t.parts.items family
 
--- the unit of a download of a family, for a table, or none, in a flash of n bytes with slots of z
--- bytes
+-- the unit of a download of a family, with or without a table, in a flash of n bytes with slots of
+-- z bytes
 abbrev pub load_unit : Option Table → ℕ → ℕ → ℕ → Option SlotUnit
 load_unit t n z family =
     if family == absolute_family then absolute_unit t n else family_unit t n z family

@@ -20,12 +20,12 @@ use Rattle.slot_choice.specs.declared.unit.Member.TheVariants.{A, B}
 abbrev pub parts_where : (Partition → Bool) → List Partition → List ℕ
 parts_where test parts = filter (λ i. test (part_at parts i)) (range_with_len 0 (length parts))
 
--- a partition is the A of a boot unit where it is no B, has no owner and is not ignored for the
--- processor (RP2350 Datasheet, chapter 5, Bootrom)
+-- a partition is the A of a boot unit where it is no B, has no owner and is not ignored (RP2350
+-- Datasheet, chapter 5, Bootrom)
 abbrev pub begins_boot_unit : Cpu → Partition → Bool
 begins_boot_unit cpu p = not (is_second p) && not (is_owned p) && not (is_ignored cpu p)
 
--- the unit of a partition is a pair with its B where it has one, and the partition alone otherwise
+-- the unit of a partition is a pair with its B where it has one, or else the partition alone
 -- (RP2350 Datasheet, chapter 5, Bootrom)
 abbrev pub unit_of : List Partition → ℕ → SlotUnit
 unit_of parts i = record {
@@ -48,13 +48,13 @@ slot_pair z = record {
   b_part = None;
 }
 
--- without a table the one unit is the pair of slots where the slot size is above 4096, and the
--- whole flash otherwise (RP2350 Datasheet, chapter 5, Bootrom)
+-- without a table there is one unit: the pair of slots where the slot size is above 4096, or else
+-- the whole flash (RP2350 Datasheet, chapter 5, Bootrom)
 abbrev pub tableless_unit : ℕ → ℕ → SlotUnit
 tableless_unit n z = if nat_lt 4096 z then slot_pair z else whole_flash n
 
--- the boot units for a table, or none, in a flash of n bytes with slots of z bytes are those of its
--- partitions, in table order, or the one unit of a flash without a table (RP2350 Datasheet, chapter
+-- the boot units in a flash of n bytes with slots of z bytes: with a table those of its
+-- partitions, in table order; without one the one unit of such a flash (RP2350 Datasheet, chapter
 -- 5, Bootrom)
 abbrev pub units : Option Table → ℕ → ℕ → Cpu → List SlotUnit
 units None n z cpu = tableless_unit n z ∷ []

@@ -9,7 +9,7 @@ use Rattle.slot_choice.specs.declared.unit.SlotUnit.{SlotUnit}
 use Rattle.slot_choice.specs.declared.unit.Member.{Member}
 use Rattle.slot_choice.specs.declared.unit.Member.TheVariants.{A, B}
 
--- the member of a unit at an offset of the flash is the one whose window starts there, A before B
+-- the member of a unit at an offset of the flash: its window starts there, and A comes before B
 abbrev pub member_at : ℕ → SlotUnit → Option Member
 member_at start u =
     if u.a.start == start then Some A
@@ -19,8 +19,8 @@ member_at start u =
 abbrev pub has_member_at : ℕ → SlotUnit → Bool
 has_member_at start u = is_some (member_at start u)
 
--- the updated member is the one whose window starts where the address of the update points, of the
--- first unit that has one; below the flash no member starts
+-- the updated member: its window starts where the address of the update points, and its unit is
+-- the first that has such a member; below the flash no member starts
 abbrev pub updated_member : List SlotUnit → ℕ → Option Member
 updated_member us base =
     if nat_le flash_base base
@@ -46,9 +46,9 @@ pub record IsUpdateless (us : List SlotUnit) (base : ℕ) : Type 0 where
   pub elsewhere : (k : ℕ) (u : SlotUnit) (w : Window) → slice_get us k ≡ Some u → IsMember u w
       → flash_base + w.start ≢ base
 
--- an address updates the member m, of window w, of the unit u where that window starts at the
--- address, and no member of a unit before u does; then u comes first, and behind it the others in
--- their order
+-- an address updates the member m, of window w, of the unit u: that window starts at the address,
+-- and no member of a unit before u does; then u comes first, and after it the others in their
+-- order
 pub record IsUpdateOf (us : List SlotUnit) (base : ℕ) (m : Member) (u : SlotUnit)
     (w : Window) : Type 0 where
   pub before : List SlotUnit

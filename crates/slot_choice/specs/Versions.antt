@@ -9,8 +9,8 @@ use Rattle.slot_choice.specs.declared.unit.Member.TheVariants.{A, B}
 abbrev pub is_below : Version → Version → Bool
 is_below v w = nat_lt v.major w.major || (v.major == w.major && nat_lt v.minor w.minor)
 
--- of the versions of the members of a unit, where a member without a valid image has none, the
--- greater is better, and A's where they are equal
+-- of the versions of a unit's two members the greater is better, and A's where they are equal; a
+-- member without a valid image has no version
 abbrev pub better : Option Version → Option Version → Option Member
 better None None = None
 better None (Some w) = Some B

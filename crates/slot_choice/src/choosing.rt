@@ -32,9 +32,9 @@ fn place_of(units: &[SlotUnit], start: u32) -> Option<usize>
         .position(|unit| member_at(unit, start).is_some())
 }
 
-/// Moves the unit of the member whose window starts at the address `base` to the front, where the
-/// others keep their order, and names that member. None exactly where no member starts there, and
-/// then the order stays.
+/// Names the member whose window starts at the address `base`, and moves its unit to the front.
+/// The other units keep their order. None exactly where no member starts there, and then the order
+/// stays.
 pub fn update_first(units: &mut ArrayVec<SlotUnit, 15>, base: u32) -> Option<Member>
     ensures member { result ≡ updated_member units.old.items base }
     ensures order { units.new.items ≡ update_order units.old.items base }
@@ -53,8 +53,8 @@ pub fn is_below(version: Version, other: Version) -> bool
     version.major < other.major || (version.major == other.major && version.minor < other.minor)
 }
 
-/// The better member of a unit by the versions of its members' images, where a member without a
-/// valid image has none: the greater version, and A on a tie. None exactly where both are None.
+/// The better member of a unit by the versions of its members' images: the greater version, and A
+/// on a tie. A member without a valid image has no version. None exactly where both are None.
 pub fn better(a: Option<Version>, b: Option<Version>) -> Option<Member>
     ensures { result ≡ better a b }
 {

@@ -1,8 +1,8 @@
 //! The choice among the boot slots of the RP2350: the boot units of a flash, the unit of a
 //! download, and the better of two versions.
 //!
-//! Boot units are by the RP2350 Datasheet, chapter 5, Bootrom; the order of versions, the choice in
-//! a unit and the rules of an update boot and of a download's unit are this project's own.
+//! Boot units are by the RP2350 Datasheet, chapter 5, Bootrom. The order of versions, the choice
+//! in a unit, and the rules of an update boot and of a download's unit are this project's own.
 #![tactic(auto)]
 
 mod choice;

@@ -28,7 +28,7 @@ pub fn second_of(parts: &[Partition], first: u32) -> Option<u32>
     None
 }
 
-/// The unit of a partition: a pair with its B where it has one, and the partition alone otherwise.
+/// The unit of a partition: a pair with its B where it has one, or else the partition alone.
 /// (RP2350 Datasheet, chapter 5, Bootrom.)
 pub fn unit_of(parts: &[Partition], i: u32) -> SlotUnit
     requires few { length parts.now ≤ 15 }
@@ -64,7 +64,7 @@ fn whole_flash(flash_len: u32) -> SlotUnit
 }
 
 /// The one unit of a flash without a table: the pair of slots where they are greater than the
-/// smallest, and the whole flash otherwise.
+/// smallest slot, or else the whole flash.
 fn tableless_unit(flash_len: u32, slot: u32) -> SlotUnit
     ensures { result ≡ tableless_unit flash_len slot }
 {
@@ -153,9 +153,9 @@ fn accepting_unit(parts: &[Partition], family: u32) -> Option<SlotUnit>
 }
 
 /// The unit of a download of a family; None exactly where no unit takes it. The absolute family
-/// goes to the whole flash, where there is no table or the table accepts that family; another one
-/// to the first unit whose A accepts it, owned and ignored units among them. Without a table the
-/// one boot unit takes data and the three executable families of the RP2350.
+/// goes to the whole flash, where there is no table or the table accepts that family. Another
+/// family goes to the first unit whose A accepts it, owned and ignored units among them. Without a
+/// table the one boot unit takes data and the three executable families of the RP2350.
 pub fn load_unit(table: Option<&Table>, flash_len: u32, slot: u32, family: u32) -> Option<SlotUnit>
     requires sound { IsSoundFor (option_map (λ t. t.now) table) flash_len }
     ensures { result ≡ load_unit (option_map (λ t. t.now) table.entry) flash_len slot family }

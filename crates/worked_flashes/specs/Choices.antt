@@ -1,5 +1,5 @@
--- Worked starts in a pair of slots and alone, and targets, which the examples of several crates
--- take.
+-- Worked starts in a pair of slots and alone, and targets. The examples of several crates take
+-- them.
 use Rattle.std.specs.Prelude.{◌-◌, Bool, true, false, [], Some, None}
 use Rattle.pico_board.specs.declared.window.Window.{Window}
 use Rattle.image_def.specs.declared.started.Started.{Started}
@@ -30,7 +30,7 @@ starts_b updated s = record {
 abbrev pub starts_alone : Bool → Started → Choice
 starts_alone updated s = record { image = s; member = A; other = None; updated = updated }
 
--- a target of this window, which is gated or not, and stays in BOOTSEL or not
+-- a target of this window: it is gated or not, and stays in BOOTSEL or not
 abbrev pub to : Window → Bool → Bool → Target
 to w gated stay = record { window = w; gated = gated; stay = stay }
 
@@ -56,7 +56,7 @@ former_start = starts_a false (in_a 1 9 false)
 abbrev pub finished_start : Choice
 finished_start = starts_b false (in_b 1 10 false)
 
--- the A and the B of the small pair, and the starts of version 1.9 in A and of version 1.10 in B
+-- the A and the B of the small pair; the starts of version 1.9 in A and of version 1.10 in B
 abbrev pub small_first : Window
 small_first = window_at 0x2000 0x2000
 

@@ -1,4 +1,4 @@
--- Worked flashes, with what stands in their slots, which the examples of several crates take.
+-- Worked flashes, with what stands in their slots. The examples of several crates take them.
 use Rattle.std.specs.Prelude.{ℕ, ◌+◌, ◌*◌, Bool, List, [], ◌∷◌, ◌++◌, length, replicate, ◌-◌, not}
 use Rattle.block_codec.specs.Words.{bytes_of}
 use Rattle.pico_board.specs.Content.{Content}
@@ -36,11 +36,11 @@ abbrev pub framed : List ℕ → ℕ → List ℕ
 framed items link =
     0xffffded3 ∷ items ++ ((0xff + 256 * length items) ∷ link ∷ 0xab123579 ∷ [])
 
--- n bytes that begin with these words, and are 0xff behind them
+-- n bytes that begin with these words, and are 0xff after them
 abbrev pub region : ℕ → List ℕ → List ℕ
 region n words = bytes_of words ++ replicate (n - 4 * length words) 255
 
--- n bytes that begin with a vector table, and have at 0x100 a block with this IMAGE_TYPE word and
+-- n bytes that begin with a vector table; at 0x100 they have a block with this IMAGE_TYPE word and
 -- this version word
 abbrev pub image_region : ℕ → ℕ → ℕ → List ℕ
 image_region n image_word version =
@@ -52,7 +52,7 @@ abbrev pub rows_with : ℕ → ℕ → List ℕ
 rows_with flags size =
     replicate 0x048 0 ++ (flags ∷ replicate 0x00c 0 ++ (size ∷ replicate 0xfaa 0))
 
--- a flash of 24 KiB with these two table slots, and nothing behind them
+-- a flash of 24 KiB with these two table slots, and nothing after them
 abbrev pub tables_content : ℕ → List ℕ → List ℕ → Content
 tables_content size one two = record {
   flash = one ++ (two ++ replicate (0x6000 - length one - length two) 255);
@@ -71,8 +71,8 @@ pair_content flags a b = record {
 abbrev pub bare : List ℕ
 bare = replicate 0x1e000 255
 
--- a flash of 136 KiB with the table of a pair of images, 8 sectors each, and of a pair of data that
--- it owns, behind it; and what stands in the members of the images
+-- a flash of 136 KiB with a table of two pairs: a pair of images, 8 sectors each, and after it a
+-- pair of data that the images own; and what stands in the members of the images
 abbrev pub owned_content : List ℕ → List ℕ → Content
 owned_content a b = record {
   flash = region 0x2000 (framed owned_items 0) ++ (a ++ (b ++ replicate 0x10000 255));
@@ -86,7 +86,7 @@ bare_owner = replicate 0x8000 255
 abbrev pub bare_slot : List ℕ
 bare_slot = replicate 0x2000 255
 
--- an Arm image of this version word in a member of the pair of 30 sectors, of the pair of 8
+-- an Arm image of this version word: in a member of the pair of 30 sectors, of the pair of 8
 -- sectors, and in a slot of 8 KiB
 abbrev pub arm_member : ℕ → List ℕ
 arm_member version = image_region 0x1e000 0x10210142 version
@@ -97,14 +97,14 @@ arm_owner version = image_region 0x8000 0x10210142 version
 abbrev pub arm_slot : ℕ → List ℕ
 arm_slot version = image_region 0x2000 0x10210142 version
 
--- a flash of two sectors, of which the first is bare and the second has these bytes
+-- a flash of two sectors: the first is bare, and the second has these bytes
 abbrev pub one_sector : List ℕ → Content
 one_sector bytes = record { flash = replicate 0x1000 255 ++ bytes; otp = rows_with 0 0 }
 
 abbrev pub bare_sector : List ℕ
 bare_sector = replicate 0x1000 255
 
--- a flash of two sectors, of which the first has a table without partitions and the second is bare
+-- a flash of two sectors: the first has a table without partitions, and the second is bare
 abbrev pub table_and_bare : Content
 table_and_bare = record {
   flash = region 0x1000 (framed (0x0000020a ∷ 0xfc008000 ∷ []) 0) ++ bare_sector;
@@ -116,7 +116,7 @@ abbrev pub plain_sector : ℕ → List ℕ
 plain_sector last =
     region 0xfff (0x20082000 ∷ 0x20000001 ∷ framed (0x10210142 ∷ []) 0) ++ last ∷ []
 
--- a flash of two sectors that begins with these bytes, and has a bare sector behind them
+-- a flash of two sectors that begins with these bytes, and has a bare sector after them
 abbrev pub whole_flash_of : List ℕ → Content
 whole_flash_of bytes = record { flash = bytes ++ bare_sector; otp = rows_with 0 0 }
 
@@ -139,7 +139,7 @@ data_page = replicate 256 0x55
 abbrev pub begins_with : List ℕ → List ℕ
 begins_with bytes = bytes ++ replicate (0x1e000 - length bytes) 255
 
--- a flash of 256 KiB with the table of a pair, in whose A stands version 1.9, and this in its B
+-- a flash of 256 KiB with the table of a pair: version 1.9 stands in its A, and this in its B
 abbrev pub beside_former : List ℕ → Content
 beside_former b = pair_content 0 (arm_member 0x00010009) b
 
@@ -147,8 +147,7 @@ beside_former b = pair_content 0 (arm_member 0x00010009) b
 abbrev pub small_with : List ℕ → List ℕ
 small_with bytes = bytes ++ replicate (0x2000 - length bytes) 255
 
--- a flash of 24 KiB with the table of a small pair, in whose A stands version 1.9, and this in its
--- B
+-- a flash of 24 KiB with the table of a small pair: version 1.9 stands in its A, and this in its B
 abbrev pub beside_small : List ℕ → Content
 beside_small b = record {
   flash = region 0x2000 (framed (small_items several 0) 0) ++ (arm_slot 0x00010009 ++ b);

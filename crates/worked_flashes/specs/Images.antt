@@ -1,5 +1,5 @@
--- Worked images, as bytes, words and records, which the examples of several crates take. Their
--- digests were made by another implementation.
+-- Worked images, as bytes, words and records. The examples of several crates take them. Another
+-- implementation made their digests.
 use Rattle.std.specs.Prelude.{ℕ, ◌+◌, ◌*◌, Bool, pos, List, [], ◌∷◌, ◌++◌, length, Option, None, ◌-◌, not}
 use Rattle.pico_board.specs.declared.window.Window.{Window}
 use Rattle.image_def.specs.declared.started.Started.{Started}
@@ -35,7 +35,7 @@ def_with_rows vector rollback rows = record {
   rows = record { items = rows };
 }
 
--- the record of an image behind a vector table at its window's start, by window, PC, version,
+-- the record of an image after a vector table at its window's start, by window, PC, version,
 -- rollback version, rows and the trial bit
 abbrev pub image_record : Window → ℕ → Version → Option ℕ → List ℕ → Bool → Started
 image_record window pc version rollback rows trial = record {
@@ -59,7 +59,7 @@ version_at major minor = record { major = major; minor = minor }
 abbrev pub plain_image : Window → ℕ → Bool → Started
 plain_image window pc trial = image_record window pc no_version None [] trial
 
--- the bytes of a window that begins with SP at SRAM's end and this PC, and has at offset 8 a block
+-- the bytes of a window that begins with SP at SRAM's end and this PC; at offset 8 it has a block
 -- of these item words and this link word
 abbrev pub window_with : ℕ → List ℕ → ℕ → List ℕ
 window_with pc items link =
@@ -83,14 +83,14 @@ plain_digest =
     0x37eb49aa ∷ 0xea5343e8 ∷ 0x0d4a581d ∷ 0xf4f07a93 ∷ 0x84764554 ∷ 0xab6af94f ∷ 0x9e0bb5e1
     ∷ 0x9f01d02c ∷ []
 
--- the SHA-256 of a window's first eight bytes, with SP 0x20082000 and PC 0x20000001, and of the
--- words 0xffffded3, 0x10210142, 0x01000406 and 0xfffffff0
+-- the SHA-256 of a window's first eight bytes, with SP 0x20082000 and PC 0x20000001, and of four
+-- words: 0xffffded3, 0x10210142, 0x01000406 and 0xfffffff0
 abbrev pub stored_digest : List ℕ
 stored_digest =
     0x8b4fed16 ∷ 0x03d2ea4a ∷ 0x52b2a4a5 ∷ 0x94facbde ∷ 0xb6599bf9 ∷ 0xe9d367c1 ∷ 0x36841b81
     ∷ 0xe11e6ade ∷ []
 
--- the image in a window of a version, which is a trial or not
+-- the image of a version in a window; it is a trial or not
 abbrev pub image_of_version : Window → ℕ → ℕ → Bool → Started
 image_of_version w major minor trial = record {
   window = w;

@@ -1,5 +1,5 @@
--- Worked sessions on the second slot of a pair, as lists of steps, which the examples of several
--- crates take.
+-- Worked sessions on the second slot of a pair, as lists of steps. The examples of several crates
+-- take them.
 use Rattle.std.specs.Prelude.{ℕ, ◌-◌, List, [], ◌∷◌}
 use Rattle.pico_board.specs.declared.Step.{Step}
 use Rattle.pico_board.specs.declared.Step.TheVariants.{Erase, Program}
@@ -20,8 +20,8 @@ writes programs = Erase 32 ∷ Program 512 vector_page ∷ programs
 abbrev pub plain_steps : List Step
 plain_steps = writes (Program 513 (block_page 0x0001000a) ∷ [])
 
--- the session that writes version 1.10 into the second slot of a small pair, with a page of other
--- bytes behind it, without a load map and with one
+-- the session that writes version 1.10 into the second slot of a small pair, and a page of other
+-- bytes after it; without a load map and with one
 abbrev pub small_steps : List ℕ → List Step
 small_steps block =
     Erase 4 ∷ Program 64 vector_page ∷ Program 65 block ∷ Program 66 data_page ∷ []

@@ -1,5 +1,5 @@
-//! Worked images, flashes and sessions, which the examples of several crates take. They are
-//! definitions alone; what they are worth as a boot is reckoned by hand where they are used.
+//! Worked images, flashes and sessions. The examples of several crates take them. They are
+//! definitions alone; where they are used, the answer of a boot to them is worked out by hand.
 #![tactic(auto)]
 
 pub mod examples;

@@ -12,8 +12,8 @@ ghost use Rattle.part_table.specs.Windows.{partition_window};
 ghost use Rattle.pico_board.specs.Content.{AreApart};
 ghost use Rattle.owner_data.specs.Owners.{data_parts, owner_pair, IsDataOf};
 
-/// A partition has no owner pair exactly where it has no owner; in a table without a fault of links
-/// the owner is another partition, which has no link, and its B is the owner's.
+/// A partition has no owner pair exactly where it has no owner. In a table without a fault of
+/// links the owner is another partition and has no link. The B of the owner pair is the owner's.
 pub fn owners_are_partitions()
     ensures none { (parts : List Partition) (i : ℕ)
         → (owner_pair parts i ≡ None) ↔ (is_owned (part_at parts i) ≡ false) }
@@ -23,8 +23,8 @@ pub fn owners_are_partitions()
         × (link_type (part_at parts o) ≡ 0) × (b ≡ pair_of parts o) }
 {}
 
-/// The data of an owner are partitions, each of them one that it owns or the B of one; and each
-/// partition that it owns has its place among them.
+/// The data of an owner are partitions: each is one that the owner owns, or the B of one. Each
+/// partition that the owner owns has its place among them.
 pub fn data_follows_its_owner()
     ensures listed { (parts : List Partition) (owner : ℕ) (second : Bool) (k j : ℕ)
         → slice_get (data_parts parts owner second) k ≡ Some j

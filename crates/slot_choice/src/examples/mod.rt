@@ -13,9 +13,9 @@ ghost use Rattle.slot_choice.specs.Updates.{update_order, updated_member};
 ghost use Rattle.slot_choice.specs.Versions.{better};
 ghost use Rattle.slot_choice.specs.declared.unit.Member.TheVariants.{A, B};
 
-/// The units of a pair, of a pair of data that the pair of images owns, of partitions that a
-/// processor ignores, and of a flash without a table in slots of the smallest size and of greater
-/// ones.
+/// The units of a pair, of a pair of data that the pair of images owns, and of partitions that a
+/// processor ignores. Also of a flash without a table, in slots of the smallest size and of
+/// greater ones.
 pub fn units_are_listed()
     ensures pair { units (Some pair_table) 0x40000 0x1000 Arm ≡ the_pair ∷ [] }
     ensures owned { units (Some owned_table) 0x40000 0x1000 Arm
@@ -34,8 +34,8 @@ pub fn units_are_listed()
         } }
 {}
 
-/// Of a pair only A's flags are read: a B that is ignored stays in its unit, and a pair whose A is
-/// ignored is none; a B that accepts a family takes no download of it.
+/// Of a pair only A's flags are read: a B that is ignored stays in its unit, and a pair with an
+/// ignored A is no unit. A B that accepts a family takes no download of it.
 pub fn flags_of_a_are_read()
     ensures arm { units (Some (small_pair 0x20000 0x10602)) 0x40000 0x1000 Arm ≡ small_unit ∷ [] }
     ensures riscv { units (Some (small_pair 0x20000 0x10602)) 0x40000 0x1000 Riscv
@@ -82,8 +82,8 @@ pub fn families_have_units()
     ensures unknown { load_unit (Some family_table) 0x40000 0x20000 0xe48bff5c ≡ None }
 {}
 
-/// Without a table the one boot unit takes data and the three executable families of the RP2350,
-/// and the whole flash the absolute family.
+/// Without a table the one boot unit takes data and the three executable families of the RP2350.
+/// The whole flash takes the absolute family.
 pub fn families_without_table_have_units()
     ensures data { load_unit None 0x40000 0x20000 data_family ≡ Some (slot_pair 0x20000) }
     ensures arm_s { load_unit None 0x40000 0x20000 arm_s_family ≡ Some (slot_pair 0x20000) }
@@ -108,8 +108,9 @@ pub fn versions_are_compared()
     ensures none { better None None ≡ None }
 {}
 
-/// Updates of a pair's B and A, of a place where no member starts, of an offset that is no address,
-/// and of a unit behind others; of two members at one place A is taken, and of two units the first.
+/// Updates of a pair's B and A, of a place where no member starts, of an offset that is no
+/// address, and of a unit after others. Of two members at one place A is taken, and of two units
+/// the first.
 pub fn updates_are_found()
     ensures second { updated_member (the_pair ∷ []) 0x10020000 ≡ Some B }
     ensures first { updated_member (the_pair ∷ []) 0x10002000 ≡ Some A }

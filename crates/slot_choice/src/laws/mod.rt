@@ -20,7 +20,7 @@ ghost use Rattle.slot_choice.specs.declared.unit.Member.{Member};
 ghost use Rattle.slot_choice.specs.declared.unit.SlotUnit.{SlotUnit};
 
 /// Each boot unit of a table is that of a partition that is no B, has no owner and is not ignored
-/// for the processor; each such partition has its unit; and the units stand in table order.
+/// for the processor. Each such partition has its unit. The units stand in table order.
 pub fn boot_units_are_listed()
     ensures listed { (t : Table) (n z : ℕ) (cpu : Cpu) (k : ℕ) (u : SlotUnit)
         → slice_get (units (Some t) n z cpu) k ≡ Some u
@@ -54,9 +54,9 @@ pub fn boot_units_stand_apart()
         → AreApart (tableless_unit n z).a w }
 {}
 
-/// The members of the boot units are windows of whole sectors, at least one, inside the flash;
-/// those of a table without faults stand behind the sectors that are not free, and so apart from
-/// both table slots where these are those sectors.
+/// The members of the boot units are windows of whole sectors, at least one, inside the flash. The
+/// members of a table without faults stand after the sectors that are not free. So they are apart
+/// from both table slots where the slots are those sectors.
 pub fn boot_units_are_placed()
     ensures faultless { (t : Table) (s m n z : ℕ) (cpu : Cpu) → table_fault t s m ≡ None
         → (k : ℕ) (u : SlotUnit) → slice_get (units (Some t) n z cpu) k ≡ Some u
@@ -70,8 +70,8 @@ pub fn boot_units_are_placed()
         → AreApart (record { start = 0; len = z }) w × AreApart (record { start = z; len = z }) w }
 {}
 
-/// The members of a load unit of partitions of a sound table stand inside the flash, and those of
-/// one whose A has an owner share no byte with any boot unit.
+/// The members of a load unit of partitions of a sound table stand inside the flash. Where its A
+/// has an owner, they share no byte with any boot unit.
 pub fn load_units_are_placed()
     ensures placed { (t : Table) (s n z family : ℕ) → IsSoundTable t s
         → (u : SlotUnit) (i : ℕ) → load_unit (Some t) n z family ≡ Some u → u.a_part ≡ Some i
@@ -84,7 +84,7 @@ pub fn load_units_are_placed()
         → (w x : Window) → IsMember u w → IsMember v x → AreApart w x }
 {}
 
-/// Versions are in one strict order, in which of two different versions one is below the other.
+/// Versions are in one strict order: of two different versions one is below the other.
 pub fn versions_are_ordered()
     ensures irreflexive { (v : Version) → is_below v v ≡ false }
     ensures transitive { (u v w : Version) → is_below u v ≡ true → is_below v w ≡ true
@@ -103,8 +103,9 @@ pub fn better_is_greater()
     ensures none { (a b : Option Version) → (better a b ≡ None) ↔ ((a ≡ None) × (b ≡ None)) }
 {}
 
-/// An update boot goes over the same units. The updated member's unit, the first that has a member
-/// there, is moved to the front, and the others keep their order; without one the order stays.
+/// An update boot goes over the same units. The updated member's unit is the first that has a
+/// member at the address. This unit is moved to the front, and the others keep their order.
+/// Without an updated member the order stays.
 pub fn updates_go_first()
     ensures same { (us : List SlotUnit) (base : ℕ) → IsPermutation us (update_order us base) }
     ensures none { (us : List SlotUnit) (base : ℕ) → updated_member us base ≡ None

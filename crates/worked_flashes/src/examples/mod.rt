@@ -3,7 +3,7 @@
 ghost use Rattle.std.specs.Prelude.{◌≡◌, List, [], ◌∷◌, replicate, ◌++◌};
 ghost use Rattle.worked_flashes.specs.Flashes.{framed, region};
 
-/// The least block for the Arm cores has five words, and a region of it is 0xff behind them.
+/// The minimal block for the Arm cores has five words, and a region of it is 0xff after them.
 #[tactic(auto, unfolding(block_codec::specs::Words::word_bytes))]
 pub fn the_least_block()
     ensures words { framed (0x10210142 ∷ []) 0
