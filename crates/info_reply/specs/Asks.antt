@@ -40,8 +40,8 @@ is_there t (rust.Target family) = true
 is_there t rust.Device = true
 is_there t (rust.Partition i) = has_part t i
 
--- the checks of the reply, in their order: what is asked for is there, and the reply of these words
--- is no longer than the transfer length
+-- the checks of the reply, in their order: what is asked for is there; the reply of these words is
+-- no longer than the transfer length
 abbrev pub reply_checks : Option Table → Ask → List ℕ → Cmd → List Check
 reply_checks t ask words cmd =
     check NOT_FOUND (is_there t ask)

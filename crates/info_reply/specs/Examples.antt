@@ -1,4 +1,4 @@
--- Info commands, and what they are answered by.
+-- Info commands, and the answers to them.
 use Rattle.std.specs.Prelude.{ℕ, Bool, Option, List, ◌∷◌, ◌++◌, replicate}
 use Rattle.byteorder.specs.Endian.{little_bytes}
 use Rattle.pico_board.specs.declared.boot.Cpu.TheVariants.{Arm, Riscv}

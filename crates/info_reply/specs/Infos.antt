@@ -19,9 +19,9 @@ bit holds = if holds then 1 else 0
 abbrev pub location_and_flags : Partition → List ℕ
 location_and_flags p = p.location ∷ p.flags ∷ []
 
--- a table that stands in this slot: bit 31, bit 8 for a singleton and the number of the partitions;
--- the version; the slot; the unpartitioned word; and two words of each partition. Without a table
--- the word 0
+-- a table that stands in this slot: a word with bit 31, bit 8 for a singleton, and the number of
+-- the partitions; the version; the slot; the unpartitioned word; and two words of each partition.
+-- Without a table the word 0
 abbrev pub table_words : ℕ → Option Table → List ℕ
 table_words slot None = 0 ∷ []
 table_words slot (Some t) =
@@ -29,8 +29,8 @@ table_words slot (Some t) =
     ∷ (65536 * t.version.major + t.version.minor) ∷ slot ∷ t.unpartitioned
     ∷ flat_map location_and_flags t.parts.items
 
--- a target: the word 1, the start and the length of its window, and a word with bit 0 where it is
--- gated and bit 1 where the machine stays. Without a target the word 0
+-- a target: the word 1; the start and the length of its window; and a word with bit 0 where the
+-- target is gated and bit 1 where the machine stays. Without a target the word 0
 abbrev pub target_words : Option Target → List ℕ
 target_words None = 0 ∷ []
 target_words (Some t) =

@@ -22,7 +22,7 @@ pub enum Ask {
     Partition(u32),
 }
 
-/// What is told of the board.
+/// What a reply says of the board.
 #[derive(Clone, Copy, Debug, PartialEq, Eq)]
 pub struct Device {
     /// The number of bytes of the flash.
@@ -49,9 +49,9 @@ fn ask_of(kind: u8, argument: u32) -> Option<Ask>
 }
 
 /// What an info command asks for. Its argument size is 16: byte 0 is the kind, the word at byte 4
-/// the argument, and the rest is not read. `Err` has the first that applies of the statuses 2,
-/// another argument size; 3, a transfer length that is no multiple of 4, or a payload; and 11, a
-/// kind outside 1 to 4.
+/// the argument, and the rest is not read. `Err` has the first status that applies: 2, another
+/// argument size; 3, a transfer length that is no multiple of 4, or a payload; or 11, a kind
+/// outside 1 to 4.
 pub fn info_ask(cmd: &Cmd, payload: &[u8]) -> Result<Ask, u32>
     requires { cmd.now.id ≡ INFO }
     ensures { result ≡ asked_info cmd.now payload.now }

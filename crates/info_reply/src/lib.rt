@@ -1,6 +1,6 @@
-//! The replies of info commands: what the board tells of its partition table, of the target of a
+//! The replies of info commands: what the board says of its partition table, of the target of a
 //! download, of itself, and of a partition. The command's id is that of the RP2350 Datasheet's
-//! GET_INFO; the kinds and the layouts of the replies are this project's own.
+//! GET_INFO. The kinds and the layouts of the replies are this project's own.
 #![tactic(auto)]
 
 mod ask;

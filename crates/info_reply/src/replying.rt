@@ -43,7 +43,7 @@ fn version_word(version: Version) -> u32
     65536 * u32::from(version.major) + u32::from(version.minor)
 }
 
-/// The bytes that tell of a table, which stands in this slot.
+/// The reply's bytes of a table that stands in this slot.
 fn table_bytes(slot: u32, table: &Table) -> ArrayVec<u8, 156>
     ensures { result.items ≡ bytes_of (table_words slot (Some table.now)) }
 {
@@ -72,7 +72,7 @@ fn bytes_of(words: &[u32]) -> ArrayVec<u8, 156>
     bytes
 }
 
-/// The bytes that tell of a target.
+/// The reply's bytes of a target.
 fn target_bytes(target: &Target) -> ArrayVec<u8, 156>
     ensures { result.items ≡ bytes_of (target_words (Some target.now)) }
 {
@@ -91,7 +91,7 @@ fn cpu_number(cpu: Cpu) -> u32
     }
 }
 
-/// The bytes that tell of the board.
+/// The reply's bytes of the board.
 fn device_bytes(device: &Device) -> ArrayVec<u8, 156>
     ensures { result.items ≡ bytes_of (device_words device.now) }
 {
@@ -116,7 +116,7 @@ fn indexed_bytes(table: &Table, i: u32) -> Option<ArrayVec<u8, 156>>
     Some(part_bytes(&parts[i as usize]))
 }
 
-/// The bytes of the reply; None where a partition is asked for that is none.
+/// The bytes of the reply; None where the partition that is asked for is none.
 fn reply_bytes(
     ask: &Ask,
     device: &Device,
@@ -145,9 +145,9 @@ fn reply_bytes(
     }
 }
 
-/// Puts the reply of an info command, which is no longer than the transfer length, and answers 0;
-/// or puts nothing, and answers the first that applies of 16, a partition is asked for that is
-/// none, and 12, the reply is longer than the transfer length. The table stands in the slot
+/// Puts the reply of an info command, which is no longer than the transfer length, and answers 0.
+/// Or it puts nothing, and answers the first status that applies: 16, the partition that is asked
+/// for is none; or 12, the reply is longer than the transfer length. The table stands in the slot
 /// `table_slot`, and `target` is that of the family that is asked for.
 pub fn info_put<R: Reply>(
     cmd: &Cmd,

@@ -17,7 +17,7 @@ abbrev pub offset : Cmd → ℕ
 offset cmd = address cmd - flash_base
 
 -- a reboot has its flags in its first word, p0 in its third and p1 in its fourth; the delay in the
--- second is not read, and p1 only where a range in RAM is started
+-- second word is not read; p1 is read only where a range in RAM is started
 abbrev pub reboot_flags : Cmd → ℕ
 reboot_flags cmd = little_number 4 cmd.args
 
@@ -27,8 +27,8 @@ reboot_p0 cmd = little_number 4 (drop 8 cmd.args)
 abbrev pub reboot_p1 : Cmd → ℕ
 reboot_p1 cmd = little_number 4 (drop 12 cmd.args)
 
--- a read and a write of OTP rows have the first row and the number of rows, in two bytes each, and
--- a byte that asks for error correction
+-- a read and a write of OTP rows have the first row and the number of rows, in two bytes each;
+-- then comes a byte that asks for error correction
 abbrev pub first_row : Cmd → ℕ
 first_row cmd = little_number 2 cmd.args
 

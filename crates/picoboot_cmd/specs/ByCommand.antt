@@ -1,4 +1,4 @@
--- The checks of each command alone, which are what is left of the table of checks at its id.
+-- The checks of each command alone: what is left of the table of checks at its id.
 use Rattle.std.specs.Prelude.{ℕ, ◌+◌, ◌*◌, ◌%◌, ◌==◌, ◌&&◌, Bool, not, nat_le, Option, List, [], ◌∷◌, length, slice_index}
 use Rattle.block_codec.specs.Words.{words_of}
 use Rattle.part_table.specs.declared.table.Table.{Table}

@@ -73,8 +73,8 @@ is_inside cmd n =
     nat_le (first_row cmd + row_count cmd) 4096
     else true
 
--- the flags of a reboot have no bit but the low four and bit 8, and the low four are those of a
--- normal boot, of one to BOOTSEL, or of a flash update
+-- the flags of a reboot have no bit but the low four and bit 8; the low four are those of a normal
+-- boot, of a boot to BOOTSEL, or of a flash update
 abbrev pub are_reboot_flags : ℕ → Bool
 are_reboot_flags flags =
     (flags / 16 == 0 || flags / 16 == 16)

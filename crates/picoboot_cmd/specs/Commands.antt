@@ -7,14 +7,14 @@ use Rattle.picoboot_cmd.specs.declared.cmd.CmdFault.TheVariants.{Magic}
 use Rattle.picoboot_cmd.specs.declared.kinds.TheConstants.{MAGIC}
 
 -- a command is written as the magic word, the token, the id, the argument size, two bytes 0, the
--- transfer length and the argument bytes; each word has its lowest byte first
+-- transfer length, and the argument bytes; each word has its lowest byte first
 abbrev pub written_command : Cmd → List ℕ
 written_command cmd =
     little_bytes 4 MAGIC
     ++ (little_bytes 4 cmd.token
     ++ (cmd.id ∷ cmd.arg_size ∷ 0 ∷ 0 ∷ (little_bytes 4 cmd.transfer ++ cmd.args)))
 
--- what the bytes behind the magic word say; bytes 10 and 11 are not read
+-- what the bytes after the magic word say; bytes 10 and 11 are not read
 abbrev pub command_fields : List ℕ → Cmd
 command_fields bytes = record {
   token = little_number 4 (drop 4 bytes);

@@ -51,7 +51,7 @@ otp_write_command row count ecc = command OTP_WRITE 5 (4 * count) (row_args row 
 abbrev pub word : ℕ → List ℕ
 word w = little_bytes 4 w
 
--- OTP rows of which row 0x0c0 is 3 and those before it are 0
+-- OTP rows: row 0x0c0 is 3, and those before it are 0
 abbrev pub row_of_three : List ℕ
 row_of_three = replicate 0x0c0 0 ++ (3 ∷ [])
 
@@ -64,12 +64,12 @@ answer cmd payload = status_of 262144 row_of_three None false cmd payload
 abbrev pub busy_answer : Cmd → List ℕ → ℕ
 busy_answer cmd payload = status_of 262144 row_of_three None true cmd payload
 
--- the status on a flash of 262,144 bytes with those rows and a table in which sectors 0 to 31 and
--- those from 62 on may not be written
+-- the status on a flash of 262,144 bytes with those rows and a table; by the table sectors 0 to 31
+-- and those from 62 on may not be written
 abbrev pub guarded_answer : Cmd → List ℕ → ℕ
 guarded_answer cmd payload = status_of 262144 row_of_three (Some guarded_table) false cmd payload
 
--- the status on a flash of 262,144 bytes with those rows and a table in which sectors 0 to 31 and
--- those from 62 on may not be read
+-- the status on a flash of 262,144 bytes with those rows and a table; by the table sectors 0 to 31
+-- and those from 62 on may not be read
 abbrev pub unread_answer : Cmd → List ℕ → ℕ
 unread_answer cmd payload = status_of 262144 row_of_three (Some unread_table) false cmd payload

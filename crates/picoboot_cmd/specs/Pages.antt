@@ -13,6 +13,6 @@ programs_of zero page bytes = []
 programs_of (suc n) page bytes =
     Program page (padded_page (take 256 bytes)) ∷ programs_of n (page + 1) (drop 256 bytes)
 
--- the programs of as many pages as hold the bytes, of which the last one is filled with 0
+-- the programs of as many pages as hold the bytes; the last page is filled with 0
 abbrev pub programs : ℕ → List ℕ → List Step
 programs page bytes = programs_of ((length bytes + 255) / 256) page bytes

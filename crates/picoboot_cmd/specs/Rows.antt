@@ -8,7 +8,7 @@ use Rattle.pico_board.specs.declared.Step.TheVariants.{Raise}
 abbrev pub are_row_words : List ℕ → Bool
 are_row_words words = list_all (λ w. nat_lt w (2 ^ 24)) words
 
--- each word has all the bits that are raised in its row, the first word being that of the row `row`
+-- each word has all the bits that are raised in its row; the first word is that of the row `row`
 abbrev pub keeps_raised : List ℕ → ℕ → List ℕ → Bool
 keeps_raised otp row [] = true
 keeps_raised otp row (w ∷ words) =

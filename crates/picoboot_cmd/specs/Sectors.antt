@@ -13,8 +13,7 @@ TellsRights t =
     IfSome t (λ table. (permissions_fault table.parts.items ≡ None)
     × (overlap_fault table.parts.items ≡ None))
 
--- the number of the sectors from that of the first byte to that of the last, of `size` bytes from
--- the flash offset `at` on
+-- how many sectors `size` bytes from the flash offset `at` on touch
 abbrev pub touched : ℕ → ℕ → ℕ
 touched at size = if size == 0 then 0 else (at + size - 1) / 4096 + 1 - at / 4096
 

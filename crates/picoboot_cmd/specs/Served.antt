@@ -15,8 +15,8 @@ use Rattle.picoboot_cmd.specs.Pages.{programs}
 use Rattle.picoboot_cmd.specs.Rows.{word_raises}
 use Rattle.picoboot_cmd.specs.Sectors.{erases}
 
--- the steps: an erase is of its sectors, a write of the pages of its payload, and a write of OTP
--- rows of the words of its payload, ascending
+-- the steps, ascending: an erase erases its sectors; a write programs the pages of its payload; a
+-- write of OTP rows raises by the words of its payload
 abbrev pub command_steps : Cmd → List ℕ → List Step
 command_steps cmd payload =
     if cmd.id == ERASE then erases (offset cmd / 4096) (size cmd / 4096)
@@ -48,7 +48,7 @@ pub record ServedCommand : Type 0 where
   pub reply : List ℕ
   pub boot : Option BootKind
 
--- a command with this status: with another one than 0 it does nothing
+-- a command with this status: with another status than 0 it does nothing
 abbrev pub served_by_status : ℕ → Content → Cmd → List ℕ → ServedCommand
 served_by_status status c cmd payload =
     if status == 0 then
@@ -69,7 +69,7 @@ served_on c t busy cmd payload =
 abbrev pub done_of : ServedCommand → Done
 done_of s = record { status = s.status; boot = s.boot }
 
--- a command passes those checks that its work rests on, in a flash of n bytes
+-- a command passes those checks that its work needs, in a flash of n bytes
 pub record IsReady (n : ℕ) (cmd : Cmd) (payload : List ℕ) : Type 0 where
   pub transfer : has_transfer cmd payload ≡ true
   pub aligned : is_aligned cmd ≡ true

@@ -13,7 +13,7 @@ use Rattle.picoboot_cmd.specs.Checks.{are_reboot_flags}
 abbrev pub MayWrite : Option Table → ℕ → ℕ → Type 0
 MayWrite t at n = (i : ℕ) → i < n → allowed_by t ((at + i) / 4096) BootWrite ≡ true
 
--- an erase of the k sectors from sector s on, which may be written, in a flash of n bytes
+-- an erase of the k sectors from sector s on, in a flash of n bytes; these sectors may be written
 pub record IsErase (n : ℕ) (t : Option Table) (s k : ℕ) (cmd : Cmd) : Type 0 where
   pub id : cmd.id ≡ ERASE
   pub arg_size : cmd.arg_size ≡ 8
@@ -23,7 +23,8 @@ pub record IsErase (n : ℕ) (t : Option Table) (s k : ℕ) (cmd : Cmd) : Type 0
   pub inside : 4096 * (s + k) ≤ n
   pub allowed : MayWrite t (4096 * s) (4096 * k)
 
--- a write of the payload to the pages from page p on, which may be written, in a flash of n bytes
+-- a write of the payload to the pages from page p on, in a flash of n bytes; these pages may be
+-- written
 pub record IsWrite (n : ℕ) (t : Option Table) (p : ℕ) (payload : List ℕ) (cmd : Cmd) : Type 0 where
   pub id : cmd.id ≡ WRITE
   pub arg_size : cmd.arg_size ≡ 8

@@ -14,7 +14,7 @@ use crate::working::{boot_of, do_command};
 use part_table::Table;
 use pico_board::{Board, BootKind, PowerLost};
 
-/// What a command is answered.
+/// The answer to a command.
 #[derive(Clone, Copy, Debug, PartialEq, Eq)]
 pub struct Done {
     /// The number of the first check that fails, and 0 where none does.

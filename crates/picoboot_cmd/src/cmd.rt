@@ -11,7 +11,7 @@ use thiserror::Error;
 /// interface).
 #[derive(Clone, Copy, Debug, PartialEq, Eq)]
 pub struct Cmd {
-    /// A number of the host's own, by which it tells its commands apart.
+    /// A number of the host's own. The host tells its commands apart by it.
     pub token: u32,
     /// The command's id.
     pub id: u8,

@@ -39,7 +39,7 @@ fn all_have(table: &Table, right: Right, first: u32, end: u32) -> bool
     true
 }
 
-/// Whether they all have the right by the table, or there is none.
+/// Whether these sectors all have the right by the table, or there is no table.
 fn all_allowed(table: Option<&Table>, right: Right, first: u32, end: u32) -> bool
     requires rights { TellsRights (option_map (λ t. t.now) table) }
     ensures { result ≡ all_allowed (option_map (λ t. t.now) table.entry) right first (end - first) }

@@ -1,8 +1,8 @@
 //! PICOBOOT commands: their 32 bytes, the checks that each has to pass, and what each does on the
 //! board.
 //!
-//! The commands, their ids and the numbers of their statuses are of the RP2350 Datasheet, chapter 5
-//! (Bootrom, the PICOBOOT interface); the order of the checks is this project's own.
+//! The commands, their ids and the numbers of their statuses are of the RP2350 Datasheet, chapter
+//! 5 (Bootrom, the PICOBOOT interface). The order of the checks is this project's own.
 #![tactic(auto)]
 
 mod applying;

@@ -11,7 +11,7 @@ pub trait Reply {
     // The reply stands for this list of bytes.
     ghost stands_for: { Self → List ℕ → Type 0 };
 
-    /// Takes these bytes behind the ones before.
+    /// Takes these bytes after the ones before.
     fn put(&mut self, bytes: &[u8])
         ensures { (before : List ℕ) → stands_for self.old before
             → stands_for self.new (before ++ bytes.now) };

@@ -12,8 +12,8 @@ ghost use Rattle.info_reply.specs.Asks.{ask_checks, ask_in, asked_info, reply_ch
 ghost use Rattle.info_reply.specs.Infos.{info_of};
 ghost use Rattle.info_reply.specs.Statuses.{info_checks};
 
-/// A command that is refused has the status of the first of all checks that fails; one that asks
-/// for something has that of the first check of its reply that fails.
+/// A refused command has the status of the first of all checks that fails. A command that asks for
+/// something has the status of the first check of its reply that fails.
 pub fn the_status_of_an_info_command()
     ensures refused { (device : Device) (slot : ℕ) (t : Option Table) (target : Option Target)
         (cmd : Cmd) (payload : List ℕ) (status : ℕ) → asked_info cmd payload ≡ Err status
@@ -28,8 +28,8 @@ pub fn the_status_of_an_info_command()
         ↔ IsCheckedStatus (info_checks device slot t target cmd payload) status }
 {}
 
-/// What is asked for is what the arguments name, and a refusal has the status of the first check
-/// of the command that fails.
+/// What is asked for is what the arguments name. A refusal has the status of the first check of
+/// the command that fails.
 pub fn what_is_asked_for()
     ensures ok { (cmd : Cmd) (payload : List ℕ) (ask : Ask) → (asked_info cmd payload ≡ Ok ask)
         ↔ ((first_failing (ask_checks cmd payload) ≡ 0) × (ask_in cmd ≡ Some ask)) }

@@ -26,7 +26,7 @@ pub fn bytes_of_an_erase()
     ensures other { command_in (0x0c ∷ 0xd1 ∷ 0x1f ∷ 0x43 ∷ replicate 28 0) ≡ Err Magic }
 {}
 
-/// The ids that there are, and ids beside them.
+/// The ids that there are, and ids next to them.
 pub fn ids()
     ensures exclusive { answer (plain_command 1 1 0) [] ≡ 0 }
     ensures exit_xip { answer (plain_command 6 0 0) [] ≡ 0 }
@@ -38,7 +38,7 @@ pub fn ids()
     ensures info { answer (plain_command 0x8b 16 0) [] ≡ 1 }
 {}
 
-/// The argument size of each command, and sizes beside it.
+/// The argument size of each command, and sizes next to it.
 pub fn argument_sizes()
     ensures exclusive_none { answer (plain_command 1 0 0) [] ≡ 2 }
     ensures exclusive_two { answer (plain_command 1 2 0) [] ≡ 2 }
@@ -53,7 +53,7 @@ pub fn argument_sizes()
     ensures otp_write_six { answer (plain_command 13 6 0) [] ≡ 2 }
 {}
 
-/// The transfer length and the payload of each command, and lengths beside them.
+/// The transfer length and the payload of each command, and lengths next to these.
 #[tactic(auto, unfolding(block_codec::specs::Words::word_of))]
 pub fn transfer_lengths()
     ensures write { answer (write_command 0x10000000 3) (1 ∷ 2 ∷ 3 ∷ []) ≡ 0 }
@@ -77,8 +77,8 @@ pub fn transfer_lengths()
     ensures otp_write_size { answer (command 13 5 8 (row_args 0x0c0 1 0)) (word 7 ++ word 7) ≡ 3 }
 {}
 
-/// The words of a range and of a reboot, in their places, and the row and the number of rows, in
-/// two bytes each.
+/// The words of a range and of a reboot, in their places. The row and the number of rows, in two
+/// bytes each.
 pub fn places_of_arguments()
     ensures at { address (erase_command 0x12345678 0x9abcdef0) ≡ 0x12345678 }
     ensures long { size (erase_command 0x12345678 0x9abcdef0) ≡ 0x9abcdef0 }
@@ -124,7 +124,7 @@ pub fn ends()
     ensures otp_write_past { answer (otp_write_command 4096 1 0) (word 7) ≡ 4 }
 {}
 
-/// The arguments that commands take, and values beside them.
+/// The arguments that commands take, and values next to them.
 #[tactic(auto, unfolding(block_codec::specs::Words::word_of))]
 pub fn arguments()
     ensures exclusive { answer (command 1 1 0 (2 ∷ replicate 15 0xaa)) [] ≡ 0 }
@@ -152,7 +152,7 @@ pub fn arguments()
 {}
 
 /// Sectors that may not be written, and that may not be read: the first and the last that a range
-/// touches, and those beside it.
+/// touches, and those next to the range.
 pub fn rights()
     ensures write { guarded_answer (write_command 0x10002000 1) (0 ∷ []) ≡ 10 }
     ensures write_allowed { guarded_answer (write_command 0x10020000 1) (0 ∷ []) ≡ 0 }
@@ -193,8 +193,7 @@ pub fn busy()
     ensures unknown { busy_answer (plain_command 0x55 0 0) [] ≡ 1 }
 {}
 
-/// Commands that fail two checks, for each two that follow one another and that one command can
-/// fail.
+/// Commands that fail two checks, for each two neighbouring checks that one command can fail.
 #[tactic(auto, unfolding(block_codec::specs::Words::word_of))]
 pub fn the_first_of_two()
     ensures busy_and_length { busy_answer (plain_command 3 7 0) [] ≡ 9 }
@@ -216,8 +215,8 @@ pub fn the_first_of_two()
     ensures wide_and_bits { answer (otp_write_command 0x0c0 1 0) (word 0x1000001) ≡ 11 }
 {}
 
-/// The steps of an erase, of a write whose last page is filled with 0, and of a write of rows; a
-/// size of 0 has none.
+/// The steps of an erase, of a write whose last page is filled with 0, and of a write of rows. A
+/// size of 0 has no steps.
 #[tactic(auto, unfolding(block_codec::specs::Words::word_of, crate::specs::Pages::padded_page))]
 pub fn steps()
     ensures erase { command_steps (erase_command 0x10020000 0x2000) [] ≡ Erase 32 ∷ Erase 33 ∷ [] }
@@ -258,8 +257,8 @@ pub fn a_table_that_fits()
     ensures none { IsSoundFor None 0 }
 {}
 
-/// Well-formed commands on the last bytes of a flash of 262,144 bytes, on none, and on the first
-/// and the last sector and page that may be written.
+/// Well-formed commands: on the last bytes of a flash of 262,144 bytes, on no byte, and on the
+/// first and the last sector and page that may be written.
 pub fn well_formed_commands()
     ensures erase { IsErase 262144 None 32 32 (erase_command 0x10020000 0x20000) }
     ensures erase_none { IsErase 262144 None 64 0 (erase_command 0x10040000 0) }
@@ -275,7 +274,7 @@ pub fn well_formed_commands()
     ensures reboot { IsReboot (reboot_command 4 0x10020000) }
 {}
 
-/// No well-formed commands: those on the sector before and the one behind the sectors that may be
+/// No well-formed commands: those on the sector before and on the sector after those that may be
 /// written, and those that pass the end of the flash.
 pub fn commands_that_are_not_well_formed()
     ensures erase_before { ¬ (IsErase 262144 (Some guarded_table) 31 1

@@ -1,5 +1,5 @@
-//! Laws of commands: their bytes, the first check that fails, what is left of the checks for each
-//! command, and what well-formed commands do.
+//! Laws of commands: their bytes; the first check that fails; what is left of the checks for each
+//! command; and what well-formed commands do.
 
 ghost use Rattle.std.specs.Prelude.{◌≡◌, ◌≢◌, ◌⊎◌, ◌↔◌, ℕ, ◌+◌, ◌-◌, ◌/◌, ◌<◌, ◌≤◌, All, Bool, Err, List, None, Ok, Option, Some, [], ◌∷◌, ◌++◌, false, is_some, length, replicate, slice_index, take, true};
 ghost use Rattle.byteorder.specs.Endian.{little_number};
@@ -22,8 +22,8 @@ ghost use Rattle.picoboot_cmd.specs.Sectors.{erases, range_allowed};
 ghost use Rattle.picoboot_cmd.specs.Served.{boot_by, served_on};
 ghost use Rattle.picoboot_cmd.specs.WellFormed.{IsErase, IsReboot, IsWrite};
 
-/// What is written for a command is 32 bytes and is read as it, what is read as a command has its
-/// fields in their ranges, and `Magic` comes exactly for another first word.
+/// What is written for a command is 32 bytes and is read as the same command. What is read as a
+/// command has its fields in their ranges. `Magic` comes exactly for another first word.
 pub fn commands_are_read_back()
     ensures written { (cmd : Cmd) → IsCommand cmd → command_in (written_command cmd) ≡ Ok cmd }
     ensures long { (cmd : Cmd) → IsCommand cmd → length (written_command cmd) ≡ 32 }
