@@ -42,8 +42,8 @@ IsWellFormed PowerOn = ⊤
 IsWellFormed (Reset kind) = base_of kind < 2 ^ 32
 IsWellFormed Buy = ⊤
 
--- an event that is written to a script, and that the machine serves: a payload is shorter than a
--- script may be, and a pattern is as a bench asks
+-- an event that may be written to a script, and that the machine serves: its payload is shorter
+-- than a script may be, and its pattern is as a bench asks
 abbrev pub IsWritableEvent : EventView → Type 0
 IsWritableEvent End = ⊤
 IsWritableEvent (Command command payload) = length payload < 2 ^ 26

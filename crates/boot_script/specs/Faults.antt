@@ -52,21 +52,21 @@ pub record HasBadCut (bs : List ℕ) : Type 0 where
   pub cut : slice_index bs 0 ≡ CUT
   pub bad : ¬ (IsCut (slice_index bs 5) (little_number 2 (drop 6 bs)))
 
--- how many bytes stand behind the fixed ones: a command's payload, or a cut's pattern
+-- how many bytes stand after the fixed ones: those of a command's payload, or of a cut's pattern
 abbrev pub rest_size : List ℕ → ℕ
 rest_size bs =
     if slice_index bs 0 == COMMAND then little_number 4 (drop 33 bs)
     else if slice_index bs 0 == CUT then little_number 2 (drop 6 bs)
     else 0
 
--- the fixed bytes are there and fit, and a payload or a pattern runs past the end
+-- the fixed bytes are there and right, and a payload or a pattern runs past the end
 pub record LacksRest (bs : List ℕ) : Type 0 where
   pub fixed : HasFixed bs
   pub fits : slice_index bs 0 ≡ CUT → IsCut (slice_index bs 5) (little_number 2 (drop 6 bs))
   pub short : length bs < fixed_size (slice_index bs 0) + rest_size bs
 
--- the fault of the bytes that stand at the offset: the first byte is judged first, then whether
--- the fixed bytes are there, then their values, and whether a payload or a pattern is there last
+-- the fault of the bytes that stand at the offset: the first byte is judged first; then whether
+-- the fixed bytes are there; then their values; and last whether a payload or a pattern is there
 abbrev pub IsEventFault : ℕ → List ℕ → ScriptFault → Type 0
 IsEventFault at bs (Kind place) = (place ≡ at) × (HasNoKind bs ⊎ HasBadReset bs)
 IsEventFault at bs (Short place) = (place ≡ at) × ((bs ≡ []) ⊎ (LacksFixed bs ⊎ LacksRest bs))

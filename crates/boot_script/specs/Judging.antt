@@ -8,8 +8,8 @@ use Rattle.boot_script.specs.Events.{EventView, End}
 use Rattle.boot_script.specs.Reading.{event_at}
 use Rattle.boot_script.specs.Scripts.{is_end}
 
--- the records of these events stand one after another, from the first offset to the last one, and
--- none of them is an end
+-- the records of these events stand one after another, from the first offset to the last one; none
+-- of the events is an end
 abbrev pub AreRecords : List ℕ → ℕ → List EventView → ℕ → Type 0
 AreRecords bytes at [] last = last ≡ at
 AreRecords bytes at (e ∷ es) last =
@@ -41,31 +41,31 @@ pub record IsEndless (most : ℕ) (bytes : List ℕ) (at : ℕ) : Type 0 where
   pub before : AreRecords bytes at happened last
 
 -- a script within the limits: at most 67,108,864 bytes, with an end among the first 524,288
--- records and no fault before it; what stands behind the end is not read
+-- records and no fault before the end; what stands after the end is not read
 pub record IsScript (bytes : List ℕ) : Type 0 where
   pub short : length bytes ≤ SCRIPT_LIMIT
   pub ended : IsEnded RECORD_LIMIT bytes 0
 
--- why bytes are no script: that they are too many comes first
+-- why bytes are no script: too many bytes come first
 abbrev pub IsScriptError : List ℕ → ScriptError → Type 0
 IsScriptError bytes TooLarge = SCRIPT_LIMIT < length bytes
 IsScriptError bytes (Record fault) =
     (length bytes ≤ SCRIPT_LIMIT) × IsUnread RECORD_LIMIT bytes 0 fault
 IsScriptError bytes TooMany = (length bytes ≤ SCRIPT_LIMIT) × IsEndless RECORD_LIMIT bytes 0
 
--- the same as a function: of the record that was read, or of those behind it
+-- the same as a function: of the record that was read, or of those after it
 abbrev pub record_error : Result (EventView × ℕ) ScriptFault → (ℕ → Option ScriptError)
     → Option ScriptError
 record_error (Err fault) others = Some (Record fault)
 record_error (Ok record_read) others =
     if is_end record_read.0 then None else others record_read.1
 
--- of so many records from an offset on
+-- the first error of so many records from an offset on
 unfoldable pub first_error : ℕ → List ℕ → ℕ → Option ScriptError
 first_error zero bytes at = Some TooMany
 first_error (suc most) bytes at = record_error (event_at bytes at) (first_error most bytes)
 
--- of bytes
+-- the first error of bytes
 abbrev pub script_error : List ℕ → Option ScriptError
 script_error bytes =
     if nat_lt SCRIPT_LIMIT (length bytes) then Some TooLarge else first_error RECORD_LIMIT bytes 0

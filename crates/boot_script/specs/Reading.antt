@@ -10,7 +10,7 @@ use Rattle.boot_script.specs.declared.kinds.TheConstants.{END, COMMAND, UF2, CUT
 use Rattle.boot_script.specs.Events.{EventView, End, Command, Uf2, Cut, PowerOn, Reset, Buy, event_from}
 use Rattle.boot_script.specs.Written.{written_event}
 
--- the payload or the pattern, of this size, at the front of the bytes behind the fixed ones
+-- the payload or the pattern, of this size, at the front of the bytes after the fixed ones
 abbrev pub with_rest : ℕ → ℕ → List ℕ → (List ℕ → EventView) → Result EventView ScriptFault
 with_rest at size rest event =
     if nat_lt (length rest) size then Err (Short at) else Ok (event (take size rest))
@@ -66,7 +66,7 @@ reset_in at bs =
     if nat_lt (length bs) 5 then Err (Short at)
     else reset_event at (reset_of (slice_index bs 0) (little_number 4 (drop 1 bs)))
 
--- the event that bytes begin with which stand at the offset `at`, or its fault
+-- the event at the front of bytes that stand at the offset `at`, or its fault
 abbrev pub event_in : ℕ → List ℕ → Result EventView ScriptFault
 event_in at [] = Err (Short at)
 event_in at (kind ∷ rest) =

@@ -11,13 +11,14 @@ abbrev pub is_end : EventView → Bool
 is_end End = true
 is_end e = false
 
--- events before those that are read of the rest
+-- these events, and then those that are read of the rest
 abbrev pub events_behind : List EventView → Result (List EventView) ScriptFault
     → Result (List EventView) ScriptFault
 events_behind es (Ok others) = Ok (es ++ others)
 events_behind es (Err fault) = Err fault
 
--- the event that was read at an offset, and then the others, which are read from behind it
+-- the event that was read at an offset, and then the others; the others are read from the byte
+-- after it
 abbrev pub then_others : ℕ → List ℕ → Result EventView ScriptFault
     → (ℕ → List ℕ → Result (List EventView) ScriptFault) → Result (List EventView) ScriptFault
 then_others at bs (Err fault) others = Err fault
@@ -31,7 +32,7 @@ abbrev pub events_within : ℕ → ℕ → List ℕ → Result (List EventView) 
 events_within zero at bs = Err (Short at)
 events_within (suc k) at bs = then_others at bs (event_in at bs) (events_within k)
 
--- the events from an offset on before the first end, or the first fault; since each has a byte,
+-- the events from an offset on before the first end, or the first fault; each event has a byte, so
 -- one step more than there are bytes is enough
 abbrev pub events_from : List ℕ → ℕ → Result (List EventView) ScriptFault
 events_from bytes at = events_within (suc (length bytes - at)) at (drop at bytes)

@@ -18,7 +18,7 @@ pub record IsWalk (bytes : List ℕ) (at : ℕ) : Type 0 where
   pub ended : IsEnded most bytes at
 
 -- a walk that had the events `left` gave the first of them, which the machine serves, and has the
--- others; or it had none, and has none
+-- others; or the walk had no event, and has none
 abbrev pub GivesFirst : List EventView → Option Event → List EventView → Type 0
 GivesFirst left given others =
     MatchOption given ((left ≡ []) × (others ≡ []))

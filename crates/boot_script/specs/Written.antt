@@ -16,8 +16,8 @@ reset_byte Normal = RESET_NORMAL
 reset_byte Bootsel = RESET_BOOTSEL
 reset_byte (Update base) = RESET_UPDATE
 
--- the bytes of an event: its first byte, its fixed parts, and its payload or pattern behind the
--- length of that
+-- the bytes of an event: its first byte, its fixed parts, the length of its payload or pattern,
+-- and then the payload or pattern
 abbrev pub written_event : EventView → List ℕ
 written_event End = END ∷ []
 written_event (Command command payload) =

@@ -71,15 +71,15 @@ fn whole<const N: usize>(array: &[u8; N]) -> &[u8]
 /// Why no event is read. Each names the offset of the event.
 #[derive(Clone, Copy, Debug, PartialEq, Eq, Error)]
 pub enum ScriptFault {
-    /// The first byte is above 6; or a reset's kind byte is not 0, 2 or 4, or its base is not 0
-    /// where it is no update.
+    /// The first byte is above 6. Or a reset's kind byte is not 0, 2 or 4, or its base is not 0
+    /// where the reset is no update.
     #[error("the event at {0:#x} is of no kind")]
     Kind(u32),
     /// No byte is left, or the event runs past the end.
     #[error("the event at {0:#x} runs past the end")]
     Short(u32),
-    /// A cut's part byte is above 1, or its pattern's size does not go with the part: no byte for
-    /// 0, and 1 to 4096 bytes for 1.
+    /// A cut's part byte is above 1, or its pattern's size does not go with the part. Part 0 has
+    /// no byte, and part 1 has 1 to 4096 bytes.
     #[error("the cut at {0:#x} has no pattern that fits")]
     Pattern(u32),
 }

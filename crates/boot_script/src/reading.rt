@@ -45,7 +45,7 @@ fn read_event<'a>(bytes: &'a [u8], at: u32) -> Result<Event<'a>, ScriptFault>
     }
 }
 
-/// The command behind its first byte.
+/// The command after its first byte.
 fn read_command<'a>(bytes: &'a [u8], at: u32) -> Result<Event<'a>, ScriptFault>
     ensures { read_from result ≡ command_event_in at bytes.now }
 {
@@ -55,7 +55,7 @@ fn read_command<'a>(bytes: &'a [u8], at: u32) -> Result<Event<'a>, ScriptFault>
     }
 }
 
-/// The command of these 32 bytes with the payload behind them.
+/// The command of these 32 bytes with the payload after them.
 fn read_payload<'a>(
     command: &'a [u8; 32],
     bytes: &'a [u8],
@@ -73,7 +73,7 @@ fn read_payload<'a>(
     Ok(Event::Command(command, &rest[..size]))
 }
 
-/// The UF2 block behind its first byte.
+/// The UF2 block after its first byte.
 fn read_uf2<'a>(bytes: &'a [u8], at: u32) -> Result<Event<'a>, ScriptFault>
     ensures { read_from result ≡ uf2_in at bytes.now }
 {
@@ -83,7 +83,7 @@ fn read_uf2<'a>(bytes: &'a [u8], at: u32) -> Result<Event<'a>, ScriptFault>
     }
 }
 
-/// The cut behind its first byte.
+/// The cut after its first byte.
 fn read_cut<'a>(bytes: &'a [u8], at: u32) -> Result<Event<'a>, ScriptFault>
     ensures { read_from result ≡ cut_event_in at bytes.now }
 {
@@ -113,7 +113,7 @@ fn is_cut(part: u8, size: usize) -> bool
     }
 }
 
-/// The reset behind its first byte.
+/// The reset after its first byte.
 fn read_reset<'a>(bytes: &'a [u8], at: u32) -> Result<Event<'a>, ScriptFault>
     ensures { read_from result ≡ reset_in at bytes.now }
 {

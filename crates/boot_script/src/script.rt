@@ -10,7 +10,7 @@ use crate::reading::next_event;
 use std::marker::Model;
 
 /// The bytes of a script: at most 67,108,864, with an end among the first 524,288 records and no
-/// fault before it. What stands behind the end is not read.
+/// fault before the end. What stands after the end is not read.
 #[derive(Clone, Copy, Debug)]
 pub struct Script<'a> {
     /// The bytes.
@@ -88,7 +88,7 @@ impl<'a> Iterator for Events<'a> {
     }
 }
 
-/// Why the first records are those of no script, of bytes that are not too many.
+/// Why bytes that are not too many are no script, by their first records.
 fn first_error(bytes: &[u8]) -> Option<ScriptError>
     requires { length bytes.now ≤ SCRIPT_LIMIT }
     ensures { result ≡ first_error RECORD_LIMIT bytes.now 0 }

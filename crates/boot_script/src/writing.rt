@@ -13,9 +13,9 @@ use crate::kinds::{
 use pico_board::BootKind;
 use std::alloc::{AllocError, Global};
 
-/// Appends the bytes of an event, which are read again, whatever stands before and behind them.
+/// Appends the bytes of an event. They are read again, whatever stands before and after them.
 /// Where there is no memory for them, the former bytes stay, and a part of the event may stand
-/// behind them.
+/// after these.
 pub fn write_event(alloc: Global, event: &Event<'_>, out: &mut Vec<u8>) -> Result<(), AllocError>
     requires { IsWritableEvent (event_from event.now) }
     ensures ok { OnOk result (out.new.items

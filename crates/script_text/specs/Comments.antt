@@ -41,8 +41,8 @@ reboot_text cmd =
     codes "ram=" ++ start_and_size_text (reboot_p0 cmd) (reboot_p1 cmd)
     else codes "flags=" ++ hex_word (reboot_flags cmd)
 
--- what an info command asks for: its kind is its first argument byte, and its argument the second
--- word
+-- what an info command asks for, by its kind and its argument: the kind is its first argument
+-- byte, and the argument its second word
 abbrev pub info_text : ℕ → ℕ → List ℕ
 info_text kind argument =
     if kind == TABLE then codes "table"
@@ -51,8 +51,8 @@ info_text kind argument =
     else if kind == PARTITION then codes "partition=" ++ decimal argument
     else codes "kind=" ++ decimal kind
 
--- what a command is, by its id; one with another argument size than that of its id, or with
--- another id, is just a command
+-- what a command is, by its id; with another argument size than that of its id, or with another
+-- id, it is just a command
 abbrev pub action_text : Cmd → List ℕ
 action_text cmd =
     if cmd.id == EXCLUSIVE && cmd.arg_size == 1 then
@@ -101,8 +101,8 @@ read_uf2_text (Err Number) = codes "uf2 bad number"
 unfoldable pub uf2_text : List ℕ → List ℕ
 uf2_text block = read_uf2_text (uf2_of block)
 
--- commands and UF2 blocks have a comment; it says nothing of a transfer length, of a payload, and
--- of what stands where an address points
+-- commands and UF2 blocks have a comment; a comment says nothing of a transfer length, of a
+-- payload, or of what stands where an address points
 abbrev pub note_of : EventView → Option (List ℕ)
 note_of (Command command payload) = Some (command_text command)
 note_of (Uf2 block) = Some (uf2_text block)

@@ -1,4 +1,4 @@
--- What the worked examples speak of.
+-- What the worked examples name.
 use Rattle.std.specs.Prelude.{ℕ, List, [], ◌∷◌, ◌++◌, replicate, Result, Ok}
 use Rattle.byteorder.specs.Endian.{little_bytes}
 use Rattle.picoboot_cmd.specs.Commands as commands
@@ -38,7 +38,7 @@ block_note magic payload address number count = uf2_text (
     ++ (little_bytes 4 0xe48bff59 ++ (replicate 476 0 ++ little_bytes 4 END))))))))
     )
 
--- what is read of a buy, which has one byte, behind so many records with so many bytes, where no
--- line follows
+-- what is read of a buy, which has one byte, after so many records with so many bytes; no line
+-- follows
 abbrev pub buy_behind : ℕ → ℕ → Result (List EventView) TextError
 buy_behind count size = add_event count size Buy (Ok [])

@@ -12,13 +12,13 @@ reset_text Normal = codes "normal"
 reset_text Bootsel = codes "bootsel"
 reset_text (Update base) = codes "update=" ++ hex_word base
 
--- a payload behind its command, where it has a byte
+-- a payload after its command, where the payload has a byte
 abbrev pub payload_text : List ℕ → List ℕ
 payload_text [] = []
 payload_text (b ∷ bytes) = codes " " ++ encode_lower (b ∷ bytes)
 
--- the line of a record, without its line feed: bytes as two lower-case hexadecimal digits each,
--- the number of steps of a cut in decimal, and one blank between words
+-- the line of a record, without its line feed: each byte is two lower-case hexadecimal digits; the
+-- number of steps of a cut is in decimal; and one blank stands between words
 abbrev pub record_line : EventView → List ℕ
 record_line End = codes "end"
 record_line (Command command payload) =

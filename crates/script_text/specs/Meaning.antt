@@ -33,17 +33,17 @@ EndsAt lines front =
     (lines ≡ front) ⊎ ((rest : List (List ℕ)) × (line : List ℕ) × IsRecord line End
     × (lines ≡ front ++ (line ∷ rest)))
 
--- the text is one of a script with these events before its end: those of its lines up to the first
--- that is an end, what follows that being free, or of all its lines
+-- the text is one of a script with these events before its end: the events of its lines up to the
+-- first that is an end, whatever follows this line, or of all its lines
 pub record IsScriptText (text : List ℕ) (es : List EventView) : Type 0 where
   pub front : List (List ℕ)
   pub ends : EndsAt (lines_of text) front
   pub records : AreRecordsOfLines front es
   pub within : IsWithinLimits es
 
--- the fault of a line with this number, behind records with these events: it is neither passed
--- over nor a record; or it is a record other than the end, and there are too many before it; or
--- otherwise with it and the end the script is too long
+-- the fault of a line with this number, after records with these events: the line is neither
+-- passed over nor a record; or it is a record other than the end, and there are too many before
+-- it; or otherwise the script with this record and the end is too long
 abbrev pub IsLineFault : ℕ → List EventView → List ℕ → TextError → Type 0
 IsLineFault n es line (Line number) =
     (number ≡ n) × (IsPassed line → ⊥) × ((e : EventView) → IsRecord line e → ⊥)

@@ -15,8 +15,8 @@ IsRecordLine first = (e : EventView) × IsRecord first e × (is_end e ≡ false)
 abbrev pub spelled : List (List ℕ) → List ℕ
 spelled lines = flat_map line lines ++ line (record_line End)
 
--- lines and then the end, each with its line feed, and the comment of each line's event above it,
--- where the event has one; events are numbered from a first number on
+-- lines and then the end, each with its line feed; above each line stands the comment of its
+-- event, where the event has one; events are numbered from a first number on
 abbrev pub with_comments : ℕ → List (List ℕ) → List EventView → List ℕ
 with_comments n (first ∷ lines) (e ∷ es) =
     comment_of n e ++ (line first ++ with_comments (n + 1) lines es)

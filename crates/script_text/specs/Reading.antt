@@ -31,14 +31,14 @@ abbrev pub is_passed : List ℕ → Bool
 is_passed [] = true
 is_passed (b ∷ line) = b == 35
 
--- these events, and then those that are read of the other lines, or the fault of those
+-- these events, and then those that are read of the other lines, or the fault of the others
 abbrev pub with_events : List EventView → Result (List EventView) TextError
     → Result (List EventView) TextError
 with_events es (Ok others) = Ok (es ++ others)
 with_events es (Err fault) = Err fault
 
--- the events from a record on that is no end, behind so many records with so many bytes: there is
--- room for it and the end, and the others follow
+-- the events from a record on that is no end, after so many records with so many bytes: there is
+-- room for this record and the end, and the others follow
 abbrev pub add_event : ℕ → ℕ → EventView → Result (List EventView) TextError
     → Result (List EventView) TextError
 add_event count size e others =
@@ -53,8 +53,7 @@ add_record n count size None others = Err (Line n)
 add_record n count size (Some e) others =
     if is_end e then Ok [] else add_event count size e (others e)
 
--- the events of lines, of which the first has this number, behind so many records with so many
--- bytes
+-- the events of lines after so many records with so many bytes; the first line has this number
 abbrev pub read_lines : ℕ → ℕ → ℕ → List (List ℕ) → Result (List EventView) TextError
 read_lines n count size [] = Ok []
 read_lines n count size (line ∷ lines) =
@@ -81,7 +80,7 @@ pub record Adds (old new : TextScript) (es : List EventView) : Type 0 where
   pub bytes : new.bytes.items ≡ old.bytes.items ++ flat_map written_event es
   pub records : new.records ≡ old.records + length es
 
--- what is read of lines, of which the first has this number, behind a script that was begun
+-- what is read of lines after a script that was begun; the first line has this number
 abbrev pub read_behind : ℕ → TextScript → List (List ℕ) → Result (List EventView) TextError
 read_behind n s lines = read_lines n s.records (length s.bytes.items) lines
 

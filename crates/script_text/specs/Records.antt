@@ -22,14 +22,14 @@ within_in left pattern =
     then Some (Cut left true pattern)
     else None
 
--- the part of a cut, behind its number
+-- the part of a cut, after its number
 abbrev pub cut_part_in : ℕ → List ℕ → Option EventView
 cut_part_in left text =
     if bytes_eq text (codes "before") then Some (Cut left false [])
     else option_and_then (within_in left)
     (option_and_then bytes_in (behind_word (codes "within ") text))
 
--- a cut: its number and, behind a blank, its part
+-- a cut: its number, and after a blank its part
 abbrev pub cut_of_words : Option ℕ → Option (List ℕ) → Option EventView
 cut_of_words None part = None
 cut_of_words (Some left) None = None
@@ -42,7 +42,7 @@ cut_in_text text = cut_of_words (number_in (before_mark 32 text)) (behind_mark 3
 abbrev pub some_payload : List ℕ → Option (List ℕ)
 some_payload payload = if nat_le 1 (length payload) then Some payload else None
 
--- the payload behind a command's 64 digits: none, or behind a blank its digits
+-- the payload after a command's 64 digits: none, or after a blank its digits
 abbrev pub payload_in_text : List ℕ → Option (List ℕ)
 payload_in_text [] = Some []
 payload_in_text (b ∷ text) = if b == 32 then option_and_then some_payload (bytes_in text) else None
@@ -66,7 +66,7 @@ word_record line =
     else if bytes_eq line (codes "end") then Some End
     else None
 
--- what is read behind the first word, where the line has this one; otherwise the others
+-- what is read after the first word, where the line has this word; otherwise the others
 abbrev pub or_others : Option (List ℕ) → (List ℕ → Option EventView) → Option EventView
     → Option EventView
 or_others None read others = others

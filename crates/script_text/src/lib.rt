@@ -1,6 +1,6 @@
-//! The text form of scripts: one record a line, in one spelling, with a comment above each command
-//! and each UF2 block that says what it is. A script is listed as a text, and a text is read as a
-//! script. The form is this project's own.
+//! The text form of scripts: one record a line, in one spelling. A comment above each command and
+//! each UF2 block says what it is. A script is listed as a text, and a text is read as a script.
+//! The form is this project's own.
 #![tactic(auto)]
 
 mod comments;

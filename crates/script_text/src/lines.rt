@@ -36,14 +36,14 @@ fn read_kind(text: &[u8]) -> Option<BootKind>
     Some(BootKind::Update(read_word(base)?))
 }
 
-/// The record of a reset, behind its first word.
+/// The record of a reset, after its first word.
 fn read_reset(text: &[u8]) -> Option<Record>
     ensures { option_map record_from result ≡ option_map Reset (kind_in text.now) }
 {
     Some(Record::Reset(read_kind(text)?))
 }
 
-/// The part of a cut, behind its number.
+/// The part of a cut, after its number.
 fn read_part(alloc: Global, left: u32, text: &[u8]) -> Result<Option<Record>, AllocError>
     ensures { IfOk result (λ found. option_map record_from found ≡ cut_part_in left text.now) }
 {
@@ -62,7 +62,7 @@ fn read_part(alloc: Global, left: u32, text: &[u8]) -> Result<Option<Record>, Al
     Ok(Some(Record::Cut(left, true, pattern)))
 }
 
-/// The record of a cut, behind its first word.
+/// The record of a cut, after its first word.
 fn read_cut(alloc: Global, text: &[u8]) -> Result<Option<Record>, AllocError>
     ensures { IfOk result (λ found. option_map record_from found ≡ cut_in_text text.now) }
 {
@@ -76,7 +76,7 @@ fn read_cut(alloc: Global, text: &[u8]) -> Result<Option<Record>, AllocError>
     }
 }
 
-/// The payload behind a command's digits: none, or behind a blank its digits.
+/// The payload after a command's digits: none, or after a blank its digits.
 fn read_payload(alloc: Global, text: &[u8]) -> Result<Option<Vec<u8>>, AllocError>
     ensures { IfOk result (λ found. option_map (λ bytes. bytes.items) found
         ≡ payload_in_text text.now) }
@@ -93,7 +93,7 @@ fn read_payload(alloc: Global, text: &[u8]) -> Result<Option<Vec<u8>>, AllocErro
     }
 }
 
-/// The record of a command, behind its first word.
+/// The record of a command, after its first word.
 fn read_command(alloc: Global, text: &[u8]) -> Result<Option<Record>, AllocError>
     ensures { IfOk result (λ found. option_map record_from found ≡ command_in_text text.now) }
 {
@@ -110,7 +110,7 @@ fn read_command(alloc: Global, text: &[u8]) -> Result<Option<Record>, AllocError
     }
 }
 
-/// The record of a UF2 block, behind its first word.
+/// The record of a UF2 block, after its first word.
 fn read_uf2(text: &[u8]) -> Option<Record>
     ensures { option_map record_from result ≡ option_map Uf2 (array_in 512 text.now) }
 {

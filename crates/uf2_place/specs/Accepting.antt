@@ -18,14 +18,14 @@ use Rattle.uf2_place.specs.Downloads.{Follows}
 use Rattle.uf2_place.specs.Marks.{MarksView}
 use Rattle.uf2_place.specs.Placement.{grown, is_whole_download}
 
--- what contracts see of a download: the current one, where there is one, and which numbers it has
--- taken and which sectors it has erased
+-- what contracts see of a download: the current one, where there is one; which numbers it has
+-- taken; and which sectors it has erased
 pub record DownloadView : Type 0 where
   pub current : Option Current
   pub marks : MarksView
 
--- the download stands for the blocks: it has begun into this target and is not done, so that there
--- is a block and more are to come, and what is kept of it is what the blocks make of it
+-- the download stands for the blocks: it has begun into this target and is not done, so there is a
+-- block and more are to come; what is kept of the download is what the blocks make of it
 pub record StandsFor (d : DownloadView) (pool : Pool) (t : Target)
     (blocks : List Uf2) : Type 0 where
   pub some : blocks ≢ []
@@ -49,14 +49,14 @@ abbrev pub has_power : Result Accepted PlaceFault → Bool
 has_power (Err PowerLost) = false
 has_power answer = true
 
--- the answer once the steps of the blocks are done, or power was lost in them
+-- the answer after the steps of the blocks are done, or power was lost in them
 abbrev pub answer_after : Bool → Target → List Uf2 → Result Accepted PlaceFault
 answer_after true t blocks = if is_whole_download blocks then Ok (Done t) else Ok Taken
 answer_after false t blocks = Err PowerLost
 
--- The board does the steps by which the list of the former blocks grows with one more, whole or
--- until power is lost. Where more blocks are to come the download then stands for the new list; it
--- has no current download where it is done or power was lost.
+-- The list of the former blocks has one block more. The board does the steps that this adds, all
+-- of them or until power is lost. Where more blocks are to come the download then stands for the
+-- new list. Where the download is done or power was lost, none is current.
 pub record Places {B : Type 0} (state : B → State) (history : B → List Step → Type 0) (t : Target)
     (former : List Uf2) (b : Uf2) (old : B) (answer : Result Accepted PlaceFault) (new : B)
     (d : DownloadView) (pool : Pool) : Type 0 where

@@ -1,6 +1,6 @@
--- The form of a UF2 block: 512 bytes, of which 256 are its payload.
--- Source: the UF2 specification (github.com/microsoft/uf2), section File format. That a payload
--- has 256 bytes, a page of the flash, is what picotool writes.
+-- The form of a UF2 block: 512 bytes, 256 of them its payload. Source: the UF2 specification
+-- (github.com/microsoft/uf2), section File format. That a payload has 256 bytes, a page of the
+-- flash, is what picotool writes.
 use Rattle.std.specs.Prelude.{◌≡◌, ℕ, Bool, not, ◌%◌, ◌^◌, ◌<◌, ◌≤◌, ◌&&◌, ◌==◌, nat_le, nat_lt, if◌then◌else◌, Result, Ok, Err, List, length, drop, slice_range, ◌++◌, replicate}
 use Rattle.byteorder.specs.Endian.{little_bytes, little_number}
 use Rattle.uf2_place.specs.declared.block.Uf2.{Uf2}
@@ -42,8 +42,8 @@ uf2_of bytes =
     else if not (is_number (word_at bytes 20) (word_at bytes 24)) then Err Number
     else Ok (uf2_fields bytes)
 
--- a block as it is read: its fields are words, its address is a multiple of 256, its count is 1 to
--- 65,536, its number is below its count, and its payload has 256 bytes
+-- a block as it is read: its fields are words; its address is a multiple of 256; its count is 1 to
+-- 65,536; its number is below its count; and its payload has 256 bytes
 pub record IsUf2 (b : Uf2) : Type 0 where
   pub flags : b.flags < 2 ^ 32
   pub address : b.address < 2 ^ 32

@@ -38,8 +38,8 @@ abbrev pub held_page : ℕ → List ℕ → ℕ → Option (List ℕ)
 held_page pages bytes i =
     if bit_at pages i == 1 then Some (slice_range bytes (256 * i) (256 * i + 256)) else None
 
--- the pages of the first sector that some block names stand in the bytes of a lease that is out,
--- each as the last block for it has it, and no others are held
+-- the pages of the first sector that some block names stand in the bytes of a lease that is out;
+-- each page is as the last block for it has it; no other pages are held
 pub record HoldsPages (pool : Pool) (t : Target) (blocks : List Uf2) (h : Held) : Type 0 where
   pub gated : t.gated ≡ true
   pub out : slice_get pool.out h.lease ≡ Some true
@@ -52,10 +52,10 @@ abbrev pub HoldsLease : Pool → Target → List Uf2 → Option Held → Type 0
 HoldsLease pool t blocks None = t.gated ≡ false
 HoldsLease pool t blocks (Some h) = HoldsPages pool t blocks h
 
--- what is kept of a download is what these blocks, of which there may be none yet, make of it: its
--- family, count and target are theirs, its taken numbers are the list's numbers, its erased sectors
--- are the list's sectors, but for the first one of a gated target, and the held pages of a gated
--- target stand in its lease's bytes
+-- what is kept of a download is what these blocks make of it; there may be no block yet: the
+-- download's family, count and target are those of the blocks; its taken numbers are the list's
+-- numbers; its erased sectors are the list's sectors, but for the first one of a gated target; and
+-- the held pages of a gated target stand in its lease's bytes
 pub record Follows (pool : Pool) (marks : MarksView) (c : Current)
     (blocks : List Uf2) : Type 0 where
   pub are : AreBlocks c.target c.family c.count blocks

@@ -1,4 +1,5 @@
--- Worked examples of blocks and of downloads, with their answers reckoned by hand from the rules.
+-- Worked examples of blocks and of downloads, with their answers worked out by hand from the
+-- rules.
 use Rattle.std.specs.Prelude.{ℕ, Bool, false, List, [], ◌∷◌, ◌++◌, None, replicate}
 use Rattle.std.specs.List.{flat_map}
 use Rattle.part_table.specs.declared.Target.{Target}
@@ -17,7 +18,7 @@ arm_uf2_block number address page = record {
   page = page;
 }
 
--- the 512 bytes of a block of rp2350-arm-s of this payload size, address, number and count, whose
+-- the 512 bytes of a block of rp2350-arm-s of this payload size, address, number and count; its
 -- payload is of bytes 0
 abbrev pub uf2_bytes : ℕ → ℕ → ℕ → ℕ → List ℕ
 uf2_bytes payload address number count =

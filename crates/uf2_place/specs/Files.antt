@@ -1,6 +1,5 @@
--- The UF2 file of an image.
--- Source: the UF2 specification (github.com/microsoft/uf2). That addresses begin at 0x10000000, the
--- fill byte and the zeros behind a payload are this project's own.
+-- The UF2 file of an image. Source: the UF2 specification (github.com/microsoft/uf2). This
+-- project's own are: addresses begin at 0x10000000; the fill byte; and the zeros after a payload.
 use Rattle.std.specs.Prelude.{ℕ, ◌+◌, ◌-◌, ◌*◌, ◌/◌, List, ◌++◌, ◌≡◌, take, length, map, flat_map, replicate, slice_range}
 use Rattle.std.specs.List.{range_with_len}
 use Rattle.pico_board.specs.Content.{flash_base}

@@ -44,13 +44,13 @@ erase_steps erased sector = if erased then [] else Erase sector ∷ []
 abbrev pub fresh_steps : Bool → ℕ → ℕ → List ℕ → List Step
 fresh_steps erased sector page bytes = erase_steps erased sector ++ Program page bytes ∷ []
 
--- a block's own steps, behind the blocks that came before it: the erase of its page's sector, where
--- none of those lies in that sector, and then the program of its page
+-- a block's own steps, after the blocks that came before it: the erase of its page's sector, where
+-- none of those blocks lies in that sector, and then the program of its page
 abbrev pub own_steps : Window → List Uf2 → Uf2 → List Step
 own_steps w before b =
     fresh_steps (list_any (lies_in w (sector_in w b)) before) (sector_in w b) (page_in w b) b.page
 
--- a block's own steps, behind the blocks that came before it, but none for a page of the window's
+-- a block's own steps, after the blocks that came before it, but none for a page of the window's
 -- first sector
 abbrev pub later_steps : Window → List Uf2 → Uf2 → List Step
 later_steps w before b = if lies_in w (first_in w) b then [] else own_steps w before b
@@ -71,7 +71,7 @@ abbrev pub program_of : ℕ → Option (List ℕ) → List Step
 program_of page None = []
 program_of page (Some bytes) = Program page bytes ∷ []
 
--- the programs of the pages of a sector, ascending, by the bytes of each that has some
+-- the programs of the pages of a sector, ascending; each page that has bytes is programmed by them
 unfoldable pub programs_in : ℕ → (ℕ → Option (List ℕ)) → List Step
 programs_in sector bytes_of =
     flat_map (λ i. program_of (16 * sector + i) (bytes_of i)) (range_with_len 0 16)
@@ -87,7 +87,7 @@ is_whole_download [] = false
 is_whole_download (b ∷ bs) = length (b ∷ bs) == b.count
 
 -- the steps of the blocks into a gated target: the erase of the first sector, what lies elsewhere
--- as it comes, and the first sector once all numbers are there
+-- as it comes, and the first sector when all numbers are there
 abbrev pub gated_steps : Window → List Uf2 → List Step
 gated_steps w blocks =
     Erase (first_in w) ∷ (in_turn (later_steps w) [] blocks

@@ -44,7 +44,7 @@ put_steps c marks b =
     (sector_in c.target.window b)
     (page_in c.target.window b) b.page
 
--- the programs of the held pages, once no block is to come
+-- the programs of the held pages, when no block is to come
 abbrev pub held_steps : Pool → Current → Option Held → List Step
 held_steps pool c None = []
 held_steps pool c (Some h) =

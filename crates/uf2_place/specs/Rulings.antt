@@ -1,8 +1,7 @@
--- What the rules say of a block before any step: whether it is skipped, whether it continues the
--- current download, and which refusal comes first.
--- Source: the UF2 specification (github.com/microsoft/uf2) for the flags, and the RP2350 Datasheet,
--- chapter 5 (Bootrom), for the rights. Which blocks are skipped and the order are this project's
--- own.
+-- What the rules say of a block before any step: whether it is skipped; whether it continues the
+-- current download; and which refusal comes first. Source: the UF2 specification
+-- (github.com/microsoft/uf2) for the flags, and the RP2350 Datasheet, chapter 5 (Bootrom), for the
+-- rights. Which blocks are skipped and the order are this project's own.
 use Rattle.std.specs.Prelude.{◌≡◌, ℕ, Bool, false, not, ◌+◌, ◌-◌, ◌==◌, ◌&&◌, ◌||◌, nat_le, if◌then◌else◌, Ok, Err, Option, None, Some, List}
 use Rattle.std.specs.Int.{bit_at}
 use Rattle.std.specs.Option.{option_map_or}
@@ -31,8 +30,9 @@ pub record HasOneRight (t : Table) : Type 0 where
 abbrev pub is_page_within : ℕ → Uf2 → Bool
 is_page_within len b = nat_le flash_base b.address && nat_le (b.address - flash_base + 256) len
 
--- a block is skipped that is not for the main flash (flag 0x1) or names no family (no flag 0x2000),
--- or is of the absolute family and its page not wholly in a flash of this length
+-- a block is skipped in three cases: it is not for the main flash (flag 0x1); or it names no
+-- family (no flag 0x2000); or it is of the absolute family and its page is not wholly in a flash
+-- of this length
 abbrev pub is_skipped : ℕ → Uf2 → Bool
 is_skipped flash_len b =
     bit_at b.flags 0 == 1 || (not (bit_at b.flags 13 == 1)
@@ -50,7 +50,8 @@ abbrev pub wanted : ℕ → Option Current → Uf2 → Option ℕ
 wanted flash_len current b =
     if is_skipped flash_len b || continues current b then None else Some b.family
 
--- a page goes into a target where it lies in its window and its sector has the boot write right
+-- a page goes into a target where it lies in the target's window and its sector has the boot write
+-- right
 abbrev pub aimed : Option Table → Uf2 → Target → Ruling → Ruling
 aimed table b t go =
     if not (is_page_within t.window.len b) then Answered (Err Outside)
@@ -72,14 +73,14 @@ ruled table given numbers b None = begun table b given
 ruled table given numbers b (Some c) =
     if is_of c b then continued table numbers b c.target else begun table b given
 
--- the ruling on a block in a flash of this length, by its table, the target that is given for a new
--- download and the current one
+-- the ruling on a block in a flash of this length, by its table, the target that is given for a
+-- new download, and the current download
 abbrev pub ruling : ℕ → Option Table → Option Target → List ℕ → Option Current → Uf2 → Ruling
 ruling flash_len table given numbers current b =
     if is_skipped flash_len b then Answered (Ok Skipped) else ruled table given numbers b current
 
--- the target of a block: that of the current download, where the block continues it and its number
--- is not taken, and the one that is given, where it begins a download
+-- the target of a block: that of the current download, where the block continues it and the
+-- block's number is not taken; the given one, where the block begins a download
 abbrev pub target_of_block : Option Target → List ℕ → Uf2 → Option Current → Option Target
 target_of_block given numbers b None = given
 target_of_block given numbers b (Some c) =

@@ -20,7 +20,7 @@ pub const MOST_BLOCKS: u32 = 65536;
 /// A UF2 block, as far as it is read: its header's fields and its payload of 256 bytes.
 #[derive(Clone, Copy, PartialEq, Eq, Debug)]
 pub struct Uf2 {
-    /// The flags, of which 0x1, not main flash, and 0x2000, family present, are looked at.
+    /// The flags. Two of them are looked at: 0x1, not main flash, and 0x2000, family present.
     pub flags: u32,
     /// The address of the payload's first byte; the target window begins at 0x10000000.
     pub address: u32,

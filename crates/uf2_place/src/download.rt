@@ -28,7 +28,7 @@ use sector_pool::SectorPool;
 use std::alloc::{AllocError, Global};
 use std::marker::Model;
 
-/// The place of UF2 downloads, of which one may be current: it has begun and is not done.
+/// The place of UF2 downloads. One may be current: it has begun and is not done.
 #[derive(Drop)]
 pub struct Download {
     current: Option<Current>,
@@ -66,8 +66,8 @@ impl Download {
         self.current.is_some()
     }
 
-    /// The family of the block, where it is not skipped in a flash of this length and begins a new
-    /// download.
+    /// The family of the block, where the block is not skipped in a flash of this length and
+    /// begins a new download.
     pub fn wants(&self, flash_len: u32, block: &Uf2) -> Option<u32>
         ensures { result ≡ wanted flash_len self.now.current block.now }
     {
@@ -90,9 +90,10 @@ impl Download {
     ///
     /// `target` is where a new download of the block's family goes; it is looked at only where
     /// [`Download::wants`] gives a family. A block that is skipped, repeated or refused changes
-    /// nothing, and the rules are judged in the order of [`Accepted`] and [`PlaceFault`]. A block
-    /// that begins a download drops the former one. Lost power drops the current one, and the
-    /// steps up to the lost one are done. The lease of a gated download is out while it is current.
+    /// nothing. The rules are judged in the order of [`Accepted`] and [`PlaceFault`]. A block that
+    /// begins a download drops the former one. Lost power drops the current download, and the
+    /// steps up to the lost one are done. The lease of a gated download is out while it is
+    /// current.
     pub fn accept<B: Board>(
         &mut self,
         board: &mut B,

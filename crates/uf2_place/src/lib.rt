@@ -1,8 +1,8 @@
 //! UF2 blocks, and where a download of them goes: which steps on the board each block brings.
 //!
-//! The form of a block is that of the UF2 specification (github.com/microsoft/uf2) with payloads
-//! of 256 bytes, as picotool writes them. Which blocks are skipped, gated downloads and the order
-//! of the refusals are this project's own.
+//! The form of a block is that of the UF2 specification (github.com/microsoft/uf2), with payloads
+//! of 256 bytes, as picotool writes them. This project's own are: which blocks are skipped, gated
+//! downloads, and the order of the refusals.
 #![tactic(auto)]
 
 mod answer;

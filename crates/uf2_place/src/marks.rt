@@ -12,8 +12,8 @@ const NUMBER_WORDS: usize = 1024;
 /// The words with a bit for each sector of the greatest flash.
 const SECTOR_WORDS: usize = 64;
 
-/// A bit for each of the 65,536 numbers of a download and each of the 4096 sectors of the greatest
-/// flash.
+/// A bit for each of the 65,536 numbers of a download, and for each of the 4096 sectors of the
+/// greatest flash.
 #[derive(Drop)]
 pub struct Marks {
     numbers: Vec<u64>,

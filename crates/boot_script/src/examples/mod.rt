@@ -75,8 +75,8 @@ pub fn resets()
     ensures five { event_at (5 ∷ 5 ∷ 0 ∷ 0 ∷ 0 ∷ 0 ∷ []) 0 ≡ Err (Kind 0) }
 {}
 
-/// Of two faults the first byte comes first, then fixed bytes that run past the end, then their
-/// values, and a pattern that runs past the end last. A fault names where its event begins.
+/// Of two faults the first byte comes first. Then come fixed bytes that run past the end, then
+/// their values, and last a pattern that runs past the end. A fault names where its event begins.
 pub fn the_first_of_two_faults()
     ensures kind_and_short { event_at (4 ∷ 7 ∷ []) 1 ≡ Err (Kind 1) }
     ensures short_and_reset { event_at (4 ∷ 5 ∷ 1 ∷ 0 ∷ 0 ∷ 0 ∷ []) 1 ≡ Err (Short 1) }
@@ -89,7 +89,7 @@ pub fn the_first_of_two_faults()
         ≡ Err (Short 0) }
 {}
 
-/// Events of a script, up to its end, whose later bytes are not read.
+/// Events of a script, up to its end. Later bytes are not read.
 pub fn scripts()
     ensures two { events (4 ∷ 6 ∷ 0 ∷ 0xff ∷ []) ≡ Ok (PowerOn ∷ Buy ∷ []) }
     ensures end_alone { events (0 ∷ []) ≡ Ok [] }
@@ -98,7 +98,7 @@ pub fn scripts()
     ensures nothing { events [] ≡ Err (Short 0) }
 {}
 
-/// An event that is written to a script has a payload that is shorter than a script may be, and the
+/// An event that is written to a script has a payload that is shorter than a script may be. The
 /// pattern of its cut is one that a bench takes.
 pub fn events_that_are_written()
     ensures longest { (command payload : List ℕ) → length payload ≡ 0x3ff_ffff
@@ -109,8 +109,8 @@ pub fn events_that_are_written()
     ensures no_pattern { ¬ (IsWritableEvent (Cut 0 true [])) }
 {}
 
-/// A script ends at its first end, what follows is not read, and it has a bound on its records with
-/// the end. A fault of a record comes before the want of an end.
+/// A script ends at its first end, and what follows is not read. The number of its records with
+/// the end has a bound. A fault of a record comes before a missing end.
 pub fn limits_of_scripts()
     ensures bytes { SCRIPT_LIMIT ≡ 67108864 }
     ensures records { RECORD_LIMIT ≡ 524288 }

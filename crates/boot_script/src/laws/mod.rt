@@ -13,15 +13,15 @@ ghost use Rattle.boot_script.specs.Faults.{IsEventFault};
 ghost use Rattle.boot_script.specs.Scripts.{IsBeforeEnd, events_behind, events, events_from, is_end, later, script_events};
 ghost use Rattle.boot_script.specs.Judging.{IsScript, IsScriptError, script_error};
 
-/// The bytes of an event are read again, whatever stands before and behind them.
+/// The bytes of an event are read again, whatever stands before and after them.
 pub fn written_events_are_read()
     ensures { (front rest : List ℕ) (e : EventView) → IsWellFormed e
         → event_at (front ++ (written_event e ++ rest)) (length front)
         ≡ Ok (e, length front + length (written_event e)) }
 {}
 
-/// What is read as an event is the bytes of that event, which lie inside; the next offset is the
-/// one behind them.
+/// What is read as an event is the bytes of that event. These bytes lie inside, and the next
+/// offset is the one after them.
 pub fn events_that_are_read_are_written()
     ensures { (bytes : List ℕ) (at : ℕ) (e : EventView) (next : ℕ) → All (λ b. b < 256) bytes
         → at ≤ length bytes → event_at bytes at ≡ Ok (e, next)
@@ -35,8 +35,8 @@ pub fn faults_come_by_their_rules()
         → (event_at bytes at ≡ Err fault) ↔ IsEventFault at (drop at bytes) fault }
 {}
 
-/// The events from an offset on are the one there and those from behind it; there are none at an
-/// end, and a fault is that of all.
+/// The events from an offset on are the event there and those from the byte after it. At an end
+/// there are none. A fault there is the fault of all.
 pub fn one_event_and_the_others()
     ensures more { (bytes : List ℕ) (at : ℕ) (e : EventView) (next : ℕ)
         → event_at bytes at ≡ Ok (e, next) → is_end e ≡ false
@@ -47,16 +47,16 @@ pub fn one_event_and_the_others()
         → event_at bytes at ≡ Err fault → events_from bytes at ≡ Err fault }
 {}
 
-/// The events of whole events and then any bytes are these events, and then those of the bytes,
-/// whose faults stand as much later.
+/// Any bytes follow the bytes of whole events. The events of both are these events, and then those
+/// of the bytes that follow. A fault of those stands as much later.
 pub fn events_of_a_concatenation()
     ensures { (es : List EventView) (bytes : List ℕ) → AllByRecursion IsBeforeEnd es
         → events (flat_map written_event es ++ bytes)
         ≡ events_behind es (later (length (flat_map written_event es)) (events bytes)) }
 {}
 
-/// The events of a script are those that were written before its end, and no other bytes have
-/// them.
+/// The events of a script are those that were written before its end. No other bytes have these
+/// events.
 pub fn a_script_has_the_events_that_were_written()
     ensures read { (es : List EventView) (rest : List ℕ) → AllByRecursion IsBeforeEnd es
         → events (flat_map written_event es ++ (written_event End ++ rest)) ≡ Ok es }
@@ -73,8 +73,8 @@ pub fn scripts_are_judged()
         → (script_error bytes ≡ Some error) ↔ IsScriptError bytes error }
 {}
 
-/// The events of a script within the limits are read without a fault; and bytes within the limits
-/// whose events are so read are a script.
+/// The events of a script within the limits are read without a fault. Bytes within the limits are
+/// a script where their events are so read.
 pub fn scripts_are_read()
     ensures read { (bytes : List ℕ) → IsScript bytes → (length bytes ≤ SCRIPT_LIMIT)
         × (events bytes ≡ Ok (script_events bytes))

@@ -1,5 +1,5 @@
-//! Worked examples of the text form, proved by computing: the line and the comment of each record,
-//! both sides of each bound of what is read, and lines with two faults.
+//! Worked examples of the text form, proved by computing: the line and the comment of each record;
+//! both sides of each bound of what is read; and lines with two faults.
 
 ghost use Rattle.std.specs.Prelude.{◌≡◌, [], ◌∷◌, ◌++◌, Err, None, Ok, Some, codes, false, replicate, true};
 ghost use Rattle.pico_board.specs.declared.BootKind.TheVariants.{Bootsel, Normal, Update};
@@ -34,8 +34,8 @@ pub fn lines_of_records()
         ++ codes "abababababababababababababababab 01ff" }
 {}
 
-/// What the comment of each command says. A command with another argument size than its own, as one
-/// with an id that is none of theirs, is just a command.
+/// What the comment of each command says. A command with another argument size than its own is
+/// just a command. So is a command with another id.
 pub fn comments_of_commands()
     ensures exclusive { note 0x01 1 (2 ∷ replicate 15 0) ≡ codes "exclusive 2 token=0x00000001" }
     ensures erase { note 0x03 8 (padded_range_args 0x10020000 0x1000)
@@ -184,7 +184,7 @@ pub fn texts()
     ensures first_of_two { text_events (codes "power\nno\nneither\n") ≡ Err (Line 2) }
 {}
 
-/// Both sides of each limit of a script, of its records and of its bytes, and a record that passes
+/// Both sides of each limit of a script: of its records and of its bytes; and a record that passes
 /// both. A line that is no record has that fault at any place.
 pub fn limits()
     ensures last_record { buy_behind 524286 0 ≡ Ok (Buy ∷ []) }

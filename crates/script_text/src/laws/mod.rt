@@ -33,8 +33,8 @@ pub fn faults_are_the_first()
         → (text_events text ≡ Err fault) ↔ IsScriptTextFault text fault }
 {}
 
-/// The text form is read back: of the text of events within a script's limits these events are
-/// read, and of that of a script its events up to its end.
+/// The text form is read back. Of the text of events within a script's limits these events are
+/// read. Of the text of a script its events up to its end are read.
 pub fn the_text_form_is_read_back()
     ensures events { (es : List EventView) → AllByRecursion IsBeforeEnd es
         → AllByRecursion HasEventBytes es → IsWithinLimits es → text_events (listed es) ≡ Ok es }
@@ -42,8 +42,8 @@ pub fn the_text_form_is_read_back()
         → events script ≡ Ok es → IsWithinLimits es → text_events (listed es) ≡ Ok es }
 {}
 
-/// Where a text has only record lines, each with its line feed, of which the last and no other is
-/// the end, and no fault, the text of its events is that text with its comments put in.
+/// A text has only record lines, each with its line feed; the last and no other is the end; and
+/// the text has no fault. Then the text of its events is that text with its comments put in.
 pub fn comments_are_put_in()
     ensures { (lines : List (List ℕ)) (es : List EventView) → AllByRecursion IsRecordLine lines
         → text_events (spelled lines) ≡ Ok es → listed es ≡ with_comments 0 lines es }

@@ -26,8 +26,9 @@ pub fn bytes_of_a_block()
         ∷ (page ++ (replicate 220 0 ++ (0x30 ∷ 0x6f ∷ 0xb1 ∷ 0x0a ∷ []))) }
 {}
 
-/// A block is read of its bytes where its payload has 256 bytes, its address is a multiple of 256
-/// and its number is below its count. The first of these that fails is its fault.
+/// A block is read of its bytes under three conditions: its payload has 256 bytes, its address is
+/// a multiple of 256, and its number is below its count. The first of these that fails is its
+/// fault.
 pub fn faults_of_blocks()
     ensures none { uf2_of (uf2_bytes 256 0x10000200 1 3)
         ≡ Ok (arm_uf2_block 1 0x10000200 (replicate 256 0)) }
@@ -65,7 +66,7 @@ pub fn pages_of_an_image()
     ensures family { (image : List ℕ) → (file_block image 0xe48bff5a 2).family ≡ 0xe48bff5a }
 {}
 
-/// A block is skipped that is not for the main flash, names no family, or is absolute and not
+/// A block is skipped where it is not for the main flash, names no family, or is absolute and not
 /// wholly in the flash.
 pub fn blocks_that_are_skipped()
     ensures plain { is_skipped 0x100000 (flagged_block 0x2000) ≡ false }
@@ -134,7 +135,8 @@ pub fn rulings_of_blocks()
         (arm_uf2_block 0 0x10020000 []) ≡ Answered (Err NoTarget) }
 {}
 
-/// A sector that the bootloader may not write is refused, behind a page outside the window.
+/// A sector that the bootloader may not write is refused. A page outside the window is refused
+/// before that.
 pub fn rulings_by_rights()
     ensures refused { ruling 0x40000 (Some guarded_table) (Some first_slot) [] None
         (arm_uf2_block 0 0x1001df00 []) ≡ Answered (Err NotPermitted) }
@@ -146,8 +148,8 @@ pub fn rulings_by_rights()
         (arm_uf2_block 0 0x1001df00 []) ≡ Begins first_slot }
 {}
 
-/// Into a target that is not gated each page is written as it comes, and its sector is erased
-/// before the first page in it.
+/// Into a target that is not gated each page is written as it comes. Its sector is erased before
+/// the first page in it.
 pub fn pages_as_they_come()
     ensures none { download_steps (slot_target false) [] ≡ [] }
     ensures all { (a b c : List ℕ) → download_steps (slot_target false)
@@ -157,7 +159,7 @@ pub fn pages_as_they_come()
 {}
 
 /// Into a gated target the first sector is erased first and programmed last, ascending, each page
-/// as its last block has it; the other pages are written as they come.
+/// as its last block has it. The other pages are written as they come.
 pub fn the_first_sector_last()
     ensures none { download_steps (slot_target true) [] ≡ [] }
     ensures held { (a : List ℕ) → download_steps (slot_target true)
@@ -240,9 +242,9 @@ pub fn rulings_on_another_family()
         (with_family (arm_uf2_block 0 0x10000000 []) 0xe48bff57) ≡ Begins first_slot }
 {}
 
-/// Bytes are the same but for their family where they differ in the word at 28 alone, in bytes
-/// behind the page, which are not read, or behind the block; and not where they differ in a byte
-/// beside that word, in the page or in the last word.
+/// Bytes are the same but for their family where they differ in the word at 28 alone. They may
+/// also differ in bytes after the page, which are not read, or after the block. They are not the
+/// same where they differ in a byte next to that word, in the page or in the last word.
 pub fn bytes_that_differ_in_the_family()
     ensures family { SameButFamily (uf2_bytes 256 0x10000200 1 3)
         (take 28 (uf2_bytes 256 0x10000200 1 3)

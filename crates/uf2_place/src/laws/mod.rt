@@ -53,7 +53,7 @@ pub fn files_are_read()
         ≡ Ok (file_block image family i) }
 {}
 
-/// More blocks bring more steps behind those that are there.
+/// More blocks bring more steps after those that are there.
 pub fn steps_of_a_download_grow()
     ensures { (t : Target) (family count : ℕ) (former more : List Uf2)
         → AreBlocks t family count (former ++ more)
@@ -112,8 +112,8 @@ pub fn rulings_come_by_their_rules()
         × IsPageInside t.window b × (allowed_by table (sector_in t.window b) BootWrite ≡ true)) }
 {}
 
-/// A block continues a download exactly where it is of the family and the count of its blocks, and
-/// its number is taken exactly where one of these has it.
+/// A block continues a download exactly where it is of the family and the count of the download's
+/// blocks. Its number is taken exactly where one of these blocks has it.
 pub fn a_download_is_known_by_its_blocks()
     ensures { (d : DownloadView) (pool : Pool) (t : Target) (blocks : List Uf2) (a b : Uf2)
         → StandsFor d pool t blocks → Contains blocks a
@@ -130,9 +130,9 @@ pub fn gated_downloads_hold_a_lease()
         → StandsFor d pool t blocks → t.gated ≡ false → lease_of d.current ≡ None }
 {}
 
-/// The family is the word at 28, and no fault looks at it: bytes that differ in it alone have the
-/// same fault, or are read as blocks that differ in their family alone. So do the files of one
-/// image for two families.
+/// The family is the word at 28, and no fault looks at it. Bytes that differ in this word alone
+/// have the same fault, or are read as blocks that differ in their family alone. So do the files
+/// of one image for two families.
 pub fn the_family_is_no_fault()
     ensures read { (one other : List ℕ) (b : Uf2) → SameButFamily one other → uf2_of one ≡ Ok b
         → uf2_of other ≡ Ok (with_family b (word_at other 28)) }
@@ -142,8 +142,9 @@ pub fn the_family_is_no_fault()
         → file_block image other i ≡ with_family (file_block image one i) other }
 {}
 
-/// A block of a download that comes again is answered `Again`. One that differs from it in its
-/// family alone is none of that download, and is ruled on as where none is current.
+/// A block of a download that comes again is answered `Again`. A block that differs from it in its
+/// family alone is no block of that download. The ruling on that block is the one where no
+/// download is current.
 pub fn another_family_is_another_download()
     ensures again { (n : ℕ) (table : Option Table) (given : Option Target) (d : DownloadView)
         (pool : Pool) (t : Target) (blocks : List Uf2) (a : Uf2)
@@ -157,9 +158,9 @@ pub fn another_family_is_another_download()
 {}
 
 /// Where no download is current, the family of a block decides which target is asked for, and
-/// nothing else: into a given target blocks of all families go alike, but that those of the
-/// absolute family are skipped where their page is not wholly in the flash. So are the steps of
-/// a list of blocks those of the same blocks of another family.
+/// nothing else. Into a given target blocks of all families go alike; but blocks of the absolute
+/// family are skipped where their page is not wholly in the flash. A list of blocks has the same
+/// steps as the same blocks of another family.
 pub fn what_the_family_decides()
     ensures wanted { (n : ℕ) (b : Uf2) (family : ℕ)
         → is_skipped n (with_family b family) ≡ false
