@@ -20,8 +20,8 @@ judge_permissions before p =
     if permissions_of p.location == permissions_of p.flags then None
     else Some (Permissions (length before))
 
--- in a flash of n sectors with m sectors before the first free one, a partition is out of range
--- where its first sector is below m or above its last, or its last is not below n
+-- a partition is out of range where its first sector is below m or above its last, or its last is
+-- not below n; the flash has n sectors, and m of them stand before the first free one
 abbrev pub is_out_of_range : ℕ → ℕ → Partition → Bool
 is_out_of_range n m p =
     nat_lt (first_sector p) m || nat_lt (last_sector p) (first_sector p) || nat_le n (last_sector p)
@@ -37,8 +37,8 @@ judge_overlap parts before p =
     option_map (λ k. Overlap (length before) (length before + 1 + k))
     (position (shares_sector p) (drop (length before + 1) parts))
 
--- a link "A is" is wrong where it names no partition, or the partition itself, or a partition that
--- has such a link too, or the A of a partition before
+-- a link "A is" is wrong where it names one of these: no partition; the partition itself; a
+-- partition that has such a link too; the A of a partition before
 abbrev pub is_wrong_pair : List Partition → List Partition → Partition → Bool
 is_wrong_pair parts before p =
     option_map_or is_second (slice_get parts (link_value p)) true

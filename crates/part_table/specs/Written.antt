@@ -22,8 +22,8 @@ pub record AgreesWithFlags (p : Partition) : Type 0 where
   pub families : family_count p.flags ≡ length p.families.items
   pub name : has_name p.flags ≡ is_some p.name
 
--- what is written for a partition is read as that partition again where it agrees with its flag
--- word, and its name is of at most 127 bytes
+-- what is written for a partition is read again where the partition agrees with its flag word, and
+-- its name is of at most 127 bytes
 pub record IsReadablePartition (p : Partition) : Type 0 where
   pub agrees : AgreesWithFlags p
   pub short : IfSome p.name (λ name. length name.items < 128)

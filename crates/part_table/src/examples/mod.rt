@@ -165,9 +165,9 @@ pub fn tables_are_written()
 {}
 
 /// The greatest words, id, families, bytes and length of a name that can be written for a
-/// partition, and the next one after each. Also a partition whose flag word says nothing of its
-/// id, its families or its name, and one whose flag word says that there are some where there are
-/// none.
+/// partition, and the next one after each. Also partitions whose flag word says nothing of an id,
+/// families or a name that are there. Also partitions whose flag word says that there are some
+/// where there are none.
 pub fn partitions_that_can_be_written()
     ensures greatest { IsWritablePartition widest_partition }
     ensures location { ¬ (IsWritablePartition (plain_partition (2 ^ 32) 0)) }
