@@ -1,4 +1,5 @@
--- The 32 bytes of a command. Source: RP2350 Datasheet, chapter 5 (Bootrom, the PICOBOOT interface).
+-- The 32 bytes of a command. Source: RP2350 Datasheet, chapter 5 (Bootrom, the PICOBOOT
+-- interface).
 use Rattle.std.specs.Prelude.{◌≡◌, ℕ, ◌^◌, ◌<◌, ◌==◌, if◌then◌else◌, Result, Ok, Err, List, ◌∷◌, ◌++◌, All, length, drop, slice_index}
 use Rattle.byteorder.specs.Endian.{little_bytes, little_number}
 use Rattle.picoboot_cmd.specs.declared.cmd.Cmd.{Cmd}

@@ -23,7 +23,8 @@ pub struct Done {
     pub boot: Option<BootKind>,
 }
 
-/// Serves a command on a board with this partition table, or none, while a download is busy or not.
+/// Serves a command on a board with this partition table, or none, while a download is busy or
+/// not.
 ///
 /// Its status is the number of the first check that fails, and 0 where none does. With another
 /// status than 0 it does nothing. Otherwise it does its steps, stops where power is lost, and puts

@@ -108,8 +108,8 @@ fn units_of(parts: &[Partition], cpu: Cpu) -> ArrayVec<SlotUnit, 15>
     units
 }
 
-/// The boot units of a flash, in table order: those of the table's partitions, or the one unit of a
-/// flash without a table. Only the flags of a unit's A are read. (RP2350 Datasheet, chapter 5,
+/// The boot units of a flash, in table order: those of the table's partitions, or the one unit of
+/// a flash without a table. Only the flags of a unit's A are read. (RP2350 Datasheet, chapter 5,
 /// Bootrom; this project's own where the datasheet is open.)
 pub fn boot_units(
     table: Option<&Table>,

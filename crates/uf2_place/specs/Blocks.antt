@@ -21,8 +21,8 @@ has_magic bytes =
 abbrev pub is_number : ℕ → ℕ → Bool
 is_number number count = nat_le 1 count && (nat_le count MOST_BLOCKS && nat_lt number count)
 
--- the fields of a block: flags at 8, address at 12, number at 20, count at 24, family at 28 and the
--- payload at 32
+-- the fields of a block: flags at 8, address at 12, number at 20, count at 24, family at 28 and
+-- the payload at 32
 abbrev pub uf2_fields : List ℕ → Uf2
 uf2_fields bytes = record {
   flags = word_at bytes 8;

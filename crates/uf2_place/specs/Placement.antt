@@ -1,6 +1,6 @@
--- Where the blocks of a download go: the list of steps that a list of blocks stands for.
--- Source: the RP2350 Datasheet, chapter 5 (Bootrom), section UF2 Targeting Rules: a block's address
--- counts from 0x10000000 at the target's first byte. Gated downloads are this project's own.
+-- Where the blocks of a download go: the list of steps that a list of blocks stands for. Source:
+-- the RP2350 Datasheet, chapter 5 (Bootrom), section UF2 Targeting Rules: a block's address counts
+-- from 0x10000000 at the target's first byte. Gated downloads are this project's own.
 use Rattle.std.specs.Prelude.{◌≡◌, ℕ, Bool, false, ◌+◌, ◌-◌, ◌*◌, ◌/◌, ◌%◌, ◌≤◌, ◌==◌, if◌then◌else◌, Option, None, Some, List, [], ◌∷◌, ◌++◌, length, drop, flat_map, map, nat_eq}
 use Rattle.std.specs.List.{AllByRecursion, IsDistinct, list_any, range_with_len}
 use Rattle.std.specs.Option.{option_or}

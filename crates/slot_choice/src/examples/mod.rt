@@ -51,8 +51,8 @@ pub fn flags_of_a_are_read()
         ≡ None }
 {}
 
-/// The units of downloads: by the family's bit, owned, ignored, to the whole flash, and of families
-/// that nothing takes.
+/// The units of downloads: by the family's bit, owned, ignored, to the whole flash, and of
+/// families that nothing takes.
 pub fn load_units_are_found()
     ensures arm { load_unit (Some pair_table) 0x40000 0x1000 arm_s_family ≡ Some the_pair }
     ensures riscv { load_unit (Some pair_table) 0x40000 0x1000 riscv_family ≡ None }
@@ -96,7 +96,8 @@ pub fn families_without_table_have_units()
     ensures above { load_unit None 0x40000 0x1001 data_family ≡ Some (slot_pair 0x1001) }
 {}
 
-/// Version 1.9 is below 1.10, and that below 2.0; a tie is A's, and so is a member without a rival.
+/// Version 1.9 is below 1.10, and that below 2.0; a tie is A's, and so is a member without a
+/// rival.
 pub fn versions_are_compared()
     ensures minor { better (Some (version 1 9)) (Some (version 1 10)) ≡ Some B }
     ensures minor_first { better (Some (version 1 10)) (Some (version 1 9)) ≡ Some A }

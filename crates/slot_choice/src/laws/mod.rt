@@ -39,8 +39,8 @@ pub fn boot_units_are_listed()
         → u.a_part ≡ Some a → v.a_part ≡ Some b → a < b }
 {}
 
-/// The members of the boot units of a sound table share no byte: those of two units, and the two of
-/// a pair.
+/// The members of the boot units of a sound table share no byte: those of two units, and the two
+/// of a pair.
 pub fn boot_units_stand_apart()
     ensures units { (t : Table) (s n z : ℕ) (cpu : Cpu) → IsSoundTable t s
         → (j k : ℕ) (u v : SlotUnit) → j ≢ k
@@ -92,8 +92,8 @@ pub fn versions_are_ordered()
     ensures total { (v w : Version) → is_below v w ≡ false → is_below w v ≡ false → v ≡ w }
 {}
 
-/// The better member has the greater version, and A is better on a tie; no member is better exactly
-/// where neither has a version.
+/// The better member has the greater version, and A is better on a tie; no member is better
+/// exactly where neither has a version.
 pub fn better_is_greater()
     ensures second { (v w : Version)
         → (better (Some v) (Some w) ≡ Some Member.B) ↔ (is_below v w ≡ true) }
