@@ -58,8 +58,8 @@ exit_cmd token = record {
   args = words_args 0 0 0;
 }
 
--- the command that reboots into an update of the region at a flash offset: flags 4, no delay, and
--- the address as p0
+-- the command that reboots into an update of the region at a flash offset: its flags are 4, it has
+-- no delay, and p0 is the address
 abbrev pub update_cmd : ℕ → ℕ → Cmd
 update_cmd token at = record {
   token = token;

@@ -1,5 +1,5 @@
 -- The script by which a host writes an image into a window in ascending order, sector by sector,
--- and starts it. This project's own, after what picotool's `load` sends.
+-- and starts the image. This project's own, modelled on what picotool's `load` sends.
 use Rattle.std.specs.Prelude.{ℕ, ◌+◌, ◌-◌, ◌*◌, ◌/◌, List, [], ◌∷◌, ◌++◌, length, flat_map, replicate, slice_range}
 use Rattle.std.specs.List.{range_with_len}
 use Rattle.pico_board.specs.declared.boot.BootKind.TheVariants.{Bootsel}
@@ -20,7 +20,7 @@ abbrev pub sector_of : List ℕ → ℕ → List ℕ
 sector_of image k = filled_sector (slice_range image (4096 * k) (4096 * k + 4096))
 
 -- these bytes are written as sector number k: XIP is left, the sector is erased, and the bytes are
--- written; the tokens are 3 * k + 2 and the two after it
+-- written; the tokens are 3 * k + 2 and the next two
 abbrev pub sector_commands : ℕ → ℕ → List ℕ → List EventView
 sector_commands at k sector =
     sent (exit_cmd (3 * k + 2)) []
@@ -45,13 +45,13 @@ abbrev pub writes_events : ℕ → List ℕ → List EventView
 writes_events at image =
     sectors_events at image ++ boot_events (3 * sector_count (length image) + 2) at
 
--- the events that write an image at a flash offset: the power comes on, the board is reset to
--- BOOTSEL, the host asks for exclusive access, writes one sector after another, and reboots into
+-- the events that write an image at a flash offset: the power comes on; the board is reset to
+-- BOOTSEL; the host asks for exclusive access, writes one sector after another, and reboots into
 -- the update; tokens count from 1
 abbrev pub load_events : ℕ → List ℕ → List EventView
 load_events at image =
     PowerOn ∷ Reset Bootsel ∷ sent (exclusive_cmd 1) [] ∷ writes_events at image
 
--- the script of these events, which ends behind them
+-- the script of these events, and then the end
 abbrev pub load_text : ℕ → List ℕ → List ℕ
 load_text at image = flat_map written_event (load_events at image) ++ written_event End

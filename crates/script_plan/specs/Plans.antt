@@ -1,5 +1,5 @@
--- The script by which a host writes an image into a window and starts it, with the window's first
--- sector last. This project's own.
+-- The script by which a host writes an image into a window and starts the image. The window's
+-- first sector is written last. This project's own.
 use Rattle.std.specs.Prelude.{◌≡◌, ℕ, ◌+◌, ◌*◌, ◌/◌, ◌%◌, ◌≤◌, nat_lt, if◌then◌else◌, List, [], ◌∷◌, ◌++◌, length, take, drop}
 use Rattle.std.specs.List.{flat_map}
 use Rattle.pico_board.specs.declared.window.TheConstants.{MOST_FLASH_BYTES}
@@ -19,7 +19,8 @@ pub record IsPlanned (w : Window) : Type 0 where
   pub len : w.len % 4096 ≡ 0
   pub low : w.start + w.len ≤ MOST_FLASH_BYTES
 
--- the rest of an image behind its first sector: its sectors are erased, and it is written
+-- the rest of an image after its first sector: the sectors of the rest are erased, and the rest is
+-- written
 abbrev pub rest_events : ℕ → List ℕ → List EventView
 rest_events at rest =
     sent (erase_cmd 2 at (in_sectors (length rest))) []
@@ -37,13 +38,13 @@ write_events at image =
     then rest_events (at + 4096) (drop 4096 image) ++ last_events 4 at (take 4096 image)
     else last_events 2 at (take 4096 image)
 
--- the events that write an image at a flash offset: the power comes on, the board is reset to
--- BOOTSEL, the first sector is erased, the rest is erased and written, and the first sector is
+-- the events that write an image at a flash offset: the power comes on; the board is reset to
+-- BOOTSEL; the first sector is erased; the rest is erased and written; and the first sector is
 -- written last
 abbrev pub plan_events : ℕ → List ℕ → List EventView
 plan_events at image =
     PowerOn ∷ Reset Bootsel ∷ sent (erase_cmd 1 at 4096) [] ∷ write_events at image
 
--- the script of these events, which ends behind them
+-- the script of these events, and then the end
 abbrev pub plan_text : ℕ → List ℕ → List ℕ
 plan_text at image = flat_map written_event (plan_events at image) ++ written_event End

@@ -48,7 +48,7 @@ fn script_in(alloc: Global, order: WriteOrder, at: u32, image: &[u8]) -> Result<
 }
 
 /// Appends the script that writes an image into a window in this order, and then reboots into an
-/// update of the window. After a refusal `out` is unchanged; where there is no memory, the refusal
+/// update of the window. After a refusal `out` is unchanged. Where there is no memory, the refusal
 /// is `Memory`.
 pub fn write_script(
     alloc: Global,
@@ -80,9 +80,9 @@ pub fn write_script(
     }
 }
 
-/// Appends the script that writes an image into a window with the window's first sector last, and
-/// then reboots into an update of the window. After a refusal `out` is unchanged; where there is no
-/// memory, the refusal is `Memory`.
+/// Appends the script that writes an image into a window and then reboots into an update of the
+/// window. The window's first sector is written last. After a refusal `out` is unchanged. Where
+/// there is no memory, the refusal is `Memory`.
 pub fn plan(alloc: Global, window: Window, image: &[u8], out: &mut Vec<u8>) -> Result<(), PlanError>
     requires { IsPlanned window }
     ensures ok { OnOk result (out.new.items ≡ out.old.items ++ plan_text window.start image.now) }
@@ -93,9 +93,10 @@ pub fn plan(alloc: Global, window: Window, image: &[u8], out: &mut Vec<u8>) -> R
     write_script(alloc, WriteOrder::FirstLast, window, image, out)
 }
 
-/// Appends the script that writes an image into a window in ascending order, sector by sector, and
-/// then reboots into an update of the window. The last sector has 0 after the image's end. After a
-/// refusal `out` is unchanged; where there is no memory, the refusal is `Memory`.
+/// Appends the script that writes an image into a window in ascending order, and then reboots into
+/// an update of the window. The image is written sector by sector. The last sector has 0 after the
+/// image's end. After a refusal `out` is unchanged. Where there is no memory, the refusal is
+/// `Memory`.
 pub fn load(alloc: Global, window: Window, image: &[u8], out: &mut Vec<u8>) -> Result<(), PlanError>
     requires { IsPlanned window }
     ensures ok { OnOk result (out.new.items ≡ out.old.items ++ load_text window.start image.now) }

@@ -1,6 +1,7 @@
 -- What the picture of a flash has. The picture is 960 wide. A column on its left is the flash from
--- its first byte, at the top, to its last. Words begin at 160 and are 14 high; a line of them has
--- at most 80 letters, a blank and the word `starts` behind them, each of at most 9 points.
+-- its first byte, at the top, to its last. Words begin at 160 and are 14 high. A line of them has
+-- at most 80 letters, and after these a blank and the word `starts`. Each letter is at most 9
+-- points wide.
 use Rattle.std.specs.Prelude.{ℕ, ◌+◌, ◌-◌, ◌*◌, ◌/◌, ◌%◌, ◌==◌, Bool, if◌then◌else◌, max, List, [], ◌∷◌, ◌++◌, length, map, codes, decimal, string_bytes}
 use Rattle.text_words.specs.Writing.{hex_word}
 use Rattle.pico_board.specs.declared.window.Window.{Window}
@@ -87,8 +88,8 @@ join_mark flash high top bar =
     (record { x1 = 73; y1 = 24 + middle flash high bar.window; x2 = 138; y2 = top + 10 }) Slate
     (window_span_text bar.window)
 
--- The row of the window of this number, from this height on: the line that joins them, a small
--- rectangle of the window's colour, and what is said of it.
+-- The row of the window of this number, from this height on: the line that joins both, a small
+-- rectangle of the window's colour, and what is said of the window.
 unfoldable pub row_marks : ℕ → ℕ → ℕ → ℕ → MapBarView → List Mark
 row_marks flash high k top bar =
     join_mark flash high top bar
@@ -101,14 +102,14 @@ rows_from flash high k top [] = []
 rows_from flash high k top (bar ∷ bars) =
     row_marks flash high k top bar ++ rows_from flash high (k + 1) (top + bar_height bar) bars
 
--- the column, with its frame, and the rows beside it
+-- the column, with its frame, and the rows next to it
 unfoldable pub map_marks : ℕ → ℕ → List MapBarView → List Mark
 map_marks flash high bars =
     Plain (area_at 23 23 50 (high + 2)) Ink ∷ Column (area_at 24 24 48 high) flash
     ∷ (windows_from 0 bars ++ (StripEnd ∷ rows_from flash high 0 24 bars))
 
--- The picture of a flash of so many bytes with these windows: its title is what the command says of
--- it, and other words tell what it shows.
+-- The picture of a flash of so many bytes with these windows. Its title is what the command says
+-- of the flash, and other words say what the picture shows.
 unfoldable pub map_picture : ℕ → List MapBarView → List ℕ → Picture
 map_picture flash bars desc = record {
   height = column_height bars + 48;

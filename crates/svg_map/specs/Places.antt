@@ -15,8 +15,8 @@ abbrev pub LieFrom : ℕ → ℕ → List MapBarView → Type 0
 LieFrom n at [] = at ≡ n
 LieFrom n at (bar ∷ bars) = (bar.window.start ≡ at) × LieFrom n (at + bar.window.len) bars
 
--- Areas that fill a column of n units from this unit on: each begins where the one before ends, is
--- as wide as the column and as high as its window has bytes, and the last ends where the column
+-- Areas that fill a column of n units from this unit on. Each begins where the one before ends, is
+-- as wide as the column, and is as high as its window has bytes. The last ends where the column
 -- ends.
 abbrev pub FillFrom : ℕ → ℕ → List MapBarView → List Area → Type 0
 FillFrom n at [] [] = at ≡ n

@@ -1,6 +1,6 @@
-//! The picture of a flash: a column to scale, in which each window is a rectangle, and beside it a
-//! row of words for each window. The picture is a function of plain data; its form is this
-//! project's own.
+//! The picture of a flash: a column to scale, in which each window is a rectangle. Next to the
+//! column each window has a row of words. The picture is a function of plain data. Its form is
+//! this project's own.
 //!
 //! `specs/Maps` says what the picture has.
 #![tactic(auto)]

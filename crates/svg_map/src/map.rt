@@ -18,7 +18,7 @@ pub fn map_words(alloc: Global, count: usize) -> Result<String, AllocError>
     format!(in alloc; "map windows={count}")
 }
 
-/// Appends the column, of this height, and the rows beside it.
+/// Appends the column, of this height, and the rows next to it.
 #[tactic(auto, unfolding(crate::specs::Maps::map_marks))]
 fn push_marks(
     alloc: Global,
@@ -38,7 +38,7 @@ fn push_marks(
     push_rows(alloc, out, flash, high, bars)
 }
 
-/// The picture of a flash of so many bytes with these windows; other words tell what it shows. It
+/// The picture of a flash of so many bytes with these windows. Other words say what it shows. It
 /// fails where memory is out, and where the picture would be higher than 2^30 points.
 #[tactic(auto, unfolding(crate::specs::Maps::map_picture, svg_marks::specs::Marks::picture_text))]
 pub fn map_svg(

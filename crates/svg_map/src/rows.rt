@@ -12,7 +12,7 @@ use std::alloc::{AllocError, Global};
 use svg_marks::{Class, Colour, Ends, LINE_HEIGHT, line_count, push_line, push_lines, push_plain};
 use text_words::hex_text;
 
-/// No more points lie below one another than these: the words of so many lines fit no memory.
+/// The most points that lie below one another: the words of so many lines fit no memory.
 const MOST_HEIGHT: usize = 1_073_741_824;
 
 /// The flash addresses of a window's first and last byte.
@@ -34,7 +34,7 @@ fn lines_height(lines: usize) -> usize
     LINE_HEIGHT * lines + 8
 }
 
-/// Where the next row begins, behind this row that begins at the top. It fails where no more rows
+/// Where the next row begins, after this row that begins at `top`. It fails where no more rows
 /// fit.
 fn next_top(top: usize, bar: &MapBar) -> Result<usize, AllocError>
     requires { top ≤ 2 ^ 30 }
@@ -53,7 +53,7 @@ fn next_top(top: usize, bar: &MapBar) -> Result<usize, AllocError>
     }
 }
 
-/// How high the column beside rows is.
+/// How high the column next to rows is.
 pub fn column_height(bars: &[MapBar]) -> Result<usize, AllocError>
     ensures exact { IfOk result (λ high. high ≡ column_height (map bar_from bars.now)) }
     ensures most { IfOk result (λ high. high ≤ 2 ^ 30) }

@@ -1,7 +1,7 @@
 -- Words in lines of 80 bytes, broken between words.
 use Rattle.std.specs.Prelude.{◌≡◌, ◌≤◌, ◌<◌, ℕ, ◌+◌, Bool, true, false, if◌then◌else◌, ◌==◌, nat_lt, List, [], ◌∷◌, ◌++◌, length}
 
--- How many bytes of words stand in a line. A blank may stand behind them, and so may the word
+-- How many bytes of words stand in a line. A blank may stand after them, and so may the word
 -- `starts`.
 abbrev pub line_length : ℕ
 line_length = 80
@@ -11,8 +11,8 @@ abbrev pub word_length : List ℕ → ℕ
 word_length [] = 0
 word_length (b ∷ bytes) = if b == 32 then 0 else word_length bytes + 1
 
--- How many bytes must find room in a line together: behind a blank the word that begins here, and
--- elsewhere the next byte alone, which needs none where it is a blank.
+-- How many bytes must find room in a line together: after a blank the word that begins here, and
+-- elsewhere the next byte alone. A next byte that is a blank needs no room.
 abbrev pub needed : Bool → List ℕ → ℕ
 needed true bytes = word_length bytes
 needed false [] = 0
@@ -23,7 +23,8 @@ needed false (b ∷ bytes) = if b == 32 then 0 else 1
 unfoldable pub is_broken : ℕ → Bool → List ℕ → Bool
 is_broken column blank bytes = nat_lt line_length (column + needed blank bytes)
 
--- how many bytes stand in a line with the byte behind so many, which begins a line or not
+-- how many bytes stand in a line with one byte more; this byte begins a line, or stands after so
+-- many
 abbrev pub next_column : Bool → ℕ → ℕ
 next_column true column = 1
 next_column false column = column + 1
@@ -37,8 +38,8 @@ abbrev pub put : ℕ → List (List ℕ) → List (List ℕ)
 put b [] = (b ∷ []) ∷ []
 put b (line ∷ lines) = (b ∷ line) ∷ lines
 
--- the rest of a line in which so many bytes stand, the last of them a blank or not, and the lines
--- behind it
+-- the rest of a line and the lines after it; so many bytes stand in the line, and the last of
+-- these is a blank or not
 abbrev pub broken_lines_from : ℕ → Bool → List ℕ → List (List ℕ)
 broken_lines_from column blank [] = [] ∷ []
 broken_lines_from column blank (b ∷ bytes) =
@@ -54,7 +55,7 @@ broken_lines words = broken_lines_from 0 false words
 abbrev pub line_count : List ℕ → ℕ
 line_count words = length (broken_lines words)
 
--- the bytes of lines, one behind the other
+-- the bytes of lines, one line after the other
 abbrev pub joined : List (List ℕ) → List ℕ
 joined [] = []
 joined (line ∷ lines) = line ++ joined lines
@@ -64,20 +65,20 @@ abbrev pub last_blank : Bool → List ℕ → Bool
 last_blank blank [] = blank
 last_blank blank (b ∷ bytes) = last_blank (b == 32) bytes
 
--- A line has at most 80 bytes, or a blank behind them.
+-- A line has at most 80 bytes, or 80 bytes and then a blank.
 pub data Fits (line : List ℕ) : Type 0 where
   Whole : length line ≤ line_length → Fits line
   Hanging : length line ≡ line_length + 1 → last_blank false line ≡ true → Fits line
 
--- Why a line ends before the bytes of the next ones: behind a blank, since the next word would pass
--- 80 bytes; or within a word that alone fills the line, and goes on.
+-- Why a line ends before the bytes of the next lines: after a blank, since the next word would
+-- pass 80 bytes; or within a word that alone fills the line, and goes on.
 pub data Ends (line rest : List ℕ) : Type 0 where
   Between : last_blank false line ≡ true → line_length < length line + word_length rest
       → Ends line rest
   Within : length line ≡ line_length → word_length line ≡ line_length → 0 < word_length rest
       → Ends line rest
 
--- a line ends where it must, if others are behind it
+-- a line ends where it must, if other lines follow
 abbrev pub EndsBefore : List ℕ → List (List ℕ) → Type 0
 EndsBefore line [] = Unit {0}
 EndsBefore line (next ∷ lines) = Ends line (joined (next ∷ lines))

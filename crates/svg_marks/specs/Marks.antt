@@ -1,5 +1,5 @@
--- The marks of a picture, and their bytes in an SVG file: SVG 1.1, chapters 5 (structure), 9 (basic
--- shapes) and 10 (text). Which marks there are, and the order of their attributes, is this
+-- The marks of a picture, and their bytes in an SVG file: SVG 1.1, chapters 5 (structure), 9
+-- (basic shapes) and 10 (text). Which marks there are, and the order of their attributes, is this
 -- project's own.
 use Rattle.std.specs.Prelude.{ℕ, Bool, true, false, if◌then◌else◌, ◌==◌, List, [], ◌∷◌, ◌++◌, codes, decimal}
 use Rattle.std.specs.List.{flat_map}
@@ -57,18 +57,18 @@ pub data Mark : Type 0 where
   Label : (x y : ℕ) → (words : List ℕ) → Mark
   -- words that are counted
   Caption : (class : Class) → (x y : ℕ) → (words : List ℕ) → Mark
-  -- The marks up to the next end of a strip lie in this area, which is so many units wide, and one
+  -- The marks up to the next end of a strip lie in this area. It is so many units wide, and one
   -- high.
   Strip : (area : Area) → (units : ℕ) → Mark
-  -- The marks up to the next end of a strip lie in this area, which is so many units high, and one
+  -- The marks up to the next end of a strip lie in this area. It is so many units high, and one
   -- wide.
   Column : (area : Area) → (units : ℕ) → Mark
   -- the end of a strip or a column
   StripEnd : Mark
   -- a line that is counted, with a title in it
   Line : (class : Class) → (ends : Ends) → (colour : Colour) → (title : List ℕ) → Mark
-  -- Words that are counted, in lines of 80 that are broken between words; behind them, where this
-  -- is asked for, a blank and the word `starts`, which is counted too.
+  -- Words that are counted, in lines of 80 that are broken between words. Where this is asked for,
+  -- a blank and the word `starts` follow. This word is counted too.
   Lines : (class : Class) → (x y : ℕ) → (words : List ℕ) → (starts : Bool) → Mark
 
 -- where and how large, as attributes
@@ -126,7 +126,7 @@ starts_text starts =
     text_if starts
     (codes " <tspan " ++ (class_text Starts ++ codes " font-weight=\"bold\">starts</tspan>"))
 
--- words, with these behind them or not
+-- words, with these after them or not
 abbrev pub line_words : List ℕ → Bool → List ℕ
 line_words words starts = words ++ text_if starts (codes " starts")
 

@@ -25,28 +25,28 @@ abbrev pub behind_by : Bool → List ℕ → List ℕ → List ℕ
 behind_by true here later = here
 behind_by false here later = later
 
--- the bytes behind the first of this value
+-- the bytes after the first of this value
 abbrev pub behind : ℕ → List ℕ → List ℕ
 behind mark [] = []
 behind mark (b ∷ bytes) = behind_by (b == mark) bytes (behind mark bytes)
 
--- where a byte stands that is read behind the tag of a mark
+-- where a byte stands that is read after the tag of a mark
 pub data ReadingPlace : Type 0 where
   -- in words, within so many further elements
   Words : (depth : ℕ) → ReadingPlace
-  -- behind the `<` of a tag that begins within so many elements
+  -- after the `<` of a tag that begins within so many elements
   Begun : (depth : ℕ) → ReadingPlace
-  -- in a tag, behind which one is within so many further elements
+  -- in a tag; after it a byte is within so many further elements
   Tag : (depth : ℕ) → ReadingPlace
-  -- behind the `<` of the tag that ends the mark
+  -- after the `<` of the tag that ends the mark
   Ended : ReadingPlace
 
--- behind the `/` of a tag that ends an element
+-- after the `/` of a tag that ends an element
 abbrev pub closed : ℕ → ReadingPlace
 closed zero = Ended
 closed (suc depth) = Tag depth
 
--- the place behind a byte
+-- the place after a byte
 abbrev pub next_place : ReadingPlace → ℕ → ReadingPlace
 next_place (Words depth) b = if b == 60 then Begun depth else Words depth
 next_place (Begun depth) b = if b == 47 then closed depth else Tag (depth + 1)
@@ -65,9 +65,9 @@ abbrev pub words_from : ReadingPlace → List ℕ → List ℕ
 words_from place [] = []
 words_from place (b ∷ bytes) = kept place b (words_from (next_place place b) bytes)
 
--- The words of a mark, from bytes within its tag on: what stands behind the tag up to the tag that
--- ends its element, tags left out. No tag in a mark ends in `/>`. The words are as they stand in
--- the file.
+-- The words of a mark, from bytes within its tag on: what stands after the tag, up to the tag that
+-- ends the mark's element. Tags are left out. No tag in a mark ends in `/>`. The words are as they
+-- stand in the file.
 abbrev pub words_behind : List ℕ → List ℕ
 words_behind bytes = words_from (Words 0) (behind 62 bytes)
 
@@ -95,7 +95,7 @@ abbrev pub words_by : Bool → List ℕ → List (List ℕ)
 words_by true words = words ∷ []
 words_by false words = []
 
--- the word `starts`, where it stands behind words and is counted under this class
+-- the word `starts`, where it stands after words and is counted under this class
 abbrev pub starts_by : Class → Bool → List (List ℕ)
 starts_by class true = words_by (is_class class Starts) (codes "starts")
 starts_by class false = []

@@ -1,11 +1,11 @@
 -- Texts as a reader takes them from a file, and which bytes a file has. Source: XML 1.0, section
--- 4.6 (Predefined Entities). That all bytes are printed ASCII or line feeds is this project's own.
+-- 4.6 (Predefined Entities). This is the project's own: all bytes are printed ASCII or line feeds.
 use Rattle.std.specs.Prelude.{◌≡◌, ℕ, zero, suc, Bool, true, if◌then◌else◌, ◌==◌, ◌&&◌, ◌||◌, nat_le, List, [], ◌∷◌, codes}
 use Rattle.std.specs.List.{flat_map, list_all}
 use Rattle.svg_marks.specs.Marks.{Mark, Plain, Rect, Label, Caption, Strip, Column, StripEnd, Line, Lines, Picture}
 use Rattle.svg_marks.specs.Reading.{begins}
 
--- the byte of a text that stands in a file, and how many bytes of its name stand behind the first
+-- the byte of a text that stands in a file, and how many bytes of its name stand after the first
 pub record Named : Type 0 where
   pub byte : ℕ
   pub more : ℕ

@@ -4,7 +4,7 @@ ghost use Rattle.std.specs.Prelude.{◌≡◌, ◌≤◌, ◌^◌, ◌+◌, drop
 ghost use Rattle.svg_marks.specs.Breaks.{is_broken, line_count, broken_lines_from, needed, next_column, word_length};
 ghost use Rattle.svg_marks.specs.Reading.{one_more};
 
-/// How many bytes of words stand in a line. A blank may stand behind them, and so may the word
+/// How many bytes of words stand in a line. A blank may stand after them, and so may the word
 /// `starts`.
 const LINE_LENGTH: usize = 80;
 
@@ -21,8 +21,8 @@ fn word_length(bytes: &[u8]) -> usize
     bytes.len()
 }
 
-/// How many bytes must find room in a line with the next one, where the one before it is a blank or
-/// not.
+/// How many bytes must find room in a line together, from the next byte on. The byte before it is
+/// a blank or not.
 fn needed(blank: bool, bytes: &[u8]) -> usize
     ensures exact { result ≡ needed blank bytes.now }
     ensures most { result ≤ length bytes.now }
@@ -36,7 +36,7 @@ fn needed(blank: bool, bytes: &[u8]) -> usize
     }
 }
 
-/// Whether a further line begins with the byte of this number, where so many stand in the line
+/// Whether a further line begins with the byte of this number. So many bytes stand in the line
 /// before it, and the last of these is a blank or not.
 #[tactic(auto, unfolding(crate::specs::Breaks::is_broken))]
 pub(crate) fn is_broken(bytes: &[u8], number: usize, column: usize, blank: bool) -> bool
@@ -47,7 +47,8 @@ pub(crate) fn is_broken(bytes: &[u8], number: usize, column: usize, blank: bool)
     LINE_LENGTH < column + needed(blank, &bytes[number..])
 }
 
-/// How many bytes stand in a line with the byte behind so many, which begins a line or not.
+/// How many bytes stand in a line with one byte more. This byte begins a line, or stands after so
+/// many.
 pub(crate) fn next_column(broken: bool, column: usize) -> usize
     requires { column ≤ 81 }
     ensures { result ≡ next_column broken column }

@@ -13,7 +13,7 @@ pub enum Class {
     Finished,
     /// A boot that does neither.
     Chance,
-    /// The steps of a run that is named beside its rectangle.
+    /// The steps of a run that is named next to its rectangle.
     Span,
     /// Erases of sectors.
     Erase,

@@ -1,7 +1,7 @@
 //! Pictures as SVG 1.1: a small set of marks as plain data, and the bytes of a picture of them. A
 //! picture is 960 wide, has ASCII alone where its words have, and takes nothing from outside. What
-//! is counted in a picture has a class, and a reader of the bytes finds each such mark with its
-//! words. The set of marks is this project's own.
+//! is counted in a picture has a class. A reader of the bytes finds each such mark with its words.
+//! The set of marks is this project's own.
 #![tactic(auto)]
 
 mod breaks;

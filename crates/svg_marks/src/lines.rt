@@ -30,7 +30,7 @@ fn push_line_end(out: &mut Vec<u8>, opened: bool) -> Result<(), AllocError>
     Ok(())
 }
 
-/// Begins a further line, behind another one or not.
+/// Begins a further line, after another one or not.
 fn push_next_line(
     alloc: Global,
     out: &mut Vec<u8>,
@@ -45,7 +45,7 @@ fn push_next_line(
     out.extend_from_slice(line.as_bytes())
 }
 
-/// Begins a further line, behind another one or not, where one begins here.
+/// Begins a further line, after another one or not, where one begins here.
 fn push_break(
     alloc: Global,
     out: &mut Vec<u8>,
@@ -62,7 +62,7 @@ fn push_break(
     Ok(())
 }
 
-/// Whether a line is a further one, behind a byte that begins a line or not.
+/// Whether a line is a further one, after a byte that begins a line or not.
 fn is_further(opened: bool, broken: bool) -> bool
     ensures { result ≡ (opened || broken) }
 {
@@ -101,7 +101,7 @@ fn push_starts(alloc: Global, out: &mut Vec<u8>, starts: bool) -> Result<(), All
     Ok(())
 }
 
-/// Appends a front, words in lines, the word behind them, and the end of their element.
+/// Appends a front, words in lines, the word after them, and the end of their element.
 fn push_content(
     alloc: Global,
     out: &mut Vec<u8>,
@@ -119,9 +119,9 @@ fn push_content(
     out.extend_from_slice(b"</text>\n")
 }
 
-/// Appends words that are counted, in lines of 80 bytes that are broken between words, the first of
-/// which begins at this place; behind them, where this is asked for, a blank and the word `starts`,
-/// which is counted too.
+/// Appends words that are counted, in lines of 80 bytes that are broken between words. The first
+/// line begins at this place. Where this is asked for, a blank and the word `starts` follow. This
+/// word is counted too.
 #[tactic(auto, unfolding(crate::specs::Marks::mark_text))]
 pub fn push_lines(
     alloc: Global,

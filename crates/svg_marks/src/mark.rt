@@ -29,8 +29,8 @@ pub struct Ends {
     pub y2: usize,
 }
 
-/// A colour. Those who see red and green alike tell them apart, and so does who sees none: no two
-/// that stand for something in one row are equally light.
+/// A colour. No two colours that stand for something in one row are equally light. So readers who
+/// see red and green alike, or no colour at all, tell them apart.
 #[derive(Clone, Copy, Debug, PartialEq, Eq)]
 pub enum Colour {
     /// A frame round rectangles.

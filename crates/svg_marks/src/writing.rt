@@ -190,7 +190,7 @@ pub fn push_caption(
     push_between(out, &front, words, "</text>\n")
 }
 
-/// Begins a strip: the marks up to its end lie in this area, which is so many units wide, and one
+/// Begins a strip: the marks up to its end lie in this area. It is so many units wide, and one
 /// high.
 #[tactic(auto, unfolding(crate::specs::Marks::mark_text))]
 pub fn open_strip(
@@ -208,7 +208,7 @@ pub fn open_strip(
     out.extend_from_slice(front.as_bytes())
 }
 
-/// Begins a column: the marks up to its end lie in this area, which is so many units high, and one
+/// Begins a column: the marks up to its end lie in this area. It is so many units high, and one
 /// wide.
 #[tactic(auto, unfolding(crate::specs::Marks::mark_text))]
 pub fn open_column(

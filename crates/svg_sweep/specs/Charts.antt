@@ -15,7 +15,7 @@ use Rattle.svg_sweep.specs.declared.runs.Run.{Run}
 use Rattle.svg_sweep.specs.Runs.{chance_runs, class_count, runs}
 
 -- what a picture shows: the steps of a session, the result of a loss of power before and within
--- each, the result of the whole session
+-- each, and the result of the whole session
 pub record Chart : Type 0 where
   pub steps : List Step
   pub before : List Class
@@ -81,15 +81,15 @@ bar part run = Rect run.class (run_area run) (class_colour run.class) (run_title
 abbrev pub kind_bar : List Step → Run → Mark
 kind_bar steps run = Rect run.class (run_area run) (class_colour run.class) (kind_title steps run)
 
--- The frame of a strip. A white line in it keeps narrow runs at an end apart from it, and a dark
--- ground lets narrow runs among light ones be seen.
+-- The frame of a strip. A white line in it keeps narrow runs at an end apart from the frame. A
+-- dark ground shows narrow runs among light ones.
 unfoldable pub strip_frame : ℕ → List Mark
 strip_frame top =
     Plain (area_at 118 (top - 2) 804 28) Ink ∷ Plain (area_at 119 (top - 1) 802 26) White
     ∷ Plain (area_at 120 top 800 24) Ink ∷ []
 
--- the words of a row on its left, the frame of its strip and the beginning of the strip, which has
--- so many steps
+-- the words of a row on its left, the frame of its strip, and the beginning of the strip of so
+-- many steps
 unfoldable pub row_front : List ℕ → ℕ → ℕ → List Mark
 row_front name top n =
     Label 24 (top + 17) name ∷ (strip_frame top ++ (Strip (area_at 120 top 800 24) n ∷ []))
@@ -135,7 +135,7 @@ end_row top class =
     ∷ Rect class (area_at 120 top 24 24) (class_colour class) (codes "end " ++ class_word class)
     ∷ Label 156 (top + 17) (class_word class) ∷ []
 
--- a small rectangle of a colour, beside words that begin 22 right of it
+-- a small rectangle of a colour, left of words that begin 22 right of it
 unfoldable pub swatch : ℕ → ℕ → Colour → List Mark
 swatch x y colour =
     Plain (area_at (x - 1) (y - 13) 16 16) Ink ∷ Plain (area_at x (y - 12) 14 14) colour ∷ []
@@ -173,7 +173,7 @@ chart_words steps before within =
     ++ (decimal (count_of Finished before within) ++ (codes " chance="
     ++ decimal (count_of Chance before within)))))))
 
--- from where on the row of `within` lies, and that of the end, where there are steps
+-- where the row of `within` begins, and where the row of the end begins, if there are steps
 abbrev pub within_top : List Class → ℕ
 within_top before = 84 + results_height before
 
@@ -190,7 +190,7 @@ step_rows steps before within =
 unfoldable pub end_rows : ℕ → List Class → List Class → Class → List Mark
 end_rows top before within end_ = end_row top end_ ++ legend (top + 60) before within
 
--- the marks of a picture: of a sweep of no step the end and the legend alone
+-- the marks of a picture; a sweep of no step has the end and the legend alone
 abbrev pub marks_by : List Step → List Class → List Class → Class → List Mark
 marks_by [] before within end_ = end_rows 24 before within end_
 marks_by (step ∷ steps) before within end_ =
@@ -201,7 +201,7 @@ abbrev pub height_by : List Step → List Class → List Class → ℕ
 height_by [] before within = 108
 height_by (step ∷ steps) before within = end_top before within + 108
 
--- The picture of a sweep: its title is what the command says of it, and other words tell what it
+-- The picture of a sweep: its title is what the command says of it, and other words say what it
 -- shows.
 unfoldable pub picture_of : Chart → List ℕ → Picture
 picture_of chart desc = record {

@@ -10,8 +10,8 @@ bars_of [] = []
 bars_of (Rect class area colour title ∷ marks) = area ∷ bars_of marks
 bars_of (mark ∷ marks) = bars_of marks
 
--- Areas that fill a strip of n units from the unit k on: each begins where the one before ends, is
--- as high as the strip and at least one unit wide, and the last ends where the strip ends.
+-- Areas that fill a strip of n units from the unit k on. Each begins where the one before ends, is
+-- as high as the strip, and is at least one unit wide. The last ends where the strip ends.
 abbrev pub FillFrom : ℕ → ℕ → List Area → Type 0
 FillFrom n k [] = k ≡ n
 FillFrom n k (area ∷ areas) =

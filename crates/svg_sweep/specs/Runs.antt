@@ -15,7 +15,7 @@ abbrev pub IsOther : Class → List Run → Type 0
 IsOther class [] = ⊤
 IsOther class (run ∷ runs) = class ≢ run.class
 
--- runs that follow one another from the step k on up to the last step, neighbours of which differ
+-- runs that follow one another from the step k on up to the last step; neighbours differ
 abbrev pub AreRunsFrom : List Class → ℕ → List Run → Type 0
 AreRunsFrom classes k [] = k ≡ length classes
 AreRunsFrom classes k (run ∷ runs) =
@@ -44,7 +44,8 @@ abbrev pub run_by : Bool → Run → List Run → List Run
 run_by true run runs = run ∷ runs
 run_by false run runs = runs
 
--- the runs of steps of which the first has number k, where a run has begun at a step before it
+-- the runs of steps, where a run has begun at the step `first`; the first of the steps has number
+-- k
 abbrev pub runs_from : ℕ → ℕ → List Class → List Run
 runs_from first k [] = []
 runs_from first k (class ∷ classes) =

@@ -118,7 +118,7 @@ fn push_frame(alloc: Global, out: &mut Vec<u8>, top: usize) -> Result<(), AllocE
 }
 
 /// Appends the front of a row: its words on the left, the frame of its strip, and the beginning of
-/// the strip, which has so many steps.
+/// the strip of so many steps.
 #[tactic(auto, unfolding(crate::specs::Charts::row_front))]
 pub fn push_row_front(
     alloc: Global,

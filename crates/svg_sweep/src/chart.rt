@@ -22,8 +22,8 @@ fn count_of(class: Class, before: &[Class], within: &[Class]) -> usize
     class_count(class, before) + class_count(class, within)
 }
 
-/// What the command says of a sweep of these steps, with the results of a loss of power before and
-/// within each: how many steps there are, and how many lines have each result.
+/// What the command says of a sweep of these steps: how many steps there are, and how many lines
+/// have each result. The results are those of a loss of power before and within each step.
 #[tactic(auto, unfolding(crate::specs::Charts::chart_words))]
 pub fn chart_words(
     alloc: Global,
@@ -139,9 +139,9 @@ fn push_marks(
     }
 }
 
-/// The picture of a sweep of these steps, with the results of a loss of power before and within
-/// each and of the whole session; other words tell what it shows. It fails only where memory is
-/// out.
+/// The picture of a sweep of these steps. It has the results of a loss of power before and within
+/// each step, and the result of the whole session. Other words say what it shows. It fails only
+/// where memory is out.
 #[tactic(auto, unfolding(crate::specs::Charts::picture_of, svg_marks::specs::Marks::picture_text))]
 pub fn chart_svg(
     alloc: Global,

@@ -19,9 +19,9 @@ ghost use Rattle.script_plan.specs.Commands.{erase_cmd, exclusive_cmd, exit_cmd,
 ghost use Rattle.script_plan.specs.Loads.{load_text, sector_count, sector_of};
 
 /// The events of a plan: the power comes on, the board is reset to BOOTSEL, and the window's first
-/// sector is erased. An image of at most a sector is then written; of a longer one the other
-/// sectors are erased and written before the first sector is. At last the board reboots into an
-/// update of the window.
+/// sector is erased. An image of at most a sector is then written. Of a longer image the other
+/// sectors are erased and written before the first sector is written. At last the board reboots
+/// into an update of the window.
 pub fn the_events_of_a_plan()
     ensures short { (w : Window) (image : List ℕ) → IsPlanned w → length image ≤ w.len
         → length image ≤ 4096
@@ -40,8 +40,8 @@ pub fn the_events_of_a_plan()
         → sent cmd payload ≡ Command (written_command cmd) payload }
 {}
 
-/// The commands of a plan are read back, and are the erases, the writes and the reboot that they
-/// say, where their sectors may be written.
+/// The commands of a plan are read back. Where their sectors may be written, they are the erases,
+/// the writes and the reboot that they say.
 pub fn the_commands_of_a_plan()
     ensures read { (token at size : ℕ) → token < 2 ^ 32 → size < 2 ^ 32
         → (command_in (written_command (erase_cmd token at size)) ≡ Ok (erase_cmd token at size))

@@ -11,8 +11,8 @@ ghost use Rattle.svg_map.specs.Maps.{MapBarView, counted_in_map, map_marks, map_
 ghost use Rattle.svg_map.specs.Places.{FillFrom, LieFrom, rects_of};
 
 /// The marks of a class that stand in the bytes of a picture are those of its windows, in their
-/// order, each with its words; and the class, written as in `class="window"`, stands there as
-/// often, and nowhere else.
+/// order, each with its words. The class, written as in `class="window"`, stands there as often,
+/// and nowhere else.
 pub fn marks_are_those_of_the_windows()
     ensures words { (class : Class) (flash : ℕ) (bars : List MapBarView) (desc : List ℕ)
         → marks_in class (picture_text (map_picture flash bars desc))
@@ -29,8 +29,8 @@ pub fn each_window_has_its_marks()
     ensures joins { (bars : List MapBarView) → length (counted_in_map Join bars) ≡ length bars }
 {}
 
-/// Where what is said of windows, and what the picture shows, have bytes from the blank to the
-/// tilde alone, the picture's bytes are such ones and line feeds.
+/// What is said of windows, and what the picture shows, have bytes from the blank to the tilde
+/// alone. Then the picture has only such bytes and line feeds.
 pub fn pictures_of_texts_are_ascii()
     ensures { (flash : ℕ) (bars : List MapBarView) (desc : List ℕ) → is_printed_text desc ≡ true
         → is_printed_text (flat_map (λ (bar : MapBarView). bar.words) bars) ≡ true
@@ -38,9 +38,9 @@ pub fn pictures_of_texts_are_ascii()
 {}
 
 /// The rectangles of windows that lie side by side fill the column, which is as many units high as
-/// the flash has bytes: each begins where the one before ends, the first at the top, the last ends
-/// at the bottom, and each is as high as its window has bytes. Units are whole, so nothing is
-/// rounded.
+/// the flash has bytes. Each begins where the one before ends, and is as high as its window has
+/// bytes. The first begins at the top, and the last ends at the bottom. Units are whole, so
+/// nothing is rounded.
 pub fn rectangles_fill_the_column()
     ensures { (flash high : ℕ) (bars : List MapBarView) → LieFrom flash 0 bars
         → FillFrom flash 0 bars (rects_of (map_marks flash high bars)) }

@@ -53,7 +53,7 @@ pub fn words_in_lines()
 {}
 
 /// Where words are broken: a word that ends with byte 80, and one that would end with byte 81;
-/// blanks at both; words of 81 and 80 bytes, each alone and behind another.
+/// blanks at both; and words of 81 and 80 bytes, each alone and after another.
 pub fn broken_words()
     ensures whole { broken_lines (forty ++ (codes " " ++ thirty_nine))
         ≡ (forty ++ (codes " " ++ thirty_nine)) ∷ [] }

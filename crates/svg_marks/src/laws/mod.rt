@@ -8,9 +8,10 @@ ghost use Rattle.svg_marks.specs.Marks.{Picture, class_text, escaped, picture_te
 ghost use Rattle.svg_marks.specs.Reading.{is_free_of, marks_in, times, words_of_mark};
 ghost use Rattle.svg_marks.specs.Texts.{HasTexts, is_written, unescaped};
 
-/// Whatever the words of a picture are, the marks of a class that stand in its bytes are those of
-/// its data, in their order, each with its words; and the class, written as in `class="span"`,
-/// stands in its bytes as often as there are such marks, and nowhere else.
+/// The marks of a class that stand in the bytes of a picture are those of its data, in their
+/// order, each with its words. The class, written as in `class="span"`, stands in the bytes as
+/// often as there are such marks, and nowhere else. This holds whatever the words of the picture
+/// are.
 pub fn marks_are_those_of_the_data()
     ensures words { (class : Class) (p : Picture)
         → marks_in class (picture_text p) ≡ map escaped (flat_map (words_of_mark class) p.marks) }
@@ -26,8 +27,8 @@ pub fn texts_have_no_tag()
     ensures quote { (text : List ℕ) → is_free_of 34 (escaped text) ≡ true }
 {}
 
-/// A text that stands in a file is read back, so no two texts stand there as the same bytes; and so
-/// are the words of the marks of a class.
+/// A text that stands in a file is read back, so no two texts stand there as the same bytes. The
+/// words of the marks of a class are read back too.
 pub fn texts_are_read_back()
     ensures text { (text : List ℕ) → unescaped (escaped text) ≡ text }
     ensures same { (a b : List ℕ) → escaped a ≡ escaped b → a ≡ b }
@@ -36,15 +37,16 @@ pub fn texts_are_read_back()
         ≡ flat_map (words_of_mark class) p.marks }
 {}
 
-/// Where the words of a picture have bytes from the blank to the tilde alone, its bytes are such
-/// ones and line feeds.
+/// Where the words of a picture have bytes from the blank to the tilde alone, the picture has only
+/// such bytes and line feeds.
 pub fn pictures_of_texts_are_ascii()
     ensures { (p : Picture) → HasTexts p → list_all is_written (picture_text p) ≡ true }
 {}
 
-/// The lines of words, one behind the other, are the words. Each has at most 80 bytes, or a blank
-/// behind them, and each but the last ends behind a blank, where the next word would pass 80 bytes,
-/// or within a word that alone fills the line and goes on. There is one line at least.
+/// The lines of words, one after the other, are the words. Each line has at most 80 bytes, or 80
+/// bytes and then a blank. Each line but the last ends after a blank, where the next word would
+/// pass 80 bytes, or within a word that alone fills the line and goes on. There is at least one
+/// line.
 pub fn lines_are_those_of_the_words()
     ensures words { (words : List ℕ) → joined (broken_lines words) ≡ words }
     ensures lines { (words : List ℕ) → AreLines (broken_lines words) }

@@ -24,8 +24,8 @@ pub fn runs_are_the_only_ones()
         → AreRuns classes a → AreRuns classes b → a ≡ b }
 {}
 
-/// The marks of a class that stand in the bytes of a picture are those of its data, in their order,
-/// each with its words; and the class, written as in `class="span"`, stands there as often, and
+/// The marks of a class that stand in the bytes of a picture are those of its data, in their
+/// order, each with its words. The class, written as in `class="span"`, stands there as often, and
 /// nowhere else.
 pub fn marks_are_those_of_the_data()
     ensures words { (class : Class) (chart : Chart) (desc : List ℕ)
@@ -36,16 +36,16 @@ pub fn marks_are_those_of_the_data()
         ≡ length (counted_in_chart class chart) }
 {}
 
-/// Where what a picture shows has bytes from the blank to the tilde alone, the picture's bytes are
-/// such ones and line feeds.
+/// The words on what a picture shows have bytes from the blank to the tilde alone. Then the
+/// picture has only such bytes and line feeds.
 pub fn pictures_are_ascii()
     ensures { (chart : Chart) (desc : List ℕ) → is_printed_text desc ≡ true
         → list_all is_written (picture_text (picture_of chart desc)) ≡ true }
 {}
 
-/// The rectangles of a row fill its strip, which is as many units wide as there are steps: each
-/// begins where the one before ends, the first at the left edge, and the last ends at the right
-/// one. Each is as wide as its run has steps. Units are whole, so nothing is rounded.
+/// The rectangles of a row fill its strip, which is as many units wide as there are steps. Each
+/// begins where the one before ends. The first begins at the left edge, and the last ends at the
+/// right edge. Each is as wide as its run has steps. Units are whole, so nothing is rounded.
 pub fn bars_fill_their_strips()
     ensures results { (part : List ℕ) (top : ℕ) (classes : List Class)
         → FillFrom (length classes) 0 (bars_of (result_row part top classes)) }
