@@ -1,7 +1,7 @@
--- The binary of an ELF file, which can be sealed. For segments in flash it is what the addresses
--- of flash read as, an address map; for segments in SRAM it is an image whose load map loads them
--- (RP2350 Datasheet, chapter 5, Bootrom, "Load map" and "Entry point"). Its layout is this
--- project's own.
+-- The binary of an ELF file, which can be sealed. For segments in flash the binary is what the
+-- addresses of flash read as: an address map. For segments in SRAM it is an image whose load map
+-- loads them (RP2350 Datasheet, chapter 5, Bootrom, "Load map" and "Entry point"). Its layout is
+-- this project's own.
 use Rattle.std.specs.Prelude.{ℕ, pos, ◌+◌, ◌-◌, ◌≤◌, max, Bool, false, if◌then◌else◌, List, [], ◌∷◌, ◌++◌, find, map, reverse, Option, Some, unwrap_or}
 use Rattle.std.specs.List.{flat_map, range_with_len}
 use Rattle.std.specs.Option.{option_map}
@@ -18,8 +18,8 @@ use Rattle.elf_pack.specs.declared.segment.Segment.{Segment}
 use Rattle.elf_pack.specs.Fields.{entry_address}
 use Rattle.elf_pack.specs.Segments.{byte_of, segment_has_address, is_segment_in_flash, segment_bytes, segments}
 
--- the byte of the segments at an address, which no two of them share: that of the last one that
--- holds it, and none where none does
+-- the byte of the segments at an address: that of the last segment that holds the address, or
+-- none; no two segments share an address
 abbrev pub byte_in : List ℕ → List Segment → ℕ → Option ℕ
 byte_in elf xs address = option_map (byte_of elf address)
     (find (segment_has_address address) (reverse xs))
@@ -43,11 +43,12 @@ FitsIn n m s =
 abbrev pub flash_binary : List ℕ → List Segment → List ℕ
 flash_binary elf xs = flash_bytes elf xs (greatest_end xs - flash_base)
 
--- the offset from which on segments in SRAM are stored; the block before them has at most 384 bytes
+-- the offset from which on segments in SRAM are stored; the block before them has at most 384
+-- bytes
 abbrev pub first_storage : ℕ
 first_storage = 0x280
 
--- the loads of segments that are stored one behind the other from an offset on, each in whole words
+-- the loads of segments that are stored one after the other from an offset on, each in whole words
 abbrev pub loads_from : ℕ → List Segment → List Load
 loads_from at [] = []
 loads_from at (s ∷ xs) =
@@ -63,8 +64,8 @@ abbrev pub front_words : Cpu → ℕ → List ℕ
 front_words cpu entry =
     image_type_word cpu false ∷ header ENTRY_POINT 3 0 ∷ entry ∷ first_stack ∷ []
 
--- the items of the block of segments in SRAM; the LOAD_MAP item stands behind the start word and
--- the four words before it
+-- the items of the block of segments in SRAM; the LOAD_MAP item stands after the start word and
+-- four item words
 unfoldable pub sram_items : Cpu → ℕ → List Segment → List ℕ
 sram_items cpu entry xs = front_words cpu entry ++ load_map_item 20 (loads_from first_storage xs)
 
@@ -75,7 +76,7 @@ sram_binary cpu elf xs =
     padded first_storage (bytes_of (frame (sram_items cpu (entry_address elf) xs) (pos 0)))
     ++ flat_map (λ s. whole_words (segment_bytes elf s)) xs
 
--- whether the first segment lies in flash; in a file with a binary all then do
+-- whether the first segment lies in flash; in a file with a binary all segments then lie there
 abbrev pub are_in_flash : List Segment → Bool
 are_in_flash [] = false
 are_in_flash (s ∷ xs) = is_segment_in_flash s

@@ -3,8 +3,8 @@ use Rattle.std.specs.Prelude.{ℕ, ◌+◌, ◌*◌, List, [], ◌∷◌, ◌++�
 use Rattle.block_codec.specs.Words.{bytes_of}
 use Rattle.elf_pack.specs.declared.segment.Segment.{Segment}
 
--- the head of a file of this type for this machine with the entry 0x20000001, and with so many
--- program headers of this size behind it, and section headers of 40 bytes that are not read
+-- the head of a file of this type for this machine, with the entry 0x20000001; after it come so
+-- many program headers of this size; section headers of 40 bytes are not read
 abbrev pub head : ℕ → ℕ → ℕ → ℕ → List ℕ
 head kind machine size count =
     (0x7f ∷ 0x45 ∷ 0x4c ∷ 0x46 ∷ 1 ∷ 1 ∷ 1 ∷ [])
@@ -17,7 +17,7 @@ abbrev pub header_of : ℕ → ℕ → ℕ → ℕ → List ℕ
 header_of kind offset address size =
     bytes_of (kind ∷ offset ∷ 7 ∷ address ∷ size ∷ 9 ∷ 0 ∷ 0 ∷ [])
 
--- a file for Arm with program headers, and bytes behind them
+-- a file for Arm with program headers, and bytes after them
 abbrev pub arm_elf_file : ℕ → List ℕ → List ℕ → List ℕ
 arm_elf_file count headers bytes = head 2 40 32 count ++ (headers ++ bytes)
 

@@ -15,7 +15,7 @@ use Rattle.elf_pack.specs.Binaries.{elf_binary}
 use Rattle.elf_pack.specs.Fields.{file_type, header_count, header_size, headers_at, identification, machine, machine_of}
 use Rattle.elf_pack.specs.Segments.{flash_end, segments}
 
--- the file has at least 52 bytes and begins with the identification of a 32-bit ELF file with the
+-- the file has at least 52 bytes; it begins with the identification of a 32-bit ELF file with the
 -- lowest byte first
 pub record IsElf (elf : List ℕ) : Type 0 where
   pub long : 52 ≤ length elf
@@ -70,8 +70,8 @@ abbrev pub AreSegmentsApart : List OneSegment → Type 0
 AreSegmentsApart [] = Unit {0}
 AreSegmentsApart (s ∷ xs) = AllByRecursion (λ t. Share s t → ⊥) xs × AreSegmentsApart xs
 
--- s is the least that shares an address with a later one, and t the least later one that shares one
--- with it
+-- s is the first that shares an address with a later one, and t the first later one that shares an
+-- address with s
 abbrev pub IsFirstOverlap : List OneSegment → OneSegment → OneSegment → Type 0
 IsFirstOverlap [] s t = ⊥
 IsFirstOverlap (x ∷ xs) s t =
@@ -93,14 +93,14 @@ pub record IsLaidOut (cpu : Cpu) (elf : List ℕ) : Type 0 where
   pub head : IsRightHead cpu elf
   pub placed : AllByRecursion (IsPlacedSegment (length elf)) (segments elf)
 
--- besides there are 1 to 29 segments, all in flash or all in SRAM
+-- the file is laid out, and there are 1 to 29 segments, all in flash or all in SRAM
 pub record IsTogether (cpu : Cpu) (elf : List ℕ) : Type 0 where
   pub laid : IsLaidOut cpu elf
   pub some : segments elf ≢ []
   pub few : length (segments elf) ≤ 29
   pub together : AreAllTogether (segments elf)
 
--- besides no two of them share an address: the file has a binary
+-- the segments are together, and no two of them share an address: the file has a binary
 pub record HasBinary (cpu : Cpu) (elf : List ℕ) : Type 0 where
   pub all : IsTogether cpu elf
   pub apart : AreSegmentsApart (segments elf)
@@ -132,7 +132,8 @@ IsElfFault cpu elf (Overlap i j) =
 IsElfFault cpu elf (Seal e) = ⊥
 IsElfFault cpu elf Memory = ⊥
 
--- the condition of each refusal of a sealed image: a fault of the file, or its binary is not sealed
+-- the condition of each refusal of a sealed image: a fault of the file, or its binary is not
+-- sealed
 abbrev pub IsImageFault : List ℕ → SealSpec → ElfFault → Type 0
 IsImageFault elf spec (Seal e) =
     HasBinary spec.cpu elf × IsSealFault (elf_binary spec.cpu elf) spec e

@@ -26,13 +26,13 @@ head_fault cpu elf =
     else (if not (machine elf == machine_of cpu) then Some Processor
     else (if not (are_headers_inside elf) then Some Headers else None)))
 
--- the bytes of a segment leave a file of n bytes, or it lies neither wholly in flash nor wholly in
--- SRAM
+-- the bytes of a segment leave a file of n bytes, or the segment lies neither wholly in flash nor
+-- wholly in SRAM
 abbrev pub is_misplaced_segment : ℕ → OneSegment → Bool
 is_misplaced_segment n s = not (nat_le (s.offset + s.size) n
     && (is_segment_in_flash s || is_in_sram s))
 
--- the least misplaced segment of a file of n bytes
+-- the first misplaced segment of a file of n bytes
 unfoldable pub misplaced_fault : ℕ → List OneSegment → Option ElfFault
 misplaced_fault n xs = option_map (λ (s : OneSegment). Segment s.number)
     (find (is_misplaced_segment n) xs)
@@ -48,7 +48,7 @@ abbrev pub are_mixed : OneSegment → OneSegment → Bool
 are_mixed first s = if is_segment_in_flash first then not
     (is_segment_in_flash s) else is_segment_in_flash s
 
--- the least segment that does not lie where the first one does
+-- the first segment that does not lie where the first one of all does
 unfoldable pub mixed_fault : List OneSegment → Option ElfFault
 mixed_fault [] = None
 mixed_fault (first ∷ rest) =
@@ -58,7 +58,7 @@ mixed_fault (first ∷ rest) =
 abbrev pub do_overlap : OneSegment → OneSegment → Bool
 do_overlap s t = nat_lt s.address (t.address + t.size) && nat_lt t.address (s.address + s.size)
 
--- the least segment that shares an address with a later one, and the least such one
+-- the first segment that shares an address with a later one, and the first such later one
 unfoldable pub segment_overlap_fault : List OneSegment → Option ElfFault
 segment_overlap_fault [] = None
 segment_overlap_fault (s ∷ rest) =

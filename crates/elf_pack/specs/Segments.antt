@@ -1,6 +1,6 @@
 -- The segments of an ELF file: the program headers that ask for bytes of the file to be loaded.
 -- Source: Tool Interface Standard, Executable and Linking Format, version 1.2, "Program Header".
--- That a segment of no byte in the file is none is this project's own.
+-- This project's own: a header with no byte in the file is no segment.
 use Rattle.std.specs.Prelude.{ℕ, ◌+◌, ◌-◌, ◌*◌, ◌==◌, ◌&&◌, nat_le, nat_lt, Bool, if◌then◌else◌, List, slice_index, slice_range, filter_map, Option, Some, None}
 use Rattle.std.specs.List.{range_with_len}
 use Rattle.pico_board.specs.declared.window.TheConstants.{MOST_FLASH_BYTES}
@@ -13,7 +13,7 @@ use Rattle.elf_pack.specs.Fields.{header_count, headers_at, word_at}
 abbrev pub header_at : List ℕ → ℕ → ℕ
 header_at elf i = headers_at elf + 32 * i
 
--- the header asks for bytes to be loaded, and has some in the file: its type is 1 (PT_LOAD)
+-- the header asks for bytes to be loaded, and has some bytes in the file: its type is 1 (PT_LOAD)
 abbrev pub is_segment : List ℕ → ℕ → Bool
 is_segment elf i =
     word_at elf (header_at elf i) == 1 && nat_lt 0 (word_at elf (header_at elf i + 16))

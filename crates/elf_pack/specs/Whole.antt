@@ -31,8 +31,8 @@ image_sectors elf spec = whole_sectors (sealed_text (elf_binary spec.cpu elf) sp
 abbrev pub IsOfLink : ℕ → ℕ → Type 0
 IsOfLink at address = (flash_base + at ≤ address) × (address < flash_base + at + 4)
 
--- a window with these bytes gives the bytes of the file's segments: with the loads of the image's
--- definition, the byte at each address of each segment is the segment's byte, but for those of the
+-- a window with these bytes gives the bytes of the file's segments, with the loads of the image's
+-- definition: the byte at each address of each segment is the segment's byte, but for those of the
 -- link at this offset
 pub record GivesSegments (elf : List ℕ) (spec : SealSpec) (link_at : ℕ)
     (bytes : List ℕ) : Type 0 where
@@ -45,9 +45,9 @@ pub record GivesSegments (elf : List ℕ) (spec : SealSpec) (link_at : ℕ)
       → HasAddress address s → (IsOfLink link_at address → ⊥)
       → byte_at flash_base bytes loads address ≡ Some (byte_of elf address s)
 
--- the sealed image of a file, at the start of a window of a flash with 0xff behind it, is valid
--- with trial images allowed, for every OTP that meets the spec's rollback rule; and it gives the
--- bytes of the file's segments, but for the link that is rewritten where the binary is sealed
+-- the sealed image of a file stands at the start of a window of a flash with 0xff after it: it is
+-- valid with trial images allowed, for every OTP that meets the spec's rollback rule; and it gives
+-- the bytes of the file's segments, but for the link that sealing rewrites in the binary
 pub record IsElfWhole (elf : List ℕ) (spec : SealSpec) : Type 0 where
   pub sealed : IsSealed (elf_binary spec.cpu elf) spec
   pub starts : (c : Content) (w : Window) (f : List ℕ) → AreErased f

@@ -8,8 +8,8 @@ use thiserror::Error;
 /// headers.
 #[derive(Clone, Copy, Debug, PartialEq, Eq, Error)]
 pub enum ElfFault {
-    /// The file has fewer than 52 bytes, or does not begin as a 32-bit ELF file does whose numbers
-    /// have the lowest byte first.
+    /// The file has fewer than 52 bytes, or does not begin as a 32-bit ELF file with the lowest
+    /// byte first does.
     #[error("this is no 32-bit ELF file with the lowest byte first")]
     NotElf,
     /// The file is no executable file.
@@ -18,11 +18,11 @@ pub enum ElfFault {
     /// The file is for another processor.
     #[error("the ELF file is for another processor")]
     Processor,
-    /// There are program headers, and they have not 32 bytes each or leave the file.
+    /// There are program headers, and they do not have 32 bytes each or they leave the file.
     #[error("the program headers have not 32 bytes each, or leave the file")]
     Headers,
-    /// The bytes of this segment leave the file, or its addresses lie neither wholly in flash,
-    /// which has 16 MiB from 0x10000000 on, nor wholly in SRAM: the least such segment.
+    /// The bytes of this segment leave the file, or its addresses lie neither wholly in flash nor
+    /// wholly in SRAM. Flash has 16 MiB from 0x10000000 on. It is the first such segment.
     #[error("segment {0} leaves the file, or lies wholly in neither flash nor SRAM")]
     Segment(u32),
     /// There is no segment with bytes in the file.
@@ -31,12 +31,12 @@ pub enum ElfFault {
     /// There are this many segments, more than 29.
     #[error("there are {0} segments, more than 29")]
     TooMany(u32),
-    /// This segment lies in SRAM where the first one lies in flash, or the reverse: the least such
-    /// segment.
+    /// This segment lies in SRAM where the first one lies in flash, or the reverse. It is the
+    /// first such segment.
     #[error("segment {0} lies in another memory than the first one")]
     Mixed(u32),
-    /// Two segments share an address: the least one that shares an address with a later one, and
-    /// the least such later one.
+    /// Two segments share an address: the first one that shares an address with a later one, and
+    /// the first such later one.
     #[error("segments {0} and {1} overlap")]
     Overlap(u32, u32),
     /// The binary of the file is not sealed, for another cause than memory.

@@ -42,7 +42,7 @@ fn judged(alloc: Global, elf: &[u8], cpu: Cpu) -> Result<Vec<Segment>, ElfFault>
     }
 }
 
-/// Whether the first segment lies in flash; in a file with a binary all then do.
+/// Whether the first segment lies in flash; in a file with a binary all segments then lie there.
 fn are_in_flash(segments: &[Segment]) -> bool
     ensures { result ≡ are_in_flash segments.now }
 {
@@ -52,7 +52,7 @@ fn are_in_flash(segments: &[Segment]) -> bool
     }
 }
 
-/// The binary of a file, of which these are the segments.
+/// The binary of a file. These are its segments.
 #[tactic(auto, unfolding(crate::specs::Binaries::elf_binary))]
 fn binary_of(alloc: Global, elf: &[u8], cpu: Cpu, found: &[Segment]) -> Result<Vec<u8>, AllocError>
     requires found { found.now ≡ segments elf.now }
@@ -85,8 +85,7 @@ fn made_binary(alloc: Global, elf: &[u8], cpu: Cpu) -> Result<Vec<u8>, ElfFault>
     }
 }
 
-/// The binary of a file, or its first fault, with each fault told exactly where its condition
-/// holds.
+/// The binary of a file, or its first fault. Each fault comes exactly where its condition holds.
 fn whole_binary(alloc: Global, elf: &[u8], cpu: Cpu) -> Result<Vec<u8>, ElfFault>
     ensures value { IfOk result (λ binary. binary.items ≡ elf_binary cpu elf.now) }
     ensures small { IfOk result (λ binary. length binary.items ≤ MOST_FLASH_BYTES) }
@@ -99,11 +98,11 @@ fn whole_binary(alloc: Global, elf: &[u8], cpu: Cpu) -> Result<Vec<u8>, ElfFault
     made_binary(alloc, elf, cpu)
 }
 
-/// Appends the binary of an ELF file for a processor: of a file whose segments lie in flash, all
-/// bytes of flash up to their greatest end, with 0xff where no segment lies; of one whose segments
-/// lie in SRAM, an image whose block has the file's entry and loads them. Each refusal comes
-/// exactly where its condition holds, which says that none before it does, but that want of memory
-/// may come in place of any. After a refusal `out` is unchanged.
+/// Appends the binary of an ELF file for a processor. Of a file with segments in flash it has all
+/// bytes of flash up to their greatest end, with 0xff where no segment lies. Of a file with
+/// segments in SRAM it is an image whose block has the file's entry and loads the segments. Each
+/// refusal comes exactly where its condition holds; the condition says that none before it holds.
+/// Only `Memory` may come in place of any other answer. After a refusal `out` is unchanged.
 pub fn elf_binary(alloc: Global, elf: &[u8], cpu: Cpu, out: &mut Vec<u8>) -> Result<(), ElfFault>
     requires { length elf.now ≤ 67108864 }
     ensures appended { OnOk result (out.new.items ≡ out.old.items ++ elf_binary cpu elf.now) }
@@ -163,9 +162,9 @@ fn are_halves(major: u16, minor: u16)
 }
 
 /// Appends the sealed image of an ELF file by a spec: what `seal` gives of its binary for the
-/// spec's processor. It answers the offset of the new block in it. Each refusal comes exactly where
-/// its condition holds, which says that none before it does, but that want of memory may come in
-/// place of any. After a refusal `out` is unchanged.
+/// spec's processor. It answers the offset of the new block in the image. Each refusal comes
+/// exactly where its condition holds; the condition says that none before it holds. Only `Memory`
+/// may come in place of any other answer. After a refusal `out` is unchanged.
 pub fn elf_image(
     alloc: Global,
     elf: &[u8],
@@ -179,7 +178,7 @@ pub fn elf_image(
     ensures right { OnOk result (HasBinary spec.now.cpu elf.now) }
     ensures sealed { OnOk result (IsSealed (elf_binary spec.now.cpu elf.now) spec.now) }
     // The image is valid, with trial images allowed, at the start of each window of a flash with
-    // 0xff behind it, and gives the bytes of the file's segments at their addresses.
+    // 0xff after it. It gives the bytes of the file's segments at their addresses.
     ensures whole { OnOk result (IsElfWhole elf.now spec.now) }
     ensures fault { IfErr result
         (λ e. IsImageFault elf.now spec.now e ⊎ (e ≡ ElfFault.Memory)) }

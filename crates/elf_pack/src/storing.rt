@@ -1,4 +1,4 @@
-//! Segments in SRAM, stored behind a block whose load map loads them.
+//! Segments in SRAM, stored after a block whose load map loads them.
 
 ghost use Rattle.std.specs.Prelude.{◌≡◌, ◌+◌, ◌*◌, ◌≤◌, ◌++◌, IfOk, OnOk, length, pos};
 ghost use Rattle.std.specs.List.{AllByRecursion, flat_map};
@@ -31,7 +31,7 @@ const MAP_AT: u32 = 20;
 /// 29 segments.
 type Words = ArrayVec<u32, 92>;
 
-/// The least multiple of 4 that is at least n.
+/// The smallest multiple of 4 that is at least n.
 fn rounded_up(n: u32) -> u32
     requires { n ≤ 532480 }
     ensures value { result ≡ round_up 4 n }
@@ -105,7 +105,7 @@ fn want_of_memory(error: BlockError) -> AllocError
     }
 }
 
-/// The block, and erased bytes behind it up to the first segment's.
+/// The block, and erased bytes after it up to the first segment's.
 fn sram_block(
     alloc: Global,
     cpu: Cpu,

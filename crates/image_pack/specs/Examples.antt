@@ -9,13 +9,13 @@ use Rattle.load_map.specs.declared.load.Load.{Load}
 use Rattle.image_pack.specs.declared.parts.Parts.{Parts}
 use Rattle.image_pack.specs.declared.spec.SealSpec.{SealSpec}
 
--- the least image for Arm: SP and PC, and its block at 0x114
+-- the minimal image for Arm: SP and PC, and its block at 0x114
 abbrev pub least_image : List ℕ
 least_image =
     bytes_of (0x20082000 ∷ 0x10000201 ∷ replicate 67 0xffffffff ++ frame (0x10210142 ∷ []) (pos 0))
 
--- the least image for Arm sealed with version 1.9: its first block links to the new one at 0x128,
--- and that back to it
+-- the minimal image for Arm sealed with version 1.9: its first block links to the new one at
+-- 0x128, and the new one back to the first
 abbrev pub least_sealed : List ℕ
 least_sealed =
     bytes_of (0x20082000 ∷ 0x10000201 ∷ replicate 67 0xffffffff
@@ -33,8 +33,8 @@ erased_sector = replicate 4096 255
 abbrev pub window_of_length : ℕ → Window
 window_of_length len = record { start = 0; len = len }
 
--- the record of an image in such a window that starts by the two words of this vector table: its
--- definition stands at this offset and says this version
+-- the record of an image in such a window; it starts by the two words of this vector table, and
+-- its definition stands at this offset and says this version
 abbrev pub table_record : ℕ → ℕ → ℕ → ℕ → Started
 table_record len block major minor = record {
   window = window_of_length len;
@@ -49,8 +49,8 @@ table_record len block major minor = record {
   trial = false;
 }
 
--- an image for Arm whose vector table, its first eight bytes, is loaded to the start of SRAM: its
--- block at 8 has a VECTOR_TABLE and a LOAD_MAP item
+-- an image for Arm whose vector table is loaded to the start of SRAM: the table is its first eight
+-- bytes, and its block at 8 has a VECTOR_TABLE and a LOAD_MAP item
 abbrev pub loaded_image : List ℕ
 loaded_image =
     bytes_of (0x20082000 ∷ 0x10000201 ∷ frame (0x10210142 ∷ 0x00000203 ∷ 0x20000000 ∷ 0x01000406
@@ -74,8 +74,8 @@ eight_bytes storage = record { storage = Some storage; runtime = 0x20000000; siz
 abbrev pub four_bytes : Option ℕ → ℕ → Load
 four_bytes storage runtime = record { storage = storage; runtime = runtime; size = 4 }
 
--- parts of a binary: its first block, its last one and that one's link word stand at these offsets,
--- it has no entry point of its own, and these are its loads
+-- parts of a binary: its first block, its last block and the link word of the last block stand at
+-- these offsets; it has no entry point of its own, and these are its loads
 abbrev pub parts_at : ℕ → ℕ → ℕ → List Load → Parts
 parts_at first last link_at loads = record {
   first = first;

@@ -39,18 +39,18 @@ IsWrong spec Rollback =
 abbrev pub block_offset : List ℕ → ℕ
 block_offset binary = length (whole_words binary)
 
--- the number of bytes of the new block: those of the sealed image behind its offset
+-- the number of bytes of the new block: those of the sealed image from the block's offset on
 abbrev pub new_block_size : List ℕ → SealSpec → ℕ
 new_block_size binary spec = length (sealed_text binary spec) - block_offset binary
 
--- the spec is right, and the binary keeps the rules of a valid image from the first block to the
--- items, and that on the load map
+-- the spec is right, and the binary keeps these rules of a valid image: those from the first block
+-- to the items, and the rule on the load map
 pub record IsSealable (binary : List ℕ) (spec : SealSpec) : Type 0 where
   pub right : IsRightSpec spec
   pub parts : Parts
   pub read : parts_in spec.cpu (whole_sectors binary) ≡ Ok parts
 
--- besides the sealed image and its new block are not too long
+-- the binary is sealable, and the sealed image and its new block are not too long
 pub record IsShort (binary : List ℕ) (spec : SealSpec) : Type 0 where
   pub sealable : IsSealable binary spec
   pub image : length (sealed_text binary spec) ≤ MOST_FLASH_BYTES
@@ -69,19 +69,20 @@ abbrev pub Boots : Cpu → List ℕ → Started → Type 0
 Boots cpu image s =
     IsValidImage in_flash (whole_window image) cpu true zero_otp (whole_sectors image) s
 
--- alone in a window, with an OTP of zeros and trial images allowed, this image does not start, for
+-- alone in a window, with an OTP of zeros and trial images allowed, this image does not start for
 -- this reason
 abbrev pub FailsToBoot : Cpu → List ℕ → Why → Type 0
 FailsToBoot cpu image why = IsWhyNot in_flash cpu true zero_otp (whole_sectors image) why
 
--- the binary is sealed by the spec: besides the sealed image starts by its new block
+-- the binary is sealed by the spec: it is sealable and short, and the sealed image starts by its
+-- new block
 pub record IsSealed (binary : List ℕ) (spec : SealSpec) : Type 0 where
   pub short : IsShort binary spec
   pub started : Started
   pub boots : Boots spec.cpu (sealed_text binary spec) started
   pub block : started.block ≡ block_offset binary
 
--- the condition of each error, which says that none of those before it holds; want of memory is no
+-- the condition of each error; it says that no condition before it holds; missing memory is no
 -- fault of the binary or the spec
 abbrev pub IsSealFault : List ℕ → SealSpec → SealError → Type 0
 IsSealFault binary spec (BadSpec field) = IsWrong spec field

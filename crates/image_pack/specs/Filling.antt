@@ -1,11 +1,11 @@
 -- Bytes that are filled with 0xff, as erased flash reads.
 use Rattle.std.specs.Prelude.{ℕ, ◌+◌, ◌-◌, ◌*◌, ◌/◌, List, ◌++◌, length, replicate}
 
--- the least multiple of m, which is above 0, that is at least n
+-- the smallest multiple of m that is at least n; m is above 0
 abbrev pub round_up : ℕ → ℕ → ℕ
 round_up m n = m * ((n + (m - 1)) / m)
 
--- the bytes, and 0xff behind them up to n bytes in all
+-- the bytes, and 0xff after them up to n bytes in all
 abbrev pub padded : ℕ → List ℕ → List ℕ
 padded n bytes = bytes ++ replicate (n - length bytes) 255
 

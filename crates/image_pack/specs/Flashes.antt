@@ -19,9 +19,9 @@ plain_part location flags = record {
   name = None;
 }
 
--- the table of a made flash: version 1.0, and a pair of partitions with all rights, of which the
--- first has the sectors 2 to 65 and the second, its B, the sectors 66 to 129; the first accepts
--- images for Arm
+-- the table of a made flash: version 1.0, and a pair of partitions with all rights; the first has
+-- the sectors 2 to 65, and the second, its B, the sectors 66 to 129; the first accepts images for
+-- Arm
 unfoldable pub made_table : Table
 made_table = record {
   version = record { major = 1; minor = 0 };
@@ -45,8 +45,8 @@ made_spec minor = record {
 unfoldable pub made_image : ℕ → ℕ → List ℕ
 made_image seed minor = sealed_text (binary_of seed) (made_spec minor)
 
--- the flash of number n, of 1,048,576 bytes: the table at 0, the image of seed n and version
--- 1.(n mod 10) at 0x2000, and the image of seed n + 1 and version 1.((n / 10) mod 10) at 0x42000
+-- the flash of number n, of 1,048,576 bytes: the table at 0; the image of seed n and version 1.(n
+-- mod 10) at 0x2000; and the image of seed n + 1 and version 1.((n / 10) mod 10) at 0x42000
 abbrev pub generated : ℕ → List ℕ
 generated n =
     padded 0x2000 (written_table made_table)

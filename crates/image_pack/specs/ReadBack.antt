@@ -36,8 +36,8 @@ pub record SaysSpec (spec : SealSpec) (s : Started) : Type 0 where
   pub rows : s.rows ≡ spec.rows
   pub trial : s.trial ≡ spec.trial
 
--- an OTP meets the rollback rule of a spec: the rollback version, where there is one, is at least
--- the count of the rows; and there are rows where the OTP requires rollback versions
+-- an OTP meets the rollback rule of a spec: where there is a rollback version, it is at least the
+-- count of the rows; where the OTP requires rollback versions, there are rows
 pub record MeetsRollback (otp : List ℕ) (spec : SealSpec) : Type 0 where
   pub version : IfSome spec.rollback (λ v. count otp spec.rows.items ≤ v)
   pub required : IsTrue (rollback_required otp) → spec.rows.items ≢ []
@@ -53,12 +53,12 @@ map_place image =
     option_map_or (λ (item : Item). image.block.at + 4 * item.first)
     (option_and_then (slice_get (items_of image.block.items)) image.def.map_item) 0
 
--- a window has the image of a binary that was sealed by a spec: its definition is the new block,
--- says what the spec asks for and keeps the start that the binary's own says. Its first load is all
--- bytes before the new block, where they are stored, and the others are those of the binary that go
--- into SRAM, in order, as a LOAD_MAP item behind the start of the new block has them. The covered
--- bytes begin with all bytes before the new block, and their SHA-256 is the value of its HASH_VALUE
--- item
+-- a window has the image of a binary that was sealed by a spec. The definition is the new block:
+-- it says what the spec asks for, and keeps the start that the binary's own definition says. The
+-- first load is all bytes before the new block, where they are stored. The other loads are those
+-- of the binary that go into SRAM, in order. A LOAD_MAP item after the start of the new block has
+-- the loads. The covered bytes begin with all bytes before the new block. Their SHA-256 is the
+-- value of its HASH_VALUE item
 pub record IsReadBack (binary : List ℕ) (spec : SealSpec) (bytes : List ℕ) : Type 0 where
   pub loop : List BlockView
   pub image : Defined

@@ -1,6 +1,6 @@
--- The text of a sealed image: the binary, filled to whole words, and behind it a new block that the
+-- The text of a sealed image: the binary, filled to whole words, and after it a new block that the
 -- binary's loop is linked to. The items are of the RP2350 Datasheet, chapter 5 (Bootrom, "Image
--- definition items"); which of them are written, and their order, is this project's own.
+-- definition items"). Which of them are written, and their order, is this project's own.
 use Rattle.std.specs.Prelude.{ℕ, pos, ℤ, ◌+◌, ◌-◌, ◌*◌, ◌==◌, ◌-ℤ◌, Bool, false, if◌then◌else◌, List, [], ◌∷◌, ◌++◌, length, take, drop, replicate, slice_get, slice_range, filter, map, Option, Some, None, Result, Ok, unwrap_or}
 use Rattle.std.specs.List.{flat_map}
 use Rattle.std.specs.Option.{option_or, option_map_or}
@@ -50,8 +50,8 @@ offset_of_block block = option_map_or (λ (b : BlockView). b.at) block 0
 abbrev pub link_offset_of : Option BlockView → ℕ
 link_offset_of block = option_map_or (λ (b : BlockView). b.at + (block_size b - 8)) block 0
 
--- what a sealed image takes over from its binary, by the blocks of its loop, its definition's block
--- and the loads of its map
+-- what a sealed image takes over from its binary, by the blocks of the binary's loop, its
+-- definition's block and the loads of its map
 abbrev pub parts_taken_over : List BlockView → BlockView → List Load → Parts
 parts_taken_over loop b loads = record {
   first = offset_of_block (slice_get loop 0);
@@ -61,9 +61,9 @@ parts_taken_over loop b loads = record {
   loads = record { items = loads };
 }
 
--- what a sealed image takes over from a binary's bytes, in whole sectors; or the first rule that
--- they fail, of the rules of a valid image from the first block to the items and then of the rule
--- on the load map
+-- what a sealed image takes over from a binary's bytes, in whole sectors, or the first rule that
+-- they fail; the rules are those of a valid image from the first block to the items, and then the
+-- rule on the load map
 abbrev pub parts_in : Cpu → List ℕ → Result Parts Why
 parts_in cpu bytes =
     and_then (loop_answer (loop_of bytes)) (λ loop.
@@ -81,7 +81,8 @@ abbrev pub image_type_word : Cpu → Bool → ℕ
 image_type_word cpu trial =
     IMAGE_TYPE + 256 * 1 + 65536 * type_flags cpu + (if trial then 0x80000000 else 0)
 
--- half words in words, two in each, the first one low; half a word is filled with 0
+-- half words in words, two in each, the first one low; where the last word has one half alone, 0
+-- fills it
 abbrev pub packed : List ℕ → List ℕ
 packed [] = []
 packed (low ∷ []) = low ∷ []
@@ -98,8 +99,8 @@ version_item v rollback rows =
     header VERSION (version_words (length rows)) (length rows) ∷ (v.minor + 65536 * v.major)
     ∷ packed (row_halves rollback rows)
 
--- a load as the new map has it, whose item stands at this offset: a storage that begins there would
--- get the relative offset 0, which says a clear entry
+-- a load as the new map has it; the map's item stands at this offset: a storage that begins there
+-- would get the relative offset 0, which says a clear entry
 abbrev pub own_storage : ℕ → Option ℕ → Option ℕ
 own_storage at None = None
 own_storage at (Some x) = if x == at then None else Some x
@@ -116,17 +117,17 @@ load_in_place size = record { storage = Some 0; runtime = flash_base; size = siz
 abbrev pub sram_loads : List Load → List Load
 sram_loads loads = filter (λ (load : Load). in_sram load.runtime load.size) loads
 
--- the loads that go into SRAM as the new map has them, whose item stands at this offset
+-- the loads that go into SRAM, as the new map has them; the map's item stands at this offset
 abbrev pub copied_loads : ℕ → List Load → List Load
 copied_loads at loads = map (own_load at) (sram_loads loads)
 
--- the loads of the new block, whose LOAD_MAP item stands at this offset: the first `size` bytes,
--- and then those of the binary that go into SRAM
+-- the loads of the new block: the first `size` bytes, and then the loads of the binary that go
+-- into SRAM; its LOAD_MAP item stands at this offset
 abbrev pub own_loads : ℕ → ℕ → List Load → List Load
 own_loads size at loads = load_in_place size ∷ copied_loads at loads
 
 -- the first word of a relative entry: the signed offset of its storage from the LOAD_MAP item at
--- this offset, and 0 for a clear entry
+-- this offset; 0 for a clear entry
 abbrev pub place_word : ℕ → Option ℕ → ℕ
 place_word at None = 0
 place_word at (Some x) = cast_unsigned w32 (pos x -ℤ pos at)
@@ -146,12 +147,13 @@ front_items spec trial entry =
     image_type_word spec.cpu trial
     ∷ (version_item spec.version spec.rollback spec.rows.items ++ entry)
 
--- the offset of the LOAD_MAP item of a new block at this offset, behind these items
+-- the offset of the LOAD_MAP item of a new block at this offset, after these items
 abbrev pub map_offset : ℕ → List ℕ → ℕ
 map_offset at front = at + 4 * (1 + length front)
 
 -- the items before the HASH_VALUE item of a new block at this offset: those before the LOAD_MAP
--- item, that item with these loads, and HASH_DEF, which counts all words before the HASH_VALUE item
+-- item, that item with these loads, and HASH_DEF; HASH_DEF counts all words before the HASH_VALUE
+-- item
 abbrev pub with_map : ℕ → List ℕ → List Load → List ℕ
 with_map at front own =
     let before = front ++ load_map_item (map_offset at front) own in
@@ -161,11 +163,11 @@ with_map at front own =
 unfoldable pub hashed_items : SealSpec → Bool → ℕ → List ℕ → List Load → List ℕ
 hashed_items spec trial at entry own = with_map at (front_items spec trial entry) own
 
--- what a window has from x on that begins with these bytes and is erased behind them
+-- what a window has from x on; it begins with these bytes and is erased after them
 abbrev pub erased_behind : List ℕ → ℕ → ℕ → List ℕ
 erased_behind bytes x size = take size (drop x bytes ++ replicate size 255)
 
--- what the digest covers of a load of a new block behind these bytes: its storage bytes, or the
+-- what the digest covers of a load of a new block after these bytes: its storage bytes, or the
 -- size of a clear entry
 abbrev pub covered_storage : List ℕ → Option ℕ → ℕ → List ℕ
 covered_storage bytes None size = word_bytes size
@@ -174,27 +176,27 @@ covered_storage bytes (Some x) size = erased_behind bytes x size
 abbrev pub covered_part : List ℕ → Load → List ℕ
 covered_part bytes load = covered_storage bytes load.storage load.size
 
--- the bytes that the digest of a new block behind these bytes covers: those of its loads, and then
+-- the bytes that the digest of a new block after these bytes covers: those of its loads, and then
 -- its words before the HASH_VALUE item, with the trial bit read as 0
 abbrev pub digest_text : SealSpec → List ℕ → List ℕ → List Load → List ℕ
 digest_text spec bytes entry own =
     flat_map (covered_part bytes) own
     ++ bytes_of (start_word ∷ hashed_items spec false (length bytes) entry own)
 
--- the item words of a new block behind these bytes with these own loads
+-- the item words of a new block after these bytes with these own loads
 abbrev pub items_with : SealSpec → List ℕ → List ℕ → List Load → List ℕ
 items_with spec bytes entry own =
     hashed_items spec spec.trial (length bytes) entry own
     ++ header HASH_VALUE 9 0 ∷ words_of (sha256 (digest_text spec bytes entry own))
 
--- the item words of a new block behind these bytes, with the copied item and the binary's loads
+-- the item words of a new block after these bytes, with the copied item and the binary's loads
 unfoldable pub sealed_items : SealSpec → List ℕ → List ℕ → List Load → List ℕ
 sealed_items spec bytes entry loads =
     items_with spec bytes entry
     (own_loads (length bytes) (map_offset (length bytes) (front_items spec spec.trial entry)) loads)
 
--- the item words of the new block behind these bytes, of a binary with these parts; one without
--- parts has nothing to copy and no loads
+-- the item words of the new block after these bytes, of a binary with these parts; a binary
+-- without parts has nothing to copy and no loads
 abbrev pub block_items : SealSpec → List ℕ → Option Parts → List ℕ
 block_items spec bytes None = sealed_items spec bytes [] []
 block_items spec bytes (Some parts) =
@@ -206,13 +208,13 @@ abbrev pub block_link : ℕ → Option Parts → ℤ
 block_link at None = pos 0
 block_link at (Some parts) = pos parts.first -ℤ pos at
 
--- the new block behind these bytes
+-- the new block after these bytes
 abbrev pub new_block : SealSpec → List ℕ → Option Parts → List ℕ
 new_block spec bytes parts =
     bytes_of (frame (block_items spec bytes parts) (block_link (length bytes) parts))
 
--- the bytes before the new block: the binary in whole words, with the link of the last block of its
--- loop to their end
+-- the bytes before the new block: the binary in whole words, with the link of the last block of
+-- its loop to their end
 unfoldable pub relinked : List ℕ → Option Parts → List ℕ
 relinked bytes None = bytes
 relinked bytes (Some parts) =

@@ -1,4 +1,5 @@
--- How the answer of a check of a sealed image is taken: by its new block or another one.
+-- What the answer of a check of a sealed image means: the image starts by its new block, or by
+-- another one.
 use Rattle.std.specs.Prelude.{◌≡◌, ◌≢◌, ℕ, Result, Ok, Err}
 use Rattle.image_def.specs.declared.started.Started.{Started}
 use Rattle.image_check.specs.declared.why.Why.{Why}
@@ -9,7 +10,7 @@ use Rattle.image_pack.specs.declared.spec.SealError.TheVariants.{NotBootable, Di
 abbrev pub StartsAt : Result Started Why → ℕ → Type 0
 StartsAt image at = (s : Started) × (image ≡ Ok s) × (s.block ≡ at)
 
--- there is none, for this reason, or another block defines it
+-- there is no image, for this reason, or another block defines it
 abbrev pub IsStartFault : Result Started Why → ℕ → SealError → Type 0
 IsStartFault image at (NotBootable why) = image ≡ Err why
 IsStartFault image at Displaced = (s : Started) × (image ≡ Ok s) × (s.block ≢ at)

@@ -27,8 +27,8 @@ pub record StartsAs (e : EntryPoint) (s : Started) : Type 0 where
   pub limit : s.limit ≡ e.limit
 
 -- an image starts as a definition says, with these loads in a window with these bytes: PC, SP and
--- limit are those of its ENTRY_POINT; where it has none, for Arm PC and SP are the words of the
--- vector table that its VECTOR_TABLE names, or else of the one at the window's start, and for
+-- limit are those of the ENTRY_POINT; without an ENTRY_POINT, for Arm PC and SP are the words of
+-- the vector table that the VECTOR_TABLE names, or else of the one at the window's start; and for
 -- RISC-V the image starts at the window's start
 pub record StartsBy (cpu : Cpu) (def : Def) (bytes : List ℕ) (loads : List Load)
     (s : Started) : Type 0 where
@@ -36,8 +36,8 @@ pub record StartsBy (cpu : Cpu) (def : Def) (bytes : List ℕ) (loads : List Loa
   pub said : IsSource flash_base bytes cpu def loads def.entry_point source
   pub starts : StartsAs source.entry s
 
--- the byte at an address comes from this offset of the window: of the loads whose runtime range
--- holds the address, the last one stores it there
+-- the byte at an address comes from this offset of the window: the last load whose runtime range
+-- holds the address stores the byte there
 pub record IsLoadedFrom (loads : List Load) (address offset : ℕ) : Type 0 where
   pub load : Load
   pub last : find (load_has_address address) (reverse loads) ≡ Some load
@@ -45,18 +45,18 @@ pub record IsLoadedFrom (loads : List Load) (address offset : ℕ) : Type 0 wher
   pub storage : load.storage ≡ Some start
   pub place : offset ≡ start + (address - load.runtime)
 
--- two ranges of so many bytes share none
+-- two ranges of so many bytes share no byte
 abbrev pub AreRangesApart : ℕ → ℕ → ℕ → ℕ → Type 0
 AreRangesApart x size y other = (x + size ≤ y) ⊎ (y + other ≤ x)
 
--- sealing leaves the byte at this offset as it is: it is one of the first `size` bytes, those of
--- the binary, and none of the four of the link word at that offset
+-- sealing leaves the byte at this offset as it is: the byte is one of the first `size` bytes,
+-- those of the binary, and none of the four of the link word at `link_at`
 pub record Stays (size link_at offset : ℕ) : Type 0 where
   pub inside : offset < size
   pub apart : AreRangesApart offset 1 link_at 4
 
 -- no byte of the vector table at this address is one of the four of the link word at this offset:
--- neither where the table lies in flash, nor by where loads store it
+-- neither where the table lies in flash, nor where loads store the table
 pub record LinkIsOutsideTable (loads : List Load) (table link_at : ℕ) : Type 0 where
   pub flash : AreRangesApart table 8 (flash_base + link_at) 4
   pub loaded : (i offset : ℕ) → i < 8 → IsLoadedFrom loads (table + i) offset

@@ -1,5 +1,5 @@
--- Why a binary cannot be sealed, in the words of the rules of a valid image: of the rules from the
--- first block to the items, and the rule on the load map, the first that fails.
+-- Why a binary cannot be sealed, by the rules of a valid image. The rules are those from the first
+-- block to the items, and the rule on the load map; the first that fails is the reason.
 use Rattle.std.specs.Prelude.{◌≡◌, ℕ, true, List, length, Ok, Err}
 use Rattle.pico_board.specs.declared.boot.Cpu.{Cpu}
 use Rattle.block_codec.specs.Blocks.{BlockView}
@@ -14,12 +14,13 @@ use Rattle.image_check.specs.Valid.{IsDefined}
 use Rattle.image_check.specs.WhyNot.{IsWhyNot}
 use Rattle.image_pack.specs.Faults.{zero_otp}
 
--- a window with these bytes fails this rule of a valid image first; the rules that are meant here,
--- from the first block to the items, read neither the OTP nor whether a trial image is allowed
+-- a window with these bytes fails this rule of a valid image first; the rules meant here are those
+-- from the first block to the items; they read neither the OTP nor whether a trial image is
+-- allowed
 abbrev pub FailsRuleFirst : Cpu → List ℕ → Why → Type 0
 FailsRuleFirst cpu bytes why = IsWhyNot in_flash cpu true zero_otp bytes why
 
--- the rules from the first block to the items hold, and that on the load map fails
+-- the rules from the first block to the items hold, and the rule on the load map fails
 pub record HasWrongMap (cpu : Cpu) (bytes : List ℕ) (fault : MapFault) : Type 0 where
   pub loop : List BlockView
   pub image : Defined
@@ -34,7 +35,7 @@ pub record KeepsRules (cpu : Cpu) (bytes : List ℕ) : Type 0 where
   pub defined : IsDefined cpu bytes loop image
   pub map : map_loads in_flash (length bytes) image.block image.def ≡ Ok loads
 
--- the answer of the first of them that fails
+-- the answer of the first of these rules that fails
 abbrev pub IsUnsealable : Cpu → List ℕ → Why → Type 0
 IsUnsealable cpu bytes NoBlock = FailsRuleFirst cpu bytes NoBlock
 IsUnsealable cpu bytes (Loop fault) = FailsRuleFirst cpu bytes (Loop fault)

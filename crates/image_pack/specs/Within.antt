@@ -4,8 +4,8 @@ use Rattle.pico_board.specs.declared.window.TheConstants.{MOST_FLASH_BYTES}
 use Rattle.load_map.specs.Stored.{AreStoredIn}
 use Rattle.image_pack.specs.declared.parts.Parts.{Parts}
 
--- the first block, the last block and its link word lie in the first n bytes of the binary, of
--- which a flash has as many, and the storages of the loads lie in a flash
+-- the first block, the last block and its link word lie in the first n bytes of the binary; a
+-- flash has as many bytes; the storages of the loads lie in a flash
 pub record IsWithin (p : Parts) (n : ℕ) : Type 0 where
   pub first : p.first ≤ n
   pub last : p.last ≤ n

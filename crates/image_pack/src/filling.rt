@@ -7,7 +7,7 @@ ghost use Rattle.image_pack.specs.Filling.{padded, round_up, whole_sectors, whol
 use pico_board::ERASED;
 use std::alloc::{AllocError, Global};
 
-/// The least multiple of m that is at least n.
+/// The smallest multiple of m that is at least n.
 fn round_up(m: usize, n: usize) -> usize
     requires some { 0 < m }
     requires few { m ≤ 4096 }
@@ -17,7 +17,7 @@ fn round_up(m: usize, n: usize) -> usize
     m * ((n + (m - 1)) / m)
 }
 
-/// A copy of the bytes, with 0xff behind them up to so many bytes.
+/// A copy of the bytes, with 0xff after them up to so many bytes.
 pub(crate) fn padded(alloc: Global, bytes: &[u8], count: usize) -> Result<Vec<u8>, AllocError>
     requires { length bytes.now ≤ count }
     ensures value { IfOk result (λ copy. copy.items ≡ padded count bytes.now) }

@@ -48,7 +48,7 @@ fn put_stream(out: &mut Vec<u8>, seed: u32, count: usize) -> Result<(), AllocErr
     Ok(())
 }
 
-/// Appends the block of the least image for Arm, of one IMAGE_TYPE item, with link 0.
+/// Appends the block of the minimal image for Arm, of one IMAGE_TYPE item, with link 0.
 fn put_block(alloc: Global, out: &mut Vec<u8>) -> Result<(), AllocError>
     ensures items { OnOk result
         (out.new.items ≡ out.old.items ++ bytes_of (frame (0x10210142 ∷ []) (pos 0))) }
@@ -62,7 +62,7 @@ fn put_block(alloc: Global, out: &mut Vec<u8>) -> Result<(), AllocError>
     }
 }
 
-/// Appends the least image for Arm: its vector bytes and its block.
+/// Appends the minimal image for Arm: its vector bytes and its block.
 #[tactic(auto, unfolding(crate::specs::Streams::least_text, block_codec::specs::Words::word_bytes))]
 fn put_least(alloc: Global, out: &mut Vec<u8>) -> Result<(), AllocError>
     ensures items { OnOk result (out.new.items ≡ out.old.items ++ least_text) }
@@ -150,7 +150,7 @@ fn table_text(alloc: Global) -> Result<Vec<u8>, AllocError>
     }
 }
 
-/// Appends the bytes, with 0xff behind them up to so many bytes.
+/// Appends the bytes, with 0xff after them up to so many bytes.
 fn put_padded(out: &mut Vec<u8>, bytes: &[u8], count: usize) -> Result<(), AllocError>
     requires small { count ≤ MOST_FLASH_BYTES }
     requires few { length bytes.now ≤ count }
@@ -177,10 +177,10 @@ fn flash_of(alloc: Global, n: u32) -> Result<Vec<u8>, AllocError>
     Ok(flash)
 }
 
-/// Appends the flash of number n, of 1,048,576 bytes: the table at 0, the sealed image of seed n
-/// and version 1.(n mod 10) at 0x2000, and that of seed n + 1 and version 1.((n / 10) mod 10) at
+/// Appends the flash of number n, of 1,048,576 bytes: the table at 0; the sealed image of seed n
+/// and version 1.(n mod 10) at 0x2000; and that of seed n + 1 and version 1.((n / 10) mod 10) at
 /// 0x42000. Where there is no memory for it, the former bytes stay, and a part of the flash may
-/// stand behind them.
+/// stand after them.
 pub fn generate(alloc: Global, n: u32, out: &mut Vec<u8>) -> Result<(), AllocError>
     ensures ok { OnOk result (out.new.items ≡ out.old.items ++ generated n) }
     ensures len { OnOk result (length out.new.items ≡ length out.old.items + 0x100000) }

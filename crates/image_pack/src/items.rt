@@ -15,8 +15,8 @@ use block_codec::kinds::{HASH_DEF, IMAGE_TYPE, LOAD_MAP, VERSION};
 use load_map::{Load, SRAM_END, SRAM_START};
 use pico_board::{Cpu, FLASH_BASE};
 
-/// The item words of a new block: at most one of IMAGE_TYPE, 19 of VERSION, 156 copied ones, 157 of
-/// LOAD_MAP, 2 of HASH_DEF and 9 of HASH_VALUE.
+/// The item words of a new block: at most one of IMAGE_TYPE, 19 of VERSION, 156 copied ones, 157
+/// of LOAD_MAP, 2 of HASH_DEF, and 9 of HASH_VALUE.
 pub(crate) type Words = ArrayVec<u32, 344>;
 
 /// The loads of a new block: the image in place, and those of the binary's map.
@@ -115,7 +115,7 @@ fn is_in_sram(load: &Load) -> bool
     first >= u64::from(SRAM_START) && first + size <= u64::from(SRAM_END)
 }
 
-/// A load as the new map has it, whose item stands at this offset.
+/// A load as the new map has it; the map's item stands at this offset.
 fn own_load(at: u32, load: &Load) -> Load
     ensures { result ≡ own_load at load.now }
 {
@@ -130,7 +130,7 @@ fn own_load(at: u32, load: &Load) -> Load
     }
 }
 
-/// The loads of a new block behind `size` bytes, whose LOAD_MAP item stands at `at`.
+/// The loads of a new block after `size` bytes, whose LOAD_MAP item stands at `at`.
 pub(crate) fn own_loads(size: u32, at: u32, loads: &[Load]) -> OwnLoads
     requires size { size ≤ MOST_FLASH_BYTES }
     requires few { length loads.now ≤ 51 }
@@ -180,7 +180,7 @@ fn put_entries(words: &mut Words, at: u32, loads: &[Load])
     }
 }
 
-/// The items before the HASH_VALUE item of a new block behind `size` bytes: the front ones, and
+/// The items before the HASH_VALUE item of a new block after `size` bytes: the front ones, and
 /// LOAD_MAP and HASH_DEF.
 pub(crate) fn with_map(size: u32, front: &[u32], own: &[Load]) -> Words
     requires size { size ≤ MOST_FLASH_BYTES }

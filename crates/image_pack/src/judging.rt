@@ -54,7 +54,7 @@ fn board_of(alloc: Global, flash: Vec<u8>, rows: Vec<u32>) -> Result<MemBoard, A
     }
 }
 
-/// A board with an OTP of zeros, for which the flash is of no matter.
+/// A board with an OTP of zeros; its flash does not matter.
 fn zero_board(alloc: Global) -> Result<MemBoard, AllocError>
     ensures otp { IfOk result (λ board. (state_of board).content.otp ≡ zero_otp) }
     ensures power { IfOk result (λ board. IsTrue (state_of board).powered) }
@@ -88,9 +88,10 @@ fn image_of(alloc: Global, sectors: &[u8], cpu: Cpu) -> Result<Result<Started, W
     ))
 }
 
-/// The image, filled with 0xff to whole sectors and alone in a window, with an OTP of zeros and
-/// trial images allowed, or the first rule that it fails. The bytes are filled in place, and are as
-/// they were afterwards; where there is no memory they may stay filled.
+/// The image of these bytes, or the first rule that they fail. They are filled with 0xff to whole
+/// sectors, and stand alone in a window, with an OTP of zeros and trial images allowed. The bytes
+/// are filled in place, and are as they were afterwards. Where there is no memory they may stay
+/// filled.
 pub(crate) fn booted(
     alloc: Global,
     image: &mut Vec<u8>,

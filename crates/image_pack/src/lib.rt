@@ -1,9 +1,9 @@
 //! Sealed images: a binary with a version, a load map and a digest; and flashes made of a number.
 //!
-//! The definitions stand in `specs/`: `Sealing` is the text of a sealed image, which judges
-//! nothing, and `Faults` says when a binary is sealed and why it is not. `ReadBack` says what a
-//! window that begins with a sealed image has. `Streams` has the binaries of made flashes, and
-//! `Flashes` the flash, with their sealed images.
+//! The definitions stand in `specs/`: `Sealing` is the text of a sealed image, and judges nothing.
+//! `Faults` says when a binary is sealed, and why it is not. `ReadBack` says what a window that
+//! begins with a sealed image has. `Streams` has the binaries of made flashes, and `Flashes` the
+//! flash, with their sealed images.
 #![tactic(auto)]
 
 pub mod examples;

@@ -89,8 +89,8 @@ fn copied_words(block: &Block) -> ArrayVec<u32, 156>
     }
 }
 
-/// What a sealed image takes over from a binary, whose bytes in whole sectors these are, or the
-/// first rule that the binary fails.
+/// What a sealed image takes over from a binary, or the first rule that the binary fails. These
+/// are the binary's bytes in whole sectors.
 fn parts_in(bytes: &[u8], cpu: Cpu) -> Result<Parts, Why>
     requires { length bytes.now ≤ MOST_FLASH_BYTES }
     ensures { result ≡ parts_in cpu bytes.now }
@@ -119,8 +119,8 @@ fn parts_in(bytes: &[u8], cpu: Cpu) -> Result<Parts, Why>
     })
 }
 
-/// What a sealed image takes over from a binary, or the first rule that the binary, filled with
-/// 0xff to whole sectors, fails.
+/// What a sealed image takes over from a binary, or the first rule that the binary fails. The
+/// binary is filled with 0xff to whole sectors.
 pub(crate) fn binary_parts(
     alloc: Global,
     binary: &[u8],

@@ -108,8 +108,8 @@ fn judged_text(alloc: Global, binary: &[u8], spec: &SealSpec) -> Result<Vec<u8>,
     }
 }
 
-/// The sealed image of a binary by a spec, or why there is none, with each fault told exactly
-/// where its condition holds.
+/// The sealed image of a binary by a spec, or why there is none. Each fault comes exactly where
+/// its condition holds.
 fn judged_exactly(alloc: Global, binary: &[u8], spec: &SealSpec) -> Result<Vec<u8>, SealError>
     requires { length binary.now ≤ MOST_FLASH_BYTES }
     ensures text { IfOk result (λ text. text.items ≡ sealed_text binary.now spec.now) }
@@ -123,9 +123,9 @@ fn judged_exactly(alloc: Global, binary: &[u8], spec: &SealSpec) -> Result<Vec<u
 }
 
 /// Appends the sealed image of a binary by a spec, and answers the offset of the new block in it:
-/// the length of the binary in whole words. Each refusal comes exactly where its condition holds,
-/// which says that none before it does, but that want of memory may come in place of any. After a
-/// refusal `out` is unchanged.
+/// the length of the binary in whole words. Each refusal comes exactly where its condition holds;
+/// the condition says that none before it holds. Only `Memory` may come in place of any other
+/// answer. After a refusal `out` is unchanged.
 pub fn seal(
     alloc: Global,
     binary: &[u8],

@@ -14,10 +14,9 @@ pub struct SealSpec {
     pub cpu: Cpu,
     /// The version of the image.
     pub version: Version,
-    /// The rollback version, which is there exactly where rows are, and is at most 24 for each of
-    /// them.
+    /// The rollback version. It is there exactly where rows are, and is at most 24 for each row.
     pub rollback: Option<u16>,
-    /// The rollback rows, each from 0x0c0 to 0xefd, of which any two differ by at least 3.
+    /// The rollback rows, each from 0x0c0 to 0xefd. Any two of them differ by at least 3.
     pub rows: ArrayVec<u16, 32>,
     /// Whether the image is a trial, which has to be bought before it starts in a normal boot.
     pub trial: bool,
@@ -35,12 +34,12 @@ pub enum SpecField {
 /// Why a binary is not sealed: the first that applies, in the order of the variants.
 #[derive(Clone, Copy, Debug, PartialEq, Eq, Error)]
 pub enum SealError {
-    /// The rows break the rule for listed rows; or, where they keep it, only one of rollback
+    /// The rows break the rule for listed rows. Or the rows keep it, and only one of rollback
     /// version and rows is there, or the version passes its bound.
     #[error("the spec is wrong")]
     BadSpec(SpecField),
-    /// The binary, filled with 0xff to whole sectors, fails one of the rules of a valid image from
-    /// the first block to the items, or the rule on the load map: the first that it fails.
+    /// The binary, filled with 0xff to whole sectors, fails this rule first. The rules are those
+    /// of a valid image from the first block to the items, and the rule on the load map.
     #[error("the binary cannot be sealed: {0}")]
     Unsealable(Why),
     /// The sealed image would have more than 16,777,216 bytes.

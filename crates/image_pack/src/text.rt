@@ -42,7 +42,7 @@ fn add_erased(hasher: &mut Sha256, count: usize)
     }
 }
 
-/// Feeds a range of the bytes, and of erased ones behind them, to the hasher.
+/// Feeds a range of the bytes, and of erased ones after them, to the hasher.
 fn add_range(hasher: &mut Sha256, bytes: &[u8], start: usize, size: usize)
     ensures { (m : List ℕ) → Holds256 hasher.old m
         → Holds256 hasher.new (m ++ erased_behind bytes.now start size) }
@@ -121,7 +121,7 @@ fn hashed_items(spec: &SealSpec, trial: bool, size: u32, entry: &[u32], own: &[L
     with_map(size, front_items(spec, trial, entry).as_slice(), own)
 }
 
-/// The item words of a new block behind these bytes with these own loads.
+/// The item words of a new block after these bytes with these own loads.
 fn items_with(spec: &SealSpec, bytes: &[u8], entry: &[u32], own: &[Load]) -> Words
     requires size { length bytes.now ≤ MOST_FLASH_BYTES }
     requires entry { length entry.now ≤ 156 }
@@ -139,7 +139,7 @@ fn items_with(spec: &SealSpec, bytes: &[u8], entry: &[u32], own: &[Load]) -> Wor
     words
 }
 
-/// The item words of the new block behind these bytes.
+/// The item words of the new block after these bytes.
 #[tactic(auto, unfolding(crate::specs::Sealing::sealed_items))]
 fn sealed_items(spec: &SealSpec, bytes: &[u8], entry: &[u32], loads: &[Load]) -> Words
     requires size { length bytes.now ≤ MOST_FLASH_BYTES }
@@ -155,7 +155,7 @@ fn sealed_items(spec: &SealSpec, bytes: &[u8], entry: &[u32], loads: &[Load]) ->
     items_with(spec, bytes, entry, own.as_slice())
 }
 
-/// The item words of the new block behind these bytes, of a binary with these parts.
+/// The item words of the new block after these bytes, of a binary with these parts.
 fn block_items(spec: &SealSpec, bytes: &[u8], parts: &Option<Parts>) -> Words
     requires size { length bytes.now ≤ MOST_FLASH_BYTES }
     requires within { IfSome parts.now (λ p. IsWithin p (length bytes.now)) }
@@ -227,8 +227,8 @@ fn append_block(
     put_frame(text, items.as_slice(), link)
 }
 
-/// Links the last block of the loop of a binary in whole words to their end. A binary without parts
-/// stays as it is.
+/// Links the last block of the loop of a binary in whole words to their end. A binary without
+/// parts stays as it is.
 #[tactic(auto, unfolding(crate::specs::Sealing::relinked, block_codec::specs::Words::word_bytes))]
 fn relink(bytes: &mut [u8], parts: &Option<Parts>)
     requires size { length bytes.old ≤ MOST_FLASH_BYTES }

@@ -1,4 +1,4 @@
--- Worked examples of texts, with their answers reckoned by hand from the rules.
+-- Worked examples of texts, with their answers worked out by hand from the rules.
 use Rattle.std.specs.Prelude.{ℕ, zero, suc, false, List, [], ◌++◌, ◌+◌, codes, replicate, Option, None, Some, option_map, Result, Ok, Err}
 use Rattle.pico_board.specs.declared.boot.Cpu.{Cpu}
 use Rattle.serde_json.specs.Read.{read}
@@ -54,8 +54,8 @@ abbrev pub partition_with_members : List ℕ → Option (Result Partition JsonFa
 partition_with_members more = first_partition_in
     (codes "{\"first\":0,\"last\":0," ++ more ++ codes "}")
 
--- a table of these partitions, in which the unpartitioned sectors have all rights and accept the
--- absolute family
+-- a table of these partitions; its unpartitioned sectors have all rights and accept the absolute
+-- family
 abbrev pub table_of_parts : List ℕ → List ℕ
 table_of_parts parts =
     codes "{\"unpartitioned\":{\"families\":[\"absolute\"]," ++ all_rights
@@ -87,7 +87,7 @@ outside_value field = Some (Err (Value Unpartitioned field))
 abbrev pub name_member : ℕ → List ℕ
 name_member n = codes ",\"name\":\"" ++ replicate n 97 ++ codes "\""
 
--- a member n times, with a comma behind each
+-- a member n times, with a comma after each
 abbrev pub member_times : ℕ → List ℕ → List ℕ
 member_times zero one = []
 member_times (suc n) one = one ++ codes "," ++ member_times n one
@@ -106,7 +106,7 @@ plain_spec cpu version rows =
     Some
     (Ok (spec_with cpu (record { major = 0; minor = 0 }) version (record { items = rows }) false))
 
--- a table of a version, without partitions, in which the unpartitioned sectors have all rights
+-- a table of a version, without partitions; its unpartitioned sectors have all rights
 abbrev pub versioned : ℕ → ℕ → Table
 versioned high low = record {
   version = record { major = high; minor = low };

@@ -16,7 +16,7 @@ values_of (item d ds) = d ∷ values_of ds
 abbrev pub values_in : Data → Option (List Data)
 values_in d = option_map values_of (as_array d)
 
--- a number is one that the reader keeps as an unsigned whole number, so it is below 2^64
+-- a number is an unsigned whole number to the reader, so it is below 2^64
 abbrev pub number_in : Data → Option ℕ
 number_in d = option_and_then as_u64 (as_number d)
 
@@ -54,8 +54,8 @@ link_type_of word =
     else if bytes_eq word (codes "owner") then Some 2
     else None
 
--- a link is a list of its word and the number of a partition, below 16; it is read as its bits 1 to
--- 6 of a flag word
+-- a link is a list of its word and the number of a partition, below 16; the link is read as bits 1
+-- to 6 of a flag word
 abbrev pub link_of : Option ℕ → Option ℕ → Option ℕ
 link_of (Some kind) (Some value) = Some (2 * kind + 8 * value)
 link_of _ _ = None
@@ -80,7 +80,7 @@ rights_of text =
 abbrev pub rights_form : Data → Option ℕ
 rights_form d = option_and_then rights_of (as_str d)
 
--- the rights that an object gives to whom it names so
+-- the rights that an object gives to the party of this name
 abbrev pub rights_for : List ℕ → Data → Option ℕ
 rights_for name d = option_and_then rights_form (get name d)
 

@@ -24,8 +24,8 @@ pub record IsListedRow (pair : OtpRow) : Type 0 where
   pub most : pair.row ≤ 0xeff
   pub narrow : pair.value < 2 ^ 24
 
--- what the OTP of a text is: the slot size is 4096 to 8,388,608, and at most 4096 pairs are listed,
--- each of a row that may be
+-- what the OTP of a text is: the slot size is 4096 to 8,388,608, and at most 4096 pairs are
+-- listed, each of a row that may be listed
 pub record IsSound (spec : OtpView) : Type 0 where
   pub size : spec.slot_exponent ≤ 11
   pub few : length spec.rows ≤ 4096

@@ -16,8 +16,9 @@ use Rattle.table_json.specs.Steps.{◌>>=◌}
 use Rattle.table_json.specs.Members.{object_judged, optional}
 use Rattle.table_json.specs.Forms.{values_in, number_in, number_below}
 
--- an OTP as plain data: whether rollback versions are required, whether flash boot is off, the
--- exponent of the slot size, which is 4096 times 2 to it, and rows with their values
+-- an OTP as plain data: whether rollback versions are required; whether flash boot is off; the
+-- exponent of the slot size; and rows with their values; the slot size is 4096 times 2 to the
+-- exponent
 pub record OtpView : Type 0 where
   pub rollback_required : Bool
   pub flash_off : Bool
@@ -45,7 +46,7 @@ abbrev pub pairs_read : Option (Vec OtpRow Global) → Option (List OtpRow)
 pairs_read None = None
 pairs_read (Some rows) = Some rows.items
 
--- the exponent of a slot size: 4096 times 2 to it, at most 11
+-- the exponent of a slot size, at most 11: the size is 4096 times 2 to the exponent
 abbrev pub is_size_of : ℕ → ℕ → Bool
 is_size_of size exponent = size == 4096 * 2 ^ exponent
 
@@ -73,7 +74,7 @@ pair_in _ = None
 abbrev pub pair_form : Data → Option OtpRow
 pair_form d = option_and_then pair_in (values_in d)
 
--- pairs behind those that were read before
+-- pairs after those that were read before
 abbrev pub pairs_after : List OtpRow → List Data → Option (List OtpRow)
 pairs_after done [] = Some done
 pairs_after done (d ∷ ds) =

@@ -1,5 +1,5 @@
--- The partitions of a text. This project's own; the places of the fields in a partition's two words
--- are of the RP2350 Datasheet, chapter 5, Bootrom.
+-- The partitions of a text. This project's own; the places of the fields in a partition's two
+-- words are of the RP2350 Datasheet, chapter 5, Bootrom.
 use Rattle.std.specs.Prelude.{ℕ, Bool, false, ◌+◌, ◌*◌, List, [], ◌∷◌, ◌++◌, length, is_some}
 use Rattle.std.specs.Prelude.{Option, None, Some, option_map, Result, Ok}
 use Rattle.arrayvec.specs.ArrayVec.{ArrayVec}
@@ -24,9 +24,14 @@ location_word first last permissions = first + 8192 * last + 67108864 * permissi
 abbrev pub marks_word : Bool → Bool → Bool → ℕ
 marks_word arm riscv stays = bit_if arm 512 + bit_if riscv 1024 + bit_if stays 8192
 
--- a flag word: bit 0 says that there is an id, 1 to 6 are the link, 7 to 8 the number of extra
--- families, 9, 10 and 13 the marks, 12 says that there is a name, 14 to 19 are the families by
--- name, 26 to 31 the permissions
+-- a flag word:
+-- - bit 0: there is an id
+-- - bits 1 to 6: the link
+-- - bits 7 to 8: the number of extra families
+-- - bits 9, 10 and 13: the marks
+-- - bit 12: there is a name
+-- - bits 14 to 19: the families by name
+-- - bits 26 to 31: the permissions
 abbrev pub flag_word : Bool → ℕ → ℕ → ℕ → Bool → ℕ → ℕ → ℕ
 flag_word has_id link extra marks has_name bits permissions =
     bit_if has_id 1 + link + 128 * extra + marks + bit_if has_name 4096 + 16384 * bits
@@ -79,7 +84,7 @@ partition_of_value i d = do
   marks ← marks_of i d
   Ok (partition_from_fields (location_word first last permissions) families permissions id name link marks)
 
--- the partitions of a list, in order, behind those that were read before
+-- the partitions of a list, in order, after those that were read before
 abbrev pub partitions_after : List Partition → List Data → Result (ArrayVec Partition) JsonFault
 partitions_after done [] = Ok (record { items = done })
 partitions_after done (d ∷ ds) =

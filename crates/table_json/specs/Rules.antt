@@ -1,5 +1,5 @@
--- The rules of a text as one list, in the order in which they are judged, beside the functions of
--- Tables, Seals and Otps: each rule with the fault of a text that breaks it.
+-- The rules of a text as one list, in the order in which they are judged. Each rule has the fault
+-- of a text that breaks it. Tables, Seals and Otps say the same as functions.
 use Rattle.std.specs.Prelude.{ℕ, Bool, false, if◌then◌else◌, ◌+◌, List, [], ◌∷◌, ◌++◌, is_none}
 use Rattle.std.specs.Prelude.{Option, None, Some, option_and_then}
 use Rattle.std.specs.Option.{option_map_or}
@@ -102,8 +102,8 @@ abbrev pub rules_if : {A : Type 0} → (A → List Rule) → Option A → List R
 rules_if rules None = []
 rules_if rules (Some a) = rules a
 
--- the rules of a table: those of the top object, then those of what is said of the unpartitioned
--- sectors, then those of the partitions in order
+-- the rules of a table: those of the top object; then those of what is said of the unpartitioned
+-- sectors; then those of the partitions in order
 abbrev pub table_rules : Data → List Rule
 table_rules d =
     top_rules d

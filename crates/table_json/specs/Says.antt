@@ -1,4 +1,4 @@
--- What a partition says, by the fields of its words, beside what its text says.
+-- What a partition says, by the fields of its words, next to what its text says.
 use Rattle.std.specs.Prelude.{◌≡◌, ℕ, ◌+◌, ◌*◌, ◌/◌, ◌%◌, ◌^◌, false, None, Ok}
 use Rattle.serde_json.specs.Data.{Data}
 use Rattle.serde_json.specs.Find.{as_bool}

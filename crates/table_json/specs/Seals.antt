@@ -31,7 +31,7 @@ processor_form d = option_and_then cpu_of (as_str d)
 abbrev pub rollback_form : Data → Option (Option ℕ)
 rollback_form d = option_map Some (number_below 65536 d)
 
--- rows behind those that were read before, each a number below 65,536
+-- rows after those that were read before, each a number below 65,536
 abbrev pub rows_after : List ℕ → List Data → Option (ArrayVec ℕ)
 rows_after done [] = Some (record { items = done })
 rows_after done (d ∷ ds) =

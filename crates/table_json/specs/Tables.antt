@@ -36,8 +36,8 @@ abbrev pub table_with_fields : Version → Bool → ℕ → ArrayVec Partition �
 table_with_fields number alone word partitions =
     record { version = number; singleton = alone; unpartitioned = word; parts = partitions }
 
--- the fields of a table: its object is judged first, then its members in this order, then what is
--- said of the unpartitioned sectors, then the partitions in order
+-- the fields of a table: its object is judged first; then its members in this order; then what is
+-- said of the unpartitioned sectors; then the partitions in order
 abbrev pub table_fields : Data → Result Table JsonFault
 table_fields d = do
   judged ← object_judged OfTable Top Partitions d
@@ -54,8 +54,8 @@ abbrev pub unless_faulty : Table → Option TableFault → Result Table JsonFaul
 unless_faulty t None = Ok t
 unless_faulty t (Some fault) = Err (Faulty fault)
 
--- a table is TooLong where its block would have more than 640 bytes; else it has the first fault of
--- its partitions in a flash of 4096 sectors, of which the first two are not free
+-- a table is TooLong where its block would have more than 640 bytes; else it has the first fault
+-- of its partitions in a flash of 4096 sectors; the first two are not free
 abbrev pub judged : Table → Result Table JsonFault
 judged t =
     if nat_lt 640 (written_size t) then Err (TooLong (written_size t))

@@ -8,8 +8,8 @@ use Rattle.part_table.specs.TableOf.{has_table, table_of}
 use Rattle.table_json.specs.declared.fault.JsonFault.{JsonFault}
 use Rattle.table_json.specs.declared.fault.JsonFault.TheVariants.{Table as Faulty}
 
--- bytes begin with a block, wherever they stand and whatever follows them, that is read with this
--- answer in a flash of 4096 sectors, of which the first two are not free
+-- bytes begin with a block, wherever they stand and whatever follows them; the block is read with
+-- this answer in a flash of 4096 sectors, where the first two are not free
 abbrev pub IsReadWith : List ℕ → Result Table TableFault → Type 0
 IsReadWith bytes answer =
     (at : ℕ) (rest : List ℕ)

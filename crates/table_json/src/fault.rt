@@ -46,7 +46,7 @@ pub enum Field {
     IgnoreArm,
     /// Whether a partition is ignored in a RISC-V boot.
     IgnoreRiscv,
-    /// Whether a download into a partition is followed by no boot.
+    /// Whether no boot follows a download into a partition.
     NoReboot,
     /// The processor that an image is sealed for.
     Processor,
@@ -76,14 +76,14 @@ pub enum JsonFault {
     /// The object lacks this required member.
     #[error("an object lacks a member")]
     Missing(Place, Field),
-    /// The object's member has another form. Where the object itself is none, the field is the
+    /// The object's member has another form. Where the value is no object at all, the field is the
     /// one that stands for that.
     #[error("a member has another form")]
     Value(Place, Field),
     /// The block of the table would have this many bytes, more than 640.
     #[error("the table's block has {0} bytes, more than 640")]
     TooLong(u64),
-    /// The fault of the table in a flash of 4096 sectors, of which the first two are not free.
+    /// The fault of the table in a flash of 4096 sectors; the first two are not free.
     #[error("the table has a fault")]
     Table(TableFault),
     /// There was no memory.

@@ -122,7 +122,7 @@ fn rights(text: &str) -> Option<u32>
     }
 }
 
-/// The rights that an object gives to whom it names so.
+/// The rights that an object gives to the party of this name.
 fn rights_for(value: &Value, name: &str) -> Option<u32>
     ensures value { result ≡ rights_for name.now (view value.now) }
     ensures small { IfSome result (λ rights. rights < 4) }

@@ -1,4 +1,5 @@
-//! Partition tables, specs of sealed images and OTPs, from JSON texts. The texts are this project's own.
+//! Partition tables, specs of sealed images and OTPs, from JSON texts. The texts are this
+//! project's own.
 #![tactic(auto)]
 
 pub mod examples;

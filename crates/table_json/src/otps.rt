@@ -36,14 +36,15 @@ pub struct OtpRow {
     pub value: u32,
 }
 
-/// What is told of the OTP of a board.
+/// What a text says of the OTP of a board.
 #[derive(Drop)]
 pub struct OtpSpec {
     /// Whether rollback versions are required.
     pub rollback_required: bool,
     /// Whether flash boot is off.
     pub flash_off: bool,
-    /// The exponent of the size of a slot of a flash without a table, which is 4096 times 2 to it.
+    /// The exponent of the slot size of a flash without a table. A slot has 4096 times 2 to it
+    /// bytes.
     pub slot_exponent: u32,
     /// Rows and their values. Of a row that comes twice the later value counts.
     pub rows: Vec<OtpRow>,
@@ -180,7 +181,7 @@ fn otp_in(alloc: Global, value: &Value) -> Result<OtpSpec, JsonFault>
     })
 }
 
-/// What a text tells of an OTP, or its first fault.
+/// What a text says of an OTP, or its first fault.
 fn judged_otp(alloc: Global, text: &[u8]) -> Result<OtpSpec, JsonFault>
     ensures spec { IfOk result (λ spec. (d : Data) × IsJsonText text.now d
         × (otp_from d ≡ Ok (otp_spec_from spec))) }
@@ -195,10 +196,10 @@ fn judged_otp(alloc: Global, text: &[u8]) -> Result<OtpSpec, JsonFault>
     otp_in(alloc, &value)
 }
 
-/// What a JSON text tells of the OTP of a board, or its first fault: NotJson exactly where the
-/// bytes are not UTF-8 or no JSON value that nests at most 127 deep; else the first fault of the
-/// value's object. Where there is no memory the answer is `Memory`. The texts are this project's
-/// own.
+/// What a JSON text says of the OTP of a board, or its first fault. NotJson comes exactly where
+/// the bytes are not UTF-8 or no JSON value that nests at most 127 deep. Else the first fault of
+/// the value's object comes. Where there is no memory the answer is `Memory`. The texts are this
+/// project's own.
 pub fn otp_spec_of(alloc: Global, text: &[u8]) -> Result<OtpSpec, JsonFault>
     ensures spec { IfOk result (λ spec. (d : Data) × IsJsonText text.now d
         × (otp_from d ≡ Ok (otp_spec_from spec))) }

@@ -9,7 +9,8 @@ use crate::JsonFault;
 use serde_json::Value;
 use std::alloc::Global;
 
-/// The value of a text; or NotJson where it is that of none, or Memory where there is no memory.
+/// The value of a text; or NotJson where the text is that of no value; or Memory where there is no
+/// memory.
 pub(crate) fn read(alloc: Global, text: &[u8]) -> Result<Value, JsonFault>
     ensures value { IfOk result (λ v. IsJsonText text.now (view v)) }
     ensures not_json { result ≡ Err JsonFault.NotJson → (d : Data) → IsJsonText text.now d → ⊥ }

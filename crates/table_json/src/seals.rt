@@ -122,9 +122,10 @@ fn spec_in(value: &Value) -> Result<SealSpec, JsonFault>
     })
 }
 
-/// The spec of a sealed image of a JSON text, or its first fault: NotJson exactly where the bytes
-/// are not UTF-8 or no JSON value that nests at most 127 deep; else the first fault of the value's
-/// object. Where there is no memory the answer is `Memory`. The texts are this project's own.
+/// The spec of a sealed image of a JSON text, or its first fault. NotJson comes exactly where the
+/// bytes are not UTF-8 or no JSON value that nests at most 127 deep. Else the first fault of the
+/// value's object comes. Where there is no memory the answer is `Memory`. The texts are this
+/// project's own.
 pub fn spec_of(alloc: Global, text: &[u8]) -> Result<SealSpec, JsonFault>
     ensures spec { IfOk result (λ spec. (d : Data) × IsJsonText text.now d
         × (spec_from d ≡ Ok spec)) }

@@ -114,12 +114,14 @@ fn table_in(alloc: Global, value: &Value) -> Result<Table, JsonFault>
     }
 }
 
-/// The table of a JSON text, or its first fault: NotJson exactly where the bytes are not UTF-8 or
-/// no JSON value that nests at most 127 deep; else the first fault of the value's objects, the top
-/// one first, then `unpartitioned`, then the partitions in order; else TooLong where the table's
-/// block would have more than 640 bytes; else the first fault of the table in a flash of 4096
-/// sectors, of which the first two are not free. Where there is no memory the answer is `Memory`.
-/// The texts are this project's own.
+/// The table of a JSON text, or its first fault, in this order:
+/// - NotJson exactly where the bytes are not UTF-8 or no JSON value that nests at most 127 deep
+/// - the first fault of the value's objects: the top one first, then `unpartitioned`, then the
+///   partitions in order
+/// - TooLong where the table's block would have more than 640 bytes
+/// - the first fault of the table in a flash of 4096 sectors, where the first two are not free
+///
+/// Where there is no memory the answer is `Memory`. The texts are this project's own.
 pub fn table_of(alloc: Global, text: &[u8]) -> Result<Table, JsonFault>
     ensures table { IfOk result
         (λ t. (d : Data) × IsJsonText text.now d × (table_of_value d ≡ Ok t)) }
@@ -130,14 +132,14 @@ pub fn table_of(alloc: Global, text: &[u8]) -> Result<Table, JsonFault>
     ensures exact { (d : Data) → IsJsonText text.now d → result ≢ Err JsonFault.Memory
         → result ≡ table_of_value d }
 
-    // The table's block can be written, its partitions have no fault, and it is read again from
-    // what is written for it.
+    // The table's block can be written, and its partitions have no fault. The table is read again
+    // from what is written for it.
     ensures agree { IfOk result (λ t. All AgreesWithFlags t.parts.items) }
     ensures fits { IfOk result (λ t. written_size t ≤ 640) }
     ensures faultless { IfOk result (λ t. table_fault t 4096 2 ≡ None) }
     ensures again { IfOk result (λ t. IsReadAs (written_table t) t 4096 2) }
 
-    // Where the fields say a table whose block has at most 640 bytes, the answer is exactly what
+    // Where the fields say a table with a block of at most 640 bytes, the answer is exactly what
     // reading that block in such a flash answers.
     ensures whole { (d : Data) (t : Table) (answer : Result Table TableFault)
         → IsJsonText text.now d

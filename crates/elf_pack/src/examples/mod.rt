@@ -34,9 +34,9 @@ pub fn the_first_of_two_faults()
         ++ header_of 1 0 0x2000_0004 1) []) ≡ Some (Overlap 0 2) }
 {}
 
-/// A file without headers has no segment, and the size of its headers is not judged; nor has one
-/// whose headers are of another type or have no byte in the file. Segments that touch do not
-/// overlap, and a file for RISC-V is judged by its own machine.
+/// A file without headers has no segment, and the size of its headers is not judged. A file whose
+/// headers are of another type, or have no byte in the file, has no segment either. Segments that
+/// touch do not overlap. A file for RISC-V is judged by its own machine.
 pub fn files_without_a_head_fault()
     ensures unread_size { elf_fault Arm (head 2 40 31 0) ≡ Some Empty }
     ensures no_segment { elf_fault Arm (arm_elf_file 2
@@ -66,8 +66,8 @@ pub fn the_places_of_segments()
     ensures last_byte { do_overlap (one_at 0 0x2000_0000 4) (one_at 0 0x2000_0003 4) ≡ true }
 {}
 
-/// 29 segments are not too many and 30 are, which is told before they are mixed or overlap, and
-/// after a misplaced one.
+/// 29 segments are not too many, and 30 are. This fault comes before mixed or overlapping
+/// segments, and after a misplaced one.
 pub fn at_most_29_segments()
     ensures few { segments_fault 100 (replicate 29 (one_at 0 0x2000_0000 4)) ≡ Some (Overlap 7 7) }
     ensures many { segments_fault 100 (replicate 30 (one_at 0 0x2000_0000 4)) ≡ Some (TooMany 30) }
@@ -90,8 +90,8 @@ pub fn the_segments_of_a_file()
 {}
 
 /// Segments in flash stand at their addresses, with erased bytes before and between them. Segments
-/// in SRAM stand behind a block of 0x280 bytes in the order of their headers, each in whole words;
-/// its load map has their sizes, and its places count from the LOAD_MAP item.
+/// in SRAM stand after a block of 0x280 bytes in the order of their headers, each in whole words.
+/// The block's load map has their sizes, and its places count from the LOAD_MAP item.
 pub fn binaries()
     ensures flash { elf_binary Arm (arm_elf_file 2
         (header_of 1 119 0x1000_0009 2 ++ header_of 1 116 0x1000_0004 3) (1 ∷ 2 ∷ 3 ∷ 4 ∷ 5 ∷ []))

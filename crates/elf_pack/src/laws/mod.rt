@@ -13,8 +13,8 @@ ghost use Rattle.elf_pack.specs.Faults.{HasBinary, HasAddress, IsElfFault, IsIma
 ghost use Rattle.elf_pack.specs.Judging.{elf_fault};
 ghost use Rattle.elf_pack.specs.Segments.{byte_of, segments};
 
-/// A file has at most one fault, and none where it has a binary; and the function that judges in
-/// order finds exactly that fault, or none exactly where there is a binary.
+/// A file has at most one fault, and none where it has a binary. The function that judges in order
+/// finds exactly that fault, or none exactly where there is a binary.
 pub fn a_file_has_one_fault_or_a_binary()
     ensures one { (cpu : Cpu) (elf : List ℕ) (e f : ElfFault)
         → IsElfFault cpu elf e → IsElfFault cpu elf f → e ≡ f }
@@ -33,9 +33,9 @@ pub fn an_image_has_at_most_one_fault()
         → IsSealed (elf_binary spec.cpu elf) spec → IsImageFault elf spec e → ⊥ }
 {}
 
-/// The binary of a file with segments in flash is what flash reads as: at the offset of each
-/// address of each segment it has the segment's byte, and at each other offset below its end 0xff.
-/// No segment ends behind it, and one ends with it.
+/// The binary of a file with segments in flash is what flash reads as. At the offset of each
+/// address of each segment it has the segment's byte. At each other offset below its end it has
+/// 0xff. No segment ends after it, and one ends with it.
 pub fn the_binary_of_flash_segments_is_an_address_map()
     ensures segment { (cpu : Cpu) (elf : List ℕ) → HasBinary cpu elf
         → are_in_flash (segments elf) ≡ true → (i : ℕ) (s : Segment) (address : ℕ)

@@ -6,7 +6,7 @@ ghost use Rattle.image_pack.specs.Filling.{padded};
 ghost use Rattle.image_pack.specs.Flashes.{generated, made_image, made_table};
 
 /// The images of made flashes: the minor versions are the last two digits of the number, and the
-/// seed behind the greatest is 0.
+/// seed after the greatest is 0.
 pub fn images_of_made_flashes()
     ensures digits { generated 129 ≡ padded 0x2000 (written_table made_table)
         ++ (padded 0x40000 (made_image 129 9) ++ padded 0xbe000 (made_image 130 2)) }

@@ -21,14 +21,14 @@ ghost use Rattle.image_pack.specs.Starts.{StartsBy, LinkIsOutsideTable, StartsAs
 ghost use Rattle.image_pack.specs.Sealing.{block_link, copied_loads, copied_words, covered_part, entry_words, front_items, link_offset_of, offset_of_block, own_loads, parts_taken_over, sealed_text, parts_in};
 ghost use Rattle.image_pack.specs.Within.{IsWithin};
 
-/// The least image for Arm, sealed with version 1.9: its block links to the new one, and that back
-/// to it.
+/// The minimal image for Arm, sealed with version 1.9: its block links to the new one, and the new
+/// one back to it.
 pub fn the_least_image_sealed()
     ensures { sealed_text least_image (spec_of Arm false None []) ≡ least_sealed }
 {}
 
 /// The items before the load map: of a trial image for RISC-V without rows; with one row, and with
-/// two, whose last word is filled with 0; and the copied item behind them.
+/// two, where 0 fills the last word; and the copied item after them.
 pub fn items_before_the_load_map()
     ensures trial { front_items (spec_of Riscv true None []) true []
         ≡ 0x91010142 ∷ 0x00000248 ∷ 0x00010009 ∷ [] }
@@ -40,8 +40,9 @@ pub fn items_before_the_load_map()
         ≡ 0x10210142 ∷ 0x00000248 ∷ 0x00010009 ∷ 0x00000203 ∷ 0x10000100 ∷ [] }
 {}
 
-/// The loads of a new block behind 0x128 bytes: the image in place, and then those of the binary
-/// that go into SRAM, in order. One whose storage begins at the LOAD_MAP item becomes a clear one.
+/// The loads of a new block after 0x128 bytes: the image in place, and then the loads of the
+/// binary that go into SRAM, in order. A load whose storage begins at the LOAD_MAP item becomes a
+/// clear one.
 pub fn the_loads_of_a_new_block()
     ensures kept { own_loads 0x128 0x138 (four_bytes (Some 0x100) 0x20000000
         ∷ four_bytes (Some 0x104) 0x10000104 ∷ four_bytes None 0x20081ffc
@@ -61,8 +62,8 @@ pub fn the_loads_of_a_new_block()
         ≡ 0 ∷ 0x20000000 ∷ 4 ∷ [] }
 {}
 
-/// What the digest covers of a load: its storage bytes, which are 0xff behind the bytes that there
-/// are, and of a clear entry its size.
+/// What the digest covers of a load: its storage bytes, or the size of a clear entry. Storage
+/// bytes after the bytes that there are count as 0xff.
 #[tactic(auto, unfolding(block_codec::specs::Words::word_bytes))]
 pub fn covered_bytes_of_loads()
     ensures inside { covered_part (1 ∷ 2 ∷ 3 ∷ 4 ∷ 5 ∷ []) (four_bytes (Some 1) 0x20000000)
@@ -88,8 +89,9 @@ pub fn halves_of_versions()
     ensures minor_above { ¬ (IsHalves (record { major = 0; minor = 0x1_0000 })) }
 {}
 
-/// The blocks of a binary begin within it or at its end, its link word ends there, it has at most
-/// 16,777,216 bytes, and so the storage of each load ends there.
+/// The blocks of a binary begin within it or at its end, and its link word ends there at the
+/// latest. The binary has at most 16,777,216 bytes, so the storage of each load ends there at the
+/// latest.
 pub fn parts_within_a_binary()
     ensures at_the_end { IsWithin (parts_at 8 8 4 []) 8 }
     ensures first_past { ¬ (IsWithin (parts_at 9 8 4 []) 8) }
@@ -109,8 +111,8 @@ pub fn offsets_of_blocks()
     ensures no_link { link_offset_of None ≡ 0 }
 {}
 
-/// The item that is copied is the ENTRY_POINT, also behind a VECTOR_TABLE; without one it is the
-/// VECTOR_TABLE, and without both there is none.
+/// The item that is copied is the ENTRY_POINT, also after a VECTOR_TABLE. Without an ENTRY_POINT
+/// it is the VECTOR_TABLE, and without both there is none.
 #[tactic(auto, unfolding(block_codec::specs::Items::size_of, block_codec::specs::Blocks::frame))]
 pub fn copied_items()
     ensures both { copied_words (block_at_40 (0x10210142 ∷ 0x00000203 ∷ 0x10000100 ∷ 0x00000344
@@ -120,8 +122,8 @@ pub fn copied_items()
     ensures none { copied_words (block_at_40 (0x10210142 ∷ [])) ≡ [] }
 {}
 
-/// The first block of a loop of two is the one that is linked to, and the last one's link word is
-/// the one that is changed.
+/// Of a loop of two the new block links to the first block, and the link word of the last block is
+/// changed.
 pub fn parts_of_a_loop_of_two()
     ensures first { (parts_taken_over (one_item 0x40 ∷ one_item 0x80 ∷ []) (one_item 0x40) []).first
         ≡ 0x40 }
@@ -141,8 +143,8 @@ pub fn bytes_are_filled()
     ensures sectors { length (whole_sectors (replicate 4097 7)) ≡ 8192 }
 {}
 
-/// A LOAD_MAP item stands at its first word in the block, whose start is that of the block in the
-/// window. An image without one has its place at 0.
+/// A LOAD_MAP item stands at its first word in the block, and the block at its start in the
+/// window. An image without a LOAD_MAP item has its place at 0.
 #[tactic(auto, unfolding(block_codec::specs::Items::size_of))]
 pub fn places_of_load_maps()
     ensures eleventh_word { map_place (record { block = full_block; def = full_def }) ≡ 44 }
@@ -150,7 +152,7 @@ pub fn places_of_load_maps()
 {}
 
 /// Without an ENTRY_POINT an image for Arm starts by the vector table at the window's start, or by
-/// the one that its VECTOR_TABLE names; an image for RISC-V starts at the window's start.
+/// the one that its VECTOR_TABLE names. An image for RISC-V starts at the window's start.
 pub fn starts_without_an_entry_point()
     ensures first { StartsBy Arm (def_with_rows None None []) table_bytes []
         (started_at 0x10000201 0x20082000 0) }
@@ -169,10 +171,10 @@ pub fn starts_without_an_entry_point()
         (started_at 0x10000201 0x20082000 0)) }
 {}
 
-/// The least image for Arm starts by the vector table at its start, unsealed as sealed. The
-/// premises of the law on that hold together: it is a valid image as it is, with a sector of 0xff
-/// behind it; it is sealed; its table lies in flash; and the one block of its loop is its
-/// definition, so that the link is outside the table.
+/// The minimal image for Arm starts by the vector table at its start, unsealed as sealed. The
+/// premises of the law on that hold together. It is a valid image as it is, with a sector of 0xff
+/// after it. It is sealed, and its table lies in flash. The one block of its loop is its
+/// definition, so the link is outside the table.
 pub fn the_least_image_starts_sealed_as_before()
     ensures unsealed { image_in in_flash (window_of_length 8192) Arm false zero_otp
         (whole_sectors least_image ++ erased_sector) ≡ Ok (table_record 8192 0x114 0 0) }
@@ -191,9 +193,9 @@ pub fn the_least_image_starts_sealed_as_before()
         × StartsAs (start_of (table_record 8192 0x114 0 0)) sealed.started }
 {}
 
-/// An image for Arm whose vector table is loaded into SRAM starts by it, unsealed as sealed. The
-/// premises of the law on that hold together too: it is a valid image as it is, it is sealed, its
-/// table is stored in it, and the link is outside the table.
+/// An image for Arm whose vector table is loaded into SRAM starts by that table, unsealed as
+/// sealed. The premises of the law on that hold together too: the image is valid as it is; it is
+/// sealed; its table is stored in it; and the link is outside the table.
 pub fn a_loaded_table_starts_sealed_as_before()
     ensures unsealed { image_in in_flash (window_of_length 8192) Arm false zero_otp
         (whole_sectors loaded_image ++ erased_sector) ≡ Ok (table_record 8192 8 0 0) }
@@ -211,8 +213,9 @@ pub fn a_loaded_table_starts_sealed_as_before()
         × StartsAs (start_of (table_record 8192 8 0 0)) sealed.started }
 {}
 
-/// A link word that begins where a vector table ends, or ends where it begins, is outside it; one
-/// that begins or ends a byte further in is not. A loaded table lies where it is stored.
+/// A link word that begins where a vector table ends, or ends where the table begins, is outside
+/// the table. A link word that begins or ends a byte further in is not. A loaded table lies where
+/// it is stored.
 pub fn links_beside_a_vector_table()
     ensures behind { LinkIsOutsideTable [] 0x10000000 8 }
     ensures last_byte { ¬ (LinkIsOutsideTable [] 0x10000000 7) }
@@ -224,8 +227,8 @@ pub fn links_beside_a_vector_table()
     ensures loaded_first_byte { ¬ (LinkIsOutsideTable (eight_bytes 0x20 ∷ []) 0x20000000 0x1d) }
 {}
 
-/// A loaded vector table is stored in the bytes up to its last one, and in no fewer; one that lies
-/// in flash without a load, in any.
+/// A loaded vector table is stored in the bytes up to its last one, and in no fewer. A table that
+/// lies in flash without a load is stored in any.
 pub fn tables_stored_in_a_binary()
     ensures all { TableIsStoredIn 0x28 (eight_bytes 0x20 ∷ []) 0x20000000 }
     ensures one_less { ¬ (TableIsStoredIn 0x27 (eight_bytes 0x20 ∷ []) 0x20000000) }

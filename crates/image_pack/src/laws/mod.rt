@@ -45,8 +45,8 @@ pub fn at_most_one_fault()
 {}
 
 /// A sealed image is valid, with trial images allowed, in each window of a flash that has 0xff
-/// behind it, for every OTP whose rows it is not below. Its record is the same but for the window,
-/// and its definition is the new block.
+/// after the image. This holds for every OTP whose rows the image is not below. Its record is the
+/// same but for the window, and its definition is the new block.
 pub fn a_sealed_image_is_valid_in_a_flash()
     ensures valid { (binary : List ℕ) (spec : SealSpec) (sealed : IsSealed binary spec)
         (c : Content) (w : Window) (f : List ℕ) → AreErased f
@@ -57,16 +57,20 @@ pub fn a_sealed_image_is_valid_in_a_flash()
         (w : Window) → (moved_to w sealed.started).block ≡ block_offset binary }
 {}
 
-/// In each window of a flash that has a sealed image with 0xff behind it, that is read back as the
-/// spec asks: its definition is the new block, has the spec's version, rollback version, rows and
-/// trial bit, and keeps the ENTRY_POINT of the binary's definition, or else its VECTOR_TABLE; its
-/// first load is all bytes before the new block, and the others are those of the binary that go
-/// into SRAM; the covered bytes begin with all bytes before the new block; and their SHA-256 is the
-/// value of the HASH_VALUE item. The record of the image there says what the spec asks for, and is
-/// not below its rows for exactly those OTPs that meet the spec's rollback rule. The image starts
-/// as the binary's definition says: by its ENTRY_POINT, and where it has none, for Arm by the
-/// vector table that its VECTOR_TABLE names, or else the one at the window's start, with the sealed
-/// image's loads. The window has no other definition, and that has no other loads.
+/// A window of a flash has a sealed image with 0xff after it. In each such window the image is
+/// read back as the spec asks:
+/// - Its definition is the new block. It has the spec's version, rollback version, rows and trial
+///   bit. It keeps the ENTRY_POINT of the binary's definition, or else its VECTOR_TABLE.
+/// - Its first load is all bytes before the new block. The other loads are those of the binary
+///   that go into SRAM.
+/// - The covered bytes begin with all bytes before the new block. Their SHA-256 is the value of
+///   the HASH_VALUE item.
+/// - The record of the image there says what the spec asks for. It is not below its rows for
+///   exactly those OTPs that meet the spec's rollback rule.
+/// - The image starts as the binary's definition says: by its ENTRY_POINT. Without an ENTRY_POINT,
+///   for Arm it starts by the vector table that its VECTOR_TABLE names, or else by the one at the
+///   window's start, with the sealed image's loads.
+/// - The window has no other definition, and the definition has no other loads.
 pub fn a_sealed_image_is_read_back()
     ensures image { (binary : List ℕ) (spec : SealSpec) → IsSealed binary spec
         → IsHalves spec.version → (f : List ℕ) → AreErased f
@@ -95,14 +99,15 @@ pub fn a_sealed_image_is_read_back()
         → (image ≡ back.image) × (loads ≡ back.loads) }
 {}
 
-/// A sealed image starts as its binary does: where the binary is itself a valid image in some
-/// window that has 0xff behind it, for some OTP, the sealed image has its PC, its SP and its limit,
-/// in each window; without an ENTRY_POINT that limit is 0. So it is without more where the binary's
-/// definition has an ENTRY_POINT, and for RISC-V. Where the start comes from a vector table, no
-/// byte of it may be one of the four of the link word that sealing rewrites; and where the table is
-/// loaded into SRAM, those of its bytes that a load stores have to come from the binary, not from
-/// the 0xff behind it, where the new block comes to stand. The link word is outside the table where
-/// the definition is the last block of the binary's loop, as it is in a loop of one block.
+/// A sealed image starts as its binary does. The binary is itself a valid image in some window
+/// that has 0xff after it, for some OTP. Then the sealed image has its PC, its SP and its limit,
+/// in each window. Without an ENTRY_POINT that limit is 0. This holds without more where the
+/// binary's definition has an ENTRY_POINT, and for RISC-V. Where the start comes from a vector
+/// table, no byte of the table may be one of the four of the link word that sealing rewrites.
+/// Where the table is loaded into SRAM, those of its bytes that a load stores have to come from
+/// the binary. They may not come from the 0xff after it, where the new block comes to stand. The
+/// link word is outside the table where the definition is the last block of the binary's loop, as
+/// it is in a loop of one block.
 pub fn a_sealed_image_starts_as_its_binary()
     ensures entry { (binary : List ℕ) (spec : SealSpec) (sealed : IsSealed binary spec)
         → IsHalves spec.version → (g : List ℕ) → AreErased g → (w : Window) (trial : Bool)
@@ -144,10 +149,11 @@ pub fn a_sealed_image_starts_as_its_binary()
         p.link_at }
 {}
 
-/// In each window of a flash that has a sealed image with 0xff behind it, each byte of the binary
-/// is as it was, but those of the link word that is rewritten. And at each address of SRAM the
+/// A window of a flash has a sealed image with 0xff after it. In each such window each byte of the
+/// binary is as it was, but those of the link word that is rewritten. At each address of SRAM the
 /// loads that are read back give the byte that the loads of the binary's own image give, or none
-/// where those give none, unless that byte is stored in the link word, or behind the binary.
+/// where those give none. This leaves out bytes that are stored in the link word, or after the
+/// binary.
 pub fn a_sealed_image_gives_the_bytes_of_its_binary()
     ensures flash { (binary : List ℕ) (spec : SealSpec) → IsSealed binary spec → (f : List ℕ)
         (p : Parts) → parts_in spec.cpu (whole_sectors binary) ≡ Ok p
@@ -166,9 +172,9 @@ pub fn a_sealed_image_gives_the_bytes_of_its_binary()
         ≡ byte_at flash_base (whole_sectors binary) own.loads address }
 {}
 
-/// Where the loads of the binary's own image are stored in the binary, filled to whole words, those
-/// that a sealed image takes over are the same, and it stores nothing past its end. The new block
-/// stands behind the binary, within the sealed image.
+/// The loads of the binary's own image are stored in the binary, filled to whole words. Then the
+/// loads that a sealed image takes over are the same, and the sealed image stores nothing past its
+/// end. The new block stands after the binary, within the sealed image.
 pub fn a_sealed_image_stores_nothing_past_its_end()
     ensures stored { (binary : List ℕ) (spec : SealSpec) (bytes : List ℕ)
         (back : IsReadBack binary spec bytes) (own : KeepsRules spec.cpu (whole_sectors binary))
@@ -182,10 +188,10 @@ pub fn a_sealed_image_stores_nothing_past_its_end()
         → block_offset binary ≤ length (sealed_text binary spec) }
 {}
 
-/// A binary cannot be sealed for a reason exactly where that is the answer of the first of the
-/// rules of a valid image, those from the first block to the items and the one on the load map,
-/// that the binary fails, filled with 0xff to whole sectors; otherwise it keeps them all; and one
-/// of these is so, once.
+/// The rules here are those of a valid image from the first block to the items, and the one on the
+/// load map. The binary is filled with 0xff to whole sectors. It cannot be sealed for a reason
+/// exactly where that is the answer of the first of these rules that it fails. Otherwise it keeps
+/// all of them. Exactly one of these cases holds.
 pub fn why_a_binary_cannot_be_sealed()
     ensures fault { (binary : List ℕ) (spec : SealSpec) (why : Why)
         → IsSealFault binary spec (Unsealable why)
@@ -202,7 +208,7 @@ pub fn why_a_binary_cannot_be_sealed()
 {}
 
 /// The bytes before the new block are the binary's, but for the link word of the last block of its
-/// loop, which leads from that block to their end. That word lies within the binary.
+/// loop. This word leads from that block to the end of these bytes, and lies within the binary.
 pub fn the_binary_stays_but_for_one_link()
     ensures within { (binary : List ℕ) (cpu : Cpu) (p : Parts) → length binary ≤ MOST_FLASH_BYTES
         → parts_in cpu (whole_sectors binary) ≡ Ok p

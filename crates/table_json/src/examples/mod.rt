@@ -168,7 +168,7 @@ pub fn permissions_are_read()
         ≡ Some (Ok (plain_partition 0xfc000000 0xfc000000)) }
 {}
 
-/// A partition says the permissions in both its words, and the bits 20 to 25 of its flag word say
+/// A partition says the permissions in both its words. The bits 20 to 25 of its flag word say
 /// nothing.
 pub fn words_of_partitions()
     ensures another { (i : ℕ) (d : Data)
@@ -243,7 +243,7 @@ pub fn partitions_are_counted()
         ≡ Some (Err (JsonFault.Missing (Place.Partition 1) Field.First)) }
 {}
 
-/// A member of another object is not listed, nor is one of another tool's text; an object has no
+/// A member of another object is not listed, nor is one of another tool's text. An object has no
 /// more members than those that the other examples give it. No family is named `rp2350-arm`.
 pub fn members_belong_to_their_objects()
     ensures table_id { table_said (codes "{\"id\":1,\"unpartitioned\":{" ++ all_rights
@@ -355,7 +355,7 @@ pub fn sizes_are_judged()
         ≡ Some (Err (JsonFault.TooLong 644)) }
 {}
 
-/// The faults of the whole table, in a flash of 4096 sectors of which two are not free.
+/// The faults of the whole table, in a flash of 4096 sectors; two of them are not free.
 pub fn faults_are_those_of_tables()
     ensures overlap { table_said (table_of_parts (part (codes "2") (codes "31") [] ++ codes ","
         ++ part (codes "31") (codes "61") []))

@@ -25,16 +25,16 @@ pub fn texts_have_one_value()
     ensures { (bytes : List ℕ) (d e : Data) → IsJsonText bytes d → IsJsonText bytes e → d ≡ e }
 {}
 
-/// What is said of a value's objects is the fault of the first rule that it breaks, in the order of
-/// the rules; and it has none exactly where no rule is broken.
+/// The fault of a value's objects is that of the first rule that the value breaks, in the order of
+/// the rules. There is no fault exactly where no rule is broken.
 pub fn faults_are_the_first()
     ensures table { (d : Data) → result_err (table_fields d) ≡ first_broken (table_rules d) }
     ensures spec { (d : Data) → result_err (spec_from d) ≡ first_broken (spec_rules d) }
     ensures otp { (d : Data) → result_err (otp_from d) ≡ first_broken (otp_rules d) }
 {}
 
-/// The answer NotJson tells of the text alone, and Memory of the memory alone: no value is answered
-/// so.
+/// The answer NotJson is about the text alone, and Memory about the memory alone: no value has
+/// such an answer.
 pub fn values_are_json()
     ensures table { (d : Data) → table_of_value d ≢ Err JsonFault.NotJson }
     ensures table_memory { (d : Data) → table_of_value d ≢ Err JsonFault.Memory }
@@ -44,14 +44,14 @@ pub fn values_are_json()
     ensures otp_memory { (d : Data) → otp_from d ≢ Err JsonFault.Memory }
 {}
 
-/// Each partition that is read of a text says by its fields what the text says by its members, and
+/// Each partition that is read of a text says by its fields what the text says by its members. It
 /// has the text's permissions in both its words.
 pub fn partitions_say_their_texts()
     ensures { (i : ℕ) (d : Data) (p : Partition) → partition_of_value i d ≡ Ok p → SaysText i d p }
 {}
 
-/// The table of a text is never answered with a bad item, with two sets of permissions in one
-/// partition, or with a wrong hash.
+/// Three faults never come for the table of a text: a bad item, two sets of permissions in one
+/// partition, and a wrong hash.
 pub fn table_faults_are_few()
     ensures items { (d : Data) → table_of_value d ≢ Err (JsonFault.Table TableFault.BadItem) }
     ensures permissions { (d : Data) (i : ℕ)
@@ -60,9 +60,9 @@ pub fn table_faults_are_few()
 {}
 
 /// Where a value's fields say a table, its answer is TooLong exactly where the table's block has
-/// more than 640 bytes. Else, where the table's words, ids, families and names are in their ranges,
-/// its answer is exactly what reading the block that is written for it answers, in a flash of 4096
-/// sectors of which the first two are not free.
+/// more than 640 bytes. Else, where the table's words, ids, families and names are in their
+/// ranges, its answer is exactly that of reading the block that is written for the table. The
+/// flash has 4096 sectors, and the first two are not free.
 pub fn whole_tables_are_judged_as_they_are_read()
     ensures too_long { (d : Data) (t : Table) (size : ℕ) → table_fields d ≡ Ok t
         → (table_of_value d ≡ Err (JsonFault.TooLong size))
@@ -81,7 +81,7 @@ pub fn specs_have_half_words()
     ensures { (d : Data) (spec : SealSpec) → spec_from d ≡ Ok spec → IsHalves spec.version }
 {}
 
-/// The slot size of an OTP is 4096 times a power of two, at most 8,388,608, and a row that may be
+/// The slot size of an OTP is 4096 times a power of two, at most 8,388,608. A row that may be
 /// listed is one from 0x0c0 to 0xeff.
 pub fn sizes_and_rows_of_otps()
     ensures size { (size k : ℕ) → (exponent_of size ≡ Some k) ↔ ((k ≤ 11) × (size ≡ 4096 * 2 ^ k)) }
@@ -89,8 +89,8 @@ pub fn sizes_and_rows_of_otps()
         ↔ ((0x0c0 ≤ row) × (row ≤ 0xeff) × (row ≡ r)) }
 {}
 
-/// The OTP of a text is sound: its slot size is one of these, and it lists at most 4096 pairs, each
-/// of a row that may be listed and a value of 24 bits.
+/// The OTP of a text is sound: its slot size is one of these, and it lists at most 4096 pairs.
+/// Each pair has a row that may be listed and a value of 24 bits.
 pub fn otps_of_texts_are_sound()
     ensures { (d : Data) (spec : OtpView) → otp_from d ≡ Ok spec → IsSound spec }
 {}
