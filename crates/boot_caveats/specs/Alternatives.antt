@@ -1,4 +1,5 @@
--- Six decisions by other rules than those of Chosen, each of which the chip may have instead.
+-- Six decisions by other rules than those of Chosen. The chip may have each of these rules
+-- instead.
 use Rattle.std.specs.Prelude.{◌≢◌, ◌⊎◌, ℕ, zero, suc, ◌+◌, ◌-◌, ◌/◌, ◌*◌, ◌&&◌, nat_le, Bool, false, if◌then◌else◌, List, [], ◌∷◌, length, drop, find, reverse, slice_get, Option, Some, None, option_map, Result, Ok, Err}
 use Rattle.std.specs.List.{list_any}
 use Rattle.std.specs.Option.{option_map_or, option_or}
@@ -49,16 +50,16 @@ use Rattle.boot_caveats.specs.ChoiceCaveats.{other_cpu}
 use Rattle.boot_caveats.specs.ChoiceRules.{IsTableless}
 use Rattle.boot_caveats.specs.ImageCaveats.{ends_late}
 
--- ---- other-processor: where no image starts, the boot decides again for the other processor, with
--- the same kind and that processor's units
+-- ---- other-processor: where no image starts, the boot decides again for the other processor,
+-- with the same kind and that processor's units
 
 abbrev pub ChosenOfBoth : Content → Cpu → BootKind → Decision → Type 0
 ChosenOfBoth c cpu kind d =
     (Chosen c cpu kind d × (d ≢ Bootsel NoImage))
     ⊎ (Chosen c cpu kind (Bootsel NoImage) × Chosen c (other_cpu cpu) kind d)
 
--- ---- slot-1-image: where no image starts, there is no table and the slot size is the smallest,
--- the two slots are a pair, with trial not allowed
+-- ---- slot-1-image: the two slots are a pair, with trial not allowed, where no image starts,
+-- there is no table and the slot size is the smallest
 
 abbrev pub slots_alone : Order
 slots_alone = record { units = slot_pair SMALLEST_SLOT ∷ []; updated = None }
@@ -99,7 +100,7 @@ decision_last c cpu kind =
     (choose_last (images_in c cpu) (order_of kind (boot_units_in c cpu)))
 
 -- ---- update-moves-unit: an update boot leaves the units in table order; the updated member's
--- image is still taken before the other one's of its unit, and it alone may be a trial
+-- image is still taken before the other image of its unit, and it alone may be a trial
 
 abbrev pub unmoved_from : (Window → Bool → Option Started) → ℕ → List SlotUnit → Option Choice
 unmoved_from images start [] = None
@@ -165,8 +166,8 @@ decision_typed c cpu kind =
     reported_decision kind (flash_off c.otp)
     (choose (images_by loop_of (suits_first cpu) c cpu) (order_of kind (boot_units_in c cpu)))
 
--- ---- first-block: a first block counts only where it ends within 4096 bytes, so that a later one
--- may be the first; that is so of the table slots as well
+-- ---- first-block: a first block counts only where it ends within 4096 bytes, so a later block
+-- may be the first; this holds for the table slots too
 
 unfoldable pub early_from : ℕ → ℕ → List ℕ → Option BlockView
 early_from zero x bytes = None

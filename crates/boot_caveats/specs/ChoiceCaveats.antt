@@ -1,4 +1,4 @@
--- Where the choice of a boot rests on a rule that the chip may have otherwise, as functions.
+-- Where the choice of a boot depends on a rule that the chip may have otherwise, as functions.
 use Rattle.std.specs.Prelude.{ℕ, ◌+◌, ◌-◌, ◌==◌, ◌&&◌, ◌||◌, nat_le, Bool, true, false, if◌then◌else◌, List, [], ◌++◌, find, is_some, position, slice_get, Option, Some, None, option_map, option_and_then, option_to_list, is_ok}
 use Rattle.std.specs.Option.{option_map_or}
 use Rattle.pico_board.specs.declared.boot.Cpu.{Cpu}
@@ -59,8 +59,8 @@ has_normal_image c cpu w = is_ok (image_at c w cpu false)
 abbrev pub has_typed_first : Content → Window → Bool
 has_typed_first c w = option_map_or has_image_type (first_block (window_bytes c w)) false
 
--- without a table, and with slots of the smallest size: no image starts, and slot 0 has one; slot 1
--- has one then, or its first block has an IMAGE_TYPE item
+-- without a table, and with slots of the smallest size: no image starts, and slot 0 has an image;
+-- no image starts, and slot 1 has one, or its first block has an IMAGE_TYPE item
 abbrev pub first_slot_image : Content → Cpu → Decision → Option Caveat
 first_slot_image c cpu d =
     let w = slot_window SMALLEST_SLOT 0 in
@@ -114,7 +114,7 @@ update_of_slot (Update base) size None = None
 update_of_slot (Update base) size (Some taken) =
     caveat_if (is_slot_address size base) (UpdateOfSlot base)
 
--- the partition of the A of the unit at a place, where it is not the first one
+-- the partition of the A of the unit at a place, where the unit is not the first one
 abbrev pub moved_part : List SlotUnit → ℕ → Option ℕ
 moved_part us k =
     if k == 0 then None else option_and_then (λ (u : SlotUnit). u.a_part) (slice_get us k)

@@ -1,5 +1,4 @@
--- Where the choice of a boot rests on a rule that the chip may have otherwise, in the words of the
--- rules.
+-- Where the choice of a boot depends on a rule that the chip may have otherwise, as rules.
 use Rattle.std.specs.Prelude.{◌≡◌, ◌≢◌, ◌⊎◌, ℕ, ◌+◌, true, false, List, [], length, Some}
 use Rattle.pico_board.specs.declared.boot.Cpu.{Cpu}
 use Rattle.pico_board.specs.declared.boot.BootKind.{BootKind}
@@ -36,8 +35,8 @@ use Rattle.boot_caveats.specs.ChoiceCaveats.{other_cpu, takes_image}
 abbrev pub StartsIn : Decision → Window → Type 0
 StartsIn d w = (choice : Choice) × (d ≡ Start choice) × (choice.image.window ≡ w)
 
--- the decision is that no image starts, and the decision of the same kind for the other processor
--- is a start of the image of a window
+-- the decision is that no image starts; the decision of the same kind for the other processor is a
+-- start of the image of a window
 abbrev pub IsOtherProcessor : Content → Cpu → BootKind → Decision → List Caveat → Type 0
 IsOtherProcessor c cpu kind d =
     IsOfOne
@@ -75,8 +74,8 @@ IsSecondSlotImage c cpu d =
 abbrev pub AreSlotImages : Content → Cpu → Decision → List Caveat → Type 0
 AreSlotImages c cpu d = AreBoth (IsFirstSlotImage c cpu d) (IsSecondSlotImage c cpu d)
 
--- the first unit that takes an image takes that of a window because of a tie; the other member's
--- window is the second one
+-- the first unit that takes an image takes that of a window because of a tie; `other` is the other
+-- member's window
 pub record IsTiedPair (looks : List UnitReport) (w other : Window) : Type 0 where
   pub look : UnitReport
   pub taken : TakenImage
@@ -99,8 +98,8 @@ IsUpdateOfSlot c kind =
     × ((base ≡ flash_base) ⊎ (base ≡ flash_base + slot_size c.otp (length c.flash))))
     UpdateOfSlot
 
--- an update of an address moves the unit of a partition to the front: it is that of the updated
--- member, and others stand before it
+-- an update of an address moves the unit of a partition to the front: the unit is that of the
+-- updated member, and others stand before it
 pub record IsMovedPart (us : List SlotUnit) (base part : ℕ) : Type 0 where
   pub member : Member
   pub unit : SlotUnit

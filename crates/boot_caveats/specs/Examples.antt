@@ -20,7 +20,7 @@ use Rattle.boot_reasons.specs.declared.looks.UnitReport.{UnitReport}
 use Rattle.boot_reasons.specs.declared.looks.TakenImage.{TakenImage}
 use Rattle.boot_reasons.specs.declared.looks.UnitReason.{UnitReason}
 
--- rows that hold these values from a row on, behind rows of 0
+-- rows that hold these values from a row on, after rows of 0
 abbrev pub otp_from : ℕ → List ℕ → List ℕ
 otp_from row values = replicate row 0 ++ values
 
@@ -53,7 +53,7 @@ first_pair = pair_unit first 0 second 1
 abbrev pub lone_third : SlotUnit
 lone_third = lone_unit third 2
 
--- the report on the pair, whose members' images are taken or not
+-- the report on the pair; the images of its members are taken or not
 abbrev pub taken_by : Member → Window → UnitReason → Option TakenImage
 taken_by m w because = Some (record { member = m; window = w; because = because })
 

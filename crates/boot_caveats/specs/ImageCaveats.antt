@@ -52,7 +52,7 @@ read_windows size looks = slot_window size 0 ∷ slot_window size 1 ∷ looked_w
 abbrev pub is_window : Window → Window → Bool
 is_window w v = v.start == w.start && v.len == w.len
 
--- the windows each where it first stands, but for those that stand before
+-- the windows, each where it first stands; those that stand in `before` are left out
 abbrev pub first_places : List Window → List Window → List Window
 first_places before [] = []
 first_places before (w ∷ ws) =
@@ -66,7 +66,7 @@ reads_blocks (Bootsel Requested) = false
 reads_blocks (Bootsel FlashOff) = false
 reads_blocks (Bootsel NoImage) = true
 
--- the first block of a window ends behind its first 4096 bytes
+-- the first block of a window ends after the window's first 4096 bytes
 abbrev pub ends_late : BlockView → Bool
 ends_late b = nat_lt SMALLEST_SLOT (b.at + block_size b)
 
@@ -125,7 +125,7 @@ abbrev pub may_start : Window → Result Started Why → Option Caveat
 may_start w (Ok s) = None
 may_start w (Err why) = caveat_if (is_doubtful why) (MayStart w why)
 
--- the second member's image does, where there is a second member
+-- the second member's image fails such a rule, where there is a second member
 abbrev pub second_may_start : Option Window → Option (Result Started Why) → Option Caveat
 second_may_start None image = None
 second_may_start (Some w) None = None

@@ -1,5 +1,4 @@
--- What is to be looked up of the windows that a boot looks at, and of owned partitions, in the
--- words of the rules.
+-- What is to be looked up of the windows that a boot looks at, and of owned partitions, as rules.
 use Rattle.std.specs.Prelude.{◌≡◌, ◌⊎◌, ℕ, ◌+◌, ◌<◌, false, true, List, [], ◌∷◌, ◌++◌, Contains, slice_get, Option, Some, None, Result, Err}
 use Rattle.pico_board.specs.declared.boot.Cpu.{Cpu}
 use Rattle.pico_board.specs.declared.window.Window.{Window}
@@ -48,13 +47,13 @@ AreFirstPlaces {X} before (x ∷ xs) ys =
 abbrev pub ReadsBlocks : Decision → Type 0
 ReadsBlocks d = ((choice : Choice) × (d ≡ Start choice)) ⊎ (d ≡ Bootsel NoImage)
 
--- the first block of a window ends behind its first 4096 bytes
+-- the first block of a window ends after the window's first 4096 bytes
 abbrev pub HasLateFirst : Content → Window → Type 0
 HasLateFirst c w =
     (b : BlockView) × IsFirstBlock (window_bytes c w) b × (SMALLEST_SLOT < b.at + block_size b)
 
--- where the decision is one of these: each table slot, and each window of a member of a unit that
--- is looked at, and no window twice
+-- where the decision is a start, or that no image starts: each table slot, and each window of a
+-- member of a unit that is looked at; no window comes twice
 abbrev pub AreLateFirsts : Content → Decision → ℕ → List UnitReport → List Caveat → Type 0
 AreLateFirsts c d size looks list =
     (ReadsBlocks d
@@ -86,7 +85,7 @@ pub data IsDoubtful : Why → Type 0 where
   entry : (fault : EntryFault) → IsDoubtful (Entry fault)
   delta : IsDoubtful Delta
 
--- a member has no image that counts, by such a rule
+-- by such a rule a member has no image that counts
 abbrev pub IsMayStart : Window → Result Started Why → List Caveat → Type 0
 IsMayStart w image = IsOfOne (λ why. (image ≡ Err why) × IsDoubtful why) (MayStart w)
 

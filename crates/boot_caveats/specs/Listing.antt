@@ -1,4 +1,4 @@
--- How lists of caveats are told by conditions, in the order of the conditions.
+-- How conditions make lists of caveats, in the order of the conditions.
 use Rattle.std.specs.Prelude.{◌≡◌, ◌⊎◌, Bool, true, false, List, [], ◌∷◌, ◌++◌, Option, Some, None}
 use Rattle.std.specs.List.{AllByRecursion}
 use Rattle.boot_caveats.specs.declared.caveat.Caveat.{Caveat}
@@ -17,7 +17,7 @@ abbrev pub IsOfOne : {X : Type 0} → (X → Type 0) → (X → Caveat) → List
 IsOfOne {X} P told list =
     ((x : X) × P x × (list ≡ told x ∷ [])) ⊎ (((x : X) → P x → ⊥) × (list ≡ []))
 
--- a list, and behind it another one
+-- a list, and after it another one
 abbrev pub AreBoth : (List Caveat → Type 0) → (List Caveat → Type 0) → List Caveat → Type 0
 AreBoth P Q list =
     (first : List Caveat) × (second : List Caveat) × P first × Q second × (list ≡ first ++ second)

@@ -20,8 +20,8 @@ has_lowest_bit otp row = slice_index otp row % 2 == 1
 abbrev pub secure_boot : List ℕ → Option Caveat
 secure_boot otp = caveat_if (nat_le 3 (count_by (has_lowest_bit otp) secure_rows)) SecureBoot
 
--- the bits of a row of the boot flags that are not read: other than bits 0 and 1 of the first row,
--- and all of its two copies (RP2350 Datasheet, chapter 13, OTP, BOOT_FLAGS0)
+-- the bits of a row of the boot flags that are not read: in the first row all but bits 0 and 1; in
+-- its two copies all (RP2350 Datasheet, chapter 13, OTP, BOOT_FLAGS0)
 abbrev pub raw_bits : List ℕ → ℕ → ℕ
 raw_bits otp row =
     if row == BOOT_FLAGS then 4 * (slice_index otp row / 4) else slice_index otp row
@@ -29,7 +29,7 @@ raw_bits otp row =
 abbrev pub raw_flags : List ℕ → ℕ → Option Caveat
 raw_flags otp row = caveat_if (not (raw_bits otp row == 0)) (RawFlags row (raw_bits otp row))
 
--- the bits of the row of the slot size that are not read: other than bits 0 to 3
+-- the bits of the row of the slot size that are not read: all but bits 0 to 3
 abbrev pub raw_size_bits : List ℕ → ℕ
 raw_size_bits otp = 16 * (slice_index otp SLOT_SIZE_ROW / 16)
 

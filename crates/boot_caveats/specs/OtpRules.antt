@@ -1,4 +1,4 @@
--- What the OTP says that the model does not read, in the words of the rules.
+-- What the OTP says that the model does not read, as rules.
 use Rattle.std.specs.Prelude.{◌≢◌, ℕ, ◌+◌, ◌≤◌, List, count_by}
 use Rattle.otp_roll.specs.declared.flags.TheConstants.{BOOT_FLAGS}
 use Rattle.boot_caveats.specs.declared.caveat.Caveat.{Caveat}

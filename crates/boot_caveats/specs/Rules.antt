@@ -1,4 +1,4 @@
--- The caveats of a boot's answer, in their order, in the words of the rules.
+-- The caveats of a boot's answer, in their order, as rules.
 use Rattle.std.specs.Prelude.{List, length}
 use Rattle.pico_board.specs.declared.boot.Cpu.{Cpu}
 use Rattle.pico_board.specs.declared.boot.BootKind.{BootKind}
@@ -40,8 +40,8 @@ AreWindowCaveats c cpu r =
     (AreBoth (AreOwnedImages c cpu (table_of_reasons r))
     (AreBoth (AreUnread (table_of_reasons r)) (IsTableTie r.first r.second)))))
 
--- the caveats of the answer of a boot, whose reasons are those that the rules name: decision,
--- slots, table of the flash, and units that are looked at
+-- the caveats of the answer of a boot; its reasons are those that the rules name: decision, slots,
+-- table of the flash, and units that are looked at
 pub record AreCaveats (c : Content) (cpu : Cpu) (kind : BootKind)
     (list : List Caveat) : Type 0 where
   pub reasons : Reasons

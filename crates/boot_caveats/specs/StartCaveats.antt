@@ -31,7 +31,8 @@ abbrev pub is_full : Option ℕ → ℕ → Bool
 is_full None count = false
 is_full (Some version) count = version == 24 * count
 
--- a value of a row, which has 24 bits, is one less than a power of two, from this one on
+-- a value of a row, which has 24 bits, is one less than a power of two; the exponent is at least
+-- `first`
 unfoldable pub is_filled_from : ℕ → ℕ → Bool
 is_filled_from value first = list_any (λ k. value + 1 == 2 ^ k) (range_with_len first (25 - first))
 

@@ -1,4 +1,4 @@
--- What is to be looked up of the image that a boot starts, in the words of the rules.
+-- What is to be looked up of the image that a boot starts, as rules.
 use Rattle.std.specs.Prelude.{◌≡◌, ◌≢◌, ℕ, ◌+◌, ◌*◌, ◌^◌, ◌≤◌, List, [], ◌∷◌, ◌++◌, length, Some}
 use Rattle.std.specs.List.{AllByRecursion}
 use Rattle.pico_board.specs.declared.window.Window.{Window}
@@ -16,7 +16,7 @@ use Rattle.boot_caveats.specs.declared.caveat.Caveat.TheVariants.{TableInImage, 
 use Rattle.boot_caveats.specs.Listing.{AreBoth, IsFirstWith, IsOfOne}
 use Rattle.boot_caveats.specs.ChoiceRules.{StartsIn}
 
--- a block of the loop of a window has a PARTITION_TABLE item, and the first one in loop order
+-- a block of the loop of a window has a PARTITION_TABLE item; the first such block in loop order
 -- stands at this offset
 pub record HasTableAt (bytes : List ℕ) (at : ℕ) : Type 0 where
   pub loop : List BlockView
@@ -39,23 +39,24 @@ pub record StartsWithRows (d : Decision) (s : Started) : Type 0 where
   pub image : choice.image ≡ s
   pub lists : s.rows.items ≢ []
 
--- it is such a start in a window
+-- the decision is such a start in a window
 abbrev pub IsRollbackRows : Decision → List Caveat → Type 0
 IsRollbackRows d =
     IsOfOne (λ w. (s : Started) × StartsWithRows d s × (s.window ≡ w)) RollbackRows
 
--- it is such a start, and the image's rollback version is 24 times the number of its rows
+-- the decision is such a start, and the image's rollback version is 24 times the number of its
+-- rows
 abbrev pub IsRollbackFull : Decision → List Caveat → Type 0
 IsRollbackFull d =
     IsOfOne
     (λ w. (s : Started) × StartsWithRows d s × (s.rollback ≡ Some (24 * length s.rows.items))
     × (s.window ≡ w)) RollbackFull
 
--- the majority of a row and the two after it, which has 24 bits, is one less than a power of two
+-- the majority of a row and the two after it is one less than a power of two; it has 24 bits
 abbrev pub IsFilled : List ℕ → ℕ → Type 0
 IsFilled otp row = (k : ℕ) × (k ≤ 24) × (majority otp row + 1 ≡ 2 ^ k)
 
--- it is the first row, in listed order, whose majority is not one less than a power of two
+-- the row is the first, in listed order, whose majority is not one less than a power of two
 pub record IsFirstGap (otp rows : List ℕ) (row : ℕ) : Type 0 where
   pub before : List ℕ
   pub behind : List ℕ
@@ -63,7 +64,7 @@ pub record IsFirstGap (otp rows : List ℕ) (row : ℕ) : Type 0 where
   pub here : IsFilled otp row → ⊥
   pub earlier : AllByRecursion (λ r. IsFilled otp r) before
 
--- it is such a start, and this is the first such row
+-- the decision is such a start, and this is the first such row
 abbrev pub IsRollbackGap : List ℕ → Decision → List Caveat → Type 0
 IsRollbackGap otp d =
     IsOfOne (λ row. (s : Started) × StartsWithRows d s × IsFirstGap otp s.rows.items row)

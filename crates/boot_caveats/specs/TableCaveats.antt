@@ -28,13 +28,13 @@ range_of (Err (Loop fault)) = None
 range_of (Err NoTable) = None
 range_of (Err (Faulty fault)) = range_in fault
 
--- a slot's table has a partition that leaves a flash of n bytes, which is shorter than 16 MiB
+-- a slot's table has a partition that leaves a flash of n bytes; the flash is shorter than 16 MiB
 abbrev pub short_flash : ℕ → ℕ → Result Table SlotFault → Option Caveat
 short_flash n number answer =
     if nat_lt n MOST_FLASH_BYTES then option_map (ShortFlash number) (range_of answer) else None
 
--- the bits of an unpartitioned word that are not read: those of the families but the absolute one,
--- bits 14 and 16 to 19
+-- the bits of an unpartitioned word that are not read: bits 14 and 16 to 19, those of the families
+-- but the absolute one
 abbrev pub unread_families : ℕ → ℕ
 unread_families word = 2 ^ 14 * (word / 2 ^ 14 % 2) + 2 ^ 16 * (word / 2 ^ 16 % 2 ^ 4)
 
@@ -84,7 +84,7 @@ is_same_table t u =
     is_same_version t.version u.version && is_same_flag t.singleton u.singleton
     && t.unpartitioned == u.unpartitioned && pointwise is_same_part t.parts.items u.parts.items
 
--- of two tables of one version, of which the first is no singleton, the other one differs
+-- two tables of one version differ, and the first is no singleton
 abbrev pub are_tied : Table → Table → Bool
 are_tied t u =
     not t.singleton && is_same_version t.version u.version && not (is_same_table t u)

@@ -1,5 +1,4 @@
--- What the tables of the slots say that the model does not read or judges otherwise, in the words
--- of the rules.
+-- What the tables of the slots say that the model does not read or judges otherwise, as rules.
 use Rattle.std.specs.Prelude.{◌≡◌, ◌≢◌, ◌⊎◌, ℕ, ◌<◌, true, false, List, [], length, Option, Some, Result, Ok, Err}
 use Rattle.std.specs.List.{range_with_len}
 use Rattle.pico_board.specs.declared.window.TheConstants.{MOST_FLASH_BYTES}
@@ -15,14 +14,14 @@ use Rattle.boot_caveats.specs.declared.caveat.Caveat.TheVariants.{ShortFlash, Un
 use Rattle.boot_caveats.specs.Listing.{AreBoth, AreOfEach, IsOfOne, IsWhere}
 use Rattle.boot_caveats.specs.TableCaveats.{unread_families}
 
--- the last block with a PARTITION_TABLE item of a slot has the fault Range(i), and the flash, of n
+-- the last block with a PARTITION_TABLE item of a slot has the fault Range(i); the flash, of n
 -- bytes, is shorter than 16 MiB
 abbrev pub IsShortFlash : ℕ → ℕ → Result Table SlotFault → List Caveat → Type 0
 IsShortFlash n number answer =
     IsOfOne (λ i. (answer ≡ Err (Faulty (Range i))) × (n < MOST_FLASH_BYTES)) (ShortFlash number)
 
--- there is a table, and its unpartitioned word has a bit of 14 to 19 other than that of the
--- absolute family
+-- there is a table; its unpartitioned word has a bit of 14 to 19 other than that of the absolute
+-- family
 abbrev pub IsUnreadTargets : Option Table → List Caveat → Type 0
 IsUnreadTargets table =
     IsOfOne

@@ -7,7 +7,7 @@ use pico_board::Window;
 use std::alloc::{AllocError, Global};
 
 /// A point of a boot's answer at which the chip may decide otherwise. The variants stand in the
-/// order in which they are told.
+/// order in which they are printed.
 #[derive(Clone, Copy, Debug, PartialEq, Eq)]
 pub enum Caveat {
     /// The OTP asks for secure boot.
@@ -16,17 +16,18 @@ pub enum Caveat {
     RawFlags(u16, u32),
     /// The row of the slot size has these bits, which are not read.
     RawSlotSize(u32),
-    /// The table of this slot is faulty, since this partition leaves a flash that is shorter than
-    /// 16 MiB.
+    /// The table of this slot is faulty, since this partition leaves the flash. The flash is
+    /// shorter than 16 MiB.
     ShortFlash(u32, u32),
-    /// The loop of the image that starts in this window has a PARTITION_TABLE item, in the block at
-    /// this offset.
+    /// The loop of the image that starts in this window has a PARTITION_TABLE item, in the block
+    /// at this offset.
     TableInImage(Window, u32),
-    /// No image starts, and one in this window would for the other processor.
+    /// No image starts; for the other processor one in this window would start.
     OtherProcessor(Window),
     /// This slot of a flash without a table may have an image.
     SlotImage(Window),
-    /// The image in the first window is taken of two of one version; the other is in the second.
+    /// Of two images of one version the one in the first window is taken. The other is in the
+    /// second window.
     Tie(Window, Window),
     /// The update boot's address is that of a table slot.
     UpdateOfSlot(u32),
@@ -38,7 +39,7 @@ pub enum Caveat {
     RollbackFull(Window),
     /// In the majority of this row and the two after it a raised bit stands above a clear one.
     RollbackGap(u16),
-    /// The first block of this window ends behind the window's first 4096 bytes.
+    /// The first block of this window ends after the window's first 4096 bytes.
     FirstBlock(Window),
     /// The definition of this window does not begin with its IMAGE_TYPE item.
     ItemOrder(Window),
@@ -48,7 +49,7 @@ pub enum Caveat {
     OwnedImage(u32),
     /// The table's unpartitioned word has these family bits, which are not read.
     UnreadTargets(u32),
-    /// Flag bit 11 of this partition is set, which is not read.
+    /// Flag bit 11 of this partition is set. This bit is not read.
     UnreadSide(u32),
     /// The two slots have different tables of one version.
     TableTie,

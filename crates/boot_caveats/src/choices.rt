@@ -1,4 +1,4 @@
-//! Where the choice of a boot rests on a rule that the chip may have otherwise.
+//! Where the choice of a boot depends on a rule that the chip may have otherwise.
 
 ghost use Rattle.std.specs.Prelude.{◌≡◌, ◌+◌, ◌-◌, ◌<◌, ◌≤◌, ◌++◌, IfSome, IsTrue, OnOk, length, position, slice_get, option_and_then};
 ghost use Rattle.sector_pool.specs.Keeping.{KeepsOut};
@@ -276,8 +276,8 @@ fn unit_at(units: &[SlotUnit], start: u32) -> Option<usize>
     units.iter().position(|unit| has_member_at(start, unit))
 }
 
-/// The partition of the A of the first unit that has a member at this offset, where it is not the
-/// first of all.
+/// The partition of the A of the first unit that has a member at this offset, where the unit is
+/// not the first of all.
 fn moved_from(units: &[SlotUnit], start: u32) -> Option<u32>
     ensures { result
         ≡ option_and_then (moved_part units.now) (position (has_member_at start) units.now) }

@@ -72,8 +72,8 @@ fn add_choice<B: Board>(
     add_rows(board, decision, list)
 }
 
-/// Adds the caveats of the windows that are looked at, of owned partitions, and of what is not read
-/// of tables.
+/// Adds the caveats of the windows that are looked at, of owned partitions, and of what is not
+/// read of tables.
 fn add_windows<B: Board>(
     board: &B,
     pool: &mut SectorPool,
@@ -122,9 +122,9 @@ pub fn caveats_by<B: Board>(
     Ok(list)
 }
 
-/// The caveats of the answer of a boot: each point of this very answer at which the chip may decide
-/// otherwise, in the order of the variants. It fails only where memory is out, and the pool keeps
-/// what is out.
+/// The caveats of the answer of a boot: each point of this very answer at which the chip may
+/// decide otherwise, in the order of the variants. It fails only where memory is out, and the pool
+/// keeps what is out.
 pub fn caveats_of<B: Board>(
     alloc: Global,
     board: &B,

@@ -25,8 +25,8 @@ use sector_pool::SectorPool;
 use slot_choice::SlotUnit;
 use std::alloc::AllocError;
 
-/// The table slots, and the windows of the members of the units that are looked at, in the order of
-/// looking.
+/// The table slots, and the windows of the members of the units that are looked at, in the order
+/// of looking.
 fn read_windows(size: u32, looks: &[UnitReport]) -> ArrayVec<Window, 32>
     requires few { length looks.now ≤ 15 }
     ensures value { result.items ≡ read_windows size looks.now }
@@ -57,7 +57,7 @@ fn has_window(windows: &[Window], window: Window) -> bool
     windows.iter().any(|other| other.start == window.start && other.len == window.len)
 }
 
-/// The windows each where it first stands.
+/// The windows, each where it first stands.
 fn first_places(windows: &[Window]) -> ArrayVec<Window, 32>
     requires few { length windows.now ≤ 32 }
     ensures value { result.items ≡ first_places [] windows.now }
@@ -81,7 +81,7 @@ fn reads_blocks(decision: &Decision) -> bool
     }
 }
 
-/// The first block of a window ends behind its first 4096 bytes.
+/// The first block of a window ends after the window's first 4096 bytes.
 fn late_first<B: Board>(board: &B, window: Window) -> Option<Caveat>
     requires power { IsTrue (B.state board.now).powered }
     requires inside { IsInside (length (B.state board.now).content.flash) window }
@@ -95,7 +95,7 @@ fn late_first<B: Board>(board: &B, window: Window) -> Option<Caveat>
     }
 }
 
-/// Adds each of these windows whose first block ends behind its first 4096 bytes.
+/// Adds each of these windows whose first block ends after the window's first 4096 bytes.
 fn add_late<B: Board>(
     board: &B,
     windows: &[Window],
@@ -112,8 +112,9 @@ fn add_late<B: Board>(
     Ok(())
 }
 
-/// Adds each table slot, and each window of a member of a unit that is looked at, whose first block
-/// ends behind its first 4096 bytes, where the boot reads blocks; no window twice.
+/// Adds windows whose first block ends after the window's first 4096 bytes, where the boot reads
+/// blocks. They are the table slots, and the members of units that are looked at. No window comes
+/// twice.
 pub(crate) fn add_late_firsts<B: Board>(
     board: &B,
     decision: &Decision,
@@ -179,8 +180,8 @@ fn add_unit_orders<B: Board>(
     }
 }
 
-/// Adds each window of a member of a unit that is looked at whose definition does not begin with
-/// its IMAGE_TYPE item.
+/// Adds windows with a definition that does not begin with its IMAGE_TYPE item: those of the
+/// members of units that are looked at.
 pub(crate) fn add_item_orders<B: Board>(
     board: &B,
     cpu: Cpu,
@@ -198,7 +199,7 @@ pub(crate) fn add_item_orders<B: Board>(
     Ok(())
 }
 
-/// Whether the chip may not judge so of a definition's items.
+/// Whether this is a fault of a definition's items by which the chip may not judge.
 fn is_doubtful_item(fault: DefFault) -> bool
     ensures { result ≡ is_doubtful_item fault }
 {
@@ -209,7 +210,7 @@ fn is_doubtful_item(fault: DefFault) -> bool
     }
 }
 
-/// Whether the chip may not judge so of a load map.
+/// Whether this is a fault of a load map by which the chip may not judge.
 fn is_doubtful_map(fault: MapFault) -> bool
     ensures { result ≡ is_doubtful_map fault }
 {
@@ -248,7 +249,7 @@ fn may_start(window: Window, image: &Result<Started, Why>) -> Option<Caveat>
     }
 }
 
-/// The second member's image does, where there is a second member.
+/// The second member's image fails such a rule, where there is a second member.
 fn second_may_start(window: Option<Window>, image: &Option<Result<Started, Why>>) -> Option<Caveat>
     ensures { result ≡ second_may_start window image.now }
 {
@@ -261,8 +262,8 @@ fn second_may_start(window: Option<Window>, image: &Option<Result<Started, Why>>
     }
 }
 
-/// Adds each member of a unit that is looked at whose image fails a rule by which the chip may not
-/// judge.
+/// Adds each member with an image that fails a rule by which the chip may not judge, of the units
+/// that are looked at.
 pub(crate) fn add_may_starts(looks: &[UnitReport], list: &mut Vec<Caveat>) -> Result<(), AllocError>
     ensures { OnOk result (list.new.items ≡ list.old.items ++ flat_map look_may_start looks.now) }
 {

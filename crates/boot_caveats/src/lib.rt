@@ -1,13 +1,17 @@
 //! The caveats of a boot's answer: each point of this very answer at which the chip may decide
 //! otherwise than the model.
 //!
-//! `specs/Listing` says how lists of caveats are made of conditions; `specs/OtpCaveats`,
-//! `specs/TableCaveats`, `specs/ChoiceCaveats`, `specs/StartCaveats` and `specs/ImageCaveats` have
-//! the caveats of a subject each as functions, `specs/OtpRules` and its four like the same
-//! conditions in the words of the rules, and `specs/Caveats` and `specs/Rules` the whole list.
-//! `specs/Alternatives` has six decisions by other rules. The laws say that the lists are the
-//! same, and that a decision by one of these other rules is the model's wherever its caveat is not
-//! listed.
+//! The definitions stand in `specs/`:
+//! - `Listing` says how conditions make lists of caveats.
+//! - `OtpCaveats`, `TableCaveats`, `ChoiceCaveats`, `StartCaveats` and `ImageCaveats` have the
+//!   caveats of one subject each, as functions.
+//! - `OtpRules`, `TableRules`, `ChoiceRules`, `StartRules` and `ImageRules` have the same
+//!   conditions as rules.
+//! - `Caveats` has the whole list as a function, and `Rules` has it as rules.
+//! - `Alternatives` has six decisions by other rules.
+//!
+//! The laws say that the lists are the same. They also say that a decision by one of these other
+//! rules is the model's wherever its caveat is not listed.
 #![tactic(auto)]
 
 mod caveat;

@@ -17,7 +17,7 @@ use image_def::suits;
 use part_table::has_table;
 use pico_board::{Cpu, View};
 
-/// The first block of a view: the one at the least multiple of 4 below 4096.
+/// The first block of a view: the one at the lowest multiple of 4 below 4096.
 pub(crate) fn first_block<V: View>(view: &V) -> Option<Block>
     ensures exact { result ≡ first_block (V.bytes view.now) }
     ensures whole { IfSome result (λ b. IsWholeBlock b) }

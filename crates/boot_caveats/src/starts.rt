@@ -81,7 +81,7 @@ fn first_gap<B: Board>(board: &B, rows: &[u16]) -> Option<u16>
     None
 }
 
-/// Whether an image's rollback version is the greatest of its rows, of which there are so many.
+/// Whether an image's rollback version is the greatest for so many rows.
 fn is_full(rollback: Option<u16>, count: u32) -> bool
     requires { count ≤ 32 }
     ensures { result ≡ is_full rollback count }

@@ -99,7 +99,7 @@ fn are_same(table: &Table, other: &Table) -> bool
     table == other
 }
 
-/// Whether two tables are of one version and differ, of which the first is no singleton.
+/// Whether two tables are of one version and differ, and the first is no singleton.
 fn are_tied(table: &Table, other: &Table) -> bool
     ensures { result ≡ are_tied table.now other.now }
 {

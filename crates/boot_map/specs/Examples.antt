@@ -1,4 +1,4 @@
--- Worked examples of maps, with their answers reckoned by hand from the rules.
+-- Worked examples of maps, with their answers worked out by hand from the rules.
 use Rattle.std.specs.Prelude.{ℕ, Bool, true, false, [], ◌∷◌, ◌++◌, replicate, Option, Some, None, Result, Ok, Err}
 use Rattle.pico_board.specs.declared.window.Window.{Window}
 use Rattle.pico_board.specs.Content.{Content}
@@ -43,7 +43,7 @@ mixed_table =
 abbrev pub lone_table : Table
 lone_table = table_without_families (plain_partition (sectors 10 11) 0xfc000000 ∷ [])
 
--- two partitions, sectors 2 and 3, the first of which has the link "A is 1"
+-- two partitions, sectors 2 and 3; the first has the link "A is 1"
 abbrev pub turned_table : Table
 turned_table =
     table_without_families
@@ -68,8 +68,8 @@ bare_row p w = map_row p w None None false
 abbrev pub no_loop : Result Table SlotFault
 no_loop = Err (Loop LoopFault.NoBlock)
 
--- a flash of 256 KiB with the table of a pair, in whose members images of versions 1.9 and 1.10
--- stand, and its map
+-- a flash of 256 KiB with the table of a pair, and its map; images of versions 1.9 and 1.10 stand
+-- in the members
 abbrev pub two_images : Content
 two_images =
     pair_content 0 (image_region 0x1e000 0x10210142 0x10009)
@@ -92,8 +92,8 @@ two_images_map = record {
   };
 }
 
--- a flash of 24 KiB without a table whose two slots of 8 KiB have an image and one that is a trial,
--- and its map
+-- a flash of 24 KiB without a table, and its map; its two slots of 8 KiB have an image and a trial
+-- image
 abbrev pub two_slots : Content
 two_slots = record {
   flash = arm_slot 0x10000 ++ (image_region 0x2000 0x90210142 0x10001 ++ replicate 0x2000 255);

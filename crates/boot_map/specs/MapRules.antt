@@ -1,4 +1,4 @@
--- The map of a flash in the words of the rules.
+-- The map of a flash, as rules.
 use Rattle.std.specs.Prelude.{◌≡◌, ◌↔◌, ℕ, ◌<◌, ◌≤◌, false, All, IsTrue, length, map, Option, Some, None, Result}
 use Rattle.std.specs.List.{AllByRecursion}
 use Rattle.pico_board.specs.declared.boot.Cpu.{Cpu}
@@ -29,7 +29,7 @@ use Rattle.boot_map.specs.declared.places.MapPlace.TheVariants.{Slot, Partition 
 use Rattle.boot_map.specs.Maps.{table_of_map}
 use Rattle.boot_map.specs.WindowRules.{AreSideBySide, IsRead, IsWindowOf}
 
--- no image is told of a slot where there is a table, and of a free stretch
+-- a row has no image for a slot where there is a table, and for a free stretch
 abbrev pub IsBare : Option Table → MapPlace → Type 0
 IsBare None (Slot number) = ⊥
 IsBare (Some t) (Slot number) = Unit {0}
@@ -37,7 +37,7 @@ IsBare t (Part i) = ⊥
 IsBare t Whole = ⊥
 IsBare t Free = Unit {0}
 
--- of another window its image is told, or the first rule that it fails, trial not allowed
+-- for another window a row has its image, or the first rule that it fails, trial not allowed
 abbrev pub IsRowImage : Content → Cpu → Option Table → MapPlace → Window
     → Option (Result Started Why) → Type 0
 IsRowImage c cpu t place w None = IsBare t place
@@ -62,7 +62,8 @@ abbrev pub IsMemberWith : Option Table → Member → ℕ → ℕ → Type 0
 IsMemberWith t A k j = ArePair t k j
 IsMemberWith t B k j = ArePair t j k
 
--- a window is that member of a pair whose other member is told, or it is a member of no pair
+-- a window is a member of a pair, and the row names the other member; or the window is a member of
+-- no pair
 abbrev pub IsPairing : Option Table → MapPlace → Option Pairing → Type 0
 IsPairing t place None =
     (m : Member) (k j : ℕ) → IsNumbered t place k → IsMemberWith t m k j → ⊥
@@ -74,7 +75,7 @@ abbrev pub DoesStart : Decision → Window → Type 0
 DoesStart (Start choice) w = choice.image.window ≡ w
 DoesStart (Bootsel fall) w = ⊥
 
--- a row tells a window, its image, its pair, and whether the decision starts it
+-- a row has a window, its image, its pair, and whether the decision starts it
 pub record IsRow (c : Content) (cpu : Cpu) (t : Option Table) (d : Decision)
     (row : MapRow) : Type 0 where
   pub window : IsWindowOf t (length c.flash) (slot_size c.otp (length c.flash)) row.place row.window
@@ -82,8 +83,8 @@ pub record IsRow (c : Content) (cpu : Cpu) (t : Option Table) (d : Decision)
   pub pair : IsPairing t row.place row.pair
   pub starts : IsTrue row.starts ↔ DoesStart d row.window
 
--- a map tells the decision of a normal boot, what each table slot has or lacks, whose table is that
--- of the flash and why, and windows that lie side by side from the flash's first byte to its last,
+-- a map has the decision of a normal boot; what each table slot has or lacks; whose table is that
+-- of the flash and why; and windows that lie side by side from the flash's first byte to its last,
 -- each with its row
 pub record IsMap (c : Content) (cpu : Cpu) (m : FlashMap) : Type 0 where
   pub decision : Chosen c cpu Normal m.decision
@@ -94,8 +95,8 @@ pub record IsMap (c : Content) (cpu : Cpu) (m : FlashMap) : Type 0 where
   pub rows : AllByRecursion (IsRow c cpu (table_of_content c) m.decision) m.rows.items
 
 -- what can be read of a map of a flash of n bytes: its table, if there is one, is sound for the
--- flash, and each row's window is a byte of the flash at least, a slot 0 or 1, a partition one of
--- the table
+-- flash; each row's window is at least one byte of the flash; a slot is 0 or 1, and a partition is
+-- one of the table
 pub record IsReadableMap (m : FlashMap) (n : ℕ) : Type 0 where
   pub sound : IsSoundFor (table_of_map m) n
   pub rows : All (λ r. IsRead (table_of_map m) n r.place r.window) m.rows.items

@@ -30,8 +30,8 @@ use Rattle.boot_map.specs.declared.places.MapPlace.{MapPlace}
 use Rattle.boot_map.specs.declared.places.MapPlace.TheVariants.{Slot, Partition as Part, Whole, Free}
 use Rattle.boot_map.specs.Windows.{map_windows}
 
--- a window has an image, or a fault, where it is a partition, the whole flash, or a slot of a flash
--- without a table
+-- a window has an image or a fault where it is one of these: a partition, the whole flash, or a
+-- slot of a flash without a table
 abbrev pub has_image : Option Table → MapPlace → Bool
 has_image t (Slot number) = not (is_some t)
 has_image t (Part i) = true

@@ -1,4 +1,4 @@
--- The windows of a flash by what they are, in the words of the rules.
+-- The windows of a flash by what they are, as rules.
 use Rattle.std.specs.Prelude.{◌≡◌, ◌⊎◌, ℕ, ◌+◌, ◌-◌, ◌*◌, ◌/◌, ◌%◌, ◌<◌, ◌≤◌, true, false, All, List, [], ◌∷◌, length, map, Option}
 use Rattle.std.specs.List.{AllByRecursion}
 use Rattle.pico_board.specs.declared.window.Window.{Window}
@@ -26,7 +26,7 @@ IsTakenSector parts z s =
     ⊎ ((i : ℕ) × (i < length parts) × WindowHasSector (part_window (part_at parts i)) s)
 
 -- a window is a free stretch of a flash of so many sectors: as many sectors, one after the other,
--- as lie in no slot and no partition. So it is one sector at least, and on each side it ends at the
+-- as lie in no slot and no partition. So it has at least one sector. On each side it ends at the
 -- flash's end or at a sector that is taken.
 pub record IsFreeStretch (parts : List Partition) (z sectors : ℕ) (w : Window) : Type 0 where
   pub first : ℕ
@@ -38,9 +38,9 @@ pub record IsFreeStretch (parts : List Partition) (z sectors : ℕ) (w : Window)
   pub before : (first ≡ 0) ⊎ IsTakenSector parts z (first - 1)
   pub behind : (first + count ≡ sectors) ⊎ IsTakenSector parts z (first + count)
 
--- the window is right for what it is said to be, in a flash of n bytes with slots of z bytes, for a
--- table, or none: slot 0 or 1, or a free stretch, where there is a table or the slot size is above
--- 4096; a partition of the table; otherwise the whole flash
+-- the window is right for what it is said to be, in a flash of n bytes with slots of z bytes, with
+-- or without a table: slot 0 or 1, or a free stretch, where there is a table or the slot size is
+-- above 4096; a partition of the table; otherwise the whole flash
 abbrev pub IsWindowOf : Option Table → ℕ → ℕ → MapPlace → Window → Type 0
 IsWindowOf t n z (Slot number) w =
     (has_slots t z ≡ true) × (number < 2) × (w ≡ slot_window z number)
@@ -55,14 +55,14 @@ abbrev pub AreSideBySide : ℕ → ℕ → List Window → Type 0
 AreSideBySide at end [] = at ≡ end
 AreSideBySide at end (w ∷ ws) = (w.start ≡ at) × AreSideBySide (window_end w) end ws
 
--- these are the windows of a flash: they lie side by side from its first byte to its last, and each
--- is right for what it is said to be
+-- these are the windows of a flash: they lie side by side from its first byte to its last; each is
+-- right for what it is said to be
 pub record AreMapWindows (t : Option Table) (n z : ℕ) (windows : List MapWindow) : Type 0 where
   pub side_by_side : AreSideBySide 0 n (map (λ m. m.window) windows)
   pub right : AllByRecursion (λ m. IsWindowOf t n z m.place m.window) windows
 
 -- a flash of n bytes has whole sectors and two slots of z bytes, of whole sectors too; a table is
--- sound for it, and its partitions begin behind both slots
+-- sound for the flash, and its partitions begin after both slots
 pub record IsMappable (t : Option Table) (n z : ℕ) : Type 0 where
   pub whole : n % 4096 ≡ 0
   pub slots : z % 4096 ≡ 0
@@ -78,7 +78,7 @@ IsListed t (Part i) = i < length (parts_of t)
 IsListed t Whole = Unit {0}
 IsListed t Free = Unit {0}
 
--- a window stands inside a flash of n bytes, is a byte at least, and is listed
+-- a window stands inside a flash of n bytes, has at least one byte, and is listed
 pub record IsRead (t : Option Table) (n : ℕ) (p : MapPlace) (w : Window) : Type 0 where
   pub some : 1 ≤ w.len
   pub inside : window_end w ≤ n

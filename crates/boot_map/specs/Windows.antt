@@ -24,8 +24,8 @@ has_slots (Some t) z = true
 abbrev pub window_end : Window → ℕ
 window_end w = w.start + w.len
 
--- the window of slot 0 or 1, of a partition, of what is free from one offset to another, and of the
--- whole flash
+-- the window of slot 0 or 1, of a partition, of what is free from one offset to another, and of
+-- the whole flash
 abbrev pub slot_place : ℕ → ℕ → MapWindow
 slot_place z number = record { place = Slot number; window = slot_window z number }
 
@@ -42,11 +42,12 @@ whole_place n = record { place = Whole; window = record { start = 0; len = n } }
 abbrev pub free_between : ℕ → ℕ → List MapWindow
 free_between at end = if nat_lt at end then free_place at end ∷ [] else []
 
--- of two offsets the first is taken where it lies at or past `at` and is the lesser one
+-- of two offsets the first is taken where it lies at or past `at` and is the lower one
 abbrev pub nearer_start : ℕ → ℕ → ℕ → ℕ
 nearer_start at start least = if nat_le at start && nat_lt start least then start else least
 
--- the least offset at or past `at` at which a partition starts, and `least` where none is below it
+-- the lowest offset at or past `at` at which a partition starts; `least` where no such offset is
+-- below `least`
 abbrev pub next_start : ℕ → List Partition → ℕ → ℕ
 next_start at [] least = least
 next_start at (p ∷ ps) least = next_start at ps (nearer_start at (part_window p).start least)
@@ -60,7 +61,7 @@ abbrev pub next_part : ℕ → List Partition → ℕ → Option ℕ
 next_part at parts end = position (starts_at (next_start at parts end)) parts
 
 -- from `at` to `end`: what is free before the next partition, that partition, and so on, up to so
--- many partitions; then what is free behind them
+-- many partitions; then what is free after them
 abbrev pub part_windows : List Partition → ℕ → ℕ → ℕ → List MapWindow
 part_windows parts end zero at = free_between at end
 part_windows parts end (suc count) at =
@@ -70,7 +71,7 @@ part_windows parts end (suc count) at =
     ∷ part_windows parts end count (window_end (part_window (part_at parts i))))
     (next_part at parts end) []
 
--- the windows of a flash of n bytes with slots of z bytes, for a table, or none
+-- the windows of a flash of n bytes with slots of z bytes, with or without a table
 abbrev pub map_windows : Option Table → ℕ → ℕ → List MapWindow
 map_windows t n z =
     if has_slots t z

@@ -68,10 +68,11 @@ fn map_of<B: Board>(board: &B, pool: &mut SectorPool, cpu: Cpu) -> FlashMap
     }
 }
 
-/// The map of a board's flash: the windows that lie side by side from its first byte to its last,
-/// each with its image, trial not allowed, or the first rule that it fails, with the pair that it
-/// is a member of, and with whether a normal boot starts it; and what that boot decides, and what
-/// each table slot has or lacks. It takes no memory, and the pool keeps what is out.
+/// The map of a board's flash: the windows that lie side by side from its first byte to its last.
+/// Each window has its image, trial not allowed, or the first rule that it fails. It has the pair
+/// that it is a member of, and whether a normal boot starts it. The map also has what that boot
+/// decides, and what each table slot has or lacks. It takes no memory, and the pool keeps what is
+/// out.
 pub fn gather_map<B: Board>(board: &B, pool: &mut SectorPool, cpu: Cpu) -> FlashMap
     requires power { IsTrue (B.state board.now).powered }
     requires lease { HasFree pool.old }

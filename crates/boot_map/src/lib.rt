@@ -1,11 +1,12 @@
-//! The map of a flash: the windows that lie side by side from its first byte to its last, which are
-//! slots, partitions, free stretches or the whole flash, the image of each or its first fault, the
-//! pair that it is a member of, and the one that a normal boot starts.
+//! The map of a flash: the windows that lie side by side from its first byte to its last. They are
+//! slots, partitions, free stretches or the whole flash. Of each window the map has the image or
+//! its first fault, and the pair that it is a member of. It names the window that a normal boot
+//! starts.
 //!
-//! `specs/Windows` and `specs/Maps` have the map as functions, `specs/WindowRules` and
-//! `specs/MapRules` in the words of the rules. The laws say that these are the same, that the
-//! windows fill the flash without a gap and without an overlap, and that one row starts exactly
-//! where a normal boot starts an image.
+//! `specs/Windows` and `specs/Maps` have the map as functions, and `specs/WindowRules` and
+//! `specs/MapRules` as rules. The laws say that both are the same, and that the windows fill the
+//! flash without a gap and without an overlap. They also say that one row starts exactly where a
+//! normal boot starts an image.
 #![tactic(auto)]
 
 pub mod examples;

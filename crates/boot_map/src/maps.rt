@@ -25,8 +25,8 @@ pub struct MapRow {
     pub place: MapPlace,
     /// The window.
     pub window: Window,
-    /// The image of the window, trial not allowed, or the first rule that it fails; None for a slot
-    /// where there is a table, and for a free stretch.
+    /// The image of the window, trial not allowed, or the first rule that it fails; None for a
+    /// slot where there is a table, and for a free stretch.
     pub image: Option<Result<Started, Why>>,
     /// The member of a pair that the window is, where it is one.
     pub pair: Option<Pairing>,

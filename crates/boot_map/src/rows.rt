@@ -1,4 +1,4 @@
-//! What the map tells of a window: its image, its pair, and whether a normal boot starts it.
+//! What the map has of a window: its image, its pair, and whether a normal boot starts it.
 
 ghost use Rattle.std.specs.Prelude.{◌≡◌, ◌+◌, ◌<◌, ◌≤◌, All, IsTrue, length, map, option_map};
 ghost use Rattle.sector_pool.specs.Keeping.{KeepsOut};

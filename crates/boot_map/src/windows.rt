@@ -34,7 +34,7 @@ fn has_slots(table: Option<&Table>, slot: u32) -> bool
     }
 }
 
-/// Of two offsets the first where it lies at or past `at` and is the lesser one.
+/// Of two offsets the first where it lies at or past `at` and is the lower one.
 fn nearer_start(at: u32, start: u32, least: u32) -> u32
     ensures { result ≡ nearer_start at start least }
 {
@@ -45,7 +45,8 @@ fn nearer_start(at: u32, start: u32, least: u32) -> u32
     }
 }
 
-/// The least offset at or past `at` at which a partition starts, and `end` where none is below it.
+/// The lowest offset at or past `at` at which a partition starts; `end` where no such offset is
+/// below `end`.
 fn next_start(parts: &[Partition], at: u32, end: u32) -> u32
     requires right { All (λ p. first_sector p ≤ last_sector p) parts.now }
     ensures { result ≡ next_start at parts.now end }
@@ -164,10 +165,10 @@ fn windows_of(table: Option<&Table>, flash_len: u32, slot: u32) -> ArrayVec<MapW
 }
 
 /// The windows of a flash by what they are, side by side in address order from its first byte to
-/// its last. With a table they are slot 0, slot 1, each partition, and each free stretch, which is
-/// as many sectors, one after the other, as lie in none of these. Without one they are the two
-/// slots, and the free stretch behind them if there is one, where the slot size is above 4096, and
-/// otherwise the one window is the whole flash.
+/// its last. With a table they are slot 0, slot 1, each partition, and each free stretch. A free
+/// stretch is as many sectors, one after the other, as lie in none of these. Without a table and
+/// with a slot size above 4096 they are the two slots, and the free stretch after them if there is
+/// one. Otherwise the one window is the whole flash.
 pub fn map_windows(table: Option<&Table>, flash_len: u32, slot: u32) -> ArrayVec<MapWindow, 33>
     requires mappable { IsMappable (option_map (λ t. t.now) table) flash_len slot }
     ensures windows { AreMapWindows (option_map (λ t. t.now) table.entry) flash_len slot

@@ -1,6 +1,6 @@
--- What a boot sees in its boot units, and which image it takes in which for what reason, in the
--- words of the rules (RP2350 Datasheet, chapter 5, "A/B versions" and "Flash update boot"; this
--- project's own where the datasheet is open, and the reasons as a whole).
+-- What a boot sees in its boot units, and which image it takes in which unit for what reason, as
+-- rules. Source: RP2350 Datasheet, chapter 5, "A/B versions" and "Flash update boot". This
+-- project's own where the datasheet is open; the reasons as a whole are this project's own.
 use Rattle.std.specs.Prelude.{◌≡◌, ◌⊎◌, ℕ, Bool, true, List, [], ◌∷◌, length, Option, Some, None, IsSome, IsTrue, Result, Ok, Err}
 use Rattle.pico_board.specs.declared.boot.Cpu.{Cpu}
 use Rattle.pico_board.specs.declared.window.Window.{Window}
@@ -30,8 +30,8 @@ pub record CountsIn (c : Content) (cpu : Cpu) (u : SlotUnit) (updated : Option M
   pub valid : Valid c window cpu (is_member updated m) s
 
 -- Has m s: s is the image of member m, and it counts. The reasons for taking the image s of member
--- m: it is the updated member; no other image counts; both count and its version is greater; both
--- count, the versions are equal, and it is A
+-- m: m is the updated member; no other image counts; both count and the version of s is greater;
+-- both count, the versions are equal, and m is A
 abbrev pub IsUpdatedOne : Option Member → Member → Type 0
 IsUpdatedOne updated m = IsTrue (is_member updated m)
 
@@ -57,8 +57,8 @@ IsReason Has updated m s Tie =
     (IsUpdatedOne updated m → ⊥) × (IsOnlyOne Has m → ⊥) × (IsGreaterOne Has m s → ⊥)
     × IsFirstOfEqual Has m s
 
--- the image s of a member counts, and it is taken: it is the updated member's, or the other one's
--- is neither the updated member's nor a better one
+-- the image s of a member counts, and it is taken: it is the updated member's; or the other
+-- member's image is neither the updated one's nor better
 pub record IsTakenImage (Has : Member → Started → Type 0) (updated : Option Member) (m : Member)
     (s : Started) : Type 0 where
   pub counts : Has m s
@@ -66,8 +66,8 @@ pub record IsTakenImage (Has : Member → Started → Type 0) (updated : Option 
       ⊎ ((t : Started) → Has (other_of m) t
       → (IsUpdatedOne updated (other_of m) → ⊥) × IsBetter m s.version t.version)
 
--- of the images that count this one is taken, which stands in a window of the unit, for its reason;
--- or none counts
+-- of the images that count this one is taken for its reason, and it stands in a window of the
+-- unit; or none counts
 abbrev pub IsTakenBy : (Member → Started → Type 0) → SlotUnit → Option Member → Option TakenImage
     → Type 0
 IsTakenBy Has u updated None = (m : Member) (s : Started) → Has m s → ⊥
@@ -89,8 +89,8 @@ IsSecondReported c cpu updated (Some w) None = ⊥
 IsSecondReported c cpu updated (Some w) (Some image) =
     IsImageReported c cpu w (is_member updated B) image
 
--- the report on a unit tells the image of each member, with trial allowed exactly in the updated
--- one, and which of those that count is taken
+-- the report on a unit has the image of each member, with trial allowed exactly in the updated
+-- one, and which of the images that count is taken
 pub record IsUnitReport (c : Content) (cpu : Cpu) (u : SlotUnit) (updated : Option Member)
     (look : UnitReport) : Type 0 where
   pub unit : look.unit ≡ u
@@ -98,8 +98,8 @@ pub record IsUnitReport (c : Content) (cpu : Cpu) (u : SlotUnit) (updated : Opti
   pub second : IsSecondReported c cpu updated u.b look.second
   pub taken : IsTakenBy (CountsIn c cpu u updated) u updated look.taken
 
--- the units are looked at in this order, the updated member being one of the first of them, up to
--- the first that takes an image; so many further ones are not reached
+-- the units are looked at in this order, up to the first that takes an image; the updated member
+-- is one of the first unit; so many further units are not reached
 abbrev pub AreUnitReports : Content → Cpu → List SlotUnit → Option Member → List UnitReport → ℕ
     → Type 0
 AreUnitReports c cpu [] updated looks unreached = (looks ≡ []) × (unreached ≡ 0)

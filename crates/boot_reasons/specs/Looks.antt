@@ -1,6 +1,7 @@
 -- What a boot sees in its boot units, in the order in which it looks at them, and which image it
--- takes in which for what reason, as functions (RP2350 Datasheet, chapter 5, "A/B versions" and
--- "Flash update boot"; this project's own where the datasheet is open, and the reasons as a whole).
+-- takes in which unit for what reason, as functions. Source: RP2350 Datasheet, chapter 5, "A/B
+-- versions" and "Flash update boot". This project's own where the datasheet is open; the reasons
+-- as a whole are this project's own.
 --     images w trial     the image of window w, valid with trial allowed or not, or why not
 use Rattle.std.specs.Prelude.{Bool, true, false, if◌then◌else◌, List, [], ◌∷◌, is_some, Option, Some, None, option_map, option_and_then, Result, Ok, Err}
 use Rattle.std.specs.Option.{option_or}
@@ -86,7 +87,7 @@ is_update Only = false
 is_update Version = false
 is_update Tie = false
 
--- the choice by the report on a unit, if an image is taken there, and of several reports the first
+-- the choice by the report on a unit, if an image is taken there; of several reports the first
 -- one's
 abbrev pub taken_choice_of : UnitReport → Option TakenImage → Option Choice
 taken_choice_of look None = None

@@ -1,4 +1,4 @@
--- Why a boot decides as it does, in the words of the rules.
+-- Why a boot decides as it does, as rules.
 use Rattle.std.specs.Prelude.{◌≡◌, ◌⊎◌, ℕ, true, List, [], length, slice_get, Some, None}
 use Rattle.pico_board.specs.declared.boot.Cpu.{Cpu}
 use Rattle.pico_board.specs.declared.boot.BootKind.{BootKind}
@@ -22,8 +22,9 @@ use Rattle.boot_reasons.specs.LookRules.{AreUnitReports}
 abbrev pub FallsBefore : Content → BootKind → Type 0
 FallsBefore c kind = (kind ≡ AskBootsel) ⊎ (flash_off c.otp ≡ true)
 
--- no unit is looked at by a boot that falls before; another looks at the boot units of the content,
--- in table order with the updated member's unit first, up to the first that takes an image
+-- a boot that falls before looks at no unit; another boot looks at the boot units of the content,
+-- up to the first that takes an image; they are in table order, but the updated member's unit is
+-- first
 abbrev pub AreUnitsReported : Content → Cpu → BootKind → List UnitReport → ℕ → Type 0
 AreUnitsReported c cpu kind looks unreached =
     (FallsBefore c kind × (looks ≡ []) × (unreached ≡ 0))
@@ -31,9 +32,9 @@ AreUnitsReported c cpu kind looks unreached =
     × AreUnitReports c cpu (order_of kind (boot_units_in c cpu)).units
     (order_of kind (boot_units_in c cpu)).updated looks unreached)
 
--- the reasons of a boot tell the one decision that the rules name, the flags and the slot size of
--- the OTP, what each table slot has or lacks, whose table is that of the flash and why, and the
--- units that are looked at
+-- the reasons of a boot have these: the one decision that the rules name; the flags and the slot
+-- size of the OTP; what each table slot has or lacks; whose table is that of the flash and why;
+-- and the units that are looked at
 pub record IsExplained (c : Content) (cpu : Cpu) (kind : BootKind) (r : Reasons) : Type 0 where
   pub decision : Chosen c cpu kind r.decision
   pub required : r.required ≡ rollback_required c.otp

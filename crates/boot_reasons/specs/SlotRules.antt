@@ -1,5 +1,5 @@
--- Whose table is that of the flash, and why, in the words of the rules (RP2350 Datasheet, chapter
--- 5, "Partition tables"; the choice between two tables and the reasons are this project's own).
+-- Whose table is that of the flash, and why, as rules. Source: RP2350 Datasheet, chapter 5,
+-- "Partition tables". The choice between two tables and the reasons are this project's own.
 use Rattle.std.specs.Prelude.{◌≡◌, ◌≢◌, ℕ, zero, suc, true, Option, Some, None}
 use Rattle.pico_board.specs.Content.{Content}
 use Rattle.part_table.specs.declared.table.Table.{Table}

@@ -1,5 +1,5 @@
--- Whose table is that of the flash, and why, as functions (RP2350 Datasheet, chapter 5, "Partition
--- tables"; the choice between two tables and the reasons are this project's own).
+-- Whose table is that of the flash, and why, as functions. Source: RP2350 Datasheet, chapter 5,
+-- "Partition tables". The choice between two tables and the reasons are this project's own.
 use Rattle.std.specs.Prelude.{ℕ, ◌==◌, if◌then◌else◌, Option, Some, None}
 use Rattle.part_table.specs.declared.table.Table.{Table}
 use Rattle.slot_choice.specs.Versions.{is_below}

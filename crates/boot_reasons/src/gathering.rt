@@ -134,7 +134,7 @@ fn reasons_of<B: Board>(board: &B, pool: &mut SectorPool, cpu: Cpu, kind: BootKi
 }
 
 /// Why a boot decides as it does. Each slot is read once, and each member of a unit is judged
-/// once: the decision is that of the first unit that takes an image, and nothing is judged twice
+/// once. The decision is that of the first unit that takes an image, and nothing is judged twice
 /// for it. It takes no memory, and the pool keeps what is out. (RP2350 Datasheet, chapter 5,
 /// Bootrom; the reasons are this project's own.)
 pub fn gather<B: Board>(board: &B, pool: &mut SectorPool, cpu: Cpu, kind: BootKind) -> Reasons

@@ -1,11 +1,11 @@
-//! Why a boot decides as it does: what each table slot has or lacks, whose table is that of the
-//! flash, which boot units are looked at in which order, which image each member has or which rule
-//! it fails first, and by which rule an image is taken.
+//! Why a boot decides as it does: what each table slot has or lacks; whose table is that of the
+//! flash; which boot units are looked at in which order; which image each member has, or which
+//! rule it fails first; and by which rule an image is taken.
 //!
 //! What a slot has or lacks is what `boot_rules` answers of it. `specs/Slots` and `specs/Looks`
-//! have the reasons as functions, `specs/SlotRules`, `specs/LookRules` and `specs/Rules` in the
-//! words of the rules. The laws say that these are the same, and that the first unit that takes an
-//! image takes that of the decision.
+//! have the reasons as functions. `specs/SlotRules`, `specs/LookRules` and `specs/Rules` have them
+//! as rules. The laws say that both are the same, and that the first unit that takes an image
+//! takes that of the decision.
 #![tactic(auto)]
 
 pub mod examples;

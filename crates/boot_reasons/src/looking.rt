@@ -52,8 +52,7 @@ fn better_pair(first: &Started, second: &Started) -> Option<TakenImage>
     taken_image(Member::A, UnitReason::Tie, first)
 }
 
-/// Which image is taken of those of two members that count, and why, where none is the updated
-/// member's.
+/// Which image is taken of those of two members that count, and why. None is the updated member's.
 fn better_image(first: Option<&Started>, second: Option<&Started>) -> Option<TakenImage>
     ensures { result
         ≡ better_image (option_map (λ s. s.now) first.entry)
@@ -130,7 +129,7 @@ fn counted_first(image: &Result<Started, Why>) -> Option<&Started>
     }
 }
 
-/// The report on a unit: each member's image is judged once, with a trial image allowed exactly in
+/// The report on a unit. Each member's image is judged once, with a trial image allowed exactly in
 /// the updated member.
 fn report_on<B: Board>(
     board: &B,

@@ -1,5 +1,5 @@
-//! Worked examples of whole flashes, byte for byte, proved by computing: each is the `ensures` of a
-//! function that does nothing.
+//! Worked examples of whole flashes, byte for byte, proved by computing: each is the `ensures` of
+//! a function that does nothing.
 
 ghost use Rattle.std.specs.Prelude.{◌≡◌, [], ◌∷◌, ◌++◌, None, Some};
 ghost use Rattle.pico_board.specs.declared.boot.BootKind.TheVariants.{Normal, Bootsel as AskBootsel};
@@ -9,8 +9,8 @@ ghost use Rattle.boot_caveats.specs.declared.caveat.Caveat.{Caveat};
 ghost use Rattle.boot_caveats.specs.Caveats.{caveats_in};
 ghost use Rattle.boot_caveats.specs.Examples.{arm_word, bare, riscv_word, sector_with, three_sectors};
 
-/// Flashes of 12 KiB without a table: an image in the whole flash, one for the other processor, one
-/// in slot 1, and one whose definition begins with its version.
+/// Flashes of 12 KiB without a table: an image in the whole flash, one for the other processor,
+/// one in slot 1, and one with a definition that begins with its version.
 pub fn caveats_of_flashes()
     ensures none { caveats_in (three_sectors 0 0 (sector_with (arm_word ∷ [])) bare) Arm Normal
         ≡ [] }

@@ -60,7 +60,7 @@ pub fn rows_that_are_not_read()
         ∷ Caveat.RawFlags 0x04a 7 ∷ Caveat.RawSlotSize 16 ∷ [] }
 {}
 
-/// A table's range fault is told in a flash that is shorter than 16 MiB.
+/// A table's range fault is a caveat in a flash that is shorter than 16 MiB.
 pub fn tables_for_a_longer_flash()
     ensures shorter { short_flash 0xfff000 1 (Err (SlotFault.Table (TableFault.Range 2)))
         ≡ Some (Caveat.ShortFlash 1 2) }
@@ -86,7 +86,7 @@ pub fn bits_of_tables()
     ensures no_table { unread_caveats None ≡ [] }
 {}
 
-/// Two tables of one version, of which the first is no singleton, that differ in some field.
+/// Two tables of one version that differ in some field; the first is no singleton.
 pub fn tables_of_one_version()
     ensures words { table_tie (Ok (table_of_parts false 9 1 [])) (Ok (table_of_parts false 9 2 []))
         ≡ Some Caveat.TableTie }
@@ -106,7 +106,7 @@ pub fn tables_of_one_version()
     ensures other { table_tie (Err SlotFault.NoTable) (Ok (table_of_parts false 9 1 [])) ≡ None }
 {}
 
-/// A tie of the first unit that takes an image; the one that is taken is told first.
+/// A tie of the first unit that takes an image. The window that is taken comes first.
 pub fn ties_of_units()
     ensures tie { first_tie (pair_report (taken_by A first UnitReason.Tie) ∷ [])
         ≡ Some (Caveat.Tie first second) }
@@ -131,7 +131,7 @@ pub fn updates_of_slots()
     ensures no_update { update_of_slot Normal 0x2000 in_slot ≡ None }
 {}
 
-/// An update that moves a unit is told by the partition of its A, also where B is updated.
+/// An update that moves a unit names the partition of the unit's A, also where B is updated.
 pub fn updates_that_move_a_unit()
     ensures front { moved_by (first_pair ∷ lone_third ∷ []) 0x10004000 ≡ None }
     ensures lone { moved_by (first_pair ∷ lone_third ∷ []) 0x10006000 ≡ Some 2 }
@@ -159,7 +159,7 @@ pub fn rows_of_images()
         ≡ Caveat.RollbackRows first ∷ [] }
 {}
 
-/// Values that are one less than a power of two, which 0 is.
+/// Values that are one less than a power of two, as 0 is.
 pub fn values_without_a_gap()
     ensures zero { is_filled 0 ≡ true }
     ensures one { is_filled 1 ≡ true }
@@ -172,7 +172,8 @@ pub fn values_without_a_gap()
     ensures alone { is_filled 0x800000 ≡ false }
 {}
 
-/// The windows that are read: the slots, then the members in the order of looking; and each once.
+/// The windows that are read: the slots, then the members in the order of looking, each window
+/// once.
 pub fn windows_that_are_read()
     ensures order { read_windows 0x1000 (pair_report None ∷ lone_report None ∷ [])
         ≡ slot_window 0x1000 0 ∷ slot_window 0x1000 1 ∷ first ∷ second ∷ third ∷ [] }
@@ -186,8 +187,8 @@ pub fn windows_that_are_read()
     ensures requested { reads_blocks (Bootsel Fall.Requested) ≡ false }
 {}
 
-/// A block that ends with the first 4096 bytes does not end late; the order of its items, by their
-/// first one.
+/// A block that ends with the first 4096 bytes does not end late. The order of a block's items, by
+/// their first one.
 pub fn blocks_of_windows()
     ensures with { ends_late (block_with 4080 []) ≡ false }
     ensures behind { ends_late (block_with 4084 []) ≡ true }
@@ -222,7 +223,7 @@ pub fn rules_that_are_in_doubt()
     ensures lone { look_may_start (lone_report None) ≡ [] }
 {}
 
-/// On a tie B is the better one by another rule, and the greater version is by both.
+/// On a tie B is better by another rule. The greater version is better by both rules.
 pub fn versions_by_another_rule()
     ensures tie { better_last (Some (image_of_version first 1 9 false).version)
         (Some (image_of_version second 1 9 false).version) ≡ Some B }

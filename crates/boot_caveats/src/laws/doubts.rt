@@ -13,47 +13,48 @@ ghost use Rattle.boot_caveats.specs.declared.caveat.Caveat.TheVariants.{OtherPro
 ghost use Rattle.boot_caveats.specs.Rules.{AreCaveats};
 ghost use Rattle.boot_caveats.specs.Alternatives.{ChosenOfBoth, ChosenWithSlots, decision_early, decision_last, decision_typed, decision_unmoved};
 
-/// The other processor may be tried where no image starts: without its caveat that decides as the
-/// model does.
+/// The chip may try the other processor where no image starts. Without its caveat such a boot
+/// decides as the model does.
 pub fn no_doubt_of_the_processor()
     ensures { (c : Content) (cpu : Cpu) (kind : BootKind) (list : List Caveat)
         → AreCaveats c cpu kind list → ((w : Window) → Contains list (OtherProcessor w) → ⊥)
         → (d : Decision) → ChosenOfBoth c cpu kind d ↔ Chosen c cpu kind d }
 {}
 
-/// The two slots of a flash without a table may be tried where no image starts: without their
-/// caveat that decides as the model does.
+/// The chip may try the two slots of a flash without a table where no image starts. Without their
+/// caveat such a boot decides as the model does.
 pub fn no_doubt_of_the_slots()
     ensures { (c : Content) (cpu : Cpu) (kind : BootKind) (list : List Caveat)
         → AreCaveats c cpu kind list → ((w : Window) → Contains list (SlotImage w) → ⊥)
         → (d : Decision) → ChosenWithSlots c cpu kind d ↔ Chosen c cpu kind d }
 {}
 
-/// On a tie B may be taken: without the caveat of a tie that decides as the model does.
+/// On a tie the chip may take B. Without the caveat of a tie such a boot decides as the model
+/// does.
 pub fn no_doubt_of_a_tie()
     ensures { (c : Content) (cpu : Cpu) (kind : BootKind) (list : List Caveat)
         → AreCaveats c cpu kind list → ((w v : Window) → Contains list (Tie w v) → ⊥)
         → Chosen c cpu kind (decision_last c cpu kind) }
 {}
 
-/// An update boot may leave the order of the units: without the caveat of a moved unit that decides
-/// as the model does.
+/// An update boot of the chip may leave the order of the units. Without the caveat of a moved unit
+/// such a boot decides as the model does.
 pub fn no_doubt_of_an_update()
     ensures { (c : Content) (cpu : Cpu) (kind : BootKind) (list : List Caveat)
         → AreCaveats c cpu kind list → ((part : ℕ) → Contains list (UpdateMovesUnit part) → ⊥)
         → Chosen c cpu kind (decision_unmoved c cpu kind) }
 {}
 
-/// A definition may have to begin with its IMAGE_TYPE item: without the caveat of the order of
-/// items that decides as the model does.
+/// For the chip a definition may have to begin with its IMAGE_TYPE item. Without the caveat of the
+/// order of items such a boot decides as the model does.
 pub fn no_doubt_of_the_item_order()
     ensures { (c : Content) (cpu : Cpu) (kind : BootKind) (list : List Caveat)
         → AreCaveats c cpu kind list → ((w : Window) → Contains list (ItemOrder w) → ⊥)
         → Chosen c cpu kind (decision_typed c cpu kind) }
 {}
 
-/// A first block may have to end within 4096 bytes: without the caveat of a first block that
-/// decides as the model does.
+/// For the chip a first block may have to end within 4096 bytes. Without the caveat of a first
+/// block such a boot decides as the model does.
 pub fn no_doubt_of_first_blocks()
     ensures { (c : Content) (cpu : Cpu) (kind : BootKind) (list : List Caveat)
         → AreCaveats c cpu kind list → ((w : Window) → Contains list (FirstBlock w) → ⊥)

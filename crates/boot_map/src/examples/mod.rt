@@ -14,9 +14,9 @@ ghost use Rattle.boot_map.specs.Windows.{map_windows};
 ghost use Rattle.boot_map.specs.Maps.{has_image, map_in, paired, pairing, starts};
 ghost use Rattle.boot_map.specs.Examples.{empty, empty_map, lone_table, mixed_table, placed, start_in_window, turned_table, two_images, two_images_map, two_slots, two_slots_map};
 
-/// The windows of a flash with a table: partitions out of order, with gaps and without, the last of
-/// which ends at the flash's end, a sector before it and far before it; a gap behind the slots; and
-/// no partition, with something behind the slots and with nothing.
+/// The windows of a flash with a table. Its partitions are out of order, with gaps and without.
+/// The last one ends at the flash's end, a sector before it and far before it. Other tables have a
+/// gap after the slots, or no partition, with something after the slots and with nothing.
 pub fn windows_of_tables()
     ensures mixed { map_windows (Some mixed_table) 0x20000 0x4000
         ≡ placed (Slot 0) 0 0x4000 ∷ placed (Slot 1) 0x4000 0x4000 ∷ placed (Part 1) 0x8000 0x2000
@@ -39,7 +39,7 @@ pub fn windows_of_tables()
         ≡ placed (Slot 0) 0 0x1000 ∷ placed (Slot 1) 0x1000 0x1000 ∷ [] }
 {}
 
-/// The windows of a flash without a table: the whole flash, or two slots and what is behind them,
+/// The windows of a flash without a table: the whole flash, or two slots and what is after them,
 /// where there is anything.
 pub fn windows_without_tables()
     ensures whole { map_windows None 0x10000 0x1000 ≡ placed Whole 0 0x10000 ∷ [] }
@@ -96,8 +96,8 @@ pub fn images_and_starts_are_told()
     ensures nothing { starts (Bootsel NoImage) (window_at 0x2000 0x2000) ≡ false }
 {}
 
-/// Whole maps: of a pair in a table, whose B has the greater version; of two slots without a table,
-/// the second of which has a trial image; and of a flash with nothing in it.
+/// Whole maps: of a pair in a table, where B has the greater version; of two slots without a
+/// table, where the second has a trial image; and of a flash with nothing in it.
 pub fn maps_are_told()
     ensures pair { map_in two_images Arm ≡ two_images_map }
     ensures slots { map_in two_slots Arm ≡ two_slots_map }

@@ -47,9 +47,9 @@ pub fn the_table_in_force_is_that_of_the_flash()
         → table_of_map m ≡ table_of_content c }
 {}
 
-/// The windows of a map fill the flash: the first begins at its first byte, each further one where
-/// the former ends, the last ends at its end, and their lengths make up its length. Each is of
-/// whole sectors, at least one.
+/// The windows of a map fill the flash. The first window begins at the flash's first byte, and
+/// each further one where the former ends. The last ends at the flash's end, and their lengths
+/// make up the flash's length. Each is of whole sectors, at least one.
 pub fn windows_fill_the_flash()
     ensures first { (c : Content) (cpu : Cpu) (m : FlashMap) (r : MapRow) → IsMap c cpu m
         → slice_get m.rows.items 0 ≡ Some r → r.window.start ≡ 0 }
@@ -80,8 +80,8 @@ pub fn each_sector_has_one_row()
         → WindowHasSector x.window s → WindowHasSector y.window s → j ≡ k }
 {}
 
-/// Each slot, where the slots are windows, and each partition has its row, and no two rows are the
-/// same slot, the same partition or both the whole flash; nor are two free stretches neighbours.
+/// Each slot, where the slots are windows, and each partition has its row. No two rows are the
+/// same slot, the same partition or both the whole flash. No two free stretches are neighbours.
 pub fn each_place_has_one_row()
     ensures slots { (c : Content) (cpu : Cpu) (m : FlashMap) (number : ℕ) → IsContent c
         → IsMap c cpu m → number < 2
@@ -98,7 +98,7 @@ pub fn each_place_has_one_row()
         → slice_get m.rows.items (k + 1) ≡ Some y → x.place ≡ Free → y.place ≢ Free }
 {}
 
-/// The rows of both members of a pair tell it, each with the other's number.
+/// The rows of both members of a pair name it, each with the other's number.
 pub fn both_members_tell_their_pair()
     ensures first { (c : Content) (cpu : Cpu) (m : FlashMap) (k a b : ℕ) (r : MapRow) → IsContent c
         → IsMap c cpu m → slice_get m.rows.items k ≡ Some r
@@ -110,8 +110,8 @@ pub fn both_members_tell_their_pair()
         → r.pair ≡ Some (paired B a) }
 {}
 
-/// At most one row starts: where the decision is a start, the row of its image's window, and
-/// otherwise none.
+/// At most one row starts. Where the decision is a start, it is the row of the started image's
+/// window; otherwise none starts.
 pub fn one_row_starts()
     ensures one { (c : Content) (cpu : Cpu) (m : FlashMap) (j k : ℕ) (x y : MapRow) → IsContent c
         → IsMap c cpu m → slice_get m.rows.items j ≡ Some x → slice_get m.rows.items k ≡ Some y

@@ -9,8 +9,8 @@ ghost use Rattle.boot_reasons.specs.Slots.{in_force, table_in_force};
 ghost use Rattle.boot_reasons.specs.Looks.{taken_image, taken_of};
 ghost use Rattle.boot_reasons.specs.Examples.{example_image, example_table, window_of_a, window_of_b};
 
-/// Whose table is that of the flash, for each reason and on both sides of it; where two hold, the
-/// first of them is told.
+/// Whose table is that of the flash, for each reason and on both sides of it. Where two reasons
+/// hold, the first of them is the answer.
 pub fn reasons_for_tables()
     ensures none { table_in_force None None ≡ None }
     ensures only_first { table_in_force (Some (example_table 1 0 true)) None
@@ -32,8 +32,8 @@ pub fn reasons_for_tables()
         ≡ in_force 0 TableReason.Tie }
 {}
 
-/// Which image is taken, for each reason and on both sides of it; where two hold, the first of them
-/// is told.
+/// Which image is taken, for each reason and on both sides of it. Where two reasons hold, the
+/// first of them is the answer.
 pub fn reasons_for_images()
     ensures none { taken_of (Some A) None None ≡ None }
     ensures only_first { taken_of None (Some (example_image window_of_a 1 0)) None

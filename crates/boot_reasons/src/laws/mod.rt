@@ -29,8 +29,8 @@ pub fn the_table_in_force_is_that_of_the_flash()
         → table_of_reasons r ≡ table_of_content c }
 {}
 
-/// Where units are looked at, the first unit that takes an image takes that of the decision, and
-/// where none does the decision is NoImage. A boot that falls before looks at none.
+/// Where units are looked at, the first unit that takes an image takes that of the decision. Where
+/// no unit takes an image, the decision is NoImage. A boot that falls before looks at no unit.
 pub fn the_first_taken_is_the_decision()
     ensures taken { (c : Content) (cpu : Cpu) (kind : BootKind) (r : Reasons) (k : ℕ)
         (look : UnitReport)
