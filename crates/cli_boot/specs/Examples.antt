@@ -46,7 +46,7 @@ found_with_parts parts =
 abbrev pub window_at : ℕ → ℕ → Window
 window_at start len = record { start = start; len = len }
 
--- the start of an image of version 1.9 in this member of a pair, whose other one has this window
+-- the start of an image of version 1.9 in this member of a pair; the other member has this window
 abbrev pub paired_start_in : Window → Member → Window → Choice
 paired_start_in w member other =
     record {

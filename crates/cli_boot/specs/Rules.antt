@@ -1,4 +1,4 @@
--- What is right for the commands on a board, in the words of the rules of a boot.
+-- What is right for the commands on a board, by the rules of a boot.
 use Rattle.std.specs.Prelude.{◌≡◌, ◌⊎◌, ℕ, false, List, [], ◌∷◌, ◌++◌}
 use Rattle.std.specs.List.{flat_map}
 use Rattle.pico_board.specs.declared.boot.Cpu.{Cpu}
@@ -26,7 +26,7 @@ abbrev pub decided_status : Decision → Status
 decided_status (Start choice) = Done
 decided_status (FallsToBootsel fall) = Bootsel
 
--- `boot`: the outcome tells the one decision that the rules name, whose image, where one starts, is
+-- `boot`: the outcome prints the one decision that the rules name; where an image starts, it is
 -- not below its rollback rows
 pub record IsBootOutcome (c : Content) (cpu : Cpu) (kind : BootKind) (o : AnswerView) : Type 0 where
   pub decision : Decision
@@ -36,7 +36,7 @@ pub record IsBootOutcome (c : Content) (cpu : Cpu) (kind : BootKind) (o : Answer
   pub text : o.text ≡ decision_line decision
   pub files : o.files ≡ []
 
--- the line of a window tells its image, which is valid with trial not allowed, or the first rule
+-- the line of a window prints its image, which is valid with trial not allowed, or the first rule
 -- that fails
 abbrev pub IsLineOf : Content → Cpu → Window → List ℕ → Type 0
 IsLineOf c cpu w text =
@@ -50,7 +50,7 @@ AreLinesOf c cpu (w ∷ ws) text =
     (first : List ℕ) × (rest : List ℕ) × IsLineOf c cpu w first × AreLinesOf c cpu ws rest
     × (text ≡ first ++ rest)
 
--- `info`: the outcome tells the table, and then each window
+-- `info`: the outcome prints the table, and then each window
 pub record IsInfoOutcome (c : Content) (cpu : Cpu) (o : AnswerView) : Type 0 where
   pub lines : List ℕ
   pub windows : AreLinesOf c cpu (windows_in c cpu) lines
@@ -58,8 +58,8 @@ pub record IsInfoOutcome (c : Content) (cpu : Cpu) (o : AnswerView) : Type 0 whe
   pub text : o.text ≡ line (table_text (table_in c)) ++ lines
   pub files : o.files ≡ []
 
--- `data`: the outcome tells the one decision that the rules name, and then the windows of the data
--- of a started image
+-- `data`: the outcome prints the one decision that the rules name, and then the windows of the
+-- data of a started image
 pub record IsDataOutcome (c : Content) (cpu : Cpu) (kind : BootKind) (o : AnswerView) : Type 0 where
   pub decision : Decision
   pub chosen : Chosen c cpu kind decision

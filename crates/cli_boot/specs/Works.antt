@@ -33,7 +33,7 @@ abbrev pub unit_windows : SlotUnit → List Window
 unit_windows u = u.a ∷ option_to_list u.b
 
 -- the windows of a flash of n bytes with slots of z bytes: those of the table's partitions, in
--- table order, or without a table those of the members of its one unit
+-- table order; without a table those of the members of its one unit
 abbrev pub windows_of : Option Found → ℕ → ℕ → Cpu → List Window
 windows_of None n z cpu = flat_map unit_windows (units None n z cpu)
 windows_of (Some found) n z cpu = map part_window found.table.parts.items
@@ -42,7 +42,7 @@ windows_of (Some found) n z cpu = map part_window found.table.parts.items
 abbrev pub windows_in : Content → Cpu → List Window
 windows_in c cpu = windows_of (table_in c) (length c.flash) (slot_size c.otp (length c.flash)) cpu
 
--- the line of a window, whose image is valid with trial not allowed, or why it is not
+-- the line of a window: its image is valid with trial not allowed, or why it is not
 abbrev pub window_line : Content → Cpu → Window → List ℕ
 window_line c cpu w = line (image_text w (image_at c w cpu false))
 

@@ -53,8 +53,8 @@ fn part_windows(parts: &[Partition]) -> ArrayVec<Window, 15>
     windows
 }
 
-/// The windows of a flash: those of its table's partitions, in table order, or without a table
-/// those of the members of its one unit.
+/// The windows of a flash: those of its table's partitions, in table order; without a table those
+/// of the members of its one unit.
 fn windows_of<B: Board>(board: &B, found: Option<&Found>, cpu: Cpu) -> ArrayVec<Window, 15>
     requires power { IsTrue (B.state board.now).powered }
     requires sound { IfSome (option_map (λ f. f.now) found)
@@ -72,8 +72,7 @@ fn windows_of<B: Board>(board: &B, found: Option<&Found>, cpu: Cpu) -> ArrayVec<
     }
 }
 
-/// The lines of windows, each with its image, where a trial image is not allowed, or why there is
-/// none.
+/// The lines of windows, each with its image or why there is none; a trial image is not allowed.
 fn window_lines<B: Board>(
     alloc: Global,
     board: &B,
@@ -220,8 +219,8 @@ pub fn boot<'a>(
     boot_answer(alloc, &board, &mut pool, cpu, kind)
 }
 
-/// The work of `info` on a board with power: the table, and each
-/// window with its image for the processor or why there is none. It fails only where memory is out.
+/// The work of `info` on a board with power: the table, and each window with its image for the
+/// processor, or why there is none. It fails only where memory is out.
 pub fn info<'a>(alloc: Global, board: MemBoard, cpu: Cpu) -> Result<Answer<'a>, AllocError>
     requires { IsTrue (state_of board).powered }
     ensures { IfOk result (λ answer. answer_from answer
@@ -231,9 +230,8 @@ pub fn info<'a>(alloc: Global, board: MemBoard, cpu: Cpu) -> Result<Answer<'a>, 
     info_answer(alloc, &board, &mut pool, cpu)
 }
 
-/// The work of `data` on a board with power: the decision of a
-/// boot of this type for the processor, and the windows of the data that its image owns. It fails
-/// only where memory is out.
+/// The work of `data` on a board with power. It prints the decision of a boot of this type for the
+/// processor, and the windows of the data that its image owns. It fails only where memory is out.
 pub fn data<'a>(
     alloc: Global,
     board: MemBoard,

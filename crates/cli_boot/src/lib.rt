@@ -1,5 +1,5 @@
-//! The work of the commands on a board: which image a boot starts, the partition table with the
-//! image in each window, and the data that a started image owns.
+//! The work of the commands on a board: which image a boot starts; the partition table with the
+//! image in each window; and the data that a started image owns.
 #![tactic(auto)]
 
 mod boards;

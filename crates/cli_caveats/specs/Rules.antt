@@ -1,4 +1,4 @@
--- What is right for `caveats`, in the words of the rules.
+-- What is right for `caveats`, by the rules.
 use Rattle.std.specs.Prelude.{◌≡◌, List, []}
 use Rattle.pico_board.specs.declared.boot.Cpu.{Cpu}
 use Rattle.pico_board.specs.declared.boot.BootKind.{BootKind}
@@ -11,7 +11,7 @@ use Rattle.cli_course.specs.Outcomes.{AnswerView}
 use Rattle.cli_boot.specs.Rules.{decided_status}
 use Rattle.cli_caveats.specs.Texts.{caveats_text}
 
--- `caveats`: the outcome tells the one decision that the rules name, and then exactly the caveats
+-- `caveats`: the outcome prints the one decision that the rules name, and then exactly the caveats
 -- whose conditions hold, in their order
 pub record IsCaveatsOf (c : Content) (cpu : Cpu) (kind : BootKind) (o : AnswerView) : Type 0 where
   pub decision : Decision

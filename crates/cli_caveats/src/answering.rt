@@ -54,9 +54,9 @@ fn caveats_answer<'a, B: Board>(
     })
 }
 
-/// The work of `caveats` on a board: the decision of a boot of this type for the processor, and
-/// then one line for each point of this very answer at which the chip may decide otherwise. It
-/// fails only where memory is out.
+/// The work of `caveats` on a board. It prints the decision of a boot of this type for the
+/// processor. Then it prints one line for each point of this very answer at which the chip may
+/// decide otherwise. It fails only where memory is out.
 pub fn caveats<'a>(
     alloc: Global,
     board: MemBoard,

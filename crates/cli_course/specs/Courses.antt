@@ -1,5 +1,5 @@
--- The course of a run: its reads, one after another, until one fails; then its writes, until one
--- fails; then one put.
+-- The course of a run: its reads, one after another, until one fails; then its writes, one after
+-- another, until one fails; then one put.
 use Rattle.std.specs.Prelude.{ℕ, ◌≡◌, ◌⊎◌, Option, Some, None, Result, Ok, Err, List, [], ◌∷◌, ◌++◌}
 use Rattle.pico_board.specs.declared.store.StoreFail.{StoreFail}
 use Rattle.pico_board.specs.declared.store.StoreFail.TheVariants.{Fault as StoreFault, Memory as StoreMemory}
@@ -21,7 +21,8 @@ abbrev pub unwritten_status : StoreFail → Status
 unwritten_status StoreFault = WriteFault
 unwritten_status StoreMemory = Memory
 
--- the status of a run whose put was answered so, where it would end with this status
+-- the status of a run whose put was answered so; without a failed put it would end with this
+-- status
 abbrev pub put_status : Status → Result (Unit {0}) SinkFail → Status
 put_status status (Ok done) = status
 put_status status (Err SinkFault) = OutputFault
@@ -35,7 +36,7 @@ pub record Stops {S : Type 0} (old : S) (end : Result (List (List ℕ)) Status)
 
 module _ {S : Type 0} (state : S → StoreState) (history : S → List Access → Type 0) where
   -- the inputs are read in their order, each up to one byte past its limit, until a read fails or
-  -- there is no memory, where these bytes were read before; the end is all the bytes, or the status
+  -- there is no memory; the bytes `read` were read before; the end is all the bytes, or the status
   -- of the run
   abbrev pub ReadsIn : List LimitedInputView → List (List ℕ) → S → Result (List (List ℕ)) Status
       → S → Type 0
@@ -59,7 +60,7 @@ module _ {S : Type 0} (state : S → StoreState) (history : S → List Access �
       ⊎ ((mid : S) × Serves state history old (Writes file.name file.bytes (Ok tt)) mid
       × WritesOut files mid end new)
 
--- the text was put in one call, and the status is the wanted one where the put succeeded
+-- the text was put in one call; where the put succeeded, the status is the wanted one
 pub record PutsOnce {K : Type 0} (shown : K → SinkState) (taken : K → List Put → Type 0)
     (before : K) (text : List ℕ) (wanted status : Status) (after : K) : Type 0 where
   pub answer : Result (Unit {0}) SinkFail
@@ -79,7 +80,7 @@ module _ {S : Type 0} (state : S → StoreState) (history : S → List Access �
         → Finishes o old before status new after
 
   -- A run on these inputs with the outcome by their bytes ends with this status. It reads the
-  -- inputs; there may be no memory for the work; it writes the files of the outcome and puts its
+  -- inputs. There may be no memory for the work. It writes the files of the outcome and puts its
   -- text.
   pub data Runs (inputs : List LimitedInputView) (outcome : List (List ℕ) → AnswerView) (old : S)
       (before : K)

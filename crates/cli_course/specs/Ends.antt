@@ -6,7 +6,7 @@ use Rattle.pico_board.specs.Puts.{SinkState, Put, IsPut, Takes}
 use Rattle.cli_course.specs.declared.status.Status.{Status}
 use Rattle.cli_course.specs.Outcomes.{AreBytes, LimitedInputView, AnswerView}
 
--- each input was read as the files say, where they are told, and is of bytes
+-- each input is of bytes; where the files are told, it was read as they say
 abbrev pub AreRead : Option (List File) → List LimitedInputView → List (List ℕ) → Type 0
 AreRead files [] [] = ⊤
 AreRead files (input ∷ inputs) (bytes ∷ read) =
@@ -44,12 +44,12 @@ pub record DoesRun {S : Type 0} (state : S → StoreState) (history : S → List
   pub calls : ServesAll state history old (read_calls inputs read ++ write_calls o.files) new
   pub puts : Takes shown taken before (record { bytes = o.text; answer = Ok tt }) after
 
--- the files after writes in this order, where the first of a name counts
+-- the files after writes in this order; the first of a name counts
 abbrev pub saved : List File → List File → List File
 saved [] old = old
 saved (file ∷ files) old = saved files (file ∷ old)
 
--- told files are told afterwards, with these written and every other name as it was
+-- told files are told afterwards: these are written, and every other name is as it was
 abbrev pub IsSaved : List File → Option (List File) → Option (List File) → Type 0
 IsSaved files None new = new ≡ None
 IsSaved files (Some old) None = ⊥
@@ -61,8 +61,8 @@ abbrev pub with_stored_file : File → Option (List File) → Option (List File)
 with_stored_file file None = None
 with_stored_file file (Some old) = Some (file ∷ old)
 
--- one of the writes failed: those before it stand, nothing is known of its name, and every other
--- name has what it had
+-- one of the writes failed: those before it stand; nothing is known of its name; every other name
+-- has what it had
 abbrev pub LeftAt : Option (List File) → List File → Option (List File) → Type 0
 LeftAt old [] new = ⊥
 LeftAt old (file ∷ files) new = IsKeptBut old file.name new

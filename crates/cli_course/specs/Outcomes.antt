@@ -27,8 +27,8 @@ pub record AnswerView : Type 0 where
   pub files : List File
 
 -- What is found of the losses of power in a script: all is well; some loss leaves nothing to
--- start; some loss starts an image that is neither the former nor the finished one; the script has
--- no effect; a record of it did nothing.
+-- start; after some loss an image starts that is neither the former nor the finished one; the
+-- script has no effect; a record of it did nothing.
 pub data Verdict : Type 0 where
   Passes : Verdict
   IsUnbootable : Verdict
@@ -36,19 +36,19 @@ pub data Verdict : Type 0 where
   HasNoEffect : Verdict
   IsRefused : Verdict
 
--- What the work of a command comes to on the bytes of its inputs: it answers whether a boot falls
--- to BOOTSEL, the text and the files to write, in word order; or it refuses an input, by its word,
--- with a fault; or it tells a text and judges a script by it.
+-- The result of a command's work on the bytes of its inputs. The work answers whether a boot falls
+-- to BOOTSEL, the text, and the files to write, in the order of the arguments. Or it refuses an
+-- input, by its argument, with a fault. Or it prints a text and judges a script by it.
 pub data Work : Type 0 where
   Answers : (falls : Bool) → (text : List ℕ) → (files : List File) → Work
   Refuses : (name fault : List ℕ) → Work
   Judges : (verdict : Verdict) → (text : List ℕ) → Work
 
--- an input file, by its word, and its fault
+-- an input file, by its argument, and its fault
 abbrev pub input_line : List ℕ → List ℕ → List ℕ
 input_line name fault = codes "input " ++ (name ++ (codes ": " ++ line fault))
 
--- words that are no command
+-- arguments that are no command
 abbrev pub not_understood : AnswerView
 not_understood = record { status = Words; text = codes "words not understood\n"; files = [] }
 
@@ -56,7 +56,7 @@ not_understood = record { status = Words; text = codes "words not understood\n";
 abbrev pub unread : AnswerView
 unread = record { status = ReadFault; text = []; files = [] }
 
--- an input file, by its word, that is refused
+-- an input file, by its argument, that is refused
 abbrev pub refused : List ℕ → List ℕ → AnswerView
 refused name fault = record { status = Input; text = input_line name fault; files = [] }
 
@@ -73,7 +73,7 @@ verdict_status IsNeither = Neither
 verdict_status HasNoEffect = NoEffect
 verdict_status IsRefused = Refused
 
--- a text that is told with a status, where no file is written
+-- a text that is printed with a status; no file is written
 abbrev pub ended : Status → List ℕ → AnswerView
 ended status text = record { status = status; text = text; files = [] }
 
@@ -99,7 +99,7 @@ abbrev pub found : List File → List LimitedInputView → Option (List (List �
 found files [] = Some []
 found files (input ∷ inputs) = found_next (file_of files input.name) (found files inputs)
 
--- the outcome by the bytes of the inputs, where all are there or one is lacking
+-- the outcome by the bytes of the inputs: all are there, or one is missing
 abbrev pub outcome_found : (List (List ℕ) → AnswerView) → Option (List (List ℕ)) → AnswerView
 outcome_found outcome None = unread
 outcome_found outcome (Some whole) = outcome whole

@@ -1,4 +1,4 @@
-//! What the work of a command comes to, and answers of one kind, which several commands use.
+//! The result of a command's work, and answers of one kind, which several commands use.
 
 ghost use Rattle.std.specs.Prelude.{◌≡◌, [], IfOk, false, string_bytes};
 ghost use Rattle.cli_course.specs.declared.status.Status.TheVariants.{Done};
@@ -11,24 +11,24 @@ use std::alloc::{AllocError, Global};
 /// A file that a command writes.
 #[derive(Drop)]
 pub struct OutFile<'a> {
-    /// The word that names the file.
+    /// The argument that names the file.
     pub name: &'a str,
     /// The bytes of the file.
     pub bytes: Vec<u8>,
 }
 
-/// What the work of a command comes to, in memory.
+/// The result of a command's work, in memory.
 #[derive(Drop)]
 pub struct Answer<'a> {
     /// The status with which the run ends where all is written and put.
     pub status: Status,
     /// The text to put.
     pub text: String,
-    /// The files to write, in word order.
+    /// The files to write, in the order of the arguments.
     pub files: Vec<OutFile<'a>>,
 }
 
-/// The line of an input file, by its word, and its fault.
+/// The line of an input file, by its argument, and its fault.
 fn fault_line(alloc: Global, name: &str, fault: &str) -> Result<String, AllocError>
     ensures { IfOk result (λ t. string_bytes t ≡ input_line name.now fault.now) }
 {
@@ -47,7 +47,7 @@ pub fn refusal(alloc: Global, name: &str, fault: &str) -> Result<Answer<'static>
     })
 }
 
-/// The answer of a command that tells a text, is no fall and writes no file.
+/// The answer of a command that prints a text, is no fall and writes no file.
 pub fn told<'a>(alloc: Global, text: String) -> Answer<'a>
     ensures { answer_from result ≡ worked (Answers false (string_bytes text) []) }
 {
@@ -58,7 +58,7 @@ pub fn told<'a>(alloc: Global, text: String) -> Answer<'a>
     }
 }
 
-/// The answer of a command that tells a text with this status and writes no file.
+/// The answer of a command that prints a text with this status and writes no file.
 pub fn ended<'a>(alloc: Global, status: Status, text: String) -> Answer<'a>
     ensures { answer_from result ≡ ended status (string_bytes text) }
 {
@@ -69,7 +69,7 @@ pub fn ended<'a>(alloc: Global, status: Status, text: String) -> Answer<'a>
     }
 }
 
-/// The answer that tells a text and writes one file. It fails only where memory is out.
+/// The answer that prints a text and writes one file. It fails only where memory is out.
 pub fn one_file<'a>(
     alloc: Global,
     text: String,

@@ -12,12 +12,12 @@ use crate::status::Status;
 use pico_board::{Sink, SinkFail, Store, StoreFail};
 use std::alloc::Global;
 
-/// An input file of a command: the word that names it, and how much of it is read.
+/// An input file of a command: the argument that names it, and how much of it is read.
 #[derive(Drop)]
 pub struct LimitedInput<'a> {
     /// The name.
     pub name: &'a str,
-    /// The greatest length of a file that is read whole, in bytes. Of a longer one, one byte more
+    /// The greatest length of a file that is read whole, in bytes. Of a longer file one byte more
     /// than that is read.
     pub limit: u32,
 }

@@ -1,5 +1,5 @@
-//! The course of a run: its inputs are read one after another, its work comes to an answer in
-//! memory, the answer's files are written, and its text is put.
+//! The course of a run: its inputs are read one after another; its work makes an answer in memory;
+//! the answer's files are written; and its text is put.
 #![tactic(auto)]
 
 mod answers;

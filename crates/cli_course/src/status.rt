@@ -7,7 +7,7 @@ ghost use Rattle.std.specs.Prelude.{◌≡◌};
 pub enum Status {
     /// The command's text and files are written.
     Done,
-    /// The words are no command.
+    /// The arguments are no command.
     Words,
     /// An input breaks its form, or the work refuses it.
     Input,
@@ -23,7 +23,7 @@ pub enum Status {
     Memory,
     /// Some loss of power leaves nothing to start.
     Unbootable,
-    /// Some loss of power starts an image that is neither the former nor the finished one.
+    /// After some loss of power an image starts that is neither the former nor the finished one.
     Neither,
     /// An update changes nothing that a boot starts.
     NoEffect,

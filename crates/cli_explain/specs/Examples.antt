@@ -14,7 +14,7 @@ use Rattle.boot_reasons.specs.declared.slots.TableReason.TheVariants.{Only}
 use Rattle.boot_reasons.specs.Reasons.{reported_decision}
 use Rattle.text_lines.specs.Examples.{example_choice, example_image}
 
--- a partition of sectors 2 to 3 with these flags and extra families, whose three pairs of
+-- a partition of sectors 2 to 3 with these flags and extra families; its three pairs of
 -- permissions are read and write, read, and write
 abbrev pub example_part : ℕ → List ℕ → Partition
 example_part flags families = record {
@@ -48,7 +48,7 @@ alone_look = record {
   taken = None;
 }
 
--- partitions 1 and 2 are a pair, of which A alone has an image
+-- partitions 1 and 2 are a pair; A alone has an image
 abbrev pub pair_look : UnitReport
 pair_look = record {
   unit = record {
@@ -62,7 +62,7 @@ pair_look = record {
   taken = Some (record { member = A; window = two_sectors_at 0x4000; because = OnlyOne });
 }
 
--- the two slots have images, of which the updated B is a trial
+-- the two slots have images; the updated B is a trial
 abbrev pub slots_look : UnitReport
 slots_look = record {
   unit = record {

@@ -1,4 +1,4 @@
--- The texts of partitions, as the reasons of a boot tell them.
+-- The texts of partitions, as `explain` prints them.
 use Rattle.std.specs.Prelude.{ℕ, ◌+◌, ◌==◌, ◌&&◌, nat_le, not, if◌then◌else◌, Bool, true, false, List, [], ◌∷◌, ◌++◌, Option, Some, None, codes, decimal}
 use Rattle.std.specs.List.{flat_map}
 use Rattle.pico_board.specs.declared.boot.Cpu.TheVariants.{Arm, Riscv}
@@ -29,7 +29,7 @@ abbrev pub id_text : Option ℕ → List ℕ
 id_text None = codes "none"
 id_text (Some id) = codes "0x" ++ hex_digits 16 id
 
--- a word more behind words, with a comma where there are any
+-- a word more after words, with a comma where there are any
 abbrev pub added : List ℕ → List ℕ → List ℕ
 added [] word = word
 added (x ∷ text) word = (x ∷ text) ++ (codes "," ++ word)
@@ -100,7 +100,8 @@ partition_fields_text p =
     ++ (codes " name=" ++ (name_text p.name ++ (codes " id=" ++ (id_text p.id
     ++ (codes " families=" ++ families_text p)))))
 
--- a partition's rights, its link, by whom it is ignored, and whether a download into it boots
+-- a partition's rights, its link, which processors ignore it, and whether a boot follows a
+-- download into it
 abbrev pub flags_text : Partition → List ℕ
 flags_text p =
     codes "rights="

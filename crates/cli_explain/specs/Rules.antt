@@ -1,4 +1,4 @@
--- What is right for `explain`, in the words of the rules of a boot.
+-- What is right for `explain`, by the rules of a boot.
 use Rattle.std.specs.Prelude.{◌≡◌, []}
 use Rattle.pico_board.specs.declared.boot.Cpu.{Cpu}
 use Rattle.pico_board.specs.declared.boot.BootKind.{BootKind}
@@ -9,7 +9,7 @@ use Rattle.cli_course.specs.declared.status.Status.TheVariants.{Done}
 use Rattle.cli_course.specs.Outcomes.{AnswerView}
 use Rattle.cli_explain.specs.Texts.{explain_text}
 
--- `explain`: the outcome tells the reasons that the rules name
+-- `explain`: the outcome prints the reasons that the rules name
 pub record IsExplainOf (c : Content) (cpu : Cpu) (kind : BootKind) (o : AnswerView) : Type 0 where
   pub reasons : Reasons
   pub explained : IsExplained c cpu kind reasons

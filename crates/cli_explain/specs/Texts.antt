@@ -25,7 +25,7 @@ use Rattle.text_lines.specs.Texts.{decision_line, invalid_text, valid_text, vers
 use Rattle.cli_course.specs.Outcomes.{line}
 use Rattle.cli_explain.specs.Partitions.{partition_lines}
 
--- what the OTP says of a boot: whether rollback versions are required, whether flash boot is off,
+-- what the OTP says of a boot: whether rollback versions are required; whether flash boot is off;
 -- and the size of a table slot
 abbrev pub otp_text : Bool → Bool → ℕ → List ℕ
 otp_text required off size =

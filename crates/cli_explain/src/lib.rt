@@ -1,7 +1,7 @@
 //! The work of `explain`: why a boot decides as it does, as a text.
 //!
-//! `specs/Partitions` and `specs/Texts` have the texts as functions of the reasons, `specs/Rules`
-//! what is right for the command.
+//! `specs/Partitions` and `specs/Texts` have the texts as functions of the reasons. `specs/Rules`
+//! says what is right for the command.
 #![tactic(auto)]
 
 pub mod examples;

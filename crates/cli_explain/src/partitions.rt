@@ -42,8 +42,8 @@ fn push_name(text: &mut String, alloc: Global, name: &[u8]) -> Result<(), AllocE
     Ok(())
 }
 
-/// The name of a partition between quotes, with each byte that does not stand as it is by two
-/// digits; or `none`.
+/// The name of a partition between quotes, or `none`. Each byte that does not stand as it is is
+/// written as two digits.
 pub fn name_text(alloc: Global, name: Option<&ArrayVec<u8, 127>>) -> Result<String, AllocError>
     ensures { IfOk result (λ t. string_bytes t ≡ name_text (option_map (λ n. n.now) name.entry)) }
 {
@@ -66,7 +66,7 @@ pub fn id_text(alloc: Global, id: Option<u64>) -> Result<String, AllocError>
     }
 }
 
-/// A word behind those before it.
+/// A word after those before it.
 fn add(text: &mut String, word: &str) -> Result<(), AllocError>
     ensures { OnOk result (string_bytes text.new ≡ added (string_bytes text.old) word.now) }
 {
@@ -111,7 +111,7 @@ fn named_families(alloc: Global, flags: u32) -> Result<String, AllocError>
     Ok(text)
 }
 
-/// Further families by number, behind words.
+/// Further families by number, after words.
 fn add_families(text: &mut String, alloc: Global, families: &[u32]) -> Result<(), AllocError>
     ensures { OnOk result
         (string_bytes text.new ≡ with_families (string_bytes text.old) families.now) }
@@ -133,8 +133,8 @@ fn or_none(alloc: Global, text: String) -> Result<String, AllocError>
     Ok(text)
 }
 
-/// The families of a partition, joined by commas: those of its bits by name, in numeric order, and
-/// then the extra ones by number; or `none`.
+/// The families of a partition, joined by commas, or `none`. Those of its bits come by name, in
+/// numeric order, and then the extra ones by number.
 pub fn families_text(alloc: Global, part: &Partition) -> Result<String, AllocError>
     ensures { IfOk result (λ t. string_bytes t ≡ families_text part.now) }
 {
@@ -203,7 +203,8 @@ fn partition_fields_text(alloc: Global, part: &Partition) -> Result<String, Allo
     format!(in alloc; "{window} name={name} id={id} families={families}")
 }
 
-/// A partition's rights, its link, by whom it is ignored, and whether a download into it boots.
+/// A partition's rights, its link, which processors ignore it, and whether a boot follows a
+/// download into it.
 fn flags_text(alloc: Global, part: &Partition) -> Result<String, AllocError>
     ensures { IfOk result (λ t. string_bytes t ≡ flags_text part.now) }
 {

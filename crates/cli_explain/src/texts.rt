@@ -28,7 +28,7 @@ fn line_of(alloc: Global, text: &str) -> Result<String, AllocError>
     format!(in alloc; "{text}\n")
 }
 
-/// What the OTP says of a boot: whether rollback versions are required, whether flash boot is off,
+/// What the OTP says of a boot: whether rollback versions are required; whether flash boot is off;
 /// and the size of a slot of a flash without a table. It fails only where memory is out.
 pub fn otp_text(alloc: Global, required: bool, off: bool, size: u32) -> Result<String, AllocError>
     ensures { IfOk result (λ t. string_bytes t ≡ otp_text required off size) }

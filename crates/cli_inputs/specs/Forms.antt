@@ -48,10 +48,15 @@ rows_of bytes = words_of bytes
 abbrev pub AreWholeUf2Blocks : List ℕ → Type 0
 AreWholeUf2Blocks bytes = (bytes ≢ []) × (length bytes % 512 ≡ 0)
 
--- a file has its form: a flash file is not empty, an OTP file is of whole rows of 24 bits, a script
--- has an end among its first records, with no fault before it, a pattern is not empty, a JSON text
--- gives a spec, a table or an OTP, a UF2 file is one of whole blocks, and none of them is too long;
--- of a binary, an image, an ELF file and the text of a script nothing else is asked
+-- a file has its form:
+-- - a flash file is not empty
+-- - an OTP file is of whole rows of 24 bits
+-- - a script has an end among its first records, with no fault before the end
+-- - a pattern is not empty
+-- - a JSON text gives a spec, a table or an OTP
+-- - a UF2 file is of whole blocks
+-- - no file is too long; a binary, an image, an ELF file and the text of a script have no other
+--   condition
 abbrev pub HasForm : Form → List ℕ → Type 0
 HasForm Flash bytes = (bytes ≢ []) × (length bytes ≤ FLASH_LIMIT)
 HasForm Otp bytes =
@@ -71,11 +76,15 @@ HasForm Text bytes = length bytes ≤ TEXT_LIMIT
 abbrev pub IsTooLarge : Form → List ℕ → List ℕ → Type 0
 IsTooLarge form bytes fault = (limit_of form < length bytes) × (fault ≡ codes "too-large")
 
--- the fault of a file that is not too long: a flash file is empty; an OTP file has a part of a row
--- at its end, or has a row of more bits, of which the least is named; a script has a fault among
--- its first records, or these have neither a fault nor an end; a pattern is empty; a JSON text has
--- the first fault by the rules of a spec, a table or an OTP; a UF2 file is not of whole blocks; a
--- binary, an image, an ELF file and a text have none
+-- the fault of a file that is not too long:
+-- - a flash file is empty
+-- - an OTP file has a part of a row at its end, or a row of more than 24 bits; the lowest such row
+--   is named
+-- - a script has a fault among its first records, or these have neither a fault nor an end
+-- - a pattern is empty
+-- - a JSON text has the first fault by the rules of a spec, a table or an OTP
+-- - a UF2 file is not of whole blocks
+-- - a binary, an image, an ELF file and a text have no fault
 abbrev pub IsOwnFault : Form → List ℕ → List ℕ → Type 0
 IsOwnFault Flash bytes fault = (bytes ≡ []) × (fault ≡ codes "empty")
 IsOwnFault Otp bytes fault =
@@ -94,12 +103,12 @@ IsOwnFault Elf bytes fault = ⊥
 IsOwnFault Uf2 bytes fault = (AreWholeUf2Blocks bytes → ⊥) × (fault ≡ codes "uf2-length")
 IsOwnFault Text bytes fault = ⊥
 
--- why a file does not have its form: that it is too long comes first
+-- why a file does not have its form: a file that is too long comes first
 abbrev pub IsFormFault : Form → List ℕ → List ℕ → Type 0
 IsFormFault form bytes fault =
     IsTooLarge form bytes fault ⊎ ((length bytes ≤ limit_of form) × IsOwnFault form bytes fault)
 
--- the least row that has more than 24 bits, counted from a first number
+-- the lowest row that has more than 24 bits, counted from a first number
 abbrev pub wide_from : ℕ → List ℕ → Option ℕ
 wide_from n [] = None
 wide_from n (row ∷ rows) = if nat_lt row (2 ^ 24) then wide_from (n + 1) rows else Some n

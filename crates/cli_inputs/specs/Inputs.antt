@@ -1,4 +1,4 @@
--- The inputs of a command, in word order, and the outcome by their bytes.
+-- The inputs of a command, in the order of the arguments, and the outcome by their bytes.
 use Rattle.std.specs.Prelude.{ℕ, false, List, [], ◌∷◌, map, Option, Some, None, option_map}
 use Rattle.std.specs.Option.{option_or}
 use Rattle.cli_course.specs.Outcomes.{LimitedInputView, AnswerView, Work, Answers, refused, worked}
@@ -54,7 +54,7 @@ elf_and_spec elf spec = record { name = elf; form = Elf } ∷ record { name = sp
 abbrev pub one_json : List ℕ → List FormInputView
 one_json json = record { name = json; form = Json } ∷ []
 
--- what is told of an OTP
+-- the text of an OTP
 abbrev pub otp_told : List ℕ → List FormInputView
 otp_told json = record { name = json; form = OtpText } ∷ []
 
@@ -62,7 +62,7 @@ otp_told json = record { name = json; form = OtpText } ∷ []
 abbrev pub image_alone : List ℕ → List FormInputView
 image_alone image = record { name = image; form = Image } ∷ []
 
--- a UF2 file, a script and the text of one
+-- a UF2 file, a script, and the text of a script
 abbrev pub uf2_alone : List ℕ → List FormInputView
 uf2_alone uf2 = record { name = uf2; form = Uf2 } ∷ []
 
@@ -72,7 +72,7 @@ script_alone script = record { name = script; form = Script } ∷ []
 abbrev pub text_alone : List ℕ → List FormInputView
 text_alone text = record { name = text; form = Text } ∷ []
 
--- nothing, which is what a work comes to on another number of inputs than it has
+-- nothing: the result of a work on another number of inputs than it has
 abbrev pub nothing : Work
 nothing = Answers false [] []
 
@@ -97,7 +97,7 @@ of_four work _ = nothing
 abbrev pub named_fault : FormInputView → List ℕ → Option AnswerView
 named_fault input bytes = option_map (refused input.name) (form_fault input.form bytes)
 
--- the first input in word order whose bytes do not have its form
+-- the first input, in the order of the arguments, whose bytes do not have its form
 abbrev pub first_input_fault : List FormInputView → List (List ℕ) → Option AnswerView
 first_input_fault (input ∷ inputs) (bytes ∷ read) =
     option_or (named_fault input bytes) (first_input_fault inputs read)

@@ -29,7 +29,7 @@ json_table_fault_text (Overlap i j) =
 json_table_fault_text (Link i) = codes "table link " ++ decimal i
 json_table_fault_text Hash = codes "table hash"
 
--- the fault of a text; the last is never one of a text
+-- the fault of a text; the last one is never the fault of a text
 abbrev pub json_text : JsonFault → List ℕ
 json_text NotJson = codes "not-json"
 json_text (Unknown place) = codes "unknown " ++ object_text place

@@ -29,9 +29,9 @@ pub record IsSpecText (bytes : List ℕ) (spec : SealSpec) : Type 0 where
   pub unbroken : first_broken (spec_rules value) ≡ None
   pub gives : spec_from value ≡ Ok spec
 
--- the text of a table: it breaks no rule of a table, its members are these, the table's block has
--- at most 640 bytes, and its partitions have no fault in a flash of 4096 sectors, of which the
--- first two are not free
+-- the text of a table: it breaks no rule of a table; its members are these; the table's block has
+-- at most 640 bytes; its partitions have no fault in a flash of 4096 sectors, where the first two
+-- are not free
 pub record IsTableText (bytes : List ℕ) (table : Table) : Type 0 where
   pub value : Data
   pub text : IsJsonText bytes value
@@ -44,8 +44,9 @@ pub record IsTableText (bytes : List ℕ) (table : Table) : Type 0 where
 abbrev pub IsSpecFault : Data → JsonFault → Type 0
 IsSpecFault d fault = first_broken (spec_rules d) ≡ Some fault
 
--- the first rule of a table that a value breaks has this fault; or it breaks none, and the table's
--- block is too long; or it is not, and this is the first fault of the partitions
+-- the first rule of a table that a value breaks has this fault; or the value breaks no rule, and
+-- the table's block is too long; or the block is not too long, and this is the first fault of the
+-- partitions
 abbrev pub IsTableFault : Data → JsonFault → Type 0
 IsTableFault d fault =
     (first_broken (table_rules d) ≡ Some fault)
@@ -54,7 +55,8 @@ IsTableFault d fault =
     ⊎ ((written_size t ≤ 640) × ((f : TableFault) × IsFirstOfTable t.parts.items 4096 2 f
     × (fault ≡ Faulty f)))))
 
--- bytes are the text of no value, or the value has a fault by these rules; and this tells it
+-- bytes are the text of no value, or the value has a fault by these rules; this text names the
+-- fault
 abbrev pub IsTextFault : (Data → JsonFault → Type 0) → List ℕ → List ℕ → Type 0
 IsTextFault IsFaultOf bytes text =
     (IsNoText bytes × (text ≡ codes "not-json"))

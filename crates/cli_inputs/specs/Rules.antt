@@ -16,15 +16,16 @@ HaveForms _ _ = ⊥
 abbrev pub AreFormed : List FormInputView → List (List ℕ) → Type 0
 AreFormed inputs read = HaveForms (map (λ (input : FormInputView). input.form) inputs) read
 
--- the first input in word order that does not have its form has this name, and its bytes have this
--- fault
+-- the first input, in the order of the arguments, that does not have its form has this name; its
+-- bytes have this fault
 abbrev pub IsFirstInputFault : List FormInputView → List (List ℕ) → List ℕ → List ℕ → Type 0
 IsFirstInputFault (input ∷ inputs) (bytes ∷ read) name fault =
     ((name ≡ input.name) × IsFormFault input.form bytes fault)
     ⊎ (HasForm input.form bytes × IsFirstInputFault inputs read name fault)
 IsFirstInputFault _ _ name fault = ⊥
 
--- a fact of the bytes of one input, of two, of three and of four; of another number it is none
+-- a fact of the bytes of one input, of two, of three and of four; of another number of inputs
+-- nothing holds
 abbrev pub OfOne : (List ℕ → Type 0) → List (List ℕ) → Type 0
 OfOne P (a ∷ []) = P a
 OfOne P _ = ⊥
@@ -41,8 +42,8 @@ abbrev pub OfFour : (List ℕ → List ℕ → List ℕ → List ℕ → Type 0)
 OfFour P (a ∷ b ∷ c ∷ d ∷ []) = P a b c d
 OfFour P _ = ⊥
 
--- the input of this name is refused with this fault: it is the first that breaks its form, or all
--- have their forms and the work refuses it
+-- the input of this name is refused with this fault: it is the first that breaks its form; or all
+-- inputs have their forms and the work refuses it
 abbrev pub IsRefusedFor : List FormInputView → (List ℕ → List ℕ → Type 0) → List (List ℕ) → List ℕ
     → List ℕ → Type 0
 IsRefusedFor inputs IsRefusedWork read name fault =
@@ -65,8 +66,8 @@ IsRefusedOrRight IsRefusedWork IsRight o =
     ⊎ IsRight o
 
 -- On inputs that have their forms a work is right by the rules, where its inputs are as it needs:
--- it refuses an input where they do, and no other; otherwise its outcome is right, and no other
--- outcome is.
+-- it refuses an input where the rules do, and no other; otherwise its outcome is right, and no
+-- other outcome is right.
 pub record WorksBy (inputs : List FormInputView) (Needs : List (List ℕ) → Type 0)
     (work : List (List ℕ) → Work) (IsRefusedWork : List (List ℕ) → List ℕ → List ℕ → Type 0)
     (IsRight : List (List ℕ) → AnswerView → Type 0) : Type 0 where

@@ -37,7 +37,7 @@ pub const ELF_LIMIT: u32 = 67_108_864;
 /// The greatest UF2 file, in bytes: 65,537 blocks.
 pub const UF2_LIMIT: u32 = 33_554_944;
 
-/// The greatest text of a script, in bytes, which no listed script passes.
+/// The greatest text of a script, in bytes. No listed script passes it.
 pub const TEXT_LIMIT: u32 = 201_326_592;
 
 /// The form of an input file.
@@ -51,17 +51,17 @@ pub enum Form {
     Script,
     /// The bytes that a cut within a step leaves.
     Pattern,
-    /// Any bytes, of which an image is made.
+    /// Any bytes; an image is made of them.
     Binary,
     /// The JSON text of the spec of a sealed image.
     Spec,
     /// The JSON text of a partition table.
     Json,
-    /// The JSON text that tells of an OTP.
+    /// The JSON text of an OTP.
     OtpText,
     /// The bytes of an image.
     Image,
-    /// An ELF file, of which an image is made.
+    /// An ELF file; an image is made of it.
     Elf,
     /// The blocks of a UF2 file.
     Uf2,
@@ -98,7 +98,7 @@ fn row_at(file: &[u8], place: usize) -> u32
     LittleEndian::read_u32(&file[4 * place..])
 }
 
-/// The least row of an OTP file that has more than 24 bits.
+/// The lowest row of an OTP file that has more than 24 bits.
 fn wide_row(file: &[u8]) -> Option<usize>
     ensures { result ≡ wide_from 0 (rows_of file.now) }
 {
@@ -227,7 +227,7 @@ fn pad(rows: &mut Vec<u32>, count: usize) -> Result<(), AllocError>
     rows.resize(count, 0)
 }
 
-/// The 4096 rows that an OTP file gives, with 0 for those that it does not have. It fails only
+/// The 4096 rows that an OTP file gives, with 0 for rows that it does not have. It fails only
 /// where memory is out.
 #[tactic(auto, unfolding(crate::specs::Forms::otp_of))]
 fn otp_rows(alloc: Global, file: &[u8]) -> Result<Vec<u32>, AllocError>
@@ -250,8 +250,8 @@ fn want_of_memory(error: BoardError) -> AllocError
     }
 }
 
-/// The board in memory of a flash file and an OTP file, which have their forms. It fails only where
-/// memory is out.
+/// The board in memory of a flash file and an OTP file, which have their forms. It fails only
+/// where memory is out.
 pub fn board_of(alloc: Global, flash: Vec<u8>, otp: &[u8]) -> Result<MemBoard, AllocError>
     requires flash { HasForm Form.Flash flash.items }
     requires otp { HasForm Form.Otp otp.now }

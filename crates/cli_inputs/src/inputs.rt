@@ -1,4 +1,4 @@
-//! The inputs of a command: what is read of each, the first that does not have its form, and the
+//! The inputs of a command: what is read of each; the first that does not have its form; and the
 //! bytes of each where all have their forms.
 
 ghost use Rattle.std.specs.Prelude.{◌≡◌, ◌∷◌, [], IfOk, length, map, option_map};
@@ -14,7 +14,7 @@ use crate::forms::{Form, form_fault};
 use cli_course::{Answer, LimitedInput, refusal};
 use std::alloc::{AllocError, Global};
 
-/// An input of a command: the word that names it, and its form.
+/// An input of a command: the argument that names it, and its form.
 #[derive(Drop)]
 pub struct FormInput<'a> {
     /// The name.
@@ -48,8 +48,8 @@ pub fn readings<'a>(
     Ok(words)
 }
 
-/// The answer that refuses the first input, in word order, that does not have its form. It fails
-/// only where memory is out.
+/// The answer that refuses the first input, in the order of the arguments, that does not have its
+/// form. It fails only where memory is out.
 pub fn first_input_fault(
     alloc: Global,
     inputs: &[FormInput<'_>],

@@ -201,7 +201,7 @@ pub fn table_in(alloc: Global, text: &[u8]) -> Result<Table, AllocError>
     }
 }
 
-/// What a text that has its form tells of an OTP. It fails only where memory is out.
+/// What a text that has its form says of an OTP. It fails only where memory is out.
 pub fn otp_in(alloc: Global, text: &[u8]) -> Result<OtpSpec, AllocError>
     requires { HasForm Form.OtpText text.now }
     ensures otp { IfOk result (λ spec. otp_read text.now ≡ Ok (otp_spec_from spec)) }

@@ -1,6 +1,6 @@
-//! The forms of input files, the first fault of each, and what files that have their forms give:
-//! a board in memory, the spec of a sealed image, a partition table. Besides, the pool for the
-//! calls of a boot, and when the work of a command is right by rules of its own.
+//! The forms of input files, the first fault of each, and what files that have their forms give: a
+//! board in memory, the spec of a sealed image, or a partition table. Also here are the pool for
+//! the calls of a boot, and when the work of a command is right by rules of its own.
 #![tactic(auto)]
 
 pub mod examples;

@@ -95,7 +95,7 @@ pub fn one_json<'a>(alloc: Global, json: &'a str) -> Result<Vec<FormInput<'a>>, 
     Ok(vec![in alloc; input(json, Form::Json)]?)
 }
 
-/// What is told of an OTP, as an input. It fails only where memory is out.
+/// The text of an OTP as an input. It fails only where memory is out.
 pub fn otp_told<'a>(alloc: Global, json: &'a str) -> Result<Vec<FormInput<'a>>, AllocError>
     ensures { IfOk result (λ inputs. map form_input_from inputs.items ≡ otp_told json.entry.now) }
 {

@@ -15,8 +15,8 @@ use Rattle.boot_map.specs.declared.maps.Pairing.{Pairing}
 use Rattle.boot_map.specs.declared.places.MapPlace.{MapPlace}
 use Rattle.boot_map.specs.declared.places.MapPlace.TheVariants.{Free}
 
--- partition 0, in sectors 2 to 3, has a name and two families by their bits, and its location word
--- has every permission; partition 1, in sectors 4 to 5, has the link "A is 0"
+-- partition 0, in sectors 2 to 3, has a name and two families by their bits; its location word has
+-- every permission; partition 1, in sectors 4 to 5, has the link "A is 0"
 abbrev pub main_part : Partition
 main_part = record {
   location = 2 + 2 ^ 13 * 3 + 2 ^ 26 * 63;
@@ -35,7 +35,7 @@ part_linked_to_main = record {
   name = None;
 }
 
--- a map of a flash whose slot 0 has a table of version 1.9 with both
+-- a map of a flash: its slot 0 has a table of version 1.9 with both
 abbrev pub table_map : FlashMap
 table_map = record {
   decision = Bootsel NoImage;
@@ -60,7 +60,7 @@ bare_map = record {
   rows = record { items = [] };
 }
 
--- a window of which no image is told
+-- a window without an image in its row
 abbrev pub bare_row_at : MapPlace → ℕ → ℕ → MapRow
 bare_row_at place start len = record {
   place = place;
@@ -84,7 +84,7 @@ row_with place start len image pair starts = record {
 abbrev pub some_pairing : Member → ℕ → Option Pairing
 some_pairing member other = Some (record { member = member; other = other })
 
--- the map of a flash of 32 KiB without a table whose slots have 8 KiB
+-- the map of a flash of 32 KiB without a table; its slots have 8 KiB
 abbrev pub three_rows : FlashMap
 three_rows = record {
   decision = Bootsel NoImage;

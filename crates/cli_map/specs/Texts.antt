@@ -27,7 +27,7 @@ found_words (Ok s) =
     codes " " ++ (version_text s.version ++ (codes " rollback=" ++ rollback_text s.rollback))
 found_words (Err why) = codes " fault=" ++ why_text why
 
--- the image of a window, where one is told
+-- the image of a window, where its row has one
 abbrev pub image_words : Option (Result Started Why) → List ℕ
 image_words None = []
 image_words (Some image) = found_words image

@@ -14,12 +14,12 @@ use Rattle.cli_map.specs.Texts.{bars_of}
 abbrev pub map_line : FlashMap → List ℕ
 map_line m = line (map_words (length m.rows.items))
 
--- the bytes of the picture of a flash of n bytes with this map, which shows the decision of a
--- normal boot by its line
+-- the bytes of the picture of a flash of n bytes with this map; the picture shows the decision of
+-- a normal boot by its line
 abbrev pub map_file : ℕ → FlashMap → List ℕ
 map_file n m = picture_text (map_picture n (bars_of m) (decision_text m.decision))
 
--- the map of a flash of n bytes is told and drawn
+-- the map of a flash of n bytes is printed and drawn
 abbrev pub drawn_work : ℕ → FlashMap → List ℕ → Work
 drawn_work n m out = Answers false (map_line m) (one_file out (map_file n m))
 

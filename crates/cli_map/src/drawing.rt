@@ -32,7 +32,7 @@ fn decided_words(alloc: Global, decision: &Decision) -> Result<String, AllocErro
     format!(in alloc; "{text}")
 }
 
-/// The answer that tells how many windows a flash of so many bytes has, and writes its picture.
+/// The answer that prints how many windows a flash of so many bytes has, and writes its picture.
 fn drawn<'a>(
     alloc: Global,
     flash_len: u32,
@@ -68,9 +68,9 @@ fn map_answer<'a, B: Board>(
     drawn(alloc, board.flash_len(), &shown, out)
 }
 
-/// The work of `map` on a board with power: how many windows the flash has, and its picture, with
-/// what the processor finds in each window and what a normal boot starts. It fails only where memory
-/// is out.
+/// The work of `map` on a board with power: how many windows the flash has, and its picture. The
+/// picture shows what the processor finds in each window, and what a normal boot starts. It fails
+/// only where memory is out.
 pub fn map_flash<'a>(
     alloc: Global,
     board: MemBoard,

@@ -36,7 +36,7 @@ fn found_words(alloc: Global, image: &Result<Started, Why>) -> Result<String, Al
     }
 }
 
-/// The image of a window, where one is told.
+/// The image of a window, where its row has one.
 fn image_words(alloc: Global, image: &Option<Result<Started, Why>>) -> Result<String, AllocError>
     ensures { IfOk result (λ t. string_bytes t ≡ image_words image.now) }
 {
@@ -70,7 +70,7 @@ fn pair_words(alloc: Global, pair: Option<Pairing>) -> Result<String, AllocError
     }
 }
 
-/// A slot: what it has or lacks where the flash has a table, and else its number alone.
+/// A slot: what it has or lacks where the flash has a table; otherwise its number alone.
 fn slot_words(
     alloc: Global,
     table: Option<&Table>,

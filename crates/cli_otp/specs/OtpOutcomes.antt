@@ -1,4 +1,4 @@
--- What is right for `otp`, in the words of the rules.
+-- What is right for `otp`, by the rules.
 use Rattle.std.specs.Prelude.{◌≡◌, ℕ, List}
 use Rattle.table_json.specs.Otps.{OtpView}
 use Rattle.table_json.specs.OtpRules.{IsOtpText}
@@ -6,7 +6,7 @@ use Rattle.cli_course.specs.declared.status.Status.TheVariants.{Done}
 use Rattle.cli_course.specs.Outcomes.{one_file, AnswerView}
 use Rattle.cli_otp.specs.OtpWords.{otp_bytes, otp_line}
 
--- `otp`: the outcome tells the OTP that the text gives, and writes its file
+-- `otp`: the outcome prints the OTP that the text gives, and writes its file
 pub record IsOtpOf (out j : List ℕ) (o : AnswerView) : Type 0 where
   pub spec : OtpView
   pub says : IsOtpText j spec

@@ -1,4 +1,4 @@
--- The OTP file of a board that is told in words, as a function of what is told.
+-- The OTP file of a board that a text describes, as a function of what the text says.
 use Rattle.std.specs.Prelude.{ℕ, ◌+◌, ◌*◌, ◌^◌, ◌==◌, Bool, false, not, if◌then◌else◌, List, [], ◌∷◌, ◌++◌, map, count_by, Result, Ok, Err, codes, decimal}
 use Rattle.std.specs.List.{range_with_len}
 use Rattle.block_codec.specs.Words.{bytes_of}
@@ -15,7 +15,7 @@ listed_from value [] row = value
 listed_from value (pair ∷ pairs) row =
     listed_from (if row == pair.row then pair.value else value) pairs row
 
--- the value that is listed for a row, of which the last counts, or 0
+-- the value that is listed for a row, or 0; the last listed value counts
 abbrev pub listed : List OtpRow → ℕ → ℕ
 listed pairs row = listed_from 0 pairs row
 
@@ -51,7 +51,7 @@ told_text spec =
 abbrev pub otp_line : OtpView → List ℕ
 otp_line spec = told_text spec ++ (codes " rows=" ++ line (decimal (set_count spec.rows)))
 
--- the OTP is written; a text that is at fault comes to nothing
+-- the OTP is written; a text that is at fault has no result
 abbrev pub otp_work : List ℕ → Result OtpView JsonFault → Work
 otp_work out (Ok spec) = Answers false (otp_line spec) (one_file out (otp_bytes spec))
 otp_work out (Err fault) = Answers false [] []

@@ -1,4 +1,4 @@
-//! The rows of an OTP that is told in words, its file and its line.
+//! The rows of an OTP that a text describes, its file and its line.
 
 ghost use Rattle.std.specs.Prelude.{◌≡◌, ◌==◌, IfOk, Ok, OnOk, length, map, not, replicate, slice_set, string_bytes, count_by, ◌++◌, ◌≤◌, ◌*◌, ◌^◌, codes, decimal};
 ghost use Rattle.block_codec.specs.Words.{bytes_of};
@@ -116,7 +116,7 @@ fn slot_size(exponent: u32) -> u32
     SECTOR << exponent
 }
 
-/// The line of what is told of an OTP and of so many rows. It fails only where memory is out.
+/// The line of a text on an OTP and of so many rows. It fails only where memory is out.
 fn counted_line(alloc: Global, told: &str, count: usize) -> Result<String, AllocError>
     ensures { IfOk result (λ t. string_bytes t
         ≡ told.now ++ (codes " rows=" ++ line (decimal count))) }
@@ -135,8 +135,8 @@ fn otp_line(alloc: Global, spec: &OtpSpec, count: usize) -> Result<String, Alloc
     counted_line(alloc, &told, count)
 }
 
-/// The work of `otp` on what is told of an OTP: the line, and the file of the rows. It fails only
-/// where memory is out.
+/// The work of `otp` on what a text says of an OTP: the line, and the file of the rows. It fails
+/// only where memory is out.
 pub fn otp<'a>(alloc: Global, spec: &OtpSpec, out: &'a str) -> Result<Answer<'a>, AllocError>
     requires { IsSound (otp_spec_from spec.now) }
     ensures { IfOk result (λ answer. answer_from answer

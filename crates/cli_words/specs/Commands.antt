@@ -1,4 +1,4 @@
--- The words that are a command.
+-- The arguments that are a command.
 use Rattle.std.specs.Prelude.{ℕ, ◌==◌, ◌&&◌, Bool, true, false, get_or, if◌then◌else◌, List, [], ◌∷◌, length, take, drop, Option, Some, None, option_map, option_and_then, codes, bytes_eq, map, Vec, String, string_bytes}
 use Rattle.std.specs.Option.{option_or}
 use Rattle.std.specs.declared.alloc.Global.{Global}
@@ -48,7 +48,7 @@ pub data CommandLineView : Type 0 where
   Help : (command : List ℕ) → CommandLineView
   Release : CommandLineView
 
--- the word of a processor
+-- the argument of a processor
 abbrev pub cpu_of : List ℕ → Option Cpu
 cpu_of word =
     if bytes_eq word (codes "arm") then Some Arm
@@ -62,26 +62,26 @@ update_base word =
     then hex_value 0 (drop 9 word)
     else None
 
--- the word of a boot type
+-- the argument of a boot type
 abbrev pub boot_kind_of : List ℕ → Option BootKind
 boot_kind_of word =
     if bytes_eq word (codes "normal") then Some Normal
     else if bytes_eq word (codes "bootsel") then Some Bootsel
     else option_map Update (update_base word)
 
--- the values of a command's words, of which a command has at most one each; one that it has not
--- stands at these
+-- the values of a command's arguments; a command has at most one of each; a value that it does not
+-- have is one of these
 abbrev pub no_values : Values
 no_values = record { cpu = Arm; kind = Normal; family = 0; number = 0 }
 
--- a word is the name of a row
+-- an argument is the name of a row
 abbrev pub is_row_name : List Verb → List ℕ → Bool
 is_row_name [] word = false
 is_row_name (verb ∷ verbs) word =
     if bytes_eq (row_of verb).name word then true else is_row_name verbs word
 
--- the values with that of one word more, where the word is of this kind; a name is any word, but
--- that of a command
+-- the values with that of one argument more, where the argument is of this kind; a name is any
+-- argument but that of a command
 abbrev pub with_word : Word → List ℕ → Values → Option Values
 with_word kinds.Cpu word values = option_map (λ cpu. record values { cpu = cpu }) (cpu_of word)
 with_word kinds.Kind word values =
@@ -94,7 +94,7 @@ with_word kinds.Command word values =
     if is_row_name VERBS word then Some values else None
 with_word _ word values = Some values
 
--- the values of words that are of these kinds, one after another
+-- the values of arguments that are of these kinds, one after another
 abbrev pub values_from : List Word → List (List ℕ) → Values → Option Values
 values_from (kind ∷ kinds) (word ∷ words) values =
     option_and_then (values_from kinds words) (with_word kind word values)
@@ -104,11 +104,11 @@ abbrev pub row_values : List Word → List (List ℕ) → Option Values
 row_values kinds words =
     if length kinds == length words then values_from kinds words no_values else None
 
--- the word at a place
+-- the argument at a place
 abbrev pub word_at : ℕ → List (List ℕ) → List ℕ
 word_at i words = get_or words i []
 
--- the command of a row, by its words and their values
+-- the command of a row, by its arguments and their values
 abbrev pub built : Verb → List (List ℕ) → Values → CommandLineView
 built verbs.Boot words v = Boot (word_at 0 words) (word_at 1 words) v.cpu v.kind
 built verbs.Info words v = Info (word_at 0 words) (word_at 1 words) v.cpu
@@ -150,25 +150,25 @@ built verbs.WordUsage words v = Usage
 built verbs.Help words v = Help (word_at 0 words)
 built verbs.Release words v = Release
 
--- the command of the words behind a name, where they are this row
+-- the command of the arguments after a name, where they are this row
 abbrev pub row_command : Verb → List ℕ → List (List ℕ) → Option CommandLineView
 row_command verb name words =
     if bytes_eq (row_of verb).name name
     then option_map (built verb words) (row_values (row_of verb).words words)
     else None
 
--- the command of the first of these rows that the words are
+-- the command of the first of these rows that the arguments are
 abbrev pub first_command : List Verb → List ℕ → List (List ℕ) → Option CommandLineView
 first_command [] name words = None
 first_command (verb ∷ verbs) name words =
     option_or (row_command verb name words) (first_command verbs name words)
 
--- the command that the words are; other words are none
+-- the command that the arguments are; other arguments are no command
 abbrev pub command_of : List (List ℕ) → Option CommandLineView
 command_of [] = None
 command_of (name ∷ words) = first_command VERBS name words
 
--- the command of a run's words
+-- the command of a run's arguments
 abbrev pub asked : Vec (String Global) Global → Option CommandLineView
 asked words = command_of (map string_bytes words.items)
 

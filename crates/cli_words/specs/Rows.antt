@@ -1,4 +1,4 @@
--- The table of commands: for each row its name, its words in order, and what it does.
+-- The table of commands: for each row its name, its arguments in order, and what it does.
 use Rattle.std.specs.Prelude.{ℕ, List, [], ◌∷◌, codes}
 use Rattle.cli_words.specs.declared.rows.Word.{Word}
 use Rattle.cli_words.specs.declared.rows.Word.TheVariants as kinds
@@ -6,7 +6,7 @@ use Rattle.cli_words.specs.declared.rows.Verb.{Verb}
 use Rattle.cli_words.specs.declared.rows.Verb.TheVariants as verbs
 use Rattle.cli_words.specs.declared.rows.Row.{Row}
 
--- a row: its name, the words behind it, and what the command does
+-- a row: its name, the arguments after it, and what the command does
 pub record RowView : Type 0 where
   pub name : List ℕ
   pub words : List Word
@@ -16,7 +16,7 @@ pub record RowView : Type 0 where
 abbrev pub row_from : Row → RowView
 row_from row = record { name = row.name.now; words = row.words.now; does = row.does.now }
 
--- what the usage calls a word
+-- what the usage calls an argument
 abbrev pub word_name : Word → List ℕ
 word_name kinds.Cpu = codes "CPU"
 word_name kinds.Kind = codes "KIND"
@@ -38,7 +38,7 @@ word_name kinds.Number = codes "N"
 word_name kinds.Out = codes "OUT"
 word_name kinds.Command = codes "COMMAND"
 
--- the lines of the usage on a word
+-- the lines of the usage on an argument
 abbrev pub word_note : Word → List ℕ
 word_note kinds.Cpu =
     codes "CPU     arm or riscv\n"

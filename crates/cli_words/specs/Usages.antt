@@ -9,21 +9,21 @@ use Rattle.cli_words.specs.declared.rows.Verb.{Verb}
 use Rattle.cli_words.specs.declared.rows.Word.{Word}
 use Rattle.cli_words.specs.declared.usage.TheConstants.{VERSION}
 
--- the words of a row behind its name, each after a blank
+-- the arguments of a row after its name, each after a blank
 abbrev pub words_text : List Word → List ℕ
 words_text words = flat_map (λ word. codes " " ++ word_name word) words
 
--- the words of a row
+-- the name and the arguments of a row
 abbrev pub synopsis : RowView → List ℕ
 synopsis row = row.name ++ words_text row.words
 
--- the line of a row: its words, filled to 23 characters with blanks, two blanks more, and what the
--- command does
+-- the line of a row: its name and arguments, filled to 23 characters with blanks; two blanks more;
+-- and what the command does
 abbrev pub row_line : RowView → List ℕ
 row_line row =
     padded (format_spec 32 1 0 23 (2 ^ 64 - 1)) (synopsis row) ++ (codes "  " ++ line row.does)
 
--- the lines on the words, and behind an empty line those on the statuses
+-- the lines on the arguments, and after an empty line those on the statuses
 abbrev pub forms_text : List ℕ
 forms_text = flat_map word_note WORDS ++ (codes "\n" ++ STATUSES.now)
 
@@ -31,11 +31,11 @@ forms_text = flat_map word_note WORDS ++ (codes "\n" ++ STATUSES.now)
 unfoldable pub rows_text : List Verb → List ℕ
 rows_text verbs = flat_map (λ verb. row_line (row_of verb)) verbs
 
--- how the program is used: a line for each row, and behind an empty line the forms of the words
+-- how the program is used: a line for each row, and after an empty line the forms of the arguments
 unfoldable pub usage_text : List ℕ
 usage_text = rows_text VERBS ++ (codes "\n" ++ forms_text)
 
--- the line of a row and the lines on its words, where the row has this name
+-- the line of a row and the lines on its arguments, where the row has this name
 abbrev pub row_help : List ℕ → Verb → List ℕ
 row_help name verb =
     if bytes_eq (row_of verb).name name

@@ -1,8 +1,8 @@
--- The words of a UF2 family. This project's own, over the families of the RP2350.
+-- The arguments of a UF2 family. This project's own, over the families of the RP2350.
 use Rattle.std.specs.Prelude.{ℕ, if◌then◌else◌, List, Option, Some, None, codes, bytes_eq}
 use Rattle.part_table.specs.Families.{rp2040_family, absolute_family, data_family, arm_s_family, riscv_family, arm_ns_family}
 
--- the family that a word names
+-- the family that an argument names
 abbrev pub family_of : List ℕ → Option ℕ
 family_of word =
     if bytes_eq word (codes "rp2040") then Some rp2040_family

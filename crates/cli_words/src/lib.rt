@@ -1,4 +1,4 @@
-//! The words of a run: which command they are, how the program is used, and its version.
+//! The arguments of a run: which command they are, how the program is used, and its version.
 #![tactic(auto)]
 
 pub mod examples;

@@ -1,9 +1,9 @@
-//! The table of commands: for each row its name, its words in order, and what it does.
+//! The table of commands: for each row its name, its arguments in order, and what it does.
 
 ghost use Rattle.std.specs.Prelude.{◌≡◌};
 ghost use Rattle.cli_words.specs.Rows.{RowView, row_of, word_name, word_note, row_from};
 
-/// A word of a command.
+/// An argument of a command.
 #[derive(Clone, Copy, PartialEq, Eq, Debug)]
 pub enum Word {
     /// The processor of a boot.
@@ -47,7 +47,7 @@ pub enum Word {
 }
 
 impl Word {
-    /// What the usage calls the word.
+    /// What the usage calls the argument.
     pub fn name(self) -> &'static str
         ensures { result.now ≡ word_name self }
     {
@@ -74,7 +74,7 @@ impl Word {
         }
     }
 
-    /// The lines of the usage on the word.
+    /// The lines of the usage on the argument.
     pub fn note(self) -> &'static str
         ensures { result.now ≡ word_note self }
     {
@@ -173,7 +173,7 @@ pub enum Verb {
     OwnedData,
     /// Why a boot decides as it does.
     Explain,
-    /// Where the model and the chip may part on a boot.
+    /// Where the chip may decide otherwise than the model on a boot.
     Caveats,
     /// A picture of a flash.
     Map,
@@ -195,7 +195,7 @@ pub enum Verb {
     Firm,
     /// The partition table of a text.
     Table,
-    /// The OTP file of a board that is told in words.
+    /// The OTP file of a board that a text describes.
     OtpFile,
     /// The UF2 file of an image.
     Uf2,
@@ -215,7 +215,7 @@ pub enum Verb {
     Usage,
     /// How the program is used, by a dash and a letter.
     ShortUsage,
-    /// How the program is used, by a word.
+    /// How the program is used, by a word without a dash.
     WordUsage,
     /// How one command is used.
     Help,
@@ -223,12 +223,12 @@ pub enum Verb {
     Release,
 }
 
-/// The words of a row, and what it does.
+/// The name and the arguments of a row, and what it does.
 #[derive(Clone, Copy)]
 pub struct Row {
-    /// The first word.
+    /// The name of the command.
     pub name: &'static str,
-    /// The words behind it, in order.
+    /// The arguments after the name, in order.
     pub words: &'static [Word],
     /// What the command does, in a line.
     pub does: &'static str,
@@ -448,7 +448,7 @@ pub const VERBS: [Verb; 28] = [
     Verb::Release,
 ];
 
-/// The words on which the usage has lines, in its order.
+/// The arguments on which the usage has lines, in its order.
 pub const WORDS: [Word; 19] = [
     Word::Cpu,
     Word::Kind,

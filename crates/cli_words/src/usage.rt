@@ -11,7 +11,7 @@ use std::alloc::{AllocError, Global};
 /// The version of the program.
 pub const VERSION: &str = "0.1.0";
 
-/// The words of a row behind its name, each after a blank.
+/// The arguments of a row after its name, each after a blank.
 fn words_text(alloc: Global, words: &[Word]) -> Result<String, AllocError>
     ensures { IfOk result (λ t. string_bytes t ≡ words_text words.now) }
 {
@@ -23,7 +23,7 @@ fn words_text(alloc: Global, words: &[Word]) -> Result<String, AllocError>
     Ok(text)
 }
 
-/// The words of a row.
+/// The name and the arguments of a row.
 fn synopsis(alloc: Global, row: Row) -> Result<String, AllocError>
     ensures { IfOk result (λ t. string_bytes t ≡ synopsis (row_from row)) }
 {
@@ -32,7 +32,8 @@ fn synopsis(alloc: Global, row: Row) -> Result<String, AllocError>
     format!(in alloc; "{name}{words}")
 }
 
-/// The line of a row: its words, and what the command does, in columns where the words are short.
+/// The line of a row: its name and arguments, and what the command does, in columns where the
+/// first part is short.
 fn row_line(alloc: Global, row: Row) -> Result<String, AllocError>
     ensures { IfOk result (λ t. string_bytes t ≡ row_line (row_from row)) }
 {
@@ -54,7 +55,7 @@ fn rows_text(alloc: Global, verbs: &[Verb]) -> Result<String, AllocError>
     Ok(text)
 }
 
-/// The lines on words.
+/// The lines on arguments.
 fn notes_text(alloc: Global, words: &[Word]) -> Result<String, AllocError>
     ensures { IfOk result (λ t. string_bytes t ≡ flat_map word_note words.now) }
 {
@@ -65,7 +66,7 @@ fn notes_text(alloc: Global, words: &[Word]) -> Result<String, AllocError>
     Ok(text)
 }
 
-/// The forms of the words, and the statuses.
+/// The forms of the arguments, and the statuses.
 fn forms_text(alloc: Global) -> Result<String, AllocError>
     ensures { IfOk result (λ t. string_bytes t ≡ forms_text) }
 {
@@ -83,7 +84,7 @@ pub fn usage_text(alloc: Global) -> Result<String, AllocError>
     format!(in alloc; "{rows}\n{forms}")
 }
 
-/// The line of a row and the lines on its words, where the row has this name.
+/// The line of a row and the lines on its arguments, where the row has this name.
 fn row_help(alloc: Global, name: &str, verb: Verb) -> Result<String, AllocError>
     ensures { IfOk result (λ t. string_bytes t ≡ row_help name.now verb) }
 {
@@ -97,7 +98,7 @@ fn row_help(alloc: Global, name: &str, verb: Verb) -> Result<String, AllocError>
     }
 }
 
-/// The same of rows.
+/// The lines of the rows of this name and on their arguments.
 fn rows_help(alloc: Global, name: &str, verbs: &[Verb]) -> Result<String, AllocError>
     ensures { IfOk result (λ t. string_bytes t ≡ flat_map (row_help name.now) verbs.now) }
 {
@@ -109,8 +110,8 @@ fn rows_help(alloc: Global, name: &str, verbs: &[Verb]) -> Result<String, AllocE
     Ok(text)
 }
 
-/// How a command is used: the line of each row of its name, the lines on its words, and those on
-/// the statuses.
+/// How a command is used: the line of each row of its name, the lines on its arguments, and those
+/// on the statuses.
 #[tactic(auto, unfolding(crate::specs::Usages::help_text))]
 pub fn help_text(alloc: Global, name: &str) -> Result<String, AllocError>
     ensures { IfOk result (λ t. string_bytes t ≡ help_text name.now) }

@@ -1,4 +1,4 @@
-//! The values of a command's words.
+//! The values of a command's arguments.
 
 ghost use Rattle.std.specs.Prelude.{◌≡◌, map, string_bytes};
 ghost use Rattle.text_words.specs.Reading.{number_of};
@@ -12,7 +12,7 @@ use part_table::{
 use pico_board::{BootKind, Cpu};
 use text_words::{decimal_number, hex_number};
 
-/// The values of a command's words, of which a command has at most one each.
+/// The values of a command's arguments. A command has at most one of each.
 #[derive(Clone, Copy)]
 pub struct Values {
     /// The processor.
@@ -25,7 +25,7 @@ pub struct Values {
     pub number: u32,
 }
 
-/// The processor that a word names.
+/// The processor that an argument names.
 fn cpu_word(word: &str) -> Option<Cpu>
     ensures { result ≡ cpu_of word.now }
 {
@@ -49,7 +49,7 @@ fn update_base(word: &[u8]) -> Option<u32>
     }
 }
 
-/// The boot type that a word names.
+/// The boot type that an argument names.
 fn kind_word(word: &str) -> Option<BootKind>
     ensures { result ≡ boot_kind_of word.now }
 {
@@ -62,7 +62,7 @@ fn kind_word(word: &str) -> Option<BootKind>
     }
 }
 
-/// The family that a word names.
+/// The family that an argument names.
 fn family_word(word: &str) -> Option<u32>
     ensures { result ≡ family_of word.now }
 {
@@ -77,14 +77,14 @@ fn family_word(word: &str) -> Option<u32>
     }
 }
 
-/// The number below 2^32 that a word of 1 to 10 decimal digits is.
+/// The number below 2^32 that an argument of 1 to 10 decimal digits is.
 fn number_word(word: &str) -> Option<u32>
     ensures { result ≡ number_of word.now }
 {
     decimal_number(word.as_bytes())
 }
 
-/// Whether a word is the name of one of these rows.
+/// Whether an argument is the name of one of these rows.
 fn is_row_name(verbs: &[Verb], word: &str) -> bool
     ensures { result ≡ is_row_name verbs.now word.now }
 {
@@ -96,7 +96,7 @@ fn is_row_name(verbs: &[Verb], word: &str) -> bool
     false
 }
 
-/// The values with that of one word more, where the word is of this kind.
+/// The values with that of one argument more, where the argument is of this kind.
 fn with_word(kind: Word, word: &str, values: Values) -> Option<Values>
     ensures { result ≡ with_word kind word.now values }
 {
@@ -128,7 +128,7 @@ fn with_word(kind: Word, word: &str, values: Values) -> Option<Values>
     }
 }
 
-/// The values of words that are of these kinds, one after another.
+/// The values of arguments that are of these kinds, one after another.
 pub fn row_values(kinds: &[Word], words: &[String]) -> Option<Values>
     ensures { result ≡ row_values kinds.now (map string_bytes words.now) }
 {

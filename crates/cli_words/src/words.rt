@@ -1,4 +1,4 @@
-//! The words that are a command.
+//! The arguments that are a command.
 
 ghost use Rattle.std.specs.Prelude.{◌≡◌, option_map, map, string_bytes};
 ghost use Rattle.cli_words.specs.Commands.{command_of, command_from, built, first_command, row_command, word_at};
@@ -7,7 +7,7 @@ use crate::rows::{VERBS, Verb};
 use crate::values::{Values, row_values};
 use pico_board::{BootKind, Cpu};
 
-/// A command, with the words that name its files.
+/// A command, with the arguments that name its files.
 #[derive(Clone, Copy, Drop)]
 pub enum CommandLine<'a> {
     /// Which image a boot starts.
@@ -37,7 +37,7 @@ pub enum CommandLine<'a> {
         cpu: Cpu,
         kind: BootKind,
     },
-    /// Where the model and the chip may part on a boot.
+    /// Where the chip may decide otherwise than the model on a boot.
     Caveats {
         flash: &'a str,
         otp: &'a str,
@@ -115,7 +115,7 @@ pub enum CommandLine<'a> {
         json: &'a str,
         out: &'a str,
     },
-    /// The OTP file of a board that is told in words.
+    /// The OTP file of a board that a text describes.
     OtpFile {
         json: &'a str,
         out: &'a str,
@@ -170,7 +170,7 @@ pub enum CommandLine<'a> {
     Release,
 }
 
-/// The word at a place; the empty one past the last.
+/// The argument at a place; the empty one past the last.
 fn word_at(words: &[String], place: usize) -> &str
     ensures { result.now ≡ word_at place (map string_bytes words.entry.now) }
 {
@@ -180,7 +180,7 @@ fn word_at(words: &[String], place: usize) -> &str
     }
 }
 
-/// The command of a row, by its words and their values.
+/// The command of a row, by its arguments and their values.
 fn built<'a>(verb: Verb, words: &'a [String], values: Values) -> CommandLine<'a>
     ensures { command_from result ≡ built verb (map string_bytes words.entry.now) values }
 {
@@ -318,7 +318,7 @@ fn built<'a>(verb: Verb, words: &'a [String], values: Values) -> CommandLine<'a>
     }
 }
 
-/// The command of the words behind a name, where they are this row.
+/// The command of the arguments after a name, where they are this row.
 fn row_command<'a>(verb: Verb, name: &str, words: &'a [String]) -> Option<CommandLine<'a>>
     ensures { option_map command_from result
         ≡ row_command verb name.now (map string_bytes words.entry.now) }
@@ -332,7 +332,7 @@ fn row_command<'a>(verb: Verb, name: &str, words: &'a [String]) -> Option<Comman
     }
 }
 
-/// The command of the first of these rows that the words are.
+/// The command of the first of these rows that the arguments are.
 fn first_command<'a>(verbs: &[Verb], name: &str, words: &'a [String]) -> Option<CommandLine<'a>>
     ensures { option_map command_from result
         ≡ first_command verbs.now name.now (map string_bytes words.entry.now) }
@@ -345,7 +345,7 @@ fn first_command<'a>(verbs: &[Verb], name: &str, words: &'a [String]) -> Option<
     None
 }
 
-/// The command that the words are. None exactly where they are none.
+/// The command that the arguments are. None exactly where they are no command.
 pub fn command(words: &[String]) -> Option<CommandLine<'_>>
     ensures { option_map command_from result ≡ command_of (map string_bytes words.entry.now) }
 {

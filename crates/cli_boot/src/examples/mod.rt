@@ -11,8 +11,8 @@ ghost use Rattle.worked_flashes.specs.Flashes.{bare_owner, owned_content};
 ghost use Rattle.cli_boot.specs.Works.{decided_data, windows_of};
 ghost use Rattle.cli_boot.specs.Examples.{first_part, second_part, found_with_parts, paired_start_in, window_at};
 
-/// The windows of a flash: those of its table's partitions, in table order, or without a table its
-/// two slots or all of it.
+/// The windows of a flash: those of its table's partitions, in table order; without a table its
+/// two slots, or all of it.
 pub fn windows_of_flashes()
     ensures slots { windows_of None 0x40000 0x20000 Arm
         ≡ window_at 0 0x20000 ∷ window_at 0x20000 0x20000 ∷ [] }
@@ -28,8 +28,8 @@ pub fn windows_of_flashes()
     ensures no_partition { windows_of (Some (found_with_parts [])) 0x40000 0x20000 Arm ≡ [] }
 {}
 
-/// The data of a start are the windows that its partition owns in the content's table; a start in
-/// another member has the other ones, and a fall has none.
+/// The data of a start are the windows that its partition owns in the content's table. A start in
+/// the other member has the other windows. A fall has none.
 pub fn data_of_decisions()
     ensures first { decided_data (owned_content bare_owner bare_owner)
         (Start (paired_start_in (window_at 0x2000 0x8000) A (window_at 0xa000 0x8000)))

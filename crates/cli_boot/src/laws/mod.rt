@@ -26,7 +26,8 @@ pub fn outcomes_are_right()
         → IsDataOutcome c cpu kind o → o ≡ worked (data_work c cpu kind) }
 {}
 
-/// On files that have their forms the work of each command is right by its rules, and refuses none.
+/// On files that have their forms the work of each command is right by its rules, and refuses no
+/// file.
 pub fn works_are_right()
     ensures boot { (flash otp : List ℕ) (cpu : Cpu) (kind : BootKind)
         → WorksBy (flash_and_otp flash otp) (λ read. ⊤)

@@ -6,12 +6,12 @@ ghost use Rattle.cli_course.specs.declared.status.Status.TheVariants.{Words};
 ghost use Rattle.cli_course.specs.Outcomes.{AreBytes, input_line, unread, not_understood, outcome_found, found};
 ghost use Rattle.cli_course.specs.Ends.{saved};
 
-/// The line of an input that is refused, under the file's word.
+/// The line of an input that is refused, with the file's argument.
 pub fn lines_of_inputs()
     ensures { input_line (codes "f") (codes "empty") ≡ codes "input f: empty\n" }
 {}
 
-/// Words that are no command are answered with one line and write no file.
+/// Arguments that are no command are answered with one line and write no file.
 pub fn words_that_are_no_command()
     ensures { not_understood
         ≡ record { status = Words; text = codes "words not understood\n"; files = [] } }
@@ -32,7 +32,7 @@ pub fn the_later_bytes_stand()
         ∷ [] }
 {}
 
-/// Where an input is lacking there is no text, and the status is that of a read fault.
+/// Where an input is missing there is no text, and the status is that of a read fault.
 pub fn lacking_inputs()
     ensures { outcome_found (λ read. not_understood)
         (found (record { name = codes "f"; bytes = [] } ∷ [])

@@ -1,5 +1,5 @@
-//! Laws of the definitions of a run's course, proved: each is the `ensures` of a function that does
-//! nothing.
+//! Laws of the definitions of a run's course, proved: each is the `ensures` of a function that
+//! does nothing.
 
 ghost use Rattle.std.specs.Prelude.{ℕ, ◌≡◌, ◌<◌, ◌≤◌, ◌+◌, ◌++◌, [], ◌∷◌, List, length, true, false};
 ghost use Rattle.cli_course.specs.declared.status.Status.TheVariants.{Done, Words, Input, Bootsel, ReadFault, WriteFault, OutputFault, Memory, Unbootable, Neither, NoEffect, Refused};
@@ -23,9 +23,9 @@ pub fn statuses_have_numbers()
     ensures refused { exit_status Refused ≡ 11 }
 {}
 
-/// A run is finished where its whole text was put: it is done, its words are no command, an input
-/// is refused, the boot falls to BOOTSEL, or a script is judged. With one of the four causes it is
-/// not.
+/// A run is finished where its whole text was put: it is done, its arguments are no command, an
+/// input is refused, the boot falls to BOOTSEL, or a script is judged. After one of four failures
+/// it is not finished: of a read, of a write, of the put, or of memory.
 pub fn statuses_of_finished_runs()
     ensures done { is_finished Done ≡ true }
     ensures words { is_finished Words ≡ true }
@@ -41,8 +41,7 @@ pub fn statuses_of_finished_runs()
     ensures refused { is_finished Refused ≡ true }
 {}
 
-/// Of a longer file one byte more than its limit is read, and a file within its limit is read
-/// whole.
+/// Of a longer file one byte more than its limit is read. A file within its limit is read whole.
 pub fn what_is_read_of_files()
     ensures longer { (input : ReadInput) (bytes : List ℕ) → input.limit < length bytes
         → (first : List ℕ) × (rest : List ℕ) × (length first ≡ input.limit + 1)

@@ -79,8 +79,8 @@ pub fn texts_of_slots()
     ensures unreached { unreached_text 14 ≡ codes "unit 14 not-reached" }
 {}
 
-/// The lines of units, which are numbered from 0 on: what each is, its images and what it takes;
-/// and those that are not reached.
+/// The lines of units, numbered from 0 on: what each unit is, its images and what it takes; and
+/// the units that are not reached.
 pub fn lines_of_units()
     ensures parts { units_lines (alone_look ∷ pair_look ∷ []) 2
         ≡ codes "unit 0 alone 0\nimage window=0x00002000+0x00002000 fault=no-definition\n"
@@ -98,8 +98,8 @@ pub fn lines_of_units()
     ensures tie { unit_reason_text UnitReason.Tie ≡ codes "tie" }
 {}
 
-/// The whole texts of two boots: with a table, whose partitions are numbered from 0 on, while flash
-/// boot is off; and without one.
+/// The whole texts of two boots. One has a table, whose partitions are numbered from 0 on, while
+/// flash boot is off. The other has no table.
 pub fn texts_of_reasons()
     ensures table { explain_text table_reasons
         ≡ codes "bootsel flash-off\notp rollback-required=no flash-off=yes slot-size=0x00001000\n"

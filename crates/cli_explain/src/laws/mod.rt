@@ -19,7 +19,7 @@ pub fn outcomes_are_right()
         → IsExplainOf c cpu kind o → o ≡ worked (explain_work c cpu kind) }
 {}
 
-/// On files that have their forms the work is right by its rules, and refuses none.
+/// On files that have their forms the work is right by its rules, and refuses no file.
 pub fn works_are_right()
     ensures { (flash otp : List ℕ) (cpu : Cpu) (kind : BootKind)
         → WorksBy (flash_and_otp flash otp) (λ read. ⊤)

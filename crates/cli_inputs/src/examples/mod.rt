@@ -29,8 +29,8 @@ pub fn forms_of_files()
     ensures part_of_wide { form_fault Otp (0 ∷ 0 ∷ 0 ∷ 1 ∷ 0 ∷ []) ≡ Some (codes "otp-length") }
 {}
 
-/// The form of a script: it ends at its first end, and what follows is not read. The fault that
-/// comes first is told.
+/// The form of a script: it ends at its first end, and what follows is not read. The first fault
+/// is the answer.
 pub fn forms_of_scripts()
     ensures ended { form_fault Script (4 ∷ 0 ∷ []) ≡ None }
     ensures behind { form_fault Script (0 ∷ 9 ∷ []) ≡ None }
@@ -42,7 +42,7 @@ pub fn forms_of_scripts()
     ensures too_many { script_text TooMany ≡ codes "script too-many" }
 {}
 
-/// A UF2 file has whole blocks, and at least one; the text of a script has a bound alone.
+/// A UF2 file has whole blocks, and at least one. The text of a script has a bound alone.
 pub fn forms_of_bridges()
     ensures uf2_limit { limit_of Uf2 ≡ 65537 * 512 }
     ensures text_limit { limit_of Text ≡ 201326592 }
@@ -130,7 +130,7 @@ pub fn filled_flashes()
     ensures past { slice_get (filled_flash (7 ∷ [])) 8192 ≡ None }
 {}
 
-/// An OTP file gives 4096 rows, of which those that it lacks are 0.
+/// An OTP file gives 4096 rows. Rows that it lacks are 0.
 pub fn rows_of_otps()
     ensures own { slice_get (otp_of (1 ∷ 2 ∷ 3 ∷ 0 ∷ [])) 0 ≡ Some 0x030201 }
     ensures behind { slice_get (otp_of (1 ∷ 2 ∷ 3 ∷ 0 ∷ [])) 1 ≡ Some 0 }

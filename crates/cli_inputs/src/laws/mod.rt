@@ -23,8 +23,8 @@ pub fn every_content_is_given()
         × (content_of_files f g ≡ c) }
 {}
 
-/// Of a file that is longer than its form allows one byte more than that is read, and another one
-/// is read whole.
+/// Of a file that is longer than its form allows, one byte more than that is read. Another file is
+/// read whole.
 pub fn what_is_read_of_inputs()
     ensures longer { (input : FormInputView) (bytes : List ℕ) → limit_of input.form < length bytes
         → (first : List ℕ) × (rest : List ℕ) × (length first ≡ limit_of input.form + 1)

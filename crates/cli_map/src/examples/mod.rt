@@ -43,7 +43,7 @@ pub fn texts_with_a_table()
         ≡ codes "0x10006000 to 0x10ffffff free" }
 {}
 
-/// Windows of a flash without a table: the slots with their images, what is free behind them, and
+/// Windows of a flash without a table: the slots with their images, what is free after them, and
 /// the whole flash.
 pub fn texts_without_a_table()
     ensures slot_0 { row_text bare_map (row_with (MapPlace.Slot 0) 0 0x20000
@@ -62,8 +62,8 @@ pub fn texts_without_a_table()
         ≡ codes "0x10000000 to 0x10001fff whole fault=loop broken at=0x00000100" }
 {}
 
-/// What is drawn of a window: whether it is free, and whether a boot starts it, which its words do
-/// not say; and the line of a map.
+/// What is drawn of a window: whether it is free, and whether a boot starts it; its words do not
+/// say this. Also the line of a map.
 pub fn windows_that_are_drawn()
     ensures started { bar_of bare_map (row_with MapPlace.Whole 0 0x2000
         (Ok (example_image 0 0 None false)) None true) ≡ record {

@@ -28,8 +28,8 @@ pub fn outcomes_are_right()
         → IsMapOf c cpu out o → o ≡ worked (map_work c cpu out) }
 {}
 
-/// On files that have their forms the work of `map` is right by the rules of a flash's map, where
-/// they are of bytes, and it refuses none.
+/// On files that have their forms and are of bytes the work of `map` is right by the rules of a
+/// flash's map. It refuses no file.
 pub fn works_are_right()
     ensures map { (flash otp out : List ℕ) (cpu : Cpu)
         → WorksBy (flash_and_otp flash otp) AreOfBytes
@@ -37,9 +37,9 @@ pub fn works_are_right()
         (λ read o. OfTwo (λ f g. IsMapOf (content_of_files f g) cpu out o) read) }
 {}
 
-/// The file of a map has one rectangle, one row and one line that joins them for each window of the
-/// map, whose number its line tells, and none besides; its rows are the texts of the windows, in
-/// their order.
+/// For each window of the map its file has one rectangle, one row, and one line that joins both,
+/// and no others. The line of the map prints the number of windows. The file's rows are the texts
+/// of the windows, in their order.
 pub fn files_show_each_window()
     ensures windows { (n : ℕ) (m : FlashMap)
         → times (class_text Window) (map_file n m) ≡ length m.rows.items }
@@ -51,8 +51,8 @@ pub fn files_show_each_window()
         → marks_in Row (map_file n m) ≡ map escaped (map row_words (bars_of m)) }
 {}
 
-/// The word `starts` stands in the file of a map once where a normal boot starts an image, and else
-/// not.
+/// The word `starts` stands in the file of a map once where a normal boot starts an image.
+/// Otherwise it does not stand there.
 pub fn files_tell_what_starts()
     ensures start { (c : Content) (cpu : Cpu) (m : FlashMap) (choice : Choice) → IsContent c
         → IsMap c cpu m → m.decision ≡ Start choice

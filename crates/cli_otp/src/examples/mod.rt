@@ -31,7 +31,7 @@ pub fn places_of_settings()
         ≡ 9 }
 {}
 
-/// What is told of an OTP.
+/// The text on an OTP.
 pub fn texts_of_otps()
     ensures least { told_text (otp_with false false 0 [])
         ≡ codes "otp rollback-required=no flash-off=no slot-size=0x00001000" }

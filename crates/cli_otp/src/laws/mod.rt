@@ -30,8 +30,8 @@ pub fn files_have_their_form()
     ensures rows { (spec : OtpView) → IsSound spec → otp_of (otp_bytes spec) ≡ otp_words spec }
 {}
 
-/// The rows: of a row that is listed the last value counts, and a row that is not listed is 0, but
-/// for the boot flags and the slot size.
+/// The rows. Of a row that is listed the last value counts. A row that is not listed is 0, but for
+/// the boot flags and the slot size.
 pub fn rows_are_those_that_are_listed()
     ensures last { (spec : OtpView) (before after : List OtpRow) (pair : OtpRow) → IsSound spec
         → spec.rows ≡ before ++ pair ∷ after → All (λ other. other.row ≢ pair.row) after
@@ -45,9 +45,9 @@ pub fn rows_are_those_that_are_listed()
         → slice_index (otp_words spec) 0x055 ≡ spec.slot_exponent }
 {}
 
-/// What is told of an OTP is read back: on a content with its rows, and with a flash for two slots,
-/// the flags and the slot size are those that were told, so that the second line of `explain` is
-/// what the line of `otp` begins with.
+/// What a text says of an OTP is read back. A content has the OTP's rows, and a flash for two
+/// slots. Then the flags and the slot size are those of the text. So the second line of `explain`
+/// is what the line of `otp` begins with.
 pub fn otps_are_read_back()
     ensures size { (spec : OtpView) (n : ℕ) → IsSound spec
         → 2 * (4096 * 2 ^ spec.slot_exponent) ≤ n
@@ -63,8 +63,8 @@ pub fn otps_are_read_back()
 {}
 
 /// The OTP of a text gives no reason for a caveat on secure boot, on raw flags or on a raw slot
-/// size: rows 0x040 to 0x047 have no bit 0, row 0x048 has no bit but 0 and 1, rows 0x049 and 0x04a
-/// are 0, and row 0x055 has no bit but 0 to 3.
+/// size. Rows 0x040 to 0x047 have no bit 0. Row 0x048 has no bit but 0 and 1. Rows 0x049 and 0x04a
+/// are 0. Row 0x055 has no bit but 0 to 3.
 pub fn otps_are_none_of_raw_dumps()
     ensures secure { (spec : OtpView) (row : ℕ) → IsSound spec → 0x040 ≤ row → row ≤ 0x047
         → slice_index (otp_words spec) row % 2 ≡ 0 }
@@ -75,8 +75,8 @@ pub fn otps_are_none_of_raw_dumps()
         → slice_index (otp_words spec) 0x055 / 16 ≡ 0 }
 {}
 
-/// On a form of input whose texts are those of an OTP, by a reading that gives what such a text
-/// says, the work is right by its rules: it refuses nothing, and its outcome is the one that is
+/// The texts of a form of input are those of an OTP, and a reading gives what such a text says.
+/// Then the work is right by its rules: it refuses nothing, and its outcome is the one that is
 /// right.
 pub fn works_are_right()
     ensures { (form : Form) (reads : List ℕ → Result OtpView JsonFault) (json out : List ℕ)

@@ -11,7 +11,7 @@ ghost use Rattle.cli_words.specs.Rows.{row_of};
 ghost use Rattle.cli_words.specs.Usages.{help_text, release_line, row_line};
 ghost use Rattle.cli_words.specs.Values.{family_of};
 
-/// The words of each command.
+/// The arguments of each command.
 pub fn words_of_commands()
     ensures boot { command_of
         (codes "boot" ∷ codes "f" ∷ codes "o" ∷ codes "arm" ∷ codes "normal" ∷ [])
@@ -77,7 +77,7 @@ pub fn update_words()
     ensures above_lower { boot_kind_of (codes "update=0x1002000g") ≡ None }
 {}
 
-/// Words that are no command.
+/// Arguments that are no command.
 pub fn other_words()
     ensures none { command_of [] ≡ None }
     ensures three { command_of (codes "boot" ∷ codes "f" ∷ codes "o" ∷ []) ≡ None }
@@ -115,7 +115,7 @@ pub fn other_words()
         ∷ codes "c" ∷ []) ≡ None }
 {}
 
-/// The words of a sealing and of a table.
+/// The arguments of a sealing and of a table.
 pub fn words_of_sealings()
     ensures seal { command_of (codes "seal" ∷ codes "b" ∷ codes "s" ∷ codes "a" ∷ [])
         ≡ Some (Seal (codes "b") (codes "s") (codes "a")) }
@@ -133,7 +133,7 @@ pub fn words_of_sealings()
         ≡ Some (Seal (codes "b") (codes "s") (codes "arm")) }
 {}
 
-/// The words of each of the commands.
+/// The arguments of each of the commands.
 pub fn words_of_tools()
     ensures uf2 { command_of (codes "uf2" ∷ codes "i" ∷ codes "data" ∷ codes "a" ∷ [])
         ≡ Some (Uf2 (codes "i") 0xe48bff58 (codes "a")) }
@@ -158,7 +158,7 @@ pub fn words_of_tools()
     ensures made { command_of (codes "gen" ∷ codes "007" ∷ []) ≡ Some (Gen 7) }
 {}
 
-/// Words that are none of them.
+/// Arguments that are none of the commands.
 pub fn other_words_of_tools()
     ensures family { command_of (codes "uf2" ∷ codes "i" ∷ codes "arm" ∷ codes "a" ∷ []) ≡ None }
     ensures three { command_of (codes "uf2" ∷ codes "i" ∷ codes "data" ∷ []) ≡ None }
@@ -183,7 +183,7 @@ pub fn other_words_of_tools()
     ensures two { command_of (codes "uf2" ∷ codes "7" ∷ []) ≡ None }
 {}
 
-/// The families by their words.
+/// The families by their arguments.
 pub fn families()
     ensures rp2040 { family_of (codes "rp2040") ≡ Some 0xe48bff56 }
     ensures absolute { family_of (codes "absolute") ≡ Some 0xe48bff57 }
@@ -200,8 +200,8 @@ pub fn lines_of_releases()
     ensures { release_line ≡ codes "dugnatsew 0.1.0\n" }
 {}
 
-/// The line of a row has its words in a column of 23 characters, where they are no more, and then
-/// what the command does.
+/// The line of a row has its name and arguments in a column of 23 characters, where they are no
+/// longer. Then it has what the command does.
 pub fn lines_of_rows()
     ensures full { row_line (row_of verbs.Boot)
         ≡ codes "boot FLASH OTP CPU KIND  which image a boot starts, or why it falls to BOOTSEL\n" }
@@ -211,8 +211,8 @@ pub fn lines_of_rows()
         "plan FLASH OTP CPU IMAGE OUT  a script that writes an image to where a download of it goes\n" }
 {}
 
-/// The help of a command is its line, the lines on its words, and those on the statuses; of a name
-/// of two rows it is that of both.
+/// The help of a command is its line, the lines on its arguments, and those on the statuses. Of a
+/// name of two rows it is the help of both.
 pub fn helps_of_commands()
     ensures one { help_text (codes "gen") ≡ codes
         "gen N                    the digest of a flash that is made of a number, and what boots on it\n"
