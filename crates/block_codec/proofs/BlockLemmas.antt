@@ -1,5 +1,5 @@
 -- The reader of bytes and the grammar are one: what stands at the front of bytes, and at an offset.
-use Rattle.std.proofs.Common.{◌≡◌, ℕ, zero, suc, ◌+◌, ◌-◌, ◌*◌, ◌^◌, ◌<◌, ◌≤◌, true, cond, ℤ, List, [], ◌∷◌, ◌++◌, length, take, drop, get_or, Option, Some, None, refl, sym, inl, inr, ap, subst, ◌∙◌, arith, length-append, length-take, length-drop}
+use Rattle.std.proofs.Common.{◌≡◌, ℕ, zero, suc, ◌+◌, ◌-◌, ◌*◌, ◌^◌, ◌<◌, ◌≤◌, ◌==◌, true, false, cond, ℤ, List, [], ◌∷◌, ◌++◌, length, take, drop, get_or, Option, Some, None, refl, sym, inl, inr, ap, subst, ◌∙◌, arith, length-append, length-take, length-drop}
 use Rattle.std.proofs.lemmas.List.{get_or-take, take_all, take-take, take_at, take-append-drop, length-take-le}
 use Rattle.std.proofs.lemmas.Option.{cond_some, option_and_then_some, none-some}
 use Rattle.std.proofs.lemmas.Int.{to_z-of_z}
@@ -181,6 +181,14 @@ begun-stands x bytes b start e =
     subst (λ v. Begins x bytes v) same
     (stands_framed 640 x n bytes (omega arith) (omega arith) test start
     (IsFramed-from_found (words_of (take 640 bytes)) n found)))
+
+-- bytes that have another first word begin with no block
+pub front_block-unstarted : (x : ℕ) (bytes word : List ℕ) → word ≡ take 4 bytes → (word_of word == start_word) ≡ false
+    → front_block x bytes ≡ None
+unfolding front_block
+front_block-unstarted x bytes word is other =
+    ap (λ begun. begun_block begun x bytes)
+    (ap (λ w. w == start_word) (sym (word_of-take 4 bytes (omega arith)) ∙ ap word_of (sym is)) ∙ other)
 
 -- what is found at the front is a block
 pub front_block-stands : (x : ℕ) (bytes : List ℕ) (b : BlockView) → front_block x bytes ≡ Some b → Begins x bytes b

@@ -1,6 +1,6 @@
 -- Blocks, by the form of the RP2350 Datasheet (chapter 5, Bootrom, "Blocks and block loops"), as a
 -- grammar on whole lists of bytes.
-use Rattle.std.specs.Prelude.{◌≡◌, ℕ, ◌+◌, ◌-◌, ◌*◌, ◌%◌, ◌≤◌, ◌<◌, ◌^◌, ℤ, List, [], ◌∷◌, ◌++◌, length, take, drop, FitsSigned}
+use Rattle.std.specs.Prelude.{◌≡◌, ℕ, ◌+◌, ◌*◌, ◌%◌, ◌≤◌, ◌<◌, ◌^◌, ℤ, List, [], ◌∷◌, ◌++◌, length, take, drop, FitsSigned}
 use Rattle.std.specs.Int.{cast_unsigned, w32}
 use Rattle.block_codec.specs.Words.{bytes_of, AreWords}
 use Rattle.block_codec.specs.Items.{AreItems}

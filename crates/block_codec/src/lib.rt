@@ -20,6 +20,6 @@ pub use blocks::Block;
 pub use definition::{Def, EntryPoint, copy_rows};
 pub use error::BlockError;
 pub use items::Item;
-pub use reading::read_block;
+pub use reading::{is_block_start, read_block};
 pub use versions::{Version, version_item};
 pub use writing::write_block;

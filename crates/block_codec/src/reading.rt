@@ -1,7 +1,7 @@
 //! Blocks from bytes.
 
-ghost use Rattle.std.specs.Prelude.{◌≡◌, ℕ, ℤ, List, ◌+◌, ◌*◌, ◌%◌, ◌<◌, ◌≤◌, ◌^◌, take, drop, length, slice_index, IfSome, IfNone, OnSome};
-ghost use Rattle.block_codec.specs.Words.{words_of, AreWords};
+ghost use Rattle.std.specs.Prelude.{◌≡◌, ℕ, ℤ, List, ◌+◌, ◌*◌, ◌%◌, ◌<◌, ◌≤◌, ◌==◌, ◌^◌, take, drop, length, slice_index, IfSome, IfNone, OnSome};
+ghost use Rattle.block_codec.specs.Words.{word_of, words_of, AreWords};
 ghost use Rattle.block_codec.specs.Blocks.{start_word, IsBlock, IsWholeBlock, Begins};
 ghost use Rattle.block_codec.specs.Reading.{words_before, item_words, front_block};
 ghost use Rattle.block_codec.specs.Reading.{framed_words, IsFramed, view_of};
@@ -10,6 +10,15 @@ use crate::blocks::Block;
 use crate::words::{END, LAST, START, item_size, last_word};
 use arrayvec::ArrayVec;
 use byteorder::{ByteOrder, LittleEndian};
+
+/// Whether these four bytes are the word that a block starts with. Bytes that have another first
+/// word begin with no block.
+pub fn is_block_start(word: &[u8]) -> bool
+    requires { length word.now ≡ 4 }
+    ensures exact { result ≡ (word_of word.now == start_word) }
+{
+    LittleEndian::read_u32(word) == START
+}
 
 /// The words at the front of the piece, as many as a block can have.
 fn front_words(piece: &[u8]) -> ArrayVec<u32, 160>

@@ -1,12 +1,13 @@
 -- What is read at an offset of a window, against the reader of the definitions.
-use Rattle.std.proofs.Common.{◌≡◌, ◌≢◌, ◌⊎◌, ℕ, suc, ◌+◌, ◌-◌, ◌*◌, ◌%◌, ◌<◌, ◌≤◌, ℤ, pos, negsuc, ◌<ℤ◌, ◌≤ℤ◌, List, length, take, drop, min, Option, Some, None, refl, sym, ap, subst, ◌∙◌, inl, inr, arith, length-take, length-drop}
+use Rattle.std.proofs.Common.{◌≡◌, ◌≢◌, ◌⊎◌, ℕ, suc, ◌+◌, ◌-◌, ◌*◌, ◌%◌, ◌<◌, ◌≤◌, ◌==◌, false, ℤ, pos, negsuc, ◌<ℤ◌, ◌≤ℤ◌, List, length, take, drop, min, Option, Some, None, refl, sym, ap, subst, ◌∙◌, inl, inr, arith, length-take, length-drop}
 use Rattle.std.proofs.lemmas.List.{take-take, drop-drop}
 use Rattle.std.proofs.lemmas.Int.{ints}
 use Rattle.std.specs.Prelude.{IfSome, IfNone}
 use Rattle.std.specs.List.{slice_range}
-use Rattle.block_codec.specs.Blocks.{BlockView, Begins, BlockAt, IsBlock, block_size}
+use Rattle.block_codec.specs.Words.{word_of}
+use Rattle.block_codec.specs.Blocks.{BlockView, Begins, BlockAt, IsBlock, block_size, start_word}
 use Rattle.block_codec.specs.Reading.{front_block, block_at}
-use Rattle.block_codec.proofs.BlockLemmas.{Begins-room, front_block-stands, front_block-begins}
+use Rattle.block_codec.proofs.BlockLemmas.{Begins-room, front_block-stands, front_block-begins, front_block-unstarted}
 use Rattle.block_codec.proofs.AtLemmas.{BlockAt-room, BlockAt-from_found, block_at-none, block_at-aligned, no_block-from_none, same_found}
 use Rattle.block_loop.specs.Loop.{block_from, block_at_offset}
 use Rattle.block_loop.proofs.FollowLemmas.{first_from-end, first_from-here, first_from-later}
@@ -26,6 +27,10 @@ pub nowhere : {X : Type 0} (w : List ℕ) (x n : ℕ) → n ≡ length w → (x 
     → BlockAt w x b → ⊥
 nowhere w x n long (inl odd) b at = odd at.aligned
 nowhere w x n long (inr past) b at = let room = BlockAt-room w x b at in let far = past.1 in omega arith
+
+-- no block stands where less than a word of the window is left
+pub no_room : (w : List ℕ) (x n : ℕ) → n ≡ length w → n < x + 4 → (b : BlockView) → BlockAt w x b → ⊥
+no_room w x n long short b at = let room = BlockAt-room w x b at in omega arith
 
 -- a block is found in as many bytes as it can have
 front_block-part : (n x : ℕ) (bytes : List ℕ) → n ≡ min 640 (length bytes)
@@ -52,6 +57,16 @@ front_block-part n x bytes is =
           stands = subst (λ p. IsBlock p b.items b.link)
               (sym (take-take (block_size b) n bytes (omega arith))) begins.stands;
         }
+
+-- no block stands where the word that is read has another value than a block's first word
+pub unstarted : (w : List ℕ) (x n : ℕ) (word : List ℕ) → n ≡ 4 → word ≡ slice_range w x (x + n)
+    → (word_of word == start_word) ≡ false → front_block x (drop x w) ≡ None
+unstarted w x n word four is other =
+    let size : x + n - x ≡ 4 = omega arith in
+    front_block-unstarted x (drop x w) word (is ∙ ap (λ k. take k (drop x w)) size) other
+
+pub unstarted_at : (w : List ℕ) (x : ℕ) → x % 4 ≡ 0 → front_block x (drop x w) ≡ None → block_at w x ≡ None
+unstarted_at w x aligned none = block_at-aligned w x aligned ∙ none
 
 -- the part of the window that is read for an offset
 pub part_read : (w : List ℕ) (x n : ℕ) → x % 4 ≡ 0 → n ≡ min 640 (length w - x)

@@ -1,12 +1,23 @@
 //! Blocks at offsets of a view.
 
-ghost use Rattle.std.specs.Prelude.{◌≡◌, ◌-◌, ◌%◌, ◌<◌, min, length, IfSome, IfNone};
+ghost use Rattle.std.specs.Prelude.{◌≡◌, ◌+◌, ◌-◌, ◌%◌, ◌<◌, ◌≤◌, None, drop, false, min, length, IfSome, IfNone};
 ghost use Rattle.block_codec.specs.Blocks.{BlockView, BlockAt, IsWholeBlock};
-ghost use Rattle.block_codec.specs.Reading.{block_at};
+ghost use Rattle.block_codec.specs.Reading.{block_at, front_block};
 ghost use Rattle.block_loop.specs.Loop.{first_block, block_at_offset};
 
-use block_codec::{Block, read_block};
+use block_codec::{Block, is_block_start, read_block};
 use pico_board::View;
+
+/// Whether a block's first word stands at an offset of the view. The word is read into the four
+/// bytes. Where it does not stand there, no block does.
+fn has_start<V: View>(view: &V, at: u32, word: &mut [u8]) -> bool
+    requires inside { at + 4 ≤ length (V.bytes view.now) }
+    requires word { length word.old ≡ 4 }
+    ensures { result ≡ false → front_block at (drop at (V.bytes view.now)) ≡ None }
+{
+    view.read(at, word);
+    is_block_start(word)
+}
 
 /// The block at an offset of the view. Its bytes are read into the piece, as many as a block can
 /// have.
@@ -30,6 +41,13 @@ pub fn block_at<V: View>(view: &V, at: u32) -> Option<Block>
 {
     let len = view.len();
     if at % 4 != 0 || at >= len {
+        return None;
+    }
+    if len - at < 4 {
+        return None;
+    }
+    let mut word = [0u8; 4];
+    if !has_start(view, at, &mut word[..]) {
         return None;
     }
     let mut buffer = [0u8; 640];
