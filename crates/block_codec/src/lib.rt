@@ -22,4 +22,5 @@ pub use error::BlockError;
 pub use items::Item;
 pub use reading::{is_block_start, read_block};
 pub use versions::{Version, version_item};
+pub use words::{END, LAST, START};
 pub use writing::write_block;

@@ -5,13 +5,13 @@ ghost use Rattle.block_codec.specs.Items.{size_of};
 ghost use Rattle.block_codec.specs.Blocks.{frame, last_item};
 
 /// The word that a block starts with.
-pub(crate) const START: u32 = 0xffff_ded3;
+pub const START: u32 = 0xffff_ded3;
 
 /// The word that a block ends with.
-pub(crate) const END: u32 = 0xab12_3579;
+pub const END: u32 = 0xab12_3579;
 
 /// The type byte of a last item.
-pub(crate) const LAST: u32 = 0xff;
+pub const LAST: u32 = 0xff;
 
 /// At most so many item words are in a block.
 pub(crate) const MOST_ITEM_WORDS: usize = 156;

@@ -6,6 +6,7 @@ use Rattle.std.specs.Option.{option_map_or}
 use Rattle.std.specs.Result.{result_ok}
 use Rattle.pico_board.specs.declared.boot.Cpu.{Cpu}
 use Rattle.pico_board.specs.declared.window.Window.{Window}
+use Rattle.pico_board.specs.Windows.{is_same_window}
 use Rattle.pico_board.specs.declared.window.TheConstants.{SMALLEST_SLOT}
 use Rattle.pico_board.specs.Content.{Content, window_bytes}
 use Rattle.block_codec.specs.declared.kinds.TheConstants.{IMAGE_TYPE, HASH_DEF, HASH_VALUE}
@@ -50,7 +51,7 @@ abbrev pub read_windows : ℕ → List UnitReport → List Window
 read_windows size looks = slot_window size 0 ∷ slot_window size 1 ∷ looked_windows looks
 
 abbrev pub is_window : Window → Window → Bool
-is_window w v = v.start == w.start && v.len == w.len
+is_window w v = is_same_window v w
 
 -- the windows, each where it first stands; those that stand in `before` are left out
 abbrev pub first_places : List Window → List Window → List Window

@@ -54,7 +54,7 @@ fn read_windows(size: u32, looks: &[UnitReport]) -> ArrayVec<Window, 32>
 fn has_window(windows: &[Window], window: Window) -> bool
     ensures { result ≡ list_any (is_window window) windows.now }
 {
-    windows.iter().any(|other| other.start == window.start && other.len == window.len)
+    windows.iter().any(|other| other.is_same(window))
 }
 
 /// The windows, each where it first stands.

@@ -8,7 +8,7 @@ use pico_board::{Board, MemBoard};
 use std::alloc::{AllocError, Global};
 
 /// The rows of an OTP.
-const ROWS: u16 = 4096;
+const ROWS: u16 = pico_board::ROWS as u16;
 
 /// The bytes of a board's flash.
 fn flash_of(alloc: Global, board: &MemBoard) -> Result<Vec<u8>, AllocError>

@@ -5,7 +5,8 @@ ghost use Rattle.pico_board.specs.Cuts.{nearer as one_nearer};
 ghost use Rattle.pico_board.specs.Steps.{IsStepIn};
 ghost use Rattle.boot_cuts.specs.Playing.{HasCompleted, HasLost, HasTaken, IsReady, cut_from, flash_long, told_of};
 
-use crate::moves::{Move, complete, cut};
+use crate::moves::Move;
+use boot_sweep::{complete, cut};
 use pico_board::{MemBoard, Step};
 use std::alloc::{AllocError, Global};
 

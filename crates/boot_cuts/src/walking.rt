@@ -16,9 +16,9 @@ ghost use Rattle.boot_cuts.specs.Runs.{all_runs, runs_of};
 
 use crate::beside::answer_beside;
 use crate::judging::Ends;
-use crate::moves::{Move, complete, cut};
+use crate::moves::Move;
 use crate::runs::{Run, Runs};
-use boot_sweep::{Last, Slot};
+use boot_sweep::{Last, Slot, complete, cut};
 use pico_board::{MemBoard, Step};
 use sector_pool::SectorPool;
 use std::alloc::{AllocError, Global};

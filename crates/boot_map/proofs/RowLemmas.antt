@@ -21,18 +21,19 @@ use Rattle.boot_map.specs.declared.places.MapWindow.{MapWindow}
 use Rattle.boot_map.specs.declared.places.MapPlace.{MapPlace}
 use Rattle.boot_map.specs.declared.places.MapPlace.TheVariants.{Slot, Partition as Part, Whole, Free}
 use Rattle.boot_map.specs.WindowRules.{IsListed, IsWindowOf}
-use Rattle.boot_map.specs.Maps.{has_image, is_window, pairing, row_image, row_of, starts}
+use Rattle.pico_board.specs.Windows.{is_same_window}
+use Rattle.boot_map.specs.Maps.{has_image, pairing, row_image, row_of, starts}
 use Rattle.boot_map.specs.MapRules.{DoesStart, IsBare, IsRow, IsRowImage}
 use Rattle.boot_map.proofs.LaidLemmas.{same-window}
 use Rattle.boot_map.proofs.PairLemmas.{AreLinked, pairing-once, pairing-right}
 
 -- a window is the started one
-pub window-is : (v w : Window) → is_window v w ≡ true → v ≡ w
+pub window-is : (v w : Window) → is_same_window v w ≡ true → v ≡ w
 window-is v w e =
     let both : ((v.start == w.start) ≡ true) × ((v.len == w.len) ≡ true) = both_of_two _ _ e in
     same-window v.start v.len w.start w.len (eqb-true _ _ both.0) (eqb-true _ _ both.1)
 
-pub is-window : (v w : Window) → v ≡ w → is_window v w ≡ true
+pub is-window : (v w : Window) → v ≡ w → is_same_window v w ≡ true
 is-window v w e =
     let one : (v.start == w.start) ≡ true = eq-eqb _ _ (ap (λ (x : Window). x.start) e) in
     let two : (v.len == w.len) ≡ true = eq-eqb _ _ (ap (λ (x : Window). x.len) e) in

@@ -4,6 +4,7 @@ use Rattle.std.specs.Result.{result_ok}
 use Rattle.pico_board.specs.declared.boot.Cpu.{Cpu}
 use Rattle.pico_board.specs.declared.boot.BootKind.TheVariants.{Normal}
 use Rattle.pico_board.specs.declared.window.Window.{Window}
+use Rattle.pico_board.specs.Windows.{is_same_window}
 use Rattle.pico_board.specs.Content.{Content}
 use Rattle.image_def.specs.declared.started.Started.{Started}
 use Rattle.image_check.specs.declared.why.Why.{Why}
@@ -68,12 +69,8 @@ pairing (Some t) (Part i) = part_pairing t.parts.items i
 pairing (Some t) Whole = None
 pairing (Some t) Free = None
 
--- a decision starts the image of a window
-abbrev pub is_window : Window → Window → Bool
-is_window v w = v.start == w.start && v.len == w.len
-
 abbrev pub starts : Decision → Window → Bool
-starts (Start choice) w = is_window choice.image.window w
+starts (Start choice) w = is_same_window choice.image.window w
 starts (Bootsel fall) w = false
 
 -- the row of a window

@@ -20,4 +20,3 @@ mod windows;
 pub use gathering::gather_map;
 pub use maps::{FlashMap, MapRow, Pairing};
 pub use places::{MapPlace, MapWindow};
-pub use windows::map_windows;

@@ -3,7 +3,7 @@
 ghost use Rattle.std.specs.Prelude.{◌≡◌, ◌+◌, ◌<◌, ◌≤◌, All, IsTrue, length, map, option_map};
 ghost use Rattle.sector_pool.specs.Keeping.{KeepsOut};
 ghost use Rattle.sector_pool.specs.Pool.{HasFree};
-ghost use Rattle.boot_map.specs.Maps.{has_image, is_window, pairing, part_pairing, row_image, row_of, slot_pairing, starts};
+ghost use Rattle.boot_map.specs.Maps.{has_image, pairing, part_pairing, row_image, row_of, slot_pairing, starts};
 ghost use Rattle.boot_map.specs.Windows.{parts_of, window_end};
 ghost use Rattle.boot_map.specs.WindowRules.{IsListed, IsRead};
 
@@ -107,10 +107,7 @@ fn starts(decision: &Decision, window: Window) -> bool
     ensures { result ≡ starts decision.now window }
 {
     match decision {
-        Decision::Start(choice) => {
-            let started = choice.image.window;
-            started.start == window.start && started.len == window.len
-        }
+        Decision::Start(choice) => choice.image.window.is_same(window),
         Decision::Bootsel(_) => false,
     }
 }

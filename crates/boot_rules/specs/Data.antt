@@ -1,6 +1,7 @@
 -- The data windows of a started image: `data_of`.
 use Rattle.std.specs.Prelude.{ℕ, Bool, true, false, ◌==◌, ◌&&◌, List, [], map, position, Option, Some, None, option_and_then}
 use Rattle.pico_board.specs.declared.window.Window.{Window}
+use Rattle.pico_board.specs.Windows.{is_same_window}
 use Rattle.part_table.specs.declared.partition.Partition.{Partition}
 use Rattle.part_table.specs.declared.table.Table.{Table}
 use Rattle.part_table.specs.Windows.{part_window, partition_window}
@@ -16,7 +17,7 @@ first_window choice B = choice.other
 
 -- a partition is this window
 abbrev pub has_window : Window → Partition → Bool
-has_window w p = (part_window p).start == w.start && (part_window p).len == w.len
+has_window w p = is_same_window (part_window p) w
 
 -- the partition that is the started unit's A
 abbrev pub started_part : Table → Choice → Option ℕ

@@ -29,8 +29,7 @@ fn has_window(part: &Partition, window: Window) -> bool
     requires right { first_sector part.now ≤ last_sector part.now }
     ensures { result ≡ has_window window part.now }
 {
-    let found = part.window();
-    found.start == window.start && found.len == window.len
+    part.window().is_same(window)
 }
 
 /// The first of the partitions that is this window.

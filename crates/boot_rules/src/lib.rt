@@ -23,7 +23,7 @@ pub use deciding::decide;
 pub use decision::{Decision, Fall, decision_of};
 pub use image_check::Started;
 pub use part_table::Target;
-pub use picking::{choice_of, member_window, other_of};
+pub use picking::choice_of;
 pub use slot_choice::Choice;
 pub use slots::SlotFault;
 pub use tables::{Found, find_table, slot_answer};

@@ -12,10 +12,10 @@ use slot_choice::SlotUnit;
 use std::alloc::{AllocError, Global};
 
 /// The bytes of a sector, the unit of an erase.
-const SECTOR: u64 = 4096;
+const SECTOR: u64 = pico_board::SECTOR as u64;
 
 /// The bytes of a page, the unit of a program.
-const PAGE: u64 = 256;
+const PAGE: u64 = pico_board::PAGE as u64;
 
 /// Whether the range of `size` bytes at `at` lies in the window.
 fn holds(window: Window, at: u64, size: u64) -> bool

@@ -28,7 +28,8 @@ use Rattle.boot_rules.proofs.PlaceLemmas.{placed-inside}
 use Rattle.boot_rules.proofs.StartLemmas.{start-placed, start-valid}
 use Rattle.boot_sweep.specs.declared.results.CutResult.{CutResult}
 use Rattle.boot_sweep.specs.declared.results.CutResult.TheVariants.{Former, Finished, Chance}
-use Rattle.boot_sweep.specs.Comparing.{agree_on, agree_on_blocks, agree_on_load, agree_on_loads, agree_on_loop, agree_on_map, agree_on_storage, is_same_choice, is_same_decision, is_same_fall, is_same_image, is_same_member, is_same_number, is_same_other, is_same_started, is_same_truth, is_same_version, is_same_window, is_whole, result_of}
+use Rattle.pico_board.specs.Windows.{is_same_window}
+use Rattle.boot_sweep.specs.Comparing.{agree_on, agree_on_blocks, agree_on_load, agree_on_loads, agree_on_loop, agree_on_map, agree_on_storage, is_same_choice, is_same_decision, is_same_fall, is_same_image, is_same_member, is_same_number, is_same_other, is_same_started, is_same_truth, is_same_version, is_whole, result_of}
 use Rattle.boot_sweep.specs.Results.{IsCutResult, IsFormer}
 use Rattle.boot_session.specs.CutSessions.{StartsFinished}
 

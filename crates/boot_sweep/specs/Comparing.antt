@@ -10,6 +10,7 @@ use Rattle.load_map.specs.declared.load.MapFault.{MapFault}
 use Rattle.pico_board.specs.declared.boot.Cpu.{Cpu}
 use Rattle.pico_board.specs.declared.boot.BootKind.TheVariants.{Normal}
 use Rattle.pico_board.specs.declared.window.Window.{Window}
+use Rattle.pico_board.specs.Windows.{is_same_window}
 use Rattle.pico_board.specs.Content.{Content, window_bytes}
 use Rattle.image_def.specs.declared.started.Started.{Started}
 use Rattle.image_check.specs.declared.examining.Defined.{Defined}
@@ -74,9 +75,6 @@ is_same_image cpu one two =
 -- the versions are equal
 abbrev pub is_same_version : Version → Version → Bool
 is_same_version v w = v.major == w.major && v.minor == w.minor
-
-abbrev pub is_same_window : Window → Window → Bool
-is_same_window v w = v.start == w.start && v.len == w.len
 
 -- the images start at the same place
 abbrev pub is_same_entry : Started → Started → Bool

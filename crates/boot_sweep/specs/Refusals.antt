@@ -7,6 +7,7 @@ use Rattle.pico_board.specs.declared.step.Step.TheVariants.{Erase, Program, Rais
 use Rattle.pico_board.specs.declared.boot.Cpu.{Cpu}
 use Rattle.pico_board.specs.declared.boot.BootKind.TheVariants.{Normal}
 use Rattle.pico_board.specs.declared.window.Window.{Window}
+use Rattle.pico_board.specs.Windows.{is_same_window}
 use Rattle.pico_board.specs.Content.{Content}
 use Rattle.pico_board.specs.Sessions.{Confined, Gated, IsConfined}
 use Rattle.pico_board.specs.Steps.{after_all}
@@ -121,8 +122,7 @@ ungated (Some w) steps = ungated_in w steps
 
 -- the decision is a start in the slot, where there is one
 abbrev pub is_start_in : Window → Decision → Bool
-is_start_in w (Start choice) =
-    choice.image.window.start == w.start && choice.image.window.len == w.len
+is_start_in w (Start choice) = is_same_window choice.image.window w
 is_start_in w (Bootsel fall) = false
 
 abbrev pub starts_in_slot : Option Window → Decision → Bool

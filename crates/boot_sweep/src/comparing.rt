@@ -1,19 +1,12 @@
 //! Whether two decisions are the same.
 
 ghost use Rattle.std.specs.Prelude.{◌≡◌};
-ghost use Rattle.boot_sweep.specs.Comparing.{is_same_choice, is_same_decision, is_same_entry, is_same_fall, is_same_member, is_same_number, is_same_other, is_same_place, is_same_rollback, is_same_started, is_same_status, is_same_version, is_same_window};
+ghost use Rattle.boot_sweep.specs.Comparing.{is_same_choice, is_same_decision, is_same_entry, is_same_fall, is_same_member, is_same_number, is_same_other, is_same_place, is_same_rollback, is_same_started, is_same_status, is_same_version};
 
 use block_codec::Version;
 use boot_rules::{Choice, Decision, Fall, Started};
 use pico_board::Window;
 use slot_choice::Member;
-
-/// Whether the windows are the same.
-fn is_same_window(one: Window, two: Window) -> bool
-    ensures { result ≡ is_same_window one two }
-{
-    one.start == two.start && one.len == two.len
-}
 
 /// Whether the versions are the same.
 fn is_same_version(one: Version, two: Version) -> bool
@@ -37,7 +30,7 @@ fn is_same_number(one: Option<u16>, two: Option<u16>) -> bool
 fn is_same_place(one: &Started, two: &Started) -> bool
     ensures { result ≡ is_same_place one.now two.now }
 {
-    is_same_window(one.window, two.window)
+    one.window.is_same(two.window)
         && (one.block == two.block && one.image_at == two.image_at)
 }
 
@@ -86,7 +79,7 @@ fn is_same_other(one: Option<Window>, two: Option<Window>) -> bool
 {
     match (one, two) {
         (None, None) => true,
-        (Some(one), Some(two)) => is_same_window(one, two),
+        (Some(one), Some(two)) => one.is_same(two),
         (None, Some(_)) | (Some(_), None) => false,
     }
 }

@@ -10,10 +10,7 @@ ghost use Rattle.boot_sweep.specs.Firms.{HasNoOtherBlock, IsFirm, LoadsFront};
 use block_loop::{BlockLoop, block_at, walk};
 use image_check::{Addressing, Started, defined_in, loads_of};
 use load_map::Load;
-use pico_board::{Cpu, View};
-
-/// The bytes of a sector.
-const SECTOR: u32 = 4096;
+use pico_board::{Cpu, SECTOR, View};
 
 /// Whether the first of the loads is stored from the window's start to this offset.
 fn loads_front(end: u32, loads: &[Load]) -> bool

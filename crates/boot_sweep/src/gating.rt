@@ -9,7 +9,7 @@ use arrayvec::ArrayVec;
 use pico_board::{Step, Window};
 
 /// The bytes of a sector, the unit of an erase.
-const SECTOR: u64 = 4096;
+const SECTOR: u64 = pico_board::SECTOR as u64;
 
 /// The pages of a sector.
 const PAGES: u32 = 16;

@@ -15,13 +15,15 @@ mod lines;
 mod results;
 mod script;
 mod slots;
+mod steps;
 mod sweeping;
 
 pub use boot_session::Recorder;
-pub use comparing::{is_same_decision, is_same_started};
+pub use comparing::is_same_decision;
 pub use error::SweepError;
 pub use firmness::firm;
 pub use gating::ungated;
 pub use results::{CutResult, Ends, StepResults, SweepResults, Verdict};
-pub use script::{sweep, swept, swept_text};
-pub use slots::{Last, Slot, slot_of, verdict_beside};
+pub use script::{is_start_in, sweep, swept, swept_text};
+pub use slots::{Last, Slot, are_confined, slot_of, verdict_beside};
+pub use steps::{complete, cut};

@@ -52,14 +52,12 @@ fn board_of(alloc: Global, flash: &Vec<u8>, otp: &Vec<u32>) -> Result<MemBoard, 
     }
 }
 
-/// Whether the decision is a start in the window.
-fn is_start_in(window: Window, decision: &Decision) -> bool
+/// Whether a decision starts an image of the window.
+pub fn is_start_in(window: Window, decision: &Decision) -> bool
     ensures { result ≡ is_start_in window decision.now }
 {
     match decision {
-        Decision::Start(choice) => {
-            choice.image.window.start == window.start && choice.image.window.len == window.len
-        }
+        Decision::Start(choice) => choice.image.window.is_same(window),
         Decision::Bootsel(_) => false,
     }
 }

@@ -20,11 +20,8 @@ use crate::results::{CutResult, Ends, Verdict, result_from, result_on, verdict_o
 use boot_rules::{boot_units_in, find_table};
 use boot_session::{is_confined, slot_among};
 use image_check::{Started, check};
-use pico_board::{Board, Cpu, FlashView, Step, View, Window};
+use pico_board::{Board, Cpu, FlashView, SECTOR, Step, View, Window};
 use sector_pool::SectorPool;
-
-/// The bytes of a sector.
-const SECTOR: u32 = 4096;
 
 /// A member of a pair, in which the steps of a session lie.
 #[derive(Clone, Copy)]
@@ -45,7 +42,7 @@ pub struct Last {
 }
 
 /// Whether all the steps lie in the window.
-fn are_confined(window: Window, steps: &[Step]) -> bool
+pub fn are_confined(window: Window, steps: &[Step]) -> bool
     ensures { result ≡ list_all (is_confined window) steps.now }
 {
     steps.iter().all(|step| is_confined(window, step))

@@ -14,7 +14,8 @@ ghost use Rattle.boot_sweep.specs.Verdicts.{Knows, LiesIn};
 
 use crate::results::{Ends, StepResults};
 use crate::slots::{Last, Slot, result_beside, slot_of};
-use pico_board::{Bench, Board, MemBoard, Step, do_step};
+use crate::steps::{complete, cut};
+use pico_board::{Board, MemBoard, Step};
 use sector_pool::SectorPool;
 use std::alloc::{AllocError, Global};
 
@@ -29,27 +30,7 @@ fn tear(board: &mut MemBoard, step: &Step, pattern: &[u8])
     ensures size { length (state_of board.new).content.flash
         ≡ length (state_of board.old).content.flash }
 {
-    board.arm_cut(0, true, pattern);
-    match do_step(board, step) {
-        Ok(()) => unreachable!(),
-        Err(_) => {}
-    }
-    board.power_on();
-}
-
-/// Does a step whole.
-fn complete(board: &mut MemBoard, step: &Step)
-    requires ready { IsUnarmed (state_of board.old) }
-    requires range { IsStepIn (length (state_of board.old).content.flash) step.now }
-    ensures ready { IsUnarmed (state_of board.new) }
-    ensures done { (state_of board.new).content ≡ after (state_of board.old).content step.now }
-    ensures size { length (state_of board.new).content.flash
-        ≡ length (state_of board.old).content.flash }
-{
-    match do_step(board, step) {
-        Ok(()) => {}
-        Err(_) => unreachable!(),
-    }
+    cut(board, step, true, pattern);
 }
 
 /// The results of a step, which the board does: a step that is done where it was torn leaves what

@@ -13,8 +13,8 @@ ghost use Rattle.cli_check.specs.SessionLaws.{keeps_slot, kept_law, law_by, slot
 
 use crate::findings::SessionLaw;
 use boot_rules::{Decision, boot_units_in, find_table};
-use boot_session::{is_confined, slot_among};
-use boot_sweep::ungated;
+use boot_session::slot_among;
+use boot_sweep::{are_confined, is_start_in, ungated};
 use pico_board::{Cpu, MemBoard, Step, Window};
 
 /// The member of a pair in which the first step lies.
@@ -25,25 +25,6 @@ fn session_slot(board: &MemBoard, cpu: Cpu, steps: &[Step]) -> Option<Window>
     let first = steps.first()?;
     let units = boot_units_in(board, cpu);
     slot_among(units.as_slice(), first)
-}
-
-/// Whether all the steps lie in the window.
-fn are_confined(window: Window, steps: &[Step]) -> bool
-    ensures { result ≡ list_all (is_confined window) steps.now }
-{
-    steps.iter().all(|step| is_confined(window, step))
-}
-
-/// Whether a decision starts an image of the window.
-fn is_start_in(window: Window, decision: &Decision) -> bool
-    ensures { result ≡ is_start_in window decision.now }
-{
-    match decision {
-        Decision::Start(choice) => {
-            choice.image.window.start == window.start && choice.image.window.len == window.len
-        }
-        Decision::Bootsel(_) => false,
-    }
 }
 
 /// Whether the steps keep to a slot of which a normal boot before them starts no image, and leave

@@ -11,5 +11,5 @@ mod partitions;
 mod texts;
 
 pub use explaining::explain;
-pub use partitions::{families_text, id_text, name_text, partition_line};
-pub use texts::{otp_text, slot_line, slot_text};
+pub use partitions::{families_text, name_text};
+pub use texts::{otp_text, slot_text};

@@ -12,12 +12,9 @@ ghost use Rattle.cli_otp.specs.Setting.{flags_set, rows_set};
 use cli_course::{Answer, one_file};
 use cli_explain::otp_text;
 use otp_roll::{BOOT_FLAGS, SLOT_SIZE_ROW};
-use pico_board::SECTOR;
+use pico_board::{ROWS, SECTOR};
 use std::alloc::{AllocError, Global};
 use table_json::{OtpRow, OtpSpec};
-
-/// How many rows an OTP has.
-const ROWS: usize = 4096;
 
 /// So many rows of 0. It fails only where memory is out.
 fn clear_rows(alloc: Global, count: usize) -> Result<Vec<u32>, AllocError>
@@ -80,7 +77,7 @@ fn listed_rows(alloc: Global, pairs: &[OtpRow]) -> Result<(Vec<u32>, usize), All
     ensures words { IfOk result (λ rows. rows.0.items ≡ rows_set (replicate 4096 0) pairs.now) }
     ensures count { IfOk result (λ rows. rows.1 ≡ set_count pairs.now) }
 {
-    let mut words = clear_rows(alloc, ROWS)?;
+    let mut words = clear_rows(alloc, ROWS as usize)?;
     set_rows(&mut words, pairs);
     let count = set_rows_in(&words);
     Ok((words, count))

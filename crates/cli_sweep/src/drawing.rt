@@ -13,7 +13,7 @@ ghost use Rattle.svg_sweep.specs.Charts.{chart_words};
 ghost use Rattle.cli_sweep.specs.ChartWorks.{chart_file, chart_line, chart_with, chart_work};
 
 use crate::results::{before_classes, class_of, within_classes};
-use crate::unswept;
+use crate::sweeping::unswept;
 use arrayvec::ArrayString;
 use boot_rules::decide;
 use boot_script::Script;

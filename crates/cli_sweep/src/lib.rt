@@ -11,4 +11,4 @@ mod sweeping;
 
 pub use drawing::chart_script;
 pub use firming::firm_image;
-pub use sweeping::{sweep_script, unswept};
+pub use sweeping::sweep_script;

@@ -3,7 +3,8 @@ use Rattle.std.specs.Prelude.{ℕ, ◌==◌, ◌&&◌, Bool, true, false, get_or
 use Rattle.std.specs.Option.{option_or}
 use Rattle.std.specs.declared.alloc.Global.{Global}
 use Rattle.pico_board.specs.declared.boot.Cpu.{Cpu}
-use Rattle.pico_board.specs.declared.boot.Cpu.TheVariants.{Arm, Riscv}
+use Rattle.pico_board.specs.declared.boot.Cpu.TheVariants.{Arm}
+use Rattle.pico_board.specs.Processors.{cpu_of}
 use Rattle.pico_board.specs.declared.boot.BootKind.{BootKind}
 use Rattle.pico_board.specs.declared.boot.BootKind.TheVariants.{Normal, Bootsel, Update}
 use Rattle.text_words.specs.Reading.{hex_value, number_of}
@@ -47,13 +48,6 @@ pub data CommandLineView : Type 0 where
   Usage : CommandLineView
   Help : (command : List ℕ) → CommandLineView
   Release : CommandLineView
-
--- the argument of a processor
-abbrev pub cpu_of : List ℕ → Option Cpu
-cpu_of word =
-    if bytes_eq word (codes "arm") then Some Arm
-    else if bytes_eq word (codes "riscv") then Some Riscv
-    else None
 
 -- the base of an update: `update=0x` and eight hexadecimal digits
 abbrev pub update_base : List ℕ → Option ℕ

@@ -2,7 +2,7 @@
 
 ghost use Rattle.std.specs.Prelude.{◌≡◌, map, string_bytes};
 ghost use Rattle.text_words.specs.Reading.{number_of};
-ghost use Rattle.cli_words.specs.Commands.{cpu_of, boot_kind_of, update_base, is_row_name, with_word, row_values};
+ghost use Rattle.cli_words.specs.Commands.{boot_kind_of, update_base, is_row_name, with_word, row_values};
 ghost use Rattle.cli_words.specs.Values.{family_of};
 
 use crate::rows::{VERBS, Verb, Word};
@@ -23,19 +23,6 @@ pub struct Values {
     pub family: u32,
     /// The number.
     pub number: u32,
-}
-
-/// The processor that an argument names.
-fn cpu_word(word: &str) -> Option<Cpu>
-    ensures { result ≡ cpu_of word.now }
-{
-    if word == "arm" {
-        Some(Cpu::Arm)
-    } else if word == "riscv" {
-        Some(Cpu::Riscv)
-    } else {
-        None
-    }
 }
 
 /// The base of an update: `update=0x` and eight hexadecimal digits.
@@ -102,7 +89,7 @@ fn with_word(kind: Word, word: &str, values: Values) -> Option<Values>
 {
     match kind {
         Word::Cpu => {
-            let cpu = cpu_word(word)?;
+            let cpu = Cpu::named(word)?;
             Some(Values { cpu, ..values })
         }
         Word::Kind => {

@@ -18,19 +18,11 @@ use crate::items::{Words, front_items, header, own_loads, with_map};
 use crate::parts::{Parts, binary_parts};
 use crate::spec::SealSpec;
 use block_codec::kinds::HASH_VALUE;
+use block_codec::{END, LAST, START};
 use byteorder::{ByteOrder, LittleEndian};
 use load_map::Load;
 use sha2::{Digest, Sha256};
 use std::alloc::{AllocError, Global};
-
-/// The word that a block starts with.
-const START: u32 = 0xffff_ded3;
-
-/// The type byte of a last item.
-const LAST: u32 = 0xff;
-
-/// The word that a block ends with.
-const END: u32 = 0xab12_3579;
 
 /// Feeds so many bytes 0xff to the hasher.
 fn add_erased(hasher: &mut Sha256, count: usize)

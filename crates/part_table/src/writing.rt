@@ -11,13 +11,10 @@ ghost use Rattle.part_table.specs.Written.{AgreesWithFlags, IsReadablePartition,
 use crate::{Partition, Table, TableWriteFault};
 use arrayvec::ArrayVec;
 use block_codec::kinds::{HASH_DEF, HASH_VALUE, PARTITION_TABLE, VERSION};
-use block_codec::{BlockError, write_block};
+use block_codec::{BlockError, START, write_block};
 use byteorder::{ByteOrder, LittleEndian};
 use sha2::{Digest, Sha256};
 use std::alloc::Global;
-
-/// The word that a block starts with.
-const START: u32 = 0xffff_ded3;
 
 /// At most so many bytes are in a block.
 const MOST_BYTES: u64 = 640;

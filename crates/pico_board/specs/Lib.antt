@@ -7,10 +7,12 @@ pub mod Sessions
 pub mod Views
 pub mod ViewedWindows
 pub mod Rows
+pub mod Windows
 pub mod Supply
 pub mod MemBoard
 pub mod MemFiles
 pub mod Files
+pub mod Processors
 pub mod Puts
 pub mod Histories
 pub mod Examples

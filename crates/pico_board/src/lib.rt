@@ -24,7 +24,7 @@ pub use mem_board::{BoardError, MemBoard};
 pub use mem_sink::MemSink;
 pub use mem_store::MemStore;
 pub use sink::{Sink, SinkFail};
-pub use step::{Step, do_step, do_steps};
+pub use step::{Step, do_step};
 pub use store::{Store, StoreFail};
 pub use view::{FlashView, SliceView, View};
 pub use window::{ERASED, FLASH_BASE, MOST_FLASH_BYTES, PAGE, ROWS, SECTOR, SMALLEST_SLOT, Window};

@@ -1,8 +1,8 @@
-//! The atomic writes of a board, as data, and lists of them.
+//! The atomic writes of a board, as data.
 
-ghost use Rattle.std.specs.Prelude.{All, length, IsTrue, is_ok};
+ghost use Rattle.std.specs.Prelude.{length, IsTrue, is_ok};
 ghost use Rattle.pico_board.specs.Steps.{IsStepIn};
-ghost use Rattle.pico_board.specs.Board.{Does, DoesAll};
+ghost use Rattle.pico_board.specs.Board.{Does};
 
 use crate::board::{Board, PowerLost};
 
@@ -30,16 +30,4 @@ pub fn do_step<B: Board>(board: &mut B, step: &Step) -> Result<(), PowerLost>
         Step::Program(page, bytes) => board.program(*page, bytes),
         Step::Raise(row, bits) => board.raise(*row, *bits),
     }
-}
-
-/// Does the steps in their order, and stops where power is lost.
-pub fn do_steps<B: Board>(board: &mut B, steps: &[Step]) -> Result<(), PowerLost>
-    requires power { IsTrue (B.state board.old).powered }
-    requires range { All (IsStepIn (length (B.state board.old).content.flash)) steps.now }
-    ensures { DoesAll B.state B.history board.old steps.now (is_ok result) board.new }
-{
-    for step in steps {
-        do_step(board, step)?;
-    }
-    Ok(())
 }

@@ -1,5 +1,8 @@
 //! The flash as the processors see it, windows of it, and the units of flash and OTP.
 
+ghost use Rattle.std.specs.Prelude.{◌≡◌};
+ghost use Rattle.pico_board.specs.Windows.{is_same_window};
+
 /// The address at which the first byte of the flash is seen (RP2350 Datasheet, section 2.2,
 /// Address map).
 pub const FLASH_BASE: u32 = 0x1000_0000;
@@ -25,4 +28,13 @@ pub struct Window {
     pub start: u32,
     /// The number of bytes of the window.
     pub len: u32,
+}
+
+impl Window {
+    /// Whether the two are one window: they begin and end at the same bytes.
+    pub fn is_same(self, other: Window) -> bool
+        ensures { result ≡ is_same_window self other }
+    {
+        self.start == other.start && self.len == other.len
+    }
 }

@@ -4,7 +4,7 @@ use Rattle.std.specs.Prelude.{Option, None, Some, option_map, option_and_then, R
 use Rattle.arrayvec.specs.ArrayVec.{ArrayVec}
 use Rattle.block_codec.specs.declared.versions.Version.{Version}
 use Rattle.pico_board.specs.declared.boot.Cpu.{Cpu}
-use Rattle.pico_board.specs.declared.boot.Cpu.TheVariants.{Arm, Riscv}
+use Rattle.pico_board.specs.Processors.{cpu_of}
 use Rattle.serde_json.specs.Data.{Data}
 use Rattle.serde_json.specs.Find.{as_bool, as_str}
 use Rattle.image_pack.specs.declared.spec.SealSpec.{SealSpec}
@@ -17,13 +17,7 @@ use Rattle.table_json.specs.Members.{object_judged, required, optional}
 use Rattle.table_json.specs.Forms.{values_in, number_below, version_form}
 use Rattle.table_json.specs.Tables.{no_version}
 
--- the processor of a word
-abbrev pub cpu_of : List ℕ → Option Cpu
-cpu_of word =
-    if bytes_eq word (codes "arm") then Some Arm
-    else if bytes_eq word (codes "riscv") then Some Riscv
-    else None
-
+-- the processor that a text names
 abbrev pub processor_form : Data → Option Cpu
 processor_form d = option_and_then cpu_of (as_str d)
 

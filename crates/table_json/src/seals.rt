@@ -4,7 +4,7 @@ ghost use Rattle.std.specs.Prelude.{◌≡◌, ◌≢◌, ◌≤◌, [], length,
 ghost use Rattle.serde_json.specs.Data.{Data};
 ghost use Rattle.serde_json.specs.View.{view};
 ghost use Rattle.table_json.specs.Members.{required, optional};
-ghost use Rattle.table_json.specs.Seals.{cpu_of, processor_form, rollback_form, rows_after, listed_rows, rows_form, no_rows, spec_from};
+ghost use Rattle.table_json.specs.Seals.{processor_form, rollback_form, rows_after, listed_rows, rows_form, no_rows, spec_from};
 ghost use Rattle.table_json.specs.Texts.{IsJsonText};
 
 use crate::forms::{half_word, values};
@@ -19,24 +19,11 @@ use pico_board::Cpu;
 use serde_json::Value;
 use std::alloc::Global;
 
-/// The processor of a word.
-fn cpu_of(word: &str) -> Option<Cpu>
-    ensures { result ≡ cpu_of word.now }
-{
-    if word == "arm" {
-        Some(Cpu::Arm)
-    } else if word == "riscv" {
-        Some(Cpu::Riscv)
-    } else {
-        None
-    }
-}
-
 /// The processor of a value.
 fn processor_form(value: &Value) -> Option<Cpu>
     ensures { result ≡ processor_form (view value.now) }
 {
-    cpu_of(value.as_str()?)
+    Cpu::named(value.as_str()?)
 }
 
 /// The rows of at most 32 values.

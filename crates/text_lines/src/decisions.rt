@@ -2,13 +2,13 @@
 
 ghost use Rattle.std.specs.Prelude.{◌≡◌, ◌+◌, ◌≤◌, ◌++◌, length};
 ghost use Rattle.text_words.specs.Writing.{hex_word};
-ghost use Rattle.text_lines.specs.Texts.{boot_text, booted_text, decision_text, entry_text, fall_text, ram_start_text, rest_text, standing_text, start_text};
+ghost use Rattle.text_lines.specs.Texts.{decision_text, entry_text, fall_text, ram_start_text, rest_text, standing_text, start_text};
 
 use crate::windows::{put_range, put_rollback, put_version, put_window};
 use arrayvec::ArrayString;
 use boot_rules::{Decision, Fall};
 use image_def::Started;
-use text_words::{put_text, put_word, set_text, yes_or_no};
+use text_words::{put_text, put_word, yes_or_no};
 
 /// Appends a number behind its name.
 fn put_field(line: &mut ArrayString<320>, name: &str, n: u32)
@@ -90,25 +90,6 @@ pub fn put_decision(line: &mut ArrayString<320>, decision: &Decision)
         Decision::Start(choice) => put_start(line, &choice.image),
         Decision::Bootsel(fall) => put_text(line, fall_word(*fall)),
     }
-}
-
-/// Replaces the line by the text of a boot and its decision, at most 146 bytes.
-pub fn set_boot(line: &mut ArrayString<320>, decision: &Decision)
-    ensures text { line.new.bytes ≡ boot_text decision.now }
-    ensures most { length line.new.bytes ≤ 146 }
-{
-    set_text(line, "boot ");
-    put_decision(line, decision);
-}
-
-/// Appends the boot that an event asked for, ` boot ` and its decision, at most 147 bytes.
-pub fn put_boot(line: &mut ArrayString<320>, decision: &Decision)
-    requires room { length line.old.bytes + 147 ≤ 320 }
-    ensures bytes { line.new.bytes ≡ line.old.bytes ++ booted_text decision.now }
-    ensures most { length line.new.bytes ≤ length line.old.bytes + 147 }
-{
-    put_text(line, " boot ");
-    put_decision(line, decision);
 }
 
 /// Appends the start of an image in RAM, behind the text of its command, at most 144 bytes.

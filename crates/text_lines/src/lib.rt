@@ -13,9 +13,8 @@ mod texts;
 mod windows;
 
 pub use commands::set_answer;
-pub use decisions::{put_boot, put_decision, put_ram_start, set_boot};
-pub use downloads::{set_accepted, set_form_fault, set_numbered, set_refusal};
-pub use faults::put_why;
+pub use decisions::{put_decision, put_ram_start};
+pub use downloads::{set_accepted, set_form_fault, set_refusal};
 pub use text_words::{put_text, set_text};
 pub use texts::{
     data_line, decision_line, image_line, invalid_text, place_text, rollback_text, table_line,
