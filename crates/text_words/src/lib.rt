@@ -12,6 +12,6 @@ pub use reading::{
     behind_word, decimal_number, hex_number, read_array, read_bytes, read_number, read_word,
 };
 pub use writing::{
-    hex_text, put_byte, put_number, put_pair, put_row, put_short, put_text, put_word,
-    set_text, yes_or_no,
+    hex_text, put_byte, put_number, put_pair, put_row, put_short, put_text, put_word, set_text,
+    yes_or_no,
 };
