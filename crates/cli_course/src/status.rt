@@ -21,7 +21,7 @@ pub enum Status {
     OutputFault,
     /// There was no memory.
     Memory,
-    /// Some loss of power leaves nothing to start.
+    /// Some loss of power, or the whole script, leaves nothing to start.
     Unbootable,
     /// After some loss of power an image starts that is neither the former nor the finished one.
     Neither,
