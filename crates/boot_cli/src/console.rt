@@ -1,4 +1,4 @@
-//! Standard output as a sink, which tells nothing of what it took.
+//! Standard output as a sink. It tells nothing of what it took.
 
 #[cfg(test)]
 mod tests;
@@ -9,7 +9,8 @@ use crate::pieces::write_whole;
 use pico_board::{Sink, SinkFail};
 use std::io::{self, Print};
 
-/// Standard output. Each error of the system, and each write that takes no byte, counts as a fault.
+/// Standard output. Each error of the system, and each write that takes no byte, counts as a
+/// fault.
 #[derive(Drop)]
 pub struct Console<'a, R: Print> {
     output: &'a R,

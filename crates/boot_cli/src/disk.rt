@@ -1,4 +1,4 @@
-//! Real files as a store, which tells nothing of what they hold.
+//! Real files as a store. It tells nothing of what the files hold.
 
 ghost use Rattle.std.specs.Prelude.{◌≡◌};
 
@@ -11,9 +11,9 @@ use pico_board::{Store, StoreFail};
 use std::fs::{self, Files};
 use std::io::ErrorKind;
 
-/// The files of the machine, by path. Each error of the system but an interrupted call, and each
-/// write that takes no byte, counts as a fault. After a write that failed a regular file has its
-/// old bytes.
+/// The files of the machine, by path. Each error of the system counts as a fault, but an
+/// interrupted call does not. Each write that takes no byte counts as a fault too. After a write
+/// that failed a regular file has its old bytes.
 #[derive(Drop)]
 pub struct Disk<'a, R: Files + AllocGlobal> {
     files: &'a R,

@@ -1,5 +1,5 @@
-//! The program: the words after its name, real files and standard output go to `run`, whose status
-//! ends it.
+//! The program: the arguments, real files and standard output go to `run`, and its status ends the
+//! program.
 #![tactic(auto)]
 
 mod console;
@@ -18,8 +18,8 @@ use std::fs::Files;
 use std::io::{ErrorKind, Print};
 use std::process::ExitCode;
 
-/// The words after the program's name. Words that are not all UTF-8 are no command, and are given
-/// as none.
+/// The arguments: the words after the program's name. Arguments that are not all UTF-8 are no
+/// command, and are given as none.
 fn words<R: Env + AllocGlobal>(rt: &R) -> Result<Vec<String>, AllocError> {
     let mut words = Vec::new(rt.alloc());
     match env::args(rt) {

@@ -33,8 +33,8 @@ fn read_again<R: Read>(reader: &mut R, buffer: &mut [u8]) -> Option<usize>
     None
 }
 
-/// Reads the next bytes, at most so many in all and at most as many as the buffer has now, to the
-/// end of `into`. The answer is whether there may be more. An error of the reader is a fault.
+/// Reads the next bytes to the end of `into`: at most so many in all, and at most as many as the
+/// buffer has now. The answer is whether there may be more. An error of the reader is a fault.
 fn read_piece<R: Read>(
     reader: &mut R,
     buffer: &mut [u8],
@@ -96,8 +96,8 @@ fn read_up_to<R: Read>(reader: &mut R, most: usize, into: &mut Vec<u8>) -> Resul
 }
 
 /// Reads a file's bytes into an empty vector until the reader ends, but at most one byte more than
-/// the limit, by which a caller sees that the file is longer. Nothing is said of `into` after an
-/// error.
+/// the limit. By this byte a caller sees that the file is longer. Nothing is said of `into` after
+/// an error.
 pub fn read_to_limit<R: Read>(
     reader: &mut R,
     limit: u32,
@@ -111,7 +111,7 @@ pub fn read_to_limit<R: Read>(
     read_up_to(reader, limit as usize + 1, into)
 }
 
-/// Writes some of the bytes, again where a signal interrupts the write, and answers how many the
+/// Writes some of the bytes, again where a signal interrupts the write. Answers how many bytes the
 /// writer took: none where it answers another error.
 fn write_piece<W: Write>(writer: &mut W, bytes: &[u8]) -> usize
     ensures most { result ≤ length bytes.now }
@@ -128,8 +128,8 @@ fn write_piece<W: Write>(writer: &mut W, bytes: &[u8]) -> usize
     0
 }
 
-/// Writes all the bytes, and answers whether the writer took them: not where it answers an error,
-/// or takes no byte of what is left.
+/// Writes all the bytes, and answers whether the writer took them. It did not where it answers an
+/// error, or takes no byte of what is left.
 pub fn write_whole<W: Write>(writer: &mut W, bytes: &[u8]) -> bool
     ensures whole { IsTrue result
         → Appends (W.contents writer.old) (W.contents writer.new) bytes.now }

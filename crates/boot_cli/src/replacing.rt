@@ -1,5 +1,5 @@
-//! Files that are replaced whole: the bytes go into a new file in the same folder, which takes the
-//! name once all of them are there. Until then what has the name stays as it was.
+//! Files that are replaced whole. The bytes go into a new file in the same folder. This file takes
+//! the name when all of them are there. Until then what has the name stays as it was.
 
 #[cfg(test)]
 mod tests;
@@ -18,7 +18,7 @@ enum Way {
     Replace(String, Permissions),
     /// Nothing is there, so the new file takes the name.
     Create,
-    /// A device, a pipe or a link to one is there: the bytes go into it.
+    /// A device, a pipe, or a link to one of these is there: the bytes go into it.
     Into,
 }
 
@@ -40,7 +40,7 @@ fn path_of<R: Files + AllocGlobal>(rt: &R, name: &str) -> io::Result<String> {
     }
 }
 
-/// How a name is written that leads to something. A file that may not be written is not replaced.
+/// How a name that leads to something is written. A file that may not be written is not replaced.
 fn way_of_file<R: Files + AllocGlobal>(rt: &R, name: &str, there: &Metadata) -> io::Result<Way> {
     if !there.is_file() {
         return Ok(Way::Into);
@@ -49,7 +49,7 @@ fn way_of_file<R: Files + AllocGlobal>(rt: &R, name: &str, there: &Metadata) -> 
     Ok(Way::Replace(path_of(rt, name)?, there.permissions()))
 }
 
-/// How a name is written to which nothing leads. A link that leads nowhere is written through,
+/// How a name that leads to nothing is written. A link that leads nowhere is written through,
 /// which makes its file.
 fn way_of_nothing<R: Files + AllocGlobal>(rt: &R, name: &str) -> io::Result<Way> {
     match fs::symlink_metadata(rt, name) {
@@ -120,8 +120,8 @@ fn finish_file<F: io::Write + OpenFile>(
     file.sync_all()
 }
 
-/// Writes a new file beside a path, which it then takes. Where a call fails the new file goes, and
-/// what has the path is as it was.
+/// Writes a new file next to a path; the file then takes this path. Where a call fails the new
+/// file goes, and what has the path is as it was.
 fn write_beside<R: Files + AllocGlobal>(
     rt: &R,
     path: &str,
@@ -139,8 +139,9 @@ fn write_beside<R: Files + AllocGlobal>(
     answer
 }
 
-/// Makes the bytes those of the name. A regular file, and a name that none has, is written whole
-/// or left as it was; a device, a pipe or a link to one is written into, from its start.
+/// Makes the bytes those of the name. A regular file, and a name that no file has, is written
+/// whole or left as it was. A device, a pipe, or a link to one of these is written into, from its
+/// start.
 pub fn replace<R: Files + AllocGlobal>(rt: &R, name: &str, bytes: &[u8]) -> io::Result<()> {
     match way_of(rt, name)? {
         Way::Replace(path, permissions) => write_beside(rt, &path, bytes, Some(permissions)),

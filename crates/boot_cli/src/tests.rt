@@ -1,4 +1,4 @@
-//! What no clause says: which words are given, and the number with which each status ends the
+//! What no clause says: which arguments are given, and the number with which each status ends the
 //! program.
 
 use crate::words;
@@ -7,7 +7,7 @@ use std::alloc::Global;
 use std::env::{Env, FillError};
 use std::test::Fail;
 
-/// A runtime that is given these words, of which the first is the program's name.
+/// A runtime that is given these words; the first is the program's name.
 #[derive(Drop)]
 struct Given<'a> {
     alloc: Global,

@@ -1,6 +1,5 @@
--- The commands: the inputs of each, its work on their bytes, from which the outcome of a run
--- follows, and what is right for it in the words of the rules. This project's own, over the rules
--- of a boot.
+-- The commands: the inputs of each; its work on their bytes, which gives the outcome of a run; and
+-- what is right for it by the rules. This project's own, over the rules of a boot.
 use Rattle.std.specs.Prelude.{ℕ, Bool, true, false, List, [], Option, Some, None, ◌≡◌, ⊤}
 use Rattle.pico_board.specs.Files.{File}
 use Rattle.cli_course.specs.Outcomes.{LimitedInputView, AnswerView, Work, Answers, not_understood, found, outcome_found, AreOfBytes}
@@ -52,7 +51,7 @@ use Rattle.cli_tools.specs.Seals.{IsUnsealed}
 use Rattle.cli_tools.specs.SealRules.{IsSealedOf, IsTableOf}
 use Rattle.cli_tools.specs.ToolRules.{IsUf2Refused, IsUf2Of, IsPlanRefused, IsPlanOf, IsLoadRefused, IsLoadOf, IsGenOf}
 
--- the inputs of a command, in word order
+-- the inputs of a command, in the order of the arguments
 abbrev pub inputs_of : CommandLineView → List FormInputView
 inputs_of (Boot flash otp cpu kind) = flash_and_otp flash otp
 inputs_of (Info flash otp cpu) = flash_and_otp flash otp
@@ -128,17 +127,17 @@ work_of Release = λ read. Answers false release_line []
 abbrev pub command_outcome : CommandLineView → List (List ℕ) → AnswerView
 command_outcome command read = outcome_by (inputs_of command) (work_of command) read
 
--- what is read for the words: nothing where they are no command
+-- what is read for the arguments: nothing where they are no command
 abbrev pub inputs_in : Option CommandLineView → List LimitedInputView
 inputs_in None = []
 inputs_in (Some command) = readings (inputs_of command)
 
--- the outcome of the words on the bytes of the inputs
+-- the outcome of the arguments on the bytes of the inputs
 abbrev pub outcome_in : Option CommandLineView → List (List ℕ) → AnswerView
 outcome_in None read = not_understood
 outcome_in (Some command) read = command_outcome command read
 
--- the outcome of the words on these files
+-- the outcome of the arguments on these files
 abbrev pub outcome_on : Option CommandLineView → List File → AnswerView
 outcome_on command files = outcome_found (outcome_in command) (found files (inputs_in command))
 
@@ -173,7 +172,7 @@ abbrev pub IsRefusedCommand : CommandLineView → List (List ℕ) → Type 0
 IsRefusedCommand command read = (name : List ℕ) × (fault : List ℕ)
     × IsRefusedFor (inputs_of command) (IsRefusedWork command read) read name fault
 
--- the outcome tells a text, is no fall and writes no file
+-- the outcome prints a text, is no fall and writes no file
 abbrev pub Tells : List ℕ → AnswerView → Type 0
 Tells text o = o ≡ record { status = Done; text = text; files = [] }
 
@@ -219,16 +218,17 @@ IsRight Usage read o = Tells usage_text o
 IsRight (Help command) read o = Tells (help_text command) o
 IsRight Release read o = Tells release_line o
 
--- The outcome is right for a command on the bytes of its inputs: it names the first input that
--- breaks its form, or where each has its form the one that the work refuses; otherwise it is right
--- by the command's own rules.
+-- The outcome is right for a command on the bytes of its inputs. It names the first input that
+-- breaks its form; or, where each has its form, the input that the work refuses. Otherwise it is
+-- right by the command's own rules.
 abbrev pub Obeys : CommandLineView → List (List ℕ) → AnswerView → Type 0
 Obeys command read o =
     IsWorked (inputs_of command) (IsRefusedWork command read) (IsRight command read) read o
 
--- the picture of a flash and the check of an update ask that their inputs are of bytes, since a
--- content is; so do a replay, a sweep and its picture, since power that is lost in an erase leaves
--- bytes, and the packing of an ELF file, since its entry is a word; the other commands ask nothing
+-- these commands ask that their inputs are of bytes: the picture of a flash and the check of an
+-- update, since a content is of bytes; a replay, a sweep and its picture, since power that is lost
+-- in an erase leaves bytes; and the packing of an ELF file, since its entry is a word; the other
+-- commands ask nothing
 abbrev pub NeedsBytes : CommandLineView → List (List ℕ) → Type 0
 NeedsBytes (Map flash otp cpu out) read = AreOfBytes read
 NeedsBytes (Replay flash otp cpu script out_flash out_otp) read = AreOfBytes read
@@ -238,7 +238,7 @@ NeedsBytes (Check flash otp cpu script pattern) read = AreOfBytes read
 NeedsBytes (Elf elf spec out) read = AreOfBytes read
 NeedsBytes command read = ⊤
 
--- the command judges a script, so that it may end with a verdict
+-- the command judges a script, so it may end with a verdict
 abbrev pub judges : CommandLineView → Bool
 judges (Cuts flash otp cpu script pattern) = true
 judges (Check flash otp cpu script pattern) = true

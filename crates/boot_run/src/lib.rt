@@ -1,6 +1,6 @@
-//! All that the program does: words and files in, a text, files and a status out. What each command
-//! does is the work of the crates below; here stands which command has which inputs and which work,
-//! and what is right for it.
+//! All that the program does: arguments and files in; a text, files and a status out. What each
+//! command does is the work of the crates below. Here stands which command has which inputs and
+//! which work, and what is right for it.
 #![tactic(auto)]
 
 pub mod examples;

@@ -80,24 +80,26 @@ fn run_asked<S: Store, K: Sink>(
     }
 }
 
-/// All that the program does, for its words without the program's own name: reads the input files
-/// in word order, does the work in memory, writes the output files, and puts the text in one call.
-/// The answer is the status with which the program ends.
+/// All that the program does, for its arguments without the program's own name. It reads the input
+/// files in the order of the arguments, does the work in memory, writes the output files, and puts
+/// the text in one call. The answer is the status with which the program ends.
 ///
-/// `Words`: the words are no command. `Input`: the line names the first input, in word order, that
-/// breaks its form, or where each has its form the one that the work refuses. `Bootsel`: a boot
-/// that was asked for falls to BOOTSEL. `ReadFault`, `WriteFault` and `OutputFault`: the count of
-/// read faults, of write faults or of the sink's faults rose. `Memory`: there was no memory; it may
-/// come anywhere.
+/// - `Words`: the arguments are no command.
+/// - `Input`: the line names the first input, in the order of the arguments, that breaks its form.
+///   Where each has its form it names the input that the work refuses.
+/// - `Bootsel`: a boot that was asked for falls to BOOTSEL.
+/// - `ReadFault`, `WriteFault` and `OutputFault`: the count of read faults, of write faults or of
+///   the sink's faults rose.
+/// - `Memory`: there was no memory; it may come anywhere.
 pub fn run<S: Store, K: Sink>(
     alloc: Global,
     words: &Vec<String>,
     store: &mut S,
     out: &mut K,
 ) -> Status
-    // The first half of the headline, on told files, for every content, processor and boot type:
-    // where the whole text was put, `boot` names exactly the image, or the fall to BOOTSEL, that
-    // the rules choose, never below its rollback rows.
+    // The first half of the headline, on told files, for every content, processor and boot type.
+    // Where the whole text was put, `boot` names exactly the image, or the fall to BOOTSEL, that
+    // the rules choose. The image is never below its rollback rows.
     ensures boot { (flash otp f g : List ℕ) (cpu : Cpu) (kind : BootKind) (files : List File)
         (d : Decision)
         → asked words.now ≡ Some (Boot flash otp cpu kind) → (S.state store.old).files ≡ Some files
@@ -109,9 +111,9 @@ pub fn run<S: Store, K: Sink>(
         × ((choice : Choice) → d ≡ Start choice
         → NotBelow (content_of_files f g).otp choice.image) }
 
-    // The second half of the headline, on told files of what lost power left: after a gated session
-    // on one slot of a pair, cut before or within any erase or page program, a normal boot names
-    // the former answer, or the finished image, which is there whole.
+    // The second half of the headline, on told files of what lost power left. A gated session on
+    // one slot of a pair was cut before or within any erase or page program. Then a normal boot
+    // names the former answer, or the finished image, which is there whole.
     ensures session { (flash otp f g : List ℕ) (cpu : Cpu) (files : List File) (c : Content)
         (w : Window) (steps : List Step) (former : Decision)
         → asked words.now ≡ Some (Boot flash otp cpu Normal)
@@ -123,10 +125,10 @@ pub fn run<S: Store, K: Sink>(
         ⊎ ((whole : StartsFinished (after_all c steps) (content_of_files f g) cpu)
         × Names (Start whole.choice) result (K.state out.old) (K.state out.new)) }
 
-    // A session that writes only one slot of a pair, done or cut anywhere, where the former answer
-    // is not in that slot: a normal boot names the former answer, or an image that is valid in the
-    // written slot. It is not asked that the cut leaves no accidental image, and of the table only
-    // that none came.
+    // A session writes only one slot of a pair, and is done or cut anywhere. The former answer is
+    // not in that slot. Then a normal boot names the former answer, or an image that is valid in
+    // the written slot. The cut may leave an accidental image; of the table it is asked only that
+    // none came.
     ensures confined { (flash otp f g : List ℕ) (cpu : Cpu) (files : List File) (c : Content)
         (w : Window) (steps : List Step) (former : Decision)
         → asked words.now ≡ Some (Boot flash otp cpu Normal)
@@ -140,7 +142,7 @@ pub fn run<S: Store, K: Sink>(
 
     // What the rules say, on every store: the run read some bytes, and the text that it put, its
     // files and its status are right for the command on those bytes. `Input` comes exactly where
-    // one of them breaks its form, or each has its form and the work refuses one.
+    // an input breaks its form, or each has its form and the work refuses one.
     ensures obeys { (command : CommandLineView) → asked words.now ≡ Some command
         → is_finished result ≡ true
         → (read : List (List ℕ)) × (o : AnswerView) × Obeys command read o × (result ≡ o.status)
@@ -153,7 +155,7 @@ pub fn run<S: Store, K: Sink>(
         (outcome_in (asked words.now))
         store.old out.old result store.new out.new }
 
-    // On told files: the status, the text and the files are those of the words on whole files.
+    // On told files: the status, the text and the files are those of the arguments on whole files.
     ensures told { (files : List File) → (S.state store.old).files ≡ Some files
         → is_finished result ≡ true
         → ShowsOutcome (outcome_on (asked words.now) files) (S.state store.old) (K.state out.old)
@@ -162,7 +164,7 @@ pub fn run<S: Store, K: Sink>(
         → LacksOne (Some files) (inputs_in (asked words.now))
         → (result ≡ Status.ReadFault) ⊎ (result ≡ Status.Memory) }
 
-    // Causes, and what an early end leaves.
+    // Each early end has its cause, and what it leaves.
     ensures words { (result ≡ Status.Words → asked words.now ≡ None)
         × (asked words.now ≡ None → (result ≡ Status.Words)
         ⊎ ((result ≡ Status.OutputFault) ⊎ (result ≡ Status.Memory))) }
@@ -187,7 +189,7 @@ pub fn run<S: Store, K: Sink>(
         (outcome_in (asked words.now))
         (S.state store.new).files out.old SinkFail.Memory out.new }
 
-    // Completeness.
+    // Each run is finished, or one of these holds: there was no memory, or a count of faults rose.
     ensures complete { (is_finished result ≡ true) ⊎ ((result ≡ Status.Memory)
         ⊎ (Rose (S.state store.old).read_faults (S.state store.new).read_faults
         ⊎ (Rose (S.state store.old).write_faults (S.state store.new).write_faults

@@ -31,7 +31,7 @@ use cli_tools::{load, made_flash, pack_elf, plan_image, seal_binary, table, uf2}
 use cli_words::{CommandLine, help_text, release_line, usage_text};
 use std::alloc::{AllocError, Global};
 
-/// The inputs of a command, in word order.
+/// The inputs of a command, in the order of the arguments.
 pub fn inputs<'a>(
     alloc: Global,
     command: &CommandLine<'a>,

@@ -1,4 +1,4 @@
--- What is right for a replay, in the words of the machine's rules.
+-- What is right for a replay, by the machine's rules.
 use Rattle.std.specs.Prelude.{◌≡◌, ℕ, Ok, List, ◌++◌}
 use Rattle.pico_board.specs.declared.boot.Cpu.{Cpu}
 use Rattle.pico_board.specs.Content.{Content}
@@ -11,9 +11,9 @@ use Rattle.cli_course.specs.Outcomes.{AnswerView}
 use Rattle.boot_plays.specs.Plays.{powerless}
 use Rattle.cli_scripts.specs.ReplayWorks.{event_lines, end_line, content_files}
 
--- `replay`: the events of the script up to its end take a machine without power, on which no cut is
--- armed, to another one; the outcome tells the texts of their lines, and writes the content that
--- the events leave
+-- `replay`: the events of the script up to its end take a machine without power, on which no cut
+-- is armed, to another machine; the outcome prints their lines, and writes the content that the
+-- events leave
 pub record IsReplayOf (c : Content) (cpu : Cpu) (script flash otp : List ℕ) (o : AnswerView)
     : Type 0 where
   pub happened : List EventView

@@ -24,7 +24,7 @@ state_text Off = codes "off"
 state_text (InBootsel host) = codes "bootsel"
 state_text (Running program) = codes "running"
 
--- the line behind the events
+-- the line after the events
 abbrev pub end_line : StateView → List ℕ
 end_line place = codes "end state=" ++ line (state_text place)
 

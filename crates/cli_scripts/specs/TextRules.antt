@@ -1,5 +1,5 @@
--- What is right for a script as text, for the script of a text and for that of a UF2 file, in the
--- words of the rules.
+-- What is right for a script as text, for the script of a text and for that of a UF2 file, by the
+-- rules.
 use Rattle.std.specs.Prelude.{◌≡◌, ℕ, ◌+◌, List, [], length, Ok}
 use Rattle.std.specs.List.{AllByRecursion, flat_map}
 use Rattle.boot_script.specs.Events.{EventView}
@@ -13,7 +13,7 @@ use Rattle.script_text.specs.Reading.{script_of}
 use Rattle.cli_scripts.specs.Copies.{copy_events, copy_line}
 use Rattle.cli_scripts.specs.TextWorks.{script_line, text_fault}
 
--- `list`: the outcome tells the text of the script's events up to its end, and writes nothing
+-- `list`: the outcome prints the text of the script's events up to its end, and writes nothing
 pub record IsListOf (script : List ℕ) (o : AnswerView) : Type 0 where
   pub happened : List EventView
   pub reads : events script ≡ Ok happened
@@ -21,8 +21,8 @@ pub record IsListOf (script : List ℕ) (o : AnswerView) : Type 0 where
   pub text : o.text ≡ listed happened
   pub files : o.files ≡ []
 
--- `script`: the text is one of events; the outcome tells how many records their script has with its
--- end, and writes it
+-- `script`: the text is one of events; the outcome prints how many records their script has with
+-- its end, and writes the script
 pub record IsWrittenOf (text out : List ℕ) (o : AnswerView) : Type 0 where
   pub happened : List EventView
   pub spelled : IsScriptText text happened
@@ -30,15 +30,15 @@ pub record IsWrittenOf (text out : List ℕ) (o : AnswerView) : Type 0 where
   pub told : o.text ≡ script_line (length happened + 1)
   pub files : o.files ≡ one_file out (script_of happened)
 
--- a text has a fault, which is told of it
+-- a text has a fault, and is refused for it
 pub record IsTextRefused (name text blamed fault : List ℕ) : Type 0 where
   pub error : TextError
   pub wrong : IsScriptTextFault text error
   pub blames : blamed ≡ name
   pub tells : fault ≡ text_fault error
 
--- `copy`: the file is these blocks of 512 bytes; the outcome tells how many, and writes the script
--- that copies them in file order
+-- `copy`: the file is these blocks of 512 bytes; the outcome prints how many, and writes the
+-- script that copies them in file order
 pub record IsCopyOf (uf2 out : List ℕ) (o : AnswerView) : Type 0 where
   pub blocks : List (List ℕ)
   pub each : AllByRecursion (λ (block : List ℕ). length block ≡ 512) blocks

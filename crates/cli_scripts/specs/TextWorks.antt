@@ -12,7 +12,7 @@ use Rattle.script_text.specs.Reading.{script_of, text_events}
 abbrev pub list_work : List ℕ → Work
 list_work script = Answers false (listed (script_events script)) []
 
--- why a text is not read; want of memory is never a reason
+-- why a text is not read; missing memory is never the reason
 abbrev pub text_fault : TextError → List ℕ
 text_fault (Line n) = codes "text " ++ decimal n
 text_fault TooMany = codes "text too-many"
@@ -23,8 +23,7 @@ text_fault Memory = codes "memory"
 abbrev pub script_line : ℕ → List ℕ
 script_line n = codes "script records=" ++ line (decimal n)
 
--- a text is refused for its first fault, or its script is written, which has an end behind its
--- events
+-- a text is refused for its first fault, or its script is written, with an end after its events
 abbrev pub read_work : List ℕ → List ℕ → Result (List EventView) TextError → Work
 read_work name out (Ok es) =
     Answers false (script_line (length es + 1)) (one_file out (script_of es))

@@ -56,9 +56,9 @@ fn copy_script(alloc: Global, uf2: &[u8]) -> Result<Vec<u8>, AllocError>
     Ok(script)
 }
 
-/// The work of `copy` on a UF2 file that has its form: the number of its blocks, which are not
-/// judged, and the script that copies them in file order to a board in BOOTSEL. It fails only where
-/// memory is out.
+/// The work of `copy` on a UF2 file that has its form: the number of its blocks, and the script
+/// that copies them in file order to a board in BOOTSEL. The blocks are not judged. It fails only
+/// where memory is out.
 pub fn copy_uf2<'a>(alloc: Global, uf2: &[u8], out: &'a str) -> Result<Answer<'a>, AllocError>
     requires { HasForm Form.Uf2 uf2.now }
     ensures { IfOk result (λ answer. answer_from answer

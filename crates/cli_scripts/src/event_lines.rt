@@ -1,4 +1,4 @@
-//! The lines of events, and the one behind them.
+//! The lines of events, and the one after them.
 
 ghost use Rattle.std.specs.Prelude.{◌≡◌, ◌++◌, IfOk, OnOk, string_bytes};
 ghost use Rattle.pico_board.specs.declared.mem_board.MemBoard.{MemBoard};
@@ -38,7 +38,7 @@ fn state_word(state: &State) -> &'static str
     }
 }
 
-/// The line behind the events.
+/// The line after the events.
 pub fn end_line(alloc: Global, state: &State) -> Result<String, AllocError>
     ensures { IfOk result (λ t. (p : Parts MemBoard) (place : StateView) → p.state ≡ state.now
         → StandsAt p place → string_bytes t ≡ end_line place) }

@@ -1,5 +1,6 @@
-//! The work of the commands on scripts: what each event of a script does to a machine and what it
-//! leaves, and what stands between scripts, their texts and UF2 files.
+//! The work of the commands on scripts: what each event of a script does to a machine, and what
+//! the script leaves. Also scripts as texts, the scripts of texts, and the scripts that copy UF2
+//! files.
 #![tactic(auto)]
 
 mod copying;

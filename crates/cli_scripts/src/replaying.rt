@@ -79,9 +79,9 @@ fn row_bytes(alloc: Global, rows: &[u32]) -> Result<Vec<u8>, AllocError>
     Ok(bytes)
 }
 
-/// The work of `replay` on a board on which no cut is armed, and a script: the lines of the script's
-/// events on a machine without power, and the files of the content that they leave. It fails only
-/// where memory is out.
+/// The work of `replay` on a board on which no cut is armed, and a script: the lines of the
+/// script's events on a machine without power, and the files of the content that they leave. It
+/// fails only where memory is out.
 pub fn replay<'a>(
     alloc: Global,
     board: MemBoard,

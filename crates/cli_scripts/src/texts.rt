@@ -12,8 +12,8 @@ use cli_course::{Answer, one_file, refusal, told};
 use script_text::{TextError, list_text, read_text};
 use std::alloc::{AllocError, Global};
 
-/// The work of `list` on a script: its events up to its end, one a line, with a comment above each
-/// command and each UF2 block. It fails only where memory is out.
+/// The work of `list` on a script: its events up to its end, one a line. A comment stands above
+/// each command and each UF2 block. It fails only where memory is out.
 pub fn list_script<'a>(alloc: Global, script: Script<'_>) -> Result<Answer<'a>, AllocError>
     ensures { IfOk result
         (λ answer. answer_from answer ≡ worked (list_work script.entry.bytes.now)) }
@@ -51,8 +51,8 @@ fn unread<'a>(alloc: Global, name: &str, fault: TextError) -> Result<Answer<'a>,
 }
 
 /// The work of `script` on a text that has its form: the script of its records up to its `end`
-/// line, or of all where it has none; or its first fault, told of the text by its word. It fails
-/// only where memory is out.
+/// line, or of all records where it has no such line. Or it refuses the text, by its argument, for
+/// its first fault. It fails only where memory is out.
 pub fn write_script<'a>(
     alloc: Global,
     name: &str,

@@ -1,4 +1,4 @@
--- What is right for the picture of a sweep, in the words of the rules.
+-- What is right for the picture of a sweep, by the rules.
 use Rattle.std.specs.Prelude.{◌≡◌, ℕ, false, true, Bool, List, length, slice_get, take, Some}
 use Rattle.pico_board.specs.declared.Step.{Step}
 use Rattle.pico_board.specs.declared.boot.Cpu.{Cpu}
@@ -33,10 +33,10 @@ module _ (c : Content) (cpu : Cpu) (pattern : List ℕ) (steps : List Step) wher
     pub each : (j : ℕ) (step : Step) (cut : StepResults) → slice_get steps j ≡ Some step
         → slice_get cuts j ≡ Some cut → IsCutOf j step cut
 
--- `chart`: the session of the script on a content is refused for no reason; the outcome tells how
--- many steps it has and how many lines of its sweep have each result, and writes the picture of
--- these steps and results and of the result of the whole session, which tells the decision of a
--- normal boot
+-- `chart`: the session of the script on a content is refused for no reason; the outcome prints how
+-- many steps the session has, and how many lines of its sweep have each result; it writes the
+-- picture of these steps and results and of the result of the whole session; the picture names the
+-- decision of a normal boot
 pub record IsChartOf (c : Content) (cpu : Cpu) (out script pattern : List ℕ) (o : AnswerView)
     : Type 0 where
   pub right : IsContent c

@@ -53,11 +53,11 @@ chart_of c cpu pattern steps =
 abbrev pub chart_line : Chart → List ℕ
 chart_line chart = line (chart_words chart.steps chart.before chart.within)
 
--- the bytes of its picture, which shows the decision of a normal boot by its line
+-- the bytes of the chart's picture; the picture shows the decision of a normal boot by its line
 abbrev pub chart_file : Chart → List ℕ → List ℕ
 chart_file chart decided = picture_text (picture_of chart decided)
 
--- a session is refused for a reason, which is told of the script, or its chart is drawn
+-- a session is refused for a reason, by the script, or its chart is drawn
 abbrev pub drawn_work : List ℕ → List ℕ → Chart → List ℕ → Option SweepError → Work
 drawn_work script out chart decided (Some reason) = Refuses script (sweep_fault reason)
 drawn_work script out chart decided None =

@@ -34,7 +34,7 @@ has_no_other bytes loop zero = true
 has_no_other bytes loop (suc n) =
     is_of_loop loop (block_at bytes (4 * n)) && has_no_other bytes loop n
 
--- the first entry of the load map has all before the definition
+-- the first entry of the load map has all bytes before the definition
 abbrev pub has_front : ℕ → Result (List Load) Why → Bool
 has_front e (Ok loads) = loads_front e loads
 has_front e (Err why) = false
@@ -44,7 +44,7 @@ abbrev pub is_alone : List ℕ → Result (List BlockView) LoopFault → Bool
 is_alone bytes (Ok loop) = has_no_other bytes loop 1024
 is_alone bytes (Err fault) = false
 
--- the definition has a digest, and its load map begins with all before it
+-- the definition has a digest, and its load map begins with all bytes before it
 abbrev pub is_covered : List ℕ → ℕ → Result Defined Why → Bool
 is_covered bytes e (Ok image) =
     is_some image.def.digest

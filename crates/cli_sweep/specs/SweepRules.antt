@@ -1,5 +1,4 @@
--- What is right for a sweep and for the question whether an image is firm, in the words of the
--- rules.
+-- What is right for a sweep, and for the question whether an image is firm, by the rules.
 use Rattle.std.specs.Prelude.{◌≡◌, ◌≢◌, ◌⊎◌, ℕ, true, false, List, [], ◌++◌, Some, codes}
 use Rattle.pico_board.specs.declared.boot.Cpu.{Cpu}
 use Rattle.pico_board.specs.Content.{Content, IsContent}
@@ -18,8 +17,8 @@ use Rattle.text_lines.specs.Faults.{why_text}
 use Rattle.cli_sweep.specs.FirmWorks.{image_alone, whole_window, firm_line}
 use Rattle.cli_sweep.specs.SweepWorks.{sweep_fault}
 
--- `sweep`: the session of the script on a content is refused for no reason; the outcome tells two
--- lines for each of its steps, each with the result of its cut, and the end line, and writes
+-- `sweep`: the session of the script on a content is refused for no reason; the outcome prints two
+-- lines for each of its steps, each with the result of its cut, and then the end line; it writes
 -- nothing
 pub record IsSweepOf (c : Content) (cpu : Cpu) (script pattern : List ℕ) (o : AnswerView)
     : Type 0 where
@@ -29,8 +28,8 @@ pub record IsSweepOf (c : Content) (cpu : Cpu) (script pattern : List ℕ) (o : 
   pub text : IsSweep c cpu pattern (script_session c cpu script) o.text
   pub files : o.files ≡ []
 
--- the session of a script is refused, and the reason is told of the script. On a content it is the
--- reason that holds by the rules; of numbers that are no bytes it is what the function says.
+-- the session of a script is refused, and the script is named with the reason. On a content it is
+-- the reason that holds by the rules. Of numbers that are no bytes it is what the function says.
 pub record IsSweepRefused (script : List ℕ) (c : Content) (cpu : Cpu)
     (bytes name fault : List ℕ) : Type 0 where
   pub reason : SweepError
@@ -39,14 +38,14 @@ pub record IsSweepRefused (script : List ℕ) (c : Content) (cpu : Cpu)
   pub blames : name ≡ script
   pub tells : fault ≡ sweep_fault reason
 
--- an image is firm, and the line says so, or it is not
+-- an image is firm, and the line says so; or it is not firm, and the line says this
 abbrev pub SaysFirm : List ℕ → Cpu → Started → List ℕ → Type 0
 SaysFirm image cpu s text =
     (Firm (image_alone image) (whole_window image) cpu s × (text ≡ firm_line true))
     ⊎ ((Firm (image_alone image) (whole_window image) cpu s → ⊥) × (text ≡ firm_line false))
 
 -- `firm`: the image, alone in a flash of its own with an OTP of zeros, is valid with trial images
--- allowed; the outcome tells whether it is firm, and writes nothing
+-- allowed; the outcome prints whether it is firm, and writes nothing
 pub record IsFirmOf (image : List ℕ) (cpu : Cpu) (o : AnswerView) : Type 0 where
   pub some : image ≢ []
   pub started : Started

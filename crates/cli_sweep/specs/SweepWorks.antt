@@ -10,7 +10,7 @@ use Rattle.boot_session.specs.Scripts.{script_session}
 use Rattle.boot_sweep.specs.Sweeps.{sweep_text}
 use Rattle.cli_course.specs.Outcomes.{Work, Answers, Refuses}
 
--- why a session is not swept; want of memory is never a reason
+-- why a session is not swept; missing memory is never the reason
 abbrev pub sweep_fault : SweepError → List ℕ
 sweep_fault (NotConfined k) = codes "not-confined " ++ decimal k
 sweep_fault (NotGated k) = codes "not-gated " ++ decimal k
@@ -19,7 +19,7 @@ sweep_fault FormerInSlot = codes "former-in-slot"
 sweep_fault Memory = codes "memory"
 sweep_fault TableChanged = codes "table-changed"
 
--- a session is refused for a reason, which is told of the script, or its lines are told
+-- a session is refused for a reason, by the script, or its lines are printed
 abbrev pub swept_work : List ℕ → List ℕ → Option SweepError → Work
 swept_work script text (Some reason) = Refuses script (sweep_fault reason)
 swept_work script text None = Answers false text []

@@ -46,7 +46,7 @@ fn decided_words<B: Board>(
     format!(in alloc; "{text}")
 }
 
-/// The answer that tells what a sweep found, and writes its picture.
+/// The answer that prints what a sweep found, and writes its picture.
 fn drawn<'a>(
     alloc: Global,
     found: &SweepResults,
@@ -69,10 +69,10 @@ fn drawn<'a>(
     one_file(alloc, line, out, picture)
 }
 
-/// The work of `chart` on a board with power, a script and a pattern: how many steps the script's
-/// session has for the processor and how many lines of its sweep have each result, and the picture
-/// of the sweep; or the reason why the session is not swept, told of the script by its word. It
-/// fails only where memory is out.
+/// The work of `chart` on a board with power, a script and a pattern. It prints how many steps the
+/// script's session has for the processor, and how many lines of its sweep have each result. It
+/// writes the picture of the sweep. Or it refuses the script, by its argument, with the reason why
+/// the session is not swept. It fails only where memory is out.
 pub fn chart_script<'a>(
     alloc: Global,
     board: MemBoard,

@@ -88,10 +88,10 @@ fn firm_answer<'a>(
     }
 }
 
-/// The work of `firm` on the bytes of an image, which have their form: whether the image, alone in
-/// a flash with an OTP of zeros and with trial images allowed, is firm for the processor; or that
-/// there is no byte, or the rule that it fails, told of the image by its word. It fails only where
-/// memory is out.
+/// The work of `firm` on the bytes of an image, which have their form. It prints whether the image
+/// is firm for the processor, alone in a flash with an OTP of zeros and with trial images allowed.
+/// Or it refuses the image, by its argument: there is no byte, or the image fails a rule. It fails
+/// only where memory is out.
 pub fn firm_image<'a>(
     alloc: Global,
     name: &str,

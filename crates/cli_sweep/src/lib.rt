@@ -1,5 +1,5 @@
-//! The work of the commands on lost power: what a normal boot makes of each cut of a session, the
-//! picture of that, and whether an image is firm.
+//! The work of the commands on lost power: what a normal boot makes of each cut of a session; the
+//! picture of that; and whether an image is firm.
 #![tactic(auto)]
 
 mod drawing;

@@ -37,9 +37,10 @@ pub fn unswept<'a>(alloc: Global, name: &str, reason: SweepError) -> Result<Answ
     refusal(alloc, name, &fault)
 }
 
-/// The work of `sweep` on a board, a script and a pattern: the lines of the script's session for the
-/// processor, each with what a normal boot makes of its loss of power, or the reason why the session
-/// is not swept, told of the script by its word. It fails only where memory is out.
+/// The work of `sweep` on a board, a script and a pattern. It prints the lines of the script's
+/// session for the processor, each with what a normal boot makes of its loss of power. Or it
+/// refuses the script, by its argument, with the reason why the session is not swept. It fails
+/// only where memory is out.
 pub fn sweep_script<'a>(
     alloc: Global,
     board: MemBoard,

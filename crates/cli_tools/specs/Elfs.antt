@@ -26,7 +26,7 @@ use Rattle.cli_inputs.specs.Jsons.{IsSpecText}
 use Rattle.cli_tools.specs.Seals.{blamed, seal_error, seal_text, sealed_line}
 use Rattle.cli_tools.specs.Tools.{no_work}
 
--- why an ELF file has no sealed image; the last is never a reason
+-- why an ELF file has no sealed image; the last text is never the reason
 abbrev pub elf_text : ElfFault → List ℕ
 elf_text NotElf = codes "elf not-elf"
 elf_text FileType = codes "elf type"
@@ -40,7 +40,7 @@ elf_text (Overlap i j) = codes "elf overlap " ++ (decimal i ++ (codes " " ++ dec
 elf_text (Seal error) = seal_text error
 elf_text Memory = codes "memory"
 
--- the input that a fault is told of: the spec where it is wrong, and else the ELF file
+-- the input that is refused for a fault: the spec where it is wrong, or else the ELF file
 abbrev pub elf_blamed : List ℕ → List ℕ → ElfFault → List ℕ
 elf_blamed elf spec (Seal error) = blamed elf spec error
 elf_blamed elf spec fault = elf
@@ -65,17 +65,17 @@ abbrev pub elf_work : List ℕ → List ℕ → List ℕ → List ℕ → Result
 elf_work elf spec out e (Ok asked) = packed_work elf spec out e asked (image_fault e asked)
 elf_work elf spec out e (Err fault) = no_work
 
--- a normal boot of a board whose flash is this file, filled with 0xff, and whose OTP is of zeros
+-- a board has this file, filled with 0xff, as its flash, and an OTP of zeros: its normal boot
 -- starts the image s, in the whole flash
 pub record StartsAlone (file : List ℕ) (cpu : Cpu) (s : Started) : Type 0 where
   pub choice : Choice
   pub chosen : Chosen (content_of_files file []) cpu Normal (Start choice)
   pub image : choice.image ≡ moved_to (record { start = 0; len = length (filled_flash file) }) s
 
--- `elf`: the ELF file is packed by the spec that the text gives; its sealed image is whole, that is
--- it is valid where it stands and gives the bytes of the file's segments; written to a flash of its
--- own it starts by a normal boot, where it is no trial and has no partition table in its bytes; the
--- outcome tells the image and writes it
+-- `elf`: the ELF file is packed by the spec that the text gives; its sealed image is whole: the
+-- image is valid where it stands and gives the bytes of the file's segments; written to a flash of
+-- its own it starts by a normal boot, where it is no trial and has no partition table in its
+-- bytes; the outcome prints a line on the image and writes it
 pub record IsElfOf (out e s : List ℕ) (o : AnswerView) : Type 0 where
   pub asked : SealSpec
   pub says : IsSpecText s asked
@@ -90,7 +90,7 @@ pub record IsElfOf (out e s : List ℕ) (o : AnswerView) : Type 0 where
       (block_offset (elf_binary asked.cpu e))
   pub files : o.files ≡ one_file out (sealed_text (elf_binary asked.cpu e) asked)
 
--- an ELF file is refused by a spec, which its text gives: its first fault is told of this input,
+-- an ELF file is refused by the spec that a text gives: this input is refused for its first fault,
 -- with this text
 pub record IsElfRefused (elf spec e s name fault : List ℕ) : Type 0 where
   pub asked : SealSpec

@@ -1,4 +1,4 @@
--- What is right for the commands that make images and tables, in the words of the rules.
+-- What is right for the commands that make images and tables, by the rules.
 use Rattle.std.specs.Prelude.{◌≡◌, ℕ, List, length}
 use Rattle.part_table.specs.declared.table.Table.{Table}
 use Rattle.image_pack.specs.declared.spec.SealSpec.{SealSpec}
@@ -10,7 +10,7 @@ use Rattle.cli_tools.specs.Seals.{sealed_line}
 use Rattle.cli_tools.specs.Tools.{table_file, table_line}
 use Rattle.cli_course.specs.Outcomes.{one_file, AnswerView}
 
--- `table`: the outcome tells the table that the text gives, and writes its file
+-- `table`: the outcome prints a line on the table that the text gives, and writes its file
 pub record IsTableOf (out j : List ℕ) (o : AnswerView) : Type 0 where
   pub table : Table
   pub says : IsTableText j table
@@ -18,8 +18,8 @@ pub record IsTableOf (out j : List ℕ) (o : AnswerView) : Type 0 where
   pub text : o.text ≡ table_line (length table.parts.items)
   pub files : o.files ≡ one_file out (table_file table)
 
--- `seal`: the binary is sealed by the spec that the text gives; the outcome tells the sealed image,
--- and writes it
+-- `seal`: the binary is sealed by the spec that the text gives; the outcome prints a line on the
+-- sealed image, and writes it
 pub record IsSealedOf (out b s : List ℕ) (o : AnswerView) : Type 0 where
   pub asked : SealSpec
   pub says : IsSpecText s asked

@@ -61,8 +61,8 @@ abbrev pub alone : SealSpec → List ℕ → Result Started Why
 alone spec image =
     image_in in_flash (whole_window image) spec.cpu true zero_otp (whole_sectors image)
 
--- the fault of the sealed image of a binary that may be sealed: it or its new block is too long, or
--- it does not start by its new block
+-- the fault of the sealed image of a binary that may be sealed: the image or its new block is too
+-- long, or the image does not start by its new block
 abbrev pub sealed_error : List ℕ → SealSpec → Option SealError
 sealed_error binary spec =
     if nat_lt MOST_FLASH_BYTES (length (sealed_text binary spec)) then Some TooLarge
@@ -70,8 +70,8 @@ sealed_error binary spec =
     then Some (BlockTooLong (new_block_size binary spec))
     else start_error (block_offset binary) (alone spec (sealed_text binary spec))
 
--- the fault of a binary's sealed image where the binary has these parts; or that it fails this
--- rule, so that it may not be sealed
+-- the fault of a binary's sealed image where the binary has these parts; or the binary fails this
+-- rule and may not be sealed
 abbrev pub binary_error : {Parts : Type 0} → List ℕ → SealSpec → Result Parts Why
     → Option SealError
 binary_error binary spec (Ok parts) = sealed_error binary spec
@@ -83,7 +83,7 @@ seal_error binary spec =
     option_or (spec_error spec)
     (binary_error binary spec (parts_in spec.cpu (whole_sectors binary)))
 
--- why a binary is not sealed; the last is never a reason
+-- why a binary is not sealed; the last text is never the reason
 abbrev pub seal_text : SealError → List ℕ
 seal_text (BadSpec Rollback) = codes "bad-spec rollback"
 seal_text (BadSpec Rows) = codes "bad-spec rows"
@@ -94,7 +94,7 @@ seal_text (NotBootable why) = codes "not-bootable " ++ why_text why
 seal_text Displaced = codes "displaced"
 seal_text Memory = codes "memory"
 
--- the input that an error is told of: the spec where it is wrong, and else the binary
+-- the input that is refused for an error: the spec where it is wrong, or else the binary
 abbrev pub blamed : List ℕ → List ℕ → SealError → List ℕ
 blamed binary spec (BadSpec field) = spec
 blamed binary spec error = binary
@@ -104,8 +104,8 @@ abbrev pub sealed_line : ℕ → ℕ → List ℕ
 sealed_line size block =
     codes "sealed bytes=" ++ (decimal size ++ (codes " block=" ++ line (hex_word block)))
 
--- a binary is refused by a spec, which its text gives: its first fault is told of this input, with
--- this text
+-- a binary is refused by the spec that a text gives: this input is refused for its first fault,
+-- with this text
 pub record IsUnsealed (binary spec b s name fault : List ℕ) : Type 0 where
   pub asked : SealSpec
   pub says : IsSpecText s asked

@@ -1,6 +1,5 @@
--- What is right for the commands that make files of an image, and for the one that makes a flash of
--- a number, in the words of the rules. This project's own, over the rules of a boot and of a
--- download's target.
+-- What is right for the commands that make files of an image, and for `gen`, which makes a flash
+-- of a number. This project's own, over the rules of a boot and of a download's target.
 use Rattle.std.specs.Prelude.{◌≡◌, ◌≢◌, ◌⊎◌, ℕ, ◌<◌, ◌≤◌, List, [], ◌++◌, length, Some, None, codes}
 use Rattle.pico_board.specs.declared.boot.Cpu.{Cpu}
 use Rattle.pico_board.specs.declared.boot.Cpu.TheVariants.{Arm}
@@ -27,7 +26,7 @@ IsNoUf2Image image fault = (image ≡ []) × (fault ≡ codes "empty")
 abbrev pub IsUf2Refused : List ℕ → List ℕ → List ℕ → List ℕ → Type 0
 IsUf2Refused image i name fault = (name ≡ image) × IsNoUf2Image i fault
 
--- `uf2`: the outcome tells the number of blocks, and writes the UF2 file of the image
+-- `uf2`: the outcome prints the number of blocks, and writes the UF2 file of the image
 pub record IsUf2Of (image : List ℕ) (family : ℕ) (out : List ℕ) (o : AnswerView) : Type 0 where
   pub some : image ≢ []
   pub status : o.status ≡ Done
@@ -43,12 +42,12 @@ IsTargetFault c cpu image fault =
     × (((image ≡ []) × (fault ≡ codes "empty"))
     ⊎ ((target.window.len < length image) × (fault ≡ codes "past-window"))))
 
--- they refuse the image of this name with this fault
+-- `plan` and `load` refuse the image of this name with this fault
 abbrev pub IsTargetRefused : Content → Cpu → List ℕ → List ℕ → List ℕ → List ℕ → Type 0
 IsTargetRefused c cpu image i name fault = (name ≡ image) × IsTargetFault c cpu i fault
 
--- the outcome tells the window of the target of the processor's executables and the image's length,
--- and writes the script that writes the image into that window in this order
+-- the outcome prints the window of the target of the processor's executables, and the image's
+-- length; it writes the script that writes the image into that window in this order
 pub record IsScriptOf (order : WriteOrder) (c : Content) (cpu : Cpu) (image out : List ℕ)
     (o : AnswerView) : Type 0 where
   pub target : Target
@@ -73,8 +72,9 @@ IsLoadRefused c cpu image i name fault = IsTargetRefused c cpu image i name faul
 abbrev pub IsLoadOf : Content → Cpu → List ℕ → List ℕ → AnswerView → Type 0
 IsLoadOf c cpu image out o = IsScriptOf Ascending c cpu image out o
 
--- `gen`: the outcome tells the flash of the number, and the one decision that the rules name for a
--- normal boot for Arm on it and an OTP of zeros; it is no failure where that is a fall
+-- `gen`: the outcome prints a line on the flash of the number, and the one decision that the rules
+-- name for a normal boot for Arm; the boot is on that flash and an OTP of zeros; where the
+-- decision is a fall, it is no failure
 pub record IsGenOf (n : ℕ) (o : AnswerView) : Type 0 where
   pub decision : Decision
   pub chosen : Chosen (made_content n) Arm Normal decision

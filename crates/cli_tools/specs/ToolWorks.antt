@@ -1,4 +1,4 @@
--- The work of the commands that make files of an image, and of the one that makes a flash of a
+-- The work of the commands that make files of an image, and of `gen`, which makes a flash of a
 -- number, as a function.
 use Rattle.std.specs.Prelude.{ℕ, ◌==◌, nat_lt, if◌then◌else◌, false, List, [], ◌++◌, length, Option, Some, None, option_map, codes, decimal}
 use Rattle.pico_board.specs.declared.boot.Cpu.{Cpu}
@@ -53,8 +53,8 @@ abbrev pub script_line : WriteOrder → Window → ℕ → List ℕ
 script_line order w n =
     order_word order ++ (codes " " ++ (window_text w ++ (codes " bytes=" ++ line (decimal n))))
 
--- the script that writes an image into a window; an image of no byte and one of more bytes than the
--- window are refused
+-- the script that writes an image into a window; an image of no byte, or of more bytes than the
+-- window, is refused
 abbrev pub window_work : WriteOrder → Window → List ℕ → List ℕ → List ℕ → Work
 window_work order w name out image =
     if length image == 0 then Refuses name (codes "empty")

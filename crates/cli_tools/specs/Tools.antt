@@ -19,7 +19,7 @@ table_file t = padded 4096 (written_table t)
 abbrev pub table_line : ℕ → List ℕ
 table_line count = codes "table bytes=4096 partitions=" ++ line (decimal count)
 
--- nothing, which is what a work comes to on a text that gives nothing
+-- nothing: the result of a work on a text that gives nothing
 abbrev pub no_work : Work
 no_work = Answers false [] []
 

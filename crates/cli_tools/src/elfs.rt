@@ -33,7 +33,7 @@ fn elf_text(alloc: Global, fault: ElfFault) -> Result<String, AllocError>
     }
 }
 
-/// The input that a fault is told of.
+/// The input that is refused for a fault.
 fn elf_blamed<'a>(elf: &'a str, spec: &'a str, fault: ElfFault) -> &'a str
     ensures { result.now ≡ elf_blamed elf.now spec.now fault }
 {
@@ -90,8 +90,8 @@ pub fn unpacked<'a>(
 }
 
 /// The work of `elf` on an ELF file that is not too long and a spec: the line of the sealed image,
-/// and its file; or the first fault, told of the ELF file or of the spec by its word. It fails only
-/// where memory is out.
+/// and its file. Or it refuses the ELF file or the spec, by its argument, for the first fault. It
+/// fails only where memory is out.
 pub fn pack_elf<'a>(
     alloc: Global,
     elf: &str,

@@ -94,7 +94,7 @@ fn window_answer<'a>(
 }
 
 /// The window and the length, and the script that writes an image in this order; or why there is
-/// none.
+/// no script.
 fn script_answer<'a, B: Board>(
     alloc: Global,
     order: WriteOrder,
@@ -115,9 +115,9 @@ fn script_answer<'a, B: Board>(
     }
 }
 
-/// The work of `plan` on a board with power and an image: the line of the window and the length, and
-/// the script that writes the image's first sector last; or why there is none, told of the image by
-/// its word. It fails only where memory is out.
+/// The work of `plan` on a board with power and an image: the line of the window and the length,
+/// and the script that writes the image's first sector last. Or it refuses the image, by its
+/// argument, with the reason. It fails only where memory is out.
 pub fn plan_image<'a>(
     alloc: Global,
     board: MemBoard,
@@ -134,8 +134,8 @@ pub fn plan_image<'a>(
 }
 
 /// The work of `load` on a board with power and an image: the line of the window and the length,
-/// and the script that writes the image in ascending order, sector by sector; or why there is none,
-/// told of the image by its word. It fails only where memory is out.
+/// and the script that writes the image in ascending order, sector by sector. Or it refuses the
+/// image, by its argument, with the reason. It fails only where memory is out.
 pub fn load<'a>(
     alloc: Global,
     board: MemBoard,

@@ -55,8 +55,8 @@ fn table_file(alloc: Global, table: &Table) -> Result<Vec<u8>, AllocError>
     Ok(bytes)
 }
 
-/// The work of `table` on a table whose block is not too long: the line of the table, and its file.
-/// It fails only where memory is out.
+/// The work of `table` on a table whose block is not too long: the line of the table, and its
+/// file. It fails only where memory is out.
 pub fn table<'a>(alloc: Global, table: &Table, out: &'a str) -> Result<Answer<'a>, AllocError>
     requires agree { All AgreesWithFlags table.now.parts.items }
     requires fits { written_size table.now ≤ 640 }
@@ -102,7 +102,7 @@ pub fn seal_text(alloc: Global, error: SealError) -> Result<String, AllocError>
     }
 }
 
-/// The input that an error is told of.
+/// The input that is refused for an error.
 pub fn blamed<'a>(binary: &'a str, spec: &'a str, error: SealError) -> &'a str
     ensures { result.now ≡ blamed binary.now spec.now error }
 {
@@ -161,9 +161,9 @@ pub fn image_answer<'a>(
     one_file(alloc, line, out, image)
 }
 
-/// The work of `seal` on a binary that is not too long and a spec: the line of the sealed image, and
-/// its file; or the first error, told of the binary or of the spec by its word. It fails only where
-/// memory is out.
+/// The work of `seal` on a binary that is not too long and a spec: the line of the sealed image,
+/// and its file. Or it refuses the binary or the spec, by its argument, for the first error. It
+/// fails only where memory is out.
 pub fn seal_binary<'a>(
     alloc: Global,
     binary: &str,

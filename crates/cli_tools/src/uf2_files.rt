@@ -11,8 +11,8 @@ use cli_course::{Answer, one_file, refusal};
 use std::alloc::{AllocError, Global};
 use uf2_place::{Uf2WriteFault, write_uf2};
 
-/// The work of `uf2` on an image, which has its form: the number of blocks, and the file; or that
-/// the image is empty, told of it by its word. It fails only where memory is out.
+/// The work of `uf2` on an image, which has its form: the number of blocks, and the file. Or it
+/// refuses an empty image, by its argument. It fails only where memory is out.
 pub fn uf2<'a>(
     alloc: Global,
     name: &str,

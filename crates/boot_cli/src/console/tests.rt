@@ -1,4 +1,4 @@
-//! What no clause can say: that standard output takes a text, and that this counts as no fault.
+//! What no clause can say: standard output takes a text, and this counts as no fault.
 
 use super::Console;
 use pico_board::Sink;

@@ -1,10 +1,10 @@
-//! What no clause says: that an error and a call that moves no byte end the loops.
+//! What no clause says: an error, and a call that moves no byte, end the loops.
 
 use super::{read_up_to, write_whole};
 use pico_board::StoreFail;
 use std::io::{self, ErrorKind, Read, Write};
 
-/// A file that gives and takes one byte a call, so often, and then fails or gives and takes none.
+/// A file that gives and takes one byte a call, so often. Then it fails, or gives and takes none.
 #[derive(Drop)]
 struct Worn {
     left: u8,
@@ -12,7 +12,7 @@ struct Worn {
 }
 
 impl Worn {
-    /// The bytes of the next call, of which there is room for so many.
+    /// The bytes of the next call; there is room for so many.
     fn turn(&mut self, room: usize) -> io::Result<usize> {
         if self.left > 0 {
             self.left -= 1;
@@ -81,7 +81,7 @@ fn a_file_that_stops_ends_a_read_and_faults_a_write(rt: HostRuntime) {
     }
 }
 
-/// A file whose every other call is interrupted, and which gives and takes one byte a call.
+/// A file that gives and takes one byte a call; every other call is interrupted.
 #[derive(Drop)]
 struct Interrupted {
     left: u8,
@@ -89,7 +89,7 @@ struct Interrupted {
 }
 
 impl Interrupted {
-    /// The bytes of the next call, of which there is room for so many.
+    /// The bytes of the next call; there is room for so many.
     fn turn(&mut self, room: usize) -> io::Result<usize> {
         self.is_next = !self.is_next;
         if self.is_next {

@@ -24,7 +24,7 @@ fn failure() -> io::Error {
     io::Error::from(ErrorKind::Other)
 }
 
-/// A real file, of which one call fails.
+/// A real file; one call of it fails.
 #[derive(Drop)]
 struct FailingFile {
     file: File,
@@ -84,7 +84,7 @@ impl OpenFile for FailingFile {
     }
 }
 
-/// The system's files, of which one call fails.
+/// The system's files; one call of them fails.
 #[derive(Drop)]
 struct FailingFiles<'a> {
     rt: &'a HostRuntime,

@@ -10,8 +10,8 @@ ghost use Rattle.boot_run.specs.Examples.{no_start, sink_of};
 ghost use Rattle.cli_course.specs.Outcomes.{refused, unread, not_understood};
 ghost use Rattle.cli_course.specs.declared.status.Status.{Status};
 
-/// Of two inputs that break their form the first in word order is named; a lacking name has no
-/// text.
+/// Of two inputs that break their form the first, in the order of the arguments, is named. A
+/// missing name has no text.
 pub fn first_faults()
     ensures flash { command_outcome (Boot (codes "f") (codes "o") Arm Normal) ([] ∷ (0 ∷ []) ∷ [])
         ≡ refused (codes "f") (codes "empty") }
@@ -35,7 +35,7 @@ pub fn first_faults()
     ensures words { outcome_on None [] ≡ not_understood }
 {}
 
-/// A wrong spec is told under its own name, and a form before any refusal.
+/// A wrong spec is refused under its own name. A fault of a form comes before any refusal.
 pub fn refusals_of_sealings()
     ensures rollback { command_outcome (Seal (codes "b") (codes "s") (codes "a"))
         ([] ∷ codes "{\"processor\":\"arm\",\"rollback\":1}" ∷ [])
@@ -51,7 +51,7 @@ pub fn refusals_of_sealings()
         ≡ refused (codes "t") (codes "unknown top") }
 {}
 
-/// An image is refused by the first fault, under its own name, behind the faults of the forms.
+/// An image is refused for the first fault, under its own name. Faults of forms come before it.
 pub fn refusals_of_images()
     ensures uf2 { command_outcome (Uf2 (codes "i") 0xe48bff59 (codes "a")) ([] ∷ [])
         ≡ refused (codes "i") (codes "empty") }
@@ -63,8 +63,8 @@ pub fn refusals_of_images()
         ((0 ∷ []) ∷ (0 ∷ []) ∷ [] ∷ []) ≡ refused (codes "o") (codes "otp-length") }
 {}
 
-/// A run names a decision where it ends with the decision's status and puts its line: neither
-/// nothing, nor more, nor with another status. What was put before stays.
+/// A run names a decision where it ends with the decision's status and puts its line. It does not
+/// where it puts nothing, or more, or ends with another status. What was put before stays.
 pub fn what_names_a_decision()
     ensures line { Names no_start Status.Bootsel (sink_of (7 ∷ []))
         (sink_of (7 ∷ codes "bootsel no-image\n")) }

@@ -13,8 +13,8 @@ ghost use Rattle.cli_course.specs.Outcomes.{AnswerView, found};
 ghost use Rattle.boot_run.specs.Commands.{inputs_of, command_outcome, outcome_on, Obeys, FallsOn, NeedsBytes, IsRefusedCommand, IsRightWith, judges, is_verdict};
 ghost use Rattle.cli_course.specs.Ends.{cut};
 
-/// The outcome of a command on the bytes of its inputs is the one that is right by the rules. Of
-/// the commands that `NeedsBytes` names it is asked that their inputs are of bytes.
+/// The outcome of a command on the bytes of its inputs is the one that is right by the rules. The
+/// inputs of the commands that `NeedsBytes` names have to be of bytes.
 pub fn outcomes_are_right()
     ensures right { (command : CommandLineView) (read : List (List ℕ))
         → length read ≡ length (inputs_of command) → NeedsBytes command read
@@ -27,9 +27,9 @@ pub fn outcomes_are_right()
 {}
 
 /// The status is Input exactly where an input breaks its form, or each has its form and the work
-/// refuses one, and Bootsel exactly where a boot that was asked for falls. A verdict that is no pass
-/// comes exactly where each input has its form and what is right for the command ends with it, and
-/// of no command but those that judge a script.
+/// refuses one. It is Bootsel exactly where a boot that was asked for falls. A verdict that is no
+/// pass comes exactly where each input has its form and what is right for the command ends with
+/// this verdict. It comes of no command but those that judge a script.
 pub fn statuses_come_exactly()
     ensures input { (command : CommandLineView) (read : List (List ℕ))
         → length read ≡ length (inputs_of command)

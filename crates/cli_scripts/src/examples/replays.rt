@@ -13,7 +13,7 @@ ghost use Rattle.cli_scripts.specs.ReplayWorks.{content_files, event_lines, end_
 ghost use Rattle.text_lines.specs.Examples.{example_image};
 ghost use Rattle.cli_scripts.specs.ReplayExamples.{example_content};
 
-/// The lines of events and the line behind them.
+/// The lines of events and the line after them.
 pub fn event_texts()
     ensures none { event_lines 0 [] ≡ [] }
     ensures two { event_lines 0 (codes "off" ∷ codes "cut armed" ∷ [])
@@ -35,7 +35,7 @@ pub fn files_of_contents()
         ∷ record { name = codes "b"; bytes = 1 ∷ 2 ∷ 3 ∷ 0 ∷ 0 ∷ 0 ∷ 0 ∷ 0 ∷ [] } ∷ [] }
 {}
 
-/// Without power an event does nothing but that a cut is armed, in place of a former one.
+/// Without power an event does nothing; but a cut is armed, in place of a former one.
 pub fn events_without_power()
     ensures nothing { played (powerless example_content Arm) (Buy ∷ Reset Normal ∷ [])
         ≡ record {
@@ -55,7 +55,7 @@ pub fn events_without_power()
         } }
 {}
 
-/// The replay of a script, of which what follows its end is not read.
+/// The replay of a script. What follows its end is not read.
 pub fn replays_of_scripts()
     ensures { worked (replay_work example_content Arm (6 ∷ 6 ∷ 0 ∷ 9 ∷ []) (codes "a") (codes "b"))
         ≡ record {

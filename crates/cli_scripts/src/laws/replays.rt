@@ -16,7 +16,7 @@ ghost use Rattle.cli_scripts.specs.ReplayWorks.{replay_work};
 ghost use Rattle.cli_scripts.specs.ReplayRules.{IsReplayOf};
 
 /// On files of bytes that have their forms the work of a replay is right by its rules, and refuses
-/// none.
+/// no file.
 pub fn works_are_right()
     ensures { (flash otp script out_flash out_otp : List ℕ) (cpu : Cpu)
         → WorksBy (flash_otp_script flash otp script) AreOfBytes

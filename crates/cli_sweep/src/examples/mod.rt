@@ -13,7 +13,8 @@ ghost use Rattle.cli_sweep.specs.Firmness.{has_front, is_alone, is_covered, is_o
 ghost use Rattle.cli_sweep.specs.FirmWorks.{firm_line, firm_work};
 ghost use Rattle.cli_sweep.specs.SweepWorks.{sweep_fault, swept_work};
 
-/// Why a session is not swept, and of which file that is told; the lines of one that is swept.
+/// Why a session is not swept, and which file is refused for it. The lines of a session that is
+/// swept.
 pub fn sweep_faults()
     ensures confined { sweep_fault (NotConfined 0) ≡ codes "not-confined 0" }
     ensures gated { sweep_fault (NotGated 31) ≡ codes "not-gated 31" }
@@ -26,15 +27,15 @@ pub fn sweep_faults()
         ≡ record { status = Done; text = codes "t"; files = [] } }
 {}
 
-/// What is told of an image.
+/// What is printed of an image.
 pub fn firm_texts()
     ensures yes { firm_line true ≡ codes "firm yes\n" }
     ensures no { firm_line false ≡ codes "firm no\n" }
     ensures empty { worked (firm_work (codes "i") [] Arm) ≡ refused (codes "i") (codes "empty") }
 {}
 
-/// A load that has all before an offset, and one that has not. With a wrong load map, and without a
-/// definition, none has.
+/// A load that has all bytes before an offset, and one that has not. With a wrong load map, and
+/// without a definition, no load has them.
 pub fn loads_in_front()
     ensures whole { loads_front 4096 (record { storage = Some 0; runtime = 0; size = 4096 } ∷ [])
         ≡ true }
@@ -51,7 +52,7 @@ pub fn loads_in_front()
     ensures undefined { is_covered [] 4096 (Err Why.NoDefinition) ≡ false }
 {}
 
-/// A block is one of a loop by its place. Where the loop does not close there is none to be of.
+/// A block is one of a loop by its place. Where the loop does not close, no block is one of it.
 pub fn blocks_of_a_loop()
     ensures there { is_of_loop (record { at = 256; items = []; link = pos 0 } ∷ [])
         (Some (record { at = 256; items = []; link = pos 0 })) ≡ true }

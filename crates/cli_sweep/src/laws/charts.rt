@@ -10,8 +10,8 @@ ghost use Rattle.cli_sweep.specs.SweepRules.{IsSweepRefused};
 ghost use Rattle.cli_sweep.specs.ChartWorks.{chart_work};
 ghost use Rattle.cli_sweep.specs.ChartRules.{IsChartOf};
 
-/// On files that have their forms the work of `chart` is right by the rules of a sweep, where they
-/// are of bytes. It refuses what `sweep` refuses, in the same words.
+/// On files that have their forms and are of bytes the work of `chart` is right by the rules of a
+/// sweep. It refuses what `sweep` refuses, in the same words.
 pub fn works_are_right()
     ensures chart { (flash otp script pattern out : List ℕ) (cpu : Cpu)
         → WorksBy (flash_otp_script_pattern flash otp script pattern) AreOfBytes

@@ -20,8 +20,8 @@ pub fn firm_images_are_judged()
         → (is_firm cpu bytes s ≡ true) ↔ IsFirm cpu bytes s }
 {}
 
-/// On files that have their forms the works are right by their rules; a sweep's are to be of bytes,
-/// since power that is lost in an erase leaves bytes.
+/// On files that have their forms the works are right by their rules. A sweep's files are to be of
+/// bytes, since power that is lost in an erase leaves bytes.
 pub fn works_are_right()
     ensures sweep { (flash otp script pattern : List ℕ) (cpu : Cpu)
         → WorksBy (flash_otp_script_pattern flash otp script pattern) AreOfBytes

@@ -21,7 +21,7 @@ ghost use Rattle.cli_tools.specs.Seals.{blamed, seal_text, sealed_line};
 ghost use Rattle.cli_tools.specs.Tools.{seal_work, table_line, table_work};
 ghost use Rattle.cli_tools.specs.ToolWorks.{executable_family, gen_line, made_content, plan_target, script_line, target_work, uf2_line, uf2_work, window_work};
 
-/// The texts of the errors of a sealing, and the inputs that they are told of.
+/// The texts of the errors of a sealing, and the inputs that are refused for them.
 pub fn seal_texts()
     ensures rows { seal_text (BadSpec Rows) ≡ codes "bad-spec rows" }
     ensures rollback { seal_text (BadSpec Rollback) ≡ codes "bad-spec rollback" }
@@ -40,8 +40,7 @@ pub fn lines_of_sealings()
     ensures table { table_line 2 ≡ codes "table bytes=4096 partitions=2\n" }
 {}
 
-/// The lines of the commands, of which that of a flash has the digest of its bytes: here that of
-/// `abc`.
+/// The lines of the commands. The line of a flash has the digest of its bytes: here that of `abc`.
 pub fn lines_of_tools()
     ensures uf2 { uf2_line 2 ≡ codes "uf2 blocks=2\n" }
     ensures plan { script_line FirstLast small_window 384
@@ -68,7 +67,7 @@ pub fn refusals_of_images()
         ≡ refused (codes "i") (codes "empty") }
 {}
 
-/// The least image has one byte, and the greatest of a plan is as long as the window.
+/// The shortest image has one byte, and the longest of a plan is as long as the window.
 pub fn least_and_greatest_images()
     ensures whole_window { (worked
         (window_work FirstLast (record { start = 0; len = 2 }) (codes "i") (codes "a")
@@ -88,7 +87,7 @@ pub fn executables()
     ensures riscv { executable_family Riscv ≡ 0xe48bff5a }
 {}
 
-/// Why an ELF file has no sealed image, and the inputs that this is told of.
+/// Why an ELF file has no sealed image, and the inputs that are refused for it.
 pub fn elf_texts()
     ensures not_elf { elf_text NotElf ≡ codes "elf not-elf" }
     ensures file_type { elf_text FileType ≡ codes "elf type" }
@@ -105,7 +104,7 @@ pub fn elf_texts()
     ensures of_file { elf_blamed (codes "e") (codes "s") NotElf ≡ codes "e" }
 {}
 
-/// On a text that gives no table or spec a work comes to nothing: no fall, no text and no file.
+/// On a text that gives no table or spec a work has no result: no fall, no text and no file.
 pub fn works_on_other_texts()
     ensures table { (out : List ℕ) → table_work out (Err NotJson) ≡ Answers false [] [] }
     ensures seal { (binary spec out b : List ℕ)
@@ -114,8 +113,8 @@ pub fn works_on_other_texts()
         → elf_work elf spec out e (Err NotJson) ≡ Answers false [] [] }
 {}
 
-/// A plan goes where a download of the processor's own executables does: into the member of the
-/// pair that does not start, and nowhere where the table takes none of them.
+/// A plan goes where a download of the processor's own executables goes: into the member of the
+/// pair that does not start. Where the table takes none of them, it goes nowhere.
 pub fn targets_of_plans()
     ensures second { plan_target (pair_content 0 (arm_member 0x10009) bare) Arm
         ≡ Some (to (window_at 0x20000 0x1e000) true false) }
@@ -126,7 +125,7 @@ pub fn targets_of_plans()
         ≡ Some (to (window_at 0x2000 0x2000) true false) }
 {}
 
-/// A made flash stands beside an OTP of zeros.
+/// A made flash has an OTP of zeros next to it.
 pub fn contents_that_are_made()
     ensures flash { (n : ℕ) → (made_content n).flash ≡ generated n }
     ensures otp { (n : ℕ) → (made_content n).otp ≡ replicate 4096 0 }

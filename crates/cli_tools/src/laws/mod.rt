@@ -24,7 +24,7 @@ pub fn table_files_are_one_sector()
     ensures { (t : Table) → written_size t ≤ 640 → length (table_file t) ≡ 4096 }
 {}
 
-/// The first error of a binary and a spec is the one that the rules name, and there is none exactly
+/// The first error of a binary and a spec is the one that the rules name. There is none exactly
 /// where the binary is sealed.
 pub fn sealings_are_judged()
     ensures error { (binary : List ℕ) (spec : SealSpec) (error : SealError)
@@ -33,8 +33,8 @@ pub fn sealings_are_judged()
         → (seal_error binary spec ≡ None) ↔ IsSealed binary spec }
 {}
 
-/// On files that have their forms the work of each command is right by its rules: it refuses an
-/// input exactly where they do, and otherwise its outcome is the one that is right.
+/// On files that have their forms the work of each command is right by its rules. It refuses an
+/// input exactly where the rules do. Otherwise its outcome is the one that is right.
 pub fn works_are_right()
     ensures seal { (binary spec out : List ℕ) → WorksBy (binary_and_spec binary spec) (λ read. ⊤)
         (of_two (λ b s. seal_work binary spec out b (spec_read s)))
