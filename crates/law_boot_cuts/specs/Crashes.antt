@@ -1,4 +1,4 @@
--- The words of the laws on power that is lost in what a boot or a buy writes.
+-- The definitions of the laws on power that is lost in what a boot or a buy writes.
 use Rattle.std.specs.Prelude.{◌≡◌, ◌≢◌, ◌⊎◌, ℕ, false, true, List, slice_get, Some, Contains}
 use Rattle.pico_board.specs.declared.Step.{Step}
 use Rattle.pico_board.specs.declared.Step.TheVariants.{Raise}
@@ -34,14 +34,14 @@ AreOwnSteps c cpu choice steps =
 abbrev pub IsUnitWindow : Choice → Window → Type 0
 IsUnitWindow choice v = (v ≡ choice.image.window) ⊎ (choice.other ≡ Some v)
 
--- where the step that is cut is an erase or a program, the cut leaves the former table and no
--- accidental image in the window that it writes
+-- where the step that is cut is an erase or a program, the cut leaves the former table; it leaves
+-- no accidental image in the window that the step writes
 abbrev pub LeavesNoAccidentalImage : Content → Content → Content → Cpu → Choice → Step → Type 0
 LeavesNoAccidentalImage c z d cpu choice step =
     (v : Window) → IsUnitWindow choice v → IsConfined v step → HasNoAccidentalImage c z d v cpu
 
--- d and z both have as the pick of the unit the started image with a clear trial bit, with the
--- same bytes
+-- the pick of the unit on d and on z is the started image with a clear trial bit, with the same
+-- bytes
 pub record PicksBought (z d : Content) (u : SlotUnit) (cpu : Cpu) (choice : Choice) : Type 0 where
   pub here : pick d u cpu ≡ Some (bought choice.image)
   pub after : pick z u cpu ≡ Some (bought choice.image)
@@ -62,8 +62,8 @@ pub record StartsBought (z d : Content) (cpu : Cpu) (choice : Choice) : Type 0 w
   pub after : Chosen z cpu Normal (Start (settled_choice choice))
   pub same : SameImage d z (bought choice.image) cpu
 
--- no image of another boot unit, valid in a normal boot, lists a row in whose triple the steps
--- raise a row
+-- the steps raise no row in the triple of a row that an image of another boot unit lists; images
+-- count that are valid in a normal boot
 pub record KeepsOtherRows (c : Content) (cpu : Cpu) (u : SlotUnit)
     (steps : List Step) : Type 0 where
   pub apart : (i : ℕ) (v : SlotUnit) (m : Member) (w : Window) (s : Started) (r row bits : ℕ)
@@ -72,8 +72,8 @@ pub record KeepsOtherRows (c : Content) (cpu : Cpu) (u : SlotUnit)
       → IsOutside row r
 
 -- no image of another boot unit, valid in a normal boot, lists a row whose triple shares a row
--- with a triple that the steps raise; such a triple is that of a row of the started image, in
--- which they raise a row
+-- with a triple that the steps raise; such a triple is that of a row of the started image, and the
+-- steps raise a row in it
 pub record KeepsOtherTriples (c : Content) (cpu : Cpu) (choice : Choice) (u : SlotUnit)
     (steps : List Step) : Type 0 where
   pub apart : (i : ℕ) (v : SlotUnit) (m : Member) (w : Window) (s : Started) (r q row bits : ℕ)

@@ -1,4 +1,5 @@
--- Worked contents on which power is lost in a boot's own writes, reckoned by hand from the rules.
+-- Worked contents on which power is lost in a boot's own writes, worked out by hand from the
+-- rules.
 use Rattle.std.specs.Prelude.{ℕ, ◌+◌, ◌*◌, Bool, true, false, List, [], ◌∷◌, ◌++◌, replicate, take, Some, None}
 use Rattle.block_codec.specs.Words.{bytes_of}
 use Rattle.worked_flashes.specs.Images.{plain_image}
@@ -21,14 +22,14 @@ use Rattle.pico_board.specs.declared.boot.Cpu.TheVariants.{Arm}
 use Rattle.worked_flashes.specs.Choices.{running_trial}
 use Rattle.worked_flashes.specs.Flashes.{one_sector, whole_flash_of}
 
--- a sector that begins with SP and a PC in SRAM, and has behind them a block of an image of this
+-- a sector that begins with SP and a PC in SRAM; after them it has a block of an image of this
 -- IMAGE_TYPE word and of version 1.0, of this rollback version with this one row
 abbrev pub typed_sector : ℕ → ℕ → ℕ → List ℕ
 typed_sector image_type version row =
     region 0x1000 (0x20082000 ∷ 0x20000001
     ∷ framed (image_type ∷ 0x01000348 ∷ 0x00010000 ∷ (65536 * row + version) ∷ []) 0)
 
--- a sector that begins with SP and a PC in SRAM, and has behind them a block of an Arm image of
+-- a sector that begins with SP and a PC in SRAM; after them it has a block of an Arm image of
 -- version 1.0, of this rollback version with this one row
 abbrev pub rows_sector : ℕ → ℕ → List ℕ
 rows_sector version row = typed_sector 0x10210142 version row
@@ -53,8 +54,8 @@ abbrev pub triple_rows : ℕ → ℕ → ℕ → List ℕ
 triple_rows a b c = replicate 0x0c0 0 ++ (a ∷ b ∷ c ∷ replicate 0xf3d 0)
 
 -- a flash of five sectors: a table of three partitions of one sector each, and in these images of
--- the rollback versions 0, 1 and 2, of which the last lists row 0x0c0 and the others this row; with
--- these values in the triple of row 0x0c0
+-- the rollback versions 0, 1 and 2; the last image lists row 0x0c0, and the others this row; the
+-- triple of row 0x0c0 has these values
 abbrev pub three_images : ℕ → ℕ → ℕ → ℕ → Content
 three_images row a b c = record {
   flash = region 0x2000 (framed (three_parts (sectors 2 2) 0xfc000000 (sectors 3 3) 0xfc000000
@@ -63,8 +64,8 @@ three_images row a b c = record {
   otp = triple_rows a b c;
 }
 
--- a flash of five sectors as in `three_images`, with a triple of zeros, where each image lists row
--- 0x0c0 and the first two are trial ones
+-- a flash of five sectors as in `three_images`, with a triple of zeros; each image lists row
+-- 0x0c0, and the first two are trial images
 abbrev pub two_trials : Content
 two_trials = record {
   flash = region 0x2000 (framed (three_parts (sectors 2 2) 0xfc000000 (sectors 3 3) 0xfc000000
@@ -74,23 +75,23 @@ two_trials = record {
   otp = triple_rows 0 0 0;
 }
 
--- the unit of the last of the three partitions, and the raises that take row 0x0c0 from 0 to a
--- count of 2
+-- the unit of the last of the three partitions; the raises that take row 0x0c0 from 0 to a count
+-- of 2
 abbrev pub last_unit : SlotUnit
 last_unit = record { a = window_at 0x4000 0x1000; b = None; a_part = Some 2; b_part = None }
 
 abbrev pub three_raises : List Step
 three_raises = Raise 0x0c0 3 ∷ Raise 0x0c1 3 ∷ Raise 0x0c2 3 ∷ []
 
--- the words of an Arm trial image's definition, or of one that is no trial, by its IMAGE_TYPE word:
--- an ENTRY_POINT item and a LOAD_MAP item without entries; it is linked to the flash's first block
--- from offset 0x10d8
+-- the words of an Arm image's definition, a trial or not by its IMAGE_TYPE word: an ENTRY_POINT
+-- item and a LOAD_MAP item without entries; the definition links to the flash's first block from
+-- offset 0x10d8
 abbrev pub definition_words : ℕ → List ℕ
 definition_words image_type =
     framed (image_type ∷ 0x00000344 ∷ 0x20000001 ∷ 0x20082000 ∷ 0x00000106 ∷ []) 0xffffef28
 
--- the words of a table block of one partition, sector 2, in whose name, of 39 bytes, that
--- definition stands; its HASH_VALUE is the SHA-256 of its first 17 words where the trial bit is
+-- the words of a table block of one partition, sector 2; that definition stands in the partition's
+-- name of 39 bytes; its HASH_VALUE is the SHA-256 of its first 17 words where the trial bit is
 -- clear, by another implementation
 abbrev pub hiding_table_words : ℕ → List ℕ
 hiding_table_words image_type =
@@ -99,7 +100,7 @@ hiding_table_words image_type =
     ++ (0x01000247 ∷ 17 ∷ 0x0000094b ∷ 0xcaa06909 ∷ 0xa694b0b3 ∷ 0x494e1c17 ∷ 0x2d3a0527
     ∷ 0x58adbb32 ∷ 0x7414d6ba ∷ 0x7bca6146 ∷ 0xc3f1e1dd ∷ [])) 0
 
--- the first block of the flash, which is linked to that definition
+-- the first block of the flash, which links to that definition
 abbrev pub first_words : List ℕ
 first_words = framed (0x000001fe ∷ []) 0x000010d8
 
@@ -107,7 +108,7 @@ first_words = framed (0x000001fe ∷ []) 0x000010d8
 abbrev pub table_sector : ℕ → List ℕ
 table_sector image_type = replicate 0x0c0 255 ++ region 0xf40 (hiding_table_words image_type)
 
--- the second sector with that table block at 0x0c0, of which the first page alone is programmed
+-- the second sector with that table block at 0x0c0; its first page alone is programmed
 abbrev pub torn_sector : List ℕ
 torn_sector =
     replicate 0x0c0 255
@@ -140,8 +141,8 @@ abbrev pub second_page : Step
 second_page =
     page_program 1 (cleared_sector (hidden_table (table_sector 0x90210142)).flash 0x10df) 1
 
--- the second sector with an Arm image of no version, with a load map without entries, and with
--- this last byte
+-- the second sector with an Arm image of no version, a load map without entries, and this last
+-- byte
 abbrev pub mapped_sector : ℕ → List ℕ
 mapped_sector last =
     region 0xfff (0x20082000 ∷ 0x20000001 ∷ framed (0x10210142 ∷ 0x00000106 ∷ []) 0) ++ last ∷ []
@@ -154,8 +155,8 @@ trial_sector = region 0x1000 (0x20082000 ∷ 0x20000001 ∷ framed (0x90210142 �
 abbrev pub sector_image : Started
 sector_image = plain_image (window_at 0x1000 0x1000) 0x20000001 false
 
--- of three states of the second sector, before some steps, after them and where power was lost in
--- them, the last one has the former table and no accidental image
+-- three states of the second sector: before some steps, after them, and where power was lost in
+-- them; the last one has the former table and no accidental image
 abbrev pub SectorHasNoAccidentalImage : List ℕ → List ℕ → List ℕ → Type 0
 SectorHasNoAccidentalImage before after torn =
     HasNoAccidentalImage (one_sector before) (one_sector after) (one_sector torn)

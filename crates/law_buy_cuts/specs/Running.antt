@@ -1,5 +1,5 @@
--- The words of the laws on what an image that runs writes: what the machine knows of it, and runs
--- in which power is lost in its buy.
+-- The definitions of the laws on what an image that runs writes: what the machine knows of it, and
+-- runs in which power is lost in its buy.
 use Rattle.std.specs.Prelude.{◌≡◌, ℕ, false, true, List}
 use Rattle.pico_board.specs.declared.Step.{Step}
 use Rattle.pico_board.specs.declared.boot.Cpu.{Cpu}
@@ -17,9 +17,9 @@ use Rattle.boot_machine.specs.Machines.{FromFlash, MachineView, Running}
 use Rattle.boot_machine.specs.Moves.{Moves, Plays, lost_text}
 use Rattle.boot_machine.specs.Runs.{IsFresh}
 
--- what is known of an updated image where it stands: it is valid in its window with a trial
--- allowed, the window is a member of this boot unit, `other` is the other member, and flash boot is
--- not off
+-- what is known of an updated image where it stands: the image is valid in its window with a trial
+-- allowed; the window is a member of this boot unit, and `other` is the other member; flash boot
+-- is not off
 pub record StandsValid (c : Content) (cpu : Cpu) (choice : Choice) (u : SlotUnit) : Type 0 where
   pub updated : choice.updated ≡ true
   pub unit : IsOfUnit c cpu choice u
@@ -35,11 +35,11 @@ pub record RunsTrial (m n : MachineView) (choice : Choice) : Type 0 where
   pub runs : n.place ≡ Running (FromFlash choice)
   pub trial : choice.image.trial ≡ true
 
--- the steps of its buy on the content as it then is
+-- the steps of the image's buy on the content as it then is
 abbrev pub buys : MachineView → Choice → List Step
 buys n choice = buy_steps n.content n.cpu choice
 
--- power is lost in the buy of a running trial image, in this step, which leaves o; and the cut
+-- power is lost in the buy of a running trial image, in this step, and this leaves o; the cut
 -- leaves no accidental image (`LeavesNoAccidentalImage`)
 pub record LosesBuy (m n o : MachineView) (choice : Choice) (u : SlotUnit) (step : Step)
     : Type 0 where

@@ -1,5 +1,5 @@
-//! Power that is lost in what an image that runs writes: what the machine knows of it is enough for
-//! the laws on a boot's own writes, and in every run they hold of each buy.
+//! Power that is lost in what an image that runs writes. What the machine knows of the image is
+//! enough for the laws on a boot's own writes. In every run these laws hold of each buy.
 #![tactic(auto)]
 
 pub mod examples;

@@ -1,4 +1,4 @@
--- The session of a host that copies to the board's drive the UF2 file of an image, and what the
+-- The session of a host that copies the UF2 file of an image to the board's drive, and what the
 -- image's window holds then.
 use Rattle.std.specs.Prelude.{◌≡◌, ⊤, ℕ, ◌+◌, ◌-◌, ◌*◌, ◌/◌, ◌<◌, ◌≤◌, true, All, List, [], ◌∷◌, ◌++◌, length, drop, replicate, Some}
 use Rattle.pico_board.specs.declared.Step.{Step}
@@ -27,8 +27,7 @@ use Rattle.cli_scripts.specs.Copies.{blocks_in, copy_events}
 abbrev pub copied_script : List ℕ → List ℕ
 copied_script file = script_of (copy_events (blocks_in (length file / 512) file))
 
--- the session on a content of the script of `copy` for the file that is written of a family and an
--- image
+-- the session on a content of the script of `copy`; its file is the one of this family and image
 abbrev pub copied_session : Content → Cpu → ℕ → List ℕ → List Step
 copied_session c cpu family image = script_session c cpu (copied_script (file_bytes image family))
 
@@ -37,8 +36,8 @@ abbrev pub MayWriteAll : Content → Window → Type 0
 MayWriteAll c w = (s : ℕ) → w.start ≤ 4096 * s → 4096 * s < w.start + w.len
     → allowed_by (table_of_content c) s BootWrite ≡ true
 
--- an executable family has this target by the content's own table; it is gated, every sector of its
--- window has boot write, and the image, which is not empty, is no longer than the window
+-- an executable family has this target by the content's own table; the target is gated, and every
+-- sector of its window has boot write; the image is not empty, and no longer than the window
 pub record IsDownload (c : Content) (cpu : Cpu) (family : ℕ) (target : Target)
     (image : List ℕ) : Type 0 where
   pub right : IsContent c
@@ -54,15 +53,15 @@ pub record IsDownload (c : Content) (cpu : Cpu) (family : ℕ) (target : Target)
 abbrev pub in_sectors : ℕ → ℕ
 in_sectors n = 4096 * ((n + 4095) / 4096)
 
--- the bytes of a window that held others before: the image, then 0xff to the end of the image's
--- last sector, and then what the window held
+-- the bytes of a window that held other bytes before: the image, then 0xff to the end of the
+-- image's last sector, and then what the window held
 abbrev pub downloaded : List ℕ → List ℕ → List ℕ
 downloaded image before =
     image ++ (replicate (in_sectors (length image) - length image) 255
     ++ drop (in_sectors (length image)) before)
 
--- power is lost in the download of an image into a member of a boot unit's pair, which leaves d:
--- the whole session leaves the table that there was, or leaves none (same table); and where d is
+-- power is lost in the download of an image into a member of a boot unit's pair, and this leaves
+-- d: the whole session leaves the table that there was, or leaves none (same table); where d is
 -- unfinished, it has the former table and no accidental image in the target's window
 pub record IsCutDownload (c : Content) (cpu : Cpu) (family : ℕ) (target : Target)
     (image : List ℕ) (d : Content) : Type 0 where
@@ -73,8 +72,8 @@ pub record IsCutDownload (c : Content) (cpu : Cpu) (family : ℕ) (target : Targ
   pub no_accident : Unfinished c (copied_session c cpu family image) target.window d
       → HasNoAccidentalImage c (after_all c (copied_session c cpu family image)) d target.window cpu
 
--- the decision of a normal boot on c is a start in the other member of the pair, and that on the
--- cut content d is the same
+-- the decision of a normal boot on c is a start in the other member of the pair; the decision on
+-- the cut content d is the same
 pub record IsLostUpdate (c : Content) (cpu : Cpu) (family : ℕ) (target : Target)
     (image : List ℕ) (choice : Choice) (d : Content) : Type 0 where
   pub lost : IsCutDownload c cpu family target image d

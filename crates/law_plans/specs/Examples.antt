@@ -1,5 +1,5 @@
--- Worked images alone in a window of 8 KiB, each of which lacks one of the conditions of a firm
--- image. This project's own; the digests were reckoned by another implementation.
+-- Worked images alone in a window of 8 KiB. Each lacks one of the conditions of a firm image. This
+-- project's own; another implementation computed the digests.
 use Rattle.std.specs.Prelude.{ℕ, ◌+◌, false, List, [], ◌∷◌, ◌++◌, None}
 use Rattle.pico_board.specs.declared.window.Window.{Window}
 use Rattle.image_def.specs.declared.started.Started.{Started}
@@ -9,7 +9,7 @@ use Rattle.worked_flashes.specs.Flashes.{framed, region, rows_with}
 abbrev pub whole : Window
 whole = record { start = 0; len = 0x2000 }
 
--- the start of an Arm image without a version, whose definition stands at this offset
+-- the start of an Arm image without a version; its definition stands at this offset
 abbrev pub arm_start_at : ℕ → Started
 arm_start_at at = record {
   window = whole;
@@ -28,8 +28,8 @@ arm_start_at at = record {
 abbrev pub vectors : List ℕ
 vectors = region 0x100 (0x20082000 ∷ 0x10000201 ∷ [])
 
--- a vector table, a block at 0x100 that links to one at 0x1000, and there a block with these items
--- that links back
+-- a vector table, a block at 0x100 that links to one at 0x1000, and the block at 0x1000 with these
+-- items, which links back
 abbrev pub two_blocks : List ℕ → List ℕ
 two_blocks items =
     vectors ++ (region 0xf00 (framed (0x10210142 ∷ []) 0xf00)
@@ -52,8 +52,8 @@ unmapped_items =
 abbrev pub unmapped : List ℕ
 unmapped = two_blocks unmapped_items
 
--- the items of an image with its definition in the first sector: a load map that stores all before
--- that, and a digest
+-- the items of an image with its definition in the first sector: a load map that stores all bytes
+-- before the definition, and a digest
 abbrev pub early_items : List ℕ
 early_items =
     0x10210142 ∷ 0x01000406 ∷ 0xfffffef8 ∷ 0x10000000 ∷ 0x100 ∷ 0x01000247 ∷ 0x00000008 ∷ 0x0000094b
@@ -75,8 +75,8 @@ firm_items =
 abbrev pub firm : List ℕ
 firm = two_blocks firm_items
 
--- with one more block in the first sector, which no link leads to: for the rest as the firm one,
--- with a digest of its own
+-- the items of an image with one more block in the first sector, which no link leads to; otherwise
+-- as the firm image, with a digest of its own
 abbrev pub crowded_items : List ℕ
 crowded_items =
     0x10210142 ∷ 0x01000406 ∷ 0xffffeff8 ∷ 0x10000000 ∷ 0x1000 ∷ 0x01000247 ∷ 0x00000008
@@ -90,8 +90,8 @@ crowded =
     ++ (region 0xe00 (framed (0x10210142 ∷ []) 0)
     ++ region 0x1000 (framed crowded_items 0xfffff100)))
 
--- with a load map that stores all of the first sector but its last byte: for the rest as the firm
--- one, with a digest of its own
+-- the items of an image with a load map that stores all of the first sector but its last byte;
+-- otherwise as the firm image, with a digest of its own
 abbrev pub clipped_items : List ℕ
 clipped_items =
     0x10210142 ∷ 0x01000406 ∷ 0xffffeff8 ∷ 0x10000000 ∷ 0xfff ∷ 0x01000247 ∷ 0x00000008 ∷ 0x0000094b
@@ -101,8 +101,8 @@ clipped_items =
 abbrev pub clipped : List ℕ
 clipped = two_blocks clipped_items
 
--- with a load map that clears 4096 bytes of SRAM before it stores the first sector: for the rest as
--- the firm one, with a digest of its own
+-- the items of an image with a load map that clears 4096 bytes of SRAM before it stores the first
+-- sector; otherwise as the firm image, with a digest of its own
 abbrev pub cleared_items : List ℕ
 cleared_items =
     0x10210142 ∷ 0x02000706 ∷ 0 ∷ 0x20000000 ∷ 0x1000 ∷ 0xffffeff8 ∷ 0x10000000 ∷ 0x1000

@@ -11,14 +11,14 @@ use Rattle.image_pack.specs.Filling.{round_up, whole_sectors}
 abbrev pub whole_pages : List ℕ → List ℕ
 whole_pages bytes = bytes ++ replicate (round_up 256 (length bytes) - length bytes) 0
 
--- what a plan leaves in a window that had the old bytes: the image, 0 to the end of its last page,
--- 0xff to the end of its last sector, and then what was there
+-- what a plan leaves in a window that had the old bytes: the image; 0 to the end of its last page;
+-- 0xff to the end of its last sector; and then what was there
 abbrev pub planned : List ℕ → List ℕ → List ℕ
 planned image old =
     whole_sectors (whole_pages image) ++ drop (length (whole_sectors (whole_pages image))) old
 
--- the steps of a plan in a window that begins with sector s: the first sector is erased, the others
--- are erased and programmed, and the first one is programmed last
+-- the steps of a plan in a window that begins with sector s: the first sector is erased; the
+-- others are erased and programmed; and the first one is programmed last
 abbrev pub plan_steps : ℕ → List ℕ → List Step
 plan_steps s image =
     Erase s ∷ ((erases (s + 1) ((length (drop 4096 image) + 4095) / 4096)

@@ -2,7 +2,8 @@
 //! image tool and the plans.
 //!
 //! A plan's session is that of `boot_session`. `specs/Written` says which bytes a plan leaves, and
-//! by which steps; `specs/Lone` says when an image's first sector has no block beside its loop.
+//! by which steps. `specs/Lone` says when an image's first sector has no block but those of its
+//! loop.
 #![tactic(auto)]
 
 pub mod examples;

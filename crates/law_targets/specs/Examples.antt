@@ -7,7 +7,7 @@ use Rattle.worked_flashes.specs.Tables.{one_part, plain_partition, sectors, two_
 use Rattle.part_table.specs.Examples.{table_with}
 use Rattle.worked_flashes.specs.Flashes.{framed, region, tables_content}
 
--- a pair that accepts rp2350-arm-s, sectors 2 to 3 and 4 to 5, with these flags of A and of B too
+-- a pair that accepts rp2350-arm-s, sectors 2 to 3 and 4 to 5; A and B also have these flags
 abbrev pub pair_flash : ℕ → ℕ → Content
 pair_flash one two =
     tables_content 0

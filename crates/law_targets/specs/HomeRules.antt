@@ -1,4 +1,4 @@
--- Boot members of a flash with a table, in the words of the rules.
+-- Boot members of a flash with a table, as rules.
 use Rattle.std.specs.Prelude.{◌≡◌, ◌≢◌, ◌⊎◌, ℕ, false, true}
 use Rattle.pico_board.specs.declared.boot.Cpu.{Cpu}
 use Rattle.pico_board.specs.declared.window.Window.{Window}
@@ -17,8 +17,8 @@ pub record MayBoot (cpu : Cpu) (p : Partition) : Type 0 where
   pub no_owner : link_type p ≢ 2
   pub not_ignored : is_ignored cpu p ≡ false
 
--- the window is that of a member of a pair of partitions, whose A is no B, has no owner and is not
--- ignored for the processor
+-- the window is that of a member of a pair of partitions; the pair's A is no B, has no owner and
+-- is not ignored for the processor
 pub record IsInBootPair (t : Table) (cpu : Cpu) (w : Window) : Type 0 where
   pub number : ℕ
   pub first : Partition
@@ -30,8 +30,8 @@ pub record IsInBootPair (t : Table) (cpu : Cpu) (w : Window) : Type 0 where
   pub pair : IsSecondOf t number other second
   pub member : (w ≡ part_window first) ⊎ (w ≡ part_window second)
 
--- the window is that of a member of a pair of partitions, whose A is no B, and has an owner or is
--- ignored for the processor
+-- the window is that of a member of a pair of partitions; the pair's A is no B, and has an owner
+-- or is ignored for the processor
 pub record IsInKeptPair (t : Table) (cpu : Cpu) (w : Window) : Type 0 where
   pub number : ℕ
   pub first : Partition
@@ -43,8 +43,8 @@ pub record IsInKeptPair (t : Table) (cpu : Cpu) (w : Window) : Type 0 where
   pub pair : IsSecondOf t number other second
   pub member : (w ≡ part_window first) ⊎ (w ≡ part_window second)
 
--- the target is a member of the pair that loads the family, whose A has no owner and is not ignored
--- for the processor
+-- the target is a member of the pair that loads the family; the pair's A has no owner and is not
+-- ignored for the processor
 pub record IsBootMemberTarget (c : Content) (t : Table) (cpu : Cpu) (family : ℕ) (target : Target)
     : Type 0 where
   pub number : ℕ

@@ -1,5 +1,4 @@
--- Which partition, or which unit of a flash without a table, takes a UF2 family, in the words of
--- the rules.
+-- Which partition, or which unit of a flash without a table, takes a UF2 family, as rules.
 use Rattle.std.specs.Prelude.{◌≡◌, ◌≢◌, ◌⊎◌, ℕ, ◌+◌, ◌<◌, Contains, Option, Some}
 use Rattle.std.specs.Int.{bit_at}
 use Rattle.part_table.specs.declared.partition.Partition.{Partition}
@@ -35,7 +34,7 @@ pub record IsLoadPart (t : Table) (family : ℕ) (i : ℕ) (p : Partition) : Typ
   pub may : MayLoad p family
   pub earliest : (j : ℕ) (q : Partition) → j < i → IsPart t j q → MayLoad q family → ⊥
 
--- the families that a flash without a table takes beside the absolute one
+-- the families, other than the absolute one, that a flash without a table takes
 abbrev pub IsSlotFamily : ℕ → Type 0
 IsSlotFamily family = (family ≡ data_family) ⊎ IsExecutable family
 

@@ -1,4 +1,4 @@
--- Pairs of partitions, in the words of the rules (RP2350 Datasheet, chapter 5, "Partition tables").
+-- Pairs of partitions, as rules (RP2350 Datasheet, chapter 5, "Partition tables").
 use Rattle.std.specs.Prelude.{◌≡◌, ℕ, slice_get, Option, None, Some}
 use Rattle.pico_board.specs.declared.window.Window.{Window}
 use Rattle.part_table.specs.declared.partition.Partition.{Partition}
@@ -10,7 +10,7 @@ use Rattle.part_table.specs.Windows.{part_window}
 abbrev pub IsPart : Table → ℕ → Partition → Type 0
 IsPart t i p = slice_get t.parts.items i ≡ Some p
 
--- a partition's link says "A is i", so partition i is the A of a pair and it is the B
+-- a partition's link says "A is i": partition i is the A of a pair, and this partition is the B
 abbrev pub SaysFirst : Partition → ℕ → Type 0
 SaysFirst p i = (link_type p ≡ 1) × (link_value p ≡ i)
 

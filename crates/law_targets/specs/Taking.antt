@@ -1,5 +1,5 @@
--- The choice in a unit in a normal boot, in the words of the rules and by windows (RP2350
--- Datasheet, chapter 5, Bootrom; the order of versions is this project's own).
+-- The choice in a unit in a normal boot, as rules and by windows. Source: RP2350 Datasheet,
+-- chapter 5, Bootrom. The order of versions is this project's own.
 use Rattle.std.specs.Prelude.{◌≡◌, ◌⊎◌, ◌<◌, false, Option, Some}
 use Rattle.block_codec.specs.declared.versions.Version.{Version}
 use Rattle.pico_board.specs.declared.boot.Cpu.{Cpu}
@@ -16,16 +16,16 @@ IsLower v w = (v.major < w.major) ⊎ ((v.major ≡ w.major) × (v.minor < w.min
 abbrev pub HasNoneIn : Content → Cpu → Window → Type 0
 HasNoneIn c cpu w = (s : Started) → Valid c w cpu false s → ⊥
 
--- A would be taken: it has an image that is valid in a normal boot, and the unit's B, where there
--- is one, has none of a greater version
+-- A would be taken: it has an image that is valid in a normal boot; where the unit has a B, B has
+-- no such image of a greater version
 pub record TakesFirst (c : Content) (cpu : Cpu) (one : Window) (two : Option Window) : Type 0 where
   pub image : Started
   pub valid : Valid c one cpu false image
   pub best : (w : Window) (other : Started) → two ≡ Some w → Valid c w cpu false other
       → ¬ (IsLower image.version other.version)
 
--- B would be taken: it has an image that is valid in a normal boot, and A has none or one of a
--- lower version
+-- B would be taken: it has an image that is valid in a normal boot; A has no such image, or one of
+-- a lower version
 pub record TakesSecond (c : Content) (cpu : Cpu) (one two : Window) : Type 0 where
   pub image : Started
   pub valid : Valid c two cpu false image

@@ -1,5 +1,5 @@
--- `target_of` in the words of its rules: where a download of a UF2 family goes (RP2350 Datasheet,
--- chapter 5, "UF2 targeting rules"; the profile is this project's own).
+-- `target_of` as rules: where a download of a UF2 family goes. Source: RP2350 Datasheet, chapter
+-- 5, "UF2 targeting rules". The profile is this project's own.
 use Rattle.std.specs.Prelude.{◌≡◌, ◌≢◌, ◌⊎◌, ◌↔◌, ℕ, ◌<◌, ◌≤◌, false, true, length, None, Option, Some}
 use Rattle.std.specs.Int.{bit_at}
 use Rattle.pico_board.specs.declared.boot.Cpu.{Cpu}
@@ -25,8 +25,8 @@ slot_size_in c = slot_size c.otp (length c.flash)
 abbrev pub flash_window : Content → Window
 flash_window c = record { start = 0; len = length c.flash }
 
--- the member of a pair that a normal boot would not take is written, and A where it would take
--- neither
+-- the member of a pair that a normal boot would not take is written; A is written where the boot
+-- would take neither
 abbrev pub WritesOther : Content → Cpu → Window → Window → Member → Type 0
 WritesOther c cpu one two A = TakesSecond c cpu one two ⊎ TakesNeither c cpu one two
 WritesOther c cpu one two B = TakesFirst c cpu one (Some two)
@@ -39,13 +39,13 @@ pub record WouldTakeFirst (c : Content) (t : Table) (cpu : Cpu) (i : ℕ) : Type
   pub takes : TakesFirst c cpu one two
 
 -- of a pair that partition i owns, B is written where a normal boot would take A of the owner's
--- unit, and A otherwise
+-- unit; otherwise A is written
 abbrev pub FollowsOwner : Content → Table → Cpu → ℕ → Member → Type 0
 FollowsOwner c t cpu i A = ¬ (WouldTakeFirst c t cpu i)
 FollowsOwner c t cpu i B = WouldTakeFirst c t cpu i
 
--- which member of a pair of partitions is written: an owned pair follows its owner, another one is
--- written where it would not be read
+-- which member of a pair of partitions is written: an owned pair follows its owner; another pair
+-- is written where a boot would not read it
 abbrev pub WritesMember : Content → Table → Cpu → Partition → Partition → Member → Type 0
 WritesMember c t cpu p q m =
     ((i : ℕ) × SaysOwner p i × FollowsOwner c t cpu i m)
@@ -88,7 +88,8 @@ pub record IsLoneTarget (t : Table) (i : ℕ) (p : Partition) (target : Target) 
   pub gated : target.gated ≡ false
   pub stays : StaysBy p target
 
--- partition i, which is p, has a B: the target is a member of the pair, whose own bit 13 is read
+-- partition i, which is p, has a B: the target is a member of the pair, and this member's own bit
+-- 13 is read
 pub record IsPairTarget (c : Content) (t : Table) (cpu : Cpu) (family i : ℕ) (p : Partition)
     (target : Target) : Type 0 where
   pub number : ℕ
@@ -110,7 +111,7 @@ pub record IsPartTarget (c : Content) (t : Table) (cpu : Cpu) (family : ℕ) (ta
   pub placed : IsLoneTarget t number first target
       ⊎ IsPairTarget c t cpu family number first target
 
--- without a table the pair of slots is written where it would not be read
+-- without a table the pair of slots is written where a boot would not read it
 pub record IsSlotTarget (c : Content) (cpu : Cpu) (family : ℕ) (target : Target) : Type 0 where
   pub large : 4096 < slot_size_in c
   pub member : Member
@@ -121,7 +122,7 @@ pub record IsSlotTarget (c : Content) (cpu : Cpu) (family : ℕ) (target : Targe
   pub gated : IsGatedBy family target
   pub stays : target.stay ≡ false
 
--- without a table, where the slots are the least ones, the target is the whole flash
+-- without a table, where the slots are of the smallest size, the target is the whole flash
 pub record IsSmallTarget (c : Content) (target : Target) : Type 0 where
   pub small : slot_size_in c ≤ 4096
   pub whole : IsWholeFlash c target
@@ -137,7 +138,7 @@ abbrev pub IsUnitTarget : Content → Option Table → Cpu → ℕ → Target �
 IsUnitTarget c None cpu family target = IsTablelessTarget c cpu family target
 IsUnitTarget c (Some t) cpu family target = IsPartTarget c t cpu family target
 
--- the target of a family for a table, in the words of the rules
+-- the target of a family for a table, as rules
 abbrev pub IsTarget : Content → Option Table → Cpu → ℕ → Target → Type 0
 IsTarget c t cpu family target =
     IsAbsoluteTarget c t family target ⊎ IsUnitTarget c t cpu family target

@@ -1,5 +1,4 @@
-//! Where a download of a UF2 family goes, in the words of its rules, and which targets are boot
-//! members.
+//! Where a download of a UF2 family goes, as rules, and which targets are boot members.
 #![tactic(auto)]
 
 pub mod examples;

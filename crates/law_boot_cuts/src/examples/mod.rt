@@ -22,9 +22,9 @@ ghost use Rattle.trial_buy.specs.Buying.{buy_steps};
 ghost use Rattle.trial_buy.specs.Starting.{start_steps};
 
 /// Three images list the same row, with the rollback versions 0, 1 and 2. Before an update of the
-/// last one a normal boot starts the first; after all its raises it starts the last; and where
-/// power is lost in the second raise, so that one bit alone counts, it starts the one between them.
-/// So the premise on the rows of other units is needed.
+/// last image a normal boot starts the first one. After all raises of the update it starts the
+/// last one. Where power is lost in the second raise, one bit alone counts, and the boot starts
+/// the image between them. So the premise on the rows of other units is needed.
 pub fn other_rows_matter()
     ensures before { decision_in (three_images 0x0c0 0 0 0) Arm Normal
         ≡ Start (starts_alone false (rows_image (window_at 0x2000 0x1000) 0 0x0c0)) }
@@ -48,8 +48,8 @@ pub fn other_rows_matter()
         → ⊥ }
 {}
 
-/// Where the other two list the row behind that triple, they keep their rows, and a normal boot
-/// starts the first one of them before the update, after it, and where power is lost in it.
+/// Where the other two images list the row after that triple, they keep their rows. Then a normal
+/// boot starts the first one of them before the update, after it, and where power is lost in it.
 pub fn other_rows_stand_apart()
     ensures before { decision_in (three_images 0x0c3 0 0 0) Arm Normal
         ≡ Start (starts_alone false (rows_image (window_at 0x2000 0x1000) 0 0x0c3)) }
@@ -65,7 +65,7 @@ pub fn other_rows_stand_apart()
 {}
 
 /// Trial images of other units list the very row, and an update starts one of them. A normal boot
-/// starts none, so they ask for nothing.
+/// starts none of them, so they ask for nothing.
 pub fn rows_of_other_trials_may_rise()
     ensures trials { IsSome (images_in two_trials Arm (window_at 0x2000 0x1000) true) }
     ensures steps { start_steps two_trials Arm
@@ -75,11 +75,11 @@ pub fn rows_of_other_trials_may_rise()
         (starts_alone true (rows_image (window_at 0x4000 0x1000) 2 0x0c0)) last_unit three_raises }
 {}
 
-/// A table in the second slot holds in its name the definition of a trial image in the whole flash,
-/// and has its right digest where the trial bit is clear. So the buy of that image makes a table
-/// whose partition is bare. Where power is lost behind the first page of the rewritten sector, the
-/// image is there without its trial bit, and the table is not. So the premise on the table after
-/// all steps is needed.
+/// A table in the second slot holds in a name the definition of a trial image in the whole flash.
+/// The table has its right digest where the trial bit is clear. So the buy of that image makes a
+/// table whose partition is bare. Where power is lost after the first page of the rewritten
+/// sector, the image is there without its trial bit, and the table is not. So the premise on the
+/// table after all steps is needed.
 pub fn a_buy_may_make_a_table()
     ensures tableless { table_in (hidden_table (table_sector 0x90210142)) ≡ None }
     ensures content { IsContent (hidden_table (table_sector 0x90210142)) }
@@ -110,9 +110,10 @@ pub fn a_buy_may_make_a_table()
         ≡ Start (starts_alone false (whole_image false)) }
 {}
 
-/// A window has no accidental image where it is bare or has a trial image, and where it has the
-/// image of before or of after with its bytes. It has one where it has an image that neither has,
-/// or that neither has as one that is valid in a normal boot, or one of them with another byte.
+/// A window has no accidental image where it is bare or has a trial image. It has none where it
+/// has the image of before or of after with its bytes. It has an accidental image where its image
+/// is neither there before nor after, or is valid in a normal boot in neither. It also has one
+/// where it has one of these images with another byte.
 pub fn the_former_and_the_finished_image_are_no_accident()
     ensures bare { SectorHasNoAccidentalImage (plain_sector 0) (plain_sector 1) bare_sector }
     ensures former { SectorHasNoAccidentalImage (plain_sector 0) bare_sector (plain_sector 0) }
@@ -131,7 +132,7 @@ pub fn the_former_and_the_finished_image_are_no_accident()
 {}
 
 /// The image of the cut and that of the finished steps are the same where both are there with the
-/// same bytes, and not where one of them is missing or has another byte.
+/// same bytes. They are not where one of them is missing or has another byte.
 pub fn both_have_the_bought_image()
     ensures starts { BothStart (plain_sector 0) (plain_sector 0) }
     ensures not_here { BothStart bare_sector (plain_sector 0) → ⊥ }

@@ -1,5 +1,5 @@
-//! Laws on power that is lost in what a boot or a buy writes. Each is a function that does nothing,
-//! whose contract is the law.
+//! Laws on power that is lost in what a boot or a buy writes. Each is a function that does
+//! nothing, whose contract is the law.
 
 ghost use Rattle.std.specs.Prelude.{◌≡◌, ◌⊎◌, ◌↔◌, ℕ, List, None, Some, false, true, slice_get};
 ghost use Rattle.block_codec.specs.Erased.{IsErasedFrom};
@@ -32,9 +32,9 @@ ghost use Rattle.slot_choice.specs.Updates.{updated_member};
 ghost use Rattle.trial_buy.specs.Buying.{buy_steps};
 ghost use Rattle.trial_buy.specs.Starting.{image_raises, start_steps};
 
-/// Where power is lost in the raises that a normal boot does, or an update of an address at which
-/// no member starts, the next normal boot starts the same image. The raises of any start, done or
-/// torn, leave what a boot of its kind decides, and the image's bytes.
+/// Power is lost in the raises that a normal boot does, or an update of an address at which no
+/// member starts. Then the next normal boot starts the same image. The raises of any start, done
+/// or torn, leave what a boot of its kind decides, and the image's bytes.
 pub fn raises_cut()
     ensures normal { (c : Content) (cpu : Cpu) (choice : Choice) (d : Content)
         → IsContent c → Chosen c cpu Normal (Start choice) → CutOf c (start_steps c cpu choice) d
@@ -51,12 +51,13 @@ pub fn raises_cut()
         → MayLeave c (image_raises c.otp choice.image) d → SameImage d c choice.image cpu }
 {}
 
-/// Where power is lost in the steps of an updated start, or of the buy of a running trial image,
-/// and a cut erase or program leaves no accidental image in the window that it writes
-/// (`LeavesNoAccidentalImage`), the pick of the started image's unit is the former one, or the
-/// started image with a clear trial bit, as after all steps, with the same bytes. Where the table
-/// is the former one too, also after all steps, and the steps raise no row that an image of
-/// another boot unit lists, the same holds of the whole decision of a normal boot.
+/// Power is lost in the steps of an updated start, or of the buy of a running trial image. A cut
+/// erase or program leaves no accidental image in the window that it writes
+/// (`LeavesNoAccidentalImage`). Then the pick of the started image's unit is one of two: the
+/// former one; or the started image with a clear trial bit, as after all steps, with the same
+/// bytes. The same holds of the whole decision of a normal boot under two conditions: the table is
+/// the former one too, also after all steps; and the steps raise no row that an image of another
+/// boot unit lists.
 pub fn boots_own_writes()
     ensures pick { (c : Content) (cpu : Cpu) (kind : BootKind) (choice : Choice) (u : SlotUnit)
         (steps : List Step) (k : ℕ) (step : Step) (d : Content)
@@ -84,8 +85,8 @@ pub fn boots_own_writes()
         → Chosen d cpu Normal e ⊎ StartsBought (after_all c steps) d cpu choice }
 {}
 
-/// The steps raise no row that an image of another boot unit lists where no such image lists a row
-/// whose triple shares a row with a triple that they raise.
+/// No image of another boot unit lists a row whose triple shares a row with a triple that the
+/// steps raise. Then the steps raise no row that such an image lists.
 pub fn triples_apart_keep_other_rows()
     ensures { (c : Content) (cpu : Cpu) (kind : BootKind) (choice : Choice) (u : SlotUnit)
         (steps : List Step)
@@ -102,8 +103,8 @@ pub fn own_writes_keep_the_table()
 {}
 
 /// Each step of an updated start or of a buy is a raise, or an erase or program of a sector or
-/// page in the window of the started image or in the other one of its unit. Of a cut raise it is
-/// not asked that it leaves no accidental image.
+/// page. The sector or page lies in the window of the started image or in the other window of its
+/// unit. Of a cut raise `LeavesNoAccidentalImage` asks nothing.
 pub fn own_writes_keep_to_their_windows()
     ensures windows { (c : Content) (cpu : Cpu) (kind : BootKind) (choice : Choice)
         (steps : List Step) (k : ℕ) (step : Step)
@@ -115,7 +116,7 @@ pub fn own_writes_keep_to_their_windows()
 {}
 
 /// After all steps of an updated start of an image that is no trial the pick of the unit is that
-/// image; after those of a buy it is the bought image, with a clear trial bit.
+/// image. After those of a buy it is the bought image, with a clear trial bit.
 pub fn what_own_writes_leave()
     ensures start { (c : Content) (cpu : Cpu) (kind : BootKind) (choice : Choice) (u : SlotUnit)
         → IsContent c → Chosen c cpu kind (Start choice) → IsOfUnit c cpu choice u

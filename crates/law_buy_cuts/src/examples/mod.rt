@@ -14,9 +14,9 @@ ghost use Rattle.boot_rules.specs.declared.decision.Decision.TheVariants.{Start}
 ghost use Rattle.law_buy_cuts.specs.Examples.{trial_content};
 ghost use Rattle.law_buy_cuts.specs.Running.{StandsValid};
 
-/// A trial of version 1.1 in B, beside version 1.0 in A. It is valid in its window, and the update
-/// boot of that window chooses it as updated. No boot chooses it as not updated; and none chooses
-/// it where flash boot is off, though it is as valid there.
+/// A trial of version 1.1 in B, next to version 1.0 in A. The trial is valid in its window, and
+/// the update boot of that window chooses it as updated. No boot chooses it as not updated. No
+/// boot chooses it where flash boot is off, though it is as valid there.
 pub fn valid_and_chosen()
     ensures valid { Valid (trial_content 0) (window_at 0x20000 0x1e000) Arm true (in_b 1 1 true) }
     ensures stands { StandsValid (trial_content 0) Arm (starts_b true (in_b 1 1 true)) the_pair }

@@ -28,9 +28,9 @@ ghost use Rattle.law_buy_cuts.specs.Running.{LosesBuy, RunsTrial, StandsValid, b
 use boot_machine::laws::run::{a_running_trial_is_chosen, only_lost_power_says_so};
 use law_boot_cuts::laws::boots_own_writes;
 
-/// An updated image is one that a boot chooses exactly where it is valid in a member of a boot
-/// unit, with a trial allowed, and flash boot is not off: the update boot of its window chooses it
-/// then. So the laws on a boot's own writes ask for no more than that.
+/// A boot chooses an updated image exactly where it is valid in a member of a boot unit, with a
+/// trial allowed, and flash boot is not off. The update boot of its window chooses it then. So the
+/// laws on a boot's own writes ask for no more than that.
 pub fn a_valid_updated_image_is_chosen()
     ensures valid { (c : Content) (cpu : Cpu) (choice : Choice) (u : SlotUnit) → IsContent c
         → StandsValid c cpu choice u
@@ -40,10 +40,10 @@ pub fn a_valid_updated_image_is_chosen()
         → (u : SlotUnit) × StandsValid c cpu choice u }
 {}
 
-/// Where power is lost in the own writes of an updated image that is valid where it stands, and a
-/// cut erase or program leaves no accidental image (`LeavesNoAccidentalImage`), the pick of its
-/// unit is the former one or the image with a clear trial bit; with a table so is the decision of
-/// a normal boot, where no other unit's listed row is raised.
+/// Power is lost in the own writes of an updated image that is valid where it stands. A cut erase
+/// or program leaves no accidental image (`LeavesNoAccidentalImage`). Then the pick of its unit is
+/// the former one, or the image with a clear trial bit. With a table so is the decision of a
+/// normal boot, where no other unit's listed row is raised.
 pub fn own_writes_of_a_valid_image()
     ensures pick { (c : Content) (cpu : Cpu) (choice : Choice) (u : SlotUnit)
         (steps : List Step) (k : ℕ) (step : Step) (d : Content)
@@ -71,12 +71,12 @@ pub fn own_writes_of_a_valid_image()
     boots_own_writes();
 }
 
-/// In every run that begins without power or in BOOTSEL as it is entered: where a trial image runs
-/// and power is lost in its buy, it is so in a step of the buy on the content as it is, and the
-/// image stands in a boot unit. Where the cut leaves no accidental image
-/// (`LeavesNoAccidentalImage`), the pick of that unit is the former one or the bought image; and
-/// with a table, where no other unit's listed row is raised, power that comes back leads where the
-/// former decision leads, or starts the bought image, as after a whole buy.
+/// Take any run that begins without power, or in BOOTSEL as it is entered. In it a trial image
+/// runs, and power is lost in its buy. Then power is lost in a step of the buy on the content as
+/// it is, and the image stands in a boot unit. Where the cut leaves no accidental image
+/// (`LeavesNoAccidentalImage`), the pick of that unit is the former one or the bought image. With
+/// a table, and where no other unit's listed row is raised, power that comes back leads where the
+/// former decision leads. Or it starts the bought image, as after a whole buy.
 pub fn a_buy_that_loses_power()
     ensures steps { (m n o : MachineView) (choice : Choice) → RunsTrial m n choice
         → Moves n EventView.Buy o lost_text
@@ -100,8 +100,9 @@ pub fn a_buy_that_loses_power()
     only_lost_power_says_so();
 }
 
-/// A reset chooses on the content on which it writes: where it loses power, it is so in a step of
-/// the start that it chose there. So the laws on a boot's own writes hold of it without more.
+/// A reset chooses on the content on which it writes. Where it loses power, it loses it in a step
+/// of the start that it chose there. So the laws on a boot's own writes hold of a reset without
+/// more.
 pub fn a_reset_that_loses_power()
     ensures { (m o : MachineView) (kind : BootKind) (choice : Choice) → m.place ≢ Off
         → Chosen m.content m.cpu kind (Start choice)

@@ -12,9 +12,9 @@ ghost use Rattle.law_downloads.specs.Examples.{second_slot, two_page_image};
 
 use boot_session::examples::session::a_cut_between_two_pages;
 
-/// Version 1.10 is copied beside 1.9 as a file of two blocks of rp2350-arm-s: all premises of the
-/// laws hold, and the session erases the slot's first sector and programs its two pages. They hold
-/// too where power is lost before the second page; so the update can be done again.
+/// Version 1.10 is copied next to 1.9 as a file of two blocks of rp2350-arm-s. All premises of the
+/// laws hold, and the session erases the slot's first sector and programs its two pages. The
+/// premises hold too where power is lost before the second page. So the update can be done again.
 pub fn an_update_that_lost_its_supply()
     ensures download { IsDownload (beside_former bare) Arm 0xe48bff59 second_slot two_page_image }
     ensures steps { copied_session (beside_former bare) Arm 0xe48bff59 two_page_image

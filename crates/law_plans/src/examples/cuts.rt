@@ -19,8 +19,8 @@ use boot_session::examples::session::{
 };
 use boot_sweep::laws::sweep::results_are_judged;
 
-/// The three results of a cut: the former decision between two pages, the finished image behind
-/// which a page is still erased, and an image that lacks a page.
+/// The three results of a cut: the former decision between two pages; the finished image, while a
+/// page after it is still erased; and an image that lacks a page.
 pub fn the_three_results_of_a_cut()
     ensures former { IsCutResult (beside_former bare) (beside_former (arm_member 0x0001000a))
         (beside_former (begins_with vector_page)) Arm Former }
@@ -36,8 +36,8 @@ pub fn the_three_results_of_a_cut()
     a_cut_within_the_image();
 }
 
-/// A line of a cut before a step that says `chance`, whatever the pattern: of an image without a
-/// load map the last page is still erased.
+/// A line of a cut before a step that says `chance`, whatever the pattern. The last page of an
+/// image without a load map is still erased.
 pub fn a_line_before_a_step_that_says_chance()
     ensures { (pattern : List ℕ) → Contains
         (sweep_lines (beside_small bare_slot) Arm pattern longer_steps)
@@ -47,9 +47,9 @@ pub fn a_line_before_a_step_that_says_chance()
     results_are_judged();
 }
 
-/// Blocks that are stray and that are not: where no block stood, and where one with other items
-/// did, a block is stray; where one with the same headers and link stood, of another version, it is
-/// not.
+/// Blocks that are stray and that are not. A block is stray where no block stood, or where a block
+/// with other items stood. It is not where a block with the same headers and link stood, of
+/// another version.
 pub fn blocks_that_are_stray_and_that_are_not()
     ensures new { Stray (beside_small bare_slot) (beside_small (arm_slot 0x0001000a)) small_slot }
     ensures other_items { Stray

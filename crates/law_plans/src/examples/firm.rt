@@ -1,5 +1,5 @@
-//! Worked images that lack one of the conditions of a firm image and have the others, by computing:
-//! each is the `ensures` of a function that does nothing.
+//! Worked images that lack one of the conditions of a firm image and have the others, by
+//! computing. Each is the `ensures` of a function that does nothing.
 
 ghost use Rattle.std.specs.Prelude.{◌≡◌, IsSome, None, [], drop};
 ghost use Rattle.pico_board.specs.Content.{window_bytes};
@@ -8,8 +8,8 @@ ghost use Rattle.image_check.specs.SameImage.{HoldsImage};
 ghost use Rattle.boot_sweep.specs.Firms.{Firm, HasNoOtherBlock, IsFirm, LoadsFront};
 ghost use Rattle.law_plans.specs.Examples.{alone_on, cleared_blocks, clipped, crowded, early, firm, arm_start_at, undigested, unmapped, whole};
 
-/// An image without a HASH_VALUE is not firm, though its definition stands behind the first sector,
-/// its load map stores all before that, and the first sector has no other block.
+/// An image without a HASH_VALUE is not firm. But its definition stands after the first sector,
+/// its load map stores all bytes before the definition, and the first sector has no other block.
 pub fn an_image_without_a_digest()
     ensures { (held : HoldsImage Arm undigested (arm_start_at 0x1000))
         × (held.image.def.digest ≡ None)
@@ -18,8 +18,8 @@ pub fn an_image_without_a_digest()
         × (IsFirm Arm undigested (arm_start_at 0x1000) → ⊥) }
 {}
 
-/// An image without a load map is not firm, though its definition stands behind the first sector
-/// and has a digest, and the first sector has no other block.
+/// An image without a load map is not firm. But its definition stands after the first sector and
+/// has a digest, and the first sector has no other block.
 pub fn an_image_without_a_load_map()
     ensures { (held : HoldsImage Arm unmapped (arm_start_at 0x1000))
         × IsSome held.image.def.digest
@@ -28,8 +28,8 @@ pub fn an_image_without_a_load_map()
         × (IsFirm Arm unmapped (arm_start_at 0x1000) → ⊥) }
 {}
 
-/// An image whose definition stands in the first sector is not firm, though it has a digest, its
-/// load map stores all before it, and the first sector has no other block.
+/// An image whose definition stands in the first sector is not firm. But the definition has a
+/// digest, the load map stores all bytes before it, and the first sector has no other block.
 pub fn an_image_with_an_early_definition()
     ensures { (held : HoldsImage Arm early (arm_start_at 0x100))
         × IsSome held.image.def.digest
@@ -38,9 +38,9 @@ pub fn an_image_with_an_early_definition()
         × (IsFirm Arm early (arm_start_at 0x100) → ⊥) }
 {}
 
-/// An image whose load map stores all but the last byte before its definition is not firm, though
-/// its definition stands behind the first sector and has a digest, and the first sector has no
-/// other block.
+/// An image whose load map stores all but the last byte before its definition is not firm. But the
+/// definition stands after the first sector and has a digest, and the first sector has no other
+/// block.
 pub fn an_image_whose_map_leaves_a_byte_out()
     ensures { (held : HoldsImage Arm clipped (arm_start_at 0x1000))
         × IsSome held.image.def.digest
@@ -49,8 +49,8 @@ pub fn an_image_whose_map_leaves_a_byte_out()
         × (IsFirm Arm clipped (arm_start_at 0x1000) → ⊥) }
 {}
 
-/// An image whose load map stores all before its definition in its second entry is not firm, though
-/// its definition stands behind the first sector and has a digest, and the first sector has no
+/// An image whose load map stores all bytes before its definition in its second entry is not firm.
+/// But the definition stands after the first sector and has a digest, and the first sector has no
 /// other block.
 pub fn an_image_whose_map_begins_with_another_entry()
     ensures { (held : HoldsImage Arm cleared_blocks (arm_start_at 0x1000))
@@ -60,9 +60,9 @@ pub fn an_image_whose_map_begins_with_another_entry()
         × (IsFirm Arm cleared_blocks (arm_start_at 0x1000) → ⊥) }
 {}
 
-/// An image with one more block in the first sector, which is none of its loop, is not firm, though
-/// its definition stands behind the first sector and has a digest, and its load map stores all
-/// before that.
+/// An image with one more block in the first sector, which is none of its loop, is not firm. But
+/// its definition stands after the first sector and has a digest, and its load map stores all
+/// bytes before the definition.
 pub fn an_image_with_another_block()
     ensures { (held : HoldsImage Arm crowded (arm_start_at 0x1000))
         × IsSome held.image.def.digest
@@ -71,13 +71,13 @@ pub fn an_image_with_another_block()
         × (IsFirm Arm crowded (arm_start_at 0x1000) → ⊥) }
 {}
 
-/// An image with all of these is firm.
+/// An image with all of these conditions is firm.
 pub fn a_firm_image()
     ensures { IsFirm Arm firm (arm_start_at 0x1000) }
 {}
 
-/// Alone in a flash it is firm. Where the OTP requires rollback versions, which it has none of, it
-/// is not, though it has all of these there: it is not valid.
+/// The firm image is firm alone in a flash. Where the OTP requires rollback versions, it is not
+/// firm. It has all of these conditions there, but it has no rollback version, so it is not valid.
 pub fn a_firm_image_on_two_flashes()
     ensures firm { Firm (alone_on 0) whole Arm (arm_start_at 0x1000) }
     ensures required { IsFirm Arm (window_bytes (alone_on 1) whole) (arm_start_at 0x1000)

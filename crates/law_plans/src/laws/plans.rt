@@ -28,10 +28,10 @@ use picoboot_cmd::laws::{
 };
 use script_plan::laws::{the_commands_of_a_plan, the_events_of_a_plan};
 
-/// The session of a plan for a slot: its steps where each byte of the slot may be written, as it
-/// may where there is no table, and none where the first one may not be. They leave the image, 0 to
-/// the end of its last page, 0xff to the end of its last sector, and then what was there; and they
-/// write no row.
+/// The session of a plan for a slot. It has the plan's steps where each byte of the slot may be
+/// written, as where there is no table. It has no steps where the first byte may not be written.
+/// The steps leave the image, 0 to the end of its last page, 0xff to the end of its last sector,
+/// and then what was there. They write no row.
 pub fn the_session_of_a_plan()
     ensures steps { (c : Content) (cpu : Cpu) (w : Window) (image : List ℕ) (es : List EventView)
         → IsContent c → IsSlotOf c cpu w → 0 < length image → length image ≤ w.len
@@ -64,10 +64,10 @@ pub fn the_session_of_a_plan()
     a_range_is_allowed_byte_by_byte();
 }
 
-/// An image that is valid in a slot filled with 0xff after its end, and whose load map stores
-/// nothing at or past its end, is valid there after its plan too, where no block stands there then
-/// that begins in the first sector and ends past the image's last one. An image of more than a
-/// sector leaves no such block.
+/// An image is valid in a slot filled with 0xff after its end, and its load map stores nothing at
+/// or past its end. After its plan no block stands there that begins in the first sector and ends
+/// past the image's last sector. Then the image is valid there after its plan too. An image of
+/// more than a sector leaves no such block.
 pub fn a_planned_image_is_valid()
     ensures valid { (c : Content) (cpu by : Cpu) (w : Window) (image : List ℕ)
         (es : List EventView) (trial : Bool) (s : Started)

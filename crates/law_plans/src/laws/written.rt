@@ -21,9 +21,9 @@ ghost use Rattle.image_pack.specs.Sealing.{sealed_text};
 ghost use Rattle.image_pack.specs.Unsealable.{KeepsRules};
 ghost use Rattle.law_plans.specs.Written.{HasNoLowBlockPast, plan_steps, planned};
 
-/// An image that is valid in a window with 0xff from an offset on, and whose load map stores
-/// nothing at or past that offset, is valid in each window that has the same bytes before it, where
-/// no block begins in the first sector there and ends past it.
+/// An image is valid in a window with 0xff from an offset on, and its load map stores nothing at
+/// or past that offset. Another window has the same bytes before the offset, and no block begins
+/// in its first sector and ends past the offset. Then the image is valid in that window too.
 pub fn what_stands_behind_an_image()
     ensures { (one two : List ℕ) (n : ℕ) (w : Window) (cpu : Cpu) (trial : Bool) (otp : List ℕ)
         (s : Started) (v : IsValidImage in_flash w cpu trial otp one s)
@@ -33,8 +33,8 @@ pub fn what_stands_behind_an_image()
         → IsValidImage in_flash w cpu trial otp two s }
 {}
 
-/// Where a plan's steps leave an image's bytes: the image, 0 to the end of its last page, 0xff to
-/// the end of its last sector, and then what was there.
+/// What a plan's steps leave in the window: the image, 0 to the end of its last page, 0xff to the
+/// end of its last sector, and then what was there.
 pub fn the_steps_of_a_plan_write_the_image()
     ensures bytes { (c : Content) (w : Window) (s : ℕ) (image : List ℕ)
         → w.start ≡ 4096 * s → w.len % 4096 ≡ 0 → w.start + w.len ≤ length c.flash
@@ -53,10 +53,10 @@ pub fn the_steps_of_a_plan_write_the_image()
         → length (planned image old) ≡ length old }
 {}
 
-/// An image that is valid in a window filled with 0xff after its end, and whose load map stores
-/// nothing at or past its end, is valid in the bytes that a plan leaves of it there, where no block
-/// stands in them that begins in the first sector and ends past the image's last one. An image of
-/// more than a sector leaves no such block.
+/// An image is valid in a window filled with 0xff after its end, and its load map stores nothing
+/// at or past its end. In the bytes that a plan leaves of it there no block stands that begins in
+/// the first sector and ends past the image's last sector. Then the image is valid in these bytes.
+/// An image of more than a sector leaves no such block.
 pub fn a_planned_image_stays_valid()
     ensures valid { (w : Window) (cpu : Cpu) (trial : Bool) (otp image old : List ℕ) (s : Started)
         (v : IsValidImage in_flash w cpu trial otp (padded w.len image) s)
@@ -68,11 +68,11 @@ pub fn a_planned_image_stays_valid()
         → HasNoLowBlockPast (round_up 4096 (length image)) (planned image old) }
 {}
 
-/// A sealed image is valid in the bytes that a plan leaves of it, with trial images allowed, for
-/// every OTP that meets the spec's rollback rule, where its binary's own loads are stored in the
-/// binary and no block stands there that begins in the first sector and ends past the image's last
-/// one. It stores nothing past its end then; and one of a binary of at least a sector is longer
-/// than a sector, so that it leaves no such block.
+/// A sealed image has its binary's own loads stored in the binary. In the bytes that a plan leaves
+/// of it no block stands that begins in the first sector and ends past the image's last sector.
+/// Then the image is valid in these bytes, with trial images allowed, for every OTP that meets the
+/// spec's rollback rule. The image stores nothing past its end then. The sealed image of a binary
+/// of at least a sector is longer than a sector, so it leaves no such block.
 pub fn a_planned_sealed_image_is_valid()
     ensures valid { (binary : List ℕ) (spec : SealSpec) (sealed : IsSealed binary spec)
         (own : KeepsRules spec.cpu (whole_sectors binary)) (w : Window) (otp old : List ℕ)

@@ -1,4 +1,4 @@
-//! Worked examples of targets by the rules' words and of boot members, on whole flashes.
+//! Worked examples of targets by the rules and of boot members, on whole flashes.
 
 ghost use Rattle.std.specs.Prelude.{◌≡◌, None, Some, false, true};
 ghost use Rattle.pico_board.specs.declared.boot.Cpu.TheVariants.{Arm, Riscv};
@@ -16,8 +16,8 @@ ghost use Rattle.law_targets.specs.Examples.{flags_table, lone_flash, lone_targe
 ghost use Rattle.law_targets.specs.HomeRules.{IsInKeptPair};
 ghost use Rattle.law_targets.specs.TargetRules.{IsTarget};
 
-/// By the words a download of rp2350-arm-s goes into the pair's B where A holds version 1.9 and B
-/// nothing, and nowhere else; it is gated. A family that no partition accepts goes nowhere.
+/// A pair's A holds version 1.9 and B nothing. By the rules a download of rp2350-arm-s goes into
+/// B, and nowhere else; it is gated. A family that no partition accepts goes nowhere.
 pub fn a_pair_by_the_words()
     ensures second { IsTarget (pair_content 0 (arm_member 0x10009) bare) (Some pair_table) Arm
         0xe48bff59 (to (window_at 0x20000 0x1e000) true false) }
@@ -31,8 +31,8 @@ pub fn a_pair_by_the_words()
         → ¬ (IsTarget (pair_content 0 bare bare) (Some pair_table) Arm 0xe48bff58 target) }
 {}
 
-/// Owned data go into B where the owner's A would be taken, here on a tie, and into A where its B
-/// would be.
+/// Owned data go into B where the owner's A would be taken, here on a tie. They go into A where
+/// the owner's B would be taken.
 pub fn owned_data_by_the_words()
     ensures second { IsTarget (owned_content (arm_owner 0x10009) (arm_owner 0x10009))
         (Some owned_table) Arm 0xe48bff58 (to (window_at 0x1a000 0x8000) false false) }
@@ -42,8 +42,8 @@ pub fn owned_data_by_the_words()
         (Some owned_table) Arm 0xe48bff58 (to (window_at 0x1a000 0x8000) false false)) }
 {}
 
-/// Data that go into a pair are not gated, and the pair may well be a boot unit, as the two slots
-/// of a flash without a table are. So a target that is not gated may be a boot member.
+/// Data that go into a pair are not gated. The pair may well be a boot unit, as the two slots of a
+/// flash without a table are. So a target that is not gated may be a boot member.
 pub fn an_ungated_target_may_be_a_boot_member()
     ensures table { table_in (tables_content 1 (arm_slot 0x10009) bare_slot) ≡ None }
     ensures target { target_of (tables_content 1 (arm_slot 0x10009) bare_slot) None Arm 0xe48bff58
@@ -53,9 +53,9 @@ pub fn an_ungated_target_may_be_a_boot_member()
         Arm }
 {}
 
-/// The members of a pair are boot members for the processor that does not ignore its A, and none
-/// for the other one, for which a download into it is gated nevertheless. A partition alone is no
-/// boot member.
+/// The members of a pair are boot members for the processor that does not ignore its A. For the
+/// other processor they are no boot members, and a download into the pair is gated nevertheless. A
+/// partition alone is no boot member.
 pub fn boot_members_of_a_table()
     ensures table { table_in (pair_flash 0x400 0) ≡ Some (found_in_slot 0 (flags_table 0x400 0)) }
     ensures first { IsBootMember (pair_flash 0x400 0) (window_at 0x2000 0x2000) Arm }
@@ -75,9 +75,8 @@ pub fn boot_members_of_a_table()
 {}
 
 /// A B's own bit for a processor is not read: here A is not ignored, and the members of the pair
-/// are boot members. The words `IsOfKeptUnit` read the flags of any partition, of a B too, so that
-/// they hold of such a boot member as well; `IsInKeptPair` reads those of an A alone, and does
-/// not.
+/// are boot members. `IsOfKeptUnit` reads the flags of any partition, of a B too, so it holds of
+/// such a boot member as well. `IsInKeptPair` reads the flags of an A alone, and does not hold.
 pub fn the_flags_of_a_second()
     ensures boot_member { IsBootMember (pair_flash 0 0x400) (window_at 0x4000 0x2000) Riscv }
     ensures of_a_kept_unit { IsOfKeptUnit (pair_flash 0 0x400) Riscv (window_at 0x4000 0x2000) }

@@ -28,8 +28,9 @@ ghost use Rattle.law_targets.specs.Pairs.{HasNoSecond, IsPart};
 ghost use Rattle.law_targets.specs.Taking.{IsLower, TakesFirst, TakesSecond};
 ghost use Rattle.law_targets.specs.TargetRules.{IsSlotTarget, IsTarget, flash_window, slot_size_in};
 
-/// A partition accepts a family by its bit or among its extra families, and a version is lower by
-/// major, then minor. A normal boot would take A or B of a unit by what their windows hold.
+/// A partition accepts a family by the family's bit or among its extra families. A version is
+/// lower by major, then minor. A normal boot would take A or B of a unit by what their windows
+/// hold.
 pub fn words_say_what_tests_say()
     ensures families { (p : Partition) (family : ℕ)
         → (accepts p family ≡ true) ↔ Accepts p family }
@@ -40,10 +41,10 @@ pub fn words_say_what_tests_say()
         → (taken_member c cpu u ≡ Some B) ↔ TakesSecond c cpu u.a two }
 {}
 
-/// Where a download of a family goes is what the rules' words say, for every content, processor
-/// and family, and every table that is sound for the flash, or none: the target that is answered
-/// is the one that meets them, there is none exactly where nothing meets them, and one at most
-/// does.
+/// Where a download of a family goes is what the rules say. This holds for every content,
+/// processor and family, and every table that is sound for the flash, or none. The answered target
+/// is the one that meets the rules. There is none exactly where nothing meets them, and at most
+/// one target does.
 pub fn a_target_is_that_of_the_rules()
     ensures some { (c : Content) (t : Option Table) (cpu : Cpu) (family : ℕ) (target : Target)
         → IsSoundFor t (length c.flash)
@@ -57,9 +58,9 @@ pub fn a_target_is_that_of_the_rules()
         → IsTarget c t cpu family x → IsTarget c t cpu family y → x ≡ y }
 {}
 
-/// With a table a boot member is the window of a member of a pair of partitions, whose A is no B,
-/// has no owner and is not ignored for the processor. Without one the boot members are the two
-/// slots, where these are of more than 4096 bytes.
+/// With a table a boot member is the window of a member of a pair of partitions. The pair's A is
+/// no B, has no owner and is not ignored for the processor. Without a table the boot members are
+/// the two slots, where these are of more than 4096 bytes.
 pub fn boot_members_are_members_of_boot_pairs()
     ensures table { (c : Content) (w : Window) (cpu : Cpu) (found : Found)
         → table_in c ≡ Some found → IsBootMember c w cpu ↔ IsInBootPair found.table cpu w }
@@ -69,9 +70,10 @@ pub fn boot_members_are_members_of_boot_pairs()
         ⊎ (w ≡ record { start = slot_size_in c; len = slot_size_in c }))) }
 {}
 
-/// The target of a family by a content's own table is a boot member exactly where it is a member
-/// of the pair that loads the family and whose A has no owner and is not ignored; and without a
-/// table exactly where it is a slot of the pair of slots.
+/// The target of a family by a content's own table may be a boot member. With a table it is one
+/// exactly under two conditions: it is a member of the pair that loads the family; and the pair's
+/// A has no owner and is not ignored. Without a table it is one exactly where it is a slot of the
+/// pair of slots.
 pub fn which_targets_are_boot_members()
     ensures table { (c : Content) (cpu : Cpu) (family : ℕ) (target : Target) (found : Found)
         → IsContent c → table_in c ≡ Some found
@@ -83,8 +85,8 @@ pub fn which_targets_are_boot_members()
         → IsBootMember c target.window cpu ↔ IsSlotTarget c cpu family target }
 {}
 
-/// A gated target of a content is a boot member, or with a table lies in a pair whose A has an
-/// owner or is ignored for the processor. No window is both.
+/// A gated target of a content is a boot member. Or, with a table, it lies in a pair whose A has
+/// an owner or is ignored for the processor. No window is both.
 pub fn a_gated_target_is_a_boot_member_or_in_a_kept_pair()
     ensures table { (c : Content) (cpu : Cpu) (family : ℕ) (target : Target) (found : Found)
         → table_in c ≡ Some found → target_of c (table_of_content c) cpu family ≡ Some target
@@ -98,8 +100,8 @@ pub fn a_gated_target_is_a_boot_member_or_in_a_kept_pair()
 {}
 
 /// The whole flash is never a boot member, nor is the target of the absolute family, nor a
-/// partition that is no B and has none. The target of a family of executables is no boot member
-/// where it is not gated; of another family it may be one
+/// partition that is no B and has no B. The target of a family of executables is no boot member
+/// where it is not gated. The target of another family may be one
 /// (`an_ungated_target_may_be_a_boot_member`).
 pub fn what_is_never_a_boot_member()
     ensures whole { (c : Content) (cpu : Cpu) → IsContent c → IsBootMember c (flash_window c) cpu
