@@ -120,7 +120,8 @@ row_of verbs.Map =
 row_of verbs.Replay =
     record {
       name = codes "replay";
-      words = kinds.Flash ∷ kinds.Otp ∷ kinds.Cpu ∷ kinds.Script ∷ kinds.OutFlash ∷ kinds.OutOtp ∷ [];
+      words = kinds.Flash ∷ kinds.Otp ∷ kinds.Cpu ∷ kinds.Script ∷ kinds.OutFlash ∷ kinds.OutOtp
+          ∷ [];
       does = codes "what each event of a script does, and what it leaves";
     }
 row_of verbs.Sweep =

@@ -1,4 +1,4 @@
--- What the worked premises are said of.
+-- The values of the worked premises.
 use Rattle.std.specs.Prelude.{ℕ, ◌*◌, ◌+◌, ◌==◌, Bool, false, true, if◌then◌else◌, pos, List, [], ◌∷◌, ◌++◌, replicate, Option, None, Some, Err}
 use Rattle.pico_board.specs.declared.window.Window.{Window}
 use Rattle.block_codec.specs.Blocks.{BlockView}
@@ -43,7 +43,7 @@ first_of_two = block_of_two 0
 abbrev pub second_of_two : Uf2
 second_of_two = block_of_two 1
 
--- what is kept of that download behind its first block
+-- what is kept of that download after its first block
 abbrev pub current_of_two : Current
 current_of_two = record {
   family = 0xe48bff59;
@@ -55,7 +55,12 @@ current_of_two = record {
 
 -- a unit in which no image stands
 abbrev pub bare_report : UnitReport
-bare_report = record { unit = the_pair; first = Err NoBlock; second = Some (Err NoBlock); taken = None }
+bare_report = record {
+  unit = the_pair;
+  first = Err NoBlock;
+  second = Some (Err NoBlock);
+  taken = None;
+}
 
 -- no image in any window
 abbrev pub no_images : Images
@@ -76,7 +81,7 @@ owned_second = window_at 0x1a000 0x8000
 abbrev pub owned_unit : SlotUnit
 owned_unit = pair_unit (window_at 0x12000 0x8000) 2 owned_second 3
 
--- a window of two pages, of which the first has bytes 7, and the second bytes of this value
+-- a window of two pages: the first has bytes 7, and the second bytes of this value
 abbrev pub two_pages : ℕ → List ℕ
 two_pages second = replicate 256 7 ++ replicate 256 second
 
@@ -91,7 +96,7 @@ linked_block = record { at = 8; items = arm_type ∷ []; link = pos 256 }
 abbrev pub free_pool : Pool
 free_pool = record { out = false ∷ false ∷ []; sectors = erased ∷ erased ∷ [] }
 
--- a download of two blocks behind its first one: number 0 is taken, and sector 32 is erased
+-- a download of two blocks after its first one: number 0 is taken, and sector 32 is erased
 abbrev pub begun_download : DownloadView
 begun_download = record {
   current = Some current_of_two;
@@ -131,7 +136,7 @@ armed_machine = record {
   place = Running (FromFlash running_trial);
 }
 
--- that step of its buy: the program of the first page, behind the erase of its sector
+-- that step of its buy: the program of the first page, after the erase of its sector
 abbrev pub first_program : Step
 first_program =
     page_program 0 (cleared_sector trial_flash.flash (trial_place running_trial.image)) 0

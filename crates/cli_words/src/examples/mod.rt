@@ -216,7 +216,8 @@ pub fn lines_of_rows()
 pub fn helps_of_commands()
     ensures one { help_text (codes "gen") ≡ codes
         "gen N                    the digest of a flash that is made of a number, and what boots on it\n"
-        ++ (codes "N       a number below 4294967296, of 1 to 10 decimal digits\n" ++ STATUSES.now) }
+        ++ (codes "N       a number below 4294967296, of 1 to 10 decimal digits\n"
+        ++ STATUSES.now) }
     ensures two { help_text (codes "help") ≡ codes
         "help                     the same\nhelp COMMAND             how one command is used\n"
         ++ (codes "COMMAND  the first word of a line above\n" ++ STATUSES.now) }

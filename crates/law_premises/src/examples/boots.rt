@@ -18,7 +18,7 @@ ghost use Rattle.worked_flashes.specs.Images.{in_a};
 ghost use Rattle.worked_flashes.specs.Writes.{slot};
 ghost use Rattle.law_premises.specs.Examples.{bare_report, images_with_second, no_images, owned_unit, owned_second, second_window};
 
-/// A boot that asks for BOOTSEL, one where flash boot is off, and one that is neither.
+/// A boot that asks for BOOTSEL, one where flash boot is off, and one without either.
 pub fn boots_that_fall_before_a_unit()
     ensures asked { FallsBefore (record { flash = []; otp = [] }) Bootsel }
     ensures off { FallsBefore (record { flash = []; otp = rows_with 2 0 }) Normal }
@@ -33,7 +33,8 @@ pub fn reports_that_take_none()
 /// A pair without an image, and the same with one in its B alone.
 pub fn images_of_a_pair()
     ensures same { HaveSameImages no_images no_images (the_pair ∷ []) }
-    ensures but_second { HaveSameImagesBut second_window no_images images_with_second (the_pair ∷ []) }
+    ensures but_second { HaveSameImagesBut second_window no_images images_with_second
+        (the_pair ∷ []) }
     ensures not_same { HaveSameImages no_images images_with_second (the_pair ∷ []) → ⊥ }
 {}
 
@@ -48,7 +49,7 @@ pub fn an_owned_pair()
     ensures owned { IsOwnedPair owned_table owned_unit owned_second }
 {}
 
-/// A bare slot beside version 1.9 has no image, and one in which version 1.10 stands has one.
+/// A bare slot next to version 1.9 has no image. A slot in which version 1.10 stands has one.
 pub fn a_slot_without_an_image()
     ensures bare { HasNoImage (beside_former bare) slot Arm }
     ensures written { HasNoImage (beside_former (arm_member 0x0001000a)) slot Arm → ⊥ }

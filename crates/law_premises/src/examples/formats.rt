@@ -24,7 +24,8 @@ use law_plans::examples::firm::{a_firm_image, an_image_with_another_block};
 
 /// An IMAGE_TYPE word whose trial bit is set.
 pub fn a_word_with_its_trial_bit()
-    ensures changes { ChangesHighByte (0x42 ∷ 1 ∷ 0x21 ∷ 0x10 ∷ []) (0x42 ∷ 1 ∷ 0x21 ∷ 0x90 ∷ []) 0 }
+    ensures changes { ChangesHighByte (0x42 ∷ 1 ∷ 0x21 ∷ 0x10 ∷ [])
+        (0x42 ∷ 1 ∷ 0x21 ∷ 0x90 ∷ []) 0 }
 {}
 
 /// The partitions of a pair; the B has no B of its own.
@@ -34,7 +35,7 @@ pub fn partitions_of_a_pair()
     ensures alone { HasNoSecond pair_table 1 }
 {}
 
-/// Families of executables, and one of data, which is none.
+/// Families of executables, and the family of data, which is none of these.
 pub fn families_of_executables()
     ensures arm { IsExecutable 0xe48bff59 }
     ensures riscv { IsExecutable 0xe48bff5a }
@@ -50,10 +51,12 @@ pub fn pairs_of_maps()
     ensures slot { IsNumbered None (Slot 0) 0 }
 {}
 
-/// An address at the start of a segment, and the one behind its end.
+/// An address at the start of a segment, and the one after its end.
 pub fn addresses_of_a_segment()
-    ensures first { HasAddress 0x10000000 (record { number = 0; offset = 84; address = 0x10000000; size = 4 }) }
-    ensures behind { HasAddress 0x10000004 (record { number = 0; offset = 84; address = 0x10000000; size = 4 }) → ⊥ }
+    ensures first { HasAddress 0x10000000
+        (record { number = 0; offset = 84; address = 0x10000000; size = 4 }) }
+    ensures behind { HasAddress 0x10000004
+        (record { number = 0; offset = 84; address = 0x10000000; size = 4 }) → ⊥ }
 {}
 
 /// A picture of plain words.
@@ -95,7 +98,7 @@ pub fn a_window_that_keeps_links()
     ensures other { KeepsLinks (linked_block ∷ []) one_block_window → ⊥ }
 {}
 
-/// An image whose first sector has the blocks of its loop alone, and one with a block beside them.
+/// An image whose first sector has the blocks of its loop alone, and one with another block there.
 pub fn an_image_with_a_lone_loop()
     ensures lone { HasLoneLoop firm }
     ensures crowded { HasLoneLoop crowded → ⊥ }

@@ -37,15 +37,15 @@ pub fn a_script_within_the_limits()
     ensures line { IsRecordLine (codes "power") }
 {}
 
-/// A download of two blocks into a slot, and the second one, which may come behind the first.
+/// A download of two blocks into a slot, and the second block, which may come after the first.
 pub fn blocks_of_a_download()
     ensures both { AreBlocks (to slot true false) 0xe48bff59 2 (first_of_two ∷ second_of_two ∷ []) }
     ensures next { MayComeNext current_of_two (first_of_two ∷ []) second_of_two }
     ensures again { MayComeNext current_of_two (first_of_two ∷ []) first_of_two → ⊥ }
 {}
 
-/// What is kept of a download behind its first block stands for that block; and a host that places
-/// it carries it. Without a download nothing is carried but none.
+/// What is kept of a download after its first block stands for that block. A host that places the
+/// download carries it. Without a download only no download is carried.
 pub fn a_download_behind_its_first_block()
     ensures stands { StandsFor begun_download free_pool (to slot false false)
         (first_of_two ∷ []) }
@@ -57,7 +57,7 @@ pub fn a_download_behind_its_first_block()
     ensures loses_none { Carries begun_download free_pool None → ⊥ }
 {}
 
-/// A download of version 1.10 beside 1.9 in which power is lost before its second page; and the
+/// A download of version 1.10 next to 1.9, in which power is lost before its second page; and the
 /// contents of one such loss.
 pub fn a_download_that_loses_power()
     ensures cut { IsCutDownload (beside_former bare) Arm 0xe48bff59 second_slot two_page_image

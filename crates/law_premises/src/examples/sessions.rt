@@ -23,8 +23,8 @@ ghost use Rattle.law_premises.specs.Examples.{armed_machine, first_program, flag
 use boot_plays::laws::{told_moves_are_determined, told_plays_are_determined};
 use boot_session::examples::session::a_cut_between_two_pages;
 
-/// Version 1.10 is written beside 1.9, and power is lost before its second page: a session on one
-/// slot of a pair, with a table, in which the former answer is elsewhere.
+/// Version 1.10 is written next to 1.9, and power is lost before its second page. This is a
+/// session on one slot of a pair, with a table, and the former answer is elsewhere.
 pub fn a_confined_session()
     ensures session { ConfinedSession (beside_former bare) slot Arm plain_steps
         (beside_former (begins_with vector_page)) (Start former_start) }
@@ -33,7 +33,7 @@ pub fn a_confined_session()
     a_cut_between_two_pages();
 }
 
-/// A script with a command, an event that is ignored, and a block, none of which asks for a boot.
+/// A script with a command, an event that is ignored, and a block. None of them asks for a boot.
 pub fn a_script_that_stays_in_bootsel()
     ensures { StaysIn (beside_former bare) Arm (entered_host (beside_former bare))
         (EventView.Command (written_command (erase_command 0x10020000 0x1000)) []
@@ -61,19 +61,19 @@ pub fn contents_that_differ_in_the_rows()
         running_trial.image }
 {}
 
-/// Power comes back to a flash with a trial image alone, which a normal boot passes over; and then
-/// a reset asks for an update boot of its window, which starts it.
+/// Power comes back to a flash with a trial image alone, which a normal boot passes over. Then a
+/// reset asks for an update boot of its window, and this boot starts the image.
 pub fn a_run_that_starts_a_trial_image()
     ensures { RunsTrial (powerless trial_flash Arm) trial_machine running_trial }
 {
     told_plays_are_determined();
 }
 
-/// The same run, in which a cut is armed, and then the image buys itself: power is lost once the
-/// image's sector is erased, before its first page is programmed.
+/// In the same run a cut is armed, and then the image buys itself. Power is lost after the image's
+/// sector is erased, before its first page is programmed.
 pub fn a_buy_in_which_power_is_lost()
-    ensures { LosesBuy (powerless trial_flash Arm) armed_machine lost_machine running_trial whole_unit
-        first_program }
+    ensures { LosesBuy (powerless trial_flash Arm) armed_machine lost_machine running_trial
+        whole_unit first_program }
 {
     told_moves_are_determined();
     told_plays_are_determined();
