@@ -70,7 +70,7 @@ IsRollbackGap otp d =
     IsOfOne (λ row. (s : Started) × StartsWithRows d s × IsFirstGap otp s.rows.items row)
     RollbackGap
 
--- the three of them
+-- the three caveats of the rows of the image that starts
 abbrev pub AreRowCaveats : List ℕ → Decision → List Caveat → Type 0
 AreRowCaveats otp d =
     AreBoth (IsRollbackRows d) (AreBoth (IsRollbackFull d) (IsRollbackGap otp d))

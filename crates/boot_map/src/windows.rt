@@ -34,7 +34,8 @@ fn has_slots(table: Option<&Table>, slot: u32) -> bool
     }
 }
 
-/// Of two offsets the first where it lies at or past `at` and is the lower one.
+/// The first of two offsets where it lies at or past `at` and is the lower one; otherwise the
+/// second.
 fn nearer_start(at: u32, start: u32, least: u32) -> u32
     ensures { result ≡ nearer_start at start least }
 {

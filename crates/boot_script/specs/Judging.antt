@@ -53,7 +53,7 @@ IsScriptError bytes (Record fault) =
     (length bytes ≤ SCRIPT_LIMIT) × IsUnread RECORD_LIMIT bytes 0 fault
 IsScriptError bytes TooMany = (length bytes ≤ SCRIPT_LIMIT) × IsEndless RECORD_LIMIT bytes 0
 
--- the same as a function: of the record that was read, or of those after it
+-- why bytes are no script, as a function: by the record that was read, or by those after it
 abbrev pub record_error : Result (EventView × ℕ) ScriptFault → (ℕ → Option ScriptError)
     → Option ScriptError
 record_error (Err fault) others = Some (Record fault)

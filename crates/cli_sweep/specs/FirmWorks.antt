@@ -15,7 +15,7 @@ use Rattle.cli_sweep.specs.Firmness.{is_firm}
 abbrev pub image_alone : List ℕ → Content
 image_alone image = content_of_files image []
 
--- its window is the whole flash
+-- the window of an image alone is the whole flash
 abbrev pub whole_window : List ℕ → Window
 whole_window image = record { start = 0; len = length (filled_flash image) }
 

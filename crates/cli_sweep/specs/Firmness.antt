@@ -28,7 +28,7 @@ abbrev pub is_of_loop : List BlockView → Option BlockView → Bool
 is_of_loop loop None = true
 is_of_loop loop (Some b) = list_any (λ (c : BlockView). c.at == b.at) loop
 
--- the same at each of the first n multiples of 4
+-- at each of the first n multiples of 4 no block stands, or one of the loop does
 unfoldable pub has_no_other : List ℕ → List BlockView → ℕ → Bool
 has_no_other bytes loop zero = true
 has_no_other bytes loop (suc n) =

@@ -60,7 +60,7 @@ are_digits text = list_all is_digit text
 abbrev pub bytes_in : List ℕ → Option (List ℕ)
 bytes_in text = if are_digits text then result_ok (decode_of text) else None
 
--- so many bytes
+-- n bytes of two lower-case digits each
 abbrev pub array_in : ℕ → List ℕ → Option (List ℕ)
 array_in n text = if are_digits text then result_ok (decode_sized text n) else None
 
