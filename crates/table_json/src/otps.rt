@@ -43,8 +43,8 @@ pub struct OtpSpec {
     pub rollback_required: bool,
     /// Whether flash boot is off.
     pub flash_off: bool,
-    /// The exponent of the slot size of a flash without a table. A slot has 4096 times 2 to it
-    /// bytes.
+    /// The exponent of the slot size of a flash without a table. The slot size is 4096 times 2 to
+    /// the power of this exponent.
     pub slot_exponent: u32,
     /// Rows and their values. Of a row that comes twice the later value counts.
     pub rows: Vec<OtpRow>,
