@@ -20,8 +20,8 @@ use Rattle.slot_choice.specs.declared.unit.Member.TheVariants.{A, B}
 abbrev pub parts_where : (Partition → Bool) → List Partition → List ℕ
 parts_where test parts = filter (λ i. test (part_at parts i)) (range_with_len 0 (length parts))
 
--- a partition is the A of a boot unit where it is no B, has no owner and is not ignored (RP2350
--- Datasheet, chapter 5, Bootrom)
+-- a partition is the A of a boot unit where it is no B, has no owner and is not ignored for the
+-- processor (RP2350 Datasheet, chapter 5, Bootrom)
 abbrev pub begins_boot_unit : Cpu → Partition → Bool
 begins_boot_unit cpu p = not (is_second p) && not (is_owned p) && not (is_ignored cpu p)
 

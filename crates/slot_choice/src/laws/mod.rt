@@ -70,8 +70,8 @@ pub fn boot_units_are_placed()
         → AreApart (record { start = 0; len = z }) w × AreApart (record { start = z; len = z }) w }
 {}
 
-/// The members of a load unit of partitions of a sound table stand inside the flash. Where its A
-/// has an owner, they share no byte with any boot unit.
+/// The members of a load unit of partitions of a sound table stand inside the flash. Where the
+/// unit's A has an owner, its members share no byte with any boot unit.
 pub fn load_units_are_placed()
     ensures placed { (t : Table) (s n z family : ℕ) → IsSoundTable t s
         → (u : SlotUnit) (i : ℕ) → load_unit (Some t) n z family ≡ Some u → u.a_part ≡ Some i
