@@ -5,7 +5,7 @@ use Rattle.load_map.specs.Stored.{AreStoredIn}
 use Rattle.image_pack.specs.declared.parts.Parts.{Parts}
 
 -- the first block, the last block and its link word lie in the first n bytes of the binary; a
--- flash has as many bytes; the storages of the loads lie in a flash
+-- flash may have n bytes; the storages of the loads lie in the greatest flash
 pub record IsWithin (p : Parts) (n : ℕ) : Type 0 where
   pub first : p.first ≤ n
   pub last : p.last ≤ n

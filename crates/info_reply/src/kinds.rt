@@ -1,6 +1,6 @@
-//! The id and the kinds of info commands, and the statuses that only they have. The id of the
-//! GET_INFO command and the numbers of the statuses are those of the RP2350 Datasheet, chapter 5
-//! (Bootrom, the PICOBOOT interface). The kinds are this project's own.
+//! The id and the kinds of info commands, and the statuses that only they have. Their id is that
+//! of the GET_INFO command. The id and the numbers of the statuses are those of the RP2350
+//! Datasheet, chapter 5 (Bootrom, the PICOBOOT interface). The kinds are this project's own.
 
 /// The id of info commands.
 pub const INFO: u8 = 0x8b;

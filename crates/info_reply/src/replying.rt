@@ -116,7 +116,7 @@ fn indexed_bytes(table: &Table, i: u32) -> Option<ArrayVec<u8, 156>>
     Some(part_bytes(&parts[i as usize]))
 }
 
-/// The bytes of the reply; None where the partition that is asked for is none.
+/// The bytes of the reply; None where the partition that is asked for is not there.
 fn reply_bytes(
     ask: &Ask,
     device: &Device,
@@ -147,8 +147,8 @@ fn reply_bytes(
 
 /// Puts the reply of an info command, which is no longer than the transfer length, and answers 0.
 /// Or it puts nothing, and answers the first status that applies: 16, the partition that is asked
-/// for is none; or 12, the reply is longer than the transfer length. The table stands in the slot
-/// `table_slot`, and `target` is that of the family that is asked for.
+/// for is not there; or 12, the reply is longer than the transfer length. The table stands in the
+/// slot `table_slot`, and `target` is that of the family that is asked for.
 pub fn info_put<R: Reply>(
     cmd: &Cmd,
     ask: &Ask,

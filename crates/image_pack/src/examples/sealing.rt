@@ -90,8 +90,8 @@ pub fn halves_of_versions()
 {}
 
 /// The blocks of a binary begin within it or at its end, and its link word ends there at the
-/// latest. The binary has at most 16,777,216 bytes, so the storage of each load ends there at the
-/// latest.
+/// latest. The binary has at most 16,777,216 bytes, and the storage of each load ends within as
+/// many.
 pub fn parts_within_a_binary()
     ensures at_the_end { IsWithin (parts_at 8 8 4 []) 8 }
     ensures first_past { ¬ (IsWithin (parts_at 9 8 4 []) 8) }

@@ -35,7 +35,7 @@ pub fn lines_of_records()
 {}
 
 /// What the comment of each command says. A command with another argument size than its own is
-/// just a command. So is a command with another id.
+/// just a command. So is one with an id that is none of theirs.
 pub fn comments_of_commands()
     ensures exclusive { note 0x01 1 (2 ∷ replicate 15 0) ≡ codes "exclusive 2 token=0x00000001" }
     ensures erase { note 0x03 8 (padded_range_args 0x10020000 0x1000)
