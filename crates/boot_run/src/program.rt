@@ -111,9 +111,9 @@ pub fn run<S: Store, K: Sink>(
         × ((choice : Choice) → d ≡ Start choice
         → NotBelow (content_of_files f g).otp choice.image) }
 
-    // The second half of the headline, on told files of what lost power left. A gated session on
-    // one slot of a pair was cut before or within any erase or page program. Then a normal boot
-    // names the former answer, or the finished image, which is there whole.
+    // The second half of the headline, on told files of what lost power left. Suppose that a gated
+    // session on one slot of a pair was cut before or within any erase or page program. Then a
+    // normal boot names the former answer, or the finished image, which is there whole.
     ensures session { (flash otp f g : List ℕ) (cpu : Cpu) (files : List File) (c : Content)
         (w : Window) (steps : List Step) (former : Decision)
         → asked words.now ≡ Some (Boot flash otp cpu Normal)
@@ -125,10 +125,10 @@ pub fn run<S: Store, K: Sink>(
         ⊎ ((whole : StartsFinished (after_all c steps) (content_of_files f g) cpu)
         × Names (Start whole.choice) result (K.state out.old) (K.state out.new)) }
 
-    // A session writes only one slot of a pair, and is done or cut anywhere. The former answer is
-    // not in that slot. Then a normal boot names the former answer, or an image that is valid in
-    // the written slot. The cut may leave an accidental image; of the table it is asked only that
-    // none came.
+    // Suppose that a session writes only one slot of a pair, and is done or cut anywhere. Suppose
+    // also that the former answer is not in that slot. Then a normal boot names the former answer,
+    // or an image that is valid in the written slot. The cut may leave an accidental image; of the
+    // table it is asked only that none came.
     ensures confined { (flash otp f g : List ℕ) (cpu : Cpu) (files : List File) (c : Content)
         (w : Window) (steps : List Step) (former : Decision)
         → asked words.now ≡ Some (Boot flash otp cpu Normal)

@@ -51,9 +51,9 @@ pub fn high_byte_changed()
         → slice_get bs i ≡ Some b → changed_block a (word_of (drop a v)) b ≡ b }
 {}
 
-/// One window's loop begins where a block of another window's loop stands. In the first window,
-/// the blocks at the offsets of that other loop have its links. Then both are the same loop: as
-/// many blocks, each at the same offset and with the same link.
+/// Suppose that one window's loop begins where a block of another window's loop stands. Suppose
+/// also that in the first window the blocks at the offsets of that other loop have its links. Then
+/// both are the same loop: as many blocks, each at the same offset and with the same link.
 pub fn same_cycle()
     ensures same { (w v : List ℕ) (bs cs : List BlockView) → IsLoop w bs → IsLoop v cs
         → BeginsAmong bs cs → KeepsLinks bs v → IsSameCycle bs cs }

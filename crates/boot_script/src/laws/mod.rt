@@ -47,8 +47,8 @@ pub fn one_event_and_the_others()
         → event_at bytes at ≡ Err fault → events_from bytes at ≡ Err fault }
 {}
 
-/// Any bytes follow the bytes of whole events. The events of both are these events, and then those
-/// of the bytes that follow. A fault of those stands as much later.
+/// Let any bytes follow the bytes of whole events. The events of both are these events, and then
+/// those of the bytes that follow. A fault of those stands as much later.
 pub fn events_of_a_concatenation()
     ensures { (es : List EventView) (bytes : List ℕ) → AllByRecursion IsBeforeEnd es
         → events (flat_map written_event es ++ bytes)

@@ -45,9 +45,9 @@ pub fn rows_are_those_that_are_listed()
         → slice_index (otp_words spec) 0x055 ≡ spec.slot_exponent }
 {}
 
-/// What a text says of an OTP is read back. A content has the OTP's rows, and a flash for two
-/// slots. Then the flags and the slot size are those of the text. So the second line of `explain`
-/// is what the line of `otp` begins with.
+/// What a text says of an OTP is read back. Suppose that a content has the OTP's rows, and a flash
+/// for two slots. Then the flags and the slot size are those of the text. So the second line of
+/// `explain` is what the line of `otp` begins with.
 pub fn otps_are_read_back()
     ensures size { (spec : OtpView) (n : ℕ) → IsSound spec
         → 2 * (4096 * 2 ^ spec.slot_exponent) ≤ n
@@ -75,9 +75,9 @@ pub fn otps_are_none_of_raw_dumps()
         → slice_index (otp_words spec) 0x055 / 16 ≡ 0 }
 {}
 
-/// The texts of a form of input are those of an OTP, and a reading gives what such a text says.
-/// Then the work is right by its rules: it refuses nothing, and its outcome is the one that is
-/// right.
+/// Suppose that the texts of a form of input are those of an OTP, and that a reading gives what
+/// such a text says. Then the work is right by its rules: it refuses nothing, and its outcome is
+/// the one that is right.
 pub fn works_are_right()
     ensures { (form : Form) (reads : List ℕ → Result OtpView JsonFault) (json out : List ℕ)
         → ((j : List ℕ) → HasForm form j → (spec : OtpView) × IsOtpText j spec)

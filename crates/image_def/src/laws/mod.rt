@@ -52,9 +52,9 @@ pub fn one_item_of_each_kind()
         → slice_get (items_of b.items) j ≡ Some other → is_of_kind kind other ≡ true → i ≡ j }
 {}
 
-/// A block has its trial bit cleared, as a buy leaves it. Then it gives the same definition but
-/// for that bit of its flags, or the same fault. It has the same size and the same other items,
-/// and suits the same processors.
+/// Clear a block's trial bit, as a buy does. Then the block gives the same definition but for that
+/// bit of its flags, or the same fault. It has the same size and the same other items, and suits
+/// the same processors.
 pub fn trial_bit_cleared()
     ensures definition { (b : BlockView) → AreItems b.items → has_image_type b ≡ true
         → def_of (trial_cleared b) ≡ untried_answer (def_of b) }

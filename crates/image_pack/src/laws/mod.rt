@@ -99,15 +99,15 @@ pub fn a_sealed_image_is_read_back()
         → (image ≡ back.image) × (loads ≡ back.loads) }
 {}
 
-/// A sealed image starts as its binary does. The binary is itself a valid image in some window
-/// that has 0xff after it, for some OTP. Then the sealed image has its PC, its SP and its limit,
-/// in each window. Without an ENTRY_POINT that limit is 0. This holds without more where the
-/// binary's definition has an ENTRY_POINT, and for RISC-V. Where the start comes from a vector
-/// table, no byte of the table may be one of the four of the link word that sealing rewrites.
-/// Where the table is loaded into SRAM, those of its bytes that a load stores have to come from
-/// the binary. They may not come from the 0xff after it, where the new block comes to stand. The
-/// link word is outside the table where the definition is the last block of the binary's loop, as
-/// it is in a loop of one block.
+/// A sealed image starts as its binary does. Suppose that the binary is itself a valid image in
+/// some window that has 0xff after it, for some OTP. Then the sealed image has its PC, its SP and
+/// its limit, in each window. Without an ENTRY_POINT that limit is 0. This holds without more
+/// where the binary's definition has an ENTRY_POINT, and for RISC-V. Where the start comes from a
+/// vector table, no byte of the table may be one of the four of the link word that sealing
+/// rewrites. Where the table is loaded into SRAM, those of its bytes that a load stores have to
+/// come from the binary. They may not come from the 0xff after it, where the new block comes to
+/// stand. The link word is outside the table where the definition is the last block of the
+/// binary's loop, as it is in a loop of one block.
 pub fn a_sealed_image_starts_as_its_binary()
     ensures entry { (binary : List ℕ) (spec : SealSpec) (sealed : IsSealed binary spec)
         → IsHalves spec.version → (g : List ℕ) → AreErased g → (w : Window) (trial : Bool)
@@ -172,9 +172,9 @@ pub fn a_sealed_image_gives_the_bytes_of_its_binary()
         ≡ byte_at flash_base (whole_sectors binary) own.loads address }
 {}
 
-/// The loads of the binary's own image are stored in the binary, filled to whole words. Then the
-/// loads that a sealed image takes over are the same, and the sealed image stores nothing past its
-/// end. The new block stands after the binary, within the sealed image.
+/// Suppose that the loads of the binary's own image are stored in the binary, filled to whole
+/// words. Then the loads that a sealed image takes over are the same, and the sealed image stores
+/// nothing past its end. The new block stands after the binary, within the sealed image.
 pub fn a_sealed_image_stores_nothing_past_its_end()
     ensures stored { (binary : List ℕ) (spec : SealSpec) (bytes : List ℕ)
         (back : IsReadBack binary spec bytes) (own : KeepsRules spec.cpu (whole_sectors binary))

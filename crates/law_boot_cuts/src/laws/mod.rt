@@ -32,9 +32,9 @@ ghost use Rattle.slot_choice.specs.Updates.{updated_member};
 ghost use Rattle.trial_buy.specs.Buying.{buy_steps};
 ghost use Rattle.trial_buy.specs.Starting.{image_raises, start_steps};
 
-/// Power is lost in the raises that a normal boot does, or an update of an address at which no
-/// member starts. Then the next normal boot starts the same image. The raises of any start, done
-/// or torn, leave what a boot of its kind decides, and the image's bytes.
+/// Suppose that power is lost in the raises that a normal boot does, or an update of an address at
+/// which no member starts. Then the next normal boot starts the same image. The raises of any
+/// start, done or torn, leave what a boot of its kind decides, and the image's bytes.
 pub fn raises_cut()
     ensures normal { (c : Content) (cpu : Cpu) (choice : Choice) (d : Content)
         → IsContent c → Chosen c cpu Normal (Start choice) → CutOf c (start_steps c cpu choice) d
@@ -51,10 +51,10 @@ pub fn raises_cut()
         → MayLeave c (image_raises c.otp choice.image) d → SameImage d c choice.image cpu }
 {}
 
-/// Power is lost in the steps of an updated start, or of the buy of a running trial image. A cut
-/// erase or program leaves no accidental image in the window that it writes
-/// (`LeavesNoAccidentalImage`). Then the pick of the started image's unit is one of two: the
-/// former one; or the started image with a clear trial bit, as after all steps, with the same
+/// Suppose that power is lost in the steps of an updated start, or of the buy of a running trial
+/// image. Suppose also that a cut erase or program leaves no accidental image in the window that
+/// it writes (`LeavesNoAccidentalImage`). Then the pick of the started image's unit is one of two:
+/// the former one; or the started image with a clear trial bit, as after all steps, with the same
 /// bytes. The same holds of the whole decision of a normal boot under two conditions: the table is
 /// the former one too, also after all steps; and the steps raise no row that an image of another
 /// boot unit lists.
@@ -85,8 +85,8 @@ pub fn boots_own_writes()
         → Chosen d cpu Normal e ⊎ StartsBought (after_all c steps) d cpu choice }
 {}
 
-/// No image of another boot unit lists a row whose triple shares a row with a triple that the
-/// steps raise. Then the steps raise no row that such an image lists.
+/// Suppose that no image of another boot unit lists a row whose triple shares a row with a triple
+/// that the steps raise. Then the steps raise no row that such an image lists.
 pub fn triples_apart_keep_other_rows()
     ensures { (c : Content) (cpu : Cpu) (kind : BootKind) (choice : Choice) (u : SlotUnit)
         (steps : List Step)

@@ -40,10 +40,11 @@ pub fn a_valid_updated_image_is_chosen()
         → (u : SlotUnit) × StandsValid c cpu choice u }
 {}
 
-/// Power is lost in the own writes of an updated image that is valid where it stands. A cut erase
-/// or program leaves no accidental image (`LeavesNoAccidentalImage`). Then the pick of its unit is
-/// the former one, or the image with a clear trial bit. With a table so is the decision of a
-/// normal boot, where no other unit's listed row is raised.
+/// Suppose that power is lost in the own writes of an updated image that is valid where it stands.
+/// Suppose also that a cut erase or program leaves no accidental image
+/// (`LeavesNoAccidentalImage`). Then the pick of its unit is the former one, or the image with a
+/// clear trial bit. With a table so is the decision of a normal boot, where no other unit's listed
+/// row is raised.
 pub fn own_writes_of_a_valid_image()
     ensures pick { (c : Content) (cpu : Cpu) (choice : Choice) (u : SlotUnit)
         (steps : List Step) (k : ℕ) (step : Step) (d : Content)
@@ -71,12 +72,13 @@ pub fn own_writes_of_a_valid_image()
     boots_own_writes();
 }
 
-/// Take any run that begins without power, or in BOOTSEL as it is entered. In it a trial image
-/// runs, and power is lost in its buy. Then power is lost in a step of the buy on the content as
-/// it is, and the image stands in a boot unit. Where the cut leaves no accidental image
-/// (`LeavesNoAccidentalImage`), the pick of that unit is the former one or the bought image. With
-/// a table, and where no other unit's listed row is raised, power that comes back leads where the
-/// former decision leads. Or it starts the bought image, as after a whole buy.
+/// Take any run that begins without power, or in BOOTSEL as it is entered. Suppose that a trial
+/// image runs in it, and that power is lost in the image's buy. Then power is lost in a step of
+/// the buy on the content as it is, and the image stands in a boot unit. Where the cut leaves no
+/// accidental image (`LeavesNoAccidentalImage`), the pick of that unit is the former one or the
+/// bought image. With a table, and where no other unit's listed row is raised, power that comes
+/// back leads where the former decision leads. Or it starts the bought image, as after a whole
+/// buy.
 pub fn a_buy_that_loses_power()
     ensures steps { (m n o : MachineView) (choice : Choice) → RunsTrial m n choice
         → Moves n EventView.Buy o lost_text

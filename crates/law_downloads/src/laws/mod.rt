@@ -22,12 +22,12 @@ ghost use Rattle.cli_course.specs.Outcomes.{Answers, one_file};
 ghost use Rattle.cli_scripts.specs.Copies.{blocks_in, copy_events, copy_line, copy_work};
 ghost use Rattle.law_downloads.specs.Copied.{AreLostUpdates, IsCutDownload, IsDownload, IsLostUpdate, copied_script, copied_session, downloaded, last_of};
 
-/// An executable family has a gated target by a content's own table, and every sector of its
-/// window has boot write. An image is not empty, and no longer than the window. Take the session
-/// on that content of the script of `copy` for the file of image and family. It is the download of
-/// the file's blocks, whole and in order, and it is gated on the window. After it the window holds
-/// the image, then 0xff to the end of the image's last sector, and then what it held. The script
-/// is the one that `copy` writes, and it is read back as its events.
+/// Suppose that an executable family has a gated target by a content's own table, and that every
+/// sector of its window has boot write. Let an image be not empty, and no longer than the window.
+/// Take the session on that content of the script of `copy` for the file of image and family. It
+/// is the download of the file's blocks, whole and in order, and it is gated on the window. After
+/// it the window holds the image, then 0xff to the end of the image's last sector, and then what
+/// it held. The script is the one that `copy` writes, and it is read back as its events.
 pub fn copied_download()
     ensures placed { (c : Content) (cpu : Cpu) (family : ℕ) (target : Target) (image : List ℕ)
         → IsDownload c cpu family target image
@@ -49,10 +49,11 @@ pub fn copied_download()
         ≡ Ok (copy_events (map written_block (file_blocks image family))) }
 {}
 
-/// Power is lost in such a session into a member of a boot unit's pair. Then all premises of the
-/// law on gated sessions hold. One of them asks for nothing here: the former answer is no image in
-/// the window, since a target never runs. So the next normal boot decides as before, or it makes
-/// the start that it makes after the whole session, of an image with the same bytes.
+/// Suppose that power is lost in such a session into a member of a boot unit's pair. Then all
+/// premises of the law on gated sessions hold. One of them asks for nothing here: the former
+/// answer is no image in the window, since a target never runs. So the next normal boot decides as
+/// before, or it makes the start that it makes after the whole session, of an image with the same
+/// bytes.
 pub fn copied_cut()
     ensures session { (c : Content) (cpu : Cpu) (family : ℕ) (target : Target) (image : List ℕ)
         (d : Content) (e : Decision)
@@ -65,11 +66,11 @@ pub fn copied_cut()
         ⊎ StartsFinished (after_all c (copied_session c cpu family image)) d cpu }
 {}
 
-/// A normal boot starts the other member of the pair, both before such a session and after power
-/// was lost in it. Then the family's target is the same by the table that is there now. So the
-/// premises of a copied download hold again, and those on the pair. A download of the same image
-/// that is then done whole ends with the image in the window. The same holds however often power
-/// was lost.
+/// Suppose that a normal boot starts the other member of the pair, both before such a session and
+/// after power was lost in it. Then the family's target is the same by the table that is there
+/// now. So the premises of a copied download hold again, and those on the pair. A download of the
+/// same image that is then done whole ends with the image in the window. The same holds however
+/// often power was lost.
 pub fn done_again()
     ensures target { (c : Content) (cpu : Cpu) (family : ℕ) (target : Target) (image : List ℕ)
         (choice : Choice) (d : Content)

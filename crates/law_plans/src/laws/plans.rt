@@ -64,10 +64,10 @@ pub fn the_session_of_a_plan()
     a_range_is_allowed_byte_by_byte();
 }
 
-/// An image is valid in a slot filled with 0xff after its end, and its load map stores nothing at
-/// or past its end. After its plan no block stands there that begins in the first sector and ends
-/// past the image's last sector. Then the image is valid there after its plan too. An image of
-/// more than a sector leaves no such block.
+/// Suppose that an image is valid in a slot filled with 0xff after its end, and that its load map
+/// stores nothing at or past its end. Suppose also that after its plan no block stands there that
+/// begins in the first sector and ends past the image's last sector. Then the image is valid there
+/// after its plan too. An image of more than a sector leaves no such block.
 pub fn a_planned_image_is_valid()
     ensures valid { (c : Content) (cpu by : Cpu) (w : Window) (image : List ℕ)
         (es : List EventView) (trial : Bool) (s : Started)

@@ -21,9 +21,10 @@ ghost use Rattle.image_pack.specs.Sealing.{sealed_text};
 ghost use Rattle.image_pack.specs.Unsealable.{KeepsRules};
 ghost use Rattle.law_plans.specs.Written.{HasNoLowBlockPast, plan_steps, planned};
 
-/// An image is valid in a window with 0xff from an offset on, and its load map stores nothing at
-/// or past that offset. Another window has the same bytes before the offset, and no block begins
-/// in its first sector and ends past the offset. Then the image is valid in that window too.
+/// Suppose that an image is valid in a window with 0xff from an offset on, and that its load map
+/// stores nothing at or past that offset. Let another window have the same bytes before the
+/// offset, and no block that begins in its first sector and ends past the offset. Then the image
+/// is valid in that window too.
 pub fn what_stands_behind_an_image()
     ensures { (one two : List ℕ) (n : ℕ) (w : Window) (cpu : Cpu) (trial : Bool) (otp : List ℕ)
         (s : Started) (v : IsValidImage in_flash w cpu trial otp one s)
@@ -53,10 +54,10 @@ pub fn the_steps_of_a_plan_write_the_image()
         → length (planned image old) ≡ length old }
 {}
 
-/// An image is valid in a window filled with 0xff after its end, and its load map stores nothing
-/// at or past its end. In the bytes that a plan leaves of it there no block stands that begins in
-/// the first sector and ends past the image's last sector. Then the image is valid in these bytes.
-/// An image of more than a sector leaves no such block.
+/// Suppose that an image is valid in a window filled with 0xff after its end, and that its load
+/// map stores nothing at or past its end. Suppose also that in the bytes that a plan leaves of it
+/// there no block begins in the first sector and ends past the image's last sector. Then the image
+/// is valid in these bytes. An image of more than a sector leaves no such block.
 pub fn a_planned_image_stays_valid()
     ensures valid { (w : Window) (cpu : Cpu) (trial : Bool) (otp image old : List ℕ) (s : Started)
         (v : IsValidImage in_flash w cpu trial otp (padded w.len image) s)
@@ -68,11 +69,12 @@ pub fn a_planned_image_stays_valid()
         → HasNoLowBlockPast (round_up 4096 (length image)) (planned image old) }
 {}
 
-/// A sealed image has its binary's own loads stored in the binary. In the bytes that a plan leaves
-/// of it no block stands that begins in the first sector and ends past the image's last sector.
-/// Then the image is valid in these bytes, with trial images allowed, for every OTP that meets the
-/// spec's rollback rule. The image stores nothing past its end then. The sealed image of a binary
-/// of at least a sector is longer than a sector, so it leaves no such block.
+/// Suppose that the own loads of a sealed image's binary are stored in the binary. Suppose also
+/// that in the bytes that a plan leaves of the image no block begins in the first sector and ends
+/// past the image's last sector. Then the image is valid in these bytes, with trial images
+/// allowed, for every OTP that meets the spec's rollback rule. The image stores nothing past its
+/// end then. The sealed image of a binary of at least a sector is longer than a sector, so it
+/// leaves no such block.
 pub fn a_planned_sealed_image_is_valid()
     ensures valid { (binary : List ℕ) (spec : SealSpec) (sealed : IsSealed binary spec)
         (own : KeepsRules spec.cpu (whole_sectors binary)) (w : Window) (otp old : List ℕ)

@@ -128,9 +128,9 @@ pub fn partitions_are_read_back()
         → partitions_in (length parts) (flat_map written_partition parts) ≡ Some parts }
 {}
 
-/// The words, ids, families and names of a table are in their ranges. Then the bytes that are
-/// written for it are a block. The block stands at their front, whatever follows them. In each
-/// flash for which the table has no fault, the block is read as the same table; in each other
+/// Suppose that the words, ids, families and names of a table are in their ranges. Then the bytes
+/// that are written for it are a block. The block stands at their front, whatever follows them. In
+/// each flash for which the table has no fault, the block is read as the same table; in each other
 /// flash it is read to the first fault. For each table, in its ranges or not, as many bytes are
 /// written as its written size says.
 pub fn tables_are_read_back()

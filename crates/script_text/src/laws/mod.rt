@@ -42,8 +42,9 @@ pub fn the_text_form_is_read_back()
         → events script ≡ Ok es → IsWithinLimits es → text_events (listed es) ≡ Ok es }
 {}
 
-/// A text has only record lines, each with its line feed; the last and no other is the end; and
-/// the text has no fault. Then the text of its events is that text with its comments put in.
+/// Suppose that a text has only record lines, each with its line feed; that the last and no other
+/// is the end; and that the text has no fault. Then the text of its events is that text with its
+/// comments put in.
 pub fn comments_are_put_in()
     ensures { (lines : List (List ℕ)) (es : List EventView) → AllByRecursion IsRecordLine lines
         → text_events (spelled lines) ≡ Ok es → listed es ≡ with_comments 0 lines es }

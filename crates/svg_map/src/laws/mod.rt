@@ -29,8 +29,8 @@ pub fn each_window_has_its_marks()
     ensures joins { (bars : List MapBarView) → length (counted_in_map Join bars) ≡ length bars }
 {}
 
-/// What is said of windows, and what the picture shows, have bytes from the blank to the tilde
-/// alone. Then the picture has only such bytes and line feeds.
+/// Suppose that what is said of windows, and what the picture shows, have bytes from the blank to
+/// the tilde alone. Then the picture has only such bytes and line feeds.
 pub fn pictures_of_texts_are_ascii()
     ensures { (flash : ℕ) (bars : List MapBarView) (desc : List ℕ) → is_printed_text desc ≡ true
         → is_printed_text (flat_map (λ (bar : MapBarView). bar.words) bars) ≡ true

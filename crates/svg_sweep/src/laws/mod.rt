@@ -36,8 +36,8 @@ pub fn marks_are_those_of_the_data()
         ≡ length (counted_in_chart class chart) }
 {}
 
-/// The words on what a picture shows have bytes from the blank to the tilde alone. Then the
-/// picture has only such bytes and line feeds.
+/// Suppose that the words on what a picture shows have bytes from the blank to the tilde alone.
+/// Then the picture has only such bytes and line feeds.
 pub fn pictures_are_ascii()
     ensures { (chart : Chart) (desc : List ℕ) → is_printed_text desc ≡ true
         → list_all is_written (picture_text (picture_of chart desc)) ≡ true }
