@@ -30,8 +30,7 @@ fn is_same_number(one: Option<u16>, two: Option<u16>) -> bool
 fn is_same_place(one: &Started, two: &Started) -> bool
     ensures { result ≡ is_same_place one.now two.now }
 {
-    one.window.is_same(two.window)
-        && (one.block == two.block && one.image_at == two.image_at)
+    one.window.is_same(two.window) && (one.block == two.block && one.image_at == two.image_at)
 }
 
 /// Whether the images start at the same place.
