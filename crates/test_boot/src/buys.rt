@@ -34,8 +34,8 @@ const SECOND: Window = Window {
     len: 8192,
 };
 
-/// Does a buy of the trial image in B, started in its update, and answers how many steps that took,
-/// what B's image is then, and whether A still has one.
+/// Does a buy of the trial image in B, started in its update. The answer is how many steps that
+/// took, whether B has a plain image then, and whether A still has one.
 fn bought(rt: &impl Abort, alloc: Global, first: &[u32]) -> Result<(u64, bool, bool), Fail> {
     let mut board = board_of(alloc, flash_of(alloc, first, &TRIAL_1_1)?)?;
     let mut pool = SectorPool::make(alloc, 2)?;

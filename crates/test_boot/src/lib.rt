@@ -1,6 +1,6 @@
-//! Tests of boards, stores and sinks in memory, of the sector pool and rollback rows, of the
-//! choice of an image and a buy, of the machine and of the sweep: that their calls answer what was
-//! worked out by hand, with ample memory.
+//! Tests of boards, stores and sinks in memory, of the sector pool and rollback rows. Others are of
+//! the choice of an image, a buy, the machine and the sweep. With ample memory the calls answer
+//! what was worked out by hand.
 #![tactic(auto)]
 
 #[cfg(test)]

@@ -79,8 +79,8 @@ pub(crate) const WITH_DATA: (&[(usize, &[u32])], usize) = (
     262_144,
 );
 
-/// OTP files by their length and the byte at 0x154, the row of the slot size: no row; a slot size
-/// of 5; three bytes; and one row too many.
+/// OTP files by their length and the byte at 0x154, where the row of the slot size lies. They have
+/// no row, a slot size of 5, three bytes, and one row too many.
 pub(crate) const NO_ROW: (usize, u8) = (0, 0);
 
 pub(crate) const SLOT_SIZE: (usize, u8) = (0x158, 5);

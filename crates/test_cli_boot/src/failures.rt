@@ -32,8 +32,8 @@ const COMMANDS: [(&[&str], u64, u64); 22] = [
     (&["gen", "7"], 0, 0),
 ];
 
-/// A store of a flash, an OTP, a script, an image, an ELF file, a spec, a table, a UF2 file, a
-/// text and what is told of an OTP, whose listed read and write fail.
+/// A store with an input of each form, of which the listed read and the listed write fail: a flash,
+/// an OTP, a script, an image, an ELF file, and texts.
 fn store(alloc: Global, bad_read: u64, bad_write: u64) -> Result<MemStore, Fail> {
     let parts: [(usize, &[u32]); 3] = [(0, &PAIR), (0x2000, &VECTORS), (0x2100, &ARM_1_0)];
     let image: [(usize, &[u32]); 2] = [(0, &VECTORS), (0x100, &ARM_1_0)];
@@ -69,8 +69,8 @@ fn store(alloc: Global, bad_read: u64, bad_write: u64) -> Result<MemStore, Fail>
     Ok(MemStore::make(alloc, files, bad_reads, vec![in alloc; bad_write]?))
 }
 
-/// How a run ends whose read, write and put of these numbers fail, which of its two files stand,
-/// and whether it has put a byte.
+/// How a run ends of which the read, the write and the put of these numbers fail. Behind the
+/// status: which of its two files stand, and whether it has put a byte.
 fn ended(
     alloc: Global,
     texts: &[&str],

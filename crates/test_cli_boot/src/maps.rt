@@ -5,8 +5,8 @@ use pico_board::{MemSink, MemStore};
 use std::test::Fail;
 use test_fixtures::{ARM_1_9, ARM_1_10, PAIR, VECTORS, flash, words};
 
-/// A flash of 256 KiB: a table in slot 0, a pair of partitions with an image in each, of which a
-/// normal boot starts that of the greater version, and two free sectors behind them.
+/// A flash of 256 KiB: a table in slot 0, a pair of partitions with an image in each, and two free
+/// sectors behind them. A normal boot starts the image of the greater version.
 const PARTS: [(usize, &[u32]); 5] = [
     (0, &PAIR),
     (0x2000, &VECTORS),

@@ -21,8 +21,8 @@ const fn erase(at: u8) -> [u8; 37] {
 const START: &str = "start window=0x00000000+0x00002000 block=0x00000100 pc=0x10000201 \
     sp=0x20082000 limit=0x00000000 version=1.0 rollback=none trial=no";
 
-/// How a command ends on a flash of two sectors without a table and this script behind the entry of
-/// BOOTSEL, with what it puts. The image has no digest, and a word of it stands in the second sector.
+/// How a command ends on a flash of two sectors without a table, with what it puts. The script does
+/// these events in BOOTSEL. The image has no digest, and a word of it is in the second sector.
 fn ended(alloc: Global, command: &str, events: &[u8]) -> Result<(Status, MemSink), Fail> {
     let parts: [(usize, &[u32]); 3] = [(0, &VECTORS), (0x100, &ARM_1_0), (0x1000, &[0x600d_da7a])];
     let mut script = Vec::from_slice(alloc, &ENTRY)?;

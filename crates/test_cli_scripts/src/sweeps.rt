@@ -6,9 +6,9 @@ use std::alloc::Global;
 use std::test::Fail;
 use test_fixtures::{ARM_1_0, PAIR, SEALED, VECTORS, flash, words};
 
-/// A flash whose pair has an image of version 1.0 in A, an OTP of zeros, a sealed image of version
-/// 1.9, which is two pages long, and two patterns: one that leaves a program done, and one that
-/// leaves one bit of each fourth byte as it was.
+/// A flash whose pair has an image of version 1.0 in A, an OTP of zeros, and a sealed image of
+/// version 1.9 and of two pages. One pattern leaves a program done. The other leaves one bit of
+/// each fourth byte as it was.
 fn store(alloc: Global) -> Result<MemStore, Fail> {
     let parts: [(usize, &[u32]); 3] = [(0, &PAIR), (0x2000, &VECTORS), (0x2100, &ARM_1_0)];
     let files = vec![in alloc;

@@ -6,8 +6,8 @@ use std::alloc::Global;
 use std::test::Fail;
 use test_fixtures::{SEALED, VECTORS, elf_file, flash, words};
 
-/// A byte that is changed in the file and its new value, the text of a spec, and the status and the
-/// text that they give.
+/// A byte that is changed in the file, its new value, and the text of a spec. Behind them: the
+/// status and the text that they give.
 type Case = ((usize, u8), &'static str, Status, &'static str);
 
 /// A spec of version 1.9.

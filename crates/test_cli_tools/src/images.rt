@@ -11,8 +11,8 @@ use test_fixtures::{ARM, SEALED, VECTORS, flash, words};
 /// A spec of version 1.9.
 const SPEC: &str = "{\"processor\":\"arm\",\"version\":[1,9]}";
 
-/// A block that a relinked word makes whole: what stands at 0x10c is the least block, whose link
-/// word is the header of an item of the block at 0x100.
+/// A block that a relinked word makes whole. At 0x10c stands the least block; its link word is the
+/// header of an item of the block at 0x100.
 const HIDING: [u32; 11] = [
     0xffff_ded3,
     0x1021_0142,

@@ -1,7 +1,6 @@
-//! Tests of the program's top call: of the commands that make tables, UF2 files, plans and
-//! flashes, and of those that seal images. They show what no clause says: that each status comes
-//! with ample memory, and texts, words and digests that were worked out by hand or by another
-//! program.
+//! Tests of the program's top call: of the commands that make tables, UF2 files, plans and flashes,
+//! and of those that seal images. They show what no clause says: that each status comes with ample
+//! memory. Texts, words and digests were worked out by hand or by another program.
 #![tactic(auto)]
 
 #[cfg(test)]

@@ -29,9 +29,9 @@ enum Flash {
     Empty,
 }
 
-/// The words, the flash, the length of the OTP file, the length of an image of zeros or none for
-/// the sealed one, the status, the text, and the digest of the file `a`, or none where it is not
-/// compared.
+/// The words, the flash, the length of the OTP file, and the length of an image of zeros, or none
+/// for the sealed one. Behind them: the status, the text, and the digest of the file `a`, or none
+/// where it is not compared.
 type Case = (
     &'static [&'static str],
     Flash,

@@ -11,8 +11,9 @@ const OTP: &str = "otp rollback-required=no flash-off=no slot-size=0x00001000";
 
 const NO_BLOCK: &str = "slot 1 fault=no-block";
 
-/// The tables of `PAIR` with one part changed: fewer partitions than words, a second permission
-/// field of B, A's first sector, B's first sector, and the partition that B is linked to.
+/// The tables of `PAIR` with one part changed. The first has fewer partitions than words, and the
+/// second other permissions of B. The others change the first sector of A, that of B, and the
+/// partition that B is linked to.
 const FEWER: [u32; 10] = [
     0xffff_ded3,
     0x0100_060a,
@@ -106,9 +107,8 @@ const WRONG_HASH: [u32; 21] = [
 /// A block without a table whose link leads to no block.
 const OPEN: [u32; 5] = [0xffff_ded3, 0x1021_0142, 0x0000_01ff, 8, 0xab12_3579];
 
-/// Each fault of a slot, in slot 0.
-/// Compares the explanation of a flash whose first slot has no table for this reason, and of which
-/// the whole holds no image for this one.
+/// Compares the explanation of a flash whose slot 0 has no table, for the first of these reasons.
+/// The whole flash holds no image, for the second one.
 fn compare_fault(
     rt: &impl Abort,
     alloc: Global,

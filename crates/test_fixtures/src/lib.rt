@@ -100,8 +100,8 @@ pub const OWNED: [u32; 14] = [
     0xab12_3579,
 ];
 
-/// The least block of an executable for the Arm cores, linked to the block behind it, and that
-/// block, which makes a sealed image of version 1.9.
+/// The least block of an executable for the Arm cores, linked to the block behind it. That block
+/// makes a sealed image of version 1.9.
 pub const SEALED: [u32; 27] = [
     0xffff_ded3,
     0x1021_0142,
@@ -132,8 +132,8 @@ pub const SEALED: [u32; 27] = [
     0xab12_3579,
 ];
 
-/// The header of an executable ELF file for the Arm cores with one program header behind it: a
-/// segment of 0x128 bytes at 84 of the file, for the physical address 0x10000000.
+/// The header of an executable ELF file for the Arm cores, with one program header behind it. Its
+/// segment has 0x128 bytes at 84 of the file, for the physical address 0x10000000.
 const ELF_HEAD: [u32; 21] = [
     0x464c_457f,
     0x0001_0101,

@@ -1,6 +1,5 @@
-//! Tests of the calls that read and write what a host sends, through the public calls alone, with
-//! ample memory and with bytes that were worked out by hand or by another program. They stand apart
-//! from the crates that they test.
+//! Tests of the public calls that read and write what a host sends. Memory is ample, and the bytes
+//! were worked out by hand or by another program. They stand apart from the crates that they test.
 #![tactic(auto)]
 
 #[cfg(test)]

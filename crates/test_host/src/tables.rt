@@ -10,8 +10,8 @@ use part_table::{Partition, Table, has_table, read_table, write_table};
 use std::alloc::{AllocError, Global};
 use std::test::Fail;
 
-/// The words of the block of a pair's table, sectors 2 to 31 and 32 to 61, with its version 0.0,
-/// its number of hashed words and their SHA-256.
+/// The words of the block of a pair's table, with the sectors 2 to 31 and 32 to 61. It has version
+/// 0.0, its number of hashed words, and their SHA-256.
 const PAIR: [u32; 23] = [
     0xffffded3, 0x0200060a, 0xfc008000, 0xfc03e002, 0xfc020000, 0xfc07a020, 0xfc020002, 0x00000248,
     0, 0x01000247, 11, 0x0000094b, 0xa3e4cc17, 0x575b5c0a, 0xb635cc2f, 0xb84edf57, 0x3084ded1,

@@ -56,8 +56,8 @@ fn put_head(
     file.resize(52, 0)
 }
 
-/// A file for this machine with this entry, these program headers of a type, an offset, a physical
-/// address and a size each, and these bytes behind them.
+/// A file for this machine with this entry, these program headers, and these bytes behind them.
+/// Each header has a type, an offset, a physical address and a size.
 fn file(
     alloc: Global,
     machine: u16,

@@ -1,6 +1,6 @@
-//! Tests of blocks, definitions, load maps and the check of an image, of the calls that make
-//! images, tables and sealed images, and of those that write and start an image in RAM: that they
-//! answer what was worked out by hand, with ample memory. The digests are those of files that were
+//! Tests of blocks, definitions, load maps and the check of an image. Others are of the calls that
+//! make images, tables and sealed images, and of those that write and start an image in RAM. With
+//! ample memory they answer what was worked out by hand. The digests are those of files that were
 //! made outside this program.
 #![tactic(auto)]
 

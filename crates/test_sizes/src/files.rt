@@ -7,8 +7,8 @@ use std::alloc::Global;
 use std::test::Fail;
 use test_fixtures::{ARM, VECTORS, flash};
 
-/// The header of an executable ELF file for the Arm cores with one program header behind it: a
-/// segment of 3 MiB at 84 of the file, for the physical address 0x10000000.
+/// The header of an executable ELF file for the Arm cores, with one program header behind it. Its
+/// segment has 3 MiB at 84 of the file, for the physical address 0x10000000.
 const HEAD: [u32; 21] = [
     0x464c_457f,
     0x0001_0101,

@@ -26,8 +26,8 @@ const WIDE_PAIR: [u32; 10] = [
     0xab12_3579,
 ];
 
-/// A flash whose pair has an image of version 1.0 in A, an OTP of zeros, a sealed image of version
-/// 1.9, and a pattern that leaves a program done.
+/// A flash whose pair has an image of version 1.0 in A, an OTP of zeros, and a sealed image of
+/// version 1.9. The pattern leaves a program done.
 pub(crate) fn store(alloc: Global) -> Result<MemStore, Fail> {
     let parts: [(usize, &[u32]); 3] = [(0, &WIDE_PAIR), (0x2000, &VECTORS), (0x2100, &ARM_1_0)];
     let image: [(usize, &[u32]); 2] = [(0, &VECTORS), (0x114, &SEALED)];

@@ -1,6 +1,6 @@
-//! Tests of the program's top call on sizes between the small and the greatest: a flash of 4 MiB,
-//! an update of more than a thousand steps, files of some MiB. They show what no clause says, that
-//! memory is found for them; texts were worked out by hand.
+//! Tests of the program's top call on sizes between the small and the greatest. There are a flash
+//! of 4 MiB, an update of more than a thousand steps, and files of some MiB. They show what no
+//! clause says, that memory is found for them; texts were worked out by hand.
 #![tactic(auto)]
 
 #[cfg(test)]
