@@ -1,6 +1,6 @@
 //! Worked sessions, proved by computing: each is the `ensures` of a function that does nothing.
 
-ghost use Rattle.std.specs.Prelude.{◌≡◌, ◌++◌, [], ◌∷◌, true};
+ghost use Rattle.std.specs.Prelude.{◌≡◌, ◌≤◌, ◌++◌, [], ◌∷◌, List, length, true};
 ghost use Rattle.boot_rules.specs.AccidentalImages.{HasNoAccidentalImage};
 ghost use Rattle.boot_rules.specs.Chosen.{Chosen};
 ghost use Rattle.worked_flashes.specs.Flashes.{arm_member, arm_slot, bare, bare_slot, tables_content};
@@ -11,11 +11,13 @@ ghost use Rattle.worked_flashes.specs.Choices.{former_start, small_finished, sma
 ghost use Rattle.worked_flashes.specs.Writes.{longer_steps, mapped_steps, plain_steps, slot};
 ghost use Rattle.boot_session.specs.Examples.{update_block};
 ghost use Rattle.boot_session.specs.CutSessions.{CutSession, StartsFinished};
+ghost use Rattle.boot_session.specs.Recordings.{kept_steps, step_limit};
 ghost use Rattle.boot_session.specs.Sessions.{IsSlotOf, session};
 ghost use Rattle.image_check.specs.SameImage.{SameImage};
 ghost use Rattle.script_plan.specs.Plans.{plan_events};
 ghost use Rattle.pico_board.specs.Sessions.{Unfinished};
 ghost use Rattle.pico_board.specs.Steps.{after_all};
+ghost use Rattle.pico_board.specs.declared.Step.{Step};
 ghost use Rattle.pico_board.specs.declared.Step.TheVariants.{Erase};
 ghost use Rattle.pico_board.specs.declared.boot.BootKind.TheVariants.{Normal};
 ghost use Rattle.pico_board.specs.declared.boot.Cpu.TheVariants.{Arm};
@@ -107,4 +109,10 @@ pub fn slots_of_contents()
         (window_at 0 0x2000) }
     ensures tableless_whole { IsSlotOf (tables_content 1 (arm_slot 0x10009) bare_slot) Arm
         (window_at 0 0x6000) → ⊥ }
+{}
+
+/// A session is kept whole up to 262,144 steps, the most that are swept.
+pub fn the_most_steps()
+    ensures limit { step_limit ≡ 262144 }
+    ensures whole { (steps : List Step) → length steps ≤ 262144 → kept_steps steps ≡ steps }
 {}
