@@ -2,11 +2,16 @@
 use Rattle.std.specs.Prelude.{ℕ, ◌*◌, ◌+◌, ◌==◌, Bool, false, true, if◌then◌else◌, pos, List, [], ◌∷◌, ◌++◌, replicate, Option, None, Some, Err}
 use Rattle.pico_board.specs.declared.window.Window.{Window}
 use Rattle.block_codec.specs.Blocks.{BlockView}
+use Rattle.block_codec.specs.Words.{bytes_of}
+use Rattle.load_map.specs.declared.load.Load.{Load}
 use Rattle.sector_pool.specs.Pool.{Pool, erased}
 use Rattle.part_table.specs.declared.target.Target.{Target}
 use Rattle.slot_choice.specs.declared.unit.SlotUnit.{SlotUnit}
 use Rattle.slot_choice.specs.Examples.{the_pair, window_at, pair_unit}
+use Rattle.image_def.specs.Definition.{no_version}
 use Rattle.image_def.specs.declared.started.Started.{Started}
+use Rattle.image_check.specs.declared.examining.Defined.{Defined}
+use Rattle.image_check.specs.Examples.{map_of}
 use Rattle.image_check.specs.declared.why.Why.TheVariants.{NoBlock}
 use Rattle.boot_rules.specs.Changes.{Images}
 use Rattle.boot_reasons.specs.declared.looks.UnitReport.{UnitReport}
@@ -21,9 +26,9 @@ use Rattle.pico_board.specs.Content.{Content}
 use Rattle.pico_board.specs.Steps.{after}
 use Rattle.trial_buy.specs.Buying.{cleared_sector, page_program, trial_place}
 use Rattle.boot_machine.specs.Machines.{FromFlash, MachineView, Off, Running}
-use Rattle.worked_flashes.specs.Flashes.{framed, region, rows_with, whole_flash_of}
+use Rattle.worked_flashes.specs.Flashes.{framed, region, whole_flash_of}
 use Rattle.worked_flashes.specs.Choices.{running_trial, to}
-use Rattle.worked_flashes.specs.Images.{arm_type, in_b, trial_type, window_with}
+use Rattle.worked_flashes.specs.Images.{arm_type, hash_of_four, in_b, plain_image, stored_digest, trial_type, window_with}
 use Rattle.worked_flashes.specs.Writes.{slot}
 
 -- a block of a download of two, of rp2350-arm-s, with a page of zeros
@@ -111,12 +116,43 @@ no_download = record { current = None; marks = record { numbers = []; sectors = 
 abbrev pub swept_slot : Slot
 swept_slot = record { window = slot; has_table = true }
 
--- a flash of two sectors with a trial image, and the same with another row of boot flags
+-- a flash of two sectors with a trial image
 abbrev pub trial_flash : Content
 trial_flash = whole_flash_of (region 0x1000 (0x20082000 ∷ 0x20000001 ∷ framed (trial_type ∷ []) 0))
 
-abbrev pub flagged_flash : Content
-flagged_flash = record { flash = trial_flash.flash; otp = rows_with 1 0 }
+-- the items of an image that loads the eight bytes of its vector table, and has their digest where
+-- the PC is 0x20000001
+abbrev pub digested_items : List ℕ
+digested_items = arm_type ∷ (map_of 0xfffffff0 0x10000000 8 ++ hash_of_four stored_digest)
+
+-- a flash of two sectors with those items behind a vector table with this PC
+abbrev pub digested_flash : ℕ → Content
+digested_flash pc = whole_flash_of (region 0x1000 (0x20082000 ∷ pc ∷ framed digested_items 0))
+
+-- the image as it starts, its definition, and what it loads
+abbrev pub digested_image : Started
+digested_image = plain_image (window_at 0 0x2000) 0x20000001 false
+
+abbrev pub digested_definition : Defined
+digested_definition = record {
+  block = record { at = 8; items = digested_items; link = pos 0 };
+  def = record {
+    flags = 0x1021;
+    image_word = 1;
+    vector = None;
+    entry_point = None;
+    delta = pos 0;
+    map_item = Some 1;
+    hash_words = 4;
+    digest = Some (bytes_of stored_digest);
+    version = no_version;
+    rollback = None;
+    rows = record { items = [] };
+  };
+}
+
+abbrev pub vector_load : Load
+vector_load = record { storage = Some 0; runtime = 0x10000000; size = 8 }
 
 -- the machine that runs the trial image, on a board that tells that no cut is armed
 abbrev pub trial_machine : MachineView

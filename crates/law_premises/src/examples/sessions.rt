@@ -1,12 +1,13 @@
 //! Premises on sessions in which power is lost.
 
-ghost use Rattle.std.specs.Prelude.{◌∷◌, []};
+ghost use Rattle.std.specs.Prelude.{◌≢◌, ◌∷◌, []};
 ghost use Rattle.boot_rules.specs.declared.decision.Decision.TheVariants.{Start};
 ghost use Rattle.boot_script.specs.Events.{EventView};
 ghost use Rattle.boot_session.specs.CutSessions.{ConfinedSession, IsInNoUnit, StartsOutside};
 ghost use Rattle.boot_sweep.specs.Verdicts.{IsBeside};
 ghost use Rattle.boot_plays.specs.Plays.{powerless};
-ghost use Rattle.boot_sweep.specs.Firms.{HasOwnDigests};
+ghost use Rattle.boot_sweep.specs.Firms.{HasOwnDigests, covered_by};
+ghost use Rattle.image_check.specs.SameImage.{HoldsImage};
 ghost use Rattle.law_buy_cuts.specs.Running.{LosesBuy, RunsTrial};
 ghost use Rattle.law_boot_cuts.specs.Examples.{whole_unit};
 ghost use Rattle.worked_flashes.specs.Choices.{running_trial};
@@ -14,11 +15,12 @@ ghost use Rattle.boot_session.specs.Examples.{update_block};
 ghost use Rattle.boot_session.specs.Sessions.{StaysIn, entered_host};
 ghost use Rattle.picoboot_cmd.specs.Commands.{written_command};
 ghost use Rattle.picoboot_cmd.specs.Examples.{erase_command};
+ghost use Rattle.pico_board.specs.Content.{window_bytes};
 ghost use Rattle.pico_board.specs.declared.boot.Cpu.TheVariants.{Arm};
 ghost use Rattle.worked_flashes.specs.Choices.{former_start};
 ghost use Rattle.worked_flashes.specs.Flashes.{bare, bare_owner, begins_with, beside_former, owned_content, vector_page};
 ghost use Rattle.worked_flashes.specs.Writes.{plain_steps, slot};
-ghost use Rattle.law_premises.specs.Examples.{armed_machine, first_program, flagged_flash, lost_machine, owned_second, swept_slot, trial_flash, trial_machine};
+ghost use Rattle.law_premises.specs.Examples.{armed_machine, digested_flash, digested_image, first_program, lost_machine, owned_second, swept_slot, trial_flash, trial_machine};
 
 use boot_plays::laws::{told_moves_are_determined, told_plays_are_determined};
 use boot_session::examples::session::a_cut_between_two_pages;
@@ -54,11 +56,19 @@ pub fn a_content_beside_another()
     a_confined_session();
 }
 
-/// Two contents that differ in the rows alone: what an image of the window covers is the same in
-/// both.
-pub fn contents_that_differ_in_the_rows()
-    ensures { HasOwnDigests trial_flash flagged_flash running_trial.image.window Arm
-        running_trial.image }
+/// Two contents that differ in what the image of the window covers: the load map stores its vector
+/// table, which has another PC in the second. The digests differ too.
+pub fn contents_that_differ_in_what_is_covered()
+    ensures held { HoldsImage Arm (window_bytes (digested_flash 0x20000001) digested_image.window)
+        digested_image }
+    ensures differ { (held : HoldsImage Arm
+        (window_bytes (digested_flash 0x20000001) digested_image.window) digested_image)
+        → covered_by (window_bytes (digested_flash 0x20000005) digested_image.window)
+        held.image held.sound.loads
+        ≢ covered_by (window_bytes (digested_flash 0x20000001) digested_image.window)
+        held.image held.sound.loads }
+    ensures own { HasOwnDigests (digested_flash 0x20000001) (digested_flash 0x20000005)
+        digested_image.window Arm digested_image }
 {}
 
 /// Power comes back to a flash with a trial image alone, which a normal boot passes over. Then a
