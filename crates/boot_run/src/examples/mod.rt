@@ -5,7 +5,7 @@ ghost use Rattle.std.specs.Prelude.{◌≡◌, [], ◌∷◌, codes, Some, None}
 ghost use Rattle.pico_board.specs.declared.boot.Cpu.TheVariants.{Arm};
 ghost use Rattle.pico_board.specs.declared.boot.BootKind.TheVariants.{Normal};
 ghost use Rattle.cli_words.specs.Commands.{Table, OtpFile, Boot, Caveats, Info, OwnedData, Replay, Seal, Elf, Uf2, Plan, Load};
-ghost use Rattle.boot_run.specs.Commands.{Names, command_outcome, outcome_on};
+ghost use Rattle.boot_run.specs.Commands.{Names, NeedsBytes, command_outcome, outcome_on};
 ghost use Rattle.boot_run.specs.Examples.{no_start, sink_of};
 ghost use Rattle.cli_course.specs.Outcomes.{refused, unread, not_understood};
 ghost use Rattle.cli_course.specs.declared.status.Status.{Status};
@@ -61,6 +61,22 @@ pub fn refusals_of_images()
         ((0 ∷ []) ∷ (0 ∷ []) ∷ [] ∷ []) ≡ refused (codes "o") (codes "otp-length") }
     ensures load { command_outcome (Load (codes "f") (codes "o") Arm (codes "i") (codes "a"))
         ((0 ∷ []) ∷ (0 ∷ []) ∷ [] ∷ []) ≡ refused (codes "o") (codes "otp-length") }
+{}
+
+/// A replay and the packing of an ELF file ask that each of their inputs is of bytes. A boot asks
+/// nothing.
+pub fn inputs_of_bytes()
+    ensures elf { NeedsBytes (Elf (codes "e") (codes "s") (codes "a"))
+        ((0 ∷ 255 ∷ []) ∷ codes "{}" ∷ []) }
+    ensures replay { NeedsBytes
+        (Replay (codes "f") (codes "o") Arm (codes "s") (codes "a") (codes "b"))
+        ((255 ∷ []) ∷ [] ∷ (0 ∷ []) ∷ []) }
+    ensures past { ¬ (NeedsBytes (Elf (codes "e") (codes "s") (codes "a"))
+        ((0 ∷ 256 ∷ []) ∷ codes "{}" ∷ [])) }
+    ensures last { ¬ (NeedsBytes
+        (Replay (codes "f") (codes "o") Arm (codes "s") (codes "a") (codes "b"))
+        ((255 ∷ []) ∷ [] ∷ (256 ∷ []) ∷ [])) }
+    ensures any { NeedsBytes (Boot (codes "f") (codes "o") Arm Normal) ((256 ∷ []) ∷ [] ∷ []) }
 {}
 
 /// A run names a decision where it ends with the decision's status and puts its line. It does not
