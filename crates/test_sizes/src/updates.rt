@@ -1,6 +1,6 @@
 //! An update of 1,275 steps on a flash of 4 MiB: 75 erases, and 1,200 programs, the first sector
-//! last. The image is there once the second page of that sector is written, so up to and with the
-//! cut before it a boot decides as before, and from the cut within it on as after the whole update.
+//! last. The image is there once the second page of that sector is written. So a boot decides as
+//! before up to the cut before it. From the cut within it on it decides as after the whole update.
 
 use crate::fixture::{store, told};
 use boot_run::Status;
@@ -18,6 +18,12 @@ const FIRST: [u8; 37] = [
 const OTHERS: [u8; 37] = [
     1, 0x0b, 0xd1, 0x1f, 0x43, 1, 0, 0, 0, 3, 8, 0, 0, 0, 0, 0, 0, 0, 0x10, 0x20, 0x10, 0, 0xd0,
     0x1f, 0, 0, 0, 0, 0, 0, 0, 0, 0, 0, 0, 0, 0,
+];
+
+/// The record of a command that erases the first nine of these others.
+const NINE: [u8; 37] = [
+    1, 0x0b, 0xd1, 0x1f, 0x43, 1, 0, 0, 0, 3, 8, 0, 0, 0, 0, 0, 0, 0, 0x10, 0x20, 0x10, 0, 0x90, 0,
+    0, 0, 0, 0, 0, 0, 0, 0, 0, 0, 0, 0, 0,
 ];
 
 /// The store after a command that makes a script, and how the command ends.
@@ -85,14 +91,16 @@ fn an_update_of_a_thousand_steps_is_checked(rt: HostRuntime) -> Result<(), Fail>
     Ok(())
 }
 
+/// The session has 1 + 515 * 509 + 9 steps, which are 262,145.
 #[test]
 fn a_session_of_one_step_too_many_is_not_swept(rt: HostRuntime) -> Result<(), Fail> {
     let alloc = rt.alloc();
     let mut script = Vec::from_slice(alloc, &[4, 5, 2, 0, 0, 0, 0])?;
     script.extend_from_slice(&FIRST)?;
-    for _ in 0..516 {
+    for _ in 0..515 {
         script.extend_from_slice(&OTHERS)?;
     }
+    script.extend_from_slice(&NINE)?;
     script.push(0)?;
     let mut store = store(alloc)?;
     assert_eq!(rt; store.write("s", &script), Ok(()));
