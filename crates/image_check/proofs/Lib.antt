@@ -13,3 +13,4 @@ pub mod MapLemmas
 pub mod LongerLemmas
 pub mod ClearedLemmas
 pub mod HoldLemmas
+pub mod DigestLemmas

@@ -44,7 +44,7 @@ untried_image image = record { block = trial_cleared image.block; def = untried 
 abbrev pub place_of : Defined → ℕ
 place_of image = image.block.at + 4 * image.def.image_word
 
--- v has the bytes of w, but that the trial bit of the IMAGE_TYPE item at this offset is clear: the
+-- v has the bytes of w, but the trial bit of the IMAGE_TYPE item at this offset is clear. It is the
 -- topmost bit of the item's fourth byte
 pub record ClearsTrialBit (w v : List ℕ) (at : ℕ) : Type 0 where
   pub long : length v ≡ length w

@@ -31,9 +31,8 @@ pub record IsTabled (base : ℕ) (bytes : List ℕ) (loads : List Load) (table :
 abbrev pub table_address : ℕ → Def → ℕ
 table_address base def = unwrap_or def.vector base
 
--- where PC, SP and the limit come from: an ENTRY_POINT item gives them; otherwise Arm takes PC and
--- SP from the vector table; otherwise RISC-V starts at the window's first byte with SP at SRAM's
--- end
+-- where PC, SP and the limit come from. An ENTRY_POINT item gives them. Without one Arm takes PC
+-- and SP from the vector table, and RISC-V starts at the window's first byte with SP at SRAM's end
 abbrev pub IsSource : ℕ → List ℕ → Cpu → Def → List Load → Option EntryPoint → Source → Type 0
 IsSource base bytes cpu def loads (Some entry) source =
     source ≡ record { entry = entry; table = None }

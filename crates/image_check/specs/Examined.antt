@@ -38,13 +38,17 @@ examined_in a cpu trial otp bytes =
     and_then (defined_in cpu bytes) (λ image.
     and_then (admitted_in trial otp image.def) (λ u. loaded_in a cpu bytes image))
 
--- the record of a candidate, where the last two rules, on the digest and on the window's delta,
--- hold of it; or the answer of the first of them that fails
+-- the record of a candidate whose digest is right, or the answer of the rule on the window's delta
+abbrev pub record_in : Window → Candidate → Result Started Why
+record_in window c =
+    and_unless (delta_fault c.def.delta)
+    (Ok (started_of window (record { block = c.block; def = c.def }) c.entry))
+
+-- the record of a candidate of which the last two rules hold, those on the digest and on the
+-- window's delta; or the answer of the first of them that fails
 abbrev pub confirmed_in : Window → List ℕ → Candidate → Result Started Why
 confirmed_in window bytes c =
-    and_unless (digest_fault bytes c.block c.def c.loads.items c.def.digest)
-    (and_unless (delta_fault c.def.delta)
-    (Ok (started_of window (record { block = c.block; def = c.def }) c.entry)))
+    and_unless (digest_fault bytes c.block c.def c.loads.items c.def.digest) (record_in window c)
 
 -- an answer of the code, which keeps the loads in an `ArrayVec`, with the loads as a list
 abbrev pub map_answered : Result (ArrayVec Load) Why → Result (List Load) Why

@@ -1,13 +1,10 @@
--- Worked examples of entries and of the rollback rule.
-use Rattle.std.specs.Prelude.{ℕ, ◌+◌, ◌*◌, Bool, false, pos, List, [], ◌∷◌, ◌++◌, length, replicate, Option, Some, None}
+-- Worked examples of entries, of the rollback rule and of remembered digests.
+use Rattle.std.specs.Prelude.{ℕ, Bool, true, false, List, [], ◌∷◌, replicate, Some, None}
+use Rattle.pico_board.specs.declared.boot.Cpu.{Cpu}
 use Rattle.pico_board.specs.declared.window.Window.{Window}
 use Rattle.image_def.specs.declared.started.Started.{Started}
-use Rattle.block_codec.specs.declared.definition.Def.{Def}
 use Rattle.block_codec.specs.declared.definition.EntryPoint.{EntryPoint}
-use Rattle.block_codec.specs.declared.versions.Version.{Version}
-use Rattle.block_codec.specs.Blocks.{BlockView}
-use Rattle.block_codec.specs.Words.{bytes_of}
-use Rattle.image_def.specs.Definition.{no_version}
+use Rattle.image_check.specs.declared.digests.Digested.{Digested}
 use Rattle.image_check.specs.declared.entry.Source.{Source}
 use Rattle.worked_flashes.specs.Images.{version_at, image_record, plain_image}
 
@@ -22,8 +19,8 @@ tabled table pc = record { entry = entry_point_at pc; table = Some table }
 abbrev pub pointed : ℕ → Source
 pointed pc = record { entry = entry_point_at pc; table = None }
 
--- the bytes of a window of 64: a vector table whose PC has these bytes 0, 1 and 3, and behind it a
--- block of version 9.0 whose IMAGE_TYPE item has this fourth byte, 0x10 or, with the trial bit,
+-- the bytes of a window of 64: a vector table whose PC has these bytes 0, 1 and 3, and a block of
+-- version 9.0 behind it. Its IMAGE_TYPE item has this fourth byte, 0x10 or, with the trial bit,
 -- 0x90
 abbrev pub trial_window_bytes : ℕ → ℕ → ℕ → ℕ → List ℕ
 trial_window_bytes first second fourth high =
@@ -98,3 +95,15 @@ map_of_both =
 -- trial bit or not
 abbrev pub record_at : ℕ → Bool → Started
 record_at pc trial = plain_image window_at_two pc trial
+
+-- the window of the sector that begins here
+abbrev pub sector_at : ℕ → Window
+sector_at start = record { start = start; len = 4096 }
+
+-- the digest of that window's image is right, for this processor
+abbrev pub right_digest : ℕ → Cpu → Digested
+right_digest start cpu = record { window = sector_at start; cpu = cpu; right = true }
+
+-- the digest of that window's image is wrong, for this processor
+abbrev pub wrong_digest : ℕ → Cpu → Digested
+wrong_digest start cpu = record { window = sector_at start; cpu = cpu; right = false }

@@ -1,6 +1,6 @@
--- The image of a window, or the answer of the first rule that fails, as a function of the window's
--- bytes and of the OTP that judges rule by rule (RP2350 Datasheet, chapter 5, Bootrom; this
--- project's own where the datasheet is open).
+-- The image of a window, or the answer of the first rule that fails. A function of the window's
+-- bytes and of the OTP judges rule by rule (RP2350 Datasheet, chapter 5, Bootrom; this project's
+-- own where the datasheet is open).
 use Rattle.std.specs.Prelude.{ℕ, ◌+◌, ◌*◌, Bool, List, length, Ok, Result}
 use Rattle.pico_board.specs.declared.boot.Cpu.{Cpu}
 use Rattle.pico_board.specs.declared.window.Window.{Window}

@@ -11,4 +11,5 @@ pub mod WhyNot
 pub mod SameImage
 pub mod NotBelow
 pub mod Changes
+pub mod Digests
 pub mod Examples

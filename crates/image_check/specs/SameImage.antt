@@ -44,8 +44,8 @@ pub record HoldsImage (cpu : Cpu) (bytes : List ℕ) (s : Started) : Type 0 wher
   pub sound : IsSound in_flash cpu bytes image entry
   pub started : s ≡ started_of s.window image entry
 
--- the first of two windows with these bytes holds the image s, and the second one has the same
--- bytes in each block of its loop and in the storage of its load map, or everywhere where it has no
+-- the first of two windows with these bytes holds the image s. The second one has the same bytes in
+-- each block of the image's loop, and in the storage of its load map, or everywhere where it has no
 -- map
 pub record HoldSameImage (cpu : Cpu) (one two : List ℕ) (s : Started) : Type 0 where
   pub held : HoldsImage cpu one s

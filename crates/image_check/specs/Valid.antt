@@ -33,7 +33,7 @@ pub record IsLastWith {X : Type 0} (passes : X → Bool) (xs : List X) (x : X) :
   pub here : passes x ≡ true
   pub later : AllByRecursion (λ y. passes y ≡ false) behind
 
--- the rules first block, loop, definition, processor and items hold: the window's loop closes, its
+-- the rules first block, loop, definition, processor and items hold. The window's loop closes, its
 -- last block that suits the processor is the definition, and that is read without a fault
 pub record IsDefined (cpu : Cpu) (bytes : List ℕ) (loop : List BlockView)
     (image : Defined) : Type 0 where
@@ -86,8 +86,8 @@ pub record IsValidImage (a : Addressing) (window : Window) (cpu : Cpu) (trial : 
 abbrev pub Valid : Content → Window → Cpu → Bool → Started → Type 0
 Valid c window cpu trial s = IsValidImage in_flash window cpu trial c.otp (window_bytes c window) s
 
--- a record says what the image's definition and entry say: where the definition stands, where its
--- IMAGE_TYPE item does, PC, SP and limit, version, rollback version and rows, and the trial bit
+-- a record says what the image's definition and entry say: where the definition and its IMAGE_TYPE
+-- item stand; PC, SP and limit; version, rollback version and rows; and the trial bit
 pub record IsRecordOfImage (a : Addressing) (window : Window) (cpu : Cpu) (bytes : List ℕ)
     (s : Started) : Type 0 where
   pub loop : List BlockView

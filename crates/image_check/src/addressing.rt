@@ -2,7 +2,7 @@
 
 use pico_board::FLASH_BASE;
 
-/// The address at which the first byte of an image's window is seen, and whether the image must use
+/// How an image's window is seen: the address of its first byte, and whether the image must use
 /// each load map entry where it is stored.
 #[derive(Clone, Copy, Debug, PartialEq, Eq)]
 pub struct Addressing {

@@ -7,7 +7,7 @@ ghost use Rattle.image_def.specs.Guarantees.{IsDefinition};
 ghost use Rattle.image_def.specs.declared.started.Started.{Started};
 ghost use Rattle.load_map.specs.Stored.{AreStoredIn};
 ghost use Rattle.image_check.specs.Addressing.{in_flash};
-ghost use Rattle.image_check.specs.Examined.{confirmed_in};
+ghost use Rattle.image_check.specs.Examined.{confirmed_in, record_in};
 ghost use Rattle.image_check.specs.Image.{image_at, image_in, started_of};
 ghost use Rattle.image_check.specs.Rules.{delta_fault, digest_fault};
 ghost use Rattle.image_check.specs.SameImage.{HoldsImage};
@@ -25,7 +25,11 @@ use pico_board::{Board, Cpu, FlashView, View, Window};
 use sector_pool::SectorPool;
 
 /// The answer of the digest rule. A digest is made only where the image has one.
-fn digest_fault<V: View>(view: &V, pool: &mut SectorPool, candidate: &Candidate) -> Option<Why>
+pub(crate) fn digest_fault<V: View>(
+    view: &V,
+    pool: &mut SectorPool,
+    candidate: &Candidate,
+) -> Option<Why>
     requires free { HasFree pool.old }
     requires sound { IsDefinition candidate.now.block candidate.now.def }
     requires stored { AreStoredIn (length (V.bytes view.now)) candidate.now.loads.items }
@@ -72,9 +76,20 @@ fn started_of(window: Window, candidate: &Candidate) -> Started
     }
 }
 
+/// The record of a candidate whose digest is right, or the answer of the delta rule.
+pub(crate) fn record_of(window: Window, candidate: &Candidate) -> Result<Started, Why>
+    requires sound { IsDefinition candidate.now.block candidate.now.def }
+    ensures exact { result ≡ record_in window candidate.now }
+{
+    if candidate.def.delta != 0 {
+        return Err(Why::Delta);
+    }
+    Ok(started_of(window, candidate))
+}
+
 /// The image of the view that every rule before the digest rule lets pass, or the answer of the
-/// digest rule or the delta rule where it fails. The window is what the record names. It takes no
-/// memory, and the pool keeps what is out.
+/// digest rule or the delta rule. The record names the window. It takes no memory, and the pool
+/// keeps what is out.
 pub fn confirm<V: View>(
     view: &V,
     pool: &mut SectorPool,
@@ -90,16 +105,13 @@ pub fn confirm<V: View>(
     if let Some(why) = digest_fault(view, pool, candidate) {
         return Err(why);
     }
-    if candidate.def.delta != 0 {
-        return Err(Why::Delta);
-    }
-    Ok(started_of(window, candidate))
+    record_of(window, candidate)
 }
 
 /// The image of a view, or the answer of the first rule that fails. The view's first byte is seen
-/// at the address of `addressing`, the window is what the record names, and a trial image is
-/// allowed where `trial_ok` is true. A digest is made only where every rule before it holds. It
-/// takes no memory, and the pool keeps what is out.
+/// at the address of `addressing`. The record names the window. A trial image is allowed where
+/// `trial_ok` is true. A digest is made only where every rule before it holds. It takes no memory,
+/// and the pool keeps what is out.
 pub fn check_view<B: Board, V: View>(
     board: &B,
     pool: &mut SectorPool,
@@ -122,10 +134,10 @@ pub fn check_view<B: Board, V: View>(
     }
 }
 
-/// The image of a window of a flash, or the answer of the first rule that fails, with a trial image
-/// allowed where `trial_ok` is true (RP2350 Datasheet, chapter 5, Bootrom; this project's own where
-/// the datasheet is open). A digest is made only where every rule before it holds. It takes no
-/// memory, and the pool keeps what is out.
+/// The image of a window of a flash, or the answer of the first rule that fails. A trial image is
+/// allowed where `trial_ok` is true. (RP2350 Datasheet, chapter 5, Bootrom; this project's own
+/// where the datasheet is open.) A digest is made only where every rule before it holds. It takes
+/// no memory, and the pool keeps what is out.
 pub fn check<B: Board>(
     board: &B,
     pool: &mut SectorPool,

@@ -117,8 +117,8 @@ fn definition_in<V: View>(view: &V, found: &BlockLoop, cpu: Cpu) -> Result<Block
     seen.suiting.ok_or(Why::NotForProcessor)
 }
 
-/// The definition of the window's image and what it says, or the answer of the first of the rules
-/// on the loop, the definition, the processor and the items.
+/// The definition of the window's image and what it says, or the answer of the first rule that
+/// fails. The rules are those on the loop, the definition, the processor and the items.
 pub fn defined_in<V: View>(view: &V, cpu: Cpu) -> Result<Defined, Why>
     ensures exact { result ≡ defined_in cpu (V.bytes view.now) }
     ensures sound { IfOk result (λ image. IsDefinition image.block image.def) }
@@ -227,8 +227,8 @@ fn load<V: View>(
     }
 }
 
-/// The image of the view before its digest is made, or the answer of the first rule that fails:
-/// every rule before the digest rule is judged. The view's first byte is seen at the address of
+/// The image of the view before its digest is made, or the answer of the first rule that fails.
+/// Every rule before the digest rule is judged. The view's first byte is seen at the address of
 /// `addressing`, and a trial image is allowed where `trial_ok` is true.
 #[tactic(auto, unfolding(crate::specs::Examined::examined_in))]
 pub fn examine<B: Board, V: View>(

@@ -121,8 +121,9 @@ fn same_storage<V: View, W: View>(one: &V, two: &W, def: &Def, loads: &Loads) ->
 }
 
 /// Whether the second view has the same bytes as the first on all places of the image that the
-/// first one holds: in the blocks of its loop, and in the storage of its load map, or everywhere
-/// where it has no map. The views are compared in pieces of whole sectors. It takes no memory.
+/// first one holds. These are the blocks of its loop, and the storage of its load map, or
+/// everything where it has no map. The views are compared in pieces of whole sectors. It takes no
+/// memory.
 pub fn same_content<V: View, W: View>(one: &V, two: &W, started: &Started, cpu: Cpu) -> bool
     requires long { length (W.bytes two.now) ≡ length (V.bytes one.now) }
     requires held { HoldsImage cpu (V.bytes one.now) started.now }

@@ -22,8 +22,8 @@ pub fn digests_of_the_block()
         (window_with right_pc (arm_type ∷ hash_of_four stored_digest) 0) ≡ Err Digest }
 {}
 
-/// A digest of what a load map stores and then of the block's words; of a clear entry it covers the
-/// size; of two entries, the first one first.
+/// A digest covers what a load map stores, and then the block's words. Of a clear entry it covers
+/// the size. Of two entries the first comes first.
 pub fn digests_of_loads()
     ensures stored { image_in in_flash window_at_two Arm false (otp_with 0 0 0 0)
         (window_with right_pc

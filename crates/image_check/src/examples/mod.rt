@@ -2,6 +2,7 @@
 //! nothing.
 
 pub mod digest;
+pub mod digests;
 pub mod order;
 pub mod same_image;
 
@@ -19,8 +20,8 @@ ghost use Rattle.image_check.specs.Examples.{record_at, map_of, right_pc, entry_
 ghost use Rattle.worked_flashes.specs.Images.{arm_type, window_with, small_block, table_bytes, def_with_rows};
 ghost use Rattle.worked_flashes.specs.Flashes.{otp_with};
 
-/// PC with bit 0 set in a window of 8192 bytes and past it, before, in and behind the block at
-/// 0x114, which has 20 bytes.
+/// PC with bit 0 set: in a window of 8192 bytes and past it; before, in and behind the 20 bytes of
+/// the block at 0x114.
 pub fn code_in_the_window()
     ensures first { judged_source flash_base 8192 (small_block 0x114) (tabled 0x10000000 0x10000201)
         ≡ Ok (entry_point_at 0x10000201) }
@@ -74,8 +75,9 @@ pub fn tables_and_the_block()
         ≡ Ok (entry_point_at 0x10000201) }
 {}
 
-/// Where PC and SP come from: for Arm the vector table at the window's start, at an address in the
-/// window, or in loaded SRAM; for RISC-V the window's start; and an ENTRY_POINT item before both.
+/// Where PC and SP come from. For Arm it is the vector table at the window's start, at an address
+/// in the window, or in loaded SRAM. For RISC-V it is the window's start. An ENTRY_POINT item goes
+/// before both.
 #[tactic(auto, unfolding(block_codec::specs::Words::word_of))]
 pub fn entries_are_found()
     ensures arm { source_of flash_base table_bytes Arm (def_with_rows None None []) [] None
@@ -143,7 +145,7 @@ pub fn whole_windows()
 {}
 
 /// An Arm image in RAM has its vector table at the window's base, and its PC is compared with its
-/// block there; a load must be used where it is stored, and so is no clear entry.
+/// block there. A load must be used where it is stored, so it is no clear entry.
 pub fn images_in_ram()
     ensures starts { image_in (in_ram 0x20001000) window_at_two Arm false (otp_with 0 0 0 0)
         (window_with right_pc (arm_type ∷ []) 0) ≡ Ok (record_at right_pc false) }

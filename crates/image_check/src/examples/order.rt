@@ -14,9 +14,9 @@ ghost use Rattle.image_check.specs.Examples.{delta_four, record_at, riscv_type, 
 ghost use Rattle.worked_flashes.specs.Flashes.{otp_with};
 ghost use Rattle.image_check.specs.Image.{image_in};
 
-/// A loop that does not close before a window without a definition; no definition before none for
-/// the processor; that before items that are not read; and those before a trial that is not
-/// allowed.
+/// A loop that does not close comes before a window without a definition. No definition comes
+/// before none for the processor. That comes before items that are not read, and those before a
+/// trial that is not allowed.
 pub fn from_the_loop_to_the_trial()
     ensures no_block { image_in in_flash window_at_two Arm false (otp_with 1 0 0 0) []
         ≡ Err NoBlock }
@@ -30,9 +30,9 @@ pub fn from_the_loop_to_the_trial()
         (window_with stray_pc (trial_type ∷ trial_type ∷ []) 0) ≡ Err (Items (Repeated 0x42)) }
 {}
 
-/// A trial before missing rows; missing rows and a version below its rows before a wrong map; a
-/// wrong map before a wrong entry; and a vector table that is not given, or that meets the block,
-/// before a PC that lies nowhere.
+/// A trial comes before missing rows. Missing rows and a version below its rows come before a wrong
+/// map, and that before a wrong entry. A vector table that is not given, or that meets the block,
+/// comes before a PC that lies nowhere.
 pub fn from_the_trial_to_the_entry()
     ensures trial { image_in in_flash window_at_two Arm false (otp_with 1 0 0 0)
         (window_with stray_pc (trial_type ∷ wrong_map) 0) ≡ Err Trial }
@@ -52,8 +52,8 @@ pub fn from_the_trial_to_the_entry()
         (window_with right_pc (arm_type ∷ delta_four) 0) ≡ Err Delta }
 {}
 
-/// An image with a rollback version and a row; a RISC-V image, which starts at the first byte of
-/// its window, in flash and in RAM.
+/// An image with a rollback version and a row. A RISC-V image, in flash and in RAM, which starts at
+/// the first byte of its window.
 pub fn whole_records()
     ensures rows { image_in in_flash window_at_two Arm false (otp_with 1 0x7 0x7 0x7)
         (window_with right_pc (arm_type ∷ version_three) 0) ≡ Ok three_record }

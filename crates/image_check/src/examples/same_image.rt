@@ -24,8 +24,8 @@ pub fn without_a_map()
         (window_with right_pc (arm_type ∷ []) 0) s → ⊥ }
 {}
 
-/// With a load map without entries the blocks alone are compared: the PC before and the byte behind
-/// may differ, and a word of the block may not.
+/// With a load map without entries the blocks alone are compared. The PC before and the byte behind
+/// may differ. A word of the block may not.
 pub fn with_a_map_of_no_entry()
     ensures same { HoldSameImage Arm
         (window_with right_pc (arm_type ∷ 0x00000106 ∷ []) 0 ++ 7 ∷ [])

@@ -37,8 +37,8 @@ ghost use Rattle.image_check.specs.WhyNot.{IsWhyNot, WhyNot};
 ghost use Rattle.image_check.specs.NotBelow.{NotBelow};
 ghost use Rattle.image_check.specs.SameImage.{AgreeFrom, AgreeOnStorage, HoldsImage, HoldSameImage, SameImage};
 
-/// The function that judges rule by rule answers an image exactly where all rules hold of it, and a
-/// reason exactly where that is the answer of the first rule that fails.
+/// The function that judges rule by rule answers an image exactly where all rules hold of it. It
+/// answers a reason exactly where that is the answer of the first rule that fails.
 pub fn judged_exactly()
     ensures valid { (a : Addressing) (w : Window) (cpu : Cpu) (trial : Bool) (otp bytes : List ℕ)
         (s : Started)
@@ -75,8 +75,8 @@ pub fn an_open_loop_has_a_first_block()
         → IsWhyNot a cpu trial otp bytes (Loop NoFirst) → ⊥ }
 {}
 
-/// An image that is valid where no trial image is allowed is no trial, and is valid where one is;
-/// and one that is no trial and is valid where a trial image is allowed is valid where none is.
+/// An image that is valid where no trial image is allowed is no trial, and is valid where one is.
+/// An image that is no trial and is valid where one is allowed is valid where none is.
 pub fn trial_allows_more()
     ensures more { (a : Addressing) (w : Window) (cpu : Cpu) (otp bytes : List ℕ) (s : Started)
         → IsValidImage a w cpu false otp bytes s → IsValidImage a w cpu true otp bytes s }
@@ -87,8 +87,8 @@ pub fn trial_allows_more()
         → IsValidImage a w cpu false otp bytes s }
 {}
 
-/// Validity in three parts: the window holds the image, by its bytes alone; the image is no trial,
-/// or one is allowed; and it is not below its rollback rows, which alone reads the OTP.
+/// Validity in three parts. The window holds the image, by its bytes alone. The image is no trial,
+/// or one is allowed. It is not below its rollback rows, and this part alone reads the OTP.
 pub fn validity_in_three_parts()
     ensures { (w : Window) (cpu : Cpu) (trial : Bool) (otp bytes : List ℕ) (s : Started)
         → IsValidImage in_flash w cpu trial otp bytes s
@@ -109,8 +109,8 @@ pub fn valid_is_not_below()
         → IsValidImage a w cpu trial otp bytes s → NotBelow otp s }
 {}
 
-/// The image of a window, at any base, depends on the window's bytes and the OTP alone; and of the
-/// OTP on whether rollback versions are required and on the counts of rows.
+/// The image of a window, at any base, depends on the window's bytes and the OTP alone. Of the OTP
+/// it depends on whether rollback versions are required, and on the counts of rows.
 pub fn local()
     ensures flash { (c d : Content) (w : Window) (cpu : Cpu) (trial : Bool)
         → window_bytes c w ≡ window_bytes d w → c.otp ≡ d.otp
@@ -142,9 +142,9 @@ pub fn raised_rows_allow_less()
 {}
 
 /// An image that is sound in a window is sound, with the same entry, in every longer one that has
-/// erased bytes behind it and ends below SRAM, as each window of a flash does. One that is valid
-/// there is valid in the longer one, wherever that stands, and its record is the same but for the
-/// window.
+/// erased bytes behind it. The longer one has to end below SRAM, as each window of a flash does.
+/// One that is valid there is valid in the longer one, wherever that stands, and its record is the
+/// same but for the window.
 pub fn erased_bytes_behind_keep_the_image()
     ensures sound { (a : Addressing) (cpu : Cpu) (w f : List ℕ) (image : Defined)
         (entry : EntryPoint) → AreErased f → a.base + length (w ++ f) ≤ SRAM_START
@@ -159,8 +159,8 @@ pub fn erased_bytes_behind_keep_the_image()
         → Valid c two cpu trial (moved_to two s) }
 {}
 
-/// An image that is valid with a trial image allowed is held; and where another content has the
-/// same bytes in its window, that holds the same image.
+/// An image that is valid with a trial image allowed is held. Where another content has the same
+/// bytes in its window, that content holds the same image.
 pub fn same_bytes_same_image()
     ensures held { (c : Content) (w : Window) (cpu : Cpu) (s : Started)
         → Valid c w cpu true s → HoldsImage cpu (window_bytes c w) s }
@@ -169,9 +169,9 @@ pub fn same_bytes_same_image()
         → window_bytes c s.window ≡ window_bytes d s.window → SameImage c d s cpu }
 {}
 
-/// An image that is sound stays sound, with the same entry, where its trial bit is cleared, as a
-/// buy does it; and its digest stays. One that is valid with its trial bit is valid without it,
-/// also where no trial is allowed, and its record is the same but for that bit.
+/// An image that is sound stays sound where its trial bit is cleared, as a buy does it. Its entry
+/// and its digest stay. An image that is valid with its trial bit is valid without it, also where
+/// no trial is allowed. Its record is the same but for that bit.
 pub fn a_cleared_trial_bit_keeps_the_image()
     ensures sound { (a : Addressing) (cpu : Cpu) (w v : List ℕ) (image : Defined)
         (entry : EntryPoint) → IsSound a cpu w image entry → ClearsTrialBit w v (place_of image)
@@ -195,8 +195,8 @@ pub fn a_record_says_what_the_image_says()
         → IsValidImage a w cpu trial otp bytes s → IsRecordOfImage a w cpu bytes s }
 {}
 
-/// What a record of an image says: where the image stands, where it starts, its versions and rows,
-/// and whether it is a trial, each as the definition or the entry has it.
+/// A record says where its image stands and starts, its versions and rows, and whether it is a
+/// trial. Each is as the definition or the entry has it.
 pub fn what_a_record_says()
     ensures image { (a : Addressing) (w : Window) (cpu : Cpu) (bytes : List ℕ) (s : Started)
         (r : IsRecordOfImage a w cpu bytes s) → IsDefined cpu bytes r.loop r.image
@@ -224,7 +224,8 @@ pub fn what_an_image_loads()
 {}
 
 /// Where two windows hold the same image, they have the same bytes in each block of the first one's
-/// loop, and in the storage of the loads of its map, or everywhere where the image has no map.
+/// loop. They also have the same bytes in the storage of the loads of its map, or everywhere where
+/// the image has no map.
 pub fn the_same_image_has_the_same_bytes()
     ensures blocks { (cpu : Cpu) (one two : List ℕ) (s : Started) → HoldSameImage cpu one two s
         → (loop : List BlockView) → loop_of one ≡ Ok loop

@@ -1,0 +1,10 @@
+use Rattle.std.proofs.Common.{refl, sym, ◌∙◌}
+use Rattle.image_check.proofs.AnswerLemmas.{err-and_unless, ok-and_unless}
+use Rattle.image_check.proofs.recalling.confirm_by.Goals as goal
+
+pub returns-in-Some-clause-exact : goal.returns-in-Some-clause-exact
+returns-in-Some-clause-exact g c = sym (err-and_unless _ _ _ (sym c.digest_fault_by.ensures.exact ∙ c.in-Some.is))
+
+pub returns-in-None-clause-exact : goal.returns-in-None-clause-exact
+returns-in-None-clause-exact g c =
+    c.record_of.ensures.exact ∙ sym (ok-and_unless _ _ _ (sym c.digest_fault_by.ensures.exact ∙ c.in-None.is) refl)
