@@ -15,6 +15,8 @@ use Rattle.image_check.specs.Answers.{and_then, and_unless}
 use Rattle.image_check.specs.Examined.{confirmed_in, examined_in}
 use Rattle.image_check.specs.Image.{started_of}
 use Rattle.image_check.specs.Rules.{delta_fault, digest_fault}
+use Rattle.image_check.specs.Digests.{candidate_of}
+use Rattle.image_check.proofs.DigestLemmas.{examined-candidate}
 use Rattle.image_check.proofs.ExaminedLemmas.{examined-image}
 use Rattle.slot_choice.specs.declared.unit.Member.{Member}
 use Rattle.slot_choice.specs.declared.unit.Member.TheVariants.{A, B}
@@ -171,3 +173,17 @@ unseen-choice c cpu u m w seen window none is =
     ap (option_map (choice_of u m false))
     (sym (image-seen c cpu u m ∙ ap (λ o. confirm_seen c (member_window m u) o) (sym is ∙ none)
     ∙ ap (λ o. confirm_seen c o None) window))
+
+-- the candidate that was seen of a member is that of its window's bytes
+result-is-ok : {A F : Type 0} (r : Result A F) (x : A) → result_ok r ≡ Some x → r ≡ Ok x
+result-is-ok (Ok y) x e = ap Ok (same_Some y x e)
+result-is-ok (Err f) x e = cc
+
+pub seen-stands : (c : Content) (cpu : Cpu) (u : SlotUnit) (m : Member) (w : Window) (seen : Option Candidate)
+    (x : Candidate)
+    → member_window m u ≡ Some w → seen ≡ Some x → seen ≡ candidate_in c cpu (member_window m u)
+    → candidate_of cpu (window_bytes c w) ≡ Ok x
+seen-stands c cpu u m w seen x window some is =
+    examined-candidate cpu false c.otp (window_bytes c w) x
+    (result-is-ok (examined_in in_flash cpu false c.otp (window_bytes c w)) x
+    (ap (candidate_in c cpu) (sym window) ∙ (sym is ∙ some)))

@@ -1,16 +1,8 @@
 -- Contents of the same table slots have the same table, and the same boot units.
-use Rattle.std.proofs.Common.{◌≡◌, ℕ, ◌*◌, ◌/◌, Bool, length, Option, refl, sym, ap, ◌∙◌, subst, option_map}
+use Rattle.std.proofs.Common.{◌≡◌, ℕ, ◌*◌, ◌/◌, length, Option, refl, sym, ap, ◌∙◌, option_map}
 use Rattle.pico_board.specs.declared.boot.Cpu.{Cpu}
-use Rattle.pico_board.specs.declared.window.Window.{Window}
 use Rattle.pico_board.specs.Content.{Content, window_bytes}
-use Rattle.image_def.specs.declared.started.Started.{Started}
 use Rattle.otp_roll.specs.Flags.{slot_size}
-use Rattle.otp_roll.specs.Rows.{Rises}
-use Rattle.image_check.specs.Addressing.{in_flash}
-use Rattle.image_check.specs.NotBelow.{NotBelow}
-use Rattle.image_check.specs.Valid.{IsValidImage, Valid}
-use Rattle.image_check.proofs.LawLemmas.{not-below}
-use Rattle.image_check.proofs.RollbackLemmas.{raised-below, valid-elsewhere}
 use Rattle.slot_choice.specs.Units.{units}
 use Rattle.boot_rules.specs.declared.tables.Found.{Found}
 use Rattle.boot_rules.specs.Choosing.{boot_units_in}

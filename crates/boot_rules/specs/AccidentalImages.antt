@@ -23,9 +23,9 @@ pub record IsKnownImage (c z d : Content) (w : Window) (cpu : Cpu) (s : Started)
   pub valid : Valid d w cpu false s
   pub known : IsSameImageIn c d w cpu s ⊎ IsSameImageIn z d w cpu s
 
--- HasNoAccidentalImage: of the content c before some steps, z after them and d, where power was
--- lost in them, the table is in d as in c; and the window has no image in d that is valid in a
--- normal boot, or one that it had in c or has in z
+-- HasNoAccidentalImage: c is the content before some steps, z the one after them, and d one where
+-- power was lost in them. The table is in d as in c. The window has no image in d that is valid in
+-- a normal boot, or one that it had in c or has in z
 pub record HasNoAccidentalImage (c z d : Content) (w : Window) (cpu : Cpu) : Type 0 where
   pub table : table_in d ≡ table_in c
   pub image : HasNoImage d w cpu ⊎ ((s : Started) × IsKnownImage c z d w cpu s)

@@ -52,8 +52,8 @@ of_better u (Some B) a b = option_map (choice_of u B false) b
 abbrev pub version_of_image : Option Started → Option Version
 version_of_image image = option_map (λ (s : Started). s.version) image
 
--- the choice in a unit: the updated member's image where it is valid with trial allowed, or else
--- the other one's; without an updated member the better one's
+-- the choice in a unit. It is the updated member's image where it is valid with trial allowed, or
+-- else the other one's. Without an updated member it is the better one's
 abbrev pub unit_choice : (Window → Bool → Option Started) → SlotUnit → Option Member → Option Choice
 unit_choice images u (Some m) =
     option_or (option_map (choice_of u m true) (member_image images u m true))

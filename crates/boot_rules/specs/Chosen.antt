@@ -45,7 +45,7 @@ pub record Counts (c : Content) (cpu : Cpu) (order : Order) (place : ℕ) (u : S
   pub valid : Valid c window cpu (is_updated order place m) s
 
 -- a member whose image has the first version is better than the other one, whose image has the
--- second: the greater version is, and A where they are equal
+-- second. The greater version is better, and A is where they are equal
 abbrev pub IsBetter : Member → Version → Version → Type 0
 IsBetter A version other = is_below version other ≡ false
 IsBetter B version other = is_below other version ≡ true
@@ -58,7 +58,7 @@ pub record IsBest (c : Content) (cpu : Cpu) (order : Order) (place : ℕ) (u : S
   pub better : (t : Started) → Counts c cpu order place u (other_of m) t
       → IsBetter m s.version t.version
 
--- the choice is that of a counting image: no member of a unit before its own has one, and it is the
+-- the choice is that of a counting image. No member of a unit before its own has one, and it is the
 -- updated member's or the best of its unit
 pub record IsStart (c : Content) (cpu : Cpu) (order : Order) (choice : Choice) : Type 0 where
   pub place : ℕ

@@ -35,9 +35,9 @@ owner_windows t second None = []
 owner_windows t second (Some owner) =
     map (partition_window t) (data_parts t.parts.items owner second)
 
--- the data windows of a started image: of each partition whose owner is the A of the started unit,
--- in table order, the window of its B where B was started and it has one, and its own otherwise;
--- nothing without a table
+-- the data windows of a started image, in table order, of each partition whose owner is the A of
+-- the started unit. It is the window of the partition's B where B was started and there is one, and
+-- its own otherwise. Without a table there are none
 abbrev pub data_of : Option Table → Choice → List Window
 data_of None choice = []
 data_of (Some t) choice = owner_windows t (is_second_member choice.member) (started_part t choice)

@@ -1,24 +1,18 @@
 -- Worked examples: images in the members of a pair, and alone; tables, targets and data; and whole
 -- flashes.
-use Rattle.std.specs.Prelude.{ℕ, ◌+◌, ◌-◌, ◌*◌, ◌==◌, ◌&&◌, not, Bool, true, false, if◌then◌else◌}
-use Rattle.std.specs.Prelude.{List, [], ◌∷◌, ◌++◌, length, replicate, Option, Some, None}
+use Rattle.std.specs.Prelude.{ℕ, ◌==◌, ◌&&◌, not, Bool, false, if◌then◌else◌}
+use Rattle.std.specs.Prelude.{[], ◌∷◌, Option, Some, None}
 use Rattle.block_codec.specs.Blocks.{BlockView}
-use Rattle.block_codec.specs.Words.{bytes_of}
 use Rattle.pico_board.specs.declared.window.Window.{Window}
-use Rattle.pico_board.specs.Content.{Content}
 use Rattle.image_def.specs.declared.started.Started.{Started}
-use Rattle.part_table.specs.declared.target.Target.{Target}
 use Rattle.part_table.specs.declared.table.Table.{Table}
 use Rattle.part_table.specs.Examples.{block_with, table_with}
-use Rattle.worked_flashes.specs.Tables.{owned_items, pair_items, plain_partition, sectors}
+use Rattle.worked_flashes.specs.Tables.{plain_partition, sectors}
 use Rattle.slot_choice.specs.declared.unit.Member.{Member}
-use Rattle.slot_choice.specs.declared.unit.Member.TheVariants.{A, B}
 use Rattle.slot_choice.specs.declared.unit.SlotUnit.{SlotUnit}
 use Rattle.slot_choice.specs.declared.choice.Choice.{Choice}
 use Rattle.worked_flashes.specs.Tables.{pair_unit}
 use Rattle.slot_choice.specs.Examples.{window_at}
-use Rattle.boot_rules.specs.declared.decision.Decision.{Decision}
-use Rattle.boot_rules.specs.declared.decision.Decision.TheVariants.{Start}
 use Rattle.boot_rules.specs.declared.tables.Found.{Found}
 use Rattle.worked_flashes.specs.Images.{image_of_version}
 use Rattle.worked_flashes.specs.Flashes.{several, small_items}
@@ -66,8 +60,8 @@ small_versioned_block version = block_with (small_items several version)
 abbrev pub image_block : BlockView
 image_block = block_with (0x10210142 ∷ [])
 
--- a table of a pair that holds partitions 1 and 3, the second of which stays, and of a pair of its
--- data, partitions 2 and 0, the first of which stays; partition 4 is data of the first pair too
+-- a table of a pair that holds partitions 1 and 3, and of a pair of its data, partitions 2 and 0.
+-- Of each pair the one with bit 13 stays: 3 and 2. Partition 4 is data of the first pair too
 abbrev pub crossed_table : Table
 crossed_table = record {
   version = record { major = 0; minor = 0 };

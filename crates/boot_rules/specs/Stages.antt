@@ -1,4 +1,4 @@
--- The stages of a pick as the code takes them: a member's image is seen before its digest is made,
+-- The stages of a pick as the code takes them. A member's image is seen before its digest is made,
 -- so that only the image of the better version is hashed.
 use Rattle.std.specs.Prelude.{false, Option, Some, None, option_map}
 use Rattle.std.specs.Result.{result_ok}

@@ -23,7 +23,7 @@ abbrev pub slot_bytes : Content → ℕ → List ℕ
 slot_bytes c number = window_bytes c (slot_window (slot_size c.otp (length c.flash)) number)
 
 -- the slot's loop closes, and the last of its blocks that has a PARTITION_TABLE item is read to
--- this, for the sectors of the flash, of which those behind both slots are free
+-- this. It is read for the sectors of the flash, of which those behind both slots are free
 pub record IsSlotRead (c : Content) (number : ℕ) (read : Result Table TableFault) : Type 0 where
   pub loop : List BlockView
   pub block : BlockView
@@ -38,8 +38,8 @@ pub record HasNoTableBlock (c : Content) (number : ℕ) : Type 0 where
   pub closes : IsLoop (slot_bytes c number) loop
   pub without : AllByRecursion (λ b. has_table b ≡ false) loop
 
--- slot 0 or 1 has this table, or lacks one for this reason: its loop has this fault; or no block of
--- its loop has a PARTITION_TABLE item; or the last such block has this fault
+-- slot 0 or 1 has this table, or lacks one for this reason. Its loop has this fault, or no block of
+-- its loop has a PARTITION_TABLE item, or the last such block has this fault
 abbrev pub IsSlotAnswer : Content → ℕ → Result Table SlotFault → Type 0
 IsSlotAnswer c number (Ok t) = IsSlotRead c number (Ok t)
 IsSlotAnswer c number (Err (Loop fault)) = IsLoopFault (slot_bytes c number) fault

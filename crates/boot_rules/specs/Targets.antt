@@ -66,8 +66,8 @@ target_of c t cpu family =
     option_map (λ (u : SlotUnit). unit_target c t cpu family u u.b)
     (load_unit t (length c.flash) (slot_size c.otp (length c.flash)) family)
 
--- a load unit stands inside a flash of n bytes, and so does the unit that decides on its member;
--- its A is a partition of the table, where it is one
+-- a load unit stands inside a flash of n bytes, and so does the unit that decides on its member.
+-- Its A is a partition of the table, where it is one
 pub record AreLoadsOf (n : ℕ) (t : Option Table) (u : SlotUnit) : Type 0 where
   pub inside : AreInside n u
   pub decides : AreInside n (deciding_unit t u)

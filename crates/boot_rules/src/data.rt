@@ -80,9 +80,9 @@ fn windows_of(table: &Table, parts: &[u32]) -> ArrayVec<Window, 14>
     windows
 }
 
-/// The data windows of a started image, in table order: of each partition whose owner is the A of
-/// the started unit the window of its B where B was started and it has one, and its own otherwise.
-/// None without a table.
+/// The data windows of a started image, in table order, of each partition whose owner is the A of
+/// the started unit. It is the window of the partition's B where B was started and there is one,
+/// and its own otherwise. None without a table.
 pub fn data_of(table: Option<&Table>, choice: &Choice) -> ArrayVec<Window, 14>
     requires sound { IfSome (option_map (λ t. t.now) table) (λ t. (n : ℕ) × IsSoundTable t n) }
     ensures { result.items ≡ data_of (option_map (λ t. t.now) table.entry) choice.now }

@@ -3,6 +3,7 @@
 ghost use Rattle.std.specs.Prelude.{◌≡◌, All, IsTrue, None, length};
 ghost use Rattle.sector_pool.specs.Keeping.{KeepsOut};
 ghost use Rattle.sector_pool.specs.Pool.{HasFree};
+ghost use Rattle.image_check.specs.Digests.{Knows};
 ghost use Rattle.boot_rules.specs.Choosing.{decision_in, flash_decision, images_in, ordered_choice};
 ghost use Rattle.boot_rules.specs.Chosen.{Chosen};
 ghost use Rattle.boot_rules.specs.Picking.{AreInside};
@@ -10,6 +11,7 @@ ghost use Rattle.boot_rules.specs.Picking.{AreInside};
 use crate::decision::{Decision, Fall, decision_of};
 use crate::picking::{taken, unit_choice};
 use crate::units::{boot_units_in, order_of};
+use image_check::Digests;
 use otp_roll::flash_off;
 use pico_board::{Board, BootKind, Cpu};
 use sector_pool::SectorPool;
@@ -19,18 +21,21 @@ use slot_choice::{Choice, Member, SlotUnit};
 fn first_taken<B: Board>(
     board: &B,
     pool: &mut SectorPool,
+    digests: &mut Digests,
     units: &[SlotUnit],
     cpu: Cpu,
 ) -> Option<Choice>
     requires power { IsTrue (B.state board.now).powered }
     requires free { HasFree pool.old }
+    requires knows { Knows digests.old (B.state board.now).content }
     requires inside { All (AreInside (length (B.state board.now).content.flash)) units.now }
     ensures exact { result ≡ ordered_choice
         (images_in (B.state board.now).content cpu) units.now None }
+    ensures knows { Knows digests.new (B.state board.now).content }
     ensures kept { KeepsOut pool.old pool.new }
 {
     for unit in units {
-        if let Some(choice) = taken(board, pool, unit, cpu) {
+        if let Some(choice) = taken(board, pool, digests, unit, cpu) {
             return Some(choice);
         }
     }
@@ -41,31 +46,42 @@ fn first_taken<B: Board>(
 fn ordered_choice<B: Board>(
     board: &B,
     pool: &mut SectorPool,
+    digests: &mut Digests,
     units: &[SlotUnit],
     updated: Option<Member>,
     cpu: Cpu,
 ) -> Option<Choice>
     requires power { IsTrue (B.state board.now).powered }
     requires free { HasFree pool.old }
+    requires knows { Knows digests.old (B.state board.now).content }
     requires inside { All (AreInside (length (B.state board.now).content.flash)) units.now }
     ensures exact { result ≡ ordered_choice
         (images_in (B.state board.now).content cpu) units.now updated }
+    ensures knows { Knows digests.new (B.state board.now).content }
     ensures kept { KeepsOut pool.old pool.new }
 {
     let Some((first, others)) = units.split_first() else {
         return None;
     };
-    match unit_choice(board, pool, first, updated, cpu) {
+    match unit_choice(board, pool, digests, first, updated, cpu) {
         Some(choice) => Some(choice),
-        None => first_taken(board, pool, others, cpu),
+        None => first_taken(board, pool, digests, others, cpu),
     }
 }
 
 /// The decision of a boot from flash.
-fn flash_decision<B: Board>(board: &B, pool: &mut SectorPool, cpu: Cpu, kind: BootKind) -> Decision
+fn flash_decision<B: Board>(
+    board: &B,
+    pool: &mut SectorPool,
+    digests: &mut Digests,
+    cpu: Cpu,
+    kind: BootKind,
+) -> Decision
     requires power { IsTrue (B.state board.now).powered }
     requires free { HasFree pool.old }
+    requires knows { Knows digests.old (B.state board.now).content }
     ensures exact { result ≡ flash_decision (B.state board.now).content cpu kind }
+    ensures knows { Knows digests.new (B.state board.now).content }
     ensures kept { KeepsOut pool.old pool.new }
 {
     if flash_off(board) {
@@ -73,29 +89,57 @@ fn flash_decision<B: Board>(board: &B, pool: &mut SectorPool, cpu: Cpu, kind: Bo
     }
     let mut units = boot_units_in(board, cpu);
     let updated = order_of(&mut units, kind);
-    decision_of(ordered_choice(board, pool, units.as_slice(), updated, cpu))
+    decision_of(ordered_choice(board, pool, digests, units.as_slice(), updated, cpu))
 }
 
 /// The decision of a boot.
 #[tactic(auto, unfolding(crate::specs::Choosing::decision_in))]
-fn decision_in<B: Board>(board: &B, pool: &mut SectorPool, cpu: Cpu, kind: BootKind) -> Decision
+fn decision_in<B: Board>(
+    board: &B,
+    pool: &mut SectorPool,
+    digests: &mut Digests,
+    cpu: Cpu,
+    kind: BootKind,
+) -> Decision
     requires power { IsTrue (B.state board.now).powered }
-    requires lease { HasFree pool.old }
+    requires free { HasFree pool.old }
+    requires knows { Knows digests.old (B.state board.now).content }
     ensures exact { result ≡ decision_in (B.state board.now).content cpu kind }
+    ensures knows { Knows digests.new (B.state board.now).content }
     ensures kept { KeepsOut pool.old pool.new }
 {
     match kind {
         BootKind::Bootsel => Decision::Bootsel(Fall::Requested),
-        BootKind::Normal => flash_decision(board, pool, cpu, BootKind::Normal),
-        BootKind::Update(base) => flash_decision(board, pool, cpu, BootKind::Update(base)),
+        BootKind::Normal => flash_decision(board, pool, digests, cpu, BootKind::Normal),
+        BootKind::Update(base) => flash_decision(board, pool, digests, cpu, BootKind::Update(base)),
     }
+}
+
+/// Decides a boot, as `decide` does, with what is remembered of digests: a digest that is
+/// remembered is not made again.
+pub fn decide_by<B: Board>(
+    board: &B,
+    pool: &mut SectorPool,
+    digests: &mut Digests,
+    cpu: Cpu,
+    kind: BootKind,
+) -> Decision
+    requires power { IsTrue (B.state board.now).powered }
+    requires lease { HasFree pool.old }
+    requires knows { Knows digests.old (B.state board.now).content }
+    ensures chosen { Chosen (B.state board.now).content cpu kind result }
+    ensures function { result ≡ decision_in (B.state board.now).content cpu kind }
+    ensures knows { Knows digests.new (B.state board.now).content }
+    ensures pool { KeepsOut pool.old pool.new }
+{
+    decision_in(board, pool, digests, cpu, kind)
 }
 
 /// Decides a boot: which image starts, or why none does. A boot that asks for BOOTSEL falls there
 /// first, then one where flash boot is off. Otherwise the boot units are tried in table order, the
-/// updated member's unit before the others: the updated member's image is taken where it is valid
-/// with a trial image allowed, otherwise the greater version of those that are valid with none
-/// allowed, A on a tie. The decision takes no memory, and the pool keeps what is out. (RP2350
+/// updated member's unit before the others. The updated member's image is taken where it is valid
+/// with a trial image allowed. Otherwise it is the greater version of those that are valid with
+/// none allowed, A on a tie. The decision takes no memory, and the pool keeps what is out. (RP2350
 /// Datasheet, chapter 5, Bootrom; this project's own where the datasheet is open; the order of
 /// versions and the update rule as a whole.)
 pub fn decide<B: Board>(board: &B, pool: &mut SectorPool, cpu: Cpu, kind: BootKind) -> Decision
@@ -105,5 +149,5 @@ pub fn decide<B: Board>(board: &B, pool: &mut SectorPool, cpu: Cpu, kind: BootKi
     ensures function { result ≡ decision_in (B.state board.now).content cpu kind }
     ensures pool { KeepsOut pool.old pool.new }
 {
-    decision_in(board, pool, cpu, kind)
+    decide_by(board, pool, &mut Digests::none(), cpu, kind)
 }

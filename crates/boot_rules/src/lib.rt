@@ -1,10 +1,11 @@
 //! The boot decision of the RP2350: where the partition table is, which image starts, where a
 //! download goes, and which data belongs to a started image.
 //!
-//! `specs/Tables` says which table a content has and why a slot has none, `specs/Choosing` the
-//! choice as a function of the images, `specs/Chosen` the decision as the rules name it,
-//! `specs/Targets` the target of a download and `specs/Data` the data windows. The laws say that
-//! the decision by the rules is that of the function, and what each of them keeps from the others.
+//! `specs/Tables` says which table a content has and why a slot has none. `specs/Choosing` has the
+//! choice as a function of the images, and `specs/Chosen` the decision as the rules name it.
+//! `specs/Targets` has the target of a download, and `specs/Data` the data windows. The laws say
+//! that the decision by the rules is that of the function, and what each of them keeps from the
+//! others.
 #![tactic(auto)]
 
 mod data;
@@ -19,9 +20,9 @@ mod targets;
 mod units;
 
 pub use data::data_of;
-pub use deciding::decide;
+pub use deciding::{decide, decide_by};
 pub use decision::{Decision, Fall, decision_of};
-pub use image_check::Started;
+pub use image_check::{Digests, Started};
 pub use part_table::Target;
 pub use picking::choice_of;
 pub use slot_choice::Choice;

@@ -5,6 +5,7 @@ ghost use Rattle.pico_board.specs.declared.boot.Cpu.{Cpu};
 ghost use Rattle.pico_board.specs.declared.window.Window.{Window};
 ghost use Rattle.image_def.specs.Guarantees.{IsDefinition};
 ghost use Rattle.load_map.specs.Stored.{AreStoredIn};
+ghost use Rattle.image_check.specs.Digests.{Knows};
 ghost use Rattle.pico_board.specs.Content.{window_bytes};
 ghost use Rattle.sector_pool.specs.Keeping.{KeepsOut};
 ghost use Rattle.sector_pool.specs.Pool.{HasFree};
@@ -14,7 +15,7 @@ ghost use Rattle.boot_rules.specs.Picking.{taken, AreInside, IsInside};
 ghost use Rattle.boot_rules.specs.Stages.{candidate_in, candidate_version};
 
 use block_codec::Version;
-use image_check::{Addressing, Candidate, Started, check, confirm, examine};
+use image_check::{Addressing, Candidate, Digests, Started, check_by, confirm_by, examine};
 use pico_board::{Board, Cpu, FlashView, Window};
 use sector_pool::SectorPool;
 use slot_choice::{Choice, Member, SlotUnit, better};
@@ -56,6 +57,7 @@ pub fn choice_of(unit: &SlotUnit, member: Member, updated: bool, image: Started)
 fn member_image<B: Board>(
     board: &B,
     pool: &mut SectorPool,
+    digests: &mut Digests,
     unit: &SlotUnit,
     member: Member,
     cpu: Cpu,
@@ -63,38 +65,43 @@ fn member_image<B: Board>(
 ) -> Option<Started>
     requires power { IsTrue (B.state board.now).powered }
     requires free { HasFree pool.old }
+    requires knows { Knows digests.old (B.state board.now).content }
     requires inside { AreInside (length (B.state board.now).content.flash) unit.now }
     ensures exact { result ≡ member_image
         (images_in (B.state board.now).content cpu) unit.now member trial_ok }
+    ensures knows { Knows digests.new (B.state board.now).content }
     ensures kept { KeepsOut pool.old pool.new }
 {
     match member_window(unit, member) {
-        Some(window) => check(board, pool, window, cpu, trial_ok).ok(),
+        Some(window) => check_by(board, pool, digests, window, cpu, trial_ok).ok(),
         None => None,
     }
 }
 
-/// The choice in a unit where one of its members is updated: that member's image where it is valid
-/// with a trial image allowed, and otherwise the other one's.
+/// The choice in a unit where one of its members is updated. It is that member's image where it is
+/// valid with a trial image allowed, and otherwise the other one's.
 fn updated_choice<B: Board>(
     board: &B,
     pool: &mut SectorPool,
+    digests: &mut Digests,
     unit: &SlotUnit,
     member: Member,
     cpu: Cpu,
 ) -> Option<Choice>
     requires power { IsTrue (B.state board.now).powered }
     requires free { HasFree pool.old }
+    requires knows { Knows digests.old (B.state board.now).content }
     requires inside { AreInside (length (B.state board.now).content.flash) unit.now }
     ensures exact { result ≡ unit_choice (images_in (B.state board.now).content cpu) unit.now
         (Some member) }
+    ensures knows { Knows digests.new (B.state board.now).content }
     ensures kept { KeepsOut pool.old pool.new }
 {
-    if let Some(image) = member_image(board, pool, unit, member, cpu, true) {
+    if let Some(image) = member_image(board, pool, digests, unit, member, cpu, true) {
         return Some(choice_of(unit, member, true, image));
     }
     let other = other_of(member);
-    match member_image(board, pool, unit, other, cpu, false) {
+    match member_image(board, pool, digests, unit, other, cpu, false) {
         Some(image) => Some(choice_of(unit, other, false, image)),
         None => None,
     }
@@ -132,20 +139,24 @@ fn version_of(seen: &Option<Candidate>) -> Option<Version>
 fn confirmed<B: Board>(
     board: &B,
     pool: &mut SectorPool,
+    digests: &mut Digests,
     unit: &SlotUnit,
     member: Member,
+    cpu: Cpu,
     seen: &Option<Candidate>,
 ) -> Option<Choice>
     requires power { IsTrue (B.state board.now).powered }
     requires free { HasFree pool.old }
+    requires knows { Knows digests.old (B.state board.now).content }
     requires inside { AreInside (length (B.state board.now).content.flash) unit.now }
+    requires seen { seen.now
+        ≡ candidate_in (B.state board.now).content cpu (member_window member unit.now) }
     requires sound { IfSome seen.now (λ c. IsDefinition c.block c.def) }
     requires stored { (w : Window) → member_window member unit.now ≡ Some w → IfSome seen.now
         (λ c. AreStoredIn (length (window_bytes (B.state board.now).content w)) c.loads.items) }
-    ensures exact { (cpu : Cpu) → seen.now
-        ≡ candidate_in (B.state board.now).content cpu (member_window member unit.now)
-        → result ≡ option_map (choice_of unit.now member false)
+    ensures exact { result ≡ option_map (choice_of unit.now member false)
         (member_image (images_in (B.state board.now).content cpu) unit.now member false) }
+    ensures knows { Knows digests.new (B.state board.now).content }
     ensures kept { KeepsOut pool.old pool.new }
 {
     let Some(window) = member_window(unit, member) else {
@@ -154,38 +165,42 @@ fn confirmed<B: Board>(
     let Some(candidate) = seen else {
         return None;
     };
-    match confirm(&FlashView { board, window }, pool, window, candidate) {
+    match confirm_by(board, pool, digests, window, cpu, candidate) {
         Ok(image) => Some(choice_of(unit, member, false, image)),
         Err(_) => None,
     }
 }
 
-/// The choice in a unit without an update: of the members with a valid image, where no trial image
-/// is allowed, the one of greater version, A on a tie. The versions are read before a digest is
-/// made, and the digest of the other member is made only where that of the better one is wrong.
+/// The choice in a unit without an update. Of the members with a valid image, where no trial image
+/// is allowed, it is the one of greater version, A on a tie. The versions are read before a digest
+/// is asked for. The digest of the other member is asked for only where that of the better one is
+/// wrong.
 pub(crate) fn taken<B: Board>(
     board: &B,
     pool: &mut SectorPool,
+    digests: &mut Digests,
     unit: &SlotUnit,
     cpu: Cpu,
 ) -> Option<Choice>
     requires power { IsTrue (B.state board.now).powered }
     requires free { HasFree pool.old }
+    requires knows { Knows digests.old (B.state board.now).content }
     requires inside { AreInside (length (B.state board.now).content.flash) unit.now }
     ensures exact { result ≡ taken (B.state board.now).content cpu unit.now }
+    ensures knows { Knows digests.new (B.state board.now).content }
     ensures kept { KeepsOut pool.old pool.new }
 {
     let first = candidate_in(board, Some(unit.a), cpu);
     let second = candidate_in(board, unit.b, cpu);
     match better(version_of(&first), version_of(&second)) {
         None => None,
-        Some(Member::A) => match confirmed(board, pool, unit, Member::A, &first) {
+        Some(Member::A) => match confirmed(board, pool, digests, unit, Member::A, cpu, &first) {
             Some(choice) => Some(choice),
-            None => confirmed(board, pool, unit, Member::B, &second),
+            None => confirmed(board, pool, digests, unit, Member::B, cpu, &second),
         },
-        Some(Member::B) => match confirmed(board, pool, unit, Member::B, &second) {
+        Some(Member::B) => match confirmed(board, pool, digests, unit, Member::B, cpu, &second) {
             Some(choice) => Some(choice),
-            None => confirmed(board, pool, unit, Member::A, &first),
+            None => confirmed(board, pool, digests, unit, Member::A, cpu, &first),
         },
     }
 }
@@ -194,19 +209,22 @@ pub(crate) fn taken<B: Board>(
 pub(crate) fn unit_choice<B: Board>(
     board: &B,
     pool: &mut SectorPool,
+    digests: &mut Digests,
     unit: &SlotUnit,
     updated: Option<Member>,
     cpu: Cpu,
 ) -> Option<Choice>
     requires power { IsTrue (B.state board.now).powered }
     requires free { HasFree pool.old }
+    requires knows { Knows digests.old (B.state board.now).content }
     requires inside { AreInside (length (B.state board.now).content.flash) unit.now }
     ensures exact { result ≡ unit_choice
         (images_in (B.state board.now).content cpu) unit.now updated }
+    ensures knows { Knows digests.new (B.state board.now).content }
     ensures kept { KeepsOut pool.old pool.new }
 {
     match updated {
-        Some(member) => updated_choice(board, pool, unit, member, cpu),
-        None => taken(board, pool, unit, cpu),
+        Some(member) => updated_choice(board, pool, digests, unit, member, cpu),
+        None => taken(board, pool, digests, unit, cpu),
     }
 }

@@ -106,9 +106,9 @@ fn slot_answer_in<B: Board>(board: &B, number: u32) -> Result<Table, SlotFault>
     answer_of_slot(board, slot_size(board), number)
 }
 
-/// The table of slot 0 or 1, or why it has none: its loop has a fault; or no block of its loop has
-/// a PARTITION_TABLE item; or the last block that has one is read to a fault. (RP2350 Datasheet,
-/// chapter 5, "Partition tables".)
+/// The table of slot 0 or 1, or why it has none. Its loop may have a fault, no block of its loop
+/// may have a PARTITION_TABLE item, or the last block that has one may be read to a fault. (RP2350
+/// Datasheet, chapter 5, "Partition tables".)
 pub fn slot_answer<B: Board>(board: &B, number: u32) -> Result<Table, SlotFault>
     requires power { IsTrue (B.state board.now).powered }
     requires number { number ≤ 1 }

@@ -9,6 +9,7 @@ ghost use Rattle.part_table.specs.Windows.{IsPlacedWindow};
 ghost use Rattle.boot_rules.specs.Targets.{deciding_in, deciding_unit, is_executable, member_for, pair_target, is_staying_target, target_of, unit_target, AreLoadsOf};
 
 use crate::picking::taken;
+use image_check::Digests;
 use otp_roll::slot_size;
 use owner_data::owner_pair;
 use part_table::{ARM_NS_FAMILY, ARM_S_FAMILY, RISCV_FAMILY, Table, Target};
@@ -36,8 +37,8 @@ fn is_staying_target(table: Option<&Table>, part: Option<u32>) -> bool
     }
 }
 
-/// The unit whose choice decides on the member of a load unit of this table: that of its A's owner
-/// where A has one, and itself otherwise.
+/// The unit whose choice decides on the member of a load unit of this table. It is the unit of A's
+/// owner where A has one, and the load unit itself otherwise.
 fn deciding_in(table: &Table, unit: SlotUnit) -> SlotUnit
     requires sound { (n : ℕ) × IsSoundTable table.now n }
     requires part { IfSome unit.a_part (λ i. i < length table.now.parts.items) }
@@ -132,16 +133,17 @@ fn unit_target<B: Board>(
         };
     };
     let deciding = deciding_unit(table, unit);
-    let member = member_for(taken(board, pool, &deciding, cpu));
+    let choice = taken(board, pool, &mut Digests::none(), &deciding, cpu);
+    let member = member_for(choice);
     pair_target(table, family, &unit, second, member)
 }
 
-/// Where a download of a UF2 family goes. None exactly where the family has no load unit. In a
-/// pair whose A has an owner it is B where a normal boot would take A of the owner's unit, and A
-/// otherwise; in another pair it is the member that a normal boot would not take, A where it would
-/// take none. The target is gated where it is a member of a pair and the family is one of the
-/// three of executables, and it stays where bit 13 of its partition's flags says so. It takes no
-/// memory, and the pool keeps what is out.
+/// Where a download of a UF2 family goes. None exactly where the family has no load unit. In a pair
+/// whose A has an owner it is B where a normal boot would take A of the owner's unit, and A
+/// otherwise. In another pair it is the member that a normal boot would not take, A where it would
+/// take none. The target is gated where it is a member of a pair and the family is one of the three
+/// of executables. It stays where bit 13 of its partition's flags says so. It takes no memory, and
+/// the pool keeps what is out.
 pub fn target<B: Board>(
     board: &B,
     pool: &mut SectorPool,

@@ -20,8 +20,8 @@ ghost use Rattle.boot_rules.specs.Targets.{target_of};
 ghost use Rattle.boot_rules.specs.declared.decision.Decision.TheVariants.{Bootsel, Start};
 ghost use Rattle.boot_rules.specs.declared.decision.Fall.TheVariants.{FlashOff, NoImage, Requested};
 
-/// Flashes of 24 KiB with tables in slot 0 and slot 1, of 4 KiB each: in one of them, of different
-/// versions, of equal ones, and a singleton.
+/// Flashes of 24 KiB with slots of 4 KiB. There is a table in one of the slots, or there are two of
+/// different versions, of equal ones, or a singleton.
 pub fn tables_in_slots()
     ensures none { table_in (tables_content 0 (region 0x1000 []) (region 0x1000 [])) ≡ None }
     ensures first { table_in
@@ -48,7 +48,7 @@ pub fn tables_in_slots()
         ≡ Some (found_in_slot 1 (small_table false 1 9)) }
 {}
 
-/// Slots of 8 KiB by row 0x055: the second begins at 0x2000, a partition begins at sector 4 or
+/// Slots of 8 KiB by row 0x055. The second begins at 0x2000. A partition begins at sector 4 or
 /// behind it, and ends with the last sector of the flash or before.
 pub fn tables_in_greater_slots()
     ensures first { table_in
@@ -71,8 +71,8 @@ pub fn tables_in_greater_slots()
         ≡ None }
 {}
 
-/// A pair in a flash of 256 KiB: the greater version starts, A on a tie, the updated member
-/// before both; nothing starts where both are bare, where the flash is off, or where BOOTSEL is
+/// A pair in a flash of 256 KiB. The greater version starts, A on a tie, and the updated member
+/// before both. Nothing starts where both are bare, where the flash is off, or where BOOTSEL is
 /// asked for.
 pub fn a_pair_boots()
     ensures greater { decision_in
@@ -129,7 +129,7 @@ pub fn a_pair_is_written()
 {}
 
 /// Where the pair's A accepts all six families, each goes to the member that a normal boot of the
-/// asked processor would not take, and the three of executables are gated; an unknown family has no
+/// asked processor would not take. The three of executables are gated. An unknown family has no
 /// target. Where A accepts rp2350-arm-s alone, the others have none.
 pub fn families_of_a_pair()
     ensures riscv { target_of (pair_content 0 (arm_member 0x10009) bare) (Some open_table) Arm
@@ -153,8 +153,8 @@ pub fn families_of_a_pair()
 {}
 
 /// Without a table the slots of 8 KiB are written likewise, by the three families of executables
-/// and by data; the absolute family has the whole flash, and rp2040 and an unknown one have no
-/// target.
+/// and by data. The absolute family has the whole flash. The family rp2040 and an unknown one have
+/// no target.
 pub fn slots_are_written()
     ensures second { target_of (tables_content 1 (arm_slot 0x10009) bare_slot) None Arm 0xe48bff59
         ≡ Some (to (window_at 0x2000 0x2000) true false) }
@@ -175,7 +175,7 @@ pub fn slots_are_written()
 {}
 
 /// A pair of data that a pair of images owns is written in B where a normal boot would take the A
-/// of the images, and in A where it would take their B, or none; the images go to the member that
+/// of the images, and in A where it would take their B, or none. The images go to the member that
 /// it would not take.
 pub fn owned_data_is_written()
     ensures table { table_in (owned_content (arm_owner 0x10009) (arm_owner 0x10009))
@@ -190,8 +190,8 @@ pub fn owned_data_is_written()
         (Some owned_table) Arm 0xe48bff59 ≡ Some (to (window_at 0xa000 0x8000) true false) }
 {}
 
-/// Of a pair the image of the greater version is picked, A's on a tie; the only one, a trial not
-/// counted; and none where both members are bare or the processor is another.
+/// Of a pair the image of the greater version is picked, A's on a tie, or the only one. A trial
+/// does not count. None is picked where both members are bare or the processor is another.
 pub fn images_are_picked()
     ensures second { pick (pair_content 0 (arm_member 0x10009) (arm_member 0x1000a)) the_pair Arm
         ≡ Some (in_b 1 10 false) }

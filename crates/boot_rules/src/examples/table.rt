@@ -19,7 +19,7 @@ ghost use Rattle.boot_rules.specs.Tables.{answer_in_loop, found_of, slot_window}
 ghost use Rattle.boot_rules.specs.Targets.{deciding_unit, is_executable, member_for, pair_target, is_staying_target};
 
 /// Of the tables of two slots the greater version is taken, by major and then minor, that of slot 0
-/// where they are equal, and the only one; but a singleton in slot 0 in any case.
+/// where they are equal, and the only one. A singleton in slot 0 is taken in any case.
 pub fn a_table_is_found()
     ensures none { found_of None None ≡ None }
     ensures only_first { found_of (Some (empty_table false 0 0)) None
@@ -46,8 +46,8 @@ pub fn a_table_is_found()
     ensures slot_one { slot_window 0x2000 1 ≡ window_at 0x2000 0x2000 }
 {}
 
-/// The answer of a loop is that of its last block with a table, and tells why there is none; its
-/// last partition ends at the last sector, and its first begins at the first free one.
+/// The answer of a loop is that of its last block with a table, and tells why there is none. The
+/// table's last partition ends at the last sector, and its first begins at the first free one.
 pub fn the_last_table_counts()
     ensures only { answer_in_loop 64 2 (Ok (small_versioned_block 0x10000 ∷ [])) ≡ Ok
         (small_table false 1 0) }
@@ -132,9 +132,9 @@ pub fn targets_in_a_pair()
         ≡ to (window_at 0x2000 0x2000) true false }
 {}
 
-/// The data of a start are the partitions that the unit's A owns: where A started themselves, and
-/// where B did their B if they have one; nothing where no partition is the unit's A, or without a
-/// table.
+/// The data of a start are the partitions that the unit's A owns. Where A started it is these
+/// themselves, and where B did it is their B, if they have one. There are none where no partition
+/// is the unit's A, or without a table.
 pub fn data_of_starts()
     ensures first { data_of (Some crossed_table) (start_in first A (Some third))
         ≡ second ∷ fourth ∷ [] }

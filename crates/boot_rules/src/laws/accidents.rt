@@ -11,10 +11,11 @@ ghost use Rattle.pico_board.specs.Content.{Content, window_bytes};
 ghost use Rattle.pico_board.specs.declared.boot.Cpu.{Cpu};
 ghost use Rattle.pico_board.specs.declared.window.Window.{Window};
 
-/// `HasNoAccidentalImage` holds of a content and a window exactly where the content has the former
-/// table, and each image of the window, valid in a normal boot, is there before or after all steps
-/// too, with the same bytes. So it holds, where the table is the former one, if the window has no
-/// image, or an erased first sector, or the bytes and the rows of before or of after.
+/// `HasNoAccidentalImage` holds of a content and a window exactly where two things do: the content
+/// has the former table, and each image of the window, valid in a normal boot, is there before or
+/// after all steps too, with the same bytes. So where the table is the former one, it holds if the
+/// window has no image or an erased first sector. It also holds if the window has the bytes and the
+/// rows of before or of after.
 pub fn which_contents_have_no_accidental_image()
     ensures exactly { (c z d : Content) (w : Window) (cpu : Cpu) → HasNoAccidentalImage c z d w cpu
         ↔ ((table_in d ≡ table_in c)

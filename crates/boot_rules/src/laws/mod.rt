@@ -61,8 +61,8 @@ pub fn equal_images_equal_choices()
         → choose f order ≡ choose g order }
 {}
 
-/// A change of one window's image, where the choice was of another window, leaves the choice or
-/// gives a start in that window; and a start stays a start.
+/// Where the choice was of another window, a change of one window's image leaves the choice or
+/// gives a start in that window. A start stays a start.
 pub fn a_window_changes()
     ensures choice { (w : Window) (f g : Images) (order : Order)
         → HaveSameImagesBut w f g order.units → AreInPlace f → AreInPlace g
@@ -116,7 +116,7 @@ pub fn answers_have_the_tables()
         → IsSlotTable c number t ↔ (result_ok (slot_answer_in c number) ≡ Some t) }
 {}
 
-/// The table of a content is that of slot 0 or of slot 1, by the words of the rules; there is none
+/// The table of a content is that of slot 0 or of slot 1, by the words of the rules. There is none
 /// exactly where neither slot has one.
 pub fn a_table_is_that_of_a_slot()
     ensures some { (c : Content) (found : Found) → (table_in c ≡ Some found) ↔ IsTableIn c found }
@@ -125,7 +125,7 @@ pub fn a_table_is_that_of_a_slot()
 {}
 
 /// What is picked of a unit is the image of a member, valid in a normal boot, to which the other
-/// member's is not preferred; nothing is picked exactly where neither member has such an image.
+/// member's is not preferred. Nothing is picked exactly where neither member has such an image.
 pub fn a_pick_is_the_better_image()
     ensures some { (c : Content) (u : SlotUnit) (cpu : Cpu) (s : Started)
         → (pick c u cpu ≡ Some s) ↔ IsPick c u cpu s }
@@ -133,8 +133,8 @@ pub fn a_pick_is_the_better_image()
         → (pick c u cpu ≡ None) ↔ ((m : Member) (s : Started) → IsNormalImage c cpu u m s → ⊥) }
 {}
 
-/// The target of a download into a pair, for the content's own table, shares no byte with the
-/// window of the image that a normal boot starts.
+/// The target of a download into a pair, for the content's own table, never runs: it shares no byte
+/// with the window of the image that a normal boot starts.
 pub fn a_target_never_runs()
     ensures { (c : Content) (cpu : Cpu) (family : ℕ) (u : SlotUnit) (second : Window)
         (target : Target) (choice : Choice)
@@ -143,8 +143,9 @@ pub fn a_target_never_runs()
         → Chosen c cpu Normal (Start choice) → AreApart target.window choice.image.window }
 {}
 
-/// The data of a started image are those of the partition that is its unit's A: of each partition
-/// with that owner its B where B was started and it has one, and itself otherwise.
+/// The data of a started image are those of the partition that is its unit's A. Of each partition
+/// with that owner they are its B where B was started and it has one, and the partition itself
+/// otherwise.
 pub fn data_of_a_start()
     ensures { (c : Content) (cpu : Cpu) (kind : BootKind) (choice : Choice) (found : Found)
         → IsContent c → table_in c ≡ Some found → Chosen c cpu kind (Start choice)
@@ -155,8 +156,8 @@ pub fn data_of_a_start()
 {}
 
 /// Steps that are confined to the target of a family in an owned pair, done or torn, leave the
-/// table and the decision of a normal boot; and where that is a start, the target shares no byte
-/// with the data of the started image, all of which keep their bytes.
+/// table and the decision of a normal boot. Where that is a start, the target shares no byte with
+/// the data of the started image, and all of these keep their bytes.
 pub fn owned_data()
     ensures table { (c : Content) (cpu : Cpu) (family : ℕ) (found : Found) (u : SlotUnit)
         (second : Window) (target : Target)
@@ -194,8 +195,8 @@ pub fn owned_data()
         → window_bytes d w ≡ window_bytes c w }
 {}
 
-/// Steps that are confined to a partition, done or torn, leave the table; and where the partition
-/// is a member of no boot unit, they leave the decision of a normal boot.
+/// Steps that are confined to a partition, done or torn, leave the table. Where the partition is a
+/// member of no boot unit, they leave the decision of a normal boot.
 pub fn a_partition_beside_the_boot_units()
     ensures table { (c : Content) (found : Found) (i : ℕ) (steps : List Step) (d : Content)
         → IsContent c → table_in c ≡ Some found → i < length found.table.parts.items
