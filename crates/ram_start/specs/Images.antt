@@ -15,8 +15,8 @@ use Rattle.image_check.specs.WhyNot.{IsWhyNot}
 abbrev pub ram_window : ℕ → List ℕ → Window
 ram_window base bytes = record { start = base; len = length bytes }
 
--- ValidRam: all rules of a valid image hold of the bytes, which are seen from the base on, and each
--- load map entry is used where it stands; no trial image is allowed
+-- ValidRam: all rules of a valid image hold of the bytes, which are seen from the base on. Each
+-- load map entry is used where it stands, and no trial image is allowed
 abbrev pub ValidRam : Content → List ℕ → ℕ → Cpu → Started → Type 0
 ValidRam c bytes base cpu s =
     IsValidImage (in_ram base) (ram_window base bytes) cpu false c.otp bytes s

@@ -38,7 +38,7 @@ fn ram_image<B: Board, V: View>(
 }
 
 /// The image of a view that is seen from `base` on, or exactly the first rule that fails. All rules
-/// of a valid image hold as in flash, with the base in place of the flash's; each load map entry is
+/// of a valid image hold as in flash, with the base in place of the flash's. Each load map entry is
 /// used where it stands, and no trial image is allowed. It takes no memory, and the pool keeps what
 /// is out. (This project's own where the datasheet is open.)
 pub fn ram_check<B: Board, V: View>(

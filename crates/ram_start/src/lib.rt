@@ -1,6 +1,6 @@
 //! Images that a host writes into SRAM and starts there.
 //!
-//! The commands are of the RP2350 Datasheet, chapter 5 (Bootrom); the order of their checks, and
+//! The commands are of the RP2350 Datasheet, chapter 5 (Bootrom). The order of their checks, and
 //! which rules hold of an image in RAM, are this project's own where the datasheet is open.
 #![tactic(auto)]
 

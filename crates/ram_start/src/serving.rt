@@ -48,8 +48,8 @@ fn asks_reboot(cmd: &Cmd) -> bool
         && (cmd.arg_size == 16 && (cmd.reboot_flags() == 3 || cmd.reboot_flags() == 0x103))
 }
 
-/// Whether a command is a RAM command: a read or a write of argument size 8 at an address of at
-/// least 0x20000000, or a reboot of argument size 16 whose flags are 3 or 0x103.
+/// Whether a command is a RAM command. It is a read or a write of argument size 8 at an address of
+/// at least 0x20000000, or a reboot of argument size 16 whose flags are 3 or 0x103.
 pub fn ram_asks(cmd: &Cmd) -> bool
     ensures { result ≡ is_ram_command cmd.now }
 {
@@ -200,13 +200,13 @@ fn transfer<R: Reply>(ram: &mut Ram, cmd: &Cmd, payload: &[u8], reply: &mut R)
     }
 }
 
-/// Serves a RAM command, while a download is busy or not: a read or a write of SRAM, or a reboot
-/// that starts an image there. Its status is the number of the first of its checks that fails, and
-/// 0 where none does: 9, a write while a download is busy; 3, a transfer length that is not the
-/// size read or written, or a payload that is not that of a write; 4, a read or a write that leaves
-/// SRAM; 11, a reboot whose range does not begin with a word, has none, or leaves SRAM; 13, a
-/// reboot whose range holds no valid image. With another status than 0 it does nothing. It takes no
-/// memory, and the pool keeps what is out.
+/// Serves a RAM command, while a download is busy or not. It is a read or a write of SRAM, or a
+/// reboot that starts an image there. Its status is the number of the first of its checks that
+/// fails, and 0 where none does. The checks are 9, a write while a download is busy; 3, a transfer
+/// length that is not the size read or written, or a payload that is not that of a write; 4, a read
+/// or a write that leaves SRAM; 11, a reboot whose range does not begin with a word, has none, or
+/// leaves SRAM; 13, a reboot whose range holds no valid image. With another status than 0 it does
+/// nothing. It takes no memory, and the pool keeps what is out.
 pub fn ram_apply<B: Board, R: Reply>(
     board: &B,
     pool: &mut SectorPool,

@@ -57,9 +57,9 @@ fn set_status(line: &mut ArrayString<320>, cmd: &Cmd, status: u32)
     put_number(line, status);
 }
 
-/// Replaces the line by a command's answer: its id, token and status, and for a read, an info
-/// command and an OTP read with status 0 the number of the reply's bytes and their SHA-256. It has
-/// at most 132 bytes.
+/// Replaces the line by a command's answer: its id, token and status. A read, an info command and
+/// an OTP read with status 0 have the number of the reply's bytes and their SHA-256 too. It has at
+/// most 132 bytes.
 pub fn set_answer(line: &mut ArrayString<320>, cmd: &Cmd, status: u32, reply: HashReply)
     ensures text { (bytes : List ℕ) → HasTakenBytes reply bytes → length bytes < 2 ^ 32
         → line.new.bytes ≡ command_text cmd.now status bytes }

@@ -1,6 +1,6 @@
-//! The texts of windows, images, tables, decisions and of the events of a machine, written into
-//! lines of at most 320 bytes without allocation, and as texts of their own. The texts are this
-//! project's own.
+//! The texts of windows, images, tables, decisions and of the events of a machine. They are written
+//! into lines of at most 320 bytes without allocation, and as texts of their own. The texts are
+//! this project's own.
 #![tactic(auto)]
 
 mod commands;

@@ -94,13 +94,13 @@ fn clear<B: Board>(board: &mut B, pool: &mut SectorPool, place: u32) -> Result<(
     }
 }
 
-/// Does what a buy of a running trial image writes: the sector that holds the trial bit is
-/// rewritten with that bit cleared, its 16 pages ascending; then, where the start was updated and
-/// the other member has a normal-valid image that is better than the started one, the first sector
-/// of the other is erased; then the image's rows are raised to its rollback version. The former
-/// sector is kept in a lease, and the pool keeps what is out. After lost power a part of the steps
-/// is done. (RP2350 Datasheet, chapter 5, "Try before you buy"; the order of the steps is this
-/// project's own.)
+/// Does what a buy of a running trial image writes. The sector that holds the trial bit is
+/// rewritten with that bit cleared, its 16 pages ascending. Then the first sector of the other
+/// member is erased, where the start was updated and the other member has a normal-valid image that
+/// is better than the started one. Then the image's rows are raised to its rollback version. The
+/// former sector is kept in a lease, and the pool keeps what is out. After lost power a part of the
+/// steps is done. (RP2350 Datasheet, chapter 5, "Try before you buy"; the order of the steps is
+/// this project's own.)
 pub fn buy<B: Board>(
     board: &mut B,
     pool: &mut SectorPool,

@@ -1,8 +1,8 @@
 //! What a boot and a buy write: the steps by which a start settles, and those by which a running
 //! trial image is bought.
 //!
-//! The rules are by the RP2350 Datasheet, chapter 5, Bootrom ("Try before you buy", "Rollback");
-//! the order of the steps and their details are this project's own.
+//! The rules are by the RP2350 Datasheet, chapter 5, Bootrom ("Try before you buy", "Rollback").
+//! The order of the steps and their details are this project's own.
 #![tactic(auto)]
 
 mod buying;

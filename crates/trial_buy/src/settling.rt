@@ -106,11 +106,11 @@ pub(crate) fn raise_rows<B: Board>(board: &mut B, image: &Started) -> Result<(),
     }
 }
 
-/// Does what a start writes. For a trial image that is nothing. For another one, where the start
-/// was updated and the other member has a normal-valid image that is better than the started one,
-/// the first sector of the other is erased; then the image's rows are raised to its rollback
-/// version. The pool keeps what is out. After lost power a part of the steps is done. (RP2350
-/// Datasheet, chapter 5, Bootrom; the order of the steps is this project's own.)
+/// Does what a start writes. For a trial image that is nothing. For another image the first sector
+/// of the other member is erased, where the start was updated and the other member has a
+/// normal-valid image that is better than the started one. Then the image's rows are raised to its
+/// rollback version. The pool keeps what is out. After lost power a part of the steps is done.
+/// (RP2350 Datasheet, chapter 5, Bootrom; the order of the steps is this project's own.)
 pub fn settle<B: Board>(
     board: &mut B,
     pool: &mut SectorPool,

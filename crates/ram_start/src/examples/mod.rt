@@ -82,7 +82,7 @@ pub fn the_first_check_that_fails()
         → ram_status c (0 ∷ 0 ∷ 0 ∷ 0 ∷ []) Arm true (reboot_into 3 0x20000000 4) [] ≡ 13 }
 {}
 
-/// What a command does whose status is 0: a write stores its bytes, a read is answered with those
+/// What a command does whose status is 0. A write stores its bytes, a read is answered with those
 /// of its range, and neither starts an image. With another status nothing is done.
 pub fn what_ram_commands_do()
     ensures write { (c : Content)
@@ -97,8 +97,8 @@ pub fn what_ram_commands_do()
 {}
 
 /// A reboot starts the image of its range, whose addresses are seen from the range's first byte on;
-/// the SRAM stays. It starts none for the other processor, of a part of the image, of a trial
-/// image, or where the rows ask for a rollback version that the image does not have.
+/// the SRAM stays. It starts none for the other processor, of a part of the image, or of a trial
+/// image. It starts none where the rows ask for a rollback version that the image does not have.
 pub fn images_in_ram()
     ensures first { ram_command (with_rows 0) image_bytes Arm true (reboot_into 3 0x20000000 28) []
         ≡ record {

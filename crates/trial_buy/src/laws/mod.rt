@@ -42,7 +42,7 @@ pub fn a_better_image_is_the_choice_in_a_unit()
 {}
 
 /// The other member's first sector is erased where a start was updated and the other member holds a
-/// better image, valid in a normal boot; it is not where one of these fails.
+/// better image, valid in a normal boot. It is not erased where one of these fails.
 pub fn when_the_other_image_is_erased()
     ensures erased { (c : Content) (cpu : Cpu) (choice : Choice) (w : Window) (s : Started)
         → choice.updated ≡ true → choice.other ≡ Some w → Valid c w cpu false s
@@ -61,8 +61,8 @@ pub fn when_the_other_image_is_erased()
         → other_erase c cpu choice ≡ [] }
 {}
 
-/// A start of another image first erases the other member's first sector, where it does, and then
-/// raises the image's rows to its rollback version, where it has one; a buy does the same behind
+/// A start of another image first erases the other member's first sector, where it does. Then it
+/// raises the image's rows to its rollback version, where it has one. A buy does the same behind
 /// its first 17 steps, whether the image is a trial or not.
 pub fn what_a_start_writes()
     ensures both { (c : Content) (cpu : Cpu) (choice : Choice) (w : Window) (s : Started) (v : ℕ)
