@@ -1,0 +1,56 @@
+-- Scripts of which a sweep refuses nothing, gated scripts, and the cuts of their traces.
+use Rattle.std.specs.Prelude.{◌≡◌, ℕ, true, List, slice_get, Some}
+use Rattle.pico_board.specs.declared.boot.Cpu.{Cpu}
+use Rattle.pico_board.specs.declared.window.Window.{Window}
+use Rattle.pico_board.specs.Content.{Content, IsContent}
+use Rattle.pico_board.specs.Sessions.{Gated, Unfinished}
+use Rattle.boot_rules.specs.AccidentalImages.{HasNoAccidentalImage}
+use Rattle.boot_script.specs.Events.{EventView}
+use Rattle.boot_session.specs.Sessions.{session}
+use Rattle.boot_sweep.specs.declared.error.SweepError.{SweepError}
+use Rattle.boot_sweep.specs.declared.results.CutResult.{CutResult}
+use Rattle.boot_sweep.specs.declared.results.CutResult.TheVariants.{Former, Finished, Chance}
+use Rattle.boot_sweep.specs.Refusals.{IsRefusedSession}
+use Rattle.boot_cuts.specs.declared.answers.Class.{Class}
+use Rattle.boot_cuts.specs.declared.answers.Class.TheVariants as classes
+use Rattle.boot_cuts.specs.Classes.{IsClass}
+use Rattle.boot_cuts.specs.Contents.{cut_contents}
+use Rattle.boot_cuts.specs.Traces.{trace, trace_steps}
+use Rattle.cli_check.specs.SessionLaws.{KeepsTo}
+use Rattle.cli_check.specs.Sessions.{is_one_session}
+
+-- the script is one session of a host, whose boots write nothing, and a sweep refuses it for no
+-- reason
+pub record IsSweptScript (c : Content) (cpu : Cpu) (events : List EventView) : Type 0 where
+  pub right : IsContent c
+  pub one : is_one_session c cpu events ≡ true
+  pub swept : (why : SweepError) → IsRefusedSession c cpu (session c cpu events) why → ⊥
+
+-- the class of a cut of which a sweep tells this result
+abbrev pub class_for : CutResult → Class
+class_for Former = classes.Former
+class_for Finished = classes.Finished
+class_for Chance = classes.Neither
+
+-- the cut of this number of a script leaves some content, and has this class
+pub record HasClass (c : Content) (cpu : Cpu) (events : List EventView) (pattern : List ℕ)
+    (n : ℕ) (class : Class) : Type 0 where
+  pub content : Content
+  pub stands : slice_get (cut_contents pattern (trace c cpu events).done) n ≡ Some content
+  pub class_is : IsClass c (trace c cpu events).last content cpu class
+
+-- the script is one session of a host, whose boots write nothing, and its steps are gated on the
+-- slot w, where a normal boot on c starts no image; and they leave the table that there was. No
+-- premise is on accidental images.
+pub record IsGatedScript (c : Content) (cpu : Cpu) (events : List EventView) (w : Window)
+    : Type 0 where
+  pub right : IsContent c
+  pub keeps : KeepsTo c cpu events w
+  pub gated : Gated (trace_steps (trace c cpu events).done) w
+
+-- a cut left the unfinished content d, and that has another table, or an accidental image in the
+-- slot
+pub record IsAccident (c : Content) (cpu : Cpu) (events : List EventView) (w : Window)
+    (d : Content) : Type 0 where
+  pub unfinished : Unfinished c (trace_steps (trace c cpu events).done) w d
+  pub accident : HasNoAccidentalImage c (trace c cpu events).last d w cpu → ⊥

@@ -1,0 +1,51 @@
+//! A worked script that meets the premises of the laws, by computing: each example is the `ensures`
+//! of a function that does nothing but cite others.
+
+ghost use Rattle.std.specs.Prelude.{◌≡◌, ℕ, List, Some, false, slice_get, true};
+ghost use Rattle.pico_board.specs.declared.Step.TheVariants.{Program};
+ghost use Rattle.pico_board.specs.declared.boot.Cpu.TheVariants.{Arm};
+ghost use Rattle.boot_session.specs.Sessions.{session};
+ghost use Rattle.boot_sweep.specs.declared.results.CutResult.TheVariants.{Chance};
+ghost use Rattle.boot_sweep.specs.Sweeps.{sweep_lines};
+ghost use Rattle.boot_cuts.specs.declared.answers.Class.TheVariants.{Neither};
+ghost use Rattle.boot_cuts.specs.Classes.{IsClass};
+ghost use Rattle.boot_cuts.specs.Contents.{cut_contents};
+ghost use Rattle.boot_cuts.specs.Traces.{trace};
+ghost use Rattle.cli_check.specs.Sessions.{is_one_session};
+ghost use Rattle.worked_flashes.specs.Choices.{small_slot};
+ghost use Rattle.worked_flashes.specs.Flashes.{arm_slot, bare_slot, beside_small, data_page};
+ghost use Rattle.worked_flashes.specs.Writes.{longer_steps};
+ghost use Rattle.law_cuts.specs.Cases.{IsGatedScript, IsSweptScript};
+ghost use Rattle.law_cuts.specs.Examples.{small_script};
+
+use boot_session::examples::session::{a_cut_behind_the_image, a_cut_within_the_image};
+
+/// The script is one session, of an erase and three programs, and a sweep refuses it for no reason.
+/// Its line number 6, of the loss of power before the last program, says `chance`.
+pub fn a_script_that_is_swept()
+    ensures one { is_one_session (beside_small bare_slot) Arm small_script ≡ true }
+    ensures session { session (beside_small bare_slot) Arm small_script ≡ longer_steps }
+    ensures swept { IsSweptScript (beside_small bare_slot) Arm small_script }
+    ensures line { (pattern : List ℕ) → slice_get (sweep_lines (beside_small bare_slot) Arm pattern
+        (session (beside_small bare_slot) Arm small_script)) 6
+        ≡ Some (record { number = 3; step = Program 66 data_page; within = false; result = Chance }) }
+{
+    a_cut_behind_the_image();
+    a_cut_within_the_image();
+}
+
+/// It is gated on the slot. Cut number 6 leaves an image that lacks its last page, and starts: it is
+/// neither the former nor the finished one.
+pub fn a_gated_script_with_an_accidental_image()
+    ensures gated { IsGatedScript (beside_small bare_slot) Arm small_script small_slot }
+    ensures cut { (pattern : List ℕ) → slice_get (cut_contents pattern
+        (trace (beside_small bare_slot) Arm small_script).done) 6
+        ≡ Some (beside_small (arm_slot 0x0001000a)) }
+    ensures neither { IsClass (beside_small bare_slot)
+        (trace (beside_small bare_slot) Arm small_script).last
+        (beside_small (arm_slot 0x0001000a)) Arm Neither }
+{
+    a_script_that_is_swept();
+    a_cut_behind_the_image();
+    a_cut_within_the_image();
+}
