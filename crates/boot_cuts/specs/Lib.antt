@@ -1,6 +1,7 @@
 -- These definitions are this project's own, except where a comment names a public source.
 pub mod Traces
 pub mod Contents
+pub mod Examples
 pub mod Classes
 pub mod Classing
 pub mod Answers

@@ -10,6 +10,7 @@
 mod answers;
 mod beside;
 mod copying;
+pub mod examples;
 mod found;
 mod judging;
 mod kinds;

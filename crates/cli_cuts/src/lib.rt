@@ -3,6 +3,7 @@
 #![tactic(auto)]
 
 mod cutting;
+pub mod examples;
 pub mod laws;
 mod texts;
 

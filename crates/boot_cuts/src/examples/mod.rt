@@ -1,0 +1,5 @@
+//! Worked examples: each is the `ensures` of a function that does nothing.
+
+pub mod classes;
+pub mod runs;
+pub mod traces;
