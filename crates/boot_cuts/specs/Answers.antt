@@ -10,8 +10,8 @@ use Rattle.boot_cuts.specs.Classing.{class_of}
 use Rattle.boot_cuts.specs.Contents.{cut_contents}
 use Rattle.boot_cuts.specs.Traces.{Trace, trace}
 
--- the answer of a cut that leaves d, in a script that leads from c to z: its class, and the
--- decision of a normal boot on d
+-- the answer of a cut that leaves d, in a script that leads from c to z. It is its class, and the
+-- decision of a normal boot on d.
 abbrev pub answer_of : Content → Content → Cpu → Content → Answer
 answer_of c z cpu d = record {
   class = class_of c z cpu d;

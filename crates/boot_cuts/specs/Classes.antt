@@ -1,5 +1,5 @@
--- The class of a cut, in the words of its rule: what a normal boot makes of the content d that a
--- cut leaves, in a script that leads from the content c to the content z.
+-- The class of a cut, in the words of its rule. A script leads from the content c to the content
+-- z, and a cut leaves d. The class says what a normal boot makes of d.
 use Rattle.std.specs.Prelude.{⊤}
 use Rattle.pico_board.specs.declared.boot.Cpu.{Cpu}
 use Rattle.pico_board.specs.declared.boot.BootKind.TheVariants.{Normal}
@@ -17,8 +17,8 @@ abbrev pub HasImageOf : Content → Content → Decision → Cpu → Type 0
 HasImageOf b d (Start choice) cpu = SameImage b d choice.image cpu
 HasImageOf b d (Bootsel fall) cpu = ⊤
 
--- a normal boot on d decides as one on c, and where that is a start of an image, d has its bytes
--- as c has them
+-- a normal boot on d decides as one on c. Where that is a start of an image, d has its bytes as c
+-- has them.
 pub record IsFormer (c d : Content) (cpu : Cpu) : Type 0 where
   pub decision : Decision
   pub first : Chosen c cpu Normal decision

@@ -4,8 +4,8 @@ use Rattle.pico_board.specs.Content.{Content}
 use Rattle.pico_board.specs.Cuts.{cut_by, cut_with}
 use Rattle.boot_cuts.specs.Traces.{Traced}
 
--- what the loss of power in the step leaves on a board in memory: before the step the content
--- before it, and within it what the pattern says
+-- what the loss of power in the step leaves on a board in memory. Before the step it is the
+-- content before it, and within it what the pattern says.
 abbrev pub cut_content : List ℕ → Traced → Bool → Content
 cut_content pattern t within = cut_by (cut_with 0 within pattern) t.before t.step
 

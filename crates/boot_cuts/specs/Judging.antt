@@ -18,12 +18,14 @@ pub record AreEnds (ends : Ends) (long : ℕ) : Type 0 where
   pub start_long : length (state_of ends.start.now).content.flash ≡ long
   pub end_long : length (state_of ends.ends.board.now).content.flash ≡ long
   pub former : ends.ends.former ≡ decision_in (state_of ends.start.now).content ends.ends.cpu Normal
-  pub finished : ends.ends.finished ≡ decision_in (state_of ends.ends.board.now).content ends.ends.cpu Normal
+  pub finished : ends.ends.finished
+      ≡ decision_in (state_of ends.ends.board.now).content ends.ends.cpu Normal
 
 -- the answer on a content
 abbrev pub judge : Ends → Content → Answer
 judge ends d =
-    answer_of (state_of ends.start.now).content (state_of ends.ends.board.now).content ends.ends.cpu d
+    answer_of (state_of ends.start.now).content (state_of ends.ends.board.now).content
+    ends.ends.cpu d
 
 -- the answers of the cuts of what a script does, from the content c on
 abbrev pub told_answers : Ends → List ℕ → Content → List MoveView → List Answer

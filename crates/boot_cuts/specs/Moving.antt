@@ -1,4 +1,5 @@
--- What a script does to a board, step by step: steps that complete, and steps that its own cuts cut.
+-- What a script does to a board, step by step. Some steps complete, and the script's own cuts cut
+-- others.
 use Rattle.std.specs.Prelude.{ℕ, ◌+◌, Bool, List, [], ◌∷◌, map}
 use Rattle.std.specs.List.{AllByRecursion}
 use Rattle.pico_board.specs.declared.Step.{Step}

@@ -61,8 +61,8 @@ HasPattern (Some cut) = IsPattern cut.within cut.pattern
 abbrev pub flash_long : Trace → ℕ
 flash_long trace = length (state_of trace.board).content.flash
 
--- the board has power and no armed cut; the pattern of the script's cut is as a bench asks; and
--- what was done lies in the flash
+-- the board has power and no armed cut, and what was done lies in its flash. The pattern of the
+-- script's cut is as a bench asks.
 pub record IsReady (trace : Trace) : Type 0 where
   pub unarmed : IsUnarmed (state_of trace.board)
   pub pattern : HasPattern (told_of trace)
@@ -136,8 +136,8 @@ pub record IsPlay (machine : Parts (Tracer MemBoard)) (trace : Trace) (m : Machi
   pub to : IsPlayedTo trace m all left mid
   pub followed : IsFollowed machine trace mid
 
--- an event was played: the trace is that of one event more, and the machine stands where all its
--- steps completed, and otherwise is off; or too many steps completed
+-- an event was played, so the trace is that of one event more. The machine stands where all its
+-- steps completed, and otherwise is off; or too many steps completed.
 pub record HasFollowed (whole : Bool) (machine : Parts (Tracer MemBoard)) (trace : Trace)
     (m : MachineView) (all left : List EventView) : Type 0 where
   pub mid : MachineView

@@ -7,8 +7,8 @@ use Rattle.boot_rules.specs.Chosen.{Chosen}
 use Rattle.boot_cuts.specs.declared.answers.Answer.{Answer}
 use Rattle.boot_cuts.specs.Classes.{IsClass}
 
--- the answer of a cut that leaves d, in a script that leads from c to z: the decision of a normal
--- boot on d, and the class by its three sentences
+-- the answer of a cut that leaves d, in a script that leads from c to z. It is the decision of a
+-- normal boot on d, and the class by its three sentences.
 pub record IsAnswer (c z : Content) (cpu : Cpu) (d : Content) (answer : Answer) : Type 0 where
   pub decision : Chosen d cpu Normal answer.decision
   pub class : IsClass c z d cpu answer.class

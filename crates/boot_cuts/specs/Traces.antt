@@ -1,5 +1,5 @@
--- The trace of a script: the steps that a machine completes while it plays the script's events, each
--- with the content before it, and the content at the end.
+-- The trace of a script. It has the steps that a machine completes while it plays the script's
+-- events, each with the content before it. It has the content at the end too.
 use Rattle.std.specs.Prelude.{List, [], ◌∷◌, ◌++◌, map, take, Option, Some, None}
 use Rattle.pico_board.specs.declared.Step.{Step}
 use Rattle.pico_board.specs.declared.boot.Cpu.{Cpu}

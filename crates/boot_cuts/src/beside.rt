@@ -1,5 +1,6 @@
-//! What a normal boot makes of a cut while the steps lie in one member of a pair: the decision then
-//! depends on that member's image alone, and is made anew only where it has become another one.
+//! What a normal boot makes of a cut while the steps lie in one member of a pair. The decision
+//! then depends on that member's image alone. It is made anew only where that has become another
+//! one.
 
 ghost use Rattle.std.specs.Prelude.{◌≡◌, ◌+◌, ◌≤◌, true, IfOk, IsTrue, OnOk, length};
 ghost use Rattle.pico_board.specs.declared.boot.BootKind.TheVariants.{Normal};

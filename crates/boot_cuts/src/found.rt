@@ -126,9 +126,9 @@ pub fn cuts_of(
     })
 }
 
-/// What the next normal boot makes of a loss of power before and within each step that a script
-/// completes on a board, from a machine without power on; none where it completes more than
-/// 262,144. It fails only where memory is out.
+/// What the next normal boot makes of a loss of power before and within each step of a script. The
+/// steps are those that a machine completes, which starts without power on this board. None where
+/// it completes more than 262,144. It fails only where memory is out.
 pub fn cuts_on(
     alloc: Global,
     board: MemBoard,

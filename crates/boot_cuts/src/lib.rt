@@ -3,8 +3,8 @@
 //!
 //! `specs/Traces` says which steps those are, `specs/Contents` what a cut leaves, `specs/Classes`
 //! what class it has, and `specs/Runs` how cuts are told together. What the events of a script do
-//! is that of `boot_machine` and `boot_plays`, the loss of power that of `pico_board`, and the
-//! decision that of `boot_rules`.
+//! stands in `boot_machine` and `boot_plays`, what the loss of power leaves in `pico_board`, and
+//! the decision in `boot_rules`.
 #![tactic(auto)]
 
 mod answers;

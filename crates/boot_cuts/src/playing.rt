@@ -92,8 +92,8 @@ fn play<'a>(
     trace.take_steps(&machine.board().steps[former..])
 }
 
-/// Plays an event. The armed cut stands beside the machine, whose board does all steps of the
-/// event, so that they are known; a machine whose power the cut loses is made anew.
+/// Plays an event. The armed cut stands beside the machine. The machine's board does all steps of
+/// the event, so that they are known. A machine whose power the cut loses is made anew.
 fn follow<'a>(
     alloc: Global,
     machine: &mut Machine<Tracer<MemBoard>>,
@@ -122,8 +122,8 @@ fn follow<'a>(
     Ok(())
 }
 
-/// Plays a script on a board from a machine without power on, and answers what it does to the
-/// board; none where more than 262,144 steps complete.
+/// Plays a script on a board, on a machine that starts without power. The answer is what it does
+/// to the board; none where more than 262,144 steps complete.
 pub fn trace_on<'a>(
     alloc: Global,
     board: MemBoard,

@@ -7,9 +7,9 @@ use pico_board::Step;
 /// The most steps of a trace whose cuts are judged.
 pub const TRACE_LIMIT: usize = 262_144;
 
-/// A bench round another one, which keeps the steps that this one completes: the first 262,145 of
-/// them, so that it shows whether there are more than are judged. Its room is taken when it is
-/// made, so that no step needs memory.
+/// A bench round another one, which keeps the first 262,145 steps that this one completes. So it
+/// shows whether there are more than are judged. Its room is taken when it is made, so that no
+/// step needs memory.
 #[derive(Drop)]
 pub struct Tracer<B> {
     /// The bench that does the steps.

@@ -23,8 +23,8 @@ use pico_board::{MemBoard, Step};
 use sector_pool::SectorPool;
 use std::alloc::{AllocError, Global};
 
-/// Adds the cuts before and within a step, which the board then does: a step that is done where it
-/// was torn leaves what it leaves where it was not.
+/// Adds the cuts before and within a step, which the board then does. A step that is done where it
+/// was torn leaves the same as where it was not.
 fn judge_step(
     board: &mut MemBoard,
     pool: &mut SectorPool,

@@ -40,8 +40,8 @@ pub record StartsFinished (z d : Content) (cpu : Cpu) : Type 0 where
   pub same : SameImage d z choice.image cpu
 
 -- a gated session on the content c writes one slot w of a pair, and power is lost in it, which
--- leaves d. The decision e of a normal boot on c starts no image of the slot (elsewhere); the
--- whole session leaves the table that there was, or leaves none (same table); and where d is
+-- leaves d. The decision e of a normal boot on c starts no image of the slot (elsewhere). The
+-- whole session leaves the table that there was, or leaves none (same table). Where d is
 -- unfinished, it has the former table and no accidental image in the slot.
 pub record CutSession (c : Content) (w : Window) (cpu : Cpu) (steps : List Step) (d : Content)
     (e : Decision) : Type 0 where
@@ -54,10 +54,10 @@ pub record CutSession (c : Content) (w : Window) (cpu : Cpu) (steps : List Step)
   pub table : table_in (after_all c steps) ≡ table_in c
   pub no_accident : Unfinished c steps w d → HasNoAccidentalImage c (after_all c steps) d w cpu
 
--- a session on the content c writes only one slot w of a pair, and it is done, or power is lost in
--- it, which leaves d. The decision e of a normal boot on c starts no image of the slot
--- (elsewhere); and where c has no table, d has none (same table). That d has no accidental image
--- in the slot is not asked.
+-- a session on the content c writes only one slot w of a pair. It is done, or power is lost in it,
+-- and leaves d. The decision e of a normal boot on c starts no image of the slot (elsewhere).
+-- Where c has no table, d has none (same table). That d has no accidental image in the slot is not
+-- asked.
 pub record ConfinedSession (c : Content) (w : Window) (cpu : Cpu) (steps : List Step) (d : Content)
     (e : Decision) : Type 0 where
   pub right : IsContent c

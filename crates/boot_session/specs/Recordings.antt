@@ -34,8 +34,8 @@ next_outside None count slot step = if is_in_slot slot step then None else Some 
 abbrev pub next_steps : List Step → Step → List Step
 next_steps steps step = if nat_lt (length steps) 262144 then steps ++ step ∷ [] else steps
 
--- the recorder knows the first of the steps that its board has done, how many there are, the slot
--- that the first of them names, and the first that does not lie in it
+-- the recorder knows the first of the steps that its board has done, and how many there are. It
+-- knows the slot that the first of them names, and the first that does not lie in it.
 pub record HasRecorded {B : Type 0} (r : Recorder B) (h : List Step) : Type 0 where
   pub kept : r.steps.items ≡ kept_steps h
   pub counted : r.count ≡ min (length h) (2 ^ 32 - 1)
@@ -64,7 +64,7 @@ IsHistoryOf r [] = ⊥
 IsHistoryOf r (first ∷ h) = (first ≡ mark r.units.items) × HasRecorded r h
 
 -- the recorder stands round a powered board, of which no cut is armed, after these steps from the
--- content c on, and knows them with the slot that they write; they are fewer than its count tells
+-- content c on. It knows them with the slot that they write. They are fewer than its count tells.
 pub record IsRecorderOf (r : Recorder MemBoard) (c : Content) (cpu : Cpu) (steps : List Step)
     : Type 0 where
   pub ready : IsUnarmed (state_of r.bench)

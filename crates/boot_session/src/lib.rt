@@ -1,9 +1,10 @@
-//! The session of a script: the steps that its host does on a board from BOOTSEL on, and what the
-//! next normal boot decides where it keeps to one slot of a pair, also where power is lost in it.
+//! The session of a script: the steps that its host does on a board from BOOTSEL on. Where it
+//! keeps to one slot of a pair, laws say what the next normal boot decides, also where power is
+//! lost in it.
 //!
 //! `specs/Sessions` says which steps a script's session does, `specs/Slots` which slot it writes,
-//! `specs/Recordings` what is recorded of it, and `specs/CutSessions` the sessions of one slot that
-//! the laws speak of. The loss of power is that of `pico_board`, the decision is that of
+//! and `specs/Recordings` what is recorded of it. `specs/CutSessions` has the sessions of one slot
+//! that the laws speak of. The loss of power is that of `pico_board`, the decision is that of
 //! `boot_rules`, and what a host's events do is that of `boot_machine`.
 #![tactic(auto)]
 

@@ -9,10 +9,10 @@ use slot_choice::SlotUnit;
 /// The most steps of a session that is swept, and that a recorder keeps.
 pub const STEP_LIMIT: usize = 262_144;
 
-/// A bench round another one, which records the steps that this one completes: the first 262,144
-/// of them with their page bytes, how many there are, the member of a pair in which the first one
-/// lies, and the first one that does not lie there. Its room is taken when it is made, so that no
-/// step needs memory.
+/// A bench round another one, which records the steps that this one completes. It keeps the first
+/// 262,144 of them with their page bytes, and how many there are. It keeps the member of a pair in
+/// which the first one lies, and the first one that does not lie there. Its room is taken when it
+/// is made, so that no step needs memory.
 #[derive(Drop)]
 pub struct Recorder<B> {
     /// The bench that does the steps.

@@ -38,8 +38,8 @@ pub record Firm (c : Content) (w : Window) (cpu : Cpu) (s : Started) : Type 0 wh
   pub valid : Valid c w cpu true s
   pub firm : IsFirm cpu (window_bytes c w) s
 
--- a block stands in the window in d at an offset below 4096, at which z has no block there with the
--- same item headers and the same link
+-- a block stands in the window in d at an offset below 4096. At that offset z has no block there
+-- with the same item headers and the same link.
 pub record IsStray (z d : Content) (w : Window) (b : BlockView) : Type 0 where
   pub low : b.at < 4096
   pub stands : BlockAt (window_bytes d w) b.at b

@@ -59,9 +59,9 @@ abbrev pub StartsIn : Content → Cpu → Window → Type 0
 StartsIn c cpu w =
     (choice : Choice) × Chosen c cpu Normal (Start choice) × (choice.image.window ≡ w)
 
--- The session is refused for this reason: that it leaves its slot; or that a step among those that
--- may be swept makes it ungated; or that it has too many steps; or that a normal boot before it
--- starts an image of the slot; or that the flash has another table after it
+-- The session is refused for this reason. It leaves its slot; or a step among those that may be
+-- swept makes it ungated; or it has too many steps. Or a normal boot before it starts an image of
+-- the slot; or the flash has another table after it.
 abbrev pub IsRefusedSession : Content → Cpu → List Step → SweepError → Type 0
 IsRefusedSession c cpu steps (NotConfined k) = LeavesSlot c cpu steps k
 IsRefusedSession c cpu steps (NotGated k) =
@@ -82,8 +82,8 @@ has_none [] = true
 has_none (page ∷ pages) = false
 
 -- the step may follow in a gated list of a window whose first sector is s, where these pages of it
--- are programmed: steps elsewhere stand before its programs, and each of its pages is programmed
--- once
+-- are programmed. Steps elsewhere stand before its programs, and each of its pages is programmed
+-- once.
 abbrev pub may_follow : ℕ → List ℕ → Step → Bool
 may_follow s pages (Erase t) = has_none pages && not (t == s)
 may_follow s pages (Program p d) =

@@ -13,8 +13,8 @@ abbrev pub IsFormer : Content → Content → Cpu → Type 0
 IsFormer c d cpu = (e : Decision) × Chosen c cpu Normal e × Chosen d cpu Normal e
 
 -- CutResult: what a normal boot on d makes of a session that leads from c to z. It decides as
--- before; or otherwise it makes the start that it makes after the whole session, of an image with
--- the same bytes; or neither.
+-- before. Otherwise it makes the start that it makes after the whole session, of an image with the
+-- same bytes; or neither.
 abbrev pub IsCutResult : Content → Content → Content → Cpu → CutResult → Type 0
 IsCutResult c z d cpu Former = IsFormer c d cpu
 IsCutResult c z d cpu Finished = (IsFormer c d cpu → ⊥) × StartsFinished z d cpu

@@ -1,5 +1,5 @@
--- What a sweep finds: of each step the results of a loss of power before it and within it, and the
--- result of the whole session.
+-- What a sweep finds. Of each step it has the results of a loss of power before it and within it.
+-- It has the result of the whole session too.
 use Rattle.std.specs.Prelude.{◌≡◌, ℕ, ◌+◌, Bool, true, false, List, [], ◌∷◌, take}
 use Rattle.pico_board.specs.declared.Step.{Step}
 use Rattle.pico_board.specs.declared.boot.Cpu.{Cpu}

@@ -1,5 +1,5 @@
--- The lines of a sweep: for each step of a session what a normal boot makes of a loss of power
--- before it and within it.
+-- The lines of a sweep. For each step of a session they say what a normal boot makes of a loss of
+-- power before it and within it.
 use Rattle.std.specs.Prelude.{ℕ, ◌+◌, ◌*◌, Bool, true, false, if◌then◌else◌, List, [], ◌∷◌, ◌++◌, length, take, codes, decimal}
 use Rattle.std.specs.List.{flat_map}
 use Rattle.pico_board.specs.declared.Step.{Step}
@@ -13,16 +13,16 @@ use Rattle.boot_sweep.specs.declared.results.CutResult.{CutResult}
 use Rattle.boot_sweep.specs.declared.results.CutResult.TheVariants.{Former, Finished, Chance}
 use Rattle.boot_sweep.specs.Comparing.{result_of}
 
--- a cut of a session: the number of its step, the step, whether it falls within the step or before
--- it, and what a normal boot makes of it
+-- a cut of a session. It has the number of its step, the step, and whether it falls within the
+-- step or before it. It has what a normal boot makes of it too.
 pub record Line : Type 0 where
   pub number : ℕ
   pub step : Step
   pub within : Bool
   pub result : CutResult
 
--- what the loss of power leaves of a content in the step, on a board in memory: before it nothing
--- has changed, and within it the pattern decides
+-- what the loss of power leaves of a content in the step, on a board in memory. Before the step
+-- nothing has changed, and within it the pattern decides.
 abbrev pub content_after_cut : Content → List ℕ → Step → Bool → Content
 content_after_cut b pattern step within = cut_by (cut_with 0 within pattern) b step
 

@@ -30,10 +30,10 @@ module _ (c : Content) (cpu : Cpu) (pattern : List ℕ) (steps : List Step) wher
   HasLineAt lines place j step within =
       (line : Line) × (slice_get lines place ≡ Some line) × IsLineOf j step within line
 
-  -- The text is that of two lines for each step, in their order, each with the result of its cut,
-  -- and of the end line, with the result of the whole session. A line says `chance` only where its
-  -- cut leaves an unfinished content with another table or with an accidental image in the slot,
-  -- and at most 32 lines say it.
+  -- The text is that of two lines for each step, in their order, each with the result of its cut.
+  -- Then comes the end line, with the result of the whole session. A line says `chance` only where
+  -- its cut leaves an unfinished content with another table or with an accidental image in the
+  -- slot. At most 32 lines say it.
   pub record IsSweep (text : List ℕ) : Type 0 where
     pub lines : List Line
     pub end_ : CutResult

@@ -24,8 +24,8 @@ verdict_by former finished e =
     else if is_same_decision e finished then After
     else Other
 
--- the slot is a member of a pair of the content c, in which all the steps lie, and it says where c
--- has a table
+-- the slot is a member of a pair of the content c, in which all the steps lie. It says where c has
+-- a table.
 pub record IsSweptSlot (c : Content) (cpu : Cpu) (steps : List Step) (slot : Slot) : Type 0 where
   pub boot_member : IsBootMember c slot.window cpu
   pub table : slot.has_table ≡ true → IsSome (table_in c)
@@ -38,8 +38,8 @@ pub record IsBeside (c : Content) (cpu : Cpu) (slot : Slot) (d : Content) : Type
   pub table : slot.has_table ≡ true → IsSome (table_in c)
   pub same : SameButWindow slot.window c d
 
--- some content that differs from c in the window alone, and has its table, had this image in the
--- window, and this was the decision on it
+-- some content differs from c in the window alone, and has its table. It had this image in the
+-- window, and this was the decision on it.
 pub record IsLastVerdict (c : Content) (cpu : Cpu) (former finished : Decision) (w : Window)
     (last : Last) : Type 0 where
   pub content : Content
@@ -48,8 +48,8 @@ pub record IsLastVerdict (c : Content) (cpu : Cpu) (former finished : Decision) 
   pub image : images_in content cpu w false ≡ last.image
   pub verdict : verdict_by former finished (decision_in content cpu Normal) ≡ last.verdict
 
--- what is known on the content d: where the steps lie in a slot, d differs from c there alone, and
--- the decision before was made on such a content
+-- what is known on the content d. Where the steps lie in a slot, d differs from c there alone, and
+-- the decision before was made on such a content.
 pub record IsKnown (c : Content) (cpu : Cpu) (former finished : Decision) (slot : Slot)
     (last : Option Last) (d : Content) : Type 0 where
   pub beside : IsBeside c cpu slot d

@@ -59,8 +59,8 @@ fn has_no_other_block<V: View>(view: &V, found: &BlockLoop) -> bool
     true
 }
 
-/// Whether the image that a view holds is firm: its definition stands behind the first sector and
-/// has a digest, the first entry of its load map has all bytes before it, and each block of the
+/// Whether the image that a view holds is firm. Its definition stands behind the first sector and
+/// has a digest. The first entry of its load map has all bytes before it, and each block of the
 /// first sector is one of its loop. It takes no memory.
 pub fn firm<V: View>(view: &V, started: &Started, cpu: Cpu) -> bool
     requires held { HoldsImage cpu (V.bytes view.now) started.now }

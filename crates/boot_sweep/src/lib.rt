@@ -1,9 +1,9 @@
 //! The sweep of a script's session: what the next normal boot makes of each loss of power in it.
 //!
 //! The session is that of `boot_session`. `specs/Refusals` says why it is not swept,
-//! `specs/Results` what a normal boot makes of a cut, and `specs/Sweeps` the lines; `specs/Firms`
-//! says which images are firm. The loss of power is that of `pico_board`, the decision is that of
-//! `boot_rules`.
+//! `specs/Results` what a normal boot makes of a cut, and `specs/Sweeps` has the lines.
+//! `specs/Firms` says which images are firm. The loss of power is that of `pico_board`, the
+//! decision is that of `boot_rules`.
 #![tactic(auto)]
 
 mod comparing;

@@ -175,9 +175,9 @@ fn all_results(
     Ok((cuts, end))
 }
 
-/// Sweeps the session of a script: its steps, what a normal boot makes of a loss of power before
-/// each and within it, and of the whole session. [`sweep`] writes a line for each of these, and
-/// refuses the same sessions. The pool keeps what is out.
+/// Sweeps the session of a script. It finds its steps, and what a normal boot makes of a loss of
+/// power before each and within it, and of the whole session. [`sweep`] writes a line for each of
+/// these, and refuses the same sessions. The pool keeps what is out.
 pub fn swept(
     alloc: Global,
     flash: &Vec<u8>,
@@ -277,16 +277,17 @@ fn push_sweep(
 }
 
 /// Sweeps the session of a script: the steps that its host's events do on a board with this
-/// content that has entered BOOTSEL. For each step, and for a loss of power before it and within
-/// it, which leaves what the pattern says, a line says what the next normal boot makes of it: it
-/// decides as before the session (`former`), or it starts the image that it starts after the whole
-/// session, with the same bytes (`finished`), or neither (`chance`). The end line says the same of
-/// the whole session. `chance` comes only where the cut leaves an unfinished content with another
-/// table or with an accidental image in that member, on at most 32 lines.  A session is refused
-/// for the first of these: a step leaves the member of a pair in which the first one lies; a step
-/// up to which the steps do not write that member's first sector last; more than 262,144 steps; an
-/// image of that member starts before the session; the session leaves another partition table. A
-/// refusal leaves `out`, and want of memory leaves its bytes in front. The pool keeps what is out.
+/// content that has entered BOOTSEL. Power may be lost before each step and within it, which
+/// leaves what the pattern says. A line for each says what the next normal boot makes of it. It
+/// decides as before the session (`former`). Or it starts the image that it starts after the whole
+/// session, with the same bytes (`finished`). Or it does neither (`chance`). The end line says the
+/// same of the whole session. `chance` comes on at most 32 lines. It comes only where the cut
+/// leaves an unfinished content with another table or with an accidental image in that member. A
+/// session is refused for the first of these. A step leaves the member of a pair in which the
+/// first one lies. Up to a step the steps do not write that member's first sector last. There are
+/// more than 262,144 steps. An image of that member starts before the session. The session leaves
+/// another partition table. A refusal leaves `out`, and want of memory leaves its bytes in front.
+/// The pool keeps what is out.
 pub fn sweep(
     alloc: Global,
     flash: &Vec<u8>,

@@ -1,5 +1,5 @@
 //! The slot that a session writes. While its steps lie in one member of a pair, the decision of a
-//! normal boot depends on that member's image alone; so the images of the others are judged again
+//! normal boot depends on that member's image alone. So the images of the others are judged again
 //! only where it has become another one.
 
 ghost use Rattle.std.specs.Prelude.{◌≡◌, ◌+◌, ◌≤◌, false, true, IfSome, IsTrue, Some, length};
@@ -99,7 +99,7 @@ fn is_erased<V: View>(view: &V) -> bool
 }
 
 /// The slot's image, with no trial image allowed, where the board has the table of the content
-/// before the session; None where it may have another one.
+/// before the session. None where it may have another one.
 fn image_beside<B: Board>(
     board: &B,
     pool: &mut SectorPool,

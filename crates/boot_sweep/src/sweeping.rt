@@ -33,8 +33,8 @@ fn tear(board: &mut MemBoard, step: &Step, pattern: &[u8])
     cut(board, step, true, pattern);
 }
 
-/// The results of a step, which the board does: a step that is done where it was torn leaves what
-/// it leaves where it was not.
+/// The results of a step, which the board does. A step that is done where it was torn leaves the
+/// same as where it was not.
 fn step_results<Z: Board>(
     board: &mut MemBoard,
     pool: &mut SectorPool,
@@ -74,9 +74,9 @@ fn step_results<Z: Board>(
     StepResults { before, within }
 }
 
-/// The results of the steps, which the board does. Nothing is copied for a step; and where the
-/// steps lie in one member of a pair, the images elsewhere are judged again only where that
-/// member's image has become another one.
+/// The results of the steps, which the board does. Nothing is copied for a step. Where the steps
+/// lie in one member of a pair, the images elsewhere are judged again only where that member's
+/// image has become another one.
 pub fn results_of<Z: Board>(
     alloc: Global,
     board: &mut MemBoard,

@@ -30,9 +30,9 @@ IsFirstRefused texts (Some n) =
     × ((k : ℕ) (text : List ℕ) → k < n → slice_get texts k ≡ Some text
     → does_nothing text ≡ false)
 
--- the verdict: an update passes where no loss of power leaves something else than the former or the
--- finished answer, each record did something and there is an effect; otherwise it is the first of
--- the others that holds
+-- The verdict. An update passes where each record did something, there is an effect, and it is
+-- safe. It is safe where no loss of power leaves something else than the former or the finished
+-- answer. Otherwise it is the first of the others that holds.
 abbrev pub IsSafe : Findings → Type 0
 IsSafe f = (f.cuts.bootsel ≡ 0) × (f.cuts.other ≡ 0)
 
@@ -51,9 +51,9 @@ IsVerdict f IsRefused =
 IsVerdict f HasNoEffect =
     (IsPassing f → ⊥) × (f.cuts.other ≡ 0) × (IsLeftDead f → ⊥) × (f.refused ≡ None)
 
--- what is found of a script on the content c: what a normal boot decides on c and on the content z
--- that the script leaves, the class of z, the first record that did nothing, whether the image that
--- starts on z has a digest, the raises, the law, and the cuts of each kind
+-- What is found of a script that leads from the content c to z. It has what a normal boot decides
+-- on c and on z, and the class of z. It has the first record that did nothing, and whether the
+-- image that starts on z has a digest. Last come the raises, the law, and the cuts of each kind.
 pub record AreFindings (c : Content) (cpu : Cpu) (events : List EventView) (pattern : List ℕ)
     (f : Findings) : Type 0 where
   pub former : Chosen c cpu Normal f.former

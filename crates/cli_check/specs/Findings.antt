@@ -73,9 +73,9 @@ findings_text f = boot_lines f ++ (record_lines f ++ step_lines f)
 abbrev pub is_safe : CutCounts → Bool
 is_safe n = n.bootsel == 0 && n.other == 0
 
--- the update passes where no loss does, each record did something, and there is an effect;
--- otherwise the first of: some loss starts something else; some loss, or the script itself, leaves
--- nothing to start; a record did nothing; there is no effect
+-- The update passes where no loss does, each record did something, and there is an effect.
+-- Otherwise the verdict is the first of these that holds. Some loss starts something else; some
+-- loss, or the script itself, leaves nothing to start; a record did nothing; there is no effect.
 abbrev pub verdict_of : Findings → Verdict
 verdict_of f =
     if is_safe f.cuts && (is_none f.refused && has_effect f) then Passes

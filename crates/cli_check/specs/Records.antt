@@ -5,8 +5,8 @@ use Rattle.std.specs.Prelude.{ℕ, ◌+◌, ◌==◌, ◌||◌, ◌&&◌, not, B
 abbrev pub begins_with : List ℕ → List ℕ → Bool
 begins_with words text = bytes_eq (take (length words) text) words
 
--- the text is of a command that was answered with a status other than 0: its line has the status
--- behind `cmd 0xII token=0xHHHHHHHH status=`, without leading zeros
+-- the text is of a command that was answered with a status other than 0. Its line has the status
+-- behind `cmd 0xII token=0xHHHHHHHH status=`, without leading zeros.
 abbrev pub tells_status : List ℕ → Bool
 tells_status text = begins_with (codes "cmd 0x") text && not (slice_index text 33 == 48)
 

@@ -17,9 +17,9 @@ use Rattle.cli_check.specs.declared.findings.SessionLaw.{SessionLaw}
 use Rattle.cli_check.specs.declared.findings.SessionLaw.TheVariants.{GatedOn, ConfinedTo, NoLaw}
 use Rattle.cli_check.specs.Sessions.{is_one_session}
 
--- The script is one session whose boots write nothing, and its steps keep to the slot w: the member
--- of a pair in which the first of them lies. A normal boot on c starts no image in w, and the
--- table after all steps is that before them.
+-- The script is one session whose boots write nothing. Its steps keep to the slot w, which is the
+-- member of a pair in which the first of them lies. A normal boot on c starts no image in w, and
+-- the table after all steps is that before them.
 pub record KeepsTo (c : Content) (cpu : Cpu) (events : List EventView) (w : Window) : Type 0 where
   pub session : is_one_session c cpu events ≡ true
   pub slot : IsSlot c cpu (trace_steps (trace c cpu events).done) w

@@ -25,7 +25,7 @@ served_at c cpu (Running program) event =
     record { steps = []; place = Running program; text = []; boot = None }
 
 -- what events leave from this state on, where the event before them asked for this boot or for
--- none: all are for a host, and none follows one that asks for a boot
+-- none. All are for a host, and none follows one that asks for a boot.
 abbrev pub closing : Content → Cpu → StateView → Option BootKind → List EventView → Option Closing
 closing c cpu place asked [] = Some (record { content = c; boot = asked })
 closing c cpu place asked (event ∷ events) =
@@ -60,8 +60,7 @@ closes_quietly c cpu None = false
 closes_quietly c cpu (Some events) = ends_quietly cpu (closing c cpu (entered c) None events)
 
 -- The script is PowerOn, Reset BOOTSEL, and then events of a host, at most the last of which asks
--- for a boot; and the boots on c and after the last event write nothing. So its trace is its
--- session.
+-- for a boot. The boots on c and after the last event write nothing. So its trace is its session.
 abbrev pub is_one_session : Content → Cpu → List EventView → Bool
 is_one_session c cpu events =
     is_quiet c cpu Normal && closes_quietly c cpu (hosted_events events)

@@ -45,7 +45,8 @@ fn findings_by(
     ensures { (events : List EventView) (pattern : List ℕ)
         → AreCutsOf (state_of start.now).content cpu events pattern found
         → (state_of end.now).content ≡ (trace (state_of start.now).content cpu events).last
-        → refused ≡ refused_from 0 (played (powerless (state_of start.now).content cpu) events).texts
+        → refused ≡ refused_from 0
+        (played (powerless (state_of start.now).content cpu) events).texts
         → one ≡ is_one_session (state_of start.now).content cpu events
         → result ≡ findings_of (state_of start.now).content cpu events pattern }
 {
@@ -85,9 +86,9 @@ fn findings_on(
     Ok(findings_by(&start, &trace.board, cpu, found, refused, one))
 }
 
-/// The work of `check` on a powered board of which no cut is armed, a script and a pattern: the
-/// eight lines and the status; or that the script completes too many steps, told of it by its word.
-/// It fails only where memory is out.
+/// The work of `check` on a powered board of which no cut is armed, a script and a pattern. It
+/// tells the eight lines, with the status. Where the script completes too many steps, it refuses
+/// the script by its word. It fails only where memory is out.
 pub fn check<'a>(
     alloc: Global,
     board: MemBoard,

@@ -1,8 +1,9 @@
 //! The work of `check`: whether an update does what it is for, whatever supply is lost in it.
 //!
-//! `specs/CheckRules` says what is right for the command, `specs/Findings` has its lines and the
-//! verdict, `specs/SessionLaws` which law holds of every torn content, and `specs/Records` which
-//! records did nothing. The trace of a script, its cuts and their classes are those of `boot_cuts`.
+//! `specs/CheckRules` says what is right for the command, and `specs/Findings` has its lines and
+//! the verdict. `specs/SessionLaws` says which law holds of every torn content, and
+//! `specs/Records` which records did nothing. The trace of a script, its cuts and their classes
+//! are those of `boot_cuts`.
 #![tactic(auto)]
 
 mod checking;

@@ -52,7 +52,8 @@ fn is_on(state: &State) -> bool
 fn boots_quietly(machine: &mut Machine<MemBoard>, kind: BootKind) -> bool
     requires { (cpu : Processor)
         × IsAt machine.old cpu (entered (state_of machine.old.board).content) }
-    ensures { (cpu : Processor) → IsAt machine.old cpu (entered (state_of machine.old.board).content)
+    ensures { (cpu : Processor)
+        → IsAt machine.old cpu (entered (state_of machine.old.board).content)
         → result ≡ is_quiet (state_of machine.old.board).content cpu kind }
 {
     let mut line = ArrayString::new();
@@ -104,7 +105,7 @@ fn serve(machine: &mut Machine<MemBoard>, event: &Event<'_>) -> Option<BootKind>
     }
 }
 
-/// Serves a host's events, and answers the boot that the last one asks for; none where an event is
+/// Serves a host's events, and answers the boot that the last one asks for. None where an event is
 /// not for a host, or follows one that asks for a boot.
 fn close(machine: &mut Machine<MemBoard>, events: Events<'_>) -> Option<Option<BootKind>>
     ensures closed { (cpu : Processor) (place : StateView) → IsAt machine.old cpu place

@@ -29,9 +29,9 @@ IsStart (Bootsel fall) = ⊥
 abbrev pub StartsNeither : Answer → Type 0
 StartsNeither answer = (answer.class ≡ Neither) × IsStart answer.decision
 
--- The status of lines with these answers: that of success where none says `neither`; that of a
--- board that does not boot where one does, and each that does is a fall; and otherwise, where one
--- of them is a start, that of an image that is neither.
+-- The status of lines with these answers. Where none says `neither` it is that of success. Where
+-- one does, and each that does is a fall, it is that of a board that does not boot. Otherwise one
+-- of them is a start, and it is that of an image that is neither.
 abbrev pub IsStatusOf : List Answer → Status → Type 0
 IsStatusOf lines status =
     ((status ≡ Done) × ((line : Answer) → Contains lines line → line.class ≢ Neither))
@@ -41,9 +41,10 @@ IsStatusOf lines status =
     ⊎ ((status ≡ NeitherStatus) × ((line : Answer) × Contains lines line × StartsNeither line)))
 
 -- `cuts`: the events of the script up to its end complete at most so many steps on a machine that
--- starts without power. Each cut before and within them has its answer; the runs follow one another
--- and hold every cut once, each cut of a run has its class and its decision, and neighbours differ.
--- The outcome tells the runs and the end line, with the status of these lines, and writes nothing.
+-- starts without power. Each cut before and within them has its answer. The runs follow one
+-- another and hold every cut once. Each cut of a run has its class and its decision, and
+-- neighbours differ. The outcome tells the runs and the end line, with the status of these lines,
+-- and writes nothing.
 pub record IsCutsOf (c : Content) (cpu : Cpu) (script pattern : List ℕ) (o : AnswerView)
     : Type 0 where
   pub happened : List EventView

@@ -74,9 +74,10 @@ fn too_long<'a>(alloc: Global, name: &str) -> Result<Answer<'a>, AllocError>
     refusal(alloc, name, "too-many-steps")
 }
 
-/// The work of `cuts` on a board, a script and a pattern: what the next normal boot makes of a loss
-/// of power before and within each step that the script completes, as many cuts as have one class
-/// and one decision to a line, and the status of the lines. It fails only where memory is out.
+/// The work of `cuts` on a board, a script and a pattern. It tells what the next normal boot makes
+/// of a loss of power before and within each step that the script completes. A line tells as many
+/// cuts as have one class and one decision, and the lines decide the status. It fails only where
+/// memory is out.
 pub fn cuts<'a>(
     alloc: Global,
     board: MemBoard,

@@ -22,8 +22,8 @@ pub fn former_cuts()
         ≡ Former }
 {}
 
-/// A cut is `finished` where it is not `former`, and the boot makes the start of the end, of an
-/// image with the bytes that it has there.
+/// A cut that is not `former` is `finished` where the boot makes the start of the end. Its image
+/// has the bytes that it has there.
 pub fn finished_cuts()
     ensures start { class_by first_start last_start Arm before finished finished last_start
         ≡ Finished }

@@ -15,7 +15,7 @@ pub fn cuts_with_one_answer()
         ≡ run_to 0 2 (told Neither falls) ∷ [] }
 {}
 
-/// A run ends where the class or the decision is another, also where the other one stays; and what
+/// A run ends where the class or the decision is another, also where the other one stays. What
 /// comes back later is a run of its own.
 pub fn cuts_with_two_answers()
     ensures classes { runs_of (told Former first_start ∷ told Neither first_start ∷ [])

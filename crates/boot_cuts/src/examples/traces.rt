@@ -25,9 +25,9 @@ pub fn steps_with_the_content_before_them()
     ensures steps { trace_steps (traced_from (rows 1 0) raises) ≡ raises }
 {}
 
-/// The cuts of step k are number 2k, which leaves the content before the step, and number 2k + 1,
-/// which leaves what the pattern makes of it: of a raise the bits that the pattern lacks, of a
-/// program those that it or the bytes have, and of an erase the pattern.
+/// The cuts of step k are the numbers 2k and 2k + 1. The first leaves the content before the step,
+/// and the second what the pattern makes of it. Of an erase it leaves the pattern. Of a raise it
+/// leaves the bits that the pattern lacks, and of a program those that it or the bytes have.
 pub fn contents_that_cuts_leave()
     ensures raises { cut_contents (4 ∷ []) (traced_from (rows 1 0) raises)
         ≡ rows 1 0 ∷ rows 3 0 ∷ rows 7 0 ∷ rows 7 8 ∷ [] }

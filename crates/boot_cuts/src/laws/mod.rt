@@ -49,11 +49,11 @@ pub fn runs_are_the_only_ones()
         → AreRuns answers a → AreRuns answers b → a ≡ b }
 {}
 
-/// A cut is a replay. The script that is the events before one, then a Cut event that is due in
-/// step k of that event, then that event and power that comes back, tells a boot with the decision
-/// of a normal boot on the content that this cut leaves. A cut that was armed there is replaced.
-/// The step stands in the trace behind those of the events before it, and the cuts before and
-/// within step k of a trace are those of the numbers 2k and 2k + 1.
+/// A cut is a replay. Take the events before one, and a Cut event that is due in step k of that
+/// event. Then come that event, and power that comes back. This script tells a boot with the
+/// decision of a normal boot on the content that the cut leaves. A cut that was armed there is
+/// replaced. The step stands in the trace behind those of the events before it. The cuts before
+/// and within step k of a trace have the numbers 2k and 2k + 1.
 pub fn a_cut_is_a_replay()
     ensures boots { (c : Content) (cpu : Cpu) (before : List EventView) (event : EventView) (k : ℕ)
         (within : Bool) (pattern : List ℕ) (t : Traced) → cut_in event ≡ None

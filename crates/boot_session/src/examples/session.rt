@@ -45,7 +45,8 @@ pub fn a_cut_between_two_pages()
 {}
 
 /// Behind an image with a load map without entries stands a page of other bytes, and power is lost
-/// before that: a normal boot makes the finished start, though the content is not the finished one.
+/// before that. A normal boot makes the finished start, though the content is not the finished
+/// one.
 pub fn a_cut_behind_the_image()
     ensures session { CutSession (beside_small bare_slot) small_slot Arm mapped_steps
         (beside_small (small_with (vector_page ++ mapped_page 0x0001000a)))

@@ -36,10 +36,10 @@ use picoboot_cmd::laws::{
 };
 use script_plan::laws::{the_commands_of_a_plan, the_events_of_a_plan};
 
-/// Where a session keeps to one member of a pair, and a normal boot before it starts no image
-/// there, the next normal boot after it, or after power was lost in it, decides as before, or
-/// starts a valid image of that member; and where it was a start, it is one. Where the flash has a
-/// table, the session leaves it; without one, that it leaves none is a premise.
+/// Let a session keep to one member of a pair, and a normal boot before it start no image there.
+/// After it, or after power was lost in it, the next normal boot decides as before, or starts a
+/// valid image of that member. Where it was a start, it is one. Where the flash has a table, the
+/// session leaves it; without one, that it leaves none is a premise.
 pub fn confined_session()
     ensures decision { (c : Content) (w : Window) (cpu : Cpu) (steps : List Step) (d : Content)
         (e : Decision)
@@ -61,8 +61,8 @@ pub fn confined_session()
         → ConfinedSession c w cpu steps d e → Chosen d cpu Normal e ⊎ StartsThere d w cpu }
 {}
 
-/// Where a session keeps to a partition that is in no boot unit, as a partition of data, the next
-/// normal boot after it, or after power was lost in it, decides as before.
+/// Let a session keep to a partition that is in no boot unit, as a partition of data. After it, or
+/// after power was lost in it, the next normal boot decides as before.
 pub fn partitions_in_no_unit_decide_nothing()
     ensures { (c : Content) (w : Window) (cpu : Cpu) (steps : List Step) (d : Content)
         (e : Decision) (found : Found) (i : ℕ)
@@ -71,12 +71,12 @@ pub fn partitions_in_no_unit_decide_nothing()
         → Confined steps w → MayLeave c steps d → Chosen c cpu Normal e → Chosen d cpu Normal e }
 {}
 
-/// Where power is lost in a gated session on one slot of a pair, of which a normal boot before it
-/// starts no image, the next normal boot decides as before, or it makes the start that it makes
-/// after the whole session, of an image with the same bytes. Where the flash has a table, that the
-/// whole session leaves it is no premise. That an unfinished content has no accidental image in
-/// the slot says nothing of one that is that before or that after the session, or whose first
-/// sector of the slot is erased.
+/// Let power be lost in a gated session on one slot of a pair, of which a normal boot before it
+/// starts no image. Then the next normal boot decides as before. Or it makes the start that it
+/// makes after the whole session, of an image with the same bytes. Where the flash has a table,
+/// that the whole session leaves it is no premise. The premise on accidental images is one on
+/// unfinished contents. It says nothing of the content before or after the session, or of one
+/// whose first sector of the slot is erased.
 pub fn gated_cut()
     ensures decision { (c : Content) (w : Window) (cpu : Cpu) (steps : List Step) (d : Content)
         (e : Decision)
@@ -91,8 +91,8 @@ pub fn gated_cut()
         → Unfinished c steps w d → ⊥ }
 {}
 
-/// The session of a plan is gated on its window: where the plan is for a partition of the flash's
-/// table, or, where there is none, for a member of its pair.
+/// Let a plan be for a partition of the flash's table, or, where there is none, for a member of
+/// its pair. Then its session is gated on its window.
 pub fn gated_plan()
     ensures gated { (c : Content) (cpu : Cpu) (w : Window) (image : List ℕ) (es : List EventView)
         → IsContent c → IsSlotOf c cpu w → 0 < length image → length image ≤ w.len
@@ -120,10 +120,11 @@ pub fn targets_are_slots()
         → IsSlotOf c cpu target.window }
 {}
 
-/// What a machine that has entered BOOTSEL does of a script is its session. Where no event makes a
-/// boot, asks for one, or starts an image in RAM, the machine is behind all steps of the session,
-/// or it is without power, which was lost in them. Where the last event may ask for a boot too,
-/// power that is lost was lost in the session, or in what that boot writes behind it.
+/// What a machine that has entered BOOTSEL does of a script is its session. Let no event make a
+/// boot, ask for one, or start an image in RAM. Then the machine is behind all steps of the
+/// session, or it is without power, which was lost in them. Let the last event be one that may ask
+/// for a boot. Then power that is lost was lost in the session, or in what that boot writes behind
+/// it.
 pub fn plays_do_sessions()
     ensures whole { (m n : MachineView) (es : List EventView) (texts : List (List ℕ))
         → m.place ≡ entered m.content → StaysIn m.content m.cpu (entered_host m.content) es

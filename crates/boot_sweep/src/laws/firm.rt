@@ -18,8 +18,8 @@ ghost use Rattle.boot_sweep.specs.Refusals.{sweep_refusal};
 ghost use Rattle.boot_session.specs.Slots.{IsSlot};
 ghost use Rattle.boot_sweep.specs.Sweeps.{Line, content_at_line, sweep_lines};
 
-/// A cut in a gated session that writes a firm image, in a step other than the first one, which
-/// leaves no stray block, leaves no image by chance, where covered texts that differ have digests
+/// Let a gated session write a firm image, and a cut in a step other than the first one leave no
+/// stray block. Then it leaves no image by chance, where covered texts that differ have digests
 /// that differ.
 pub fn a_firm_image_leaves_no_accidental_image()
     ensures { (c : Content) (w : Window) (cpu : Cpu) (steps : List Step) (s : Started) (k : ℕ)
@@ -38,8 +38,8 @@ pub fn no_block_is_stray_between_programs()
         → Stray (after_all c steps) (after_all c done) w → ⊥ }
 {}
 
-/// Of a session that is not refused and that writes a firm image, on a flash with a table, no line
-/// of a cut before a step says `chance`, where covered texts that differ have digests that differ.
+/// Let a session that is not refused write a firm image, on a flash with a table. Then no line of
+/// a cut before a step says `chance`, where covered texts that differ have digests that differ.
 pub fn no_cut_before_a_step_is_chance()
     ensures { (c : Content) (cpu : Cpu) (pattern : List ℕ) (steps : List Step) (line : Line)
         (w : Window) (s : Started) (found : Found)

@@ -43,8 +43,8 @@ pub fn lines_have_their_results()
         → length (sweep_lines c cpu pattern steps) ≡ 2 * length steps }
 {}
 
-/// What a sweep finds is what its lines say: for each step, in their order, the results of the loss
-/// of power before it and within it.
+/// What a sweep finds is what its lines say. For each step, in their order, it has the results of
+/// the loss of power before it and within it.
 pub fn results_are_those_of_the_cuts()
     ensures told { (c : Content) (cpu : Cpu) (pattern : List ℕ) (steps : List Step)
         → told_lines 0 steps (sweep_results c cpu pattern steps)
@@ -58,9 +58,10 @@ pub fn results_are_those_of_the_cuts()
         × HasCutResults c cpu pattern steps j step found }
 {}
 
-/// Of a session that is not refused, a line says `chance` only where its cut leaves an unfinished
-/// content with another table or with an accidental image in the slot; and at most 32 lines say
-/// it: with j programs of the slot's first sector at its end 2j, or one where there are none.
+/// Let a session not be refused. A line says `chance` only where its cut leaves an unfinished
+/// content with another table or with an accidental image in the slot. At most 32 lines say it.
+/// With j programs of the slot's first sector at the session's end they are at most 2j, or one
+/// where there are none.
 pub fn chance_is_an_accidental_image()
     ensures no_accident { (c : Content) (cpu : Cpu) (pattern : List ℕ) (steps : List Step)
         (line : Line)

@@ -1,5 +1,5 @@
-//! Laws of the work and of its line `law`, each the contract of a function that does nothing: the
-//! work is right by its rules, and what the line tells of the files at hand is what the laws of
+//! Laws of the work and of its line `law`, each the contract of a function that does nothing. The
+//! work is right by its rules. What the line tells of the files at hand is what the laws of
 //! `boot_session` say of every torn content.
 
 ghost use Rattle.std.specs.Prelude.{◌≡◌, ◌⊎◌, ℕ, List};
@@ -25,7 +25,7 @@ ghost use Rattle.cli_check.specs.CheckWorks.{check_work};
 ghost use Rattle.cli_check.specs.SessionLaws.{law_of};
 
 /// On files of bytes that have their forms the work of `check` is right by its rules, and no other
-/// outcome is; it refuses a script exactly where its trace is too long.
+/// outcome is. It refuses a script exactly where its trace is too long.
 pub fn works_are_right()
     ensures { (flash otp script pattern : List ℕ) (cpu : Cpu)
         → WorksBy (flash_otp_script_pattern flash otp script pattern) AreOfBytes
@@ -35,9 +35,9 @@ pub fn works_are_right()
         (λ read o. OfFour (λ f g s p. IsCheckOf (content_of_files f g) cpu s p o) read) }
 {}
 
-/// Where `law confined` is told of a slot, the next normal boot after the script's steps, or after
-/// power was lost in them, whatever bytes that tears, decides as before, or starts a valid image of
-/// the slot.
+/// Let `law confined` be told of a slot. The script's steps are done, or power is lost in them,
+/// whatever bytes that tears. Then the next normal boot decides as before, or it starts a valid
+/// image of the slot.
 pub fn a_confined_law_holds()
     ensures { (c : Content) (cpu : Cpu) (events : List EventView) (w : Window) (d : Content)
         → IsContent c → law_of c cpu events ≡ ConfinedTo w
@@ -45,10 +45,10 @@ pub fn a_confined_law_holds()
         → Chosen d cpu Normal (decision_in c cpu Normal) ⊎ StartsThere d w cpu }
 {}
 
-/// Where `law gated` is told of a slot, the next normal boot after power was lost in the script's
-/// steps, whatever bytes that tears, decides as before, or makes the start that it makes after them,
-/// of an image with the same bytes. That an unfinished content has no accidental image in the slot
-/// is the premise that no file can show.
+/// Let `law gated` be told of a slot, and power be lost in the script's steps, whatever bytes that
+/// tears. Then the next normal boot decides as before, or it makes the start that it makes after
+/// them, of an image with the same bytes. That an unfinished content has no accidental image in
+/// the slot is the premise that no file can show.
 pub fn a_gated_law_holds()
     ensures { (c : Content) (cpu : Cpu) (events : List EventView) (w : Window) (d : Content)
         → IsContent c → law_of c cpu events ≡ GatedOn w

@@ -52,8 +52,9 @@ pub fn texts_of_lines()
         ++ codes "bootsel flash-off\nend 1 finished bootsel no-image\n") }
 {}
 
-/// The status is 0 where no line says `neither`; 8 where one does and each that does is a fall; and
-/// 9 where one of them is a start. The end line, which stands first here, counts alone too.
+/// The status is 0 where no line says `neither`. It is 8 where one does and each that does is a
+/// fall, and 9 where one of them is a start. The end line, which stands first here, counts alone
+/// too.
 pub fn statuses_of_lines()
     ensures none { verdict_status (verdict_of (told Former falls ∷ told Finished starts
         ∷ told Former starts ∷ [])) ≡ Done }

@@ -8,7 +8,7 @@ ghost use Rattle.cli_inputs.specs.Rules.{OfFour, WorksBy};
 ghost use Rattle.cli_cuts.specs.CutsRules.{IsCutsOf, IsCutsRefused};
 ghost use Rattle.cli_cuts.specs.CutsWorks.{cuts_work};
 
-/// On files that have their forms the work of `cuts` is right by its rules, and refuses a script
+/// On files that have their forms the work of `cuts` is right by its rules. It refuses a script
 /// exactly where its trace is too long.
 pub fn works_are_right()
     ensures { (flash otp script pattern : List ℕ) (cpu : Cpu)
