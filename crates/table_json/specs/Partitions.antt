@@ -82,7 +82,8 @@ partition_of_value i d = do
   name ← optional some_name None (Numbered i) Name d
   link ← optional link_form 0 (Numbered i) Link d
   marks ← marks_of i d
-  Ok (partition_from_fields (location_word first last permissions) families permissions id name link marks)
+  Ok (partition_from_fields (location_word first last permissions) families permissions id name
+      link marks)
 
 -- the partitions of a list, in order, after those that were read before
 abbrev pub partitions_after : List Partition → List Data → Result (ArrayVec Partition) JsonFault

@@ -211,7 +211,8 @@ fn partition_from_fields(
     requires whole { marks % 512 ≡ 0 }
     requires free { marks / 2048 % 4 ≡ 0 }
     requires marks { marks < 16384 }
-    ensures value { result ≡ partition_from_fields location families permissions id name link marks }
+    ensures value { result
+        ≡ partition_from_fields location families permissions id name link marks }
     ensures agrees { AgreesWithFlags result }
 {
     let extra = families.numbers.len() as u32;

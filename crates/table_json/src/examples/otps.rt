@@ -83,6 +83,7 @@ pub fn otps_are_judged_in_order()
 
 /// At most 4096 pairs are listed.
 pub fn pairs_are_counted()
-    ensures most { (d : Data) → listed_pairs (replicate 4096 d) ≡ pairs_after [] (replicate 4096 d) }
+    ensures most { (d : Data)
+        → listed_pairs (replicate 4096 d) ≡ pairs_after [] (replicate 4096 d) }
     ensures past { (d : Data) → listed_pairs (replicate 4097 d) ≡ None }
 {}
