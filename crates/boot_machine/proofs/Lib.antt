@@ -22,3 +22,4 @@ pub mod BeginningLemmas
 mod ShownImageLemmas
 mod EventTextLemmas
 mod TrialRunLemmas
+mod WatchedLemmas

@@ -2,7 +2,7 @@
 use Rattle.std.specs.Prelude.{ℕ, Bool, true, false, List, [], ◌∷◌, replicate, Some, None, Option}
 use Rattle.worked_flashes.specs.Images.{arm_type, window_with}
 use Rattle.pico_board.specs.Content.{Content}
-use Rattle.worked_flashes.specs.Tables.{sectors, guarded_table, pair_version}
+use Rattle.worked_flashes.specs.Tables.{guarded_table, pair_version}
 use Rattle.slot_choice.specs.Examples.{window_at}
 use Rattle.worked_flashes.specs.Flashes.{bare, image_region, pair_content}
 use Rattle.boot_rules.specs.Examples.{found_in_slot}

@@ -15,8 +15,8 @@ pub record Placing : Type 0 where
   pub target : Target
   pub blocks : List Uf2
 
--- what BOOTSEL serves a host with: the table that was found at entry, with its slot; the current
--- download, where there is one; and the bytes of the SRAM
+-- what BOOTSEL serves a host with: the table that was found at entry with its slot, the current
+-- download where there is one, and the bytes of the SRAM
 pub record Host : Type 0 where
   pub found : Option Found
   pub placing : Option Placing
@@ -33,8 +33,8 @@ pub data StateView : Type 0 where
   InBootsel : (host : Host) → StateView
   Running : (program : Program) → StateView
 
--- a machine: the content of its board, the armed cut (None where the board does not tell it, Some
--- None where none is armed), the processor, and what it is doing
+-- a machine: the content of its board, the armed cut, the processor, and what it is doing. The cut
+-- is None where the board does not tell it, and Some None where none is armed
 pub record MachineView : Type 0 where
   pub content : Content
   pub armed : Option (Option Cut)

@@ -80,7 +80,7 @@ effect m (EventView.Cut left within pattern) = stays_with_line m.place (codes "c
 effect m EventView.End = stays_with_line m.place (codes "end")
 effect m event = effect_in m.content m.cpu m.place event
 
--- the cut that is armed while the event's steps are done, where the board tells it: a Cut event
+-- the cut that is armed while the event's steps are done, where the board tells it. A Cut event
 -- takes the place of a former one
 abbrev pub armed_for : Option (Option Cut) → EventView → Option (Option Cut)
 armed_for armed (EventView.Cut left within pattern) =
@@ -95,7 +95,7 @@ pub record LeavesCutOutcome (o : CutOutcome) (done : Bool) (content : Content)
   pub next : armed ≡ Some o.armed
 
 -- where the board tells its armed cut, it decides whether the steps are done or cut, with which
--- bytes, and which cut is armed then; otherwise nothing is told afterwards either
+-- bytes, and which cut is armed then. Otherwise nothing is told afterwards either
 abbrev pub Decides : Option (Option Cut) → Content → List Step → Bool → Content
     → Option (Option Cut) → Type 0
 Decides None c steps done d armed = armed ≡ None

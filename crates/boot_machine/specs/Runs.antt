@@ -114,7 +114,7 @@ pub record StartsRam (m : MachineView) (event : EventView) (n : MachineView) (te
   pub former : m.place ≢ Running (FromRam s)
   pub running : n.place ≡ Running (FromRam s)
 
--- the event is a reboot command that names words in SRAM, which these writes have left there; they
+-- the event is a reboot command that names words in SRAM, which these writes have left there. They
 -- hold this valid image, which is not below its rollback rows
 pub record IsBootIntoRam (c : Content) (cpu : Cpu) (event : EventView) (writes : List RamWrite)
     (s : Started) : Type 0 where

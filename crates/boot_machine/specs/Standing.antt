@@ -207,7 +207,7 @@ module _ {B : Type 0} where
       abbrev pub Comes : Parts B → Effect → Parts B → List ℕ → Type 0
       Comes old e new line = (ok : Bool) × IsBy old e ok new line
 
-      -- what an event does before the boot that it asks for was done, and that boot is answered; or
+      -- what an event does before the boot that it asks for was done, and that boot is answered. Or
       -- power was lost, and no boot is asked for
       pub record IsServed (old : Parts B) (s : ServedEvent) (answer : Option BootKind)
           (new : Parts B)
@@ -268,7 +268,7 @@ IsDoneIn Again = ⊤
 IsDoneIn Taken = ⊤
 IsDoneIn (Done target) = target.window.start < 2 ^ 24
 
--- a block was served: the board did its steps, whole or until power was lost in them; then the boot
+-- a block was served. The board did its steps, whole or until power was lost in them. Then the boot
 -- that it asks for is answered, its text stands in the line, and the download stands for the new
 -- list. No download is current where power was lost.
 pub record IsServedBlock {B : Type 0} (state : B → BoardState) (history : B → List Step → Type 0)

@@ -44,8 +44,8 @@ pub fn serve_ram<B: Board>(
         (ram_command (B.state board.now).content ram.old cpu busy cmd.now payload.now).start }
     ensures kept { KeepsOut pool.old pool.new }
 {
-    // The prover takes the range of this number from its reading here: a reply has at most the
-    // bytes that the command names, whose number has 32 bits.
+    // The prover takes the range of this number from its reading here. A reply has at most the
+    // bytes that the command names, and their number has 32 bits.
     let _most = cmd.size();
     let mut reply = HashReply::new();
     let done = ram_apply(board, pool, ram, cpu, busy, cmd, payload, &mut reply);

@@ -19,6 +19,7 @@ mod placing;
 mod serving;
 mod state;
 mod stepping;
+mod watched;
 
 pub use machine::Machine;
 pub use state::State;

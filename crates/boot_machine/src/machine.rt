@@ -14,6 +14,7 @@ use crate::parts::Parts;
 use crate::serving::serve;
 use crate::state::State;
 use crate::stepping::step;
+use crate::watched::Watched;
 use arrayvec::ArrayString;
 use boot_script::Event;
 use pico_board::{Bench, BootKind, Cpu};
@@ -50,7 +51,7 @@ impl<B: Bench> Machine<B> {
     {
         Machine {
             parts: Parts {
-                board,
+                board: Watched::new(board),
                 pool,
                 download,
                 ram,
@@ -74,7 +75,7 @@ impl<B: Bench> Machine<B> {
         ensures entered { StandsAt result (entered (B.state board).content) }
     {
         let mut parts = Parts {
-            board,
+            board: Watched::new(board),
             pool,
             download,
             ram,
@@ -98,14 +99,20 @@ impl<B: Bench> Machine<B> {
     pub fn board(&self) -> &B
         ensures { result.now ≡ self.now.board }
     {
-        &self.parts.board
+        self.parts.board.board()
     }
 
     /// The board, out of the machine.
     pub fn into_board(self) -> B
         ensures { result ≡ self.board }
     {
-        self.parts.board
+        self.parts.board.into_board()
+    }
+
+    /// How many digests its boots have made. A boot makes that of a window anew only where a step
+    /// has changed the window since. The count is no part of any contract.
+    pub fn digests_made(&self) -> u64 {
+        self.parts.board.digests_made()
     }
 
     /// Serves a command or a UF2 block in BOOTSEL, but for the boot that it may ask for, which is
@@ -123,10 +130,10 @@ impl<B: Bench> Machine<B> {
         serve(&mut self.parts, event, line)
     }
 
-    /// What an event does, by the table of the machine: for each machine m for which it stands, it
-    /// then stands for one to which the event takes m, and the line becomes the text of the event.
-    /// Lost power is the only thing that stops a step; it takes no memory. (RP2350 Datasheet,
-    /// chapter 5, Bootrom; the profile and the texts are this project's own.)
+    /// What an event does, by the table of the machine. For each machine m for which it stands, it
+    /// then stands for one to which the event takes m. The line becomes the text of the event. Lost
+    /// power is the only thing that stops a step; it takes no memory. (RP2350 Datasheet, chapter 5,
+    /// Bootrom; the profile and the texts are this project's own.)
     pub fn step(&mut self, event: &Event<'_>, line: &mut ArrayString<320>)
         requires { IsWritableEvent (event_from event.now) }
         ensures { (m : Model) → Stands B.state self.old m

@@ -1,6 +1,7 @@
 //! The parts of a machine.
 
 use crate::state::{Membership, State};
+use crate::watched::Watched;
 use boot_rules::Found;
 use pico_board::{Board, Cpu};
 use ram_start::Ram;
@@ -10,8 +11,8 @@ use uf2_place::Download;
 /// The parts of a machine.
 #[derive(Drop)]
 pub struct Parts<B: Board> {
-    /// The board.
-    pub board: B,
+    /// The board, with what is remembered of the digests of its windows.
+    pub board: Watched<B>,
     /// The sectors that calls borrow.
     pub pool: SectorPool,
     /// The place of downloads.

@@ -109,8 +109,8 @@ pub fn what_a_block_leaves()
         ≡ line_only busy (codes "uf2 bad magic") }
 {}
 
-/// The boot after a download: an update of its window for the three families of executables, and a
-/// normal boot for others; none where the target stays.
+/// The boot after a download. For the three families of executables it is an update of its window,
+/// and for others a normal boot. There is none where the target stays.
 pub fn boots_after_downloads()
     ensures arm { done_boot 0xe48bff59 (slot_two false) ≡ Some (Update 0x10020000) }
     ensures riscv { done_boot 0xe48bff5a (slot_two false) ≡ Some (Update 0x10020000) }

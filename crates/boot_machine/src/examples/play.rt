@@ -32,7 +32,7 @@ ghost use Rattle.uf2_place.specs.Blocks.{written_block as block_bytes};
 ghost use Rattle.uf2_place.specs.declared.answer.Ruling.TheVariants.{Begins};
 
 /// On a flash with an image in A of its pair, BOOTSEL answers B as the target of rp2350-arm-s, and
-/// no target for rp2040; the next block of rp2350-arm-s begins a download into B.
+/// no target for rp2040. The next block of rp2350-arm-s begins a download into B.
 pub fn an_answered_target()
     ensures entered { entered image_in_a ≡ InBootsel pair_host }
     ensures b { AnswersTarget image_in_a Arm pair_host (asks_target 0xe48bff59) [] 0xe48bff59
@@ -67,8 +67,8 @@ pub fn a_run_into_ram()
         ++ codes "rollback=none trial=no") ram_image }
 {}
 
-/// A host raises the row of the slot size, and the next info command answers the new size: the
-/// table is kept from the entry of BOOTSEL, the slot size is not.
+/// A host raises the row of the slot size, and the next info command answers the new size. The
+/// table is kept from the entry of BOOTSEL, and the slot size is not.
 pub fn a_slot_size_that_is_raised()
     ensures before { (serves (tables_content 0 [] []) Arm idle (info 16 3 0) []).text
         ≡ codes "cmd 0x8b token=0x00000001 status=0 reply=16 "

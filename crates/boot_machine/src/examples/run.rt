@@ -86,8 +86,8 @@ pub fn rows_of_a_running_image()
         ≡ stays_with_line (Running (FromRam image)) (codes "buy none") }
 {}
 
-/// In each state a cut is armed, in place of a former one where the board tells it, and the end of
-/// the script does nothing.
+/// In each state a cut is armed, in place of a former one where the board tells it. The end of the
+/// script does nothing.
 pub fn rows_of_any_state()
     ensures cut { (m : MachineView) (left : ℕ) (within : Bool) (pattern : List ℕ)
         → effect m (EventView.Cut left within pattern)
@@ -104,7 +104,7 @@ pub fn rows_of_any_state()
         → armed_for armed (EventView.Command command payload) ≡ armed }
 {}
 
-/// A boot does what its decision says: it starts an image, with the steps of a start, or enters
+/// A boot does what its decision says. It starts an image, with the steps of a start, or enters
 /// BOOTSEL, with the table of the content, without a download and with an SRAM of zeros.
 pub fn what_a_boot_does()
     ensures starts { (c : Content) (cpu : Cpu) (choice : Choice)

@@ -43,9 +43,10 @@ ghost use Rattle.uf2_place.specs.Rulings.{begun, is_page_within, ruling, wanted}
 ghost use Rattle.uf2_place.specs.declared.answer.PlaceFault.TheVariants.{NoTarget, NotPermitted, Outside};
 ghost use Rattle.uf2_place.specs.declared.block.Uf2.{Uf2};
 
-/// Where an info command is answered by the words of a target of a family, or by the one word 0,
-/// that is the family's target, or it has none, and no other target has these bytes. A block of the
-/// family that begins a download and is not skipped is taken or refused by it.
+/// Where an info command is answered by the words of a target of a family, that is the family's
+/// target. Where it is answered by the one word 0, the family has none. No other target has these
+/// bytes. A block of the family that begins a download and is not skipped is taken or refused by
+/// it.
 pub fn answered_target()
     ensures target { (c : Content) (cpu : Cpu) (host : Host) (command payload : List ℕ)
         (family : ℕ) (answer : Option Target)
@@ -67,11 +68,10 @@ pub fn answered_target()
         → served_event c cpu host (EventView.Uf2 bytes) ≡ served_by host answer b }
 {}
 
-/// An info command that is answered by a target, or by none, and then a block of its family that
-/// begins a download, one event after the other. The info command leaves the machine as it is, and
-/// its line has the target's words. Without a target the block is refused; with one it is refused
-/// outside its window or where the sector may not be written, and otherwise it is the first one of
-/// a download into it.
+/// An info command is answered by a target, or by none, and the next event is a block of its family
+/// that begins a download. The info command leaves the machine as it is, and its line has the
+/// target's words. Without a target the block is refused. With one it is refused outside its window
+/// or where the sector may not be written, and otherwise it is the first one of a download into it.
 pub fn answered_target_is_taken()
     ensures told { (m n : MachineView) (host : Host) (command payload text : List ℕ) (family : ℕ)
         (answer : Option Target)
@@ -128,7 +128,7 @@ pub fn answered_target_is_taken()
         (followed m.content m.cpu (taken_in host t (b ∷ []) b (grown t [] (b ∷ [])))) o line }
 {}
 
-/// Every run has the writes to the SRAM since BOOTSEL was entered, and in a run that begins without
+/// Every run has the writes to the SRAM since BOOTSEL was entered. In a run that begins without
 /// power or in BOOTSEL as it is entered, the SRAM is what they leave.
 pub fn ram_after_writes()
     ensures runs { (m n : MachineView) (before : List RamWrite) (events : List EventView)
@@ -143,10 +143,10 @@ pub fn ram_after_writes()
         → host.ram ≡ ram_after behind }
 {}
 
-/// In every run that begins without power or in BOOTSEL as it is entered, a machine that starts an
-/// image in RAM does so by a reboot command whose range holds that image, valid in what the writes
-/// since BOOTSEL was entered have left there, and not below its rollback rows. A RAM command does
-/// no step: it leaves the content and the armed cut.
+/// In every run that begins without power or in BOOTSEL as it is entered, a machine starts an image
+/// in RAM by a reboot command whose range holds that image. It is valid in what the writes since
+/// BOOTSEL was entered have left there, and not below its rollback rows. A RAM command does no
+/// step: it leaves the content and the armed cut.
 pub fn ram_start()
     ensures starts { (m n o : MachineView) (events : List EventView) (texts : List (List ℕ))
         (event : EventView) (text : List ℕ) (s : Started)
@@ -176,9 +176,10 @@ pub fn a_told_cut_decides()
         → m.armed ≡ None → Moves m event n text → n.armed ≡ None }
 {}
 
-/// There is a move for every machine and event: where the board does not tell its armed cut, the
-/// one with all steps done; where it tells that none is armed, that one alone; and where it tells a
-/// cut, whose pattern has bytes, and the steps lie in the content, the one that the cut decides.
+/// There is a move for every machine and event. Where the board does not tell its armed cut, there
+/// is the one with all steps done. Where it tells that none is armed, there is that one alone.
+/// Where it tells a cut, whose pattern has bytes, and the steps lie in the content, there is the
+/// one that the cut decides.
 pub fn there_is_a_move()
     ensures untold { (m : MachineView) (event : EventView) → m.armed ≡ None
         → ((n : MachineView) × (text : List ℕ)
@@ -196,7 +197,7 @@ pub fn there_is_a_move()
         → ((n : MachineView) × (text : List ℕ) × Moves m event n text) }
 {}
 
-/// The text of a move is `power lost` exactly where power was lost in a step, and that is where a
+/// The text of a move is `power lost` exactly where power was lost in a step. That is where a
 /// machine that had power is off. In an event without steps no power is lost.
 pub fn only_lost_power_says_so()
     ensures text { (m n : MachineView) (event : EventView) (text : List ℕ) → Moves m event n text
@@ -209,9 +210,9 @@ pub fn only_lost_power_says_so()
         → IsDoneWhole m (armed_for m.armed event) (effect m event) n text }
 {}
 
-/// The text of a move is that of an event, and what it tells is in the ranges of its fields, where
-/// the numbers of the machine and of the event are in theirs; so it has at most 181 bytes, and a
-/// line has room for it.
+/// The text of a move is that of an event. What it tells is in the ranges of its fields, where the
+/// numbers of the machine and of the event are in theirs. So it has at most 181 bytes, and a line
+/// has room for it.
 pub fn texts_of_moves()
     ensures told { (m n : MachineView) (event : EventView) (text : List ℕ) → AreInRange m event
         → Moves m event n text → (told : Line) × (text ≡ event_text told) × IsLine told }
@@ -254,7 +255,7 @@ pub fn the_table_is_kept()
 {}
 
 /// Whatever is recorded of a board, a step whose line does not say that power was lost appends the
-/// event's steps to it, here to what was done from a content on; where the line says so, the board
+/// event's steps to it, here to what was done from a content on. Where the line says so, the board
 /// has no power, and its count of cuts rose.
 pub fn a_step_tells_what_it_did()
     ensures recorded { (c : Content) (old new : Parts BoardState) (m : MachineView)
@@ -269,7 +270,7 @@ pub fn a_step_tells_what_it_did()
 {}
 
 /// In every run that begins without power or in BOOTSEL as it is entered, a trial image that runs
-/// is what a boot chooses on the content as it is: its start wrote nothing, and nothing is written
+/// is what a boot chooses on the content as it is. Its start wrote nothing, and nothing is written
 /// while it runs. So what is said of the own writes of a buy holds of each buy in a run.
 pub fn a_running_trial_is_chosen()
     ensures { (m n : MachineView) (events : List EventView) (texts : List (List ℕ))
@@ -280,7 +281,7 @@ pub fn a_running_trial_is_chosen()
 {}
 
 /// The ruling on a block by the blocks that a download stands for is the ruling by what the
-/// download keeps, whose answers come by their rules.
+/// download keeps. Its answers come by their rules.
 pub fn rulings_are_by_the_blocks()
     ensures { (n : ℕ) (table : Option Table) (c : Content) (cpu : Cpu) (d : DownloadView)
         (pool : Pool)

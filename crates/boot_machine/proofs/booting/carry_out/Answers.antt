@@ -1,22 +1,22 @@
 use Rattle.boot_machine.proofs.BootLemmas.{placed-by, valid-by, held-by}
-use Rattle.boot_machine.proofs.booting.boot.Goals as goal
+use Rattle.boot_machine.proofs.booting.carry_out.Goals as goal
 
 -- the choice of a decision is placed, and its image is valid
 pub settle-requires-clause-placed : goal.settle-requires-clause-placed
 settle-requires-clause-placed g c =
-    placed-by _ c.args.cpu c.args.kind c.in-Start.choice c.decide-decision.result
-    (g.met.B.Board.is_content c.args.board.now) c.decide-decision.ensures.chosen c.in-Start.is
+    placed-by _ c.args.cpu c.requires.chosen.0 c.in-Start.choice c.args.decision
+    (g.met.B.Board.is_content c.args.board.now) c.requires.chosen.1 c.in-Start.is
 
 pub settle-requires-clause-valid : goal.settle-requires-clause-valid
 settle-requires-clause-valid g c =
-    valid-by _ c.args.cpu c.args.kind c.in-Start.choice c.decide-decision.result
-    (g.met.B.Board.is_content c.args.board.now) c.decide-decision.ensures.chosen c.in-Start.is
+    valid-by _ c.args.cpu c.requires.chosen.0 c.in-Start.choice c.args.decision
+    (g.met.B.Board.is_content c.args.board.now) c.requires.chosen.1 c.in-Start.is
 
 pub returns-in_ok-settle-in-Start-clause-held : goal.returns-in_ok-settle-in-Start-clause-held
 returns-in_ok-settle-in-Start-clause-held g c =
     let right = g.met.B.Board.is_content c.args.board.now in
-    let chosen = c.decide-decision.ensures.chosen in
+    let chosen = c.requires.chosen.1 in
     held-by (g.B.Board.state c.args.board.now).content _ c.args.cpu c.in-Start.choice
     c.in_ok-settle-in-Start.ensures.steps.size c.in_ok-settle-in-Start.ensures.steps.done
-    (placed-by _ c.args.cpu c.args.kind c.in-Start.choice c.decide-decision.result right chosen c.in-Start.is)
-    (valid-by _ c.args.cpu c.args.kind c.in-Start.choice c.decide-decision.result right chosen c.in-Start.is)
+    (placed-by _ c.args.cpu c.requires.chosen.0 c.in-Start.choice c.args.decision right chosen c.in-Start.is)
+    (valid-by _ c.args.cpu c.requires.chosen.0 c.in-Start.choice c.args.decision right chosen c.in-Start.is)

@@ -1,0 +1,12 @@
+use Rattle.std.proofs.Common.{refl}
+use Rattle.image_check.proofs.DigestLemmas.{knows-same}
+use Rattle.boot_machine.proofs.WatchedLemmas.{supplied-flash}
+use Rattle.boot_machine.proofs.watched.WatchedBench.arm_cut.Goals as goal
+
+pub invariant_of-self : goal.invariant_of-self
+invariant_of-self g c =
+    let state = g.B.Board.state in
+    let old = c.self.inside.board in
+    let new = c.arm_cut.new.self in
+    knows-same (state old).content (state new).content c.self.inside.digests
+    (supplied-flash state g.B.Board.history old new _ refl c.arm_cut.ensures) c.self.invariant
