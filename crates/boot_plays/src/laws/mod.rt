@@ -9,8 +9,8 @@ ghost use Rattle.boot_machine.specs.Machines.{MachineView};
 ghost use Rattle.boot_machine.specs.Moves.{Moves, Plays};
 ghost use Rattle.boot_plays.specs.Plays.{IsOfBytes, IsTelling, moved_machine, played};
 
-/// An event takes a machine whose board tells its armed cut to one machine, with one text, by the
-/// table of the machine: those of the function.
+/// By the table of the machine, an event takes a machine whose board tells its armed cut to one
+/// machine, with one text. They are those of the function.
 pub fn told_moves_are_determined()
     ensures only { (m : MachineView) (cut : Option Cut) (event : EventView) (n : MachineView)
         (text : List ℕ) → m.armed ≡ Some cut → Moves m event n text
