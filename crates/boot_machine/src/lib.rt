@@ -23,3 +23,4 @@ mod watched;
 
 pub use machine::Machine;
 pub use state::State;
+pub use watched::Watched;
