@@ -12,6 +12,8 @@ whole process.
 `replay` plays a script of 65,536 UF2 blocks, which fill an erased flash of 16 MiB, beside `cat`,
 which reads the same files and writes as much. The most memory that a run of it had is told too.
 
+`replay` plays 1,000 normal resets on the sealed image of 16 MiB, beside one `boot` of it.
+
 `sweep` judges each cut of a plan that writes a sealed image of 64 KiB, of 1 MiB and of 8 MiB to the
 second of two slots of 8 MiB, of which the first holds an older image of the same length. It stands
 beside `boot` of that flash; two further sweeps, of the plan's steps up to the first program and up to
@@ -63,6 +65,7 @@ MOST_TEXT = 192 * MIB
 INPUT = 2  # the status of a refused input
 UNBOOTABLE = 8  # the status of a script of which some cut leaves nothing to start
 LINE_RUNS = 15
+RESETS = 1000
 SEALED_WORDS = 22  # of a sealing block
 HASHED_WORDS = 10  # of it, before the digest
 
@@ -155,6 +158,17 @@ def memory(command):
 
 def row(name, program, openssl):
     print(f"{name}: {1000 * program:.1f} ms, openssl {1000 * openssl:.1f} ms, ratio {program / openssl:.2f}")
+
+
+def resets(program, folder, board, boot):
+    """Tells of a script of normal resets, which change nothing, beside one boot of the same flash."""
+    paths = [os.path.join(folder, it) for it in ("resets", "reset_flash", "reset_otp")]
+    with open(paths[0], "wb") as file:
+        file.write(b"\4" + b"\5\0\0\0\0\0" * RESETS + b"\0")
+    replay = least([program, "replay", *board, *paths],
+                   lambda lines: sum("start window=0x00000000+0x01000000 " in it for it in lines) == RESETS + 1)
+    print(f"replay of {RESETS:,} resets of one image of 16 MiB: {1000 * replay:.1f} ms, "
+          f"boot {1000 * boot:.1f} ms, ratio {replay / boot:.1f}")
 
 
 def sweeps(program, folder, size, name):
@@ -274,6 +288,7 @@ def main(arguments):
         one = least([program, "boot", paths["one"], paths["otp"], "arm", "normal"],
                     lambda lines: lines[0].startswith("start window=0x00000000+0x01000000 "))
         row("boot of one image of 16 MiB", one, digest("one"))
+        resets(program, folder, [paths["one"], paths["otp"], "arm"], one)
         many = least([program, "info", paths["many"], paths["otp"], "arm"],
                      lambda lines: len(lines) == 1 + PARTITIONS and all(" ok " in line for line in lines[1:]))
         row("info of 15 images of 1 MiB", many, digest("many"))

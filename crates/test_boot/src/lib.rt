@@ -10,6 +10,8 @@ mod buys;
 #[cfg(test)]
 mod decisions;
 #[cfg(test)]
+mod digests;
+#[cfg(test)]
 mod machines;
 #[cfg(test)]
 mod rollback;
