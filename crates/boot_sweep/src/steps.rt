@@ -2,20 +2,19 @@
 
 ghost use Rattle.std.specs.Prelude.{◌≡◌, length};
 ghost use Rattle.pico_board.specs.Cuts.{IsPattern, cut_by, cut_with};
-ghost use Rattle.pico_board.specs.MemBoard.{state_of};
 ghost use Rattle.pico_board.specs.Steps.{IsStepIn, after};
 ghost use Rattle.boot_session.specs.Standing.{IsUnarmed};
 
-use pico_board::{Bench, Board, MemBoard, Step, do_step};
+use pico_board::{Bench, Step, do_step};
 
 /// Does a step whole.
-pub fn complete(board: &mut MemBoard, step: &Step)
-    requires ready { IsUnarmed (state_of board.old) }
-    requires range { IsStepIn (length (state_of board.old).content.flash) step.now }
-    ensures ready { IsUnarmed (state_of board.new) }
-    ensures done { (state_of board.new).content ≡ after (state_of board.old).content step.now }
-    ensures size { length (state_of board.new).content.flash
-        ≡ length (state_of board.old).content.flash }
+pub fn complete<B: Bench>(board: &mut B, step: &Step)
+    requires ready { IsUnarmed (B.state board.old) }
+    requires range { IsStepIn (length (B.state board.old).content.flash) step.now }
+    ensures ready { IsUnarmed (B.state board.new) }
+    ensures done { (B.state board.new).content ≡ after (B.state board.old).content step.now }
+    ensures size { length (B.state board.new).content.flash
+        ≡ length (B.state board.old).content.flash }
 {
     match do_step(board, step) {
         Ok(()) => {}
@@ -25,15 +24,15 @@ pub fn complete(board: &mut MemBoard, step: &Step)
 
 /// Loses power within a step or before it, which leaves what the pattern says, and powers the
 /// board again.
-pub fn cut(board: &mut MemBoard, step: &Step, within: bool, pattern: &[u8])
-    requires ready { IsUnarmed (state_of board.old) }
-    requires range { IsStepIn (length (state_of board.old).content.flash) step.now }
+pub fn cut<B: Bench>(board: &mut B, step: &Step, within: bool, pattern: &[u8])
+    requires ready { IsUnarmed (B.state board.old) }
+    requires range { IsStepIn (length (B.state board.old).content.flash) step.now }
     requires pattern { IsPattern within pattern.now }
-    ensures ready { IsUnarmed (state_of board.new) }
-    ensures torn { (state_of board.new).content
-        ≡ cut_by (cut_with 0 within pattern.now) (state_of board.old).content step.now }
-    ensures size { length (state_of board.new).content.flash
-        ≡ length (state_of board.old).content.flash }
+    ensures ready { IsUnarmed (B.state board.new) }
+    ensures torn { (B.state board.new).content
+        ≡ cut_by (cut_with 0 within pattern.now) (B.state board.old).content step.now }
+    ensures size { length (B.state board.new).content.flash
+        ≡ length (B.state board.old).content.flash }
 {
     board.arm_cut(0, within, pattern);
     match do_step(board, step) {
