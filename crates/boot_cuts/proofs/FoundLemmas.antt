@@ -3,15 +3,19 @@ use Rattle.std.proofs.Common.{◌≡◌, ℕ, ◌≤◌, List, [], ◌∷◌, le
 use Rattle.std.specs.Prelude.{map}
 use Rattle.pico_board.specs.declared.Step.{Step}
 use Rattle.pico_board.specs.declared.boot.Cpu.{Cpu}
+use Rattle.pico_board.specs.declared.boot.BootKind.TheVariants.{Normal}
 use Rattle.pico_board.specs.Content.{Content}
 use Rattle.pico_board.specs.Cuts.{cut_by, cut_with}
 use Rattle.pico_board.specs.MemBoard.{state_of}
 use Rattle.pico_board.specs.Steps.{after}
+use Rattle.boot_rules.specs.declared.decision.Decision.{Decision}
+use Rattle.boot_rules.specs.Choosing.{decision_in}
 use Rattle.boot_script.specs.Events.{EventView}
 use Rattle.boot_cuts.specs.declared.moves.Move.{Move}
 use Rattle.boot_cuts.specs.declared.runs.Run.{Run}
 use Rattle.boot_cuts.specs.declared.trace.Trace.{Trace}
 use Rattle.boot_cuts.specs.Answers.{answer_of, answers}
+use Rattle.boot_cuts.specs.Classing.{class_by, class_of}
 use Rattle.boot_cuts.specs.Contents.{cut_contents}
 use Rattle.boot_cuts.specs.Moving.{AreMovesIn, MoveView, Done, Torn, done_count, done_steps, moves_from, traced_by}
 use Rattle.boot_cuts.specs.Playing.{IsTraceOf}
@@ -55,3 +59,10 @@ moves-few c cpu events t moves is same =
     let count = ap (λ ms. done_count (moves_from ms)) same
     ∙ (count-traced c (moves_from t.moves.items) ∙ ap (λ (ts : List Traced). length ts) is.steps) in
     let short = is.short in omega (arith, count, short)
+
+-- the class of what the script leaves, by the decisions that are known
+pub end-found : (c z : Content) (cpu : Cpu) (former finished : Decision) → former ≡ decision_in c cpu Normal
+    → finished ≡ decision_in z cpu Normal → class_by former finished cpu c z z finished ≡ class_of c z cpu z
+end-found c z cpu former finished one two =
+    ap (λ d. class_by d finished cpu c z z finished) one
+    ∙ ap (λ d. class_by (decision_in c cpu Normal) d cpu c z z d) two

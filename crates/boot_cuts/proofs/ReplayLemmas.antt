@@ -1,22 +1,22 @@
 -- A cut is a replay: a script that arms it before its event leaves its content, and power that comes back boots it.
-use Rattle.std.proofs.Common.{◌≡◌, ℕ, zero, suc, ◌+◌, ◌-◌, ◌*◌, ◌<◌, Bool, true, false, List, [], ◌∷◌, ◌++◌, length, take, Option, Some, None, refl, sym, ap, ◌∙◌, subst, arith, append_assoc, length-append}
+use Rattle.std.proofs.Common.{◌≡◌, ℕ, zero, suc, ◌+◌, ◌-◌, ◌*◌, Bool, true, false, List, [], ◌∷◌, ◌++◌, length, take, Option, Some, None, refl, sym, ap, ◌∙◌, subst, arith, append_assoc}
 use Rattle.std.specs.Prelude.{◌==◌, if◌then◌else◌, slice_get, option_map, codes}
 use Rattle.std.proofs.lemmas.Bool.Decides.{nat_tests}
 use Rattle.pico_board.specs.declared.Step.{Step}
 use Rattle.pico_board.specs.declared.boot.Cpu.{Cpu}
 use Rattle.pico_board.specs.declared.boot.BootKind.TheVariants.{Normal}
 use Rattle.pico_board.specs.Content.{Content}
-use Rattle.pico_board.specs.Cuts.{Cut, CutOutcome, cut_by, cut_steps, cut_with, nearer}
+use Rattle.pico_board.specs.Cuts.{Cut, CutOutcome, cut_by, cut_steps, cut_with}
 use Rattle.pico_board.specs.Steps.{after, after_all}
 use Rattle.boot_rules.specs.Choosing.{decision_in}
 use Rattle.boot_script.specs.Events.{EventView}
-use Rattle.boot_machine.specs.Machines.{MachineView, Off, StateView}
+use Rattle.boot_machine.specs.Machines.{MachineView, Off}
 use Rattle.boot_machine.specs.Moves.{armed_for, effect, lost_text, reset}
 use Rattle.text_lines.specs.Texts.{decision_text}
 use Rattle.boot_plays.specs.Plays.{Moved, Played, moved_as, moved_machine, played, powerless, told_cut}
 use Rattle.boot_plays.proofs.PlayLemmas.{moved-as, moved-told}
 use Rattle.boot_cuts.specs.Contents.{cut_content, cut_contents}
-use Rattle.boot_cuts.specs.Moving.{MoveView, Done, Torn, after_moves}
+use Rattle.boot_cuts.specs.Moving.{Done, Torn, after_moves}
 use Rattle.boot_cuts.specs.Playing.{CutMoves, cut_in, cut_moves, move_first}
 use Rattle.boot_cuts.specs.Replaying.{replay_of}
 use Rattle.boot_cuts.specs.Traces.{Traced, completed, event_steps, traced, traced_from}

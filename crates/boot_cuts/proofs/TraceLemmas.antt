@@ -8,7 +8,7 @@ use Rattle.std.proofs.lemmas.List.{drop_more, length-take, length-take-le, take-
 use Rattle.pico_board.specs.declared.Step.{Step}
 use Rattle.pico_board.specs.Board.{State, Does}
 use Rattle.pico_board.specs.Content.{Content}
-use Rattle.pico_board.specs.Cuts.{Cut, CutOutcome, cut_by, cut_steps, cut_with, nearer, unless_cut}
+use Rattle.pico_board.specs.Cuts.{Cut, cut_by, cut_steps, cut_with, nearer, unless_cut}
 use Rattle.pico_board.specs.Steps.{IsStepIn, after, after_all}
 use Rattle.pico_board.specs.MemBoard.{state_of}
 use Rattle.boot_session.proofs.PlanStepLemmas.{all-append}
@@ -18,7 +18,7 @@ use Rattle.boot_cuts.specs.declared.tracer.Tracer.{Tracer}
 use Rattle.boot_cuts.specs.declared.moves.Move.{Move}
 use Rattle.boot_cuts.specs.Moving.{AreMovesIn, IsMoveIn, MoveView, Done, Torn, move_from, after_move, after_moves, done_count, moves_from, traced_by}
 use Rattle.boot_cuts.specs.Playing.{CutMoves, HasCompleted, HasLost, IsLeftBy, cut_from, cut_moves, move_first, told_of}
-use Rattle.boot_cuts.specs.Traces.{Traced, completed, traced_from}
+use Rattle.boot_cuts.specs.Traces.{completed, traced_from}
 use Rattle.boot_cuts.specs.Tracing.{HasTraced, first_steps, traced_more}
 
 take-more : {X : Type 0} (n : ℕ) (h : List X) (s : X)

@@ -1,6 +1,5 @@
 -- Where a script leads from and to.
-use Rattle.std.specs.Prelude.{◌≡◌, ℕ, ◌+◌, IsTrue, List, [], ◌∷◌, ◌++◌, map, length}
-use Rattle.pico_board.specs.declared.boot.Cpu.{Cpu}
+use Rattle.std.specs.Prelude.{◌≡◌, ℕ, IsTrue, List, map, length}
 use Rattle.pico_board.specs.declared.boot.BootKind.TheVariants.{Normal}
 use Rattle.pico_board.specs.Content.{Content}
 use Rattle.pico_board.specs.MemBoard.{state_of}

@@ -16,6 +16,7 @@ ghost use Rattle.boot_cuts.specs.Judging.{AreEnds, judge};
 
 use crate::answers::{Answer, Class};
 use crate::judging::{Ends, answer_on, class_on};
+use boot_machine::Watched;
 use boot_rules::Decision;
 use boot_sweep::{Last, Slot, Verdict, verdict_beside};
 use pico_board::{MemBoard, Window};
@@ -67,30 +68,31 @@ fn copy_of_decision(decision: &Decision) -> Result<Decision, AllocError>
 
 /// What a normal boot makes of a board, whose decision is this one beside the others.
 fn answer_by(
-    board: &MemBoard,
+    board: &mut Watched<MemBoard>,
     pool: &mut SectorPool,
     ends: &Ends<'_>,
     slot: Slot,
     verdict: Verdict,
 ) -> Result<Answer, AllocError>
-    requires power { IsTrue (state_of board.now).powered }
+    requires power { IsTrue (state_of board.old).powered }
     requires free { HasFree pool.old }
-    requires ends { AreEnds ends.now (length (state_of board.now).content.flash) }
+    requires ends { AreEnds ends.now (length (state_of board.old).content.flash) }
     requires same { SameButWindow slot.window (state_of ends.now.start.now).content
-        (state_of board.now).content }
+        (state_of board.old).content }
     requires verdict { verdict ≡ verdict_by ends.now.ends.former ends.now.ends.finished
-        (decision_in (state_of board.now).content ends.now.ends.cpu Normal) }
+        (decision_in (state_of board.old).content ends.now.ends.cpu Normal) }
     ensures exact { IfOk result (λ answer. answer
-        ≡ judge ends.now (state_of board.now).content) }
+        ≡ judge ends.now (state_of board.old).content) }
+    ensures same { board.new ≡ board.old }
     ensures kept { KeepsOut pool.old pool.new }
 {
     match verdict {
         Verdict::Before => Ok(Answer {
-            class: former_class(board, ends, slot),
+            class: former_class(board.board(), ends, slot),
             decision: copy_of_decision(&ends.ends.former)?,
         }),
         Verdict::After => Ok(Answer {
-            class: class_on(board, ends, &ends.ends.finished),
+            class: class_on(board.board(), ends, &ends.ends.finished),
             decision: copy_of_decision(&ends.ends.finished)?,
         }),
         Verdict::Other => Ok(answer_on(board, pool, ends)),
@@ -99,27 +101,28 @@ fn answer_by(
 
 /// What a normal boot makes of a board, where the steps lie in this slot, if in one.
 pub fn answer_beside(
-    board: &MemBoard,
+    board: &mut Watched<MemBoard>,
     pool: &mut SectorPool,
     ends: &Ends<'_>,
     slot: Option<Slot>,
     last: &mut Option<Last>,
 ) -> Result<Answer, AllocError>
-    requires power { IsTrue (state_of board.now).powered }
+    requires power { IsTrue (state_of board.old).powered }
     requires free { HasFree pool.old }
-    requires ends { AreEnds ends.now (length (state_of board.now).content.flash) }
+    requires ends { AreEnds ends.now (length (state_of board.old).content.flash) }
     requires known { Knows (state_of ends.now.start.now).content ends.now.ends.cpu
-        ends.now.ends.former ends.now.ends.finished slot last.old (state_of board.now).content }
+        ends.now.ends.former ends.now.ends.finished slot last.old (state_of board.old).content }
     ensures exact { IfOk result (λ answer. answer
-        ≡ judge ends.now (state_of board.now).content) }
+        ≡ judge ends.now (state_of board.old).content) }
     ensures known { OnOk result (Knows (state_of ends.now.start.now).content ends.now.ends.cpu
         ends.now.ends.former ends.now.ends.finished slot last.new
-        (state_of board.now).content) }
+        (state_of board.old).content) }
+    ensures same { board.new ≡ board.old }
     ensures kept { KeepsOut pool.old pool.new }
 {
     match slot {
         Some(slot) => {
-            let verdict = verdict_beside(board, pool, &ends.ends, slot, last);
+            let verdict = verdict_beside(board.board(), pool, &ends.ends, slot, last);
             answer_by(board, pool, ends, slot, verdict)
         }
         None => Ok(answer_on(board, pool, ends)),

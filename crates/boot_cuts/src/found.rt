@@ -15,12 +15,13 @@ ghost use Rattle.boot_cuts.specs.Playing.{IsTraceOf};
 
 use crate::answers::Class;
 use crate::copying::copy_of;
-use crate::judging::{Ends, answer_on};
+use crate::judging::{Ends, class_on};
 use crate::moves::Move;
 use crate::playing::trace_on;
 use crate::runs::Run;
 use crate::trace::Trace;
 use crate::walking::runs_on;
+use boot_machine::Watched;
 use boot_rules::{Decision, decide};
 use boot_script::Script;
 use boot_sweep::{Ends as SweepEnds, Slot, slot_of};
@@ -95,7 +96,8 @@ pub fn cuts_of(
         → AreCutsOf (state_of board).content cpu events pattern.now found) }
 {
     let mut pool = pool_of(alloc)?;
-    let mut beside = copy_of(alloc, &board)?;
+    let copy = copy_of(alloc, &board)?;
+    let mut beside = Watched::new(copy);
     let ends = Ends {
         start: &board,
         ends: SweepEnds {
@@ -106,7 +108,7 @@ pub fn cuts_of(
         },
     };
     let steps = steps_of(alloc, &trace.moves)?;
-    let slot = slot_beside(&beside, cpu, &steps, &trace.moves);
+    let slot = slot_beside(&board, cpu, &steps, &trace.moves);
     let runs = runs_on(
         alloc,
         &mut beside,
@@ -116,13 +118,13 @@ pub fn cuts_of(
         &trace.moves,
         pattern,
     )?;
-    let end = answer_on(&trace.board, &mut pool, &ends);
+    let end = class_on(&trace.board, &ends, &ends.ends.finished);
     Ok(Cuts {
         steps,
         runs,
         former: ends.ends.former,
         finished: ends.ends.finished,
-        end_: end.class,
+        end_: end,
     })
 }
 

@@ -13,7 +13,8 @@ ghost use Rattle.boot_cuts.specs.Classing.{class_by, has_image_of, is_as_on, is_
 ghost use Rattle.boot_cuts.specs.Judging.{AreEnds};
 
 use crate::answers::{Answer, Class};
-use boot_rules::{Decision, decide};
+use boot_machine::Watched;
+use boot_rules::Decision;
 use boot_sweep::{Ends as SweepEnds, is_same_decision};
 use image_check::same_content;
 use pico_board::{Board, BootKind, Cpu, FlashView, MemBoard};
@@ -113,16 +114,17 @@ pub fn class_on(board: &MemBoard, ends: &Ends<'_>, decision: &Decision) -> Class
     }
 }
 
-/// What a normal boot makes of a board.
-pub fn answer_on(board: &MemBoard, pool: &mut SectorPool, ends: &Ends<'_>) -> Answer
-    requires power { IsTrue (state_of board.now).powered }
+/// What a normal boot makes of a board. A digest is made only where it is not remembered.
+pub fn answer_on(board: &mut Watched<MemBoard>, pool: &mut SectorPool, ends: &Ends<'_>) -> Answer
+    requires power { IsTrue (state_of board.old).powered }
     requires free { HasFree pool.old }
-    requires ends { AreEnds ends.now (length (state_of board.now).content.flash) }
+    requires ends { AreEnds ends.now (length (state_of board.old).content.flash) }
     ensures exact { result ≡ answer_of (state_of ends.now.start.now).content
-        (state_of ends.now.ends.board.now).content ends.now.ends.cpu (state_of board.now).content }
+        (state_of ends.now.ends.board.now).content ends.now.ends.cpu (state_of board.old).content }
+    ensures same { board.new ≡ board.old }
     ensures kept { KeepsOut pool.old pool.new }
 {
-    let decision = decide(board, pool, ends.ends.cpu, BootKind::Normal);
-    let class = class_on(board, ends, &decision);
+    let decision = board.decide(pool, ends.ends.cpu, BootKind::Normal);
+    let class = class_on(board.board(), ends, &decision);
     Answer { class, decision }
 }

@@ -18,6 +18,7 @@ use crate::beside::answer_beside;
 use crate::judging::Ends;
 use crate::moves::Move;
 use crate::runs::{Run, Runs};
+use boot_machine::Watched;
 use boot_sweep::{Last, Slot, complete, cut};
 use pico_board::{MemBoard, Step};
 use sector_pool::SectorPool;
@@ -26,7 +27,7 @@ use std::alloc::{AllocError, Global};
 /// Adds the cuts before and within a step, which the board then does. A step that is done where it
 /// was torn leaves the same as where it was not.
 fn judge_step(
-    board: &mut MemBoard,
+    board: &mut Watched<MemBoard>,
     pool: &mut SectorPool,
     ends: &Ends<'_>,
     slot: Option<Slot>,
@@ -67,7 +68,7 @@ fn judge_step(
 
 /// Adds the cuts of what a script does, which the board then does.
 fn judge_move(
-    board: &mut MemBoard,
+    board: &mut Watched<MemBoard>,
     pool: &mut SectorPool,
     ends: &Ends<'_>,
     slot: Option<Slot>,
@@ -112,7 +113,7 @@ fn judge_move(
 /// The runs of the cuts before and within each step that a script completes, on a board before it.
 pub fn runs_on(
     alloc: Global,
-    board: &mut MemBoard,
+    board: &mut Watched<MemBoard>,
     pool: &mut SectorPool,
     ends: &Ends<'_>,
     slot: Option<Slot>,

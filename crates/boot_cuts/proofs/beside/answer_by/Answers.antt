@@ -1,15 +1,18 @@
 use Rattle.std.proofs.Common.{◌∙◌, ap, length, sym}
+use Rattle.pico_board.specs.declared.mem_board.MemBoard.{MemBoard}
 use Rattle.pico_board.specs.MemBoard.{state_of}
 use Rattle.pico_board.specs.declared.boot.BootKind.TheVariants.{Normal}
 use Rattle.boot_rules.specs.Choosing.{decision_in}
 use Rattle.boot_cuts.specs.Classing.{class_by}
+use Rattle.boot_cuts.specs.Judging.{judge}
 use Rattle.boot_cuts.proofs.BesideLemmas.{answer-parts, decides-after, decides-before, judge-by}
 use Rattle.boot_cuts.proofs.beside.answer_by.Goals as goal
 
 pub former_class-requires-clause-decided : goal.former_class-requires-clause-decided
 former_class-requires-clause-decided c =
     let ends = c.args.ends.now.ends in
-    decides-before ends.former ends.finished (decision_in (state_of c.args.board.now).content ends.cpu Normal)
+    ap (λ (b : MemBoard). decision_in (state_of b).content ends.cpu Normal) c.board.ensures
+    ∙ decides-before ends.former ends.finished (decision_in (state_of c.args.board.now).content ends.cpu Normal)
     (sym c.in-Before.is ∙ c.requires.verdict)
 
 pub returns-in_ok-copy_of_decision-in-Before-clause-exact : goal.returns-in_ok-copy_of_decision-in-Before-clause-exact
@@ -17,16 +20,23 @@ returns-in_ok-copy_of_decision-in-Before-clause-exact c =
     let ends = c.args.ends.now.ends in
     let decided = decides-before ends.former ends.finished
     (decision_in (state_of c.args.board.now).content ends.cpu Normal) (sym c.in-Before.is ∙ c.requires.verdict) in
-    answer-parts _ _ _ _ c.former_class.ensures (c.in_ok-copy_of_decision-in-Before.ensures ∙ sym decided)
+    answer-parts _ _ _ _
+    (c.former_class.ensures
+    ∙ ap (λ (b : MemBoard). (judge c.args.ends.now (state_of b).content).class) c.board.ensures)
+    (c.in_ok-copy_of_decision-in-Before.ensures ∙ sym decided)
 
 pub returns-in_ok-copy_of_decision-in-After-clause-exact : goal.returns-in_ok-copy_of_decision-in-After-clause-exact
 returns-in_ok-copy_of_decision-in-After-clause-exact c =
     let ends = c.args.ends.now.ends in
+    let start = (state_of c.args.ends.now.start.now).content in
+    let z = (state_of ends.board.now).content in
     let d = (state_of c.args.board.now).content in
     let decided = decides-after ends.former ends.finished (decision_in d ends.cpu Normal)
     (sym c.in-After.is ∙ c.requires.verdict) in
     answer-parts _ _ _ _
-    (c.class_on.ensures ∙ (ap (class_by ends.former ends.finished ends.cpu (state_of c.args.ends.now.start.now).content
-    (state_of ends.board.now).content d) (sym decided)
-    ∙ judge-by c.args.ends.now (length d.flash) d c.requires.ends))
+    (c.class_on.ensures
+    ∙ (ap (λ (b : MemBoard). class_by ends.former ends.finished ends.cpu start z (state_of b).content ends.finished)
+    c.board-in-After.ensures
+    ∙ (ap (class_by ends.former ends.finished ends.cpu start z d) (sym decided)
+    ∙ judge-by c.args.ends.now (length d.flash) d c.requires.ends)))
     (c.in_ok-copy_of_decision-in-After.ensures ∙ sym decided)

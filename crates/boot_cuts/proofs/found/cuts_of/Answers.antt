@@ -1,6 +1,6 @@
 use Rattle.std.proofs.Common.{◌∙◌, None, ap, length, refl, subst, sym}
-use Rattle.std.specs.Prelude.{IfSome, map}
-use Rattle.boot_sweep.specs.Verdicts.{IsSweptSlot, Knows}
+use Rattle.std.specs.Prelude.{map}
+use Rattle.boot_sweep.specs.Verdicts.{Knows}
 use Rattle.boot_sweep.proofs.KnownLemmas.{first-known}
 use Rattle.boot_cuts.specs.Beside.{AreMovesBeside}
 use Rattle.pico_board.specs.declared.boot.BootKind.TheVariants.{Normal}
@@ -11,16 +11,17 @@ use Rattle.boot_cuts.specs.Contents.{cut_contents}
 use Rattle.boot_cuts.specs.Moving.{moves_from, traced_by}
 use Rattle.boot_cuts.specs.Runs.{runs_of}
 use Rattle.pico_board.specs.Content.{Content}
+use Rattle.pico_board.specs.declared.mem_board.MemBoard.{MemBoard}
 use Rattle.pico_board.specs.MemBoard.{state_of}
-use Rattle.boot_cuts.specs.declared.answers.Answer.{Answer}
-use Rattle.boot_cuts.proofs.FoundLemmas.{moves-few, moves-inside, runs-found, steps-found}
+use Rattle.boot_cuts.proofs.FoundLemmas.{end-found, moves-few, moves-inside, runs-found, steps-found}
 use Rattle.boot_cuts.proofs.found.cuts_of.Goals as goal
 
 pub runs_on-requires-clause-range : goal.runs_on-requires-clause-range
 runs_on-requires-clause-range c =
     moves-inside (state_of c.args.board).content c.args.cpu c.requires.trace.0 c.args.trace.now c.deref-4.result.now
-    (length (state_of c.in_ok-beside.beside).content.flash) c.requires.trace.1 c.deref-4.ensures.value
-    (ap (λ (x : Content). length x.flash) c.in_ok-beside.ensures.same)
+    (length (state_of c.new-beside.result).content.flash) c.requires.trace.1 c.deref-4.ensures.value
+    (ap (λ (b : MemBoard). length (state_of b).content.flash) c.new-beside.ensures
+    ∙ ap (λ (x : Content). length x.flash) c.in_ok-copy.ensures.same)
 
 pub runs_on-requires-clause-few : goal.runs_on-requires-clause-few
 runs_on-requires-clause-few c =
@@ -31,11 +32,9 @@ pub runs_on-requires-clause-known : goal.runs_on-requires-clause-known
 runs_on-requires-clause-known c =
     let start = (state_of c.args.board).content in
     subst (λ d. Knows start c.args.cpu c.decide.result c.decide-2.result c.slot_beside-slot.result None d)
-    (sym c.in_ok-beside.ensures.same)
+    (sym (ap (λ (b : MemBoard). (state_of b).content) c.new-beside.ensures ∙ c.in_ok-copy.ensures.same))
     (first-known start c.args.cpu c.decide.result c.decide-2.result c.deref-2.result.now c.slot_beside-slot.result
-    c.args.board.sizes
-    (subst (λ d. IfSome c.slot_beside-slot.result (IsSweptSlot d c.args.cpu c.deref-2.result.now))
-    c.in_ok-beside.ensures.same c.slot_beside-slot.ensures.slot))
+    c.args.board.sizes c.slot_beside-slot.ensures.slot)
 
 pub runs_on-requires-clause-slot : goal.runs_on-requires-clause-slot
 runs_on-requires-clause-slot c =
@@ -54,9 +53,11 @@ returns c = λ events is.
           c.deref-4.result.now is c.deref-4.ensures.value refl
           (c.in_ok-runs.ensures.told
           ∙ ap (λ x. runs_of (map (answer_of start z cpu) (cut_contents c.args.pattern.now
-          (traced_by x (moves_from c.deref-4.result.now))))) c.in_ok-beside.ensures.same);
+          (traced_by x (moves_from c.deref-4.result.now)))))
+          (ap (λ (b : MemBoard). (state_of b).content) c.new-beside.ensures ∙ c.in_ok-copy.ensures.same));
       former = c.decide.ensures.function;
       finished = c.decide-2.ensures.function ∙ ap (λ x. decision_in x cpu Normal) is.content;
-      end_ = ap (λ (a : Answer). a.class) c.answer_on-end.ensures.exact
-          ∙ ap (λ x. class_of start x cpu x) is.content;
+      end_ = c.class_on-end.ensures
+          ∙ (end-found start z cpu c.decide.result c.decide-2.result c.decide.ensures.function c.decide-2.ensures.function
+          ∙ ap (λ x. class_of start x cpu x) is.content);
     }

@@ -1,4 +1,4 @@
-use Rattle.std.proofs.Common.{◌<◌, None, length, subst}
+use Rattle.std.proofs.Common.{◌<◌, length, subst}
 use Rattle.std.specs.Prelude.{MatchOption}
 use Rattle.pico_board.specs.MemBoard.{state_of}
 use Rattle.boot_script.specs.Scripts.{script_events}

@@ -1,4 +1,4 @@
-use Rattle.std.proofs.Common.{◌≡◌, ◌∙◌, None, List, ap, length, subst, sym}
+use Rattle.std.proofs.Common.{◌∙◌, List, ap, length, subst, sym}
 use Rattle.std.specs.List.{AllByRecursion}
 use Rattle.pico_board.specs.declared.Step.{Step}
 use Rattle.pico_board.specs.MemBoard.{state_of}

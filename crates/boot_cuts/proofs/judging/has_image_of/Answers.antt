@@ -1,5 +1,5 @@
-use Rattle.std.proofs.Common.{◌∙◌, ◌≤◌, ◌+◌, length, ap, subst, sym, arith}
-use Rattle.pico_board.specs.Content.{Content, window_bytes}
+use Rattle.std.proofs.Common.{◌∙◌, ap, subst, sym, arith}
+use Rattle.pico_board.specs.Content.{window_bytes}
 use Rattle.pico_board.specs.MemBoard.{state_of}
 use Rattle.pico_board.specs.declared.boot.BootKind.TheVariants.{Normal}
 use Rattle.boot_rules.specs.Chosen.{Chosen}

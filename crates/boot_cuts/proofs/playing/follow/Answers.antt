@@ -1,4 +1,4 @@
-use Rattle.std.proofs.Common.{◌<◌, arith, refl, sym}
+use Rattle.std.proofs.Common.{arith, refl, sym}
 use Rattle.boot_script.specs.Events.{event_from}
 use Rattle.boot_cuts.proofs.PlayLemmas.{follow-anew, follow-whole, play-armed}
 use Rattle.boot_cuts.proofs.playing.follow.Goals as goal

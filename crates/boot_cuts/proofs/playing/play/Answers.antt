@@ -1,10 +1,10 @@
-use Rattle.std.proofs.Common.{◌∙◌, ◌≡◌, ◌≤◌, ◌-◌, List, ap, sym, subst, length, drop, take, arith}
+use Rattle.std.proofs.Common.{◌∙◌, ◌≡◌, ◌-◌, List, ap, sym, length, drop, take, arith}
 use Rattle.pico_board.specs.declared.Step.{Step}
 use Rattle.pico_board.specs.Content.{Content}
 use Rattle.boot_script.specs.Events.{event_from}
 use Rattle.boot_machine.specs.Moves.{effect}
 use Rattle.boot_cuts.specs.Playing.{HasTaken}
-use Rattle.boot_cuts.proofs.PlayLemmas.{IsDoneBy, done-by, former-within, fresh-in, if-ok, play-on, rest-is}
+use Rattle.boot_cuts.proofs.PlayLemmas.{done-by, former-within, fresh-in, if-ok, play-on, rest-is}
 use Rattle.boot_cuts.proofs.playing.play.Goals as goal
 
 pub slice_bounds-take_steps-count : goal.slice_bounds-take_steps-count

@@ -1,9 +1,8 @@
-use Rattle.std.proofs.Common.{◌≤◌, ◌∙◌, List, [], ap, refl, subst, sym, arith, length}
+use Rattle.std.proofs.Common.{◌∙◌, ap, refl, subst, sym, arith}
 use Rattle.pico_board.specs.MemBoard.{state_of}
-use Rattle.boot_script.specs.Events.{EventView, event_from}
 use Rattle.boot_script.specs.Scripts.{script_events}
 use Rattle.boot_plays.specs.Plays.{powerless}
-use Rattle.boot_cuts.specs.Playing.{IsPlay, IsReady}
+use Rattle.boot_cuts.specs.Playing.{IsPlay}
 use Rattle.boot_cuts.proofs.PlayLemmas.{begins-ready, play-first, traced-end}
 use Rattle.boot_cuts.proofs.playing.trace_on.Goals as goal
 

@@ -1,4 +1,4 @@
-use Rattle.std.proofs.Common.{◌∙◌, drop, false, true, subst, sym, arith, List}
+use Rattle.std.proofs.Common.{◌∙◌, false, true, subst, sym, arith, List}
 use Rattle.std.proofs.lemmas.List.{drop_all}
 use Rattle.pico_board.specs.declared.Step.{Step}
 use Rattle.boot_cuts.specs.Playing.{IsLeftBy, cut_moves, told_of}

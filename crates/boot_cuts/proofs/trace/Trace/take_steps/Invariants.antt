@@ -1,4 +1,4 @@
-use Rattle.std.proofs.Common.{◌≡◌, ◌+◌, Bool, drop, length}
+use Rattle.std.proofs.Common.{◌≡◌, ◌+◌, Bool, drop}
 use Rattle.boot_cuts.specs.declared.trace.Trace.{Trace}
 use Rattle.boot_cuts.specs.Playing.{IsLeftBy, IsReady, cut_moves, flash_long, told_of}
 use Rattle.boot_cuts.proofs.trace.Trace.take_steps.Given as goal
