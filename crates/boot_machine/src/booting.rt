@@ -17,12 +17,11 @@ use boot_rules::{Choice, Decision};
 use pico_board::{Board, BootKind, Cpu, PowerLost};
 use sector_pool::SectorPool;
 use text_lines::put_decision;
-use trial_buy::settle;
 
 /// Puts a decision of the content behind the line, and does what it writes. The answer is the
 /// choice that starts, or none where the boot falls to BOOTSEL.
 fn carry_out<B: Board>(
-    board: &mut B,
+    board: &mut Watched<B>,
     pool: &mut SectorPool,
     cpu: Cpu,
     decision: Decision,
@@ -43,7 +42,7 @@ fn carry_out<B: Board>(
     put_decision(line, &decision);
     match decision {
         Decision::Start(choice) => {
-            settle(board, pool, cpu, &choice)?;
+            board.settle(pool, cpu, &choice)?;
             Ok(Some(choice))
         }
         Decision::Bootsel(_) => Ok(None),

@@ -14,8 +14,9 @@ ghost use Rattle.info_reply.specs.Asks.{reply_checks};
 ghost use Rattle.boot_machine.specs.Serving.{info_words, asked_target, device_of, info_reply, info_status, info_line, table_slot_of, table_of_found};
 
 use crate::found::{table_of_found, table_slot_of};
+use crate::watched::Watched;
 use arrayvec::ArrayString;
-use boot_rules::{Found, Target, target};
+use boot_rules::{Found, Target};
 use info_reply::{Ask, Device, info_ask, info_put};
 use otp_roll::{BOOT_FLAGS, slot_size};
 use part_table::Table;
@@ -39,29 +40,30 @@ fn device_of<B: Board>(board: &B, cpu: Cpu) -> Device
 
 /// The target that an info command asks for, where it asks for one.
 fn asked_target<B: Board>(
-    board: &B,
+    board: &mut Watched<B>,
     pool: &mut SectorPool,
     table: Option<&Table>,
     cpu: Cpu,
     ask: Ask,
 ) -> Option<Target>
-    requires power { IsTrue (B.state board.now).powered }
+    requires power { IsTrue (B.state board.old).powered }
     requires lease { HasFree pool.old }
     requires sound { IsSoundFor (option_map (λ t. t.now) table)
-        (length (B.state board.now).content.flash) }
-    ensures exact { result ≡ asked_target (B.state board.now).content
+        (length (B.state board.old).content.flash) }
+    ensures exact { result ≡ asked_target (B.state board.old).content
         (option_map (λ t. t.now) table.entry) cpu (Some ask) }
+    ensures same { board.new ≡ board.old }
     ensures kept { KeepsOut pool.old pool.new }
 {
     match ask {
-        Ask::Target(family) => target(board, pool, table, cpu, family),
+        Ask::Target(family) => board.target(pool, table, cpu, family),
         _ => None,
     }
 }
 
 /// Puts the reply to what an info command asks for. The answer is its status.
 fn put_info<B: Board>(
-    board: &B,
+    board: &mut Watched<B>,
     pool: &mut SectorPool,
     cpu: Cpu,
     found: &Option<Found>,
@@ -69,16 +71,17 @@ fn put_info<B: Board>(
     ask: Ask,
     reply: &mut HashReply,
 ) -> u32
-    requires power { IsTrue (B.state board.now).powered }
+    requires power { IsTrue (B.state board.old).powered }
     requires lease { HasFree pool.old }
     requires sound { ForSome found.now (λ f. IsSoundTable f.table
-        (length (B.state board.now).content.flash / 4096)) }
+        (length (B.state board.old).content.flash / 4096)) }
     ensures status { result ≡ first_failing (reply_checks (table_of_found found.now) ask
-        (info_words (B.state board.now).content cpu found.now (Some ask)) cmd.now) }
+        (info_words (B.state board.old).content cpu found.now (Some ask)) cmd.now) }
     ensures reply { HasTakenBytes reply.old [] → HasTakenBytes reply.new (if result == 0
-        then bytes_of (info_words (B.state board.now).content cpu found.now (Some ask)) else []) }
+        then bytes_of (info_words (B.state board.old).content cpu found.now (Some ask)) else []) }
     ensures few { result ≡ 0 → 4 * length
-        (info_words (B.state board.now).content cpu found.now (Some ask)) < 2 ^ 32 }
+        (info_words (B.state board.old).content cpu found.now (Some ask)) < 2 ^ 32 }
+    ensures same { board.new ≡ board.old }
     ensures kept { KeepsOut pool.old pool.new }
 {
     // The prover takes the range of this field from its reading here: a reply is no longer than
@@ -100,7 +103,7 @@ fn put_info<B: Board>(
 
 /// Judges an info command, and puts its reply. The answer is its status.
 fn info_reply<B: Board>(
-    board: &B,
+    board: &mut Watched<B>,
     pool: &mut SectorPool,
     cpu: Cpu,
     found: &Option<Found>,
@@ -108,17 +111,18 @@ fn info_reply<B: Board>(
     payload: &[u8],
     reply: &mut HashReply,
 ) -> u32
-    requires power { IsTrue (B.state board.now).powered }
+    requires power { IsTrue (B.state board.old).powered }
     requires lease { HasFree pool.old }
     requires sound { ForSome found.now (λ f. IsSoundTable f.table
-        (length (B.state board.now).content.flash / 4096)) }
+        (length (B.state board.old).content.flash / 4096)) }
     requires info { cmd.now.id ≡ INFO_ID }
     ensures status { result
-        ≡ info_status (B.state board.now).content cpu found.now cmd.now payload.now }
+        ≡ info_status (B.state board.old).content cpu found.now cmd.now payload.now }
     ensures reply { HasTakenBytes reply.old [] → HasTakenBytes reply.new
-        (info_reply result (B.state board.now).content cpu found.now cmd.now) }
-    ensures few { length (info_reply result (B.state board.now).content cpu found.now cmd.now)
+        (info_reply result (B.state board.old).content cpu found.now cmd.now) }
+    ensures few { length (info_reply result (B.state board.old).content cpu found.now cmd.now)
         < 2 ^ 32 }
+    ensures same { board.new ≡ board.old }
     ensures kept { KeepsOut pool.old pool.new }
 {
     match info_ask(cmd, payload) {
@@ -129,7 +133,7 @@ fn info_reply<B: Board>(
 
 /// Serves an info command.
 pub fn serve_info<B: Board>(
-    board: &B,
+    board: &mut Watched<B>,
     pool: &mut SectorPool,
     cpu: Cpu,
     found: &Option<Found>,
@@ -137,14 +141,15 @@ pub fn serve_info<B: Board>(
     payload: &[u8],
     line: &mut ArrayString<320>,
 )
-    requires power { IsTrue (B.state board.now).powered }
+    requires power { IsTrue (B.state board.old).powered }
     requires lease { HasFree pool.old }
     requires sound { ForSome found.now (λ f. IsSoundTable f.table
-        (length (B.state board.now).content.flash / 4096)) }
+        (length (B.state board.old).content.flash / 4096)) }
     requires info { cmd.now.id ≡ INFO_ID }
     ensures text { line.new.bytes ≡ info_line
-        (info_status (B.state board.now).content cpu found.now cmd.now payload.now)
-        (B.state board.now).content cpu found.now cmd.now }
+        (info_status (B.state board.old).content cpu found.now cmd.now payload.now)
+        (B.state board.old).content cpu found.now cmd.now }
+    ensures same { board.new ≡ board.old }
     ensures kept { KeepsOut pool.old pool.new }
 {
     let mut reply = HashReply::new();

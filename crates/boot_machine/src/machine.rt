@@ -109,12 +109,6 @@ impl<B: Bench> Machine<B> {
         self.parts.board.into_board()
     }
 
-    /// How many digests its boots have made. A boot makes that of a window anew only where a step
-    /// has changed the window since. The count is no part of any contract.
-    pub fn digests_made(&self) -> u64 {
-        self.parts.board.digests_made()
-    }
-
     /// Serves a command or a UF2 block in BOOTSEL, but for the boot that it may ask for, which is
     /// answered. None comes exactly where it asks for no boot from flash, or power was lost; an
     /// image in RAM is started here. The line becomes the text of what was done, without that of

@@ -14,8 +14,9 @@ ghost use Rattle.boot_machine.specs.Serving.{boot_after_block, block_text, boot_
 ghost use Rattle.boot_machine.specs.Standing.{Carries, HasRoom, IsDoneIn, IsServedBlock};
 
 use crate::found::table_of_found;
+use crate::watched::Watched;
 use arrayvec::ArrayString;
-use boot_rules::{Found, Target, is_executable, target};
+use boot_rules::{Found, Target, is_executable};
 use part_table::Table;
 use pico_board::{Board, BootKind, Cpu, FLASH_BASE, PowerLost};
 use sector_pool::SectorPool;
@@ -77,32 +78,33 @@ fn tell(
 
 /// The target of a block's family, where the block begins a download.
 fn wanted_target<B: Board>(
-    board: &B,
+    board: &mut Watched<B>,
     pool: &mut SectorPool,
     download: &Download,
     table: Option<&Table>,
     cpu: Cpu,
     block: &Uf2,
 ) -> Option<Target>
-    requires power { IsTrue (B.state board.now).powered }
+    requires power { IsTrue (B.state board.old).powered }
     requires lease { HasFree pool.old }
     requires sound { IsSoundFor (option_map (λ t. t.now) table)
-        (length (B.state board.now).content.flash) }
-    ensures exact { result ≡ wanted_in (B.state board.now).content
+        (length (B.state board.old).content.flash) }
+    ensures exact { result ≡ wanted_in (B.state board.old).content
         (option_map (λ t. t.now) table.entry) cpu
-        (wanted (length (B.state board.now).content.flash) download.now.current block.now) }
-    ensures placed { ForSome result (IsTargetIn (length (B.state board.now).content.flash)) }
+        (wanted (length (B.state board.old).content.flash) download.now.current block.now) }
+    ensures placed { ForSome result (IsTargetIn (length (B.state board.old).content.flash)) }
+    ensures same { board.new ≡ board.old }
     ensures kept { KeepsOut pool.old pool.new }
 {
     match download.wants(board.flash_len(), block) {
-        Some(family) => target(board, pool, table, cpu, family),
+        Some(family) => board.target(pool, table, cpu, family),
         None => None,
     }
 }
 
 /// Places a block. The answer is the boot that a done download asks for.
 pub fn place_block<B: Board>(
-    board: &mut B,
+    board: &mut Watched<B>,
     pool: &mut SectorPool,
     download: &mut Download,
     found: &Option<Found>,

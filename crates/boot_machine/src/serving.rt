@@ -44,7 +44,7 @@ fn info<B: Board>(
     ensures steady { IsSteady B.state parts.new }
 {
     serve_info(
-        &parts.board,
+        &mut parts.board,
         &mut parts.pool,
         parts.cpu,
         &parts.found,

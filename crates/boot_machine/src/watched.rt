@@ -1,15 +1,24 @@
 //! A board with what is remembered of the digests of its windows.
 
-ghost use Rattle.std.specs.Prelude.{◌≡◌, IsTrue};
+ghost use Rattle.std.specs.Prelude.{◌≡◌, ◌+◌, ◌*◌, ◌/◌, ◌≤◌, IfSome, IsTrue, is_ok, length, option_map, true};
+ghost use Rattle.pico_board.specs.Board.{DoesAll};
 ghost use Rattle.sector_pool.specs.Keeping.{KeepsOut};
 ghost use Rattle.sector_pool.specs.Pool.{HasFree};
+ghost use Rattle.part_table.specs.Windows.{IsPlacedWindow};
+ghost use Rattle.slot_choice.specs.Units.{IsSoundFor};
+ghost use Rattle.image_check.specs.Valid.{Valid};
 ghost use Rattle.boot_rules.specs.Choosing.{decision_in};
 ghost use Rattle.boot_rules.specs.Chosen.{Chosen};
+ghost use Rattle.boot_rules.specs.Targets.{target_of};
+ghost use Rattle.trial_buy.specs.Starting.{erase_in, start_erase, start_steps};
+ghost use Rattle.trial_buy.specs.Windows.{IsPlacedChoice};
 
-use boot_rules::{Decision, Digests, decide_by};
+use boot_rules::{Choice, Decision, Digests, Target, decide_by, target_by};
+use part_table::Table;
 use pico_board::{Bench, Board, BootKind, Cpu, PAGE, PowerLost, SECTOR};
 use sector_pool::SectorPool;
 use std::marker::Model;
+use trial_buy::{settle_at, start_sector};
 
 /// A board with what is remembered of the digests of its windows. Contracts see the board alone. A
 /// step forgets the windows that share a byte with its range, done or torn, so what is remembered
@@ -55,11 +64,6 @@ impl<B: Board> Watched<B> {
         self.board
     }
 
-    /// How many digests were made. The count is no part of any contract.
-    pub fn digests_made(&self) -> u64 {
-        self.digests.made()
-    }
-
     /// Decides a boot. A digest is made only where it is not remembered.
     pub fn decide(&mut self, pool: &mut SectorPool, cpu: Cpu, kind: BootKind) -> Decision
         requires power { IsTrue (B.state self.old).powered }
@@ -70,6 +74,65 @@ impl<B: Board> Watched<B> {
         ensures kept { KeepsOut pool.old pool.new }
     {
         decide_by(&self.board, pool, &mut self.digests, cpu, kind)
+    }
+
+    /// Where a download of a UF2 family goes, where the board has this table. A digest is made only
+    /// where it is not remembered.
+    pub fn target(
+        &mut self,
+        pool: &mut SectorPool,
+        table: Option<&Table>,
+        cpu: Cpu,
+        family: u32,
+    ) -> Option<Target>
+        requires power { IsTrue (B.state self.old).powered }
+        requires lease { HasFree pool.old }
+        requires sound { IsSoundFor (option_map (λ t. t.now) table)
+            (length (B.state self.old).content.flash) }
+        ensures exact { result ≡ target_of (B.state self.old).content
+            (option_map (λ t. t.now) table.entry) cpu family }
+        ensures placed { IfSome result
+            (λ t. IsPlacedWindow t.window (length (B.state self.old).content.flash / 4096) 0) }
+        ensures same { self.new ≡ self.old }
+        ensures kept { KeepsOut pool.old pool.new }
+    {
+        target_by(&self.board, pool, &mut self.digests, table, cpu, family)
+    }
+
+    /// The sector that a start of this choice erases. A digest is made only where it is not
+    /// remembered.
+    fn start_sector(&mut self, pool: &mut SectorPool, cpu: Cpu, choice: &Choice) -> Option<u32>
+        requires power { IsTrue (B.state self.old).powered }
+        requires lease { HasFree pool.old }
+        requires placed { IsPlacedChoice (B.state self.old).content choice.now }
+        ensures exact { erase_in result ≡ start_erase (B.state self.old).content cpu choice.now }
+        ensures inside { IfSome result
+            (λ s. 4096 * s + 4096 ≤ length (B.state self.old).content.flash) }
+        ensures same { self.new ≡ self.old }
+        ensures kept { KeepsOut pool.old pool.new }
+    {
+        start_sector(&self.board, pool, &mut self.digests, cpu, choice)
+    }
+
+    /// Does what a start writes. After lost power a part of the steps is done. A digest is made
+    /// only where it is not remembered.
+    pub fn settle(
+        &mut self,
+        pool: &mut SectorPool,
+        cpu: Cpu,
+        choice: &Choice,
+    ) -> Result<(), PowerLost>
+        requires power { IsTrue (B.state self.old).powered }
+        requires lease { HasFree pool.old }
+        requires placed { IsPlacedChoice (B.state self.old).content choice.now }
+        requires valid { Valid (B.state self.old).content choice.now.image.window cpu true
+            choice.now.image }
+        ensures steps { DoesAll B.state B.history self.old
+            (start_steps (B.state self.old).content cpu choice.now) (is_ok result) self.new }
+        ensures kept { KeepsOut pool.old pool.new }
+    {
+        let sector = self.start_sector(pool, cpu, choice);
+        settle_at(self, choice, sector)
     }
 }
 

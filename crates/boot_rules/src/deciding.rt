@@ -1,10 +1,10 @@
 //! The boot decision.
 
-ghost use Rattle.std.specs.Prelude.{◌≡◌, All, IsTrue, None, length};
+ghost use Rattle.std.specs.Prelude.{◌≡◌, ◌*◌, All, IsTrue, None, length};
 ghost use Rattle.sector_pool.specs.Keeping.{KeepsOut};
 ghost use Rattle.sector_pool.specs.Pool.{HasFree};
-ghost use Rattle.image_check.specs.Digests.{Knows};
-ghost use Rattle.boot_rules.specs.Choosing.{decision_in, flash_decision, images_in, ordered_choice};
+ghost use Rattle.image_check.specs.Digests.{Knows, MakesAtMost};
+ghost use Rattle.boot_rules.specs.Choosing.{boot_units_in, decision_in, flash_decision, images_in, ordered_choice};
 ghost use Rattle.boot_rules.specs.Chosen.{Chosen};
 ghost use Rattle.boot_rules.specs.Picking.{AreInside};
 
@@ -32,6 +32,7 @@ fn first_taken<B: Board>(
     ensures exact { result ≡ ordered_choice
         (images_in (B.state board.now).content cpu) units.now None }
     ensures knows { Knows digests.new (B.state board.now).content }
+    ensures made { MakesAtMost (2 * length units.now) digests.old digests.new }
     ensures kept { KeepsOut pool.old pool.new }
 {
     for unit in units {
@@ -58,6 +59,7 @@ fn ordered_choice<B: Board>(
     ensures exact { result ≡ ordered_choice
         (images_in (B.state board.now).content cpu) units.now updated }
     ensures knows { Knows digests.new (B.state board.now).content }
+    ensures made { MakesAtMost (2 * length units.now) digests.old digests.new }
     ensures kept { KeepsOut pool.old pool.new }
 {
     let Some((first, others)) = units.split_first() else {
@@ -82,6 +84,8 @@ fn flash_decision<B: Board>(
     requires knows { Knows digests.old (B.state board.now).content }
     ensures exact { result ≡ flash_decision (B.state board.now).content cpu kind }
     ensures knows { Knows digests.new (B.state board.now).content }
+    ensures made { MakesAtMost
+        (2 * length (boot_units_in (B.state board.now).content cpu)) digests.old digests.new }
     ensures kept { KeepsOut pool.old pool.new }
 {
     if flash_off(board) {
@@ -106,6 +110,8 @@ fn decision_in<B: Board>(
     requires knows { Knows digests.old (B.state board.now).content }
     ensures exact { result ≡ decision_in (B.state board.now).content cpu kind }
     ensures knows { Knows digests.new (B.state board.now).content }
+    ensures made { MakesAtMost
+        (2 * length (boot_units_in (B.state board.now).content cpu)) digests.old digests.new }
     ensures kept { KeepsOut pool.old pool.new }
 {
     match kind {
@@ -116,7 +122,8 @@ fn decision_in<B: Board>(
 }
 
 /// Decides a boot, as `decide` does, with what is remembered of digests: a digest that is
-/// remembered is not made again.
+/// remembered is not made again. At most two digests are made for each boot unit, one a member, so
+/// the decision of a pair costs at most two.
 pub fn decide_by<B: Board>(
     board: &B,
     pool: &mut SectorPool,
@@ -130,6 +137,8 @@ pub fn decide_by<B: Board>(
     ensures chosen { Chosen (B.state board.now).content cpu kind result }
     ensures function { result ≡ decision_in (B.state board.now).content cpu kind }
     ensures knows { Knows digests.new (B.state board.now).content }
+    ensures made { MakesAtMost
+        (2 * length (boot_units_in (B.state board.now).content cpu)) digests.old digests.new }
     ensures pool { KeepsOut pool.old pool.new }
 {
     decision_in(board, pool, digests, cpu, kind)

@@ -28,5 +28,5 @@ pub use picking::choice_of;
 pub use slot_choice::Choice;
 pub use slots::SlotFault;
 pub use tables::{Found, find_table, slot_answer};
-pub use targets::{is_executable, target};
+pub use targets::{is_executable, target, target_by};
 pub use units::{boot_units_by, boot_units_in, order_of};

@@ -5,7 +5,7 @@ ghost use Rattle.pico_board.specs.declared.boot.Cpu.{Cpu};
 ghost use Rattle.pico_board.specs.declared.window.Window.{Window};
 ghost use Rattle.image_def.specs.Guarantees.{IsDefinition};
 ghost use Rattle.load_map.specs.Stored.{AreStoredIn};
-ghost use Rattle.image_check.specs.Digests.{Knows};
+ghost use Rattle.image_check.specs.Digests.{Knows, MakesAtMost};
 ghost use Rattle.pico_board.specs.Content.{window_bytes};
 ghost use Rattle.sector_pool.specs.Keeping.{KeepsOut};
 ghost use Rattle.sector_pool.specs.Pool.{HasFree};
@@ -70,6 +70,7 @@ fn member_image<B: Board>(
     ensures exact { result ≡ member_image
         (images_in (B.state board.now).content cpu) unit.now member trial_ok }
     ensures knows { Knows digests.new (B.state board.now).content }
+    ensures made { MakesAtMost 1 digests.old digests.new }
     ensures kept { KeepsOut pool.old pool.new }
 {
     match member_window(unit, member) {
@@ -95,6 +96,7 @@ fn updated_choice<B: Board>(
     ensures exact { result ≡ unit_choice (images_in (B.state board.now).content cpu) unit.now
         (Some member) }
     ensures knows { Knows digests.new (B.state board.now).content }
+    ensures made { MakesAtMost 2 digests.old digests.new }
     ensures kept { KeepsOut pool.old pool.new }
 {
     if let Some(image) = member_image(board, pool, digests, unit, member, cpu, true) {
@@ -157,6 +159,7 @@ fn confirmed<B: Board>(
     ensures exact { result ≡ option_map (choice_of unit.now member false)
         (member_image (images_in (B.state board.now).content cpu) unit.now member false) }
     ensures knows { Knows digests.new (B.state board.now).content }
+    ensures made { MakesAtMost 1 digests.old digests.new }
     ensures kept { KeepsOut pool.old pool.new }
 {
     let Some(window) = member_window(unit, member) else {
@@ -188,6 +191,7 @@ pub(crate) fn taken<B: Board>(
     requires inside { AreInside (length (B.state board.now).content.flash) unit.now }
     ensures exact { result ≡ taken (B.state board.now).content cpu unit.now }
     ensures knows { Knows digests.new (B.state board.now).content }
+    ensures made { MakesAtMost 2 digests.old digests.new }
     ensures kept { KeepsOut pool.old pool.new }
 {
     let first = candidate_in(board, Some(unit.a), cpu);
@@ -221,6 +225,7 @@ pub(crate) fn unit_choice<B: Board>(
     ensures exact { result ≡ unit_choice
         (images_in (B.state board.now).content cpu) unit.now updated }
     ensures knows { Knows digests.new (B.state board.now).content }
+    ensures made { MakesAtMost 2 digests.old digests.new }
     ensures kept { KeepsOut pool.old pool.new }
 {
     match updated {

@@ -4,6 +4,7 @@ ghost use Rattle.std.specs.Prelude.{◌≡◌, ◌<◌, ◌/◌, ℕ, IfSome, Is
 ghost use Rattle.part_table.specs.Sound.{IsSoundTable};
 ghost use Rattle.sector_pool.specs.Keeping.{KeepsOut};
 ghost use Rattle.sector_pool.specs.Pool.{HasFree};
+ghost use Rattle.image_check.specs.Digests.{Knows, MakesAtMost};
 ghost use Rattle.slot_choice.specs.Units.{IsSoundFor};
 ghost use Rattle.part_table.specs.Windows.{IsPlacedWindow};
 ghost use Rattle.boot_rules.specs.Targets.{deciding_in, deciding_unit, is_executable, member_for, pair_target, is_staying_target, target_of, unit_target, AreLoadsOf};
@@ -110,6 +111,7 @@ fn member_for(choice: Option<Choice>) -> Member
 fn unit_target<B: Board>(
     board: &B,
     pool: &mut SectorPool,
+    digests: &mut Digests,
     table: Option<&Table>,
     cpu: Cpu,
     family: u32,
@@ -117,12 +119,15 @@ fn unit_target<B: Board>(
 ) -> Target
     requires power { IsTrue (B.state board.now).powered }
     requires lease { HasFree pool.old }
+    requires knows { Knows digests.old (B.state board.now).content }
     requires sound { IsSoundFor (option_map (λ t. t.now) table)
         (length (B.state board.now).content.flash) }
     requires loads { AreLoadsOf (length (B.state board.now).content.flash)
         (option_map (λ t. t.now) table) unit }
     ensures exact { result ≡ unit_target (B.state board.now).content
         (option_map (λ t. t.now) table.entry) cpu family unit unit.b }
+    ensures knows { Knows digests.new (B.state board.now).content }
+    ensures made { MakesAtMost 2 digests.old digests.new }
     ensures kept { KeepsOut pool.old pool.new }
 {
     let Some(second) = unit.b else {
@@ -133,9 +138,38 @@ fn unit_target<B: Board>(
         };
     };
     let deciding = deciding_unit(table, unit);
-    let choice = taken(board, pool, &mut Digests::none(), &deciding, cpu);
+    let choice = taken(board, pool, digests, &deciding, cpu);
     let member = member_for(choice);
     pair_target(table, family, &unit, second, member)
+}
+
+/// Where a download of a UF2 family goes, as `target` says it, with what is remembered of digests:
+/// a digest that is remembered is not made again, and at most two are made.
+pub fn target_by<B: Board>(
+    board: &B,
+    pool: &mut SectorPool,
+    digests: &mut Digests,
+    table: Option<&Table>,
+    cpu: Cpu,
+    family: u32,
+) -> Option<Target>
+    requires power { IsTrue (B.state board.now).powered }
+    requires lease { HasFree pool.old }
+    requires knows { Knows digests.old (B.state board.now).content }
+    requires sound { IsSoundFor (option_map (λ t. t.now) table)
+        (length (B.state board.now).content.flash) }
+    ensures exact { result ≡ target_of (B.state board.now).content
+        (option_map (λ t. t.now) table.entry) cpu family }
+    ensures placed { IfSome result
+        (λ t. IsPlacedWindow t.window (length (B.state board.now).content.flash / 4096) 0) }
+    ensures knows { Knows digests.new (B.state board.now).content }
+    ensures made { MakesAtMost 2 digests.old digests.new }
+    ensures kept { KeepsOut pool.old pool.new }
+{
+    match load_unit(table, board.flash_len(), slot_size(board), family) {
+        Some(unit) => Some(unit_target(board, pool, digests, table, cpu, family, unit)),
+        None => None,
+    }
 }
 
 /// Where a download of a UF2 family goes. None exactly where the family has no load unit. In a pair
@@ -161,8 +195,5 @@ pub fn target<B: Board>(
         (λ t. IsPlacedWindow t.window (length (B.state board.now).content.flash / 4096) 0) }
     ensures kept { KeepsOut pool.old pool.new }
 {
-    match load_unit(table, board.flash_len(), slot_size(board), family) {
-        Some(unit) => Some(unit_target(board, pool, table, cpu, family, unit)),
-        None => None,
-    }
+    target_by(board, pool, &mut Digests::none(), table, cpu, family)
 }

@@ -1,14 +1,16 @@
 -- What is remembered of digests: it is true of a content as long as its windows keep their bytes.
-use Rattle.std.proofs.Common.{◌≡◌, ◌⊎◌, ℕ, ◌+◌, ◌≤◌, ◌==◌, ◌&&◌, ◌||◌, Bool, true, false, not, cond, List, [], ◌∷◌, ◌++◌, length, Option, Some, None, Result, Ok, Err, refl, sym, ap, subst, ◌∙◌, inl, inr}
+use Rattle.std.proofs.Common.{◌≡◌, ◌⊎◌, ℕ, ◌+◌, ◌≤◌, ◌==◌, ◌&&◌, ◌||◌, Bool, true, false, not, cond, List, [], ◌∷◌, ◌++◌, length, Option, Some, None, Result, Ok, Err, refl, sym, ap, subst, ◌∙◌, inl, inr, arith, ◌-◌, ◌^◌}
 use Rattle.std.specs.Prelude.{if◌then◌else◌, nat_le, nat_lt, bytes_eq}
 use Rattle.std.specs.List.{AllByRecursion}
 use Rattle.std.specs.Option.{is_none, is_some}
 use Rattle.std.proofs.lemmas.Bool.{eqb-true, leb-true}
+use Rattle.std.proofs.Math.Nat.{min-le_left}
 use Rattle.pico_board.specs.declared.boot.Cpu.{Cpu}
 use Rattle.pico_board.specs.declared.boot.Cpu.TheVariants.{Arm, Riscv}
 use Rattle.pico_board.specs.declared.window.Window.{Window}
 use Rattle.pico_board.specs.Content.{Content, window_bytes}
 use Rattle.pico_board.specs.Steps.{SameOutside}
+use Rattle.pico_board.specs.Windows.{is_same_window}
 use Rattle.pico_board.proofs.ConfinementLemmas.{window_bytes-apart}
 use Rattle.block_codec.specs.declared.definition.Def.{Def}
 use Rattle.block_codec.specs.Blocks.{BlockView}
@@ -21,7 +23,7 @@ use Rattle.image_check.specs.declared.why.Why.{Why}
 use Rattle.image_check.specs.declared.why.Why.TheVariants.{Digest}
 use Rattle.image_check.specs.Addressing.{in_flash}
 use Rattle.image_check.specs.Answers.{and_then}
-use Rattle.image_check.specs.Digests.{answer_of, asked, candidate_fault, candidate_of, entries_apart, is_apart, is_of, is_same, IsTrueOf, Knows, noted, noted_unless, remembered}
+use Rattle.image_check.specs.Digests.{answer_of, asked, candidate_fault, candidate_of, entries_apart, is_apart, is_of, is_same, IsTrueOf, Knows, MakesAtMost, noted, noted_unless, remembered}
 use Rattle.image_check.specs.Examined.{admitted_in, examined_in, loaded_in}
 use Rattle.image_check.specs.Image.{defined_in}
 use Rattle.image_check.specs.Rules.{digest_fault}
@@ -85,18 +87,18 @@ same-cpu Riscv Riscv e = refl
 same-cpu Arm Riscv e = cc
 same-cpu Riscv Arm e = cc
 
-same-window : (v w : Window) → v.start ≡ w.start → v.len ≡ w.len → v ≡ w
-same-window v w start len =
-    ap (λ s. record { start = s; len = v.len }) start ∙ ap (λ l. record { start = w.start; len = l }) len
+same-window : (v w : Window) → is_same_window v w ≡ true → v ≡ w
+same-window v w same =
+    let both = both-true (v.start == w.start) (v.len == w.len) same in
+    ap (λ s. record { start = s; len = v.len }) (eqb-true _ _ both.0)
+    ∙ ap (λ l. record { start = w.start; len = l }) (eqb-true _ _ both.1)
 
 is-entry : (w : Window) (cpu : Cpu) (e : Digested) (right : Bool) → is_of w cpu e ≡ true → e.right ≡ right
     → e ≡ record { window = w; cpu = cpu; right = right }
 is-entry w cpu e right is value =
-    let one = both-true (e.window.start == w.start) (e.window.len == w.len && is_same e.cpu cpu) is in
-    let two = both-true (e.window.len == w.len) (is_same e.cpu cpu) one.1 in
-    let window = same-window e.window w (eqb-true _ _ one.0) (eqb-true _ _ two.0) in
-    ap (λ v. record { window = v; cpu = e.cpu; right = e.right }) window
-    ∙ (ap (λ p. record { window = w; cpu = p; right = e.right }) (same-cpu e.cpu cpu two.1)
+    let both = both-true (is_same_window e.window w) (is_same e.cpu cpu) is in
+    ap (λ v. record { window = v; cpu = e.cpu; right = e.right }) (same-window e.window w both.0)
+    ∙ (ap (λ p. record { window = w; cpu = p; right = e.right }) (same-cpu e.cpu cpu both.1)
     ∙ ap (λ r. record { window = w; cpu = cpu; right = r }) value)
 
 -- what is remembered of a window is true of the content
@@ -124,9 +126,9 @@ pub noted-knows : (c : Content) (d : Digests) (e : Digested) → Knows d c → I
 noted-knows c d e knows one = go (nat_lt (length d.entries.items) 16)
   where
     go : (room : Bool)
-        → AllByRecursion (IsTrueOf c) (if room then d.entries.items ++ e ∷ [] else d.entries.items)
+        → AllByRecursion (IsTrueOf c) (if room then d.entries.items ++ e ∷ [] else e ∷ [])
     go true = further (IsTrueOf c) d.entries.items e knows one
-    go false = knows
+    go false = (one, tt)
 
 -- what is remembered is asked for without a change
 pub asked-again : (w : Window) (cpu : Cpu) (value : Option (List ℕ)) (answer : Option Why) (d : Digests) (right : Bool)
@@ -189,3 +191,17 @@ pub asked-made : (w : Window) (cpu : Cpu) (value : Option (List ℕ)) (some : Li
 asked-made w cpu value some answer d is none =
     sym (ap (λ v. asked w cpu v answer d) is
     ∙ ap (λ o. noted_unless o (record { window = w; cpu = cpu; right = is_none answer }) d) none)
+
+-- a digest that is asked for is made at most once
+noted-made : (e : Digested) (d : Digests) → MakesAtMost 1 d (noted e d)
+noted-made e d = min-le_left (d.made + 1) (2 ^ 64 - 1)
+
+pub asked-made_once : (w : Window) (cpu : Cpu) (value : Option (List ℕ)) (answer : Option Why) (d : Digests)
+    → MakesAtMost 1 d (asked w cpu value answer d)
+asked-made_once w cpu None answer d = omega arith
+asked-made_once w cpu (Some value) answer d = go (remembered w cpu d.entries.items)
+  where
+    go : (o : Option Bool)
+        → MakesAtMost 1 d (noted_unless o (record { window = w; cpu = cpu; right = is_none answer }) d)
+    go None = noted-made (record { window = w; cpu = cpu; right = is_none answer }) d
+    go (Some right) = omega arith

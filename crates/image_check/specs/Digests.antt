@@ -1,12 +1,13 @@
 -- What is remembered of the digests of windows. A digest depends on the bytes of its window alone,
 -- so what was answered once holds until a step changes one of them. This project's own.
-use Rattle.std.specs.Prelude.{◌≡◌, ℕ, ◌+◌, ◌-◌, ◌^◌, ◌==◌, min, Bool, true, false, ◌&&◌, ◌||◌, if◌then◌else◌, nat_le, nat_lt, List, [], ◌∷◌, ◌++◌, length, filter, Option, Some, None, Result, Ok}
+use Rattle.std.specs.Prelude.{◌≡◌, ℕ, ◌+◌, ◌-◌, ◌^◌, ◌≤◌, min, Bool, true, false, ◌&&◌, ◌||◌, if◌then◌else◌, nat_le, nat_lt, List, [], ◌∷◌, ◌++◌, length, filter, Option, Some, None, Result, Ok}
 use Rattle.std.specs.List.{AllByRecursion}
 use Rattle.std.specs.Option.{is_none}
 use Rattle.pico_board.specs.declared.boot.Cpu.{Cpu}
 use Rattle.pico_board.specs.declared.boot.Cpu.TheVariants.{Arm, Riscv}
 use Rattle.pico_board.specs.declared.window.Window.{Window}
 use Rattle.pico_board.specs.Content.{Content, window_bytes}
+use Rattle.pico_board.specs.Windows.{is_same_window}
 use Rattle.image_check.specs.declared.examining.Candidate.{Candidate}
 use Rattle.image_check.specs.declared.digests.Digested.{Digested}
 use Rattle.image_check.specs.declared.digests.Digests.{Digests}
@@ -49,7 +50,7 @@ is_same _ _ = false
 
 -- the entry is of this window and for this processor
 abbrev pub is_of : Window → Cpu → Digested → Bool
-is_of w cpu e = e.window.start == w.start && (e.window.len == w.len && is_same e.cpu cpu)
+is_of w cpu e = is_same_window e.window w && is_same e.cpu cpu
 
 -- whether the digest of the image of a window is right, where it is remembered
 abbrev pub remembered : Window → Cpu → List Digested → Option Bool
@@ -64,9 +65,9 @@ is_apart start len w = nat_le (w.start + w.len) start || nat_le (start + len) w.
 abbrev pub entries_apart : ℕ → ℕ → List Digested → List Digested
 entries_apart start len es = filter (λ (e : Digested). is_apart start len e.window) es
 
--- a further entry, where fewer than 16 are kept
+-- a further entry; where 16 are kept, all of them go for it
 abbrev pub with_entry : Digested → List Digested → List Digested
-with_entry e es = if nat_lt (length es) 16 then es ++ e ∷ [] else es
+with_entry e es = if nat_lt (length es) 16 then es ++ e ∷ [] else e ∷ []
 
 -- the memory after a digest was made; the count saturates
 abbrev pub noted : Digested → Digests → Digests
@@ -86,3 +87,7 @@ asked w cpu None answer d = d
 asked w cpu (Some value) answer d =
     noted_unless (remembered w cpu d.entries.items)
     (record { window = w; cpu = cpu; right = is_none answer }) d
+
+-- at most so many digests were made between the one memory and the other
+abbrev pub MakesAtMost : ℕ → Digests → Digests → Type 0
+MakesAtMost n before now = now.made ≤ before.made + n

@@ -56,7 +56,7 @@ fn is_same(one: Cpu, other: Cpu) -> bool
 fn is_of(window: Window, cpu: Cpu, entry: &Digested) -> bool
     ensures { result ≡ is_of window cpu entry.now }
 {
-    entry.window.start == window.start && entry.window.len == window.len && is_same(entry.cpu, cpu)
+    entry.window.is_same(window) && is_same(entry.cpu, cpu)
 }
 
 /// Whether the window shares no byte with the range of `len` bytes from `start` on.
@@ -127,14 +127,16 @@ impl Digests {
         remembered(self.entries.as_slice(), window, cpu)
     }
 
-    /// Counts a digest that was made, and remembers its answer where there is room.
+    /// Counts a digest that was made, and remembers its answer. Where the memory is full, all
+    /// that it has goes first; a table has no more than 16 partitions.
     pub(crate) fn note(&mut self, entry: Digested)
         ensures { self.new ≡ noted entry self.old }
     {
         self.made = self.made.saturating_add(1);
-        if !self.entries.is_full() {
-            self.entries.push(entry);
+        if self.entries.is_full() {
+            self.entries.clear();
         }
+        self.entries.push(entry);
     }
 
     /// Forgets each window that shares a byte with a changed range of the flash: `len` bytes from

@@ -6,7 +6,7 @@ ghost use Rattle.sector_pool.specs.Pool.{HasFree};
 ghost use Rattle.image_def.specs.Guarantees.{IsDefinition};
 ghost use Rattle.load_map.specs.Stored.{AreStoredIn};
 ghost use Rattle.pico_board.specs.Content.{window_bytes};
-ghost use Rattle.image_check.specs.Digests.{asked, candidate_fault, candidate_of, Knows, remembered};
+ghost use Rattle.image_check.specs.Digests.{asked, candidate_fault, candidate_of, Knows, MakesAtMost, remembered};
 ghost use Rattle.image_check.specs.Examined.{confirmed_in};
 ghost use Rattle.image_check.specs.Image.{image_at};
 
@@ -58,7 +58,7 @@ fn digest_fault_by<B: Board>(
 
 /// The image of a window that every rule before the digest rule lets pass, or the answer of the
 /// digest rule or the delta rule. What is remembered of the window's digest is taken. Otherwise the
-/// digest is made where the image has one, and remembered where there is room.
+/// digest is made, once, where the image has one, and remembered.
 pub fn confirm_by<B: Board>(
     board: &B,
     pool: &mut SectorPool,
@@ -82,6 +82,7 @@ pub fn confirm_by<B: Board>(
     ensures asked { digests.new ≡ asked window cpu candidate.now.def.digest
         (candidate_fault (window_bytes (B.state board.now).content window) candidate.now)
         digests.old }
+    ensures made { MakesAtMost 1 digests.old digests.new }
     ensures kept { KeepsOut pool.old pool.new }
 {
     match digest_fault_by(board, pool, digests, window, cpu, candidate) {
@@ -91,7 +92,7 @@ pub fn confirm_by<B: Board>(
 }
 
 /// What `check` answers, with what is remembered of digests. A digest that is remembered is not
-/// made again.
+/// made again, and one that is made is made once.
 pub fn check_by<B: Board>(
     board: &B,
     pool: &mut SectorPool,
@@ -108,6 +109,7 @@ pub fn check_by<B: Board>(
     ensures knows { Knows digests.new (B.state board.now).content }
     ensures again { (right : Bool) → remembered window cpu digests.old.entries.items ≡ Some right
         → digests.new ≡ digests.old }
+    ensures made { MakesAtMost 1 digests.old digests.new }
     ensures kept { KeepsOut pool.old pool.new }
 {
     let view = FlashView { board, window };

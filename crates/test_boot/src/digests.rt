@@ -1,11 +1,15 @@
-//! How many digests the boots of a machine make.
+//! Which events make a digest, told by the bytes that they read: where one is made, its covered
+//! bytes are read.
 
-ghost use Rattle.std.specs.Prelude.{◌<◌, ◌≤◌, IfOk};
+ghost use Rattle.std.specs.Prelude.{◌≡◌, ◌<◌, ◌≤◌, IfOk, IsTrue, None};
 ghost use Rattle.sector_pool.specs.Pool.{free_count};
+ghost use Rattle.boot_script.specs.Events.{IsWritableEvent, event_from};
 
+use crate::counted::Counted;
 use arrayvec::ArrayString;
 use boot_machine::{Machine, State};
 use boot_script::Event;
+use info_reply::kinds::INFO;
 use pico_board::{BootKind, Cpu, MemBoard};
 use picoboot_cmd::{Cmd, write_cmd};
 use ram_start::Ram;
@@ -16,6 +20,12 @@ use std::test::Fail;
 use test_fixtures::{PAIR, SEALED, VECTORS, board_of, flash};
 use uf2_place::Download;
 
+/// The flash address of A, 0x10002000.
+const A: u32 = 0x1000_2000;
+
+/// The bytes that the digest of the sealed image covers are at least those of its load map.
+const COVERED: u64 = 0x128;
+
 /// A pool of the two sectors that a machine needs.
 #[tactic(auto, using(boot_machine::proofs::BeginningLemmas::new_free))]
 fn two_sectors(alloc: Global) -> Result<SectorPool, AllocError>
@@ -24,16 +34,18 @@ fn two_sectors(alloc: Global) -> Result<SectorPool, AllocError>
     SectorPool::make(alloc, 2)
 }
 
-/// A machine without power, whose A at 0x2000 is a sealed image and whose B at 0x20000 is erased.
-fn sealed_machine(alloc: Global) -> Result<Machine<MemBoard>, Fail> {
+/// A machine without power, whose A at 0x2000 and B at 0x20000 hold the same sealed image.
+fn sealed_machine(alloc: Global) -> Result<Machine<Counted<MemBoard>>, Fail> {
     let parts = [
         (0, PAIR.as_slice()),
         (0x2000, VECTORS.as_slice()),
         (0x2114, SEALED.as_slice()),
+        (0x2_0000, VECTORS.as_slice()),
+        (0x2_0114, SEALED.as_slice()),
     ];
     let board = board_of(alloc, flash(alloc, &parts, 262_144)?)?;
     Ok(Machine::new(
-        board,
+        Counted::new(board),
         two_sectors(alloc)?,
         Download::make(alloc)?,
         Ram::make(alloc)?,
@@ -41,18 +53,18 @@ fn sealed_machine(alloc: Global) -> Result<Machine<MemBoard>, Fail> {
     ))
 }
 
-/// Resets the machine five times, after which the image runs each time.
-fn reset_often(rt: &impl Abort, machine: &mut Machine<MemBoard>) {
+/// How many bytes an event reads.
+fn read_by(machine: &mut Machine<Counted<MemBoard>>, event: &Event<'_>) -> u64
+    requires { IsWritableEvent (event_from event.now) }
+{
+    let before = machine.board().bytes();
     let mut line = ArrayString::new();
-    for _ in 0..5 {
-        machine.step(&Event::Reset(BootKind::Normal), &mut line);
-        assert!(rt; *machine.state() != State::Bootsel);
-        assert!(rt; *machine.state() != State::Off);
-    }
+    machine.step(event, &mut line);
+    machine.board().bytes().saturating_sub(before)
 }
 
-/// A host writes a page of the flash.
-fn write_page(machine: &mut Machine<MemBoard>, at: u32)
+/// A host writes a page of the flash, in BOOTSEL.
+fn write_page(machine: &mut Machine<Counted<MemBoard>>, at: u32)
     requires { at < 0x100_0000 }
 {
     let mut args = [0; 16];
@@ -70,20 +82,71 @@ fn write_page(machine: &mut Machine<MemBoard>, at: u32)
     machine.step(&Event::Command(&write_cmd(&cmd), &[0x5a; 256]), &mut line);
 }
 
+/// An info command for the target of the family rp2350-arm-s.
+fn ask_target(machine: &mut Machine<Counted<MemBoard>>) -> u64 {
+    let cmd = Cmd {
+        token: 1,
+        id: INFO,
+        arg_size: 16,
+        transfer: 16,
+        args: [2, 0, 0, 0, 0x59, 0xff, 0x8b, 0xe4, 0, 0, 0, 0, 0, 0, 0, 0],
+    };
+    read_by(machine, &Event::Command(&write_cmd(&cmd), &[]))
+}
+
 #[test]
-fn a_digest_is_made_anew_where_its_window_changed(rt: HostRuntime) -> Result<(), Fail> {
+fn a_boot_makes_a_digest_anew_where_its_window_changed(rt: HostRuntime) -> Result<(), Fail> {
     let mut machine = sealed_machine(rt.alloc())?;
-    let mut line = ArrayString::new();
-    assert_eq!(rt; machine.digests_made(), 0);
-    machine.step(&Event::PowerOn, &mut line);
-    assert_eq!(rt; machine.digests_made(), 1);
-    reset_often(&rt, &mut machine);
-    assert_eq!(rt; machine.digests_made(), 1);
+    let first = read_by(&mut machine, &Event::PowerOn);
+    let again = read_by(&mut machine, &Event::Reset(BootKind::Normal));
+    assert!(rt; again + COVERED <= first);
+    assert!(rt; matches!(machine.state(), State::Running(_)));
+    for _ in 0..5 {
+        assert_eq!(rt;
+            read_by(&mut machine, &Event::Reset(BootKind::Normal)),
+            again
+        );
+    }
     write_page(&mut machine, 0x3000);
-    reset_often(&rt, &mut machine);
-    assert_eq!(rt; machine.digests_made(), 2);
-    write_page(&mut machine, 0x2_0000);
-    reset_often(&rt, &mut machine);
-    assert_eq!(rt; machine.digests_made(), 2);
+    assert_eq!(rt;
+        read_by(&mut machine, &Event::Reset(BootKind::Normal)),
+        first
+    );
+    write_page(&mut machine, 0x2_1000);
+    assert_eq!(rt;
+        read_by(&mut machine, &Event::Reset(BootKind::Normal)),
+        again
+    );
+    Ok(())
+}
+
+#[test]
+fn a_start_remembers_the_digest_of_the_other_member(rt: HostRuntime) -> Result<(), Fail> {
+    let mut machine = sealed_machine(rt.alloc())?;
+    let update = Event::Reset(BootKind::Update(A));
+    let on = read_by(&mut machine, &Event::PowerOn);
+    let first = read_by(&mut machine, &update);
+    let again = read_by(&mut machine, &update);
+    assert!(rt; COVERED <= on);
+    assert!(rt; again + COVERED <= first);
+    for _ in 0..5 {
+        assert_eq!(rt; read_by(&mut machine, &update), again);
+    }
+    write_page(&mut machine, 0x2_1000);
+    assert_eq!(rt; read_by(&mut machine, &update), first);
+    Ok(())
+}
+
+#[test]
+fn the_target_of_a_download_remembers_a_digest(rt: HostRuntime) -> Result<(), Fail> {
+    let mut machine = sealed_machine(rt.alloc())?;
+    let _on = read_by(&mut machine, &Event::PowerOn);
+    write_page(&mut machine, 0x3000);
+    let first = ask_target(&mut machine);
+    let again = ask_target(&mut machine);
+    assert!(rt; again + COVERED <= first);
+    assert_eq!(rt; ask_target(&mut machine), again);
+    write_page(&mut machine, 0x3000);
+    assert_eq!(rt; ask_target(&mut machine), first);
     Ok(())
 }

@@ -8,6 +8,8 @@ mod boards;
 #[cfg(test)]
 mod buys;
 #[cfg(test)]
+mod counted;
+#[cfg(test)]
 mod decisions;
 #[cfg(test)]
 mod digests;

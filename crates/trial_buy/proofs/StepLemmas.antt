@@ -10,7 +10,7 @@ use Rattle.pico_board.specs.Content.{Content}
 use Rattle.pico_board.specs.Steps.{after, after_all}
 use Rattle.pico_board.proofs.StepLemmas.{DoesAll-append, DoesAll-append_cut}
 use Rattle.slot_choice.specs.declared.choice.Choice.{Choice}
-use Rattle.trial_buy.specs.Starting.{erase_in, image_raises, other_erase, settling, start_steps}
+use Rattle.trial_buy.specs.Starting.{erase_in, image_raises, other_erase, settling, start_erase, start_steps}
 use Rattle.trial_buy.specs.Buying.{buy_steps, clearing, page_program, page_programs, rewrite_steps, trial_place}
 
 -- the pages from one on
@@ -29,6 +29,12 @@ programs-more s bytes i n lt =
 
 pub programs-none : (s : ℕ) (bytes : List ℕ) (i n : ℕ) → n ≤ i → programs_from s bytes i (n - i) ≡ []
 programs-none s bytes i n le = let none : n - i ≡ 0 = omega arith in ap (programs_from s bytes i) none
+
+-- an image that is no trial image is erased for as the other member's image asks
+pub plain-erase : (c : Content) (cpu : Cpu) (choice : Choice) → choice.image.trial ≡ false
+    → start_erase c cpu choice ≡ other_erase c cpu choice
+plain-erase c cpu choice plain =
+    ap (λ trial. if trial then [] else other_erase c cpu choice) plain
 
 -- an erase keeps the rows
 pub erase-otp : (c : Content) (o : Option ℕ) → (after_all c (erase_in o)).otp ≡ c.otp

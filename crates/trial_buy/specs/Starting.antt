@@ -51,6 +51,10 @@ image_raises otp s = raises_of otp s.rows.items s.rollback
 abbrev pub settling : Content → Cpu → Choice → List Step
 settling c cpu choice = other_erase c cpu choice ++ image_raises c.otp choice.image
 
+-- the erase of a start: that of the other member's better image, and none for a trial image
+abbrev pub start_erase : Content → Cpu → Choice → List Step
+start_erase c cpu choice = if choice.image.trial then [] else other_erase c cpu choice
+
 -- the steps of a start: the settling of the started image, and nothing for a trial image
 abbrev pub start_steps : Content → Cpu → Choice → List Step
 start_steps c cpu choice = if choice.image.trial then [] else settling c cpu choice

@@ -9,7 +9,7 @@ ghost use Rattle.trial_buy.specs.Buying.{buy_steps, cleared, clearing, page_prog
 ghost use Rattle.trial_buy.specs.Windows.{IsPlacedChoice};
 
 use crate::settling::{better_sector, erase_in, raise_rows};
-use image_check::Started;
+use image_check::{Digests, Started};
 use pico_board::{Board, Cpu, PowerLost};
 use sector_pool::SectorPool;
 use slot_choice::Choice;
@@ -117,7 +117,7 @@ pub fn buy<B: Board>(
         (buy_steps (B.state board.old).content cpu choice.now) (is_ok result) board.new }
     ensures kept { KeepsOut pool.old pool.new }
 {
-    let sector = better_sector(board, pool, cpu, choice);
+    let sector = better_sector(board, pool, &mut Digests::none(), cpu, choice);
     let image = &choice.image;
     clear(board, pool, trial_place(image))?;
     erase_in(board, sector)?;

@@ -11,4 +11,4 @@ pub mod laws;
 mod settling;
 
 pub use buying::buy;
-pub use settling::settle;
+pub use settling::{settle, settle_at, start_sector};

@@ -4,16 +4,17 @@ ghost use Rattle.std.specs.Prelude.{◌≡◌, ◌+◌, ◌*◌, ◌/◌, ◌≤
 ghost use Rattle.pico_board.specs.declared.Step.{Step};
 ghost use Rattle.pico_board.specs.declared.Step.TheVariants.{Erase};
 ghost use Rattle.pico_board.specs.Board.{DoesAll};
+ghost use Rattle.image_check.specs.Digests.{Knows, MakesAtMost};
 ghost use Rattle.image_check.specs.Valid.{Valid};
 ghost use Rattle.otp_roll.specs.Rows.{AreRollbackRows, IsRollbackVersion};
 ghost use Rattle.sector_pool.specs.Keeping.{KeepsOut};
 ghost use Rattle.sector_pool.specs.Pool.{HasFree};
-ghost use Rattle.trial_buy.specs.Starting.{erase_in, image_raises, is_other_better, other_erase, other_image, raises_of, settling, start_steps};
+ghost use Rattle.trial_buy.specs.Starting.{erase_in, image_raises, is_other_better, other_erase, other_image, raises_of, settling, start_erase, start_steps};
 ghost use Rattle.part_table.specs.Windows.{IsPlacedIn};
 ghost use Rattle.trial_buy.specs.Windows.{IsPlacedChoice};
 
 use block_codec::Version;
-use image_check::{Started, check};
+use image_check::{Digests, Started, check_by};
 use otp_roll::raise_to;
 use pico_board::{Board, Cpu, PowerLost, Window};
 use sector_pool::SectorPool;
@@ -33,17 +34,21 @@ fn is_other_better(member: Member, started: Version, other: Version) -> bool
 fn other_image<B: Board>(
     board: &B,
     pool: &mut SectorPool,
+    digests: &mut Digests,
     cpu: Cpu,
     window: Option<Window>,
 ) -> Option<Started>
     requires power { IsTrue (B.state board.now).powered }
     requires free { HasFree pool.old }
+    requires knows { Knows digests.old (B.state board.now).content }
     requires other { IfSome window (IsPlacedIn (B.state board.now).content) }
     ensures exact { result ≡ other_image (B.state board.now).content cpu window }
+    ensures knows { Knows digests.new (B.state board.now).content }
+    ensures made { MakesAtMost 1 digests.old digests.new }
     ensures kept { KeepsOut pool.old pool.new }
 {
     match window {
-        Some(window) => check(board, pool, window, cpu, false).ok(),
+        Some(window) => check_by(board, pool, digests, window, cpu, false).ok(),
         None => None,
     }
 }
@@ -52,15 +57,19 @@ fn other_image<B: Board>(
 pub(crate) fn better_sector<B: Board>(
     board: &B,
     pool: &mut SectorPool,
+    digests: &mut Digests,
     cpu: Cpu,
     choice: &Choice,
 ) -> Option<u32>
     requires power { IsTrue (B.state board.now).powered }
     requires free { HasFree pool.old }
+    requires knows { Knows digests.old (B.state board.now).content }
     requires placed { IsPlacedChoice (B.state board.now).content choice.now }
     ensures exact { erase_in result ≡ other_erase (B.state board.now).content cpu choice.now }
     ensures inside { IfSome result
         (λ s. 4096 * s + 4096 ≤ length (B.state board.now).content.flash) }
+    ensures knows { Knows digests.new (B.state board.now).content }
+    ensures made { MakesAtMost 1 digests.old digests.new }
     ensures kept { KeepsOut pool.old pool.new }
 {
     if !choice.updated {
@@ -69,7 +78,7 @@ pub(crate) fn better_sector<B: Board>(
     let Some(window) = choice.other else {
         return None;
     };
-    let Some(other) = other_image(board, pool, cpu, choice.other) else {
+    let Some(other) = other_image(board, pool, digests, cpu, choice.other) else {
         return None;
     };
     if is_other_better(choice.member, choice.image.version, other.version) {
@@ -106,6 +115,56 @@ pub(crate) fn raise_rows<B: Board>(board: &mut B, image: &Started) -> Result<(),
     }
 }
 
+/// The sector that a start erases, where it erases one, with what is remembered of digests. A start
+/// of a trial image erases none. At most one digest is made: that of the other member's image.
+pub fn start_sector<B: Board>(
+    board: &B,
+    pool: &mut SectorPool,
+    digests: &mut Digests,
+    cpu: Cpu,
+    choice: &Choice,
+) -> Option<u32>
+    requires power { IsTrue (B.state board.now).powered }
+    requires lease { HasFree pool.old }
+    requires knows { Knows digests.old (B.state board.now).content }
+    requires placed { IsPlacedChoice (B.state board.now).content choice.now }
+    ensures exact { erase_in result ≡ start_erase (B.state board.now).content cpu choice.now }
+    ensures inside { IfSome result
+        (λ s. 4096 * s + 4096 ≤ length (B.state board.now).content.flash) }
+    ensures knows { Knows digests.new (B.state board.now).content }
+    ensures made { MakesAtMost 1 digests.old digests.new }
+    ensures kept { KeepsOut pool.old pool.new }
+{
+    if choice.image.trial {
+        return None;
+    }
+    better_sector(board, pool, digests, cpu, choice)
+}
+
+/// Does what a start writes, where the sector that it erases is known. After lost power a part of
+/// the steps is done.
+pub fn settle_at<B: Board>(
+    board: &mut B,
+    choice: &Choice,
+    sector: Option<u32>,
+) -> Result<(), PowerLost>
+    requires power { IsTrue (B.state board.old).powered }
+    requires valid { (cpu : Cpu) × Valid (B.state board.old).content choice.now.image.window cpu
+        true choice.now.image }
+    requires inside { IfSome sector
+        (λ s. 4096 * s + 4096 ≤ length (B.state board.old).content.flash) }
+    ensures steps { (cpu : Cpu)
+        → erase_in sector ≡ start_erase (B.state board.old).content cpu choice.now
+        → DoesAll B.state B.history board.old
+        (start_steps (B.state board.old).content cpu choice.now) (is_ok result) board.new }
+{
+    if choice.image.trial {
+        return Ok(());
+    }
+    erase_in(board, sector)?;
+    raise_rows(board, &choice.image)
+}
+
 /// Does what a start writes. For a trial image that is nothing. For another image the first sector
 /// of the other member is erased, where the start was updated and the other member has a
 /// normal-valid image that is better than the started one. Then the image's rows are raised to its
@@ -126,10 +185,6 @@ pub fn settle<B: Board>(
         (start_steps (B.state board.old).content cpu choice.now) (is_ok result) board.new }
     ensures kept { KeepsOut pool.old pool.new }
 {
-    if choice.image.trial {
-        return Ok(());
-    }
-    let sector = better_sector(board, pool, cpu, choice);
-    erase_in(board, sector)?;
-    raise_rows(board, &choice.image)
+    let sector = start_sector(board, pool, &mut Digests::none(), cpu, choice);
+    settle_at(board, choice, sector)
 }

@@ -2,7 +2,7 @@
 
 ghost use Rattle.std.specs.Prelude.{◌≡◌, [], ◌∷◌, replicate, true, false, Some, None};
 ghost use Rattle.pico_board.specs.declared.boot.Cpu.TheVariants.{Arm, Riscv};
-ghost use Rattle.image_check.specs.Digests.{entries_apart, remembered, with_entry};
+ghost use Rattle.image_check.specs.Digests.{entries_apart, MakesAtMost, noted, remembered, with_entry};
 ghost use Rattle.image_check.specs.Examples.{right_digest, sector_at, wrong_digest};
 
 /// The window of the bytes 8192 to 12287 is kept where a range ends before it or begins behind it.
@@ -38,10 +38,23 @@ pub fn a_digest_is_of_its_window_and_processor()
         (right_digest 8192 Arm ∷ wrong_digest 8192 Riscv ∷ []) ≡ Some false }
 {}
 
-/// Sixteen digests are remembered, and no more.
+/// Sixteen digests are remembered; a further one is remembered alone.
 pub fn there_is_room_for_sixteen()
     ensures the_sixteenth { with_entry (right_digest 0 Arm) (replicate 15 (right_digest 0 Arm))
         ≡ replicate 16 (right_digest 0 Arm) }
-    ensures no_more { with_entry (right_digest 0 Arm) (replicate 16 (right_digest 0 Arm))
-        ≡ replicate 16 (right_digest 0 Arm) }
+    ensures one_more { with_entry (right_digest 4096 Arm) (replicate 16 (right_digest 0 Arm))
+        ≡ right_digest 4096 Arm ∷ [] }
+{}
+
+/// The first digest of a memory counts as one, and a count that is at its end stays there.
+pub fn digests_are_counted()
+    ensures first { (noted (right_digest 0 Arm)
+        (record { entries = record { items = [] }; made = 0 })).made ≡ 1 }
+    ensures last { (noted (right_digest 0 Arm)
+        (record { entries = record { items = [] }; made = 18446744073709551615 })).made
+        ≡ 18446744073709551615 }
+    ensures one_more { MakesAtMost 1 (record { entries = record { items = [] }; made = 4 })
+        (record { entries = record { items = [] }; made = 5 }) }
+    ensures two_are_not_one { MakesAtMost 1 (record { entries = record { items = [] }; made = 4 })
+        (record { entries = record { items = [] }; made = 6 }) → ⊥ }
 {}

@@ -65,3 +65,6 @@ returns-clause-steps g c =
     (settled content c.args.cpu c.args.choice.now c.better_sector-sector.result kept
     c.better_sector-sector.ensures.exact
     c.in_ok-erase_in.ensures.steps c.raise_rows.ensures.steps)
+
+pub better_sector-sector-requires-clause-knows : goal.better_sector-sector-requires-clause-knows
+better_sector-sector-requires-clause-knows g c = c.none.ensures.knows (g.B.Board.state c.args.board.now).content
