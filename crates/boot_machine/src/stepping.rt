@@ -21,7 +21,6 @@ use boot_script::Event;
 use pico_board::{Bench, Board, BootKind, PowerLost};
 use std::mem;
 use text_lines::{put_text, set_text};
-use trial_buy::buy;
 
 /// A boot of this kind.
 fn reset<B: Board>(parts: &mut Parts<B>, kind: BootKind, line: &mut ArrayString<320>)
@@ -107,7 +106,7 @@ fn buy_choice<B: Board>(parts: &mut Parts<B>, choice: Choice, line: &mut ArraySt
         run(parts, choice);
         return;
     }
-    match buy(&mut parts.board, &mut parts.pool, parts.cpu, &choice) {
+    match parts.board.buy(&mut parts.pool, parts.cpu, &choice) {
         Ok(()) => {
             set_text(line, "buy done");
             run(parts, bought_choice(choice));

@@ -10,7 +10,8 @@ ghost use Rattle.image_check.specs.Valid.{Valid};
 ghost use Rattle.boot_rules.specs.Choosing.{decision_in};
 ghost use Rattle.boot_rules.specs.Chosen.{Chosen};
 ghost use Rattle.boot_rules.specs.Targets.{target_of};
-ghost use Rattle.trial_buy.specs.Starting.{erase_in, start_erase, start_steps};
+ghost use Rattle.trial_buy.specs.Buying.{buy_steps};
+ghost use Rattle.trial_buy.specs.Starting.{erase_in, other_erase, start_erase, start_steps};
 ghost use Rattle.trial_buy.specs.Windows.{IsPlacedChoice};
 
 use boot_rules::{Choice, Decision, Digests, Target, decide_by, target_by};
@@ -18,7 +19,7 @@ use part_table::Table;
 use pico_board::{Bench, Board, BootKind, Cpu, PAGE, PowerLost, SECTOR};
 use sector_pool::SectorPool;
 use std::marker::Model;
-use trial_buy::{settle_at, start_sector};
+use trial_buy::{better_sector, buy_at, settle_at, start_sector};
 
 /// A board with what is remembered of the digests of its windows. Contracts see the board alone. A
 /// step forgets the windows that share a byte with its range, done or torn, so what is remembered
@@ -133,6 +134,38 @@ impl<B: Board> Watched<B> {
     {
         let sector = self.start_sector(pool, cpu, choice);
         settle_at(self, choice, sector)
+    }
+
+    /// The sector that a buy of this choice erases. A digest is made only where it is not
+    /// remembered.
+    fn better_sector(&mut self, pool: &mut SectorPool, cpu: Cpu, choice: &Choice) -> Option<u32>
+        requires power { IsTrue (B.state self.old).powered }
+        requires lease { HasFree pool.old }
+        requires placed { IsPlacedChoice (B.state self.old).content choice.now }
+        ensures exact { erase_in result ≡ other_erase (B.state self.old).content cpu choice.now }
+        ensures inside { IfSome result
+            (λ s. 4096 * s + 4096 ≤ length (B.state self.old).content.flash) }
+        ensures same { self.new ≡ self.old }
+        ensures kept { KeepsOut pool.old pool.new }
+    {
+        better_sector(&self.board, pool, &mut self.digests, cpu, choice)
+    }
+
+    /// Does what a buy of a running trial image writes. After lost power a part of the steps is
+    /// done. A digest is made only where it is not remembered.
+    pub fn buy(&mut self, pool: &mut SectorPool, cpu: Cpu, choice: &Choice) -> Result<(), PowerLost>
+        requires power { IsTrue (B.state self.old).powered }
+        requires lease { HasFree pool.old }
+        requires placed { IsPlacedChoice (B.state self.old).content choice.now }
+        requires valid { Valid (B.state self.old).content choice.now.image.window cpu true
+            choice.now.image }
+        requires trial { choice.now.image.trial ≡ true }
+        ensures steps { DoesAll B.state B.history self.old
+            (buy_steps (B.state self.old).content cpu choice.now) (is_ok result) self.new }
+        ensures kept { KeepsOut pool.old pool.new }
+    {
+        let sector = self.better_sector(pool, cpu, choice);
+        buy_at(self, pool, choice, sector)
     }
 }
 

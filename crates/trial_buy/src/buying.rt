@@ -1,11 +1,12 @@
 //! The steps of a buy.
 
-ghost use Rattle.std.specs.Prelude.{◌≡◌, ◌+◌, ◌*◌, ◌/◌, ◌<◌, ◌≤◌, ◌^◌, IsTrue, is_ok, length, slice_range, true};
+ghost use Rattle.std.specs.Prelude.{◌≡◌, ◌+◌, ◌*◌, ◌/◌, ◌<◌, ◌≤◌, ◌^◌, IfSome, IsTrue, is_ok, length, slice_range, true};
 ghost use Rattle.pico_board.specs.Board.{DoesAll};
 ghost use Rattle.image_check.specs.Valid.{Valid};
 ghost use Rattle.sector_pool.specs.Keeping.{KeepsOut};
 ghost use Rattle.sector_pool.specs.Pool.{HasFree};
 ghost use Rattle.trial_buy.specs.Buying.{buy_steps, cleared, clearing, page_program, page_programs, rewrite_steps, trial_place};
+ghost use Rattle.trial_buy.specs.Starting.{erase_in, other_erase};
 ghost use Rattle.trial_buy.specs.Windows.{IsPlacedChoice};
 
 use crate::settling::{better_sector, erase_in, raise_rows};
@@ -94,6 +95,34 @@ fn clear<B: Board>(board: &mut B, pool: &mut SectorPool, place: u32) -> Result<(
     }
 }
 
+/// Does what a buy of a running trial image writes, where the sector of the other member's better
+/// image is known. After lost power a part of the steps is done.
+pub fn buy_at<B: Board>(
+    board: &mut B,
+    pool: &mut SectorPool,
+    choice: &Choice,
+    sector: Option<u32>,
+) -> Result<(), PowerLost>
+    requires power { IsTrue (B.state board.old).powered }
+    requires lease { HasFree pool.old }
+    requires placed { IsPlacedChoice (B.state board.old).content choice.now }
+    requires valid { (cpu : Cpu) × Valid (B.state board.old).content choice.now.image.window cpu
+        true choice.now.image }
+    requires trial { choice.now.image.trial ≡ true }
+    requires inside { IfSome sector
+        (λ s. 4096 * s + 4096 ≤ length (B.state board.old).content.flash) }
+    ensures steps { (cpu : Cpu)
+        → erase_in sector ≡ other_erase (B.state board.old).content cpu choice.now
+        → DoesAll B.state B.history board.old
+        (buy_steps (B.state board.old).content cpu choice.now) (is_ok result) board.new }
+    ensures kept { KeepsOut pool.old pool.new }
+{
+    let image = &choice.image;
+    clear(board, pool, trial_place(image))?;
+    erase_in(board, sector)?;
+    raise_rows(board, image)
+}
+
 /// Does what a buy of a running trial image writes. The sector that holds the trial bit is
 /// rewritten with that bit cleared, its 16 pages ascending. Then the first sector of the other
 /// member is erased, where the start was updated and the other member has a normal-valid image that
@@ -118,8 +147,5 @@ pub fn buy<B: Board>(
     ensures kept { KeepsOut pool.old pool.new }
 {
     let sector = better_sector(board, pool, &mut Digests::none(), cpu, choice);
-    let image = &choice.image;
-    clear(board, pool, trial_place(image))?;
-    erase_in(board, sector)?;
-    raise_rows(board, image)
+    buy_at(board, pool, choice, sector)
 }

@@ -10,5 +10,5 @@ pub mod examples;
 pub mod laws;
 mod settling;
 
-pub use buying::buy;
-pub use settling::{settle, settle_at, start_sector};
+pub use buying::{buy, buy_at};
+pub use settling::{better_sector, settle, settle_at, start_sector};

@@ -53,8 +53,9 @@ fn other_image<B: Board>(
     }
 }
 
-/// The sector whose erase takes a better image of the other member away, where there is one.
-pub(crate) fn better_sector<B: Board>(
+/// The sector whose erase takes a better image of the other member away, where there is one, with
+/// what is remembered of digests. At most one digest is made: that of the other member's image.
+pub fn better_sector<B: Board>(
     board: &B,
     pool: &mut SectorPool,
     digests: &mut Digests,
