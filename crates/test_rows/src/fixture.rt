@@ -1,11 +1,11 @@
-//! How a command ends on the files of a test, and what `info` tells of a flash.
+//! How a command ends on the files of a test, what `info` tells of a flash, and a sealed image.
 
 use boot_run::{Status, run};
 use pico_board::{MemSink, MemStore};
 use std::alloc::Global;
 use std::process::Abort;
 use std::test::Fail;
-use test_fixtures::words;
+use test_fixtures::{ARM, VECTORS, flash, words};
 
 /// How a run on the store ends, and what it puts.
 pub(crate) fn told(
@@ -58,4 +58,26 @@ pub(crate) fn compare_fault(
         (flash, Vec::new(alloc)),
         end,
     )
+}
+
+/// A binary of 65,280 bytes: the vectors, the least block, and zeros.
+fn binary(alloc: Global) -> Result<Vec<u8>, Fail> {
+    let mut bytes = flash(alloc, &[(0, &VECTORS)], 8)?;
+    bytes.resize(0x114, 0)?;
+    for word in ARM {
+        bytes.extend_from_slice(&u32::to_le_bytes(word))?;
+    }
+    bytes.resize(65_280, 0)?;
+    Ok(bytes)
+}
+
+/// The binary, sealed by what it is asked to be.
+pub(crate) fn sealed(alloc: Global, spec: &[u8]) -> Result<Vec<u8>, Fail> {
+    let files = vec![in alloc;
+        (String::from_str(alloc, "n")?, binary(alloc)?),
+        (String::from_str(alloc, "p")?, Vec::from_slice(alloc, spec)?),
+    ]?;
+    let mut store = MemStore::make(alloc, files, Vec::new(alloc), Vec::new(alloc));
+    told(alloc, &mut store, &["seal", "n", "p", "a"])?;
+    Ok(Vec::from_slice(alloc, store.file("a").unwrap_or(&[]))?)
 }

@@ -1,4 +1,5 @@
-//! Loops of blocks: the most blocks, one too many, an overlap, and a loop that leaves its slot.
+//! Loops of blocks: the most blocks, one too many, an overlap, a loop that leaves its slot, and the
+//! loop that a toolchain makes.
 
 use crate::fixture::{compare, compare_fault};
 use boot_run::Status;
@@ -34,6 +35,18 @@ const TABLE: [u32; 10] = [
 ];
 
 const BACK: [u32; 4] = [0xffff_ded3, 0x0000_00ff, 0xffff_f000, 0xab12_3579];
+
+/// The block of an executable as a toolchain makes it. It links to a block 0x2eec bytes behind it,
+/// at the image's end, which has an item that is passed over and links back.
+const NEAR: [u32; 5] = [0xffff_ded3, 0x1021_0142, 0x0000_01ff, 0x2eec, 0xab12_3579];
+
+const FAR: [u32; 5] = [
+    0xffff_ded3,
+    0x0000_01fe,
+    0x0000_01ff,
+    0xffff_d114,
+    0xab12_3579,
+];
 
 /// A flash of two sectors with so many blocks in one loop, 0x20 bytes apart from 0x100 on. The last
 /// one has this link.
@@ -92,4 +105,20 @@ fn a_loop_that_leaves_its_table_slot_gives_no_table(rt: HostRuntime) -> Result<(
     let bytes = flash(alloc, &[(0, &TABLE), (0x1000, &BACK)], 65_536)?;
     let window = "window=0x00000000+0x00010000";
     compare_fault(&rt, alloc, bytes, window, "fault=no-definition")
+}
+
+#[test]
+fn an_image_with_a_block_at_its_end_starts(rt: HostRuntime) -> Result<(), Fail> {
+    let alloc = rt.alloc();
+    let parts: [(usize, &[u32]); 3] = [(0, &VECTORS), (0x114, &NEAR), (0x3000, &FAR)];
+    let bytes = flash(alloc, &parts, 16_384)?;
+    let text = "start window=0x00000000+0x00004000 block=0x00000114 pc=0x10000201 sp=0x20082000 \
+        limit=0x00000000 version=0.0 rollback=none trial=no\n";
+    compare(
+        &rt,
+        alloc,
+        &["boot", "f", "o", "arm", "normal"],
+        (bytes, Vec::new(alloc)),
+        (Status::Done, text),
+    )
 }

@@ -3,13 +3,13 @@
 
 ghost use Rattle.std.specs.Prelude.{◌<◌};
 
-use crate::fixture::told;
+use crate::fixture::{sealed, told};
 use boot_run::Status;
 use pico_board::MemStore;
 use std::alloc::Global;
 use std::process::Abort;
 use std::test::Fail;
-use test_fixtures::{ARM, ARM_1_0, PAIR, VECTORS, flash};
+use test_fixtures::{ARM_1_0, PAIR, VECTORS, flash};
 
 /// What an image is asked to be: of version 1.0, and of 1.1.
 const SPEC_1_0: &[u8] = b"{\"processor\":\"arm\",\"version\":[1,0]}";
@@ -23,28 +23,6 @@ const IMAGE: [u8; 64] = [
     0x79, 0x35, 0x12, 0xab, 0, 0, 0, 0, 0, 0, 0, 0, 0, 0, 0, 0, 0, 0, 0, 0, 0, 0, 0, 0, 0, 0, 0, 0,
     0, 0, 0, 0,
 ];
-
-/// A binary of 65,280 bytes: the vectors, the least block, and zeros.
-fn binary(alloc: Global) -> Result<Vec<u8>, Fail> {
-    let mut bytes = flash(alloc, &[(0, &VECTORS)], 8)?;
-    bytes.resize(0x114, 0)?;
-    for word in ARM {
-        bytes.extend_from_slice(&u32::to_le_bytes(word))?;
-    }
-    bytes.resize(65_280, 0)?;
-    Ok(bytes)
-}
-
-/// The binary, sealed by what it is asked to be.
-fn sealed(alloc: Global, spec: &[u8]) -> Result<Vec<u8>, Fail> {
-    let files = vec![in alloc;
-        (String::from_str(alloc, "n")?, binary(alloc)?),
-        (String::from_str(alloc, "p")?, Vec::from_slice(alloc, spec)?),
-    ]?;
-    let mut store = MemStore::make(alloc, files, Vec::new(alloc), Vec::new(alloc));
-    told(alloc, &mut store, &["seal", "n", "p", "a"])?;
-    Ok(Vec::from_slice(alloc, store.file("a").unwrap_or(&[]))?)
-}
 
 /// The kind of a step of this number and its flash offset. The later sectors are programmed before
 /// the first one.
