@@ -11,6 +11,7 @@ ghost use Rattle.block_codec.specs.HighByte.{ChangesHighByte};
 ghost use Rattle.part_table.specs.Examples.{pair_table, plain_partition};
 ghost use Rattle.pico_board.specs.Content.{Content};
 ghost use Rattle.pico_board.specs.Sessions.{SameButSector};
+ghost use Rattle.pico_board.specs.Steps.{SameOutside};
 ghost use Rattle.law_targets.specs.Loads.{IsExecutable};
 ghost use Rattle.law_targets.specs.Pairs.{HasNoSecond, IsPart};
 ghost use Rattle.boot_map.specs.MapRules.{ArePair, IsNumbered};
@@ -73,6 +74,15 @@ pub fn a_picture_of_words()
 pub fn contents_that_differ_in_a_sector()
     ensures { SameButSector 0 (record { flash = 1 ∷ []; otp = [] })
         (record { flash = 2 ∷ []; otp = [] }) }
+{}
+
+/// Lists that differ in their second element alone are the same outside a range that has it, and
+/// not outside the ranges on its two sides. Lists of two lengths are the same outside no range.
+pub fn lists_that_differ_in_a_range()
+    ensures within { SameOutside 1 1 (7 ∷ 8 ∷ 9 ∷ []) (7 ∷ 5 ∷ 9 ∷ []) }
+    ensures below { SameOutside 2 1 (7 ∷ 8 ∷ 9 ∷ []) (7 ∷ 5 ∷ 9 ∷ []) → ⊥ }
+    ensures above { SameOutside 0 1 (7 ∷ 8 ∷ 9 ∷ []) (7 ∷ 5 ∷ 9 ∷ []) → ⊥ }
+    ensures longer { SameOutside 1 1 (7 ∷ 8 ∷ 9 ∷ []) (7 ∷ 5 ∷ 9 ∷ 0 ∷ []) → ⊥ }
 {}
 
 /// A row whose bits are 0 rises to any.
