@@ -7,3 +7,4 @@ pub mod Standing
 pub mod Examples
 pub mod Runs
 pub mod Ranges
+pub mod Remembering

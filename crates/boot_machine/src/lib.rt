@@ -13,6 +13,7 @@ pub mod examples;
 mod found;
 mod infos;
 pub mod laws;
+mod lookup;
 mod machine;
 mod parts;
 mod placing;

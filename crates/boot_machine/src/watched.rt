@@ -1,4 +1,4 @@
-//! A board with what is remembered of the digests of its windows.
+//! A board with what is remembered of its table and of the digests of its windows.
 
 ghost use Rattle.std.specs.Prelude.{◌≡◌, ◌+◌, ◌*◌, ◌/◌, ◌≤◌, IfSome, IsTrue, is_ok, length, option_map, true};
 ghost use Rattle.pico_board.specs.Board.{DoesAll};
@@ -14,40 +14,44 @@ ghost use Rattle.trial_buy.specs.Buying.{buy_steps};
 ghost use Rattle.trial_buy.specs.Starting.{erase_in, other_erase, start_erase, start_steps};
 ghost use Rattle.trial_buy.specs.Windows.{IsPlacedChoice};
 
-use boot_rules::{Choice, Decision, Digests, Target, decide_by, target_by};
+use crate::lookup::{Lookup, leaves_slots, look_up, looked_up};
+use boot_rules::{Choice, Decision, Digests, Target, decide_with, target_by};
 use part_table::Table;
 use pico_board::{Bench, Board, BootKind, Cpu, PAGE, PowerLost, SECTOR};
 use sector_pool::SectorPool;
 use std::marker::Model;
 use trial_buy::{better_sector, buy_at, settle_at, start_sector};
 
-/// A board with what is remembered of the digests of its windows. Contracts see the board alone. A
-/// step forgets the windows that share a byte with its range, done or torn, so what is remembered
-/// is true of the board's content.
+/// A board with what is remembered of its table and of the digests of its windows. Contracts see the
+/// board alone. A step, done or torn, forgets the windows that share a byte with its range, and the
+/// table where it may change a table slot. So what is remembered is true of the board's content.
 #[derive(Drop)]
 pub struct Watched<B: Board> {
     board: B,
     digests: Digests,
+    lookup: Lookup,
 }
 
 impl<B: Board> Model for Watched<B> {
-    ghost use Rattle.image_check.specs.Digests.{Knows};
+    ghost use Rattle.boot_machine.specs.Remembering.{Remembers};
 
     ghost Value = { B };
 
     ghost view = { λ watched. watched.board };
 
-    ghost invariant = { λ watched. Knows watched.digests (B.state watched.board).content };
+    ghost invariant = { λ watched. Remembers (B.state watched.board).content watched.digests
+        watched.lookup };
 }
 
 impl<B: Board> Watched<B> {
-    /// The board, of whose windows nothing is remembered.
+    /// The board, of which nothing is remembered.
     pub fn new(board: B) -> Watched<B>
         ensures { result ≡ board }
     {
         Watched {
             board,
             digests: Digests::none(),
+            lookup: Lookup::Due,
         }
     }
 
@@ -65,7 +69,8 @@ impl<B: Board> Watched<B> {
         self.board
     }
 
-    /// Decides a boot. A digest is made only where it is not remembered.
+    /// Decides a boot. The table is looked up, and a digest is made, only where it is not
+    /// remembered.
     pub fn decide(&mut self, pool: &mut SectorPool, cpu: Cpu, kind: BootKind) -> Decision
         requires power { IsTrue (B.state self.old).powered }
         requires lease { HasFree pool.old }
@@ -74,7 +79,9 @@ impl<B: Board> Watched<B> {
         ensures same { self.new ≡ self.old }
         ensures kept { KeepsOut pool.old pool.new }
     {
-        decide_by(&self.board, pool, &mut self.digests, cpu, kind)
+        look_up(&self.board, &mut self.lookup);
+        let table = looked_up(&self.lookup);
+        decide_with(&self.board, pool, &mut self.digests, table, cpu, kind)
     }
 
     /// Where a download of a UF2 family goes, where the board has this table. A digest is made only
@@ -191,18 +198,24 @@ impl<B: Board> Board for Watched<B> {
     }
 
     fn erase(&mut self, sector: u32) -> Result<(), PowerLost> {
+        let leaves = leaves_slots(&self.board, SECTOR * sector);
         let done = self.board.erase(sector);
         self.digests.forget(SECTOR * sector, SECTOR);
+        self.lookup.keep_if(leaves);
         done
     }
 
     fn program(&mut self, page: u32, bytes: &[u8; 256]) -> Result<(), PowerLost> {
+        let leaves = leaves_slots(&self.board, PAGE * page);
         let done = self.board.program(page, bytes);
         self.digests.forget(PAGE * page, PAGE);
+        self.lookup.keep_if(leaves);
         done
     }
 
     fn raise(&mut self, row: u16, bits: u32) -> Result<(), PowerLost> {
+        // A row says how long a slot is.
+        self.lookup.keep_if(false);
         self.board.raise(row, bits)
     }
 

@@ -1,18 +1,21 @@
 //! The boot decision.
 
-ghost use Rattle.std.specs.Prelude.{◌≡◌, ◌*◌, All, IsTrue, None, length};
+ghost use Rattle.std.specs.Prelude.{◌≡◌, ◌*◌, All, IsTrue, None, length, option_map};
 ghost use Rattle.sector_pool.specs.Keeping.{KeepsOut};
 ghost use Rattle.sector_pool.specs.Pool.{HasFree};
 ghost use Rattle.image_check.specs.Digests.{Knows, MakesAtMost};
 ghost use Rattle.boot_rules.specs.Choosing.{boot_units_in, decision_in, flash_decision, images_in, ordered_choice};
 ghost use Rattle.boot_rules.specs.Chosen.{Chosen};
 ghost use Rattle.boot_rules.specs.Picking.{AreInside};
+ghost use Rattle.boot_rules.specs.Tables.{table_of_content};
 
 use crate::decision::{Decision, Fall, decision_of};
 use crate::picking::{taken, unit_choice};
-use crate::units::{boot_units_in, order_of};
+use crate::tables::find_table;
+use crate::units::{boot_units_by, order_of};
 use image_check::Digests;
 use otp_roll::flash_off;
+use part_table::Table;
 use pico_board::{Board, BootKind, Cpu};
 use sector_pool::SectorPool;
 use slot_choice::{Choice, Member, SlotUnit};
@@ -71,16 +74,19 @@ fn ordered_choice<B: Board>(
     }
 }
 
-/// The decision of a boot from flash.
+/// The decision of a boot from a flash that has this table.
 fn flash_decision<B: Board>(
     board: &B,
     pool: &mut SectorPool,
     digests: &mut Digests,
+    table: Option<&Table>,
     cpu: Cpu,
     kind: BootKind,
 ) -> Decision
     requires power { IsTrue (B.state board.now).powered }
     requires free { HasFree pool.old }
+    requires table { option_map (λ t. t.now) table
+        ≡ table_of_content (B.state board.now).content }
     requires knows { Knows digests.old (B.state board.now).content }
     ensures exact { result ≡ flash_decision (B.state board.now).content cpu kind }
     ensures knows { Knows digests.new (B.state board.now).content }
@@ -91,22 +97,25 @@ fn flash_decision<B: Board>(
     if flash_off(board) {
         return Decision::Bootsel(Fall::FlashOff);
     }
-    let mut units = boot_units_in(board, cpu);
+    let mut units = boot_units_by(board, table, cpu);
     let updated = order_of(&mut units, kind);
     decision_of(ordered_choice(board, pool, digests, units.as_slice(), updated, cpu))
 }
 
-/// The decision of a boot.
+/// The decision of a boot of a flash that has this table.
 #[tactic(auto, unfolding(crate::specs::Choosing::decision_in))]
 fn decision_in<B: Board>(
     board: &B,
     pool: &mut SectorPool,
     digests: &mut Digests,
+    table: Option<&Table>,
     cpu: Cpu,
     kind: BootKind,
 ) -> Decision
     requires power { IsTrue (B.state board.now).powered }
     requires free { HasFree pool.old }
+    requires table { option_map (λ t. t.now) table
+        ≡ table_of_content (B.state board.now).content }
     requires knows { Knows digests.old (B.state board.now).content }
     ensures exact { result ≡ decision_in (B.state board.now).content cpu kind }
     ensures knows { Knows digests.new (B.state board.now).content }
@@ -116,14 +125,40 @@ fn decision_in<B: Board>(
 {
     match kind {
         BootKind::Bootsel => Decision::Bootsel(Fall::Requested),
-        BootKind::Normal => flash_decision(board, pool, digests, cpu, BootKind::Normal),
-        BootKind::Update(base) => flash_decision(board, pool, digests, cpu, BootKind::Update(base)),
+        BootKind::Normal => flash_decision(board, pool, digests, table, cpu, BootKind::Normal),
+        BootKind::Update(base) => {
+            flash_decision(board, pool, digests, table, cpu, BootKind::Update(base))
+        }
     }
 }
 
-/// Decides a boot, as `decide` does, with what is remembered of digests: a digest that is
-/// remembered is not made again. At most two digests are made for each boot unit, one a member, so
-/// the decision of a pair costs at most two.
+/// Decides a boot, as `decide` does, for a caller that has the table of the flash, and with what is
+/// remembered of digests: a digest that is remembered is not made again. At most two digests are
+/// made for each boot unit, one a member, so the decision of a pair costs at most two.
+pub fn decide_with<B: Board>(
+    board: &B,
+    pool: &mut SectorPool,
+    digests: &mut Digests,
+    table: Option<&Table>,
+    cpu: Cpu,
+    kind: BootKind,
+) -> Decision
+    requires power { IsTrue (B.state board.now).powered }
+    requires lease { HasFree pool.old }
+    requires table { option_map (λ t. t.now) table
+        ≡ table_of_content (B.state board.now).content }
+    requires knows { Knows digests.old (B.state board.now).content }
+    ensures chosen { Chosen (B.state board.now).content cpu kind result }
+    ensures function { result ≡ decision_in (B.state board.now).content cpu kind }
+    ensures knows { Knows digests.new (B.state board.now).content }
+    ensures made { MakesAtMost
+        (2 * length (boot_units_in (B.state board.now).content cpu)) digests.old digests.new }
+    ensures pool { KeepsOut pool.old pool.new }
+{
+    decision_in(board, pool, digests, table, cpu, kind)
+}
+
+/// Decides a boot, as `decide_with` does, whose table it looks up.
 pub fn decide_by<B: Board>(
     board: &B,
     pool: &mut SectorPool,
@@ -141,7 +176,10 @@ pub fn decide_by<B: Board>(
         (2 * length (boot_units_in (B.state board.now).content cpu)) digests.old digests.new }
     ensures pool { KeepsOut pool.old pool.new }
 {
-    decision_in(board, pool, digests, cpu, kind)
+    match find_table(board) {
+        Some(found) => decide_with(board, pool, digests, Some(&found.table), cpu, kind),
+        None => decide_with(board, pool, digests, None, cpu, kind),
+    }
 }
 
 /// Decides a boot: which image starts, or why none does. A boot that asks for BOOTSEL falls there

@@ -20,7 +20,7 @@ mod targets;
 mod units;
 
 pub use data::data_of;
-pub use deciding::{decide, decide_by};
+pub use deciding::{decide, decide_by, decide_with};
 pub use decision::{Decision, Fall, decision_of};
 pub use image_check::{Digests, Started};
 pub use part_table::Target;

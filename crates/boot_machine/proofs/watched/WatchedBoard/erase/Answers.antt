@@ -1,4 +1,6 @@
-use Rattle.boot_machine.proofs.WatchedLemmas.{erased-outside}
+use Rattle.std.proofs.Common.{subst, sym}
+use Rattle.boot_machine.specs.Remembering.{IsLookup}
+use Rattle.boot_machine.proofs.WatchedLemmas.{erased-lookup, erased-outside}
 use Rattle.boot_machine.proofs.watched.WatchedBoard.erase.Goals as goal
 
 pub invariant_of-self : goal.invariant_of-self
@@ -6,5 +8,10 @@ invariant_of-self g c =
     let state = g.B.Board.state in
     let old = c.self.inside.board in
     let new = c.erase-done.new.self in
-    c.forget.ensures.knows (state old).content (state new).content c.self.invariant
-    (erased-outside state g.B.Board.history old new c.args.sector _ c.erase-done.ensures)
+    record {
+      digests = c.forget.ensures.knows (state old).content (state new).content c.self.invariant.digests
+          (erased-outside state g.B.Board.history old new c.args.sector _ c.erase-done.ensures);
+      table = subst (IsLookup (state new).content) (sym c.keep_if.ensures)
+          (erased-lookup state g.B.Board.history old new c.args.sector _ c.leaves_slots-leaves.result
+          c.self.inside.lookup c.leaves_slots-leaves.ensures c.erase-done.ensures c.self.invariant.table);
+    }

@@ -1,5 +1,5 @@
 use Rattle.boot_rules.proofs.DecisionLemmas.{chosen-exactly}
-use Rattle.boot_rules.proofs.deciding.decide_by.Goals as goal
+use Rattle.boot_rules.proofs.deciding.decide_with.Goals as goal
 
 pub returns-clause-chosen : goal.returns-clause-chosen
 returns-clause-chosen g c =
