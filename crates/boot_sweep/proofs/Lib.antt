@@ -4,6 +4,8 @@ pub mod ResultLemmas
 mod LineLemmas
 mod VerdictLemmas
 pub mod KnownLemmas
+mod EachCutLemmas
+mod StepCutLemmas
 pub mod GateLemmas
 mod RefusalLemmas
 mod ChanceLemmas

@@ -1,16 +1,13 @@
 -- A step that is done where it was torn leaves what it leaves where it was not.
-use Rattle.std.proofs.Common.{◌≡◌, ℕ, ◌+◌, ◌-◌, ◌*◌, ◌<◌, length, drop, get_or, Bool, true, false, List, [], ◌∷◌, ◌++◌, refl, sym, ap, ◌∙◌, arith}
+use Rattle.std.proofs.Common.{◌≡◌, ℕ, ◌+◌, ◌-◌, ◌*◌, ◌<◌, length, Bool, true, false, List, [], ◌∷◌, refl, ap, ◌∙◌, arith}
 use Rattle.std.specs.Prelude.{◌&&◌, if◌then◌else◌, nat_le, nat_lt, bit_and, bit_or, bit_xor, slice_index, slice_set}
 use Rattle.std.proofs.lemmas.Nat.Bits.{bit_at_and, bit_at_or, same_from_bits}
-use Rattle.std.proofs.lemmas.List.{append_assoc, drop_more, get_or-set_same, set-set}
+use Rattle.std.proofs.lemmas.List.{get_or-set_same, set-set}
 use Rattle.pico_board.specs.declared.Step.{Step}
 use Rattle.pico_board.specs.Content.{Content, IsContent}
 use Rattle.pico_board.specs.Cuts.{pattern_at, pattern_row, torn_by}
 use Rattle.pico_board.specs.declared.step.Step.TheVariants.{Erase, Program, Raise}
-use Rattle.pico_board.specs.Steps.{IsStepIn, after, after_all, changed_from}
-use Rattle.boot_sweep.specs.declared.results.CutResult.{CutResult}
-use Rattle.boot_sweep.specs.declared.results.StepResults.{StepResults}
-use Rattle.boot_sweep.specs.StepResults.{results_from, step_results}
+use Rattle.pico_board.specs.Steps.{IsStepIn, after, changed_from}
 
 one-again : (b : Bool) (f g : ℕ → ℕ → ℕ) (i x : ℕ) → ((i x : ℕ) → f i (g i x) ≡ f i x)
     → (if b then f i (if b then g i x else x) else (if b then g i x else x)) ≡ (if b then f i x else x)
@@ -87,24 +84,3 @@ redone pattern c (Raise r b) right inside =
     let long = right.otp_length in
     let low = inside.0 in
     redone-raise pattern c r b (omega (arith, low, long))
-
--- one step more
-module _ (k : ℕ) (b next : Content) (other : Step) (steps : List Step) (within : k < length steps)
-    (done : next ≡ after b (get_or steps k other)) where
-  here : drop k steps ≡ get_or steps k other ∷ drop (k + 1) steps
-  here = drop_more steps k other within
-
-  pub results-next : (judge : Content → CutResult) (pattern : List ℕ) (old new total : List StepResults)
-      → new ≡ old ++ step_results judge b pattern (get_or steps k other) ∷ []
-      → old ++ results_from judge pattern b (drop k steps) ≡ total
-      → new ++ results_from judge pattern next (drop (k + 1) steps) ≡ total
-  results-next judge pattern old new total more all =
-      let rest : List StepResults = results_from judge pattern (after b (get_or steps k other)) (drop (k + 1) steps) in
-      ap (λ d. new ++ results_from judge pattern d (drop (k + 1) steps)) done
-      ∙ (ap (λ xs. xs ++ rest) more
-      ∙ (append_assoc old (step_results judge b pattern (get_or steps k other) ∷ []) rest
-      ∙ (ap (λ xs. old ++ results_from judge pattern b xs) (sym here) ∙ all)))
-
-  pub rest-next : (end : Content) → after_all b (drop k steps) ≡ end → after_all next (drop (k + 1) steps) ≡ end
-  rest-next end all =
-      ap (λ d. after_all d (drop (k + 1) steps)) done ∙ (ap (after_all b) (sym here) ∙ all)

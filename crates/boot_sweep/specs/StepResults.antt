@@ -12,6 +12,9 @@ use Rattle.boot_sweep.specs.Comparing.{result_of}
 use Rattle.boot_sweep.specs.Results.{IsCutResult}
 use Rattle.boot_sweep.specs.Sweeps.{Line, content_after_cut}
 
+abbrev pub both_results : CutResult → CutResult → StepResults
+both_results before within = record { before = before; within = within }
+
 -- the results of a step on the content b
 abbrev pub step_results : (Content → CutResult) → Content → List ℕ → Step → StepResults
 step_results judge b pattern step = record {

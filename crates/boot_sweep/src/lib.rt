@@ -2,14 +2,19 @@
 //!
 //! The session is that of `boot_session`. `specs/Refusals` says why it is not swept,
 //! `specs/Results` what a normal boot makes of a cut, and `specs/Sweeps` has the lines.
+//! `specs/EachCut` says how each cut of a list of steps is judged, whoever judges it.
 //! `specs/Firms` says which images are firm. The loss of power is that of `pico_board`, the
 //! decision is that of `boot_rules`.
 #![tactic(auto)]
 
+mod act;
 mod comparing;
+mod cutting;
+mod doing;
 mod error;
 mod firmness;
 mod gating;
+mod judge;
 pub mod laws;
 mod lines;
 mod results;
@@ -18,11 +23,15 @@ mod slots;
 mod steps;
 mod sweeping;
 
+pub use act::Act;
 pub use boot_session::Recorder;
 pub use comparing::is_same_decision;
+pub use cutting::each_cut;
+pub use doing::Doing;
 pub use error::SweepError;
 pub use firmness::firm;
 pub use gating::ungated;
+pub use judge::Judge;
 pub use results::{CutResult, Ends, StepResults, SweepResults, Verdict};
 pub use script::{is_start_in, sweep, swept, swept_text};
 pub use slots::{Last, Slot, are_confined, slot_of, verdict_beside};

@@ -1,77 +1,67 @@
 //! The cuts of a session, each before and within each step, and what a normal boot makes of them.
 
-ghost use Rattle.std.specs.Prelude.{◌≡◌, All, IfOk, IsTrue, OnOk, length, true};
-ghost use Rattle.pico_board.specs.Content.{Content};
-ghost use Rattle.pico_board.specs.Cuts.{IsPattern, torn_by};
+ghost use Rattle.std.specs.Prelude.{◌≡◌, ◌+◌, ◌++◌, ◌∷◌, [], ℕ, ⊤, All, IfOk, IsTrue, OnOk, length, true};
+ghost use Rattle.pico_board.specs.Cuts.{IsPattern};
 ghost use Rattle.pico_board.specs.MemBoard.{state_of};
-ghost use Rattle.pico_board.specs.Steps.{IsStepIn, after, after_all};
+ghost use Rattle.pico_board.specs.Steps.{IsStepIn, after_all};
 ghost use Rattle.sector_pool.specs.Keeping.{KeepsOut};
 ghost use Rattle.sector_pool.specs.Pool.{HasFree};
 ghost use Rattle.boot_sweep.specs.Comparing.{result_by};
+ghost use Rattle.boot_sweep.specs.EachCut.{compared_with};
 ghost use Rattle.boot_session.specs.Standing.{IsUnarmed};
-ghost use Rattle.boot_sweep.specs.StepResults.{results_from, step_results};
-ghost use Rattle.boot_sweep.specs.Verdicts.{Knows, LiesIn};
+ghost use Rattle.boot_sweep.specs.StepResults.{both_results, results_from};
 
-use crate::results::{Ends, StepResults};
+use crate::cutting::each_cut;
+use crate::judge::Judge;
+use crate::results::{CutResult, Ends, StepResults};
 use crate::slots::{Last, Slot, result_beside, slot_of};
-use crate::steps::{complete, cut};
 use pico_board::{Board, MemBoard, Step};
 use sector_pool::SectorPool;
 use std::alloc::{AllocError, Global};
 
-/// Loses power within a step, which leaves what the pattern says, and powers the board again.
-fn tear(board: &mut MemBoard, step: &Step, pattern: &[u8])
-    requires ready { IsUnarmed (state_of board.old) }
-    requires range { IsStepIn (length (state_of board.old).content.flash) step.now }
-    requires pattern { IsPattern true pattern.now }
-    ensures ready { IsUnarmed (state_of board.new) }
-    ensures torn { (state_of board.new).content
-        ≡ torn_by pattern.now (state_of board.old).content step.now }
-    ensures size { length (state_of board.new).content.flash
-        ≡ length (state_of board.old).content.flash }
-{
-    cut(board, step, true, pattern);
-}
+impl<Z: Board> Judge<MemBoard> for Ends<'_, Z> {
+    type Answer = CutResult;
 
-/// The results of a step, which the board does. A step that is done where it was torn leaves the
-/// same as where it was not.
-fn step_results<Z: Board>(
-    board: &mut MemBoard,
-    pool: &mut SectorPool,
-    ends: &Ends<'_, Z>,
-    slot: Option<Slot>,
-    last: &mut Option<Last>,
-    step: &Step,
-    pattern: &[u8],
-) -> StepResults
-    requires ready { IsUnarmed (state_of board.old) }
-    requires known { (c : Content) × Knows c ends.now.cpu ends.now.former ends.now.finished slot
-        last.old (state_of board.old).content }
-    requires slot { LiesIn slot step.now }
-    requires range { IsStepIn (length (state_of board.old).content.flash) step.now }
-    requires pattern { IsPattern true pattern.now }
-    requires free { HasFree pool.old }
-    requires finished { IsTrue (Z.state ends.now.board.now).powered }
-    requires long { length (Z.state ends.now.board.now).content.flash
-        ≡ length (state_of board.old).content.flash }
-    ensures exact { result ≡ step_results (λ d. result_by ends.now.former ends.now.finished
-        ends.now.cpu d (Z.state ends.now.board.now).content) (state_of board.old).content
-        pattern.now step.now }
-    ensures known { (c : Content) → Knows c ends.now.cpu ends.now.former ends.now.finished slot
-        last.old (state_of board.old).content
-        → Knows c ends.now.cpu ends.now.former ends.now.finished slot last.new
-        (state_of board.new).content }
-    ensures ready { IsUnarmed (state_of board.new) }
-    ensures done { (state_of board.new).content ≡ after (state_of board.old).content step.now }
-    ensures size { length (state_of board.new).content.flash
-        ≡ length (state_of board.old).content.flash }
-    ensures kept { KeepsOut pool.old pool.new }
-{
-    let before = result_beside(board, pool, ends, slot, last);
-    tear(board, step, pattern);
-    let within = result_beside(board, pool, ends, slot, last);
-    complete(board, step);
-    StepResults { before, within }
+    type Found = Vec<StepResults>;
+
+    ghost serves = { λ ends n. IsTrue (Z.state ends.board.now).powered
+        × (length (Z.state ends.board.now).content.flash ≡ n) };
+
+    ghost is_first = { λ ends c. ⊤ };
+
+    ghost compared = { λ ends. compared_with ends.cpu ends.former ends.finished };
+
+    ghost answer = { λ ends d. result_by ends.former ends.finished ends.cpu d
+        (Z.state ends.board.now).content };
+
+    ghost has_room = { λ found n. ⊤ };
+
+    ghost takes = { λ old before within new. new.items
+        ≡ old.items ++ both_results before within ∷ [] };
+
+    fn judge(
+        &self,
+        board: &mut MemBoard,
+        pool: &mut SectorPool,
+        slot: Option<Slot>,
+        last: &mut Option<Last>,
+    ) -> Result<CutResult, AllocError> {
+        Ok(result_beside(board, pool, self, slot, last))
+    }
+
+    fn take(
+        found: &mut Vec<StepResults>,
+        before: CutResult,
+        within: CutResult,
+    ) -> Result<(), AllocError>
+        requires room { (n : ℕ) × ⊤ }
+        ensures taken { OnOk result (found.new.items
+            ≡ found.old.items ++ both_results before within ∷ []) }
+        ensures room { OnOk result ((n : ℕ) → ⊤ → ⊤) }
+    {
+        found.push(StepResults { before, within })?;
+        Ok(())
+    }
 }
 
 /// The results of the steps, which the board does. Nothing is copied for a step. Where the steps
@@ -101,10 +91,7 @@ pub fn results_of<Z: Board>(
     ensures kept { KeepsOut pool.old pool.new }
 {
     let slot = slot_of(board, ends.cpu, steps);
-    let mut last = None;
     let mut results = Vec::new(alloc);
-    for step in steps {
-        results.push(step_results(board, pool, ends, slot, &mut last, step, pattern))?;
-    }
+    each_cut(board, pool, ends, slot, &mut results, steps, pattern)?;
     Ok(results)
 }
