@@ -7,3 +7,4 @@ pub mod PlayLemmas
 pub mod FoundLemmas
 pub mod ReplayLemmas
 mod BesideLemmas
+mod WalkLemmas

@@ -1,19 +1,16 @@
 -- What a script does to a board, step by step. Some steps complete, and the script's own cuts cut
 -- others.
-use Rattle.std.specs.Prelude.{ℕ, ◌+◌, Bool, List, [], ◌∷◌, map}
+use Rattle.std.specs.Prelude.{ℕ, List, [], ◌∷◌, map}
 use Rattle.std.specs.List.{AllByRecursion}
 use Rattle.pico_board.specs.declared.Step.{Step}
 use Rattle.pico_board.specs.Content.{Content}
-use Rattle.pico_board.specs.Cuts.{IsPattern, cut_by, cut_with}
-use Rattle.pico_board.specs.Steps.{IsStepIn, after}
+use Rattle.pico_board.specs.Cuts.{cut_by, cut_with}
+use Rattle.pico_board.specs.Steps.{after}
 use Rattle.boot_cuts.specs.declared.moves.Move.{Move}
 use Rattle.boot_cuts.specs.declared.moves.Move.TheVariants as rust
 use Rattle.boot_cuts.specs.Traces.{Traced}
-
--- a step that completes, or one that a cut of the script cuts
-pub data MoveView : Type 0 where
-  Done : (step : Step) → MoveView
-  Torn : (step : Step) → (within : Bool) → (pattern : List ℕ) → MoveView
+-- a step that completes, or one that a cut of the script cuts, and what it leaves
+pub use Rattle.boot_sweep.specs.Moving.{MoveView, Done, Torn, IsMoveIn, after_move, after_moves, done_count}
 
 abbrev pub move_from : Move → MoveView
 move_from (rust.Done step) = Done step
@@ -22,22 +19,9 @@ move_from (rust.Torn step within pattern) = Torn step within pattern.now
 abbrev pub moves_from : List Move → List MoveView
 moves_from moves = map move_from moves
 
--- the step's range lies in a flash of n bytes, and a pattern is as a bench asks
-abbrev pub IsMoveIn : ℕ → MoveView → Type 0
-IsMoveIn n (Done step) = IsStepIn n step
-IsMoveIn n (Torn step within pattern) = IsStepIn n step × IsPattern within pattern
-
+-- the step of each lies in a flash of n bytes, and a pattern is as a bench asks
 abbrev pub AreMovesIn : ℕ → List Move → Type 0
 AreMovesIn n moves = AllByRecursion (IsMoveIn n) (moves_from moves)
-
--- the content that is left
-abbrev pub after_move : Content → MoveView → Content
-after_move c (Done step) = after c step
-after_move c (Torn step within pattern) = cut_by (cut_with 0 within pattern) c step
-
-abbrev pub after_moves : Content → List MoveView → Content
-after_moves c [] = c
-after_moves c (moved ∷ moves) = after_moves (after_move c moved) moves
 
 -- the steps that complete, each with the content before it
 abbrev pub traced_by : Content → List MoveView → List Traced
@@ -46,12 +30,6 @@ traced_by c (Done step ∷ moves) =
     record { before = c; step = step } ∷ traced_by (after c step) moves
 traced_by c (Torn step within pattern ∷ moves) =
     traced_by (cut_by (cut_with 0 within pattern) c step) moves
-
--- how many steps complete
-abbrev pub done_count : List MoveView → ℕ
-done_count [] = 0
-done_count (Done step ∷ moves) = done_count moves + 1
-done_count (Torn step within pattern ∷ moves) = done_count moves
 
 -- the steps that complete
 abbrev pub done_steps : List MoveView → List Step
