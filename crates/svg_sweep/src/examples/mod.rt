@@ -3,8 +3,9 @@
 
 ghost use Rattle.std.specs.Prelude.{◌≡◌, [], ◌∷◌, codes};
 ghost use Rattle.svg_marks.specs.declared.class.Class.TheVariants.{Chance, Erase, Finished, Former, Legend, Program, Span};
-ghost use Rattle.svg_sweep.specs.Charts.{chart_words, counted_in_chart, spans_height};
+ghost use Rattle.svg_sweep.specs.Charts.{area_at, chart_words, counted_in_chart, spans_height};
 ghost use Rattle.svg_sweep.specs.Examples.{no_steps, three_steps};
+ghost use Rattle.svg_sweep.specs.Places.{FillFrom};
 ghost use Rattle.svg_sweep.specs.Runs.{runs};
 
 /// Runs of results.
@@ -52,4 +53,14 @@ pub fn lines_of_names()
     ensures none { spans_height 0 ≡ 0 }
     ensures five { spans_height 5 ≡ 20 }
     ensures six { spans_height 6 ≡ 40 }
+{}
+
+/// Two bars fill a strip of three units. They do not where one of them has no width, or where there
+/// is a gap before, between or behind them.
+pub fn bars_of_a_strip()
+    ensures whole { FillFrom 3 0 (area_at 0 0 1 1 ∷ area_at 1 0 2 1 ∷ []) }
+    ensures no_width { FillFrom 3 0 (area_at 0 0 0 1 ∷ area_at 0 0 3 1 ∷ []) → ⊥ }
+    ensures before { FillFrom 3 0 (area_at 1 0 2 1 ∷ []) → ⊥ }
+    ensures between { FillFrom 3 0 (area_at 0 0 1 1 ∷ area_at 2 0 1 1 ∷ []) → ⊥ }
+    ensures behind { FillFrom 3 0 (area_at 0 0 2 1 ∷ []) → ⊥ }
 {}
