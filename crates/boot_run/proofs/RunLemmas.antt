@@ -22,7 +22,7 @@ use Rattle.boot_rules.proofs.DecisionLemmas.{chosen-decision, chosen-not_below}
 use Rattle.cli_course.specs.declared.status.Status.{Status}
 use Rattle.cli_course.specs.declared.status.Status.TheVariants.{Words, Input as Refused, ReadFault, WriteFault, OutputFault, Memory}
 use Rattle.cli_inputs.specs.declared.forms.Form.TheVariants.{Flash, Otp}
-use Rattle.cli_words.specs.Commands.{CommandLineView, Boot}
+use Rattle.cli_words.specs.Rows.{CommandLineView, Boot}
 use Rattle.cli_inputs.specs.Forms.{HasForm, content_of_files}
 use Rattle.text_lines.specs.Texts.{decision_line}
 use Rattle.cli_boot.specs.Works.{boot_work}

@@ -3,7 +3,7 @@
 use Rattle.std.specs.Prelude.{ℕ, Bool, true, false, List, [], Option, Some, None, ◌≡◌, ⊤}
 use Rattle.pico_board.specs.Files.{File}
 use Rattle.cli_course.specs.Outcomes.{LimitedInputView, AnswerView, Work, Answers, not_understood, found, outcome_found, AreOfBytes}
-use Rattle.cli_words.specs.Commands.{CommandLineView, Boot, Info, OwnedData, Explain, Map, Replay, Sweep, Chart, Seal, Elf, Firm, Table, Usage, Help, Release, Uf2, Plan, Copy, ListScript, WriteScript, Gen, Load, Caveats, OtpFile, Cuts, Check}
+use Rattle.cli_words.specs.Rows.{CommandLineView, Boot, Info, OwnedData, Explain, Map, Replay, Sweep, Chart, Seal, Elf, Firm, Table, Usage, Help, Release, Uf2, Plan, Copy, ListScript, WriteScript, Gen, Load, Caveats, OtpFile, Cuts, Check}
 use Rattle.cli_words.specs.Usages.{usage_text, help_text, release_line}
 use Rattle.cli_inputs.specs.Forms.{content_of_files, HasForm}
 use Rattle.cli_inputs.specs.Jsons.{spec_read, table_read, otp_read}
@@ -229,14 +229,22 @@ Obeys command read o =
 -- update, since a content is of bytes; a replay, a sweep and its picture, since power that is lost
 -- in an erase leaves bytes; and the packing of an ELF file, since its entry is a word; the other
 -- commands ask nothing
+abbrev pub needs_bytes : CommandLineView → Bool
+needs_bytes (Map flash otp cpu out) = true
+needs_bytes (Replay flash otp cpu script out_flash out_otp) = true
+needs_bytes (Sweep flash otp cpu script pattern) = true
+needs_bytes (Chart flash otp cpu script pattern out) = true
+needs_bytes (Check flash otp cpu script pattern) = true
+needs_bytes (Elf elf spec out) = true
+needs_bytes _ = false
+
+-- what is asked of the bytes of inputs
+abbrev pub Asks : Bool → List (List ℕ) → Type 0
+Asks true read = AreOfBytes read
+Asks false read = ⊤
+
 abbrev pub NeedsBytes : CommandLineView → List (List ℕ) → Type 0
-NeedsBytes (Map flash otp cpu out) read = AreOfBytes read
-NeedsBytes (Replay flash otp cpu script out_flash out_otp) read = AreOfBytes read
-NeedsBytes (Sweep flash otp cpu script pattern) read = AreOfBytes read
-NeedsBytes (Chart flash otp cpu script pattern out) read = AreOfBytes read
-NeedsBytes (Check flash otp cpu script pattern) read = AreOfBytes read
-NeedsBytes (Elf elf spec out) read = AreOfBytes read
-NeedsBytes command read = ⊤
+NeedsBytes command read = Asks (needs_bytes command) read
 
 -- the command judges a script, so it may end with a verdict
 abbrev pub judges : CommandLineView → Bool

@@ -4,6 +4,7 @@
 #![tactic(auto)]
 
 pub mod examples;
+mod inputs;
 pub mod laws;
 mod program;
 mod work;

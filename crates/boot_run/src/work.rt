@@ -1,16 +1,11 @@
-//! The inputs of a command, and its work on their bytes.
+//! The commands: what each does on the files of its inputs.
 
-ghost use Rattle.std.specs.Prelude.{◌≡◌, IfOk, map, length};
-ghost use Rattle.cli_course.specs.Outcomes.{worked};
+ghost use Rattle.std.specs.Prelude.{◌≡◌, IfErr, IfOk, Some, length};
 ghost use Rattle.cli_course.specs.Views.{answer_from, bytes_of_files};
-ghost use Rattle.cli_words.specs.Commands.{command_from};
-ghost use Rattle.cli_inputs.specs.declared.forms.Form.{Form};
-ghost use Rattle.cli_inputs.specs.Forms.{HasForm};
-ghost use Rattle.cli_inputs.specs.Rules.{AreFormed};
-ghost use Rattle.cli_inputs.specs.Views.{form_input_from};
-ghost use Rattle.boot_run.specs.Commands.{command_outcome, inputs_of, work_of};
+ghost use Rattle.cli_words.specs.Rows.{command_from};
+ghost use Rattle.cli_inputs.specs.Inputs.{Tells};
+ghost use Rattle.boot_run.specs.Commands.{command_outcome, inputs_of};
 
-use boot_script::Script;
 use cli_boot::{boot, data, info};
 use cli_caveats::caveats;
 use cli_check::check;
@@ -18,10 +13,8 @@ use cli_course::{Answer, told};
 use cli_cuts::cuts;
 use cli_explain::explain;
 use cli_inputs::{
-    Form, FormInput, binary_and_spec, board_files, board_of, elf_and_spec, elf_files,
-    first_input_fault, flash_and_otp, flash_otp_image, flash_otp_script, flash_otp_script_pattern,
-    image_alone, image_files, lone_file, one_json, otp_in, otp_told, script_alone, script_files,
-    seal_files, spec_in, sweep_files, table_in, text_alone, uf2_alone,
+    InputFail, four, one, read_binary, read_board, read_elf, read_image, read_otp, read_pattern,
+    read_script, read_spec, read_table, read_text, read_uf2, three, two,
 };
 use cli_map::map_flash;
 use cli_otp::otp;
@@ -31,247 +24,231 @@ use cli_tools::{load, made_flash, pack_elf, plan_image, seal_binary, table, uf2}
 use cli_words::{CommandLine, help_text, release_line, usage_text};
 use std::alloc::{AllocError, Global};
 
-/// The inputs of a command, in the order of the arguments.
-pub fn inputs<'a>(
-    alloc: Global,
-    command: &CommandLine<'a>,
-) -> Result<Vec<FormInput<'a>>, AllocError>
-    ensures { IfOk result
-        (λ inputs. map form_input_from inputs.items ≡ inputs_of (command_from command.now)) }
-{
-    match command {
-        CommandLine::Boot { flash, otp, .. } => flash_and_otp(alloc, flash, otp),
-        CommandLine::Info { flash, otp, .. } => flash_and_otp(alloc, flash, otp),
-        CommandLine::OwnedData { flash, otp, .. } => flash_and_otp(alloc, flash, otp),
-        CommandLine::Explain { flash, otp, .. } => flash_and_otp(alloc, flash, otp),
-        CommandLine::Caveats { flash, otp, .. } => flash_and_otp(alloc, flash, otp),
-        CommandLine::Map { flash, otp, .. } => flash_and_otp(alloc, flash, otp),
-        CommandLine::Replay {
-            flash,
-            otp,
-            script,
-            ..
-        } => flash_otp_script(alloc, flash, otp, script),
-        CommandLine::Sweep {
-            flash,
-            otp,
-            script,
-            pattern,
-            ..
-        } => flash_otp_script_pattern(alloc, flash, otp, script, pattern),
-        CommandLine::Chart {
-            flash,
-            otp,
-            script,
-            pattern,
-            ..
-        } => flash_otp_script_pattern(alloc, flash, otp, script, pattern),
-        CommandLine::Cuts {
-            flash,
-            otp,
-            script,
-            pattern,
-            ..
-        } => flash_otp_script_pattern(alloc, flash, otp, script, pattern),
-        CommandLine::Check {
-            flash,
-            otp,
-            script,
-            pattern,
-            ..
-        } => flash_otp_script_pattern(alloc, flash, otp, script, pattern),
-        CommandLine::Seal { binary, spec, .. } => binary_and_spec(alloc, binary, spec),
-        CommandLine::Elf { elf, spec, .. } => elf_and_spec(alloc, elf, spec),
-        CommandLine::Firm { image, .. } => image_alone(alloc, image),
-        CommandLine::Table { json, .. } => one_json(alloc, json),
-        CommandLine::OtpFile { json, .. } => otp_told(alloc, json),
-        CommandLine::Uf2 { image, .. } => image_alone(alloc, image),
-        CommandLine::Plan {
-            flash,
-            otp,
-            image,
-            ..
-        } => flash_otp_image(alloc, flash, otp, image),
-        CommandLine::Load {
-            flash,
-            otp,
-            image,
-            ..
-        } => flash_otp_image(alloc, flash, otp, image),
-        CommandLine::Copy { uf2, .. } => uf2_alone(alloc, uf2),
-        CommandLine::ListScript { script } => script_alone(alloc, script),
-        CommandLine::WriteScript { text, .. } => text_alone(alloc, text),
-        CommandLine::Gen { .. } => Ok(Vec::new(alloc)),
-        CommandLine::Usage => Ok(Vec::new(alloc)),
-        CommandLine::Help { .. } => Ok(Vec::new(alloc)),
-        CommandLine::Release => Ok(Vec::new(alloc)),
-    }
-}
-
-/// The script of a file that has its form.
-fn whole_script(file: &[u8]) -> Script<'_>
-    requires { HasForm Form.Script file.now }
-    ensures { result.bytes.now ≡ file.now }
-{
-    Script { bytes: file }
-}
-
-/// The work of a command on the bytes of its inputs, which have their forms.
-fn work<'a>(
+/// What a command does on the files of its inputs: it reads each into what its form gives, in the
+/// order of the arguments, and works on these. The first file that breaks its form is refused.
+fn perform<'a>(
     alloc: Global,
     command: &CommandLine<'a>,
     files: Vec<Vec<u8>>,
-) -> Result<Answer<'a>, AllocError>
-    requires { AreFormed (inputs_of (command_from command.now)) (bytes_of_files files.items) }
-    ensures { IfOk result
+) -> Result<Answer<'a>, InputFail>
+    requires { length files.items ≡ length (inputs_of (command_from command.now)) }
+    ensures answer { IfOk result
         (λ answer. answer_from answer
-        ≡ worked (work_of (command_from command.now) (bytes_of_files files.items))) }
+        ≡ command_outcome (command_from command.now) (bytes_of_files files.items)) }
+    ensures refused { IfErr result (λ fail. Tells fail
+        (Some (command_outcome (command_from command.now) (bytes_of_files files.items)))) }
 {
     match command {
-        CommandLine::Boot { cpu, kind, .. } => {
-            let (flash, otp) = board_files(files);
-            boot(alloc, board_of(alloc, flash, &otp)?, *cpu, *kind)
+        CommandLine::Boot {
+            flash,
+            otp,
+            cpu,
+            kind,
+        } => {
+            let (flash_file, otp_file) = two(files);
+            let board = read_board(alloc, flash, flash_file, otp, &otp_file)?;
+            Ok(boot(alloc, board, *cpu, *kind)?)
         }
-        CommandLine::Info { cpu, .. } => {
-            let (flash, otp) = board_files(files);
-            info(alloc, board_of(alloc, flash, &otp)?, *cpu)
+        CommandLine::Info { flash, otp, cpu } => {
+            let (flash_file, otp_file) = two(files);
+            let board = read_board(alloc, flash, flash_file, otp, &otp_file)?;
+            Ok(info(alloc, board, *cpu)?)
         }
-        CommandLine::OwnedData { cpu, kind, .. } => {
-            let (flash, otp) = board_files(files);
-            data(alloc, board_of(alloc, flash, &otp)?, *cpu, *kind)
+        CommandLine::OwnedData {
+            flash,
+            otp,
+            cpu,
+            kind,
+        } => {
+            let (flash_file, otp_file) = two(files);
+            let board = read_board(alloc, flash, flash_file, otp, &otp_file)?;
+            Ok(data(alloc, board, *cpu, *kind)?)
         }
-        CommandLine::Explain { cpu, kind, .. } => {
-            let (flash, otp) = board_files(files);
-            explain(alloc, board_of(alloc, flash, &otp)?, *cpu, *kind)
+        CommandLine::Explain {
+            flash,
+            otp,
+            cpu,
+            kind,
+        } => {
+            let (flash_file, otp_file) = two(files);
+            let board = read_board(alloc, flash, flash_file, otp, &otp_file)?;
+            Ok(explain(alloc, board, *cpu, *kind)?)
         }
-        CommandLine::Caveats { cpu, kind, .. } => {
-            let (flash, otp) = board_files(files);
-            caveats(alloc, board_of(alloc, flash, &otp)?, *cpu, *kind)
+        CommandLine::Caveats {
+            flash,
+            otp,
+            cpu,
+            kind,
+        } => {
+            let (flash_file, otp_file) = two(files);
+            let board = read_board(alloc, flash, flash_file, otp, &otp_file)?;
+            Ok(caveats(alloc, board, *cpu, *kind)?)
         }
-        CommandLine::Map { cpu, out, .. } => {
-            let (flash, otp) = board_files(files);
-            map_flash(alloc, board_of(alloc, flash, &otp)?, *cpu, out)
+        CommandLine::Map {
+            flash,
+            otp,
+            cpu,
+            out,
+        } => {
+            let (flash_file, otp_file) = two(files);
+            let board = read_board(alloc, flash, flash_file, otp, &otp_file)?;
+            Ok(map_flash(alloc, board, *cpu, out)?)
         }
         CommandLine::Replay {
-            cpu,
-            out_flash,
-            out_otp,
-            ..
-        } => {
-            let (flash, otp, script) = script_files(files);
-            let board = board_of(alloc, flash, &otp)?;
-            let script = whole_script(&script);
-            replay(alloc, board, *cpu, script, out_flash, out_otp)
-        }
-        CommandLine::Sweep { cpu, script, .. } => {
-            let (flash, otp, events, pattern) = sweep_files(files);
-            let board = board_of(alloc, flash, &otp)?;
-            let events = whole_script(&events);
-            sweep_script(alloc, board, *cpu, script, events, &pattern)
-        }
-        CommandLine::Chart {
+            flash,
+            otp,
             cpu,
             script,
-            out,
-            ..
+            out_flash,
+            out_otp,
         } => {
-            let (flash, otp, events, pattern) = sweep_files(files);
-            let board = board_of(alloc, flash, &otp)?;
-            let events = whole_script(&events);
-            chart_script(alloc, board, *cpu, script, events, &pattern, out)
+            let (flash_file, otp_file, script_file) = three(files);
+            let board = read_board(alloc, flash, flash_file, otp, &otp_file)?;
+            let events = read_script(alloc, script, &script_file)?;
+            Ok(replay(alloc, board, *cpu, events, out_flash, out_otp)?)
         }
-        CommandLine::Cuts { cpu, script, .. } => {
-            let (flash, otp, events, pattern) = sweep_files(files);
-            let board = board_of(alloc, flash, &otp)?;
-            let events = whole_script(&events);
-            cuts(alloc, board, *cpu, script, events, &pattern)
+        CommandLine::Sweep {
+            flash,
+            otp,
+            cpu,
+            script,
+            pattern,
+        } => {
+            let (flash_file, otp_file, script_file, pattern_file) = four(files);
+            let board = read_board(alloc, flash, flash_file, otp, &otp_file)?;
+            let events = read_script(alloc, script, &script_file)?;
+            let bytes = read_pattern(alloc, pattern, &pattern_file)?;
+            Ok(sweep_script(alloc, board, *cpu, script, events, bytes)?)
         }
-        CommandLine::Check { cpu, script, .. } => {
-            let (flash, otp, events, pattern) = sweep_files(files);
-            let board = board_of(alloc, flash, &otp)?;
-            let events = whole_script(&events);
-            check(alloc, board, *cpu, script, events, &pattern)
+        CommandLine::Chart {
+            flash,
+            otp,
+            cpu,
+            script,
+            pattern,
+            out,
+        } => {
+            let (flash_file, otp_file, script_file, pattern_file) = four(files);
+            let board = read_board(alloc, flash, flash_file, otp, &otp_file)?;
+            let events = read_script(alloc, script, &script_file)?;
+            let bytes = read_pattern(alloc, pattern, &pattern_file)?;
+            Ok(chart_script(alloc, board, *cpu, script, events, bytes, out)?)
+        }
+        CommandLine::Cuts {
+            flash,
+            otp,
+            cpu,
+            script,
+            pattern,
+        } => {
+            let (flash_file, otp_file, script_file, pattern_file) = four(files);
+            let board = read_board(alloc, flash, flash_file, otp, &otp_file)?;
+            let events = read_script(alloc, script, &script_file)?;
+            let bytes = read_pattern(alloc, pattern, &pattern_file)?;
+            Ok(cuts(alloc, board, *cpu, script, events, bytes)?)
+        }
+        CommandLine::Check {
+            flash,
+            otp,
+            cpu,
+            script,
+            pattern,
+        } => {
+            let (flash_file, otp_file, script_file, pattern_file) = four(files);
+            let board = read_board(alloc, flash, flash_file, otp, &otp_file)?;
+            let events = read_script(alloc, script, &script_file)?;
+            let bytes = read_pattern(alloc, pattern, &pattern_file)?;
+            Ok(check(alloc, board, *cpu, script, events, bytes)?)
         }
         CommandLine::Seal { binary, spec, out } => {
-            let (bytes, text) = seal_files(files);
-            let asked = spec_in(alloc, &text)?;
-            seal_binary(alloc, binary, spec, out, &bytes, &asked)
+            let (binary_file, spec_file) = two(files);
+            let bytes = read_binary(alloc, binary, &binary_file)?;
+            let asked = read_spec(alloc, spec, &spec_file)?;
+            Ok(seal_binary(alloc, binary, spec, out, bytes, &asked)?)
         }
         CommandLine::Elf { elf, spec, out } => {
-            let (bytes, text) = elf_files(files);
-            let asked = spec_in(alloc, &text)?;
-            pack_elf(alloc, elf, spec, out, &bytes, &asked)
+            let (elf_file, spec_file) = two(files);
+            let bytes = read_elf(alloc, elf, &elf_file)?;
+            let asked = read_spec(alloc, spec, &spec_file)?;
+            Ok(pack_elf(alloc, elf, spec, out, bytes, &asked)?)
         }
         CommandLine::Firm { image, cpu } => {
-            let bytes = lone_file(files, Form::Image);
-            firm_image(alloc, image, bytes, *cpu)
+            let bytes = read_image(alloc, image, one(files))?;
+            Ok(firm_image(alloc, image, bytes, *cpu)?)
         }
-        CommandLine::Table { out, .. } => {
-            let text = lone_file(files, Form::Json);
-            table(alloc, &table_in(alloc, &text)?, out)
+        CommandLine::Table { json, out } => {
+            let text = read_table(alloc, json, &one(files))?;
+            Ok(table(alloc, &text, out)?)
         }
-        CommandLine::OtpFile { out, .. } => {
-            let text = lone_file(files, Form::OtpText);
-            otp(alloc, &otp_in(alloc, &text)?, out)
+        CommandLine::OtpFile { json, out } => {
+            let text = read_otp(alloc, json, &one(files))?;
+            Ok(otp(alloc, &text, out)?)
         }
         CommandLine::Uf2 { image, family, out } => {
-            let bytes = lone_file(files, Form::Image);
-            uf2(alloc, image, *family, out, &bytes)
+            let bytes = read_image(alloc, image, one(files))?;
+            Ok(uf2(alloc, image, *family, out, &bytes)?)
         }
         CommandLine::Plan {
+            flash,
+            otp,
             cpu,
             image,
             out,
-            ..
         } => {
-            let (flash, otp, bytes) = image_files(files);
-            let board = board_of(alloc, flash, &otp)?;
-            plan_image(alloc, board, *cpu, image, out, &bytes)
+            let (flash_file, otp_file, image_file) = three(files);
+            let board = read_board(alloc, flash, flash_file, otp, &otp_file)?;
+            let bytes = read_image(alloc, image, image_file)?;
+            Ok(plan_image(alloc, board, *cpu, image, out, &bytes)?)
         }
         CommandLine::Load {
+            flash,
+            otp,
             cpu,
             image,
             out,
-            ..
         } => {
-            let (flash, otp, bytes) = image_files(files);
-            let board = board_of(alloc, flash, &otp)?;
-            load(alloc, board, *cpu, image, out, &bytes)
+            let (flash_file, otp_file, image_file) = three(files);
+            let board = read_board(alloc, flash, flash_file, otp, &otp_file)?;
+            let bytes = read_image(alloc, image, image_file)?;
+            Ok(load(alloc, board, *cpu, image, out, &bytes)?)
         }
-        CommandLine::Copy { out, .. } => {
-            let bytes = lone_file(files, Form::Uf2);
-            copy_uf2(alloc, &bytes, out)
+        CommandLine::Copy { uf2, out } => {
+            let file = one(files);
+            let blocks = read_uf2(alloc, uf2, &file)?;
+            Ok(copy_uf2(alloc, blocks, out)?)
         }
-        CommandLine::ListScript { .. } => {
-            let bytes = lone_file(files, Form::Script);
-            list_script(alloc, whole_script(&bytes))
+        CommandLine::ListScript { script } => {
+            let file = one(files);
+            let events = read_script(alloc, script, &file)?;
+            Ok(list_script(alloc, events)?)
         }
         CommandLine::WriteScript { text, out } => {
-            let bytes = lone_file(files, Form::Text);
-            write_script(alloc, text, &bytes, out)
+            let file = one(files);
+            let lines = read_text(alloc, text, &file)?;
+            Ok(write_script(alloc, text, lines, out)?)
         }
-        CommandLine::Gen { n } => made_flash(alloc, *n),
+        CommandLine::Gen { n } => Ok(made_flash(alloc, *n)?),
         CommandLine::Usage => Ok(told(alloc, usage_text(alloc)?)),
         CommandLine::Help { command } => Ok(told(alloc, help_text(alloc, command)?)),
         CommandLine::Release => Ok(told(alloc, release_line(alloc)?)),
     }
 }
 
-/// The answer of a command on the bytes of its inputs: the first fault of a form, or the work's.
+/// The answer of a command on the files of its inputs: the refusal of the first that breaks its
+/// form, or the work's. It fails only where memory is out.
 pub fn answer<'a>(
     alloc: Global,
     command: &CommandLine<'a>,
-    inputs: &[FormInput<'_>],
     files: Vec<Vec<u8>>,
 ) -> Result<Answer<'a>, AllocError>
-    requires inputs { map form_input_from inputs.now ≡ inputs_of (command_from command.now) }
-    requires count { length files.items ≡ length inputs.now }
+    requires { length files.items ≡ length (inputs_of (command_from command.now)) }
     ensures { IfOk result
         (λ answer. answer_from answer
         ≡ command_outcome (command_from command.now) (bytes_of_files files.items)) }
 {
-    match first_input_fault(alloc, inputs, &files)? {
-        Some(fault) => Ok(fault),
-        None => work(alloc, command, files),
+    match perform(alloc, command, files) {
+        Ok(answer) => Ok(answer),
+        Err(InputFail::Refused(answer)) => Ok(answer),
+        Err(InputFail::Memory) => Err(AllocError),
     }
 }

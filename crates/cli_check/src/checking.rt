@@ -1,7 +1,6 @@
 //! What is found of an update, and the answer of `check`.
 
-ghost use Rattle.std.specs.Prelude.{◌≡◌, ℕ, IfOk, IsTrue, List, true};
-ghost use Rattle.pico_board.specs.Cuts.{IsPattern};
+ghost use Rattle.std.specs.Prelude.{◌≡◌, ℕ, IfOk, IsTrue, List};
 ghost use Rattle.pico_board.specs.MemBoard.{state_of};
 ghost use Rattle.boot_script.specs.Events.{EventView};
 ghost use Rattle.boot_script.specs.Scripts.{script_events};
@@ -25,6 +24,7 @@ use crate::sessions::law_by;
 use boot_cuts::{Cuts, Trace, copy_of, cuts_of, trace_on};
 use boot_script::Script;
 use cli_course::{Answer, ended, refusal};
+use cli_inputs::Pattern;
 use pico_board::{Cpu, MemBoard};
 use std::alloc::{AllocError, Global};
 
@@ -70,19 +70,18 @@ fn findings_on(
     cpu: Cpu,
     trace: &Trace<'_>,
     script: &Script<'_>,
-    pattern: &[u8],
+    pattern: Pattern<'_>,
 ) -> Result<Findings, AllocError>
     requires ready { IsUnarmed (state_of board) }
     requires trace { IsTraceOf (state_of board).content cpu
         (script_events script.now.bytes.now) trace.now }
-    requires pattern { IsPattern true pattern.now }
     ensures { IfOk result (λ findings. findings ≡ findings_of (state_of board).content cpu
-        (script_events script.now.bytes.now) pattern.now) }
+        (script_events script.now.bytes.now) pattern.entry.bytes.now) }
 {
     let refused = refused_in(alloc, &board, cpu, script)?;
     let one = is_one_session(alloc, &board, cpu, script)?;
     let start = copy_of(alloc, &board)?;
-    let found = cuts_of(alloc, board, cpu, trace, pattern)?;
+    let found = cuts_of(alloc, board, cpu, trace, pattern.bytes)?;
     Ok(findings_by(&start, &trace.board, cpu, found, refused, one))
 }
 
@@ -95,12 +94,12 @@ pub fn check<'a>(
     cpu: Cpu,
     name: &str,
     script: Script<'_>,
-    pattern: &[u8],
+    pattern: Pattern<'_>,
 ) -> Result<Answer<'a>, AllocError>
     requires ready { IsUnarmed (state_of board) }
-    requires pattern { IsPattern true pattern.now }
     ensures { IfOk result (λ answer. answer_from answer ≡ worked (check_work
-        (state_of board).content cpu name.now script.entry.bytes.now pattern.now)) }
+        (state_of board).content cpu name.now script.entry.bytes.now
+        pattern.entry.bytes.now)) }
 {
     let copy = copy_of(alloc, &board)?;
     match trace_on(alloc, copy, cpu, &script)? {

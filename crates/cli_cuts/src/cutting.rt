@@ -1,7 +1,6 @@
 //! The cuts of a script on a board in memory.
 
-ghost use Rattle.std.specs.Prelude.{◌≡◌, ◌∷◌, IfOk, codes, true};
-ghost use Rattle.pico_board.specs.Cuts.{IsPattern};
+ghost use Rattle.std.specs.Prelude.{◌≡◌, ◌∷◌, IfOk, codes};
 ghost use Rattle.pico_board.specs.MemBoard.{state_of};
 ghost use Rattle.boot_session.specs.Standing.{IsUnarmed};
 ghost use Rattle.cli_course.specs.Outcomes.{ended, refused, verdict_status, worked};
@@ -13,6 +12,7 @@ use crate::texts::cuts_text;
 use boot_cuts::{Cuts, Kind, Run, cuts_on, is_kind, kind_of};
 use boot_script::Script;
 use cli_course::{Answer, Status, ended, refusal};
+use cli_inputs::Pattern;
 use pico_board::{Cpu, MemBoard};
 use std::alloc::{AllocError, Global};
 
@@ -84,14 +84,14 @@ pub fn cuts<'a>(
     cpu: Cpu,
     script_name: &str,
     script: Script<'_>,
-    pattern: &[u8],
+    pattern: Pattern<'_>,
 ) -> Result<Answer<'a>, AllocError>
     requires ready { IsUnarmed (state_of board) }
-    requires pattern { IsPattern true pattern.now }
     ensures { IfOk result (λ answer. answer_from answer ≡ worked (cuts_work
-        (state_of board).content cpu script_name.now script.entry.bytes.now pattern.now)) }
+        (state_of board).content cpu script_name.now script.entry.bytes.now
+        pattern.entry.bytes.now)) }
 {
-    match cuts_on(alloc, board, cpu, &script, pattern)? {
+    match cuts_on(alloc, board, cpu, &script, pattern.bytes)? {
         Some(found) => told_cuts(alloc, &found),
         None => too_long(alloc, script_name),
     }

@@ -1,5 +1,5 @@
 -- A file has its form exactly where it has no fault, and a fault is the one that the rules name.
-use Rattle.std.proofs.Common.{ℕ, ◌≡◌, zero, suc, ◌+◌, ◌%◌, ◌^◌, ◌<◌, ◌≤◌, ◌==◌, Bool, true, false, cond, nat_lt, List, [], ◌∷◌, ◌++◌, length, take, All, Result, Ok, Err, Option, Some, None, option_map, codes, refl, sym, ◌∙◌, ap, subst, inl, inr, arith}
+use Rattle.std.proofs.Common.{ℕ, ◌≡◌, zero, suc, ◌+◌, ◌%◌, ◌^◌, ◌<◌, ◌≤◌, ◌==◌, Bool, true, false, cond, nat_lt, List, [], ◌∷◌, ◌++◌, length, take, All, Option, Some, None, option_map, codes, refl, sym, ◌∙◌, ap, subst, inl, inr, arith}
 use Rattle.std.proofs.lemmas.Bool.{ltb-true, ltb-false, lt-ltb, le-ltb, eqb-true, eqb-false, eq-eqb, ne_eqb}
 use Rattle.std.proofs.lemmas.List.Elements.{All-cons, All-head, All-tail}
 use Rattle.pico_board.specs.Rows.{IsFirstWide}
@@ -7,13 +7,7 @@ use Rattle.cli_inputs.specs.declared.forms.Form.{Form}
 use Rattle.cli_inputs.specs.declared.forms.Form.TheVariants.{Flash, Otp, Script, Pattern, Binary, Spec, Json, OtpText, Image, Elf, Uf2, Text}
 use Rattle.text_words.specs.Writing.{hex_row}
 use Rattle.cli_inputs.specs.Forms.{limit_of, rows_of, HasForm, AreWholeUf2Blocks, uf2_fault, IsOwnFault, IsFormFault, wide_from, otp_fault, own_fault, form_fault}
-use Rattle.cli_inputs.proofs.JsonLemmas.{spec-gives, table-gives, spec-formed, spec-faulty, spec-exact, spec-apart, table-formed, table-faulty, table-exact, table-apart, otp-gives, otp-formed as otp-text_formed, otp-text_faulty, otp-text_exact, otp-text_apart}
-use Rattle.image_pack.specs.declared.spec.SealSpec.{SealSpec}
-use Rattle.part_table.specs.declared.table.Table.{Table}
-use Rattle.table_json.specs.declared.fault.JsonFault.{JsonFault}
-use Rattle.table_json.specs.declared.otps.OtpSpec.{OtpSpec}
-use Rattle.table_json.specs.Otps.{otp_answer}
-use Rattle.cli_inputs.specs.Jsons.{spec_read, table_read, otp_read}
+use Rattle.cli_inputs.proofs.JsonLemmas.{spec-formed, spec-faulty, spec-exact, spec-apart, table-formed, table-faulty, table-exact, table-apart, otp-formed as otp-text_formed, otp-text_faulty, otp-text_exact, otp-text_apart}
 use Rattle.cli_inputs.proofs.ScriptLemmas.{script-none, script-faulty, script-apart, script-exact}
 
 abbrev pub IsNarrow : List ℕ → Type 0
@@ -81,7 +75,7 @@ row-text : Option ℕ → Option (List ℕ)
 row-text found = option_map (λ row. codes "otp-row " ++ hex_row row) found
 
 -- an OTP file that is not too long has its form exactly where it has no fault
-otp-formed : (bytes : List ℕ) → otp_fault bytes ≡ None → (length bytes % 4 ≡ 0) × IsNarrow (rows_of bytes)
+pub otp-formed : (bytes : List ℕ) → otp_fault bytes ≡ None → (length bytes % 4 ≡ 0) × IsNarrow (rows_of bytes)
 otp-formed bytes h = go (length bytes % 4 == 0) refl h
   where
     rows : (found : Option ℕ) → wide_from 0 (rows_of bytes) ≡ found
@@ -262,20 +256,3 @@ fault-exact form bytes fault (inl large) =
 fault-exact form bytes fault (inr (few, own)) =
     ap (λ t. cond t (Some (codes "too-large")) (own_fault form bytes))
     (le-ltb (limit_of form) (length bytes) few) ∙ own-exact form bytes fault own
-
--- a text that has its form has no fault
-pub spec-never : (bytes : List ℕ) (r : Result SealSpec JsonFault) (f : JsonFault) → HasForm Spec bytes
-    → r ≡ spec_read bytes → r ≡ Err f → ⊥
-spec-never bytes r f form is err =
-    let e : Ok form.1.0 ≡ Err f = sym (spec-gives bytes form.1.0 form.1.1) ∙ (sym is ∙ err) in cc
-
-pub table-never : (bytes : List ℕ) (r : Result Table JsonFault) (f : JsonFault) → HasForm Json bytes
-    → r ≡ table_read bytes → r ≡ Err f → ⊥
-table-never bytes r f form is err =
-    let e : Ok form.1.0 ≡ Err f = sym (table-gives bytes form.1.0 form.1.1) ∙ (sym is ∙ err) in cc
-
-pub otp-never : (bytes : List ℕ) (r : Result OtpSpec JsonFault) (f : JsonFault) → HasForm OtpText bytes
-    → otp_answer r ≡ otp_read bytes → r ≡ Err f → ⊥
-otp-never bytes r f form is err =
-    let e : Ok form.1.0 ≡ Err f =
-    sym (otp-gives bytes form.1.0 form.1.1) ∙ (sym is ∙ ap (λ (q : Result OtpSpec JsonFault). otp_answer q) err) in cc

@@ -1,25 +1,17 @@
 -- The first input that does not have its form, and what is read of longer files.
-use Rattle.std.proofs.Common.{ℕ, ◌≡◌, suc, ◌+◌, ◌<◌, true, false, cond, List, [], ◌∷◌, length, take, Option, Some, None, option_map, codes, refl, sym, ◌∙◌, ap, inl, inr, arith}
-use Rattle.std.specs.Prelude.{Vec}
+use Rattle.std.proofs.Common.{ℕ, ◌≡◌, ◌+◌, ◌<◌, true, false, cond, List, [], ◌∷◌, length, take, Option, Some, None, option_map, codes, refl, sym, ◌∙◌, ap, inl, inr, arith}
 use Rattle.std.specs.Option.{option_or}
-use Rattle.std.specs.declared.alloc.Global.{Global}
 use Rattle.std.proofs.lemmas.Bool.{lt-ltb, cases_lt}
 use Rattle.std.proofs.lemmas.List.{take_all, length-take, length-map}
 use Rattle.cli_course.specs.declared.status.Status.{Status}
 use Rattle.cli_course.specs.declared.status.Status.TheVariants.{Done, Words, Input as Refused, Bootsel, Unbootable, Neither, NoEffect, Refused as RecordRefused}
 use Rattle.cli_course.specs.Outcomes.{AnswerView, Work, Answers, Refuses, Judges, Passes, IsUnbootable, IsNeither, HasNoEffect, IsRefused, refused, worked, is_finished}
 use Rattle.cli_course.specs.Ends.{cut}
-use Rattle.cli_course.specs.Views.{bytes_of_files}
 use Rattle.cli_inputs.specs.declared.forms.Form.{Form}
 use Rattle.cli_inputs.specs.Forms.{HasForm, limit_of, own_fault, form_fault}
 use Rattle.cli_inputs.specs.Inputs.{FormInputView, to_read, readings, named_fault, first_input_fault, unless_refused, outcome_by}
-use Rattle.cli_inputs.specs.Rules.{HaveForms, AreFormed, IsFirstInputFault}
+use Rattle.cli_inputs.specs.Rules.{AreFormed, IsFirstInputFault}
 use Rattle.cli_inputs.proofs.FormLemmas.{formed, faulty, form-apart, fault-exact}
-
--- inputs without bytes have no fault
-pub fault-none : (inputs : List FormInputView) → first_input_fault inputs [] ≡ None
-fault-none [] = refl
-fault-none (input ∷ inputs) = refl
 
 -- the inputs have their forms, or the first one that does not is named
 pub data Judged (inputs : List FormInputView) (read : List (List ℕ)) : Option AnswerView → Type 0 where
@@ -45,29 +37,6 @@ judged-first (input ∷ inputs) [] long = absurd (omega arith)
 judged-first (input ∷ inputs) (bytes ∷ read) long =
     judged-more input inputs bytes read (form_fault input.form bytes) (first_input_fault inputs read) refl
     (judged-first inputs read (omega arith))
-
--- inputs without a fault have their forms
-pub none-formed : (inputs : List FormInputView) (read : List (List ℕ)) → length read ≡ length inputs
-    → first_input_fault inputs read ≡ None → AreFormed inputs read
-none-formed inputs read long none = go (first_input_fault inputs read) none (judged-first inputs read long)
-  where
-    go : (o : Option AnswerView) → o ≡ None → Judged inputs read o → AreFormed inputs read
-    go None is (all_formed all) = all
-    go (Some _) is (one_faulty name fault first) = cc
-
--- as many files have their forms as there are forms
-pub forms-long : (forms : List Form) (read : List (List ℕ)) → HaveForms forms read → length read ≡ length forms
-forms-long [] [] all = refl
-forms-long [] (bytes ∷ read) all = absurd all
-forms-long (form ∷ forms) [] all = absurd all
-forms-long (form ∷ forms) (bytes ∷ read) all = ap suc (forms-long forms read all.1)
-
-pub formed-long : (inputs : List FormInputView) (read : List (List ℕ)) → AreFormed inputs read
-    → length read ≡ length inputs
-formed-long [] [] all = refl
-formed-long [] (bytes ∷ read) all = absurd all
-formed-long (input ∷ inputs) [] all = absurd all
-formed-long (input ∷ inputs) (bytes ∷ read) all = ap suc (formed-long inputs read all.1)
 
 -- a file that has its form has no fault
 pub no-fault : (form : Form) (bytes : List ℕ) → HasForm form bytes → form_fault form bytes ≡ None
@@ -213,7 +182,3 @@ outcome-cut inputs work whole long = go (first_input_fault inputs whole) refl
 -- as many files are read as there are inputs
 pub readings-long : (inputs : List FormInputView) → length (readings inputs) ≡ length inputs
 readings-long inputs = length-map inputs to_read
-
--- as many files as their bytes
-pub vec-long : (files : List (Vec ℕ Global)) → length files ≡ length (bytes_of_files files)
-vec-long files = sym (length-map files (λ (file : Vec ℕ Global). file.items))

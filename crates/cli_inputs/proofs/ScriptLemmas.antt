@@ -1,5 +1,5 @@
 -- Bytes have the form of a script exactly where they have no fault, which is then the one that the rules name.
-use Rattle.std.proofs.Common.{ℕ, ◌≡◌, List, Option, Some, None, option_map, refl, sym, ◌∙◌, ap, subst}
+use Rattle.std.proofs.Common.{ℕ, ◌≡◌, List, Option, Some, None, option_map, refl, sym, ◌∙◌, ap}
 use Rattle.boot_script.specs.declared.event.ScriptError.{ScriptError}
 use Rattle.boot_script.specs.Judging.{IsScript, IsScriptError, script_error}
 use Rattle.boot_script.proofs.JudgingLemmas.{error-exact, error-told, script-exact as no-error, script-formed}

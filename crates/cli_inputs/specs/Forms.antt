@@ -10,7 +10,7 @@ use Rattle.boot_script.specs.declared.limits.TheConstants.{SCRIPT_LIMIT}
 use Rattle.boot_script.specs.Judging.{IsScript, IsScriptError, script_error}
 use Rattle.cli_inputs.specs.declared.forms.Form.{Form}
 use Rattle.cli_inputs.specs.declared.forms.Form.TheVariants.{Flash, Otp, Script, Pattern, Binary, Spec, Json, OtpText, Image, Elf, Uf2, Text}
-use Rattle.cli_inputs.specs.declared.forms.TheConstants.{FLASH_LIMIT, OTP_LIMIT, PATTERN_LIMIT, BINARY_LIMIT, JSON_LIMIT, IMAGE_LIMIT, ELF_LIMIT, UF2_LIMIT, TEXT_LIMIT}
+use Rattle.cli_inputs.specs.declared.limits.TheConstants.{FLASH_LIMIT, OTP_LIMIT, PATTERN_LIMIT, BINARY_LIMIT, JSON_LIMIT, IMAGE_LIMIT, ELF_LIMIT, UF2_LIMIT, TEXT_LIMIT}
 use Rattle.image_pack.specs.declared.spec.SealSpec.{SealSpec}
 use Rattle.part_table.specs.declared.table.Table.{Table}
 use Rattle.table_json.specs.Otps.{OtpView}

@@ -1,7 +1,10 @@
 -- The inputs of a command, in the order of the arguments, and the outcome by their bytes.
-use Rattle.std.specs.Prelude.{ℕ, false, List, [], ◌∷◌, map, Option, Some, None, option_map}
+use Rattle.std.specs.Prelude.{ℕ, ⊤, ◌≡◌, false, List, [], ◌∷◌, map, Option, Some, None, option_map}
 use Rattle.std.specs.Option.{option_or}
 use Rattle.cli_course.specs.Outcomes.{LimitedInputView, AnswerView, Work, Answers, refused, worked}
+use Rattle.cli_course.specs.Views.{answer_from}
+use Rattle.cli_inputs.specs.declared.fail.InputFail.{InputFail}
+use Rattle.cli_inputs.specs.declared.fail.InputFail.TheVariants.{Refused, Memory}
 use Rattle.cli_inputs.specs.declared.forms.Form.{Form}
 use Rattle.cli_inputs.specs.declared.forms.Form.TheVariants.{Flash, Otp, Script, Pattern, Binary, Spec, Json, OtpText, Image, Elf, Uf2, Text}
 use Rattle.cli_inputs.specs.Forms.{limit_of, form_fault}
@@ -96,6 +99,11 @@ of_four work _ = nothing
 -- an input whose bytes do not have its form, with their fault
 abbrev pub named_fault : FormInputView → List ℕ → Option AnswerView
 named_fault input bytes = option_map (refused input.name) (form_fault input.form bytes)
+
+-- what a file gives no value for tells this refusal, or there was no memory
+abbrev pub Tells : InputFail → Option AnswerView → Type 0
+Tells (Refused answer) o = o ≡ Some (answer_from answer)
+Tells Memory o = ⊤
 
 -- the first input, in the order of the arguments, whose bytes do not have its form
 abbrev pub first_input_fault : List FormInputView → List (List ℕ) → Option AnswerView

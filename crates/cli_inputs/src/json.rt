@@ -1,14 +1,19 @@
-//! The faults of JSON texts: of the specs of sealed images, of tables, and of OTPs.
+//! The values of JSON texts: specs of sealed images, tables and OTPs; and the texts of their
+//! faults.
 
-ghost use Rattle.std.specs.Prelude.{◌≡◌, ◌≢◌, ◌≤◌, All, None, Ok, Err, IfOk, option_map, string_bytes};
+ghost use Rattle.std.specs.Prelude.{◌≡◌, ◌≢◌, ◌≤◌, All, None, Some, Ok, Err, IfErr, IfOk, OnOk, string_bytes};
+ghost use Rattle.cli_course.specs.Outcomes.{refused};
 ghost use Rattle.part_table.specs.Written.{AgreesWithFlags, written_size};
-ghost use Rattle.cli_inputs.specs.declared.forms.Form.{Form};
-ghost use Rattle.cli_inputs.specs.Forms.{HasForm};
+ghost use Rattle.cli_inputs.specs.Forms.{form_fault};
+ghost use Rattle.cli_inputs.specs.Inputs.{named_fault, Tells};
 ghost use Rattle.cli_inputs.specs.JsonTexts.{object_text, json_member_text, json_table_fault_text, json_text};
-ghost use Rattle.cli_inputs.specs.Jsons.{spec_read, table_read, otp_read, read_fault};
+ghost use Rattle.cli_inputs.specs.Jsons.{spec_read, table_read, otp_read};
 ghost use Rattle.table_json.specs.Otps.{otp_answer, otp_spec_from};
 ghost use Rattle.table_json.specs.OtpRules.{IsSound};
 
+use crate::fail::{InputFail, judge_length, refuse};
+use crate::forms::Form;
+use crate::values::{JsonOtp, JsonTable};
 use image_pack::SealSpec;
 use part_table::{Table, TableFault};
 use std::alloc::{AllocError, Global};
@@ -111,104 +116,57 @@ fn exact_otp(alloc: Global, text: &[u8]) -> Result<OtpSpec, JsonFault>
     otp_spec_of(alloc, text)
 }
 
-/// The spec of a text, or its first fault. It fails only where memory is out.
-fn read_spec(alloc: Global, text: &[u8]) -> Result<Result<SealSpec, JsonFault>, AllocError>
-    ensures { IfOk result (λ read. read ≡ spec_read text.now) }
+/// The text of a fault, which refuses an input by its argument.
+fn refuse_text(alloc: Global, name: &str, fault: JsonFault) -> InputFail
+    ensures { Tells result (Some (refused name.now (json_text fault))) }
 {
+    match json_text(alloc, fault) {
+        Ok(text) => refuse(alloc, name, &text),
+        Err(_) => InputFail::Memory,
+    }
+}
+
+/// The spec of a text.
+pub fn read_spec(alloc: Global, name: &str, text: &[u8]) -> Result<SealSpec, InputFail>
+    ensures value { IfOk result (λ spec. spec_read text.now ≡ Ok spec) }
+    ensures formed { OnOk result (form_fault Form.Spec text.now ≡ None) }
+    ensures refused { IfErr result (λ fail. Tells fail
+        (named_fault (record { name = name.now; form = Form.Spec }) text.now)) }
+{
+    judge_length(alloc, Form::Spec, name, text)?;
     match exact_spec(alloc, text) {
-        Err(JsonFault::Memory) => Err(AllocError),
-        read => Ok(read),
+        Ok(spec) => Ok(spec),
+        Err(JsonFault::Memory) => Err(InputFail::Memory),
+        Err(fault) => Err(refuse_text(alloc, name, fault)),
     }
 }
 
-/// The table of a text, or its first fault. It fails only where memory is out.
-fn read_table(alloc: Global, text: &[u8]) -> Result<Result<Table, JsonFault>, AllocError>
-    ensures value { IfOk result (λ read. read ≡ table_read text.now) }
-    ensures agree { IfOk result (λ read. IfOk read (λ t. All AgreesWithFlags t.parts.items)) }
-    ensures fits { IfOk result (λ read. IfOk read (λ t. written_size t ≤ 640)) }
+/// The table of a text.
+pub fn read_table(alloc: Global, name: &str, text: &[u8]) -> Result<JsonTable, InputFail>
+    ensures value { IfOk result (λ json. table_read text.now ≡ Ok json.table) }
+    ensures formed { OnOk result (form_fault Form.Json text.now ≡ None) }
+    ensures refused { IfErr result (λ fail. Tells fail
+        (named_fault (record { name = name.now; form = Form.Json }) text.now)) }
 {
+    judge_length(alloc, Form::Json, name, text)?;
     match exact_table(alloc, text) {
-        Err(JsonFault::Memory) => Err(AllocError),
-        read => Ok(read),
+        Ok(table) => Ok(JsonTable { table }),
+        Err(JsonFault::Memory) => Err(InputFail::Memory),
+        Err(fault) => Err(refuse_text(alloc, name, fault)),
     }
 }
 
-/// The OTP of a text, or its first fault. It fails only where memory is out.
-fn read_otp(alloc: Global, text: &[u8]) -> Result<Result<OtpSpec, JsonFault>, AllocError>
-    ensures value { IfOk result (λ read. otp_answer read ≡ otp_read text.now) }
-    ensures sound { IfOk result (λ read. IfOk read (λ spec. IsSound (otp_spec_from spec))) }
+/// What a text says of an OTP.
+pub fn read_otp(alloc: Global, name: &str, text: &[u8]) -> Result<JsonOtp, InputFail>
+    ensures value { IfOk result (λ json. otp_read text.now ≡ Ok (otp_spec_from json.spec)) }
+    ensures formed { OnOk result (form_fault Form.OtpText text.now ≡ None) }
+    ensures refused { IfErr result (λ fail. Tells fail
+        (named_fault (record { name = name.now; form = Form.OtpText }) text.now)) }
 {
+    judge_length(alloc, Form::OtpText, name, text)?;
     match exact_otp(alloc, text) {
-        Err(JsonFault::Memory) => Err(AllocError),
-        read => Ok(read),
-    }
-}
-
-/// The fault of the text of a spec.
-pub fn spec_fault(alloc: Global, text: &[u8]) -> Result<Option<String>, AllocError>
-    ensures { IfOk result
-        (λ fault. option_map string_bytes fault ≡ read_fault (spec_read text.now)) }
-{
-    match read_spec(alloc, text)? {
-        Ok(_) => Ok(None),
-        Err(fault) => Ok(Some(json_text(alloc, fault)?)),
-    }
-}
-
-/// The fault of the text of a table.
-pub fn table_fault(alloc: Global, text: &[u8]) -> Result<Option<String>, AllocError>
-    ensures { IfOk result
-        (λ fault. option_map string_bytes fault ≡ read_fault (table_read text.now)) }
-{
-    match read_table(alloc, text)? {
-        Ok(_) => Ok(None),
-        Err(fault) => Ok(Some(json_text(alloc, fault)?)),
-    }
-}
-
-/// The fault of the text of an OTP.
-pub fn otp_text_fault(alloc: Global, text: &[u8]) -> Result<Option<String>, AllocError>
-    ensures { IfOk result
-        (λ fault. option_map string_bytes fault ≡ read_fault (otp_read text.now)) }
-{
-    match read_otp(alloc, text)? {
-        Ok(_) => Ok(None),
-        Err(fault) => Ok(Some(json_text(alloc, fault)?)),
-    }
-}
-
-/// The spec of a text that has its form. It fails only where memory is out.
-pub fn spec_in(alloc: Global, text: &[u8]) -> Result<SealSpec, AllocError>
-    requires { HasForm Form.Spec text.now }
-    ensures { IfOk result (λ spec. spec_read text.now ≡ Ok spec) }
-{
-    match read_spec(alloc, text)? {
-        Ok(spec) => Ok(spec),
-        Err(_) => unreachable!(),
-    }
-}
-
-/// The table of a text that has its form. It fails only where memory is out.
-pub fn table_in(alloc: Global, text: &[u8]) -> Result<Table, AllocError>
-    requires { HasForm Form.Json text.now }
-    ensures table { IfOk result (λ table. table_read text.now ≡ Ok table) }
-    ensures agree { IfOk result (λ table. All AgreesWithFlags table.parts.items) }
-    ensures fits { IfOk result (λ table. written_size table ≤ 640) }
-{
-    match read_table(alloc, text)? {
-        Ok(table) => Ok(table),
-        Err(_) => unreachable!(),
-    }
-}
-
-/// What a text that has its form says of an OTP. It fails only where memory is out.
-pub fn otp_in(alloc: Global, text: &[u8]) -> Result<OtpSpec, AllocError>
-    requires { HasForm Form.OtpText text.now }
-    ensures otp { IfOk result (λ spec. otp_read text.now ≡ Ok (otp_spec_from spec)) }
-    ensures sound { IfOk result (λ spec. IsSound (otp_spec_from spec)) }
-{
-    match read_otp(alloc, text)? {
-        Ok(spec) => Ok(spec),
-        Err(_) => unreachable!(),
+        Ok(spec) => Ok(JsonOtp { spec }),
+        Err(JsonFault::Memory) => Err(InputFail::Memory),
+        Err(fault) => Err(refuse_text(alloc, name, fault)),
     }
 }

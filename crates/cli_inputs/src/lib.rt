@@ -1,28 +1,32 @@
-//! The forms of input files, the first fault of each, and what files that have their forms give: a
-//! board in memory, the spec of a sealed image, or a partition table. Also here are the pool for
-//! the calls of a boot, and when the work of a command is right by rules of its own.
+//! The forms of input files, and what a file gives that has its form, or its first fault: a board in
+//! memory, a script, a pattern, the spec of a sealed image, a partition table, and others. Also here
+//! are the pool for the calls of a boot, and when the work of a command is right by rules of its own.
 #![tactic(auto)]
 
+mod boards;
 pub mod examples;
+mod fail;
+mod files;
 mod forms;
 mod inputs;
 mod json;
 pub mod laws;
+mod limits;
 mod pool;
-mod shapes;
+mod values;
 
+pub use boards::{lone_board, read_board};
 pub use boot_script::{RECORD_LIMIT, SCRIPT_LIMIT};
-pub use forms::{
-    BINARY_LIMIT, ELF_LIMIT, FLASH_LIMIT, Form, IMAGE_LIMIT, JSON_LIMIT, OTP_LIMIT, PATTERN_LIMIT,
-    TEXT_LIMIT, UF2_LIMIT, board_of,
+pub use fail::InputFail;
+pub use files::{
+    read_binary, read_elf, read_image, read_pattern, read_script, read_text, read_uf2,
 };
-pub use inputs::{
-    FormInput, board_files, elf_files, first_input_fault, image_files, lone_file, readings,
-    script_files, seal_files, sweep_files,
+pub use forms::Form;
+pub use inputs::{FormInput, four, one, readings, three, two};
+pub use json::{read_otp, read_spec, read_table};
+pub use limits::{
+    BINARY_LIMIT, ELF_LIMIT, FLASH_LIMIT, IMAGE_LIMIT, JSON_LIMIT, OTP_LIMIT, PATTERN_LIMIT,
+    TEXT_LIMIT, UF2_LIMIT,
 };
-pub use json::{otp_in, spec_in, table_in};
 pub use pool::new_pool;
-pub use shapes::{
-    binary_and_spec, elf_and_spec, flash_and_otp, flash_otp_image, flash_otp_script,
-    flash_otp_script_pattern, image_alone, one_json, otp_told, script_alone, text_alone, uf2_alone,
-};
+pub use values::{Binary, Elf, Image, JsonOtp, JsonTable, OtpRows, Pattern, Text, Uf2, WholeFlash};

@@ -5,12 +5,12 @@ ghost use Rattle.block_codec.specs.Words.{bytes_of};
 ghost use Rattle.cli_course.specs.Outcomes.{line, worked};
 ghost use Rattle.cli_course.specs.Views.{answer_from};
 ghost use Rattle.table_json.specs.Otps.{otp_spec_from};
-ghost use Rattle.table_json.specs.OtpRules.{IsSound};
 ghost use Rattle.cli_otp.specs.OtpWords.{flag_word, otp_line, otp_work, otp_words, set_count};
 ghost use Rattle.cli_otp.specs.Setting.{flags_set, rows_set};
 
 use cli_course::{Answer, one_file};
 use cli_explain::otp_text;
+use cli_inputs::JsonOtp;
 use otp_roll::{BOOT_FLAGS, SLOT_SIZE_ROW};
 use pico_board::{ROWS, SECTOR};
 use std::alloc::{AllocError, Global};
@@ -134,13 +134,12 @@ fn otp_line(alloc: Global, spec: &OtpSpec, count: usize) -> Result<String, Alloc
 
 /// The work of `otp` on what a text says of an OTP: the line, and the file of the rows. It fails
 /// only where memory is out.
-pub fn otp<'a>(alloc: Global, spec: &OtpSpec, out: &'a str) -> Result<Answer<'a>, AllocError>
-    requires { IsSound (otp_spec_from spec.now) }
+pub fn otp<'a>(alloc: Global, json: &JsonOtp, out: &'a str) -> Result<Answer<'a>, AllocError>
     ensures { IfOk result (λ answer. answer_from answer
-        ≡ worked (otp_work out.entry.now (Ok (otp_spec_from spec.now)))) }
+        ≡ worked (otp_work out.entry.now (Ok (otp_spec_from json.now.spec)))) }
 {
-    let (words, count) = otp_words(alloc, spec)?;
-    let line = otp_line(alloc, spec, count)?;
+    let (words, count) = otp_words(alloc, &json.spec)?;
+    let line = otp_line(alloc, &json.spec, count)?;
     let bytes = row_bytes(alloc, &words)?;
     one_file(alloc, line, out, bytes)
 }

@@ -3,16 +3,15 @@
 ghost use Rattle.std.specs.Prelude.{◌≡◌, ◌*◌, ◌/◌, ◌++◌, IfOk, OnOk, length, string_bytes};
 ghost use Rattle.std.specs.List.{flat_map};
 ghost use Rattle.boot_script.specs.Written.{written_event};
-ghost use Rattle.boot_script.specs.Events.{Uf2};
+ghost use Rattle.boot_script.specs.Events.{Uf2 as CopiesBlock};
 ghost use Rattle.cli_course.specs.Outcomes.{worked};
 ghost use Rattle.cli_course.specs.Views.{answer_from};
-ghost use Rattle.cli_inputs.specs.declared.forms.Form.{Form};
-ghost use Rattle.cli_inputs.specs.Forms.{HasForm};
 ghost use Rattle.script_text.specs.Reading.{script_of};
 ghost use Rattle.cli_scripts.specs.Copies.{blocks_in, copy_events, copy_line, copy_work};
 
 use boot_script::{Event, write_event};
 use cli_course::{Answer, one_file};
+use cli_inputs::Uf2;
 use pico_board::BootKind;
 use std::alloc::{AllocError, Global};
 
@@ -29,7 +28,7 @@ fn copy_line(alloc: Global, blocks: usize) -> Result<String, AllocError>
 /// Appends the events of the blocks, in file order.
 fn push_blocks(alloc: Global, uf2: &[u8], script: &mut Vec<u8>) -> Result<(), AllocError>
     ensures { OnOk result (script.new.items ≡ script.old.items
-        ++ flat_map (λ block. written_event (Uf2 block))
+        ++ flat_map (λ block. written_event (CopiesBlock block))
         (blocks_in (length uf2.now / 512) uf2.now)) }
 {
     let mut rest = uf2;
@@ -56,15 +55,14 @@ fn copy_script(alloc: Global, uf2: &[u8]) -> Result<Vec<u8>, AllocError>
     Ok(script)
 }
 
-/// The work of `copy` on a UF2 file that has its form: the number of its blocks, and the script
+/// The work of `copy` on a UF2 file: the number of its blocks, and the script
 /// that copies them in file order to a board in BOOTSEL. The blocks are not judged. It fails only
 /// where memory is out.
-pub fn copy_uf2<'a>(alloc: Global, uf2: &[u8], out: &'a str) -> Result<Answer<'a>, AllocError>
-    requires { HasForm Form.Uf2 uf2.now }
+pub fn copy_uf2<'a>(alloc: Global, uf2: Uf2<'_>, out: &'a str) -> Result<Answer<'a>, AllocError>
     ensures { IfOk result (λ answer. answer_from answer
-        ≡ worked (copy_work out.entry.now uf2.now)) }
+        ≡ worked (copy_work out.entry.now uf2.entry.bytes.now)) }
 {
-    let line = copy_line(alloc, uf2.len() / BLOCK)?;
-    let script = copy_script(alloc, uf2)?;
+    let line = copy_line(alloc, uf2.bytes.len() / BLOCK)?;
+    let script = copy_script(alloc, uf2.bytes)?;
     one_file(alloc, line, out, script)
 }

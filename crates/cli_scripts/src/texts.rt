@@ -3,12 +3,11 @@
 ghost use Rattle.std.specs.Prelude.{◌≡◌, IfOk, string_bytes};
 ghost use Rattle.cli_course.specs.Outcomes.{refused, worked};
 ghost use Rattle.cli_course.specs.Views.{answer_from};
-ghost use Rattle.cli_inputs.specs.declared.forms.Form.{Form};
-ghost use Rattle.cli_inputs.specs.Forms.{HasForm};
 ghost use Rattle.cli_scripts.specs.TextWorks.{list_work, script_line, text_fault, write_work};
 
 use boot_script::Script;
 use cli_course::{Answer, one_file, refusal, told};
+use cli_inputs::Text;
 use script_text::{TextError, list_text, read_text};
 use std::alloc::{AllocError, Global};
 
@@ -50,20 +49,19 @@ fn unread<'a>(alloc: Global, name: &str, fault: TextError) -> Result<Answer<'a>,
     refusal(alloc, name, &fault)
 }
 
-/// The work of `script` on a text that has its form: the script of its records up to its `end`
+/// The work of `script` on a text: the script of its records up to its `end`
 /// line, or of all records where it has no such line. Or it refuses the text, by its argument, for
 /// its first fault. It fails only where memory is out.
 pub fn write_script<'a>(
     alloc: Global,
     name: &str,
-    text: &[u8],
+    text: Text<'_>,
     out: &'a str,
 ) -> Result<Answer<'a>, AllocError>
-    requires { HasForm Form.Text text.now }
     ensures { IfOk result (λ answer. answer_from answer
-        ≡ worked (write_work name.now out.entry.now text.now)) }
+        ≡ worked (write_work name.now out.entry.now text.entry.bytes.now)) }
 {
-    match read_text(alloc, text) {
+    match read_text(alloc, text.bytes) {
         Ok(script) => {
             let line = script_line(alloc, script.records)?;
             one_file(alloc, line, out, script.bytes)

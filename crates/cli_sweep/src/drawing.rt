@@ -1,8 +1,7 @@
 //! The picture of the sweep of a script's session on a board in memory.
 
-ghost use Rattle.std.specs.Prelude.{◌≡◌, ◌≤◌, IfOk, IsTrue, false, length, string_bytes, true};
+ghost use Rattle.std.specs.Prelude.{◌≡◌, ◌≤◌, IfOk, IsTrue, false, length, string_bytes};
 ghost use Rattle.pico_board.specs.declared.boot.BootKind.TheVariants.{Normal};
-ghost use Rattle.pico_board.specs.Cuts.{IsPattern};
 ghost use Rattle.pico_board.specs.MemBoard.{state_of};
 ghost use Rattle.sector_pool.specs.Pool.{HasFree};
 ghost use Rattle.boot_rules.specs.Choosing.{decision_in};
@@ -19,7 +18,7 @@ use boot_rules::decide;
 use boot_script::Script;
 use boot_sweep::{SweepError, SweepResults, swept};
 use cli_course::{Answer, one_file};
-use cli_inputs::new_pool;
+use cli_inputs::{Pattern, new_pool};
 use pico_board::{Board, BootKind, Cpu, MemBoard};
 use sector_pool::SectorPool;
 use std::alloc::{AllocError, Global};
@@ -79,18 +78,26 @@ pub fn chart_script<'a>(
     cpu: Cpu,
     name: &str,
     script: Script<'_>,
-    pattern: &[u8],
+    pattern: Pattern<'_>,
     out: &'a str,
 ) -> Result<Answer<'a>, AllocError>
     requires power { IsTrue (state_of board).powered }
-    requires pattern { IsPattern true pattern.now }
     ensures { IfOk result (λ answer. answer_from answer ≡ worked (chart_work
-        (state_of board).content cpu name.now out.entry.now script.entry.bytes.now pattern.now)) }
+        (state_of board).content cpu name.now out.entry.now script.entry.bytes.now
+        pattern.entry.bytes.now)) }
 {
     let mut pool = new_pool(alloc)?;
     let decided = decided_words(alloc, &board, &mut pool, cpu)?;
     let (flash, otp) = board.into_parts();
-    match swept(alloc, &flash, &otp, &mut pool, cpu, script.bytes, pattern) {
+    match swept(
+        alloc,
+        &flash,
+        &otp,
+        &mut pool,
+        cpu,
+        script.bytes,
+        pattern.bytes,
+    ) {
         Ok(found) => drawn(alloc, &found, &decided, out),
         Err(SweepError::Memory) => Err(AllocError),
         Err(reason) => unswept(alloc, name, reason),

@@ -6,8 +6,6 @@ ghost use Rattle.image_check.specs.SameImage.{HoldsImage};
 ghost use Rattle.cli_course.specs.Outcomes.{refused, worked};
 ghost use Rattle.text_lines.specs.Faults.{why_text};
 ghost use Rattle.cli_course.specs.Views.{answer_from};
-ghost use Rattle.cli_inputs.specs.declared.forms.Form.{Form};
-ghost use Rattle.cli_inputs.specs.Forms.{HasForm};
 ghost use Rattle.cli_sweep.specs.Firmness.{is_firm};
 ghost use Rattle.cli_sweep.specs.FirmWorks.{firm_line, firm_work, image_alone, judged_work, whole_window};
 ghost use Rattle.pico_board.specs.MemBoard.{state_of};
@@ -15,7 +13,7 @@ ghost use Rattle.image_check.specs.Image.{image_at};
 
 use boot_sweep::firm;
 use cli_course::{Answer, refusal, told};
-use cli_inputs::{board_of, new_pool};
+use cli_inputs::{Image, lone_board, new_pool};
 use image_check::{Started, Why, check};
 use pico_board::{Board, Cpu, FlashView, MemBoard, Window};
 use std::alloc::{AllocError, Global};
@@ -88,23 +86,22 @@ fn firm_answer<'a>(
     }
 }
 
-/// The work of `firm` on the bytes of an image, which have their form. It prints whether the image
+/// The work of `firm` on an image. It prints whether the image
 /// is firm for the processor, alone in a flash with an OTP of zeros and with trial images allowed.
 /// Or it refuses the image, by its argument: there is no byte, or the image fails a rule. It fails
 /// only where memory is out.
 pub fn firm_image<'a>(
     alloc: Global,
     name: &str,
-    image: Vec<u8>,
+    image: Image,
     cpu: Cpu,
 ) -> Result<Answer<'a>, AllocError>
-    requires { HasForm Form.Image image.items }
     ensures { IfOk result
-        (λ answer. answer_from answer ≡ worked (firm_work name.now image.items cpu)) }
+        (λ answer. answer_from answer ≡ worked (firm_work name.now image.bytes.items cpu)) }
 {
-    if image.is_empty() {
+    if image.bytes.is_empty() {
         return refusal(alloc, name, "empty");
     }
-    let board = board_of(alloc, image, &[])?;
+    let board = lone_board(alloc, image.bytes)?;
     firm_answer(alloc, &board, name, cpu)
 }

@@ -1,7 +1,6 @@
 //! The sweep of a script's session on a board in memory.
 
-ghost use Rattle.std.specs.Prelude.{◌≡◌, IfOk, string_bytes, true};
-ghost use Rattle.pico_board.specs.Cuts.{IsPattern};
+ghost use Rattle.std.specs.Prelude.{◌≡◌, IfOk, string_bytes};
 ghost use Rattle.pico_board.specs.MemBoard.{state_of};
 ghost use Rattle.cli_course.specs.Outcomes.{refused, worked};
 ghost use Rattle.cli_course.specs.Views.{answer_from};
@@ -10,7 +9,7 @@ ghost use Rattle.cli_sweep.specs.SweepWorks.{sweep_fault, sweep_work};
 use boot_script::Script;
 use boot_sweep::{SweepError, swept_text};
 use cli_course::{Answer, refusal, told};
-use cli_inputs::new_pool;
+use cli_inputs::{Pattern, new_pool};
 use pico_board::{Cpu, MemBoard};
 use std::alloc::{AllocError, Global};
 
@@ -47,15 +46,23 @@ pub fn sweep_script<'a>(
     cpu: Cpu,
     name: &str,
     script: Script<'_>,
-    pattern: &[u8],
+    pattern: Pattern<'_>,
 ) -> Result<Answer<'a>, AllocError>
-    requires { IsPattern true pattern.now }
     ensures { IfOk result (λ answer. answer_from answer ≡ worked (sweep_work
-        (state_of board).content cpu name.now script.entry.bytes.now pattern.now)) }
+        (state_of board).content cpu name.now script.entry.bytes.now
+        pattern.entry.bytes.now)) }
 {
     let (flash, otp) = board.into_parts();
     let mut pool = new_pool(alloc)?;
-    match swept_text(alloc, &flash, &otp, &mut pool, cpu, script.bytes, pattern) {
+    match swept_text(
+        alloc,
+        &flash,
+        &otp,
+        &mut pool,
+        cpu,
+        script.bytes,
+        pattern.bytes,
+    ) {
         Ok(text) => Ok(told(alloc, text)),
         Err(SweepError::Memory) => Err(AllocError),
         Err(reason) => unswept(alloc, name, reason),

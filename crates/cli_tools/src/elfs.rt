@@ -1,6 +1,6 @@
 //! The sealed image of an ELF file.
 
-ghost use Rattle.std.specs.Prelude.{◌≡◌, ◌≤◌, IfErr, IfOk, None, Ok, OnOk, Some, length, string_bytes};
+ghost use Rattle.std.specs.Prelude.{◌≡◌, IfErr, IfOk, None, Ok, OnOk, Some, length, string_bytes};
 ghost use Rattle.image_pack.specs.Faults.{block_offset};
 ghost use Rattle.image_pack.specs.Sealing.{sealed_text};
 ghost use Rattle.elf_pack.specs.Binaries.{elf_binary};
@@ -10,6 +10,7 @@ ghost use Rattle.cli_tools.specs.Elfs.{elf_blamed, elf_text, elf_work, image_fau
 
 use crate::tools::{blamed, image_answer, seal_text};
 use cli_course::{Answer, refusal};
+use cli_inputs::Elf;
 use elf_pack::{ElfFault, elf_image};
 use image_pack::SealSpec;
 use std::alloc::{AllocError, Global};
@@ -55,20 +56,21 @@ fn elf_blamed<'a>(elf: &'a str, spec: &'a str, fault: ElfFault) -> &'a str
 /// The sealed image of an ELF file and the offset of its new block, or why there is none.
 fn packed(
     alloc: Global,
-    elf: &[u8],
+    elf: Elf<'_>,
     spec: &SealSpec,
 ) -> Result<Result<(Vec<u8>, u32), ElfFault>, AllocError>
-    requires { length elf.now ≤ 67108864 }
     ensures image { IfOk result (λ done. IfOk done (λ image. image.0.items
-        ≡ sealed_text (elf_binary spec.now.cpu elf.now) spec.now)) }
+        ≡ sealed_text (elf_binary spec.now.cpu elf.entry.bytes.now) spec.now)) }
     ensures block { IfOk result (λ done. IfOk done
-        (λ image. image.1 ≡ block_offset (elf_binary spec.now.cpu elf.now))) }
-    ensures none { IfOk result (λ done. OnOk done (image_fault elf.now spec.now ≡ None)) }
+        (λ image. image.1 ≡ block_offset (elf_binary spec.now.cpu elf.entry.bytes.now))) }
+    ensures none { IfOk result (λ done. OnOk done
+        (image_fault elf.entry.bytes.now spec.now ≡ None)) }
     ensures fault { IfOk result
-        (λ done. IfErr done (λ fault. image_fault elf.now spec.now ≡ Some fault)) }
+        (λ done. IfErr done
+        (λ fault. image_fault elf.entry.bytes.now spec.now ≡ Some fault)) }
 {
     let mut image = Vec::new(alloc);
-    match elf_image(alloc, elf, spec, &mut image) {
+    match elf_image(alloc, elf.bytes, spec, &mut image) {
         Ok(block) => Ok(Ok((image, block))),
         Err(ElfFault::Memory) => Err(AllocError),
         Err(fault) => Ok(Err(fault)),
@@ -89,7 +91,7 @@ pub fn unpacked<'a>(
     refusal(alloc, elf_blamed(elf, spec, fault), &text)
 }
 
-/// The work of `elf` on an ELF file that is not too long and a spec: the line of the sealed image,
+/// The work of `elf` on an ELF file and a spec: the line of the sealed image,
 /// and its file. Or it refuses the ELF file or the spec, by its argument, for the first fault. It
 /// fails only where memory is out.
 pub fn pack_elf<'a>(
@@ -97,12 +99,12 @@ pub fn pack_elf<'a>(
     elf: &str,
     spec: &str,
     out: &'a str,
-    bytes: &[u8],
+    bytes: Elf<'_>,
     asked: &SealSpec,
 ) -> Result<Answer<'a>, AllocError>
-    requires { length bytes.now ≤ 67108864 }
     ensures { IfOk result (λ answer. answer_from answer
-        ≡ worked (elf_work elf.now spec.now out.entry.now bytes.now (Ok asked.now))) }
+        ≡ worked (elf_work elf.now spec.now out.entry.now bytes.entry.bytes.now
+        (Ok asked.now))) }
 {
     match packed(alloc, bytes, asked)? {
         Ok((image, block)) => image_answer(alloc, image, block, out),

@@ -14,7 +14,7 @@ ghost use Rattle.cli_course.specs.Views.{answer_from};
 
 use boot_rules::{Decision, decide};
 use cli_course::{Answer, told};
-use cli_inputs::{board_of, new_pool};
+use cli_inputs::{lone_board, new_pool};
 use image_pack::generate;
 use pico_board::{BootKind, Cpu, MemBoard};
 use sha2::{Digest, Sha256};
@@ -46,7 +46,7 @@ fn made_board(alloc: Global, flash: Vec<u8>) -> Result<MemBoard, AllocError>
     requires { length flash.items ≡ 0x100000 }
     ensures { IfOk result (λ board. state_of board ≡ new_state flash.items zero_otp) }
 {
-    board_of(alloc, flash, &[])
+    lone_board(alloc, flash)
 }
 
 /// The decision of a normal boot for Arm.

@@ -11,7 +11,7 @@ ghost use Rattle.cli_course.specs.Views.{answer_from};
 
 use boot_rules::{Target, find_table, target};
 use cli_course::{Answer, one_file, refusal};
-use cli_inputs::new_pool;
+use cli_inputs::{Image, new_pool};
 use part_table::{ARM_S_FAMILY, RISCV_FAMILY};
 use pico_board::{Board, Cpu, MemBoard, Window};
 use script_plan::{PlanError, WriteOrder, write_script};
@@ -102,15 +102,16 @@ fn script_answer<'a, B: Board>(
     cpu: Cpu,
     name: &str,
     out: &'a str,
-    image: &[u8],
+    image: &Image,
 ) -> Result<Answer<'a>, AllocError>
     requires power { IsTrue (B.state board.now).powered }
     ensures { IfOk result (λ answer. answer_from answer ≡ worked
-        (script_work order (B.state board.now).content cpu name.now out.entry.now image.now)) }
+        (script_work order (B.state board.now).content cpu name.now out.entry.now
+        image.now.bytes.items)) }
 {
     let mut pool = new_pool(alloc)?;
     match plan_target(board, &mut pool, cpu) {
-        Some(target) => window_answer(alloc, order, target.window, name, out, image),
+        Some(target) => window_answer(alloc, order, target.window, name, out, &image.bytes),
         None => refusal(alloc, name, "no-target"),
     }
 }
@@ -124,11 +125,11 @@ pub fn plan_image<'a>(
     cpu: Cpu,
     name: &str,
     out: &'a str,
-    image: &[u8],
+    image: &Image,
 ) -> Result<Answer<'a>, AllocError>
     requires { IsTrue (state_of board).powered }
     ensures { IfOk result (λ answer. answer_from answer ≡ worked
-        (plan_work (state_of board).content cpu name.now out.entry.now image.now)) }
+        (plan_work (state_of board).content cpu name.now out.entry.now image.now.bytes.items)) }
 {
     script_answer(alloc, WriteOrder::FirstLast, &board, cpu, name, out, image)
 }
@@ -142,11 +143,11 @@ pub fn load<'a>(
     cpu: Cpu,
     name: &str,
     out: &'a str,
-    image: &[u8],
+    image: &Image,
 ) -> Result<Answer<'a>, AllocError>
     requires { IsTrue (state_of board).powered }
     ensures { IfOk result (λ answer. answer_from answer ≡ worked
-        (load_work (state_of board).content cpu name.now out.entry.now image.now)) }
+        (load_work (state_of board).content cpu name.now out.entry.now image.now.bytes.items)) }
 {
     script_answer(alloc, WriteOrder::Ascending, &board, cpu, name, out, image)
 }

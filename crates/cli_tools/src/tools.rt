@@ -1,8 +1,7 @@
 //! The answers of the commands that make images and tables.
 
-ghost use Rattle.std.specs.Prelude.{◌≡◌, ◌≤◌, ◌++◌, codes, length, None, Some, Ok, Err, All, IfOk, IfErr, OnOk, false, string_bytes};
-ghost use Rattle.pico_board.specs.declared.window.TheConstants.{MOST_FLASH_BYTES};
-ghost use Rattle.part_table.specs.Written.{AgreesWithFlags, written_table, written_size};
+ghost use Rattle.std.specs.Prelude.{◌≡◌, ◌++◌, codes, length, None, Some, Ok, Err, IfOk, IfErr, OnOk, false, string_bytes};
+ghost use Rattle.part_table.specs.Written.{written_table};
 ghost use Rattle.image_pack.specs.Faults.{block_offset};
 ghost use Rattle.image_pack.specs.Sealing.{sealed_text};
 ghost use Rattle.cli_course.specs.Outcomes.{Answers, one_file, worked};
@@ -13,10 +12,11 @@ ghost use Rattle.cli_course.specs.Views.{answer_from};
 
 use crate::elfs::unpacked;
 use cli_course::{Answer, one_file};
+use cli_inputs::{Binary, JsonTable};
 use elf_pack::ElfFault;
 use image_check::Why;
 use image_pack::{SealError, SealSpec, SpecField, seal};
-use part_table::{Table, TableWriteFault, write_table};
+use part_table::{TableWriteFault, write_table};
 use pico_board::{ERASED, SECTOR};
 use std::alloc::{AllocError, Global};
 use text_lines::why_text;
@@ -28,14 +28,12 @@ fn table_line(alloc: Global, count: usize) -> Result<String, AllocError>
     format!(in alloc; "table bytes=4096 partitions={count}\n")
 }
 
-/// The block of a table that is not too long. It fails only where memory is out.
-fn table_block(alloc: Global, table: &Table) -> Result<Vec<u8>, AllocError>
-    requires agree { All AgreesWithFlags table.now.parts.items }
-    requires fits { written_size table.now ≤ 640 }
-    ensures { IfOk result (λ bytes. bytes.items ≡ written_table table.now) }
+/// The block of a table. It fails only where memory is out.
+fn table_block(alloc: Global, json: &JsonTable) -> Result<Vec<u8>, AllocError>
+    ensures { IfOk result (λ bytes. bytes.items ≡ written_table json.now.table) }
 {
     let mut bytes = Vec::new(alloc);
-    match write_table(alloc, table, &mut bytes) {
+    match write_table(alloc, &json.table, &mut bytes) {
         Ok(()) => Ok(bytes),
         Err(TableWriteFault::Memory) => Err(AllocError),
         Err(TableWriteFault::TooLong(_)) => unreachable!(),
@@ -44,27 +42,23 @@ fn table_block(alloc: Global, table: &Table) -> Result<Vec<u8>, AllocError>
 
 /// The bytes of a table's file. It fails only where memory is out.
 #[tactic(auto, unfolding(crate::specs::Tools::table_file))]
-fn table_file(alloc: Global, table: &Table) -> Result<Vec<u8>, AllocError>
-    requires agree { All AgreesWithFlags table.now.parts.items }
-    requires fits { written_size table.now ≤ 640 }
-    ensures { IfOk result (λ bytes. bytes.items ≡ table_file table.now) }
+fn table_file(alloc: Global, json: &JsonTable) -> Result<Vec<u8>, AllocError>
+    ensures { IfOk result (λ bytes. bytes.items ≡ table_file json.now.table) }
 {
-    let mut bytes = table_block(alloc, table)?;
+    let mut bytes = table_block(alloc, json)?;
     let fill = (SECTOR as usize).saturating_sub(bytes.len());
     bytes.resize(bytes.len() + fill, ERASED)?;
     Ok(bytes)
 }
 
-/// The work of `table` on a table whose block is not too long: the line of the table, and its
-/// file. It fails only where memory is out.
-pub fn table<'a>(alloc: Global, table: &Table, out: &'a str) -> Result<Answer<'a>, AllocError>
-    requires agree { All AgreesWithFlags table.now.parts.items }
-    requires fits { written_size table.now ≤ 640 }
+/// The work of `table` on the table of a text: the line of the table, and its file. It fails only
+/// where memory is out.
+pub fn table<'a>(alloc: Global, json: &JsonTable, out: &'a str) -> Result<Answer<'a>, AllocError>
     ensures { IfOk result
-        (λ answer. answer_from answer ≡ worked (table_work out.entry.now (Ok table.now))) }
+        (λ answer. answer_from answer ≡ worked (table_work out.entry.now (Ok json.now.table))) }
 {
-    let line = table_line(alloc, table.parts.len())?;
-    let bytes = table_file(alloc, table)?;
+    let line = table_line(alloc, json.table.parts.len())?;
+    let bytes = table_file(alloc, json)?;
     one_file(alloc, line, out, bytes)
 }
 
@@ -127,19 +121,19 @@ pub fn sealed_line(alloc: Global, size: usize, block: u32) -> Result<String, All
 /// The sealed image of a binary and the offset of its new block, or why there is none.
 fn sealed(
     alloc: Global,
-    binary: &[u8],
+    binary: Binary<'_>,
     spec: &SealSpec,
 ) -> Result<Result<(Vec<u8>, u32), SealError>, AllocError>
-    requires { length binary.now ≤ MOST_FLASH_BYTES }
     ensures image { IfOk result (λ done. IfOk done (λ image. image.0.items
-        ≡ sealed_text binary.now spec.now)) }
-    ensures block { IfOk result (λ done. IfOk done (λ image. image.1 ≡ block_offset binary.now)) }
-    ensures none { IfOk result (λ done. OnOk done (seal_error binary.now spec.now ≡ None)) }
+        ≡ sealed_text binary.entry.bytes.now spec.now)) }
+    ensures block { IfOk result (λ done. IfOk done
+        (λ image. image.1 ≡ block_offset binary.entry.bytes.now)) }
+    ensures none { IfOk result (λ done. OnOk done (seal_error binary.entry.bytes.now spec.now ≡ None)) }
     ensures error { IfOk result
-        (λ done. IfErr done (λ error. seal_error binary.now spec.now ≡ Some error)) }
+        (λ done. IfErr done (λ error. seal_error binary.entry.bytes.now spec.now ≡ Some error)) }
 {
     let mut image = Vec::new(alloc);
-    match seal(alloc, binary, spec, &mut image) {
+    match seal(alloc, binary.bytes, spec, &mut image) {
         Ok(block) => Ok(Ok((image, block))),
         Err(SealError::Memory) => Err(AllocError),
         Err(error) => Ok(Err(error)),
@@ -161,7 +155,7 @@ pub fn image_answer<'a>(
     one_file(alloc, line, out, image)
 }
 
-/// The work of `seal` on a binary that is not too long and a spec: the line of the sealed image,
+/// The work of `seal` on a binary and a spec: the line of the sealed image,
 /// and its file. Or it refuses the binary or the spec, by its argument, for the first error. It
 /// fails only where memory is out.
 pub fn seal_binary<'a>(
@@ -169,12 +163,12 @@ pub fn seal_binary<'a>(
     binary: &str,
     spec: &str,
     out: &'a str,
-    bytes: &[u8],
+    bytes: Binary<'_>,
     asked: &SealSpec,
 ) -> Result<Answer<'a>, AllocError>
-    requires { length bytes.now ≤ MOST_FLASH_BYTES }
     ensures { IfOk result (λ answer. answer_from answer
-        ≡ worked (seal_work binary.now spec.now out.entry.now bytes.now (Ok asked.now))) }
+        ≡ worked (seal_work binary.now spec.now out.entry.now bytes.entry.bytes.now
+        (Ok asked.now))) }
 {
     match sealed(alloc, bytes, asked)? {
         Ok((image, block)) => image_answer(alloc, image, block, out),

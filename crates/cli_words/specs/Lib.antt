@@ -1,5 +1,5 @@
 -- These definitions are this project's own, except where a comment names a public source.
 pub mod Values
+pub mod Arguments
 pub mod Rows
-pub mod Commands
 pub mod Usages

@@ -3,11 +3,13 @@ use Rattle.std.specs.Prelude.{ℕ, ◌-◌, ◌^◌, List, [], ◌++◌, codes, 
 use Rattle.std.specs.Fmt.{padded, format_spec}
 use Rattle.std.specs.List.{flat_map}
 use Rattle.cli_course.specs.Outcomes.{line}
-use Rattle.cli_words.specs.Rows.{RowView, row_of, word_name, word_note}
-use Rattle.cli_words.specs.declared.rows.TheConstants.{STATUSES, VERBS, WORDS}
+use Rattle.cli_words.specs.Arguments.{word_name, word_note}
+use Rattle.cli_words.specs.Rows.{RowView, row_of}
+use Rattle.cli_words.specs.declared.arguments.TheConstants.{WORDS}
+use Rattle.cli_words.specs.declared.arguments.Word.{Word}
+use Rattle.cli_words.specs.declared.rows.TheConstants.{VERBS}
 use Rattle.cli_words.specs.declared.rows.Verb.{Verb}
-use Rattle.cli_words.specs.declared.rows.Word.{Word}
-use Rattle.cli_words.specs.declared.usage.TheConstants.{VERSION}
+use Rattle.cli_words.specs.declared.usage.TheConstants.{STATUSES, VERSION}
 
 -- the arguments of a row after its name, each after a blank
 abbrev pub words_text : List Word → List ℕ

@@ -1,166 +1,12 @@
-//! The table of commands: for each row its name, its arguments in order, and what it does.
+//! The table of commands: for each row its name, its arguments in order, what it does, and the
+//! command that it is; and the row that the arguments of a run are.
 
-ghost use Rattle.std.specs.Prelude.{◌≡◌};
-ghost use Rattle.cli_words.specs.Rows.{RowView, row_of, word_name, word_note, row_from};
+ghost use Rattle.std.specs.Prelude.{◌≡◌, option_map, map, string_bytes};
+ghost use Rattle.cli_words.specs.Rows.{RowView, built, command_from, first_request, request_from, request_of, row_from, row_of, row_request, word_at};
 
-/// An argument of a command.
-#[derive(Clone, Copy, PartialEq, Eq, Debug)]
-pub enum Word {
-    /// The processor of a boot.
-    Cpu,
-    /// The boot type.
-    Kind,
-    /// A flash file.
-    Flash,
-    /// An OTP file.
-    Otp,
-    /// A script.
-    Script,
-    /// The bytes that a cut within a step leaves.
-    Pattern,
-    /// The flash that is left.
-    OutFlash,
-    /// The OTP that is left.
-    OutOtp,
-    /// The binary of an image.
-    Binary,
-    /// An ELF file.
-    Elf,
-    /// What an image is asked to be.
-    Spec,
-    /// A JSON text.
-    Json,
-    /// An image.
-    Image,
-    /// A UF2 file.
-    Uf2,
-    /// A script as text.
-    Text,
-    /// A UF2 family.
-    Family,
-    /// A number.
-    Number,
-    /// A file to write.
-    Out,
-    /// The name of a command.
-    Command,
-}
-
-impl Word {
-    /// What the usage calls the argument.
-    pub fn name(self) -> &'static str
-        ensures { result.now ≡ word_name self }
-    {
-        match self {
-            Word::Cpu => "CPU",
-            Word::Kind => "KIND",
-            Word::Flash => "FLASH",
-            Word::Otp => "OTP",
-            Word::Script => "SCRIPT",
-            Word::Pattern => "PATTERN",
-            Word::OutFlash => "OUTFLASH",
-            Word::OutOtp => "OUTOTP",
-            Word::Binary => "BIN",
-            Word::Elf => "ELF",
-            Word::Spec => "SPEC",
-            Word::Json => "JSON",
-            Word::Image => "IMAGE",
-            Word::Uf2 => "UF2",
-            Word::Text => "TEXT",
-            Word::Family => "FAMILY",
-            Word::Number => "N",
-            Word::Out => "OUT",
-            Word::Command => "COMMAND",
-        }
-    }
-
-    /// The lines of the usage on the argument.
-    pub fn note(self) -> &'static str
-        ensures { result.now ≡ word_note self }
-    {
-        match self {
-            Word::Cpu => {
-                "CPU     arm or riscv
-"
-            }
-            Word::Kind => {
-                "KIND    normal, bootsel, or update=0x and eight hexadecimal digits: the flash address of the update
-"
-            }
-            Word::Flash => {
-                "FLASH   a file of 1 to 16777216 bytes, filled with 0xff to whole sectors of 4096 bytes, at least two
-"
-            }
-            Word::Otp => {
-                "OTP     a file of at most 16384 bytes, 4 for each row, the lowest byte first; missing rows are 0
-"
-            }
-            Word::Script => {
-                "SCRIPT  a file of at most 67108864 bytes, with an end among its first 524288 records
-"
-            }
-            Word::Pattern => {
-                "PATTERN  a file of 1 to 4096 bytes, which a loss of power within a step leaves, repeated
-"
-            }
-            Word::OutFlash => {
-                "OUTFLASH  a file to write: the whole flash
-"
-            }
-            Word::OutOtp => {
-                "OUTOTP  a file to write: all 4096 rows, 4 bytes each
-"
-            }
-            Word::Binary => {
-                "BIN     a file of at most 16777216 bytes: an image, with or without a version and a digest
-"
-            }
-            Word::Elf => {
-                "ELF     a file of at most 67108864 bytes: a 32-bit executable of segments in flash, or in SRAM
-"
-            }
-            Word::Spec => {
-                "SPEC    a JSON text of at most 65536 bytes: processor, version, rollback, rows and trial
-        of the image; those of the binary, and its window delta, are lost, also if left out
-"
-            }
-            Word::Json => {
-                "JSON    a JSON text of at most 65536 bytes: for table version, singleton, unpartitioned and
-        partitions; for otp rollback_required, flash_off, slot_size and rows
-"
-            }
-            Word::Image => {
-                "IMAGE   a file of 1 to 16777216 bytes; for plan and load at most as many as there is room for
-"
-            }
-            Word::Uf2 => {
-                "UF2     a file of 512 to 33554944 bytes, in blocks of 512; the board judges them, not this command
-"
-            }
-            Word::Text => {
-                "TEXT    a file of at most 201326592 bytes: one record a line, as list writes them
-"
-            }
-            Word::Family => {
-                "FAMILY  rp2040, absolute, data, rp2350-arm-s, rp2350-riscv or rp2350-arm-ns
-"
-            }
-            Word::Number => {
-                "N       a number below 4294967296, of 1 to 10 decimal digits
-"
-            }
-            Word::Out => {
-                "OUT     a file to write: the sealed image; the first sector of a flash with the table; the OTP file;
-        the UF2 file, in blocks of 512 bytes; the script; or the picture
-"
-            }
-            Word::Command => {
-                "COMMAND  the first word of a line above
-"
-            }
-        }
-    }
-}
+use crate::arguments::Word;
+use crate::values::{Values, row_values};
+use pico_board::{BootKind, Cpu};
 
 /// A row of the table, which is one way to ask for a command.
 #[derive(Clone, Copy, PartialEq, Eq, Debug)]
@@ -349,7 +195,7 @@ impl Verb {
             },
             Verb::OtpFile => Row {
                 name: "otp",
-                words: &[Word::Json, Word::Out],
+                words: &[Word::OtpJson, Word::Out],
                 does: "the OTP file of a board that is told in words",
             },
             Verb::Uf2 => Row {
@@ -448,35 +294,365 @@ pub const VERBS: [Verb; 28] = [
     Verb::Release,
 ];
 
-/// The arguments on which the usage has lines, in its order.
-pub const WORDS: [Word; 19] = [
-    Word::Cpu,
-    Word::Kind,
-    Word::Flash,
-    Word::Otp,
-    Word::Script,
-    Word::Pattern,
-    Word::OutFlash,
-    Word::OutOtp,
-    Word::Binary,
-    Word::Elf,
-    Word::Spec,
-    Word::Json,
-    Word::Image,
-    Word::Uf2,
-    Word::Text,
-    Word::Family,
-    Word::Number,
-    Word::Out,
-    Word::Command,
-];
+/// A command, with the arguments that name its files.
+#[derive(Clone, Copy, Drop)]
+pub enum CommandLine<'a> {
+    /// Which image a boot starts.
+    Boot {
+        flash: &'a str,
+        otp: &'a str,
+        cpu: Cpu,
+        kind: BootKind,
+    },
+    /// The partition table, and the image in each window.
+    Info {
+        flash: &'a str,
+        otp: &'a str,
+        cpu: Cpu,
+    },
+    /// Which image a boot starts, and the data that it owns.
+    OwnedData {
+        flash: &'a str,
+        otp: &'a str,
+        cpu: Cpu,
+        kind: BootKind,
+    },
+    /// Why a boot decides as it does.
+    Explain {
+        flash: &'a str,
+        otp: &'a str,
+        cpu: Cpu,
+        kind: BootKind,
+    },
+    /// Where the chip may decide otherwise than the model on a boot.
+    Caveats {
+        flash: &'a str,
+        otp: &'a str,
+        cpu: Cpu,
+        kind: BootKind,
+    },
+    /// A picture of a flash.
+    Map {
+        flash: &'a str,
+        otp: &'a str,
+        cpu: Cpu,
+        out: &'a str,
+    },
+    /// What a script does to a machine.
+    Replay {
+        flash: &'a str,
+        otp: &'a str,
+        cpu: Cpu,
+        script: &'a str,
+        out_flash: &'a str,
+        out_otp: &'a str,
+    },
+    /// What a normal boot makes of each loss of power in a script's session.
+    Sweep {
+        flash: &'a str,
+        otp: &'a str,
+        cpu: Cpu,
+        script: &'a str,
+        pattern: &'a str,
+    },
+    /// A picture of a sweep.
+    Chart {
+        flash: &'a str,
+        otp: &'a str,
+        cpu: Cpu,
+        script: &'a str,
+        pattern: &'a str,
+        out: &'a str,
+    },
+    /// What a normal boot makes of each loss of power in a script.
+    Cuts {
+        flash: &'a str,
+        otp: &'a str,
+        cpu: Cpu,
+        script: &'a str,
+        pattern: &'a str,
+    },
+    /// Whether an update does what it is for, whatever power is lost in it.
+    Check {
+        flash: &'a str,
+        otp: &'a str,
+        cpu: Cpu,
+        script: &'a str,
+        pattern: &'a str,
+    },
+    /// The sealed image of a binary.
+    Seal {
+        binary: &'a str,
+        spec: &'a str,
+        out: &'a str,
+    },
+    /// The sealed image of an ELF file.
+    Elf {
+        elf: &'a str,
+        spec: &'a str,
+        out: &'a str,
+    },
+    /// Whether an image is firm.
+    Firm {
+        image: &'a str,
+        cpu: Cpu,
+    },
+    /// The partition table of a text.
+    Table {
+        json: &'a str,
+        out: &'a str,
+    },
+    /// The OTP file of a board that a text describes.
+    OtpFile {
+        json: &'a str,
+        out: &'a str,
+    },
+    /// The UF2 file of an image.
+    Uf2 {
+        image: &'a str,
+        family: u32,
+        out: &'a str,
+    },
+    /// The script that writes an image.
+    Plan {
+        flash: &'a str,
+        otp: &'a str,
+        cpu: Cpu,
+        image: &'a str,
+        out: &'a str,
+    },
+    /// The script that writes an image in ascending order.
+    Load {
+        flash: &'a str,
+        otp: &'a str,
+        cpu: Cpu,
+        image: &'a str,
+        out: &'a str,
+    },
+    /// The script of a host that copies a UF2 file to the board's drive.
+    Copy {
+        uf2: &'a str,
+        out: &'a str,
+    },
+    /// A script as text.
+    ListScript {
+        script: &'a str,
+    },
+    /// The script of a text.
+    WriteScript {
+        text: &'a str,
+        out: &'a str,
+    },
+    /// The flash of a number.
+    Gen {
+        n: u32,
+    },
+    /// How the program is used.
+    Usage,
+    /// How one command is used.
+    Help {
+        command: &'a str,
+    },
+    /// The version of the program.
+    Release,
+}
 
-/// The lines of the usage on the statuses.
-pub const STATUSES: &str =
-    "Status 0 means that the text is whole, 1 that the words are no command, 2 that an input is refused,
-3 that the boot falls to BOOTSEL, 4 that a file could not be read, 5 that a file could not be
-written, 6 that standard output failed, and 7 that there was no memory. cuts and check end with 8
-where some loss of power, or the whole script, leaves nothing to start, and with 9 where some loss
-of power starts an image that is neither the former nor the finished one; check ends with 11 where
-a record of the script did nothing, and with 10 where the script has no effect.
-";
+/// The argument at a place; the empty one past the last.
+fn word_at(words: &[String], place: usize) -> &str
+    ensures { result.now ≡ word_at place (map string_bytes words.entry.now) }
+{
+    match words.get(place) {
+        Some(word) => word.as_str(),
+        None => "",
+    }
+}
+
+/// The command of a row, by its arguments and their values.
+fn built<'a>(verb: Verb, words: &'a [String], values: Values) -> CommandLine<'a>
+    ensures { command_from result ≡ built verb (map string_bytes words.entry.now) values }
+{
+    match verb {
+        Verb::Boot => CommandLine::Boot {
+            flash: word_at(words, 0),
+            otp: word_at(words, 1),
+            cpu: values.cpu,
+            kind: values.kind,
+        },
+        Verb::Info => CommandLine::Info {
+            flash: word_at(words, 0),
+            otp: word_at(words, 1),
+            cpu: values.cpu,
+        },
+        Verb::OwnedData => CommandLine::OwnedData {
+            flash: word_at(words, 0),
+            otp: word_at(words, 1),
+            cpu: values.cpu,
+            kind: values.kind,
+        },
+        Verb::Explain => CommandLine::Explain {
+            flash: word_at(words, 0),
+            otp: word_at(words, 1),
+            cpu: values.cpu,
+            kind: values.kind,
+        },
+        Verb::Caveats => CommandLine::Caveats {
+            flash: word_at(words, 0),
+            otp: word_at(words, 1),
+            cpu: values.cpu,
+            kind: values.kind,
+        },
+        Verb::Map => CommandLine::Map {
+            flash: word_at(words, 0),
+            otp: word_at(words, 1),
+            cpu: values.cpu,
+            out: word_at(words, 3),
+        },
+        Verb::Replay => CommandLine::Replay {
+            flash: word_at(words, 0),
+            otp: word_at(words, 1),
+            cpu: values.cpu,
+            script: word_at(words, 3),
+            out_flash: word_at(words, 4),
+            out_otp: word_at(words, 5),
+        },
+        Verb::Sweep => CommandLine::Sweep {
+            flash: word_at(words, 0),
+            otp: word_at(words, 1),
+            cpu: values.cpu,
+            script: word_at(words, 3),
+            pattern: word_at(words, 4),
+        },
+        Verb::Chart => CommandLine::Chart {
+            flash: word_at(words, 0),
+            otp: word_at(words, 1),
+            cpu: values.cpu,
+            script: word_at(words, 3),
+            pattern: word_at(words, 4),
+            out: word_at(words, 5),
+        },
+        Verb::Cuts => CommandLine::Cuts {
+            flash: word_at(words, 0),
+            otp: word_at(words, 1),
+            cpu: values.cpu,
+            script: word_at(words, 3),
+            pattern: word_at(words, 4),
+        },
+        Verb::Check => CommandLine::Check {
+            flash: word_at(words, 0),
+            otp: word_at(words, 1),
+            cpu: values.cpu,
+            script: word_at(words, 3),
+            pattern: word_at(words, 4),
+        },
+        Verb::Seal => CommandLine::Seal {
+            binary: word_at(words, 0),
+            spec: word_at(words, 1),
+            out: word_at(words, 2),
+        },
+        Verb::Elf => CommandLine::Elf {
+            elf: word_at(words, 0),
+            spec: word_at(words, 1),
+            out: word_at(words, 2),
+        },
+        Verb::Firm => CommandLine::Firm {
+            image: word_at(words, 0),
+            cpu: values.cpu,
+        },
+        Verb::Table => CommandLine::Table {
+            json: word_at(words, 0),
+            out: word_at(words, 1),
+        },
+        Verb::OtpFile => CommandLine::OtpFile {
+            json: word_at(words, 0),
+            out: word_at(words, 1),
+        },
+        Verb::Uf2 => CommandLine::Uf2 {
+            image: word_at(words, 0),
+            family: values.family,
+            out: word_at(words, 2),
+        },
+        Verb::Plan => CommandLine::Plan {
+            flash: word_at(words, 0),
+            otp: word_at(words, 1),
+            cpu: values.cpu,
+            image: word_at(words, 3),
+            out: word_at(words, 4),
+        },
+        Verb::Load => CommandLine::Load {
+            flash: word_at(words, 0),
+            otp: word_at(words, 1),
+            cpu: values.cpu,
+            image: word_at(words, 3),
+            out: word_at(words, 4),
+        },
+        Verb::Copy => CommandLine::Copy {
+            uf2: word_at(words, 0),
+            out: word_at(words, 1),
+        },
+        Verb::ListScript => CommandLine::ListScript {
+            script: word_at(words, 0),
+        },
+        Verb::WriteScript => CommandLine::WriteScript {
+            text: word_at(words, 0),
+            out: word_at(words, 1),
+        },
+        Verb::Gen => CommandLine::Gen { n: values.number },
+        Verb::Usage | Verb::ShortUsage | Verb::WordUsage => CommandLine::Usage,
+        Verb::Help => CommandLine::Help {
+            command: word_at(words, 0),
+        },
+        Verb::Release => CommandLine::Release,
+    }
+}
+
+/// What the arguments ask for: a row of the table, the arguments after its name, and the command.
+#[derive(Clone, Copy, Drop)]
+pub struct Request<'a> {
+    /// The row.
+    pub verb: Verb,
+    /// The arguments after the name.
+    pub words: &'a [String],
+    /// The command.
+    pub command: CommandLine<'a>,
+}
+
+/// The request of the arguments after a name, where they are this row.
+fn row_request<'a>(verb: Verb, name: &str, words: &'a [String]) -> Option<Request<'a>>
+    ensures { option_map request_from result
+        ≡ row_request verb name.now (map string_bytes words.entry.now) }
+{
+    let row = verb.row();
+    if row.name == name {
+        let values = row_values(row.words, words)?;
+        Some(Request {
+            verb,
+            words,
+            command: built(verb, words, values),
+        })
+    } else {
+        None
+    }
+}
+
+/// The request of the first of these rows that the arguments are.
+fn first_request<'a>(verbs: &[Verb], name: &str, words: &'a [String]) -> Option<Request<'a>>
+    ensures { option_map request_from result
+        ≡ first_request verbs.now name.now (map string_bytes words.entry.now) }
+{
+    for verb in verbs {
+        if let Some(request) = row_request(*verb, name, words) {
+            return Some(request);
+        }
+    }
+    None
+}
+
+/// What the arguments ask for. None exactly where they are no command.
+pub fn find_request(words: &[String]) -> Option<Request<'_>>
+    ensures { option_map request_from result ≡ request_of (map string_bytes words.entry.now) }
+{
+    match words {
+        [name, words @ ..] => first_request(&VERBS, name, words),
+        [] => None,
+    }
+}

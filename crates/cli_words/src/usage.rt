@@ -3,13 +3,25 @@
 ghost use Rattle.std.specs.Prelude.{◌≡◌, IfOk, string_bytes};
 ghost use Rattle.std.specs.List.{flat_map};
 ghost use Rattle.cli_words.specs.Usages.{usage_text, release_line, help_text, words_text, synopsis, row_line, rows_text, row_help, forms_text};
-ghost use Rattle.cli_words.specs.Rows.{word_note, row_from};
+ghost use Rattle.cli_words.specs.Arguments.{word_note};
+ghost use Rattle.cli_words.specs.Rows.{row_from};
 
-use crate::rows::{Row, STATUSES, VERBS, Verb, WORDS, Word};
+use crate::arguments::{WORDS, Word};
+use crate::rows::{Row, VERBS, Verb};
 use std::alloc::{AllocError, Global};
 
 /// The version of the program.
 pub const VERSION: &str = "0.1.0";
+
+/// The lines of the usage on the statuses.
+pub const STATUSES: &str =
+    "Status 0 means that the text is whole, 1 that the words are no command, 2 that an input is refused,
+3 that the boot falls to BOOTSEL, 4 that a file could not be read, 5 that a file could not be
+written, 6 that standard output failed, and 7 that there was no memory. cuts and check end with 8
+where some loss of power, or the whole script, leaves nothing to start, and with 9 where some loss
+of power starts an image that is neither the former nor the finished one; check ends with 11 where
+a record of the script did nothing, and with 10 where the script has no effect.
+";
 
 /// The arguments of a row after its name, each after a blank.
 fn words_text(alloc: Global, words: &[Word]) -> Result<String, AllocError>

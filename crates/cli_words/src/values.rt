@@ -2,10 +2,11 @@
 
 ghost use Rattle.std.specs.Prelude.{◌≡◌, map, string_bytes};
 ghost use Rattle.text_words.specs.Reading.{number_of};
-ghost use Rattle.cli_words.specs.Commands.{boot_kind_of, update_base, is_row_name, with_word, row_values};
+ghost use Rattle.cli_words.specs.Rows.{boot_kind_of, update_base, is_row_name, with_word, row_values};
 ghost use Rattle.cli_words.specs.Values.{family_of};
 
-use crate::rows::{VERBS, Verb, Word};
+use crate::arguments::Word;
+use crate::rows::{VERBS, Verb};
 use part_table::{
     ABSOLUTE_FAMILY, ARM_NS_FAMILY, ARM_S_FAMILY, DATA_FAMILY, RISCV_FAMILY, RP2040_FAMILY,
 };

@@ -2,7 +2,7 @@
 
 use cli_course::Status;
 use cli_explain::explain;
-use cli_inputs::board_of;
+use cli_inputs::lone_board;
 use pico_board::{BootKind, Cpu};
 use std::alloc::Global;
 use std::process::Abort;
@@ -36,7 +36,7 @@ pub(crate) fn compare(
         return Err("no flash of a test".into());
     }
     let bytes = flash(alloc, words, size)?;
-    let board = board_of(alloc, bytes, &[])?;
+    let board = lone_board(alloc, bytes)?;
     let answer = explain(alloc, board, Cpu::Arm, kind)?;
     let wanted = joined(alloc, lines)?;
     assert_eq!(rt; answer.text.as_str(), wanted.as_str(), "{name}");

@@ -4,7 +4,7 @@
 ghost use Rattle.std.specs.Prelude.{◌≡◌, [], ◌∷◌, codes, Some, None};
 ghost use Rattle.pico_board.specs.declared.boot.Cpu.TheVariants.{Arm};
 ghost use Rattle.pico_board.specs.declared.boot.BootKind.TheVariants.{Normal};
-ghost use Rattle.cli_words.specs.Commands.{Table, OtpFile, Boot, Caveats, Info, OwnedData, Replay, Seal, Elf, Uf2, Plan, Load};
+ghost use Rattle.cli_words.specs.Rows.{Table, OtpFile, Boot, Caveats, Info, OwnedData, Replay, Seal, Elf, Uf2, Plan, Load};
 ghost use Rattle.boot_run.specs.Commands.{Names, NeedsBytes, command_outcome, outcome_on};
 ghost use Rattle.boot_run.specs.Examples.{no_start, sink_of};
 ghost use Rattle.cli_course.specs.Outcomes.{refused, unread, not_understood};

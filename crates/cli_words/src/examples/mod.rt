@@ -4,10 +4,9 @@
 ghost use Rattle.std.specs.Prelude.{◌≡◌, [], ◌∷◌, ◌++◌, codes, Some, None};
 ghost use Rattle.pico_board.specs.declared.boot.Cpu.TheVariants.{Arm, Riscv};
 ghost use Rattle.pico_board.specs.declared.boot.BootKind.TheVariants.{Normal, Bootsel as AskBootsel, Update};
-ghost use Rattle.cli_words.specs.Commands.{Table, OtpFile, command_of, boot_kind_of, Boot, Info, OwnedData, Explain, Caveats, Map, Replay, Usage, Help, Release, Sweep, Chart, Cuts, Check, Seal, Elf, Firm, Uf2, Plan, Load, Copy, ListScript, WriteScript, Gen};
-ghost use Rattle.cli_words.specs.declared.rows.TheConstants.{STATUSES};
+ghost use Rattle.cli_words.specs.Rows.{row_of, Table, OtpFile, command_of, boot_kind_of, Boot, Info, OwnedData, Explain, Caveats, Map, Replay, Usage, Help, Release, Sweep, Chart, Cuts, Check, Seal, Elf, Firm, Uf2, Plan, Load, Copy, ListScript, WriteScript, Gen};
 ghost use Rattle.cli_words.specs.declared.rows.Verb.TheVariants as verbs;
-ghost use Rattle.cli_words.specs.Rows.{row_of};
+ghost use Rattle.cli_words.specs.declared.usage.TheConstants.{STATUSES};
 ghost use Rattle.cli_words.specs.Usages.{help_text, release_line, row_line};
 ghost use Rattle.cli_words.specs.Values.{family_of};
 

@@ -1,4 +1,4 @@
-use Rattle.cli_words.specs.Commands.{asked}
+use Rattle.cli_words.specs.Rows.{asked}
 use Rattle.boot_run.specs.Commands.{inputs_in, outcome_in}
 use Rattle.boot_run.proofs.RunLemmas.{outcome-finished, run-ends, run-told, run-boot, run-session, run-confined, run-lacking, run-words, run-no_command, run-complete, run-steady, run-obeys}
 use Rattle.cli_course.proofs.EndLemmas.{end-read_fault, end-write_fault, end-output_fault, end-memory}

@@ -7,10 +7,10 @@ use Rattle.cli_scripts.proofs.copying.copy_uf2.Goals as goal
 
 pub returns : goal.returns
 returns c =
-    let n = length c.args.uf2.now / 512 in
+    let n = length c.args.uf2.bytes.now / 512 in
     subst (λ (o : AnswerView). IfOk c.one_file.result (λ answer. answer_from answer ≡ o))
     (ap (λ t. worked (Answers false t (one_file c.args.out.now c.in_ok-script.script.items)))
-    (c.in_ok-line.ensures ∙ ap copy_line (sym (blocks-count n c.args.uf2.now)))
-    ∙ ap (λ bytes. worked (Answers false (copy_line (length (blocks_in n c.args.uf2.now)))
+    (c.in_ok-line.ensures ∙ ap copy_line (sym (blocks-count n c.args.uf2.bytes.now)))
+    ∙ ap (λ bytes. worked (Answers false (copy_line (length (blocks_in n c.args.uf2.bytes.now)))
     (one_file c.args.out.now bytes))) c.in_ok-script.ensures)
     c.one_file.ensures

@@ -9,6 +9,6 @@ use Rattle.cli_tools.proofs.generating.made_board.Goals as goal
 pub returns : goal.returns
 returns c =
     let whole = flash-back c.args.flash.items (omega (arith, c.requires)) (omega (arith, c.requires)) in
-    subst (λ (flash : List ℕ). IfOk c.board_of.result (λ (b : MemBoard). state_of b ≡ new_state flash zero_otp)) whole
-    (subst (λ (otp : List ℕ). IfOk c.board_of.result
-    (λ (b : MemBoard). state_of b ≡ new_state (filled_flash c.args.flash.items) otp)) zero-rows c.board_of.ensures)
+    subst (λ (flash : List ℕ). IfOk c.lone_board.result (λ (b : MemBoard). state_of b ≡ new_state flash zero_otp)) whole
+    (subst (λ (otp : List ℕ). IfOk c.lone_board.result
+    (λ (b : MemBoard). state_of b ≡ new_state (filled_flash c.args.flash.items) otp)) zero-rows c.lone_board.ensures)

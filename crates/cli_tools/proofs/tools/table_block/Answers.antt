@@ -7,6 +7,6 @@ short-long n m short long = omega (arith, short, long)
 
 pub unreachable-requires : goal.unreachable-requires
 unreachable-requires c =
-    short-long (written_size c.args.table.now) 640 c.requires.fits
+    short-long (written_size c.args.json.now.table) 640 c.args.json.now.fits
     ((c.write_table.ensures.too_long c.in-Err-TooLong.field-0-0).0
     (c.in-Err-TooLong.is ∙ ap (λ e. Err e) c.in-Err-TooLong.field-0-is)).0

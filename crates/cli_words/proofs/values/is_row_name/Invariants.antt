@@ -1,5 +1,5 @@
 use Rattle.std.proofs.Common.{◌≡◌, drop}
-use Rattle.cli_words.specs.Commands.{is_row_name}
+use Rattle.cli_words.specs.Rows.{is_row_name}
 use Rattle.cli_words.proofs.values.is_row_name.Given as goal
 
 -- a name of the rest is one of all

@@ -1,5 +1,5 @@
 use Rattle.std.proofs.Common.{◌≡◌, drop, map, string_bytes}
-use Rattle.cli_words.specs.Commands.{no_values, values_from}
+use Rattle.cli_words.specs.Rows.{no_values, values_from}
 use Rattle.cli_words.proofs.values.row_values.Given as goal
 
 -- the values with those of the rest are those of all
