@@ -1,5 +1,5 @@
 -- The rectangles of a row fill its strip.
-use Rattle.std.proofs.Common.{◌≡◌, ℕ, ◌+◌, ◌-◌, ◌≤◌, List, [], ◌∷◌, ◌++◌, length, map, refl, sym, ap, ◌∙◌, subst, arith, append-nil}
+use Rattle.std.proofs.Common.{◌≡◌, ℕ, ◌+◌, ◌-◌, List, [], ◌∷◌, ◌++◌, length, map, refl, sym, ap, ◌∙◌, subst, arith, append-nil}
 use Rattle.std.proofs.lemmas.List.{length-map}
 use Rattle.std.specs.Prelude.{codes}
 use Rattle.pico_board.specs.declared.Step.{Step}
@@ -7,7 +7,8 @@ use Rattle.svg_marks.specs.declared.class.Class.{Class}
 use Rattle.svg_marks.specs.declared.mark.Area.{Area}
 use Rattle.svg_marks.specs.Marks.{Mark, Plain, Rect, Label, Caption, Strip, Column, StripEnd, Line, Lines}
 use Rattle.svg_sweep.specs.declared.runs.Run.{Run}
-use Rattle.svg_sweep.specs.Runs.{AreRunsFrom, chance_runs, runs}
+use Rattle.equal_runs.specs.Runs.{AreRunsFrom}
+use Rattle.svg_sweep.specs.Runs.{chance_runs, run_view, runs}
 use Rattle.svg_sweep.specs.Charts.{bar, class_of_step, kind_bar, kind_row, result_row, row_front, run_area, spans_from, strip_frame}
 use Rattle.svg_sweep.specs.Places.{FillFrom, bars_of, run_length}
 use Rattle.svg_sweep.proofs.RunLawLemmas.{runs-are}
@@ -62,7 +63,7 @@ kind-row-bars top steps =
     ∙ append-nil (map run_area (runs (map class_of_step steps)))))
 
 -- runs that follow one another fill the strip from where they begin
-pub runs-fill : (classes : List Class) (k : ℕ) (rs : List Run) → AreRunsFrom classes k rs
+pub runs-fill : (classes : List Class) (k : ℕ) (rs : List Run) → AreRunsFrom classes k (map run_view rs)
     → FillFrom (length classes) k (map run_area rs)
 runs-fill classes k [] ends = ends
 runs-fill classes k (r ∷ rs) are =

@@ -1,31 +1,19 @@
 -- Runs of steps.
-use Rattle.std.specs.Prelude.{◌≡◌, ◌≢◌, ⊤, ℕ, ◌+◌, ◌≤◌, Bool, true, false, not, List, [], ◌∷◌, count_by, length, slice_get, Option, Some, None}
+use Rattle.std.specs.Prelude.{ℕ, ◌+◌, Bool, true, false, not, List, [], ◌∷◌, count_by, map, Option, Some, None}
+use Rattle.equal_runs.specs.Runs.{RunOf, AreRuns as AreEqualRuns}
 use Rattle.svg_marks.specs.declared.class.Class.{Class}
 use Rattle.svg_marks.specs.declared.class.Class.TheVariants.{Chance}
 use Rattle.svg_marks.specs.Reading.{is_class}
 use Rattle.svg_sweep.specs.declared.runs.Run.{Run}
 
--- each step of a run has its class
-pub record IsRun (classes : List Class) (run : Run) : Type 0 where
-  pub some : run.first ≤ run.last
-  pub same : (i : ℕ) → run.first ≤ i → i ≤ run.last → slice_get classes i ≡ Some run.class
-
--- the next run, if there is one, has another class
-abbrev pub IsOther : Class → List Run → Type 0
-IsOther class [] = ⊤
-IsOther class (run ∷ runs) = class ≢ run.class
-
--- runs that follow one another from the step k on up to the last step; neighbours differ
-abbrev pub AreRunsFrom : List Class → ℕ → List Run → Type 0
-AreRunsFrom classes k [] = k ≡ length classes
-AreRunsFrom classes k (run ∷ runs) =
-    (run.first ≡ k) × IsRun classes run × IsOther run.class runs
-    × AreRunsFrom classes (run.last + 1) runs
+-- a run of steps as one of their classes
+abbrev pub run_view : Run → RunOf Class
+run_view run = record { first = run.first; last = run.last; entry = run.class }
 
 -- The runs of steps with these classes: in their order they are all the steps, each has one class,
 -- and neighbours differ. So each is as long as can be.
 abbrev pub AreRuns : List Class → List Run → Type 0
-AreRuns classes runs = AreRunsFrom classes 0 runs
+AreRuns classes runs = AreEqualRuns classes (map run_view runs)
 
 -- a run of this class ends before the next step, if there is one
 abbrev pub ends_run : Class → Option Class → Bool
