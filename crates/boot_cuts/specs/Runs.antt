@@ -1,5 +1,6 @@
 -- Runs of cuts: as many cuts, one after the other, as have one class and one decision.
-use Rattle.std.specs.Prelude.{◌≡◌, ◌≢◌, ⊤, ℕ, ◌+◌, ◌≤◌, ◌&&◌, Bool, true, false, if◌then◌else◌, List, [], ◌∷◌, ◌++◌, length, slice_get, Option, Some, None}
+use Rattle.std.specs.Prelude.{ℕ, ◌+◌, ◌&&◌, Bool, true, false, if◌then◌else◌, List, [], ◌∷◌, ◌++◌, map, Option, Some, None}
+use Rattle.equal_runs.specs.Runs.{RunOf, AreRuns as AreEqualRuns}
 use Rattle.boot_sweep.specs.Comparing.{is_same_decision}
 use Rattle.boot_cuts.specs.declared.answers.Answer.{Answer}
 use Rattle.boot_cuts.specs.declared.answers.Class.{Class}
@@ -7,27 +8,14 @@ use Rattle.boot_cuts.specs.declared.answers.Class.TheVariants.{Former, Finished,
 use Rattle.boot_cuts.specs.declared.runs.Run.{Run}
 use Rattle.boot_cuts.specs.declared.runs.Runs.{Runs}
 
--- each cut of a run has its answer
-pub record IsRun (answers : List Answer) (run : Run) : Type 0 where
-  pub some : run.first ≤ run.last
-  pub same : (i : ℕ) → run.first ≤ i → i ≤ run.last → slice_get answers i ≡ Some run.answer
-
--- the next run, if there is one, has another answer
-abbrev pub IsOther : Answer → List Run → Type 0
-IsOther answer [] = ⊤
-IsOther answer (run ∷ runs) = answer ≢ run.answer
-
--- runs that follow one another from the cut k on up to the last cut, neighbours of which differ
-abbrev pub AreRunsFrom : List Answer → ℕ → List Run → Type 0
-AreRunsFrom answers k [] = k ≡ length answers
-AreRunsFrom answers k (run ∷ runs) =
-    (run.first ≡ k) × IsRun answers run × IsOther run.answer runs
-    × AreRunsFrom answers (run.last + 1) runs
+-- a run of cuts as one of their answers
+abbrev pub run_view : Run → RunOf Answer
+run_view run = record { first = run.first; last = run.last; entry = run.answer }
 
 -- The runs of cuts with these answers: in their order they are all the cuts, each has one class and
 -- one decision, and neighbours differ. So each is as long as can be.
 abbrev pub AreRuns : List Answer → List Run → Type 0
-AreRuns answers runs = AreRunsFrom answers 0 runs
+AreRuns answers runs = AreEqualRuns answers (map run_view runs)
 
 abbrev pub is_same_class : Class → Class → Bool
 is_same_class Former Former = true
