@@ -7,7 +7,10 @@ use Rattle.cli_words.specs.Rows.{CommandLineView, Boot, Info, OwnedData, Explain
 use Rattle.cli_words.specs.Usages.{usage_text, help_text, release_line}
 use Rattle.cli_inputs.specs.Forms.{content_of_files, HasForm}
 use Rattle.cli_inputs.specs.Jsons.{spec_read, table_read, otp_read}
-use Rattle.cli_inputs.specs.Inputs.{FormInputView, readings, flash_and_otp, flash_otp_script, flash_otp_script_pattern, flash_otp_image, binary_and_spec, elf_and_spec, one_json, otp_told, image_alone, uf2_alone, script_alone, text_alone, of_one, of_two, of_three, of_four, outcome_by}
+use Rattle.cli_course.specs.declared.answers.Answer.{Answer}
+use Rattle.cli_course.specs.Views.{answer_from}
+use Rattle.cli_inputs.specs.declared.fail.InputFail.{InputFail}
+use Rattle.cli_inputs.specs.Inputs.{Tells as TellsRefusal, FormInputView, readings, flash_and_otp, flash_otp_script, flash_otp_script_pattern, flash_otp_image, binary_and_spec, elf_and_spec, one_json, otp_told, image_alone, uf2_alone, script_alone, text_alone, of_one, of_two, of_three, of_four, outcome_by}
 use Rattle.cli_boot.specs.Works.{boot_work, info_work, data_work}
 use Rattle.cli_explain.specs.Works.{explain_work}
 use Rattle.cli_check.specs.CheckRules.{IsCheckOf, IsCheckRefused}
@@ -126,6 +129,14 @@ work_of Release = λ read. Answers false release_line []
 -- the outcome of a command on the bytes of its inputs
 abbrev pub command_outcome : CommandLineView → List (List ℕ) → AnswerView
 command_outcome command read = outcome_by (inputs_of command) (work_of command) read
+
+-- the answer has the outcome of the command
+abbrev pub IsAnswer : CommandLineView → List (List ℕ) → Answer → Type 0
+IsAnswer command read answer = answer_from answer ≡ command_outcome command read
+
+-- a file gives no value: its refusal is the outcome of the command, or there was no memory
+abbrev pub IsRefusal : CommandLineView → List (List ℕ) → InputFail → Type 0
+IsRefusal command read fail = TellsRefusal fail (Some (command_outcome command read))
 
 -- what is read for the arguments: nothing where they are no command
 abbrev pub inputs_in : Option CommandLineView → List LimitedInputView

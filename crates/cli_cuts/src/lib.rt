@@ -14,6 +14,7 @@ mod tests {
     use super::*;
     use boot_script::Script;
     use cli_course::Status;
+    use cli_inputs::Pattern;
     use pico_board::{Cpu, MemBoard};
     use std::test::Fail;
 
@@ -30,7 +31,8 @@ mod tests {
         let otp = vec![in alloc; 0u32; 4096]?;
         let board = MemBoard::new(alloc, flash, otp)?;
         let script = Script::read(&SCRIPT)?;
-        let answer = cuts(alloc, board, Cpu::Arm, "s", script, &[0xa5])?;
+        let pattern = Pattern { bytes: &[0xa5] };
+        let answer = cuts(alloc, board, Cpu::Arm, "s", script, pattern)?;
         assert_eq!(rt;
             answer.text.as_str(),
             "0 erase 0x00001000 before to 0 erase 0x00001000 within former bootsel no-image\n\
