@@ -105,13 +105,13 @@ fn a_boot_makes_a_digest_anew_where_its_window_changed(rt: HostRuntime) -> Resul
     let mut machine = sealed_machine(rt.alloc())?;
     let first = read_by(&mut machine, &Event::PowerOn);
     let again = read_by(&mut machine, &RESET);
-    assert!(rt; again + COVERED <= first);
+    assert!(rt; COVERED <= first.saturating_sub(again));
     assert!(rt; matches!(machine.state(), State::Running(_)));
     for _ in 0..5 {
         assert_eq!(rt; read_by(&mut machine, &RESET), again);
     }
     write_page(&mut machine, 0x3000);
-    assert!(rt; again + COVERED <= read_by(&mut machine, &RESET));
+    assert!(rt; COVERED <= read_by(&mut machine, &RESET).saturating_sub(again));
     write_page(&mut machine, 0x2_1000);
     assert_eq!(rt; read_by(&mut machine, &RESET), again);
     Ok(())
@@ -124,12 +124,12 @@ fn a_start_remembers_the_digest_of_the_other_member(rt: HostRuntime) -> Result<(
     let _on = read_by(&mut machine, &Event::PowerOn);
     let first = read_by(&mut machine, &update);
     let again = read_by(&mut machine, &update);
-    assert!(rt; again + COVERED <= first);
+    assert!(rt; COVERED <= first.saturating_sub(again));
     for _ in 0..5 {
         assert_eq!(rt; read_by(&mut machine, &update), again);
     }
     write_page(&mut machine, 0x2_1000);
-    assert!(rt; again + COVERED <= read_by(&mut machine, &update));
+    assert!(rt; COVERED <= read_by(&mut machine, &update).saturating_sub(again));
     Ok(())
 }
 
@@ -140,10 +140,10 @@ fn the_target_of_a_download_remembers_a_digest(rt: HostRuntime) -> Result<(), Fa
     write_page(&mut machine, 0x3000);
     let first = ask_target(&mut machine);
     let again = ask_target(&mut machine);
-    assert!(rt; again + COVERED <= first);
+    assert!(rt; COVERED <= first.saturating_sub(again));
     assert_eq!(rt; ask_target(&mut machine), again);
     write_page(&mut machine, 0x3000);
-    assert!(rt; again + COVERED <= ask_target(&mut machine));
+    assert!(rt; COVERED <= ask_target(&mut machine).saturating_sub(again));
     Ok(())
 }
 
@@ -154,7 +154,7 @@ fn a_boot_looks_the_table_up_anew_where_a_slot_changed(rt: HostRuntime) -> Resul
     let _on = read_by(&mut machine, &Event::PowerOn);
     let again = read_by(&mut machine, &RESET);
     write_page(&mut machine, 0x1f00);
-    assert!(rt; again + SLOT <= read_by(&mut machine, &RESET));
+    assert!(rt; SLOT <= read_by(&mut machine, &RESET).saturating_sub(again));
     assert_eq!(rt; read_by(&mut machine, &RESET), again);
     write_page(&mut machine, 0x3_e000);
     assert_eq!(rt; read_by(&mut machine, &RESET), again);
