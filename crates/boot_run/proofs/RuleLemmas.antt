@@ -1,8 +1,5 @@
 -- The outcome of each command is right by the rules, and no other is.
-use Rattle.std.proofs.Common.{◌≡◌, ◌↔◌, ℕ, zero, suc, ◌+◌, ◌==◌, Bool, true, false, cond, List, [], ◌∷◌, length, drop, Option, Some, None, option_map, bytes_eq, refl, sym, ◌∙◌, ap, subst, arith, Result, Ok, Err}
-use Rattle.std.proofs.lemmas.Bool.{eqb-true}
-use Rattle.std.proofs.lemmas.List.{drop_all, drop_more}
-use Rattle.std.specs.Option.{option_or}
+use Rattle.std.proofs.Common.{◌≡◌, ◌↔◌, ℕ, ◌==◌, Bool, true, false, cond, List, [], ◌∷◌, length, Option, Some, None, refl, sym, ◌∙◌, ap, subst, Result, Ok, Err}
 use Rattle.std.specs.Prelude.{⊤, nat_lt}
 use Rattle.pico_board.specs.declared.boot.Cpu.{Cpu}
 use Rattle.pico_board.specs.declared.boot.BootKind.{BootKind}
@@ -15,12 +12,10 @@ use Rattle.boot_rules.proofs.DecisionLemmas.{decision-chosen, chosen-decision}
 use Rattle.cli_course.specs.declared.status.Status.TheVariants.{Input as Refused, Bootsel}
 use Rattle.cli_course.specs.Outcomes.{AreOfBytes, AnswerView, Answers, found, outcome_found, Work, Refuses, Judges, worked}
 use Rattle.cli_course.proofs.ReadLemmas.{found-long}
-use Rattle.cli_words.specs.Rows.{RequestView, row_of, word_at, built, row_values, values_from, no_values, requested, row_request, first_request, request_of, CommandLineView, Boot, Info, OwnedData, Explain, Map, Replay, Sweep, Chart, Seal, Elf, Firm, Table, Usage, Help, Release, Uf2, Plan, Copy, ListScript, WriteScript, Gen, Load, Caveats, OtpFile, Cuts, Check}
-use Rattle.cli_words.specs.declared.arguments.Word.{Word}
-use Rattle.cli_words.specs.declared.rows.TheConstants.{VERBS}
+use Rattle.cli_words.specs.Rows.{CommandLineView, command_line}
 use Rattle.cli_words.specs.declared.rows.Verb.{Verb}
 use Rattle.cli_words.specs.declared.rows.Verb.TheVariants as verbs
-use Rattle.cli_words.specs.declared.values.Values.{Values}
+use Rattle.cli_words.specs.Values.{ValuesView}
 use Rattle.cli_words.specs.Usages.{usage_text, help_text, release_line}
 use Rattle.cli_inputs.specs.declared.forms.Form.TheVariants.{Flash, Otp, OtpText}
 use Rattle.cli_inputs.specs.Forms.{HasForm, content_of_files}
@@ -47,8 +42,8 @@ use Rattle.cli_scripts.proofs.TextRuleLemmas.{list-works, write-works}
 use Rattle.cli_tools.proofs.ElfLemmas.{elf-works}
 use Rattle.cli_tools.proofs.SealCaseLemmas.{seal-works, table-works}
 use Rattle.cli_tools.proofs.ToolLemmas.{uf2-works, plan-works, load-works, gen-works}
-use Rattle.boot_run.specs.Inputs.{row_inputs, request_inputs}
-use Rattle.boot_run.specs.Commands.{inputs_of, work_of, command_outcome, outcome_on, IsRefusedCommand, Asks, needs_bytes, NeedsBytes, judges, is_verdict, IsRefusedWork, IsRight, Tells, Obeys, FallsOn}
+use Rattle.boot_run.specs.Inputs.{inputs_of}
+use Rattle.boot_run.specs.Commands.{row_work, work_of, command_outcome, outcome_on, IsRefusedCommand, Asks, needs_bytes, NeedsBytes, judges, is_verdict, IsRefusedWork, IsRowRefused, IsRight, IsRowRight, Tells, Obeys, FallsOn}
 use Rattle.part_table.specs.declared.target.Target.{Target}
 use Rattle.script_plan.specs.declared.writing.WriteOrder.{WriteOrder}
 use Rattle.script_plan.specs.declared.writing.WriteOrder.TheVariants.{FirstLast, Ascending}
@@ -67,138 +62,47 @@ use Rattle.cli_tools.specs.Elfs.{elf_work, packed_work}
 use Rattle.cli_tools.specs.Tools.{seal_work, table_work, judged_work as seal_judged}
 use Rattle.cli_tools.specs.ToolWorks.{uf2_work, plan_work, load_work, target_work}
 
--- the arguments from a place on, as many as are told
-abbrev spread : ℕ → ℕ → List (List ℕ) → List (List ℕ)
-spread i zero words = []
-spread i (suc n) words = word_at i words ∷ spread (i + 1) n words
+-- a told text is right
+told-works : (text : List ℕ)
+    → WorksBy [] (λ read. ⊤) (λ read. Answers false text []) (λ read name fault. ⊥) (λ read o. Tells text o)
+told-works text = none-works (λ read. ⊤) (Answers false text []) (Tells text) refl (λ o right. right) (λ h. cc)
 
-spread-all : (n i : ℕ) (words : List (List ℕ)) → length words ≡ i + n → drop i words ≡ spread i n words
-spread-all zero i words long = drop_all i words (omega (arith, long))
-spread-all (suc n) i words long =
-    drop_more words i [] (omega (arith, long))
-    ∙ ap (λ rest. word_at i words ∷ rest) (spread-all n (i + 1) words (omega (arith, long)))
+-- the work of each row's command is right by the rules
+row-works : (verb : Verb) (v : ValuesView)
+    → WorksBy (inputs_of (command_line verb v)) (NeedsBytes (command_line verb v)) (row_work verb v)
+    (IsRowRefused verb v) (IsRowRight verb v)
+row-works verbs.Boot v = boot-works v.flash v.otp v.cpu v.kind
+row-works verbs.Info v = info-works v.flash v.otp v.cpu
+row-works verbs.OwnedData v = data-works v.flash v.otp v.cpu v.kind
+row-works verbs.Explain v = explain-works v.flash v.otp v.cpu v.kind
+row-works verbs.Caveats v = caveats-works v.flash v.otp v.cpu v.kind
+row-works verbs.Map v = map-works v.flash v.otp v.out v.cpu
+row-works verbs.Replay v = replay-works v.flash v.otp v.script v.out_flash v.out_otp v.cpu
+row-works verbs.Sweep v = sweep-works v.flash v.otp v.script v.pattern v.cpu
+row-works verbs.Chart v = chart-works v.flash v.otp v.script v.pattern v.out v.cpu
+row-works verbs.Cuts v = cuts-works v.flash v.otp v.script v.pattern v.cpu
+row-works verbs.Check v = check-works v.flash v.otp v.script v.pattern v.cpu
+row-works verbs.Seal v = seal-works v.binary v.spec v.out
+row-works verbs.Elf v = elf-works v.elf v.spec v.out
+row-works verbs.Firm v = firm-works v.image v.cpu
+row-works verbs.Table v = table-works v.json v.out
+row-works verbs.OtpFile v = otp-works OtpText otp_read (λ j has. has.1) otp-gives v.json v.out
+row-works verbs.Uf2 v = uf2-works v.image v.out v.family
+row-works verbs.Plan v = plan-works v.flash v.otp v.image v.out v.cpu
+row-works verbs.Load v = load-works v.flash v.otp v.image v.out v.cpu
+row-works verbs.Copy v = copy-works v.uf2 v.out
+row-works verbs.ListScript v = list-works v.script
+row-works verbs.WriteScript v = write-works v.text v.out
+row-works verbs.Gen v = gen-works v.number
+row-works verbs.Usage v = told-works usage_text
+row-works verbs.ShortUsage v = told-works usage_text
+row-works verbs.WordUsage v = told-works usage_text
+row-works verbs.Help v = told-works (help_text v.command)
+row-works verbs.Release v = told-works release_line
 
--- the inputs of a command are those of its row
-same-inputs : (verb : Verb) (words : List (List ℕ)) (v : Values)
-    → row_inputs (row_of verb).words (spread 0 (length (row_of verb).words) words) ≡ inputs_of (built verb words v)
-same-inputs verbs.Boot words v = refl
-same-inputs verbs.Info words v = refl
-same-inputs verbs.OwnedData words v = refl
-same-inputs verbs.Explain words v = refl
-same-inputs verbs.Caveats words v = refl
-same-inputs verbs.Map words v = refl
-same-inputs verbs.Replay words v = refl
-same-inputs verbs.Sweep words v = refl
-same-inputs verbs.Chart words v = refl
-same-inputs verbs.Cuts words v = refl
-same-inputs verbs.Check words v = refl
-same-inputs verbs.Seal words v = refl
-same-inputs verbs.Elf words v = refl
-same-inputs verbs.Firm words v = refl
-same-inputs verbs.Table words v = refl
-same-inputs verbs.OtpFile words v = refl
-same-inputs verbs.Uf2 words v = refl
-same-inputs verbs.Plan words v = refl
-same-inputs verbs.Load words v = refl
-same-inputs verbs.Copy words v = refl
-same-inputs verbs.ListScript words v = refl
-same-inputs verbs.WriteScript words v = refl
-same-inputs verbs.Gen words v = refl
-same-inputs verbs.Usage words v = refl
-same-inputs verbs.ShortUsage words v = refl
-same-inputs verbs.WordUsage words v = refl
-same-inputs verbs.Help words v = refl
-same-inputs verbs.Release words v = refl
-
-built-inputs : (verb : Verb) (words : List (List ℕ)) (v : Values) → length (row_of verb).words ≡ length words
-    → row_inputs (row_of verb).words words ≡ inputs_of (built verb words v)
-built-inputs verb words v long =
-    ap (row_inputs (row_of verb).words) (spread-all (length (row_of verb).words) 0 words (omega (arith, long)))
-    ∙ same-inputs verb words v
-
--- arguments of which a row has the values are as many as it has
-values-long : (kinds : List Word) (words : List (List ℕ)) (v : Values) → row_values kinds words ≡ Some v
-    → length kinds ≡ length words
-values-long kinds words v h = go (length kinds == length words) refl h
-  where
-    go : (t : Bool) → (length kinds == length words) ≡ t → cond t (values_from kinds words no_values) None ≡ Some v
-        → length kinds ≡ length words
-    go true is e = eqb-true (length kinds) (length words) is
-    go false is e = cc
-
-row-requested : (verb : Verb) (name : List ℕ) (words : List (List ℕ)) (r : RequestView)
-    → row_request verb name words ≡ Some r → request_inputs r ≡ inputs_of r.command
-row-requested verb name words r h = go (bytes_eq (row_of verb).name name) h
-  where
-    values : (o : Option Values) → row_values (row_of verb).words words ≡ o
-        → option_map (requested verb words) o ≡ Some r → request_inputs r ≡ inputs_of r.command
-    values None is e = cc
-    values (Some v) is e =
-        let same : requested verb words v ≡ r = cc in
-        subst (λ (q : RequestView). request_inputs q ≡ inputs_of q.command) same
-        (built-inputs verb words v (values-long (row_of verb).words words v is))
-
-    go : (t : Bool) → cond t (option_map (requested verb words) (row_values (row_of verb).words words)) None ≡ Some r
-        → request_inputs r ≡ inputs_of r.command
-    go true e = values (row_values (row_of verb).words words) refl e
-    go false e = cc
-
-first-requested : (rows : List Verb) (name : List ℕ) (words : List (List ℕ)) (r : RequestView)
-    → first_request rows name words ≡ Some r → request_inputs r ≡ inputs_of r.command
-first-requested [] name words r h = cc
-first-requested (verb ∷ rows) name words r h =
-    go (row_request verb name words) refl h (first-requested rows name words r)
-  where
-    go : (o : Option RequestView) → row_request verb name words ≡ o
-        → option_or o (first_request rows name words) ≡ Some r
-        → (first_request rows name words ≡ Some r → request_inputs r ≡ inputs_of r.command)
-        → request_inputs r ≡ inputs_of r.command
-    go None is e rest = rest e
-    go (Some q) is e rest = row-requested verb name words r (is ∙ e)
-
--- what is read for a request are the inputs of its command
-pub requested-inputs : (words : List (List ℕ)) (r : RequestView) → request_of words ≡ Some r
-    → request_inputs r ≡ inputs_of r.command
-requested-inputs [] r h = cc
-requested-inputs (name ∷ words) r h = first-requested VERBS name words r h
-
--- a row has no inputs without arguments
-pub no-inputs : (words : List Word) → row_inputs words [] ≡ []
-no-inputs [] = refl
-no-inputs (word ∷ words) = refl
-
--- the work of each command is right by the rules
 works : (command : CommandLineView)
     → WorksBy (inputs_of command) (NeedsBytes command) (work_of command) (IsRefusedWork command) (IsRight command)
-works (Boot flash otp cpu kind) = boot-works flash otp cpu kind
-works (Info flash otp cpu) = info-works flash otp cpu
-works (OwnedData flash otp cpu kind) = data-works flash otp cpu kind
-works (Explain flash otp cpu kind) = explain-works flash otp cpu kind
-works (Caveats flash otp cpu kind) = caveats-works flash otp cpu kind
-works (Map flash otp cpu out) = map-works flash otp out cpu
-works (Replay flash otp cpu script out_flash out_otp) = replay-works flash otp script out_flash out_otp cpu
-works (Sweep flash otp cpu script pattern) = sweep-works flash otp script pattern cpu
-works (Chart flash otp cpu script pattern out) = chart-works flash otp script pattern out cpu
-works (Cuts flash otp cpu script pattern) = cuts-works flash otp script pattern cpu
-works (Check flash otp cpu script pattern) = check-works flash otp script pattern cpu
-works (Seal binary spec out) = seal-works binary spec out
-works (Elf elf spec out) = elf-works elf spec out
-works (Firm image cpu) = firm-works image cpu
-works (Table json out) = table-works json out
-works (OtpFile json out) = otp-works OtpText otp_read (λ j has. has.1) otp-gives json out
-works (Uf2 image family out) = uf2-works image out family
-works (Plan flash otp cpu image out) = plan-works flash otp image out cpu
-works (Load flash otp cpu image out) = load-works flash otp image out cpu
-works (Copy uf2 out) = copy-works uf2 out
-works (ListScript script) = list-works script
-works (WriteScript text out) = write-works text out
-works (Gen n) = gen-works n
-works Usage =
-    none-works (λ read. ⊤) (Answers false usage_text []) (Tells usage_text) refl (λ o right. right) (λ h. cc)
-works (Help command) =
-    none-works (λ read. ⊤) (Answers false (help_text command) []) (Tells (help_text command)) refl (λ o right. right) (λ h. cc)
-works Release =
-    none-works (λ read. ⊤) (Answers false release_line []) (Tells release_line) refl (λ o right. right) (λ h. cc)
+works command = row-works command.verb command.values
 
 -- the outcome of each command on the bytes of its inputs is right by the rules
 pub obeys : (command : CommandLineView) (read : List (List ℕ)) → length read ≡ length (inputs_of command)
@@ -223,7 +127,7 @@ refused-exactly command =
 
 -- inputs of bytes serve every command
 pub bytes-serve : (command : CommandLineView) (read : List (List ℕ)) → AreOfBytes read → NeedsBytes command read
-bytes-serve command read small = go (needs_bytes command)
+bytes-serve command read small = go (needs_bytes command.verb)
   where
     go : (needs : Bool) → Asks needs read
     go true = small
@@ -257,7 +161,8 @@ by-test true v w left right = left
 by-test false v w left right = right
 
 -- a work on so many inputs
-on-one : (work : List ℕ → Work) → ((a : List ℕ) → IsPlain (work a)) → (read : List (List ℕ)) → IsPlain (of_one work read)
+on-one : (work : List ℕ → Work) → ((a : List ℕ) → IsPlain (work a)) → (read : List (List ℕ))
+    → IsPlain (of_one work read)
 on-one work all [] = tt
 on-one work all (a ∷ []) = all a
 on-one work all (a ∷ b ∷ read) = tt
@@ -298,55 +203,60 @@ target-plain order name out image (Some target) =
     by-test (length image == 0) _ _ tt (by-test (nat_lt target.window.len (length image)) _ _ tt tt)
 
 -- a command that judges nothing has such a work
-pub plain : (command : CommandLineView) → judges command ≡ false → (read : List (List ℕ)) → IsPlain (work_of command read)
-plain (Boot flash otp cpu kind) h read = on-two (λ f g. boot_work (content_of_files f g) cpu kind) (λ f g. tt) read
-plain (Info flash otp cpu) h read = on-two (λ f g. info_work (content_of_files f g) cpu) (λ f g. tt) read
-plain (OwnedData flash otp cpu kind) h read = on-two (λ f g. data_work (content_of_files f g) cpu kind) (λ f g. tt) read
-plain (Explain flash otp cpu kind) h read =
-    on-two (λ f g. explain_work (content_of_files f g) cpu kind) (λ f g. tt) read
-plain (Caveats flash otp cpu kind) h read =
-    on-two (λ f g. caveats_work (content_of_files f g) cpu kind) (λ f g. tt) read
-plain (Map flash otp cpu out) h read = on-two (λ f g. map_work (content_of_files f g) cpu out) (λ f g. tt) read
-plain (Replay flash otp cpu script out_flash out_otp) h read =
-    on-three (λ f g s. replay_work (content_of_files f g) cpu s out_flash out_otp) (λ f g s. tt) read
-plain (Sweep flash otp cpu script pattern) h read =
-    on-four (λ f g s p. sweep_work (content_of_files f g) cpu script s p)
-    (λ f g s p. by-option (swept_work script _) tt (λ e. tt) _) read
-plain (Chart flash otp cpu script pattern out) h read =
-    on-four (λ f g s p. chart_work (content_of_files f g) cpu script out s p)
-    (λ f g s p. by-option (drawn_work script out _ _) tt (λ e. tt) _) read
-plain (Cuts flash otp cpu script pattern) h read = cc
-plain (Check flash otp cpu script pattern) h read = cc
-plain (Seal binary spec out) h read =
-    on-two (λ b s. seal_work binary spec out b (spec_read s))
-    (λ b s. by-result (seal_work binary spec out b)
-    (λ asked. by-option (seal_judged binary spec out b asked) tt (λ e. tt) _) (λ e. tt) (spec_read s)) read
-plain (Elf elf spec out) h read =
-    on-two (λ e s. elf_work elf spec out e (spec_read s))
-    (λ e s. by-result (elf_work elf spec out e)
-    (λ asked. by-option (packed_work elf spec out e asked) tt (λ f. tt) _) (λ f. tt) (spec_read s)) read
-plain (Firm image cpu) h read = on-one (λ i. firm_work image i cpu) (λ i. firm-plain image i cpu) read
-plain (Table json out) h read =
-    on-one (λ j. table_work out (table_read j))
-    (λ j. by-result (table_work out) (λ t. tt) (λ e. tt) (table_read j)) read
-plain (OtpFile json out) h read =
-    on-one (λ j. otp_work out (otp_read j))
-    (λ j. by-result (otp_work out) (λ spec. tt) (λ e. tt) (otp_read j)) read
-plain (Uf2 image family out) h read = on-one (uf2_work image family out) (λ i. by-test (length i == 0) _ _ tt tt) read
-plain (Plan flash otp cpu image out) h read =
-    on-three (λ f g i. plan_work (content_of_files f g) cpu image out i)
-    (λ f g i. target-plain FirstLast image out i _) read
-plain (Load flash otp cpu image out) h read =
-    on-three (λ f g i. load_work (content_of_files f g) cpu image out i)
-    (λ f g i. target-plain Ascending image out i _) read
-plain (Copy uf2 out) h read = on-one (copy_work out) (λ u. tt) read
-plain (ListScript script) h read = on-one list_work (λ s. tt) read
-plain (WriteScript text out) h read =
-    on-one (write_work text out) (λ t. by-result (read_work text out) (λ es. tt) (λ e. tt) _) read
-plain (Gen n) h read = tt
-plain Usage h read = tt
-plain (Help command) h read = tt
-plain Release h read = tt
+row-plain : (verb : Verb) (v : ValuesView) → judges verb ≡ false → (read : List (List ℕ))
+    → IsPlain (row_work verb v read)
+row-plain verbs.Boot v h read = on-two (λ f g. boot_work (content_of_files f g) v.cpu v.kind) (λ f g. tt) read
+row-plain verbs.Info v h read = on-two (λ f g. info_work (content_of_files f g) v.cpu) (λ f g. tt) read
+row-plain verbs.OwnedData v h read = on-two (λ f g. data_work (content_of_files f g) v.cpu v.kind) (λ f g. tt) read
+row-plain verbs.Explain v h read = on-two (λ f g. explain_work (content_of_files f g) v.cpu v.kind) (λ f g. tt) read
+row-plain verbs.Caveats v h read = on-two (λ f g. caveats_work (content_of_files f g) v.cpu v.kind) (λ f g. tt) read
+row-plain verbs.Map v h read = on-two (λ f g. map_work (content_of_files f g) v.cpu v.out) (λ f g. tt) read
+row-plain verbs.Replay v h read =
+    on-three (λ f g s. replay_work (content_of_files f g) v.cpu s v.out_flash v.out_otp) (λ f g s. tt) read
+row-plain verbs.Sweep v h read =
+    on-four (λ f g s p. sweep_work (content_of_files f g) v.cpu v.script s p)
+    (λ f g s p. by-option (swept_work v.script _) tt (λ e. tt) _) read
+row-plain verbs.Chart v h read =
+    on-four (λ f g s p. chart_work (content_of_files f g) v.cpu v.script v.out s p)
+    (λ f g s p. by-option (drawn_work v.script v.out _ _) tt (λ e. tt) _) read
+row-plain verbs.Cuts v h read = cc
+row-plain verbs.Check v h read = cc
+row-plain verbs.Seal v h read =
+    on-two (λ b s. seal_work v.binary v.spec v.out b (spec_read s))
+    (λ b s. by-result (seal_work v.binary v.spec v.out b)
+    (λ asked. by-option (seal_judged v.binary v.spec v.out b asked) tt (λ e. tt) _) (λ e. tt) (spec_read s)) read
+row-plain verbs.Elf v h read =
+    on-two (λ e s. elf_work v.elf v.spec v.out e (spec_read s))
+    (λ e s. by-result (elf_work v.elf v.spec v.out e)
+    (λ asked. by-option (packed_work v.elf v.spec v.out e asked) tt (λ f. tt) _) (λ f. tt) (spec_read s)) read
+row-plain verbs.Firm v h read = on-one (λ i. firm_work v.image i v.cpu) (λ i. firm-plain v.image i v.cpu) read
+row-plain verbs.Table v h read =
+    on-one (λ j. table_work v.out (table_read j))
+    (λ j. by-result (table_work v.out) (λ t. tt) (λ e. tt) (table_read j)) read
+row-plain verbs.OtpFile v h read =
+    on-one (λ j. otp_work v.out (otp_read j))
+    (λ j. by-result (otp_work v.out) (λ spec. tt) (λ e. tt) (otp_read j)) read
+row-plain verbs.Uf2 v h read = on-one (uf2_work v.image v.family v.out) (λ i. by-test (length i == 0) _ _ tt tt) read
+row-plain verbs.Plan v h read =
+    on-three (λ f g i. plan_work (content_of_files f g) v.cpu v.image v.out i)
+    (λ f g i. target-plain FirstLast v.image v.out i _) read
+row-plain verbs.Load v h read =
+    on-three (λ f g i. load_work (content_of_files f g) v.cpu v.image v.out i)
+    (λ f g i. target-plain Ascending v.image v.out i _) read
+row-plain verbs.Copy v h read = on-one (copy_work v.out) (λ u. tt) read
+row-plain verbs.ListScript v h read = on-one list_work (λ s. tt) read
+row-plain verbs.WriteScript v h read =
+    on-one (write_work v.text v.out) (λ t. by-result (read_work v.text v.out) (λ es. tt) (λ e. tt) _) read
+row-plain verbs.Gen v h read = tt
+row-plain verbs.Usage v h read = tt
+row-plain verbs.ShortUsage v h read = tt
+row-plain verbs.WordUsage v h read = tt
+row-plain verbs.Help v h read = tt
+row-plain verbs.Release v h read = tt
+
+pub plain : (command : CommandLineView) → judges command.verb ≡ false → (read : List (List ℕ))
+    → IsPlain (work_of command read)
+plain command = row-plain command.verb command.values
 
 -- the outcome on files that have all inputs is right
 pub whole-right : (command : CommandLineView) (files : List File) (read : List (List ℕ))

@@ -27,7 +27,8 @@ use Rattle.cli_inputs.specs.Forms.{HasForm, content_of_files}
 use Rattle.text_lines.specs.Texts.{decision_line}
 use Rattle.cli_boot.specs.Works.{boot_work}
 use Rattle.cli_course.specs.Outcomes.{AnswerView, outcome_found, found, found_next, worked, is_finished}
-use Rattle.boot_run.specs.Commands.{inputs_of, work_of, inputs_in, outcome_in, outcome_on, command_outcome, Names, Obeys, IsRefusedCommand}
+use Rattle.boot_run.specs.Inputs.{inputs_of}
+use Rattle.boot_run.specs.Commands.{work_of, inputs_in, outcome_in, outcome_on, command_outcome, Names, Obeys, IsRefusedCommand}
 use Rattle.cli_inputs.specs.Inputs.{flash_and_otp, unless_refused, readings}
 use Rattle.cli_boot.specs.Rules.{decided_status}
 use Rattle.cli_course.specs.Courses.{Runs}

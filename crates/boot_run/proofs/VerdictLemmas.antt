@@ -6,12 +6,13 @@ use Rattle.cli_inputs.specs.Inputs.{first_input_fault, unless_refused}
 use Rattle.cli_course.specs.declared.status.Status.{Status}
 use Rattle.cli_inputs.specs.Rules.{AreFormed, IsRefusedFor}
 use Rattle.cli_inputs.proofs.InputLemmas.{Judged, one_faulty, judged-first}
-use Rattle.boot_run.specs.Commands.{inputs_of, work_of, command_outcome, IsRefusedWork, IsRight, IsRightWith, NeedsBytes, judges, is_verdict}
+use Rattle.boot_run.specs.Inputs.{inputs_of}
+use Rattle.boot_run.specs.Commands.{work_of, command_outcome, IsRefusedWork, IsRight, IsRightWith, NeedsBytes, judges, is_verdict}
 use Rattle.boot_run.proofs.RuleLemmas.{obeys, only, plain, plain-status}
 
 -- a command that judges nothing ends with no verdict
 pub no-verdict : (command : CommandLineView) (read : List (List ℕ)) → length read ≡ length (inputs_of command)
-    → judges command ≡ false → is_verdict (command_outcome command read).status ≡ false
+    → judges command.verb ≡ false → is_verdict (command_outcome command read).status ≡ false
 no-verdict command read long h =
     go (first_input_fault (inputs_of command) read) (judged-first (inputs_of command) read long)
   where

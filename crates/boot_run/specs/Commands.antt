@@ -1,16 +1,21 @@
--- The commands: the inputs of each; its work on their bytes, which gives the outcome of a run; and
+-- The commands: the work of each on the bytes of its inputs, which gives the outcome of a run; and
 -- what is right for it by the rules. This project's own, over the rules of a boot.
-use Rattle.std.specs.Prelude.{ℕ, Bool, true, false, List, [], Option, Some, None, ◌≡◌, ⊤}
+use Rattle.std.specs.Prelude.{ℕ, Bool, true, false, List, [], Option, Some, None, Result, Ok, Err, ◌≡◌, ⊤}
 use Rattle.pico_board.specs.Files.{File}
 use Rattle.cli_course.specs.Outcomes.{LimitedInputView, AnswerView, Work, Answers, not_understood, found, outcome_found, AreOfBytes}
-use Rattle.cli_words.specs.Rows.{CommandLineView, Boot, Info, OwnedData, Explain, Map, Replay, Sweep, Chart, Seal, Elf, Firm, Table, Usage, Help, Release, Uf2, Plan, Copy, ListScript, WriteScript, Gen, Load, Caveats, OtpFile, Cuts, Check}
+use Rattle.cli_words.specs.Rows.{CommandLineView, command_line}
+use Rattle.cli_words.specs.Values.{ValuesView, values_from}
+use Rattle.cli_words.specs.declared.rows.Verb.{Verb}
+use Rattle.cli_words.specs.declared.rows.Verb.TheVariants as verbs
+use Rattle.cli_words.specs.declared.values.Values.{Values}
 use Rattle.cli_words.specs.Usages.{usage_text, help_text, release_line}
 use Rattle.cli_inputs.specs.Forms.{content_of_files, HasForm}
 use Rattle.cli_inputs.specs.Jsons.{spec_read, table_read, otp_read}
 use Rattle.cli_course.specs.declared.answers.Answer.{Answer}
 use Rattle.cli_course.specs.Views.{answer_from}
 use Rattle.cli_inputs.specs.declared.fail.InputFail.{InputFail}
-use Rattle.cli_inputs.specs.Inputs.{Tells as TellsRefusal, FormInputView, readings, flash_and_otp, flash_otp_script, flash_otp_script_pattern, flash_otp_image, binary_and_spec, elf_and_spec, one_json, otp_told, image_alone, uf2_alone, script_alone, text_alone, of_one, of_two, of_three, of_four, outcome_by}
+use Rattle.cli_inputs.specs.Inputs.{Tells as TellsRefusal, readings, of_one, of_two, of_three, of_four, outcome_by}
+use Rattle.boot_run.specs.Inputs.{inputs_of}
 use Rattle.cli_boot.specs.Works.{boot_work, info_work, data_work}
 use Rattle.cli_explain.specs.Works.{explain_work}
 use Rattle.cli_check.specs.CheckRules.{IsCheckOf, IsCheckRefused}
@@ -54,89 +59,54 @@ use Rattle.cli_tools.specs.Seals.{IsUnsealed}
 use Rattle.cli_tools.specs.SealRules.{IsSealedOf, IsTableOf}
 use Rattle.cli_tools.specs.ToolRules.{IsUf2Refused, IsUf2Of, IsPlanRefused, IsPlanOf, IsLoadRefused, IsLoadOf, IsGenOf}
 
--- the inputs of a command, in the order of the arguments
-abbrev pub inputs_of : CommandLineView → List FormInputView
-inputs_of (Boot flash otp cpu kind) = flash_and_otp flash otp
-inputs_of (Info flash otp cpu) = flash_and_otp flash otp
-inputs_of (OwnedData flash otp cpu kind) = flash_and_otp flash otp
-inputs_of (Explain flash otp cpu kind) = flash_and_otp flash otp
-inputs_of (Caveats flash otp cpu kind) = flash_and_otp flash otp
-inputs_of (Map flash otp cpu out) = flash_and_otp flash otp
-inputs_of (Replay flash otp cpu script out_flash out_otp) = flash_otp_script flash otp script
-inputs_of (Sweep flash otp cpu script pattern) =
-    flash_otp_script_pattern flash otp script pattern
-inputs_of (Chart flash otp cpu script pattern out) =
-    flash_otp_script_pattern flash otp script pattern
-inputs_of (Cuts flash otp cpu script pattern) =
-    flash_otp_script_pattern flash otp script pattern
-inputs_of (Check flash otp cpu script pattern) =
-    flash_otp_script_pattern flash otp script pattern
-inputs_of (Seal binary spec out) = binary_and_spec binary spec
-inputs_of (Elf elf spec out) = elf_and_spec elf spec
-inputs_of (Firm image cpu) = image_alone image
-inputs_of (Table json out) = one_json json
-inputs_of (OtpFile json out) = otp_told json
-inputs_of (Uf2 image family out) = image_alone image
-inputs_of (Plan flash otp cpu image out) = flash_otp_image flash otp image
-inputs_of (Load flash otp cpu image out) = flash_otp_image flash otp image
-inputs_of (Copy uf2 out) = uf2_alone uf2
-inputs_of (ListScript script) = script_alone script
-inputs_of (WriteScript text out) = text_alone text
-inputs_of (Gen n) = []
-inputs_of Usage = []
-inputs_of (Help command) = []
-inputs_of Release = []
+-- the work of a row's command, by the values of its arguments, on the bytes of its inputs
+abbrev pub row_work : Verb → ValuesView → List (List ℕ) → Work
+row_work verbs.Boot v = of_two (λ f g. boot_work (content_of_files f g) v.cpu v.kind)
+row_work verbs.Info v = of_two (λ f g. info_work (content_of_files f g) v.cpu)
+row_work verbs.OwnedData v = of_two (λ f g. data_work (content_of_files f g) v.cpu v.kind)
+row_work verbs.Explain v = of_two (λ f g. explain_work (content_of_files f g) v.cpu v.kind)
+row_work verbs.Caveats v = of_two (λ f g. caveats_work (content_of_files f g) v.cpu v.kind)
+row_work verbs.Map v = of_two (λ f g. map_work (content_of_files f g) v.cpu v.out)
+row_work verbs.Replay v =
+    of_three (λ f g s. replay_work (content_of_files f g) v.cpu s v.out_flash v.out_otp)
+row_work verbs.Sweep v = of_four (λ f g s p. sweep_work (content_of_files f g) v.cpu v.script s p)
+row_work verbs.Chart v =
+    of_four (λ f g s p. chart_work (content_of_files f g) v.cpu v.script v.out s p)
+row_work verbs.Cuts v = of_four (λ f g s p. cuts_work (content_of_files f g) v.cpu v.script s p)
+row_work verbs.Check v = of_four (λ f g s p. check_work (content_of_files f g) v.cpu v.script s p)
+row_work verbs.Seal v = of_two (λ b s. seal_work v.binary v.spec v.out b (spec_read s))
+row_work verbs.Elf v = of_two (λ e s. elf_work v.elf v.spec v.out e (spec_read s))
+row_work verbs.Firm v = of_one (λ i. firm_work v.image i v.cpu)
+row_work verbs.Table v = of_one (λ j. table_work v.out (table_read j))
+row_work verbs.OtpFile v = of_one (λ j. otp_work v.out (otp_read j))
+row_work verbs.Uf2 v = of_one (uf2_work v.image v.family v.out)
+row_work verbs.Plan v = of_three (λ f g i. plan_work (content_of_files f g) v.cpu v.image v.out i)
+row_work verbs.Load v = of_three (λ f g i. load_work (content_of_files f g) v.cpu v.image v.out i)
+row_work verbs.Copy v = of_one (copy_work v.out)
+row_work verbs.ListScript v = of_one list_work
+row_work verbs.WriteScript v = of_one (write_work v.text v.out)
+row_work verbs.Gen v = λ read. gen_work v.number
+row_work verbs.Usage v = λ read. Answers false usage_text []
+row_work verbs.ShortUsage v = λ read. Answers false usage_text []
+row_work verbs.WordUsage v = λ read. Answers false usage_text []
+row_work verbs.Help v = λ read. Answers false (help_text v.command) []
+row_work verbs.Release v = λ read. Answers false release_line []
 
--- the work of a command on the bytes of its inputs
+-- the work of a command
 abbrev pub work_of : CommandLineView → List (List ℕ) → Work
-work_of (Boot flash otp cpu kind) = of_two (λ f g. boot_work (content_of_files f g) cpu kind)
-work_of (Info flash otp cpu) = of_two (λ f g. info_work (content_of_files f g) cpu)
-work_of (OwnedData flash otp cpu kind) = of_two (λ f g. data_work (content_of_files f g) cpu kind)
-work_of (Explain flash otp cpu kind) =
-    of_two (λ f g. explain_work (content_of_files f g) cpu kind)
-work_of (Caveats flash otp cpu kind) =
-    of_two (λ f g. caveats_work (content_of_files f g) cpu kind)
-work_of (Map flash otp cpu out) = of_two (λ f g. map_work (content_of_files f g) cpu out)
-work_of (Replay flash otp cpu script out_flash out_otp) =
-    of_three (λ f g s. replay_work (content_of_files f g) cpu s out_flash out_otp)
-work_of (Sweep flash otp cpu script pattern) =
-    of_four (λ f g s p. sweep_work (content_of_files f g) cpu script s p)
-work_of (Chart flash otp cpu script pattern out) =
-    of_four (λ f g s p. chart_work (content_of_files f g) cpu script out s p)
-work_of (Cuts flash otp cpu script pattern) =
-    of_four (λ f g s p. cuts_work (content_of_files f g) cpu script s p)
-work_of (Check flash otp cpu script pattern) =
-    of_four (λ f g s p. check_work (content_of_files f g) cpu script s p)
-work_of (Seal binary spec out) = of_two (λ b s. seal_work binary spec out b (spec_read s))
-work_of (Elf elf spec out) = of_two (λ e s. elf_work elf spec out e (spec_read s))
-work_of (Firm image cpu) = of_one (λ i. firm_work image i cpu)
-work_of (Table json out) = of_one (λ j. table_work out (table_read j))
-work_of (OtpFile json out) =
-    of_one (λ j. otp_work out (otp_read j))
-work_of (Uf2 image family out) = of_one (uf2_work image family out)
-work_of (Plan flash otp cpu image out) =
-    of_three (λ f g i. plan_work (content_of_files f g) cpu image out i)
-work_of (Load flash otp cpu image out) =
-    of_three (λ f g i. load_work (content_of_files f g) cpu image out i)
-work_of (Copy uf2 out) = of_one (copy_work out)
-work_of (ListScript script) = of_one list_work
-work_of (WriteScript text out) = of_one (write_work text out)
-work_of (Gen n) = λ read. gen_work n
-work_of Usage = λ read. Answers false usage_text []
-work_of (Help command) = λ read. Answers false (help_text command) []
-work_of Release = λ read. Answers false release_line []
+work_of command = row_work command.verb command.values
 
 -- the outcome of a command on the bytes of its inputs
 abbrev pub command_outcome : CommandLineView → List (List ℕ) → AnswerView
 command_outcome command read = outcome_by (inputs_of command) (work_of command) read
 
--- the answer has the outcome of the command
-abbrev pub IsAnswer : CommandLineView → List (List ℕ) → Answer → Type 0
-IsAnswer command read answer = answer_from answer ≡ command_outcome command read
-
--- a file gives no value: its refusal is the outcome of the command, or there was no memory
-abbrev pub IsRefusal : CommandLineView → List (List ℕ) → InputFail → Type 0
-IsRefusal command read fail = TellsRefusal fail (Some (command_outcome command read))
+-- the result of the work on a row's command: the answer has the command's outcome; or a file gives
+-- no value, and its refusal is the outcome; or there was no memory
+abbrev pub IsDone : Verb → Values → List (List ℕ) → Result Answer InputFail → Type 0
+IsDone verb values read (Ok answer) =
+    answer_from answer ≡ command_outcome (command_line verb (values_from values)) read
+IsDone verb values read (Err fail) =
+    TellsRefusal fail (Some (command_outcome (command_line verb (values_from values)) read))
 
 -- what is read for the arguments: nothing where they are no command
 abbrev pub inputs_in : Option CommandLineView → List LimitedInputView
@@ -152,31 +122,34 @@ outcome_in (Some command) read = command_outcome command read
 abbrev pub outcome_on : Option CommandLineView → List File → AnswerView
 outcome_on command files = outcome_found (outcome_in command) (found files (inputs_in command))
 
+-- the work of a row's command refuses the input of this name with this fault
+abbrev pub IsRowRefused : Verb → ValuesView → List (List ℕ) → List ℕ → List ℕ → Type 0
+IsRowRefused verbs.Sweep v read name fault =
+    OfFour (λ f g s p. IsSweepRefused v.script (content_of_files f g) v.cpu s name fault) read
+IsRowRefused verbs.Chart v read name fault =
+    OfFour (λ f g s p. IsSweepRefused v.script (content_of_files f g) v.cpu s name fault) read
+IsRowRefused verbs.Cuts v read name fault =
+    OfFour (λ f g s p. IsCutsRefused v.script (content_of_files f g) v.cpu s name fault) read
+IsRowRefused verbs.Check v read name fault =
+    OfFour (λ f g s p. IsCheckRefused v.script (content_of_files f g) v.cpu s name fault) read
+IsRowRefused verbs.Seal v read name fault =
+    OfTwo (λ b s. IsUnsealed v.binary v.spec b s name fault) read
+IsRowRefused verbs.Elf v read name fault =
+    OfTwo (λ e s. IsElfRefused v.elf v.spec e s name fault) read
+IsRowRefused verbs.Firm v read name fault =
+    OfOne (λ i. IsFirmRefused v.image i v.cpu name fault) read
+IsRowRefused verbs.Uf2 v read name fault = OfOne (λ i. IsUf2Refused v.image i name fault) read
+IsRowRefused verbs.WriteScript v read name fault =
+    OfOne (λ t. IsTextRefused v.text t name fault) read
+IsRowRefused verbs.Plan v read name fault =
+    OfThree (λ f g i. IsPlanRefused (content_of_files f g) v.cpu v.image i name fault) read
+IsRowRefused verbs.Load v read name fault =
+    OfThree (λ f g i. IsLoadRefused (content_of_files f g) v.cpu v.image i name fault) read
+IsRowRefused _ v read name fault = ⊥
+
 -- the work of a command refuses the input of this name with this fault
 abbrev pub IsRefusedWork : CommandLineView → List (List ℕ) → List ℕ → List ℕ → Type 0
-IsRefusedWork (Sweep flash otp cpu script pattern) read name fault =
-    OfFour (λ f g s p. IsSweepRefused script (content_of_files f g) cpu s name fault) read
-IsRefusedWork (Chart flash otp cpu script pattern out) read name fault =
-    OfFour (λ f g s p. IsSweepRefused script (content_of_files f g) cpu s name fault) read
-IsRefusedWork (Cuts flash otp cpu script pattern) read name fault =
-    OfFour (λ f g s p. IsCutsRefused script (content_of_files f g) cpu s name fault) read
-IsRefusedWork (Check flash otp cpu script pattern) read name fault =
-    OfFour (λ f g s p. IsCheckRefused script (content_of_files f g) cpu s name fault) read
-IsRefusedWork (Seal binary spec out) read name fault =
-    OfTwo (λ b s. IsUnsealed binary spec b s name fault) read
-IsRefusedWork (Elf elf spec out) read name fault =
-    OfTwo (λ e s. IsElfRefused elf spec e s name fault) read
-IsRefusedWork (Firm image cpu) read name fault =
-    OfOne (λ i. IsFirmRefused image i cpu name fault) read
-IsRefusedWork (Uf2 image family out) read name fault =
-    OfOne (λ i. IsUf2Refused image i name fault) read
-IsRefusedWork (WriteScript text out) read name fault =
-    OfOne (λ t. IsTextRefused text t name fault) read
-IsRefusedWork (Plan flash otp cpu image out) read name fault =
-    OfThree (λ f g i. IsPlanRefused (content_of_files f g) cpu image i name fault) read
-IsRefusedWork (Load flash otp cpu image out) read name fault =
-    OfThree (λ f g i. IsLoadRefused (content_of_files f g) cpu image i name fault) read
-IsRefusedWork _ read name fault = ⊥
+IsRefusedWork command = IsRowRefused command.verb command.values
 
 -- an input of the command is refused
 abbrev pub IsRefusedCommand : CommandLineView → List (List ℕ) → Type 0
@@ -187,47 +160,51 @@ IsRefusedCommand command read = (name : List ℕ) × (fault : List ℕ)
 abbrev pub Tells : List ℕ → AnswerView → Type 0
 Tells text o = o ≡ record { status = Done; text = text; files = [] }
 
+-- the outcome is right for a row's command on inputs that have their forms
+abbrev pub IsRowRight : Verb → ValuesView → List (List ℕ) → AnswerView → Type 0
+IsRowRight verbs.Boot v read o = OfTwo
+    (λ f g. IsBootOutcome (content_of_files f g) v.cpu v.kind o) read
+IsRowRight verbs.Info v read o = OfTwo (λ f g. IsInfoOutcome (content_of_files f g) v.cpu o) read
+IsRowRight verbs.OwnedData v read o =
+    OfTwo (λ f g. IsDataOutcome (content_of_files f g) v.cpu v.kind o) read
+IsRowRight verbs.Explain v read o =
+    OfTwo (λ f g. IsExplainOf (content_of_files f g) v.cpu v.kind o) read
+IsRowRight verbs.Caveats v read o =
+    OfTwo (λ f g. IsCaveatsOf (content_of_files f g) v.cpu v.kind o) read
+IsRowRight verbs.Map v read o = OfTwo (λ f g. IsMapOf (content_of_files f g) v.cpu v.out o) read
+IsRowRight verbs.Replay v read o =
+    OfThree (λ f g s. IsReplayOf (content_of_files f g) v.cpu s v.out_flash v.out_otp o) read
+IsRowRight verbs.Sweep v read o =
+    OfFour (λ f g s p. IsSweepOf (content_of_files f g) v.cpu s p o) read
+IsRowRight verbs.Chart v read o =
+    OfFour (λ f g s p. IsChartOf (content_of_files f g) v.cpu v.out s p o) read
+IsRowRight verbs.Cuts v read o =
+    OfFour (λ f g s p. IsCutsOf (content_of_files f g) v.cpu s p o) read
+IsRowRight verbs.Check v read o =
+    OfFour (λ f g s p. IsCheckOf (content_of_files f g) v.cpu s p o) read
+IsRowRight verbs.Seal v read o = OfTwo (λ b s. IsSealedOf v.out b s o) read
+IsRowRight verbs.Elf v read o = OfTwo (λ e s. IsElfOf v.out e s o) read
+IsRowRight verbs.Firm v read o = OfOne (λ i. IsFirmOf i v.cpu o) read
+IsRowRight verbs.Table v read o = OfOne (λ j. IsTableOf v.out j o) read
+IsRowRight verbs.OtpFile v read o = OfOne (λ j. IsOtpOf v.out j o) read
+IsRowRight verbs.Uf2 v read o = OfOne (λ i. IsUf2Of i v.family v.out o) read
+IsRowRight verbs.Plan v read o =
+    OfThree (λ f g i. IsPlanOf (content_of_files f g) v.cpu i v.out o) read
+IsRowRight verbs.Load v read o =
+    OfThree (λ f g i. IsLoadOf (content_of_files f g) v.cpu i v.out o) read
+IsRowRight verbs.Copy v read o = OfOne (λ u. IsCopyOf u v.out o) read
+IsRowRight verbs.ListScript v read o = OfOne (λ s. IsListOf s o) read
+IsRowRight verbs.WriteScript v read o = OfOne (λ t. IsWrittenOf t v.out o) read
+IsRowRight verbs.Gen v read o = IsGenOf v.number o
+IsRowRight verbs.Usage v read o = Tells usage_text o
+IsRowRight verbs.ShortUsage v read o = Tells usage_text o
+IsRowRight verbs.WordUsage v read o = Tells usage_text o
+IsRowRight verbs.Help v read o = Tells (help_text v.command) o
+IsRowRight verbs.Release v read o = Tells release_line o
+
 -- the outcome is right for a command on inputs that have their forms
 abbrev pub IsRight : CommandLineView → List (List ℕ) → AnswerView → Type 0
-IsRight (Boot flash otp cpu kind) read o = OfTwo
-    (λ f g. IsBootOutcome (content_of_files f g) cpu kind o) read
-IsRight (Info flash otp cpu) read o = OfTwo (λ f g. IsInfoOutcome (content_of_files f g) cpu o) read
-IsRight (OwnedData flash otp cpu kind) read o =
-    OfTwo (λ f g. IsDataOutcome (content_of_files f g) cpu kind o) read
-IsRight (Explain flash otp cpu kind) read o =
-    OfTwo (λ f g. IsExplainOf (content_of_files f g) cpu kind o) read
-IsRight (Caveats flash otp cpu kind) read o =
-    OfTwo (λ f g. IsCaveatsOf (content_of_files f g) cpu kind o) read
-IsRight (Map flash otp cpu out) read o =
-    OfTwo (λ f g. IsMapOf (content_of_files f g) cpu out o) read
-IsRight (Replay flash otp cpu script out_flash out_otp) read o =
-    OfThree (λ f g s. IsReplayOf (content_of_files f g) cpu s out_flash out_otp o) read
-IsRight (Sweep flash otp cpu script pattern) read o =
-    OfFour (λ f g s p. IsSweepOf (content_of_files f g) cpu s p o) read
-IsRight (Chart flash otp cpu script pattern out) read o =
-    OfFour (λ f g s p. IsChartOf (content_of_files f g) cpu out s p o) read
-IsRight (Cuts flash otp cpu script pattern) read o =
-    OfFour (λ f g s p. IsCutsOf (content_of_files f g) cpu s p o) read
-IsRight (Check flash otp cpu script pattern) read o =
-    OfFour (λ f g s p. IsCheckOf (content_of_files f g) cpu s p o) read
-IsRight (Seal binary spec out) read o = OfTwo (λ b s. IsSealedOf out b s o) read
-IsRight (Elf elf spec out) read o = OfTwo (λ e s. IsElfOf out e s o) read
-IsRight (Firm image cpu) read o = OfOne (λ i. IsFirmOf i cpu o) read
-IsRight (Table json out) read o = OfOne (λ j. IsTableOf out j o) read
-IsRight (OtpFile json out) read o =
-    OfOne (λ j. IsOtpOf out j o) read
-IsRight (Uf2 image family out) read o = OfOne (λ i. IsUf2Of i family out o) read
-IsRight (Plan flash otp cpu image out) read o =
-    OfThree (λ f g i. IsPlanOf (content_of_files f g) cpu i out o) read
-IsRight (Load flash otp cpu image out) read o =
-    OfThree (λ f g i. IsLoadOf (content_of_files f g) cpu i out o) read
-IsRight (Copy uf2 out) read o = OfOne (λ u. IsCopyOf u out o) read
-IsRight (ListScript script) read o = OfOne (λ s. IsListOf s o) read
-IsRight (WriteScript text out) read o = OfOne (λ t. IsWrittenOf t out o) read
-IsRight (Gen n) read o = IsGenOf n o
-IsRight Usage read o = Tells usage_text o
-IsRight (Help command) read o = Tells (help_text command) o
-IsRight Release read o = Tells release_line o
+IsRight command = IsRowRight command.verb command.values
 
 -- The outcome is right for a command on the bytes of its inputs. It names the first input that
 -- breaks its form; or, where each has its form, the input that the work refuses. Otherwise it is
@@ -240,13 +217,13 @@ Obeys command read o =
 -- update, since a content is of bytes; a replay, a sweep and its picture, since power that is lost
 -- in an erase leaves bytes; and the packing of an ELF file, since its entry is a word; the other
 -- commands ask nothing
-abbrev pub needs_bytes : CommandLineView → Bool
-needs_bytes (Map flash otp cpu out) = true
-needs_bytes (Replay flash otp cpu script out_flash out_otp) = true
-needs_bytes (Sweep flash otp cpu script pattern) = true
-needs_bytes (Chart flash otp cpu script pattern out) = true
-needs_bytes (Check flash otp cpu script pattern) = true
-needs_bytes (Elf elf spec out) = true
+abbrev pub needs_bytes : Verb → Bool
+needs_bytes verbs.Map = true
+needs_bytes verbs.Replay = true
+needs_bytes verbs.Sweep = true
+needs_bytes verbs.Chart = true
+needs_bytes verbs.Check = true
+needs_bytes verbs.Elf = true
 needs_bytes _ = false
 
 -- what is asked of the bytes of inputs
@@ -255,12 +232,12 @@ Asks true read = AreOfBytes read
 Asks false read = ⊤
 
 abbrev pub NeedsBytes : CommandLineView → List (List ℕ) → Type 0
-NeedsBytes command read = Asks (needs_bytes command) read
+NeedsBytes command read = Asks (needs_bytes command.verb) read
 
--- the command judges a script, so it may end with a verdict
-abbrev pub judges : CommandLineView → Bool
-judges (Cuts flash otp cpu script pattern) = true
-judges (Check flash otp cpu script pattern) = true
+-- these commands judge a script, so they may end with a verdict
+abbrev pub judges : Verb → Bool
+judges verbs.Cuts = true
+judges verbs.Check = true
 judges _ = false
 
 -- a status of a verdict that is no pass

@@ -1,9 +1,26 @@
--- Worked sinks and decisions.
-use Rattle.std.specs.Prelude.{ℕ, true, List, Some}
+-- Worked values of arguments, sinks and decisions.
+use Rattle.std.specs.Prelude.{ℕ, true, List, Some, codes}
 use Rattle.pico_board.specs.Puts.{SinkState}
+use Rattle.cli_words.specs.Values.{ValuesView, no_values}
 use Rattle.boot_rules.specs.declared.decision.Decision.{Decision}
 use Rattle.boot_rules.specs.declared.decision.Decision.TheVariants.{Bootsel}
 use Rattle.boot_rules.specs.declared.decision.Fall.TheVariants.{NoImage}
+
+-- the values of arguments that name files, each by a letter, for Arm
+abbrev pub named : ValuesView
+named = record no_values {
+  flash = codes "f";
+  otp = codes "o";
+  script = codes "s";
+  binary = codes "b";
+  elf = codes "e";
+  spec = codes "s";
+  json = codes "t";
+  image = codes "i";
+  out = codes "a";
+  out_flash = codes "a";
+  out_otp = codes "b";
+}
 
 -- a steady sink that has these bytes
 abbrev pub sink_of : List ℕ → SinkState

@@ -1,39 +1,38 @@
--- The inputs of a row of the table of commands, in the order of its arguments.
-use Rattle.std.specs.Prelude.{ℕ, List, [], ◌∷◌, Option, Some, None}
-use Rattle.cli_inputs.specs.declared.forms.Form.{Form}
+-- The inputs of a command: the arguments of its row that name an input file, in their order.
+use Rattle.std.specs.Prelude.{List, [], ◌∷◌, Option, Some, None}
 use Rattle.cli_inputs.specs.declared.forms.Form.TheVariants as forms
 use Rattle.cli_inputs.specs.Inputs.{FormInputView}
-use Rattle.cli_words.specs.Rows.{RequestView, row_of}
+use Rattle.cli_words.specs.Rows.{CommandLineView, row_of}
+use Rattle.cli_words.specs.Values.{ValuesView}
 use Rattle.cli_words.specs.declared.arguments.Word.{Word}
 use Rattle.cli_words.specs.declared.arguments.Word.TheVariants as kinds
 
--- the form of the file that an argument names, where it names an input
-abbrev pub word_form : Word → Option Form
-word_form kinds.Flash = Some forms.Flash
-word_form kinds.Otp = Some forms.Otp
-word_form kinds.Script = Some forms.Script
-word_form kinds.Pattern = Some forms.Pattern
-word_form kinds.Binary = Some forms.Binary
-word_form kinds.Elf = Some forms.Elf
-word_form kinds.Spec = Some forms.Spec
-word_form kinds.Json = Some forms.Json
-word_form kinds.OtpJson = Some forms.OtpText
-word_form kinds.Image = Some forms.Image
-word_form kinds.Uf2 = Some forms.Uf2
-word_form kinds.Text = Some forms.Text
-word_form _ = None
+-- the input that an argument names, with the form of its file
+abbrev pub word_input : Word → ValuesView → Option FormInputView
+word_input kinds.Flash v = Some (record { name = v.flash; form = forms.Flash })
+word_input kinds.Otp v = Some (record { name = v.otp; form = forms.Otp })
+word_input kinds.Script v = Some (record { name = v.script; form = forms.Script })
+word_input kinds.Pattern v = Some (record { name = v.pattern; form = forms.Pattern })
+word_input kinds.Binary v = Some (record { name = v.binary; form = forms.Binary })
+word_input kinds.Elf v = Some (record { name = v.elf; form = forms.Elf })
+word_input kinds.Spec v = Some (record { name = v.spec; form = forms.Spec })
+word_input kinds.Json v = Some (record { name = v.json; form = forms.Json })
+word_input kinds.OtpJson v = Some (record { name = v.json; form = forms.OtpText })
+word_input kinds.Image v = Some (record { name = v.image; form = forms.Image })
+word_input kinds.Uf2 v = Some (record { name = v.uf2; form = forms.Uf2 })
+word_input kinds.Text v = Some (record { name = v.text; form = forms.Text })
+word_input _ v = None
 
 -- one input more, where an argument names one
-abbrev pub with_input : Option Form → List ℕ → List FormInputView → List FormInputView
-with_input None name inputs = inputs
-with_input (Some form) name inputs = record { name = name; form = form } ∷ inputs
+abbrev pub with_input : Option FormInputView → List FormInputView → List FormInputView
+with_input None inputs = inputs
+with_input (Some input) inputs = input ∷ inputs
 
--- the inputs of a row of these words, by its arguments: those that name an input file, in order
-abbrev pub row_inputs : List Word → List (List ℕ) → List FormInputView
-row_inputs (word ∷ words) (name ∷ names) =
-    with_input (word_form word) name (row_inputs words names)
-row_inputs _ _ = []
+-- the inputs of a row of these arguments, in their order
+abbrev pub row_inputs : List Word → ValuesView → List FormInputView
+row_inputs [] v = []
+row_inputs (word ∷ words) v = with_input (word_input word v) (row_inputs words v)
 
--- the inputs of a request
-abbrev pub request_inputs : RequestView → List FormInputView
-request_inputs request = row_inputs (row_of request.verb).words request.words
+-- the inputs of a command are those of its row
+abbrev pub inputs_of : CommandLineView → List FormInputView
+inputs_of command = row_inputs (row_of command.verb).words command.values

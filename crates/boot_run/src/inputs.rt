@@ -1,30 +1,32 @@
-//! The inputs of a row: its arguments that name input files, in their order.
+//! The inputs of a command: the arguments of its row that name input files, in their order.
 
-ghost use Rattle.std.specs.Prelude.{◌≡◌, IfOk, map, string_bytes};
+ghost use Rattle.std.specs.Prelude.{◌≡◌, IfOk, map, option_map};
 ghost use Rattle.cli_inputs.specs.Views.{form_input_from};
-ghost use Rattle.boot_run.specs.Inputs.{word_form, row_inputs};
+ghost use Rattle.cli_words.specs.Rows.{command_from};
+ghost use Rattle.cli_words.specs.Values.{values_from};
+ghost use Rattle.boot_run.specs.Inputs.{word_input, row_inputs, inputs_of};
 
 use cli_inputs::{Form, FormInput};
-use cli_words::Word;
+use cli_words::{CommandLine, Values, Word};
 use std::alloc::{AllocError, Global};
 
-/// The form of the file that an argument names, where it names an input.
-fn word_form(word: Word) -> Option<Form>
-    ensures { result ≡ word_form word }
+/// The input that an argument names, with the form of its file.
+fn word_input<'a>(word: Word, values: &Values<'a>) -> Option<FormInput<'a>>
+    ensures { option_map form_input_from result ≡ word_input word (values_from values.now) }
 {
-    match word {
-        Word::Flash => Some(Form::Flash),
-        Word::Otp => Some(Form::Otp),
-        Word::Script => Some(Form::Script),
-        Word::Pattern => Some(Form::Pattern),
-        Word::Binary => Some(Form::Binary),
-        Word::Elf => Some(Form::Elf),
-        Word::Spec => Some(Form::Spec),
-        Word::Json => Some(Form::Json),
-        Word::OtpJson => Some(Form::OtpText),
-        Word::Image => Some(Form::Image),
-        Word::Uf2 => Some(Form::Uf2),
-        Word::Text => Some(Form::Text),
+    let (name, form) = match word {
+        Word::Flash => (values.flash, Form::Flash),
+        Word::Otp => (values.otp, Form::Otp),
+        Word::Script => (values.script, Form::Script),
+        Word::Pattern => (values.pattern, Form::Pattern),
+        Word::Binary => (values.binary, Form::Binary),
+        Word::Elf => (values.elf, Form::Elf),
+        Word::Spec => (values.spec, Form::Spec),
+        Word::Json => (values.json, Form::Json),
+        Word::OtpJson => (values.json, Form::OtpText),
+        Word::Image => (values.image, Form::Image),
+        Word::Uf2 => (values.uf2, Form::Uf2),
+        Word::Text => (values.text, Form::Text),
         Word::Cpu
         | Word::Kind
         | Word::OutFlash
@@ -32,27 +34,36 @@ fn word_form(word: Word) -> Option<Form>
         | Word::Family
         | Word::Number
         | Word::Out
-        | Word::Command => None,
-    }
+        | Word::Command => return None,
+    };
+    Some(FormInput { name, form })
 }
 
-/// The inputs of a row of these words, by its arguments. It fails only where memory is out.
-pub fn row_inputs<'a>(
+/// The inputs of a row of these arguments. It fails only where memory is out.
+fn row_inputs<'a>(
     alloc: Global,
     words: &[Word],
-    names: &'a [String],
+    values: &Values<'a>,
 ) -> Result<Vec<FormInput<'a>>, AllocError>
     ensures { IfOk result (λ inputs. map form_input_from inputs.items
-        ≡ row_inputs words.now (map string_bytes names.entry.now)) }
+        ≡ row_inputs words.now (values_from values.now)) }
 {
     let mut inputs = Vec::new(alloc);
-    for (i, word) in words.iter().enumerate() {
-        let Some(name) = names.get(i) else {
-            return Ok(inputs);
-        };
-        if let Some(form) = word_form(*word) {
-            inputs.push(FormInput { name, form })?;
+    for word in words {
+        if let Some(input) = word_input(*word, values) {
+            inputs.push(input)?;
         }
     }
     Ok(inputs)
+}
+
+/// The inputs of a command. It fails only where memory is out.
+pub fn inputs_of<'a>(
+    alloc: Global,
+    command: &CommandLine<'a>,
+) -> Result<Vec<FormInput<'a>>, AllocError>
+    ensures { IfOk result (λ inputs. map form_input_from inputs.items
+        ≡ inputs_of (command_from command.now)) }
+{
+    row_inputs(alloc, command.verb.row().words, &command.values)
 }

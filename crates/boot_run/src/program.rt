@@ -17,40 +17,38 @@ ghost use Rattle.slot_choice.specs.declared.choice.Choice.{Choice};
 ghost use Rattle.boot_rules.specs.declared.decision.Decision.{Decision};
 ghost use Rattle.boot_rules.specs.declared.decision.Decision.TheVariants.{Start};
 ghost use Rattle.boot_rules.specs.Chosen.{Chosen};
-ghost use Rattle.cli_words.specs.Rows.{CommandLineView, Boot, asked, command_from, request_from};
+ghost use Rattle.cli_words.specs.Rows.{CommandLineView, Boot, asked, command_from};
 ghost use Rattle.cli_inputs.specs.Forms.{HasForm, content_of_files};
 ghost use Rattle.text_lines.specs.Texts.{decision_line};
 ghost use Rattle.cli_inputs.specs.Inputs.{readings};
-ghost use Rattle.boot_run.specs.Inputs.{request_inputs};
+ghost use Rattle.boot_run.specs.Inputs.{inputs_of};
 ghost use Rattle.cli_course.specs.Outcomes.{AnswerView, is_finished};
-ghost use Rattle.boot_run.specs.Commands.{inputs_of, inputs_in, outcome_in, outcome_on, command_outcome, Names, Obeys, IsRefusedCommand};
+ghost use Rattle.boot_run.specs.Commands.{inputs_in, outcome_in, outcome_on, command_outcome, Names, Obeys, IsRefusedCommand};
 ghost use Rattle.cli_course.specs.Courses.{Runs};
 ghost use Rattle.cli_boot.specs.Rules.{decided_status};
 ghost use Rattle.cli_course.specs.Ends.{DoesRun, ShowsOutcome, LacksOne, IsCutShort, IsPutShort};
 
-use crate::inputs::row_inputs;
+use crate::inputs::inputs_of;
 use crate::work::answer;
 use cli_course::{Status, finish, put_text, read_all};
 use cli_inputs::{Form, readings};
-use cli_words::{Request, find_request};
+use cli_words::{CommandLine, find_command};
 use pico_board::{Sink, SinkFail, Store};
 use std::alloc::Global;
 
-/// Runs a command, of which the row has the inputs.
+/// Runs a command: it reads its inputs, answers, and ends.
 fn run_command<S: Store, K: Sink>(
     alloc: Global,
-    request: &Request<'_>,
+    command: &CommandLine<'_>,
     store: &mut S,
     out: &mut K,
 ) -> Status
-    requires { request_inputs (request_from request.now)
-        ≡ inputs_of (command_from request.now.command) }
     ensures { Runs S.state S.history K.state K.history
-        (readings (inputs_of (command_from request.now.command)))
-        (command_outcome (command_from request.now.command))
+        (readings (inputs_of (command_from command.now)))
+        (command_outcome (command_from command.now))
         store.old out.old result store.new out.new }
 {
-    let inputs = match row_inputs(alloc, request.verb.row().words, request.words) {
+    let inputs = match inputs_of(alloc, command) {
         Ok(inputs) => inputs,
         Err(_) => return Status::Memory,
     };
@@ -62,7 +60,7 @@ fn run_command<S: Store, K: Sink>(
         Ok(files) => files,
         Err(status) => return status,
     };
-    match answer(alloc, &request.command, files) {
+    match answer(alloc, command, files) {
         Ok(answer) => finish(&answer, store, out),
         Err(_) => Status::Memory,
     }
@@ -79,8 +77,8 @@ fn run_asked<S: Store, K: Sink>(
         (outcome_in (asked words.now))
         store.old out.old result store.new out.new }
 {
-    match find_request(words) {
-        Some(request) => run_command(alloc, &request, store, out),
+    match find_command(words) {
+        Some(command) => run_command(alloc, &command, store, out),
         None => put_text(out, b"words not understood\n", Status::Words),
     }
 }

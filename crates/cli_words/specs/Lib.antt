@@ -3,3 +3,4 @@ pub mod Values
 pub mod Arguments
 pub mod Rows
 pub mod Usages
+pub mod Examples

@@ -1,6 +1,97 @@
--- The arguments of a UF2 family. This project's own, over the families of the RP2350.
-use Rattle.std.specs.Prelude.{ℕ, if◌then◌else◌, List, Option, Some, None, codes, bytes_eq}
+-- The values of a command's arguments: what names the boot type and the UF2 family. This project's
+-- own, over the families of the RP2350.
+use Rattle.std.specs.Prelude.{ℕ, ◌==◌, ◌&&◌, if◌then◌else◌, List, [], length, take, drop, Option, Some, None, option_map, codes, bytes_eq}
+use Rattle.pico_board.specs.declared.boot.Cpu.{Cpu}
+use Rattle.pico_board.specs.declared.boot.Cpu.TheVariants.{Arm}
+use Rattle.pico_board.specs.declared.boot.BootKind.{BootKind}
+use Rattle.pico_board.specs.declared.boot.BootKind.TheVariants.{Normal, Bootsel, Update}
 use Rattle.part_table.specs.Families.{rp2040_family, absolute_family, data_family, arm_s_family, riscv_family, arm_ns_family}
+use Rattle.text_words.specs.Reading.{hex_value}
+use Rattle.cli_words.specs.declared.values.Values.{Values}
+
+-- the values of a command's arguments, with its names as bytes of text
+pub record ValuesView : Type 0 where
+  pub cpu : Cpu
+  pub kind : BootKind
+  pub flash : List ℕ
+  pub otp : List ℕ
+  pub script : List ℕ
+  pub pattern : List ℕ
+  pub out_flash : List ℕ
+  pub out_otp : List ℕ
+  pub binary : List ℕ
+  pub elf : List ℕ
+  pub spec : List ℕ
+  pub json : List ℕ
+  pub image : List ℕ
+  pub uf2 : List ℕ
+  pub text : List ℕ
+  pub family : ℕ
+  pub number : ℕ
+  pub out : List ℕ
+  pub command : List ℕ
+
+-- the values where there is no argument
+abbrev pub no_values : ValuesView
+no_values = record {
+  cpu = Arm;
+  kind = Normal;
+  flash = [];
+  otp = [];
+  script = [];
+  pattern = [];
+  out_flash = [];
+  out_otp = [];
+  binary = [];
+  elf = [];
+  spec = [];
+  json = [];
+  image = [];
+  uf2 = [];
+  text = [];
+  family = 0;
+  number = 0;
+  out = [];
+  command = [];
+}
+
+-- the values that those of the code stand for
+abbrev pub values_from : Values → ValuesView
+values_from v = record {
+  cpu = v.cpu;
+  kind = v.kind;
+  flash = v.flash.now;
+  otp = v.otp.now;
+  script = v.script.now;
+  pattern = v.pattern.now;
+  out_flash = v.out_flash.now;
+  out_otp = v.out_otp.now;
+  binary = v.binary.now;
+  elf = v.elf.now;
+  spec = v.spec.now;
+  json = v.json.now;
+  image = v.image.now;
+  uf2 = v.uf2.now;
+  text = v.text.now;
+  family = v.family;
+  number = v.number;
+  out = v.out.now;
+  command = v.command.now;
+}
+
+-- the base of an update: `update=0x` and eight hexadecimal digits
+abbrev pub update_base : List ℕ → Option ℕ
+update_base word =
+    if length word == 17 && bytes_eq (take 9 word) (codes "update=0x")
+    then hex_value 0 (drop 9 word)
+    else None
+
+-- the argument of a boot type
+abbrev pub boot_kind_of : List ℕ → Option BootKind
+boot_kind_of word =
+    if bytes_eq word (codes "normal") then Some Normal
+    else if bytes_eq word (codes "bootsel") then Some Bootsel
+    else option_map Update (update_base word)
 
 -- the family that an argument names
 abbrev pub family_of : List ℕ → Option ℕ

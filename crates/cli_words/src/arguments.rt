@@ -81,85 +81,39 @@ impl Word {
         ensures { result.now ≡ word_note self }
     {
         match self {
-            Word::Cpu => {
-                "CPU     arm or riscv
-"
-            }
-            Word::Kind => {
-                "KIND    normal, bootsel, or update=0x and eight hexadecimal digits: the flash address of the update
-"
-            }
-            Word::Flash => {
-                "FLASH   a file of 1 to 16777216 bytes, filled with 0xff to whole sectors of 4096 bytes, at least two
-"
-            }
-            Word::Otp => {
-                "OTP     a file of at most 16384 bytes, 4 for each row, the lowest byte first; missing rows are 0
-"
-            }
-            Word::Script => {
-                "SCRIPT  a file of at most 67108864 bytes, with an end among its first 524288 records
-"
-            }
-            Word::Pattern => {
-                "PATTERN  a file of 1 to 4096 bytes, which a loss of power within a step leaves, repeated
-"
-            }
-            Word::OutFlash => {
-                "OUTFLASH  a file to write: the whole flash
-"
-            }
-            Word::OutOtp => {
-                "OUTOTP  a file to write: all 4096 rows, 4 bytes each
-"
-            }
-            Word::Binary => {
-                "BIN     a file of at most 16777216 bytes: an image, with or without a version and a digest
-"
-            }
-            Word::Elf => {
-                "ELF     a file of at most 67108864 bytes: a 32-bit executable of segments in flash, or in SRAM
-"
-            }
-            Word::Spec => {
-                "SPEC    a JSON text of at most 65536 bytes: processor, version, rollback, rows and trial
-        of the image; those of the binary, and its window delta, are lost, also if left out
-"
-            }
-            Word::Json | Word::OtpJson => {
-                "JSON    a JSON text of at most 65536 bytes: for table version, singleton, unpartitioned and
-        partitions; for otp rollback_required, flash_off, slot_size and rows
-"
-            }
-            Word::Image => {
-                "IMAGE   a file of 1 to 16777216 bytes; for plan and load at most as many as there is room for
-"
-            }
-            Word::Uf2 => {
-                "UF2     a file of 512 to 33554944 bytes, in blocks of 512; the board judges them, not this command
-"
-            }
-            Word::Text => {
-                "TEXT    a file of at most 201326592 bytes: one record a line, as list writes them
-"
-            }
-            Word::Family => {
-                "FAMILY  rp2040, absolute, data, rp2350-arm-s, rp2350-riscv or rp2350-arm-ns
-"
-            }
-            Word::Number => {
-                "N       a number below 4294967296, of 1 to 10 decimal digits
-"
-            }
-            Word::Out => {
-                "OUT     a file to write: the sealed image; the first sector of a flash with the table; the OTP file;
-        the UF2 file, in blocks of 512 bytes; the script; or the picture
-"
-            }
-            Word::Command => {
-                "COMMAND  the first word of a line above
-"
-            }
+            Word::Cpu => "CPU     arm or riscv\n",
+            Word::Kind =>
+                "KIND    normal, bootsel, or update=0x and eight hexadecimal digits: the flash address of the update\n",
+            Word::Flash =>
+                "FLASH   a file of 1 to 16777216 bytes, filled with 0xff to whole sectors of 4096 bytes, at least two\n",
+            Word::Otp =>
+                "OTP     a file of at most 16384 bytes, 4 for each row, the lowest byte first; missing rows are 0\n",
+            Word::Script =>
+                "SCRIPT  a file of at most 67108864 bytes, with an end among its first 524288 records\n",
+            Word::Pattern =>
+                "PATTERN  a file of 1 to 4096 bytes, which a loss of power within a step leaves, repeated\n",
+            Word::OutFlash => "OUTFLASH  a file to write: the whole flash\n",
+            Word::OutOtp => "OUTOTP  a file to write: all 4096 rows, 4 bytes each\n",
+            Word::Binary =>
+                "BIN     a file of at most 16777216 bytes: an image, with or without a version and a digest\n",
+            Word::Elf =>
+                "ELF     a file of at most 67108864 bytes: a 32-bit executable of segments in flash, or in SRAM\n",
+            Word::Spec =>
+                "SPEC    a JSON text of at most 65536 bytes: processor, version, rollback, rows and trial\n        of the image; those of the binary, and its window delta, are lost, also if left out\n",
+            Word::Json | Word::OtpJson =>
+                "JSON    a JSON text of at most 65536 bytes: for table version, singleton, unpartitioned and\n        partitions; for otp rollback_required, flash_off, slot_size and rows\n",
+            Word::Image =>
+                "IMAGE   a file of 1 to 16777216 bytes; for plan and load at most as many as there is room for\n",
+            Word::Uf2 =>
+                "UF2     a file of 512 to 33554944 bytes, in blocks of 512; the board judges them, not this command\n",
+            Word::Text =>
+                "TEXT    a file of at most 201326592 bytes: one record a line, as list writes them\n",
+            Word::Family =>
+                "FAMILY  rp2040, absolute, data, rp2350-arm-s, rp2350-riscv or rp2350-arm-ns\n",
+            Word::Number => "N       a number below 4294967296, of 1 to 10 decimal digits\n",
+            Word::Out =>
+                "OUT     a file to write: the sealed image; the first sector of a flash with the table; the OTP file;\n        the UF2 file, in blocks of 512 bytes; the script; or the picture\n",
+            Word::Command => "COMMAND  the first word of a line above\n",
         }
     }
 }

@@ -8,5 +8,6 @@ mod usage;
 mod values;
 
 pub use arguments::Word;
-pub use rows::{CommandLine, Request, Row, Verb, find_request};
+pub use rows::{CommandLine, Row, Verb, find_command};
 pub use usage::{VERSION, help_text, release_line, usage_text};
+pub use values::Values;

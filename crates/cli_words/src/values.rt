@@ -1,9 +1,9 @@
 //! The values of a command's arguments.
 
-ghost use Rattle.std.specs.Prelude.{◌≡◌, map, string_bytes};
+ghost use Rattle.std.specs.Prelude.{◌≡◌, map, option_map, string_bytes};
 ghost use Rattle.text_words.specs.Reading.{number_of};
-ghost use Rattle.cli_words.specs.Rows.{boot_kind_of, update_base, is_row_name, with_word, row_values};
-ghost use Rattle.cli_words.specs.Values.{family_of};
+ghost use Rattle.cli_words.specs.Rows.{is_row_name, with_word, with_words, row_values};
+ghost use Rattle.cli_words.specs.Values.{boot_kind_of, family_of, no_values, update_base, values_from};
 
 use crate::arguments::Word;
 use crate::rows::{VERBS, Verb};
@@ -13,17 +13,77 @@ use part_table::{
 use pico_board::{BootKind, Cpu};
 use text_words::{decimal_number, hex_number};
 
-/// The values of a command's arguments. A command has at most one of each.
-#[derive(Clone, Copy)]
-pub struct Values {
+/// The values of a command's arguments, by their kinds. A command has at most one argument of each.
+/// A value that it does not have is an empty text, 0, or the first of its type.
+#[derive(Clone, Copy, Drop)]
+pub struct Values<'a> {
     /// The processor.
     pub cpu: Cpu,
     /// The boot type.
     pub kind: BootKind,
+    /// The name of the flash file.
+    pub flash: &'a str,
+    /// The name of the OTP file.
+    pub otp: &'a str,
+    /// The name of the script.
+    pub script: &'a str,
+    /// The name of the file whose bytes a cut within a step leaves.
+    pub pattern: &'a str,
+    /// The name of the flash that is left.
+    pub out_flash: &'a str,
+    /// The name of the OTP that is left.
+    pub out_otp: &'a str,
+    /// The name of the binary.
+    pub binary: &'a str,
+    /// The name of the ELF file.
+    pub elf: &'a str,
+    /// The name of the text that says what an image is asked to be.
+    pub spec: &'a str,
+    /// The name of the JSON text.
+    pub json: &'a str,
+    /// The name of the image.
+    pub image: &'a str,
+    /// The name of the UF2 file.
+    pub uf2: &'a str,
+    /// The name of the text.
+    pub text: &'a str,
     /// The UF2 family.
     pub family: u32,
     /// The number.
     pub number: u32,
+    /// The name of the file to write.
+    pub out: &'a str,
+    /// The name of a command.
+    pub command: &'a str,
+}
+
+impl<'a> Values<'a> {
+    /// The values where there is no argument.
+    fn none() -> Values<'a>
+        ensures { values_from result ≡ no_values }
+    {
+        Values {
+            cpu: Cpu::Arm,
+            kind: BootKind::Normal,
+            flash: "",
+            otp: "",
+            script: "",
+            pattern: "",
+            out_flash: "",
+            out_otp: "",
+            binary: "",
+            elf: "",
+            spec: "",
+            json: "",
+            image: "",
+            uf2: "",
+            text: "",
+            family: 0,
+            number: 0,
+            out: "",
+            command: "",
+        }
+    }
 }
 
 /// The base of an update: `update=0x` and eight hexadecimal digits.
@@ -85,8 +145,8 @@ fn is_row_name(verbs: &[Verb], word: &str) -> bool
 }
 
 /// The values with that of one argument more, where the argument is of this kind.
-fn with_word(kind: Word, word: &str, values: Values) -> Option<Values>
-    ensures { result ≡ with_word kind word.now values }
+fn with_word<'a>(kind: Word, word: &'a str, values: Values<'a>) -> Option<Values<'a>>
+    ensures { option_map values_from result ≡ with_word kind word.now (values_from values.entry) }
 {
     match kind {
         Word::Cpu => {
@@ -97,6 +157,58 @@ fn with_word(kind: Word, word: &str, values: Values) -> Option<Values>
             let kind = kind_word(word)?;
             Some(Values { kind, ..values })
         }
+        Word::Flash => Some(Values {
+            flash: word,
+            ..values
+        }),
+        Word::Otp => Some(Values {
+            otp: word,
+            ..values
+        }),
+        Word::Script => Some(Values {
+            script: word,
+            ..values
+        }),
+        Word::Pattern => Some(Values {
+            pattern: word,
+            ..values
+        }),
+        Word::OutFlash => Some(Values {
+            out_flash: word,
+            ..values
+        }),
+        Word::OutOtp => Some(Values {
+            out_otp: word,
+            ..values
+        }),
+        Word::Binary => Some(Values {
+            binary: word,
+            ..values
+        }),
+        Word::Elf => Some(Values {
+            elf: word,
+            ..values
+        }),
+        Word::Spec => Some(Values {
+            spec: word,
+            ..values
+        }),
+        Word::Json | Word::OtpJson => Some(Values {
+            json: word,
+            ..values
+        }),
+        Word::Image => Some(Values {
+            image: word,
+            ..values
+        }),
+        Word::Uf2 => Some(Values {
+            uf2: word,
+            ..values
+        }),
+        Word::Text => Some(Values {
+            text: word,
+            ..values
+        }),
         Word::Family => {
             let family = family_word(word)?;
             Some(Values { family, ..values })
@@ -105,35 +217,46 @@ fn with_word(kind: Word, word: &str, values: Values) -> Option<Values>
             let number = number_word(word)?;
             Some(Values { number, ..values })
         }
+        Word::Out => Some(Values {
+            out: word,
+            ..values
+        }),
         Word::Command => {
             if is_row_name(&VERBS, word) {
-                Some(values)
+                Some(Values {
+                    command: word,
+                    ..values
+                })
             } else {
                 None
             }
         }
-        _ => Some(values),
     }
 }
 
-/// The values of arguments that are of these kinds, one after another.
-pub fn row_values(kinds: &[Word], words: &[String]) -> Option<Values>
-    ensures { result ≡ row_values kinds.now (map string_bytes words.now) }
+/// The values with those of arguments that are of these kinds, one after another.
+fn with_words<'a>(kinds: &[Word], words: &'a [String], values: Values<'a>) -> Option<Values<'a>>
+    ensures { option_map values_from result
+        ≡ with_words kinds.now (map string_bytes words.entry.now) (values_from values.entry) }
 {
-    if kinds.len() != words.len() {
-        return None;
-    }
-    let mut values = Values {
-        cpu: Cpu::Arm,
-        kind: BootKind::Normal,
-        family: 0,
-        number: 0,
+    let [kind, kinds @ ..] = kinds else {
+        return Some(values);
     };
-    for (i, kind) in kinds.iter().enumerate() {
-        let Some(word) = words.get(i) else {
-            return None;
-        };
-        values = with_word(*kind, word, values)?;
+    let [word, words @ ..] = words else {
+        return Some(values);
+    };
+    let values = with_word(*kind, word, values)?;
+    with_words(kinds, words, values)
+}
+
+/// The values of so many arguments as there are kinds.
+pub fn row_values<'a>(kinds: &[Word], words: &'a [String]) -> Option<Values<'a>>
+    ensures { option_map values_from result
+        ≡ row_values kinds.now (map string_bytes words.entry.now) }
+{
+    if kinds.len() == words.len() {
+        with_words(kinds, words, Values::none())
+    } else {
+        None
     }
-    Some(values)
 }

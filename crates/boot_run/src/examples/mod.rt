@@ -4,9 +4,10 @@
 ghost use Rattle.std.specs.Prelude.{◌≡◌, [], ◌∷◌, codes, Some, None};
 ghost use Rattle.pico_board.specs.declared.boot.Cpu.TheVariants.{Arm};
 ghost use Rattle.pico_board.specs.declared.boot.BootKind.TheVariants.{Normal};
-ghost use Rattle.cli_words.specs.Rows.{Table, OtpFile, Boot, Caveats, Info, OwnedData, Replay, Seal, Elf, Uf2, Plan, Load};
+ghost use Rattle.cli_words.specs.Rows.{Boot, Caveats, OwnedData, command_line};
+ghost use Rattle.cli_words.specs.declared.rows.Verb.TheVariants as verbs;
 ghost use Rattle.boot_run.specs.Commands.{Names, NeedsBytes, command_outcome, outcome_on};
-ghost use Rattle.boot_run.specs.Examples.{no_start, sink_of};
+ghost use Rattle.boot_run.specs.Examples.{named, no_start, sink_of};
 ghost use Rattle.cli_course.specs.Outcomes.{refused, unread, not_understood};
 ghost use Rattle.cli_course.specs.declared.status.Status.{Status};
 
@@ -15,20 +16,17 @@ ghost use Rattle.cli_course.specs.declared.status.Status.{Status};
 pub fn first_faults()
     ensures flash { command_outcome (Boot (codes "f") (codes "o") Arm Normal) ([] ∷ (0 ∷ []) ∷ [])
         ≡ refused (codes "f") (codes "empty") }
-    ensures otp { command_outcome (Info (codes "f") (codes "o") Arm) ((0 ∷ []) ∷ (0 ∷ []) ∷ [])
+    ensures otp { command_outcome (command_line verbs.Info named) ((0 ∷ []) ∷ (0 ∷ []) ∷ [])
         ≡ refused (codes "o") (codes "otp-length") }
     ensures data { command_outcome (OwnedData (codes "f") (codes "o") Arm Normal)
         ([] ∷ (0 ∷ []) ∷ []) ≡ refused (codes "f") (codes "empty") }
     ensures caveats { command_outcome (Caveats (codes "f") (codes "o") Arm Normal)
         ([] ∷ (0 ∷ []) ∷ []) ≡ refused (codes "f") (codes "empty") }
-    ensures replay_flash { command_outcome
-        (Replay (codes "f") (codes "o") Arm (codes "s") (codes "a") (codes "b"))
+    ensures replay_flash { command_outcome (command_line verbs.Replay named)
         ([] ∷ (0 ∷ []) ∷ (9 ∷ []) ∷ []) ≡ refused (codes "f") (codes "empty") }
-    ensures replay_otp { command_outcome
-        (Replay (codes "f") (codes "o") Arm (codes "s") (codes "a") (codes "b"))
+    ensures replay_otp { command_outcome (command_line verbs.Replay named)
         ((0 ∷ []) ∷ (0 ∷ []) ∷ (9 ∷ []) ∷ []) ≡ refused (codes "o") (codes "otp-length") }
-    ensures replay_script { command_outcome
-        (Replay (codes "f") (codes "o") Arm (codes "s") (codes "a") (codes "b"))
+    ensures replay_script { command_outcome (command_line verbs.Replay named)
         ((0 ∷ []) ∷ [] ∷ (9 ∷ []) ∷ []) ≡ refused (codes "s") (codes "script kind at=0") }
     ensures lacking { outcome_on (Some (Boot (codes "f") (codes "o") Arm Normal))
         (record { name = codes "f"; bytes = [] } ∷ []) ≡ unread }
@@ -37,44 +35,42 @@ pub fn first_faults()
 
 /// A wrong spec is refused under its own name. A fault of a form comes before any refusal.
 pub fn refusals_of_sealings()
-    ensures rollback { command_outcome (Seal (codes "b") (codes "s") (codes "a"))
+    ensures rollback { command_outcome (command_line verbs.Seal named)
         ([] ∷ codes "{\"processor\":\"arm\",\"rollback\":1}" ∷ [])
         ≡ refused (codes "s") (codes "bad-spec rollback") }
-    ensures rows { command_outcome (Seal (codes "b") (codes "s") (codes "a"))
+    ensures rows { command_outcome (command_line verbs.Seal named)
         ([] ∷ codes "{\"processor\":\"arm\",\"rows\":[192,194]}" ∷ [])
         ≡ refused (codes "s") (codes "bad-spec rows") }
-    ensures form { command_outcome (Seal (codes "b") (codes "s") (codes "a")) ([] ∷ codes "{}" ∷ [])
+    ensures form { command_outcome (command_line verbs.Seal named) ([] ∷ codes "{}" ∷ [])
         ≡ refused (codes "s") (codes "missing top processor") }
-    ensures table { command_outcome (Table (codes "t") (codes "a")) (codes "[]" ∷ [])
+    ensures table { command_outcome (command_line verbs.Table named) (codes "[]" ∷ [])
         ≡ refused (codes "t") (codes "value top partitions") }
-    ensures otp { command_outcome (OtpFile (codes "t") (codes "a")) (codes "{\"x\":1}" ∷ [])
+    ensures otp { command_outcome (command_line verbs.OtpFile named) (codes "{\"x\":1}" ∷ [])
         ≡ refused (codes "t") (codes "unknown top") }
 {}
 
 /// An image is refused for the first fault, under its own name. Faults of forms come before it.
 pub fn refusals_of_images()
-    ensures uf2 { command_outcome (Uf2 (codes "i") 0xe48bff59 (codes "a")) ([] ∷ [])
+    ensures uf2 { command_outcome (command_line verbs.Uf2 named) ([] ∷ [])
         ≡ refused (codes "i") (codes "empty") }
-    ensures flash { command_outcome (Plan (codes "f") (codes "o") Arm (codes "i") (codes "a"))
+    ensures flash { command_outcome (command_line verbs.Plan named)
         ([] ∷ (0 ∷ []) ∷ [] ∷ []) ≡ refused (codes "f") (codes "empty") }
-    ensures otp { command_outcome (Plan (codes "f") (codes "o") Arm (codes "i") (codes "a"))
+    ensures otp { command_outcome (command_line verbs.Plan named)
         ((0 ∷ []) ∷ (0 ∷ []) ∷ [] ∷ []) ≡ refused (codes "o") (codes "otp-length") }
-    ensures load { command_outcome (Load (codes "f") (codes "o") Arm (codes "i") (codes "a"))
+    ensures load { command_outcome (command_line verbs.Load named)
         ((0 ∷ []) ∷ (0 ∷ []) ∷ [] ∷ []) ≡ refused (codes "o") (codes "otp-length") }
 {}
 
 /// A replay and the packing of an ELF file ask that each of their inputs is of bytes. A boot asks
 /// nothing.
 pub fn inputs_of_bytes()
-    ensures elf { NeedsBytes (Elf (codes "e") (codes "s") (codes "a"))
+    ensures elf { NeedsBytes (command_line verbs.Elf named)
         ((0 ∷ 255 ∷ []) ∷ codes "{}" ∷ []) }
-    ensures replay { NeedsBytes
-        (Replay (codes "f") (codes "o") Arm (codes "s") (codes "a") (codes "b"))
+    ensures replay { NeedsBytes (command_line verbs.Replay named)
         ((255 ∷ []) ∷ [] ∷ (0 ∷ []) ∷ []) }
-    ensures past { ¬ (NeedsBytes (Elf (codes "e") (codes "s") (codes "a"))
+    ensures past { ¬ (NeedsBytes (command_line verbs.Elf named)
         ((0 ∷ 256 ∷ []) ∷ codes "{}" ∷ [])) }
-    ensures last { ¬ (NeedsBytes
-        (Replay (codes "f") (codes "o") Arm (codes "s") (codes "a") (codes "b"))
+    ensures last { ¬ (NeedsBytes (command_line verbs.Replay named)
         ((255 ∷ []) ∷ [] ∷ (256 ∷ []) ∷ [])) }
     ensures any { NeedsBytes (Boot (codes "f") (codes "o") Arm Normal) ((256 ∷ []) ∷ [] ∷ []) }
 {}

@@ -7,11 +7,11 @@ ghost use Rattle.pico_board.specs.declared.boot.BootKind.{BootKind};
 ghost use Rattle.pico_board.specs.Files.{File};
 ghost use Rattle.cli_course.specs.declared.status.Status.{Status};
 ghost use Rattle.cli_course.specs.declared.status.Status.TheVariants.{Input, Bootsel};
-ghost use Rattle.cli_words.specs.Rows.{CommandLineView, Boot, Caveats, OwnedData, RequestView, request_of};
+ghost use Rattle.cli_words.specs.Rows.{CommandLineView, Boot, Caveats, OwnedData};
 ghost use Rattle.cli_inputs.specs.Inputs.{readings};
 ghost use Rattle.cli_course.specs.Outcomes.{AnswerView, found};
-ghost use Rattle.boot_run.specs.Inputs.{request_inputs};
-ghost use Rattle.boot_run.specs.Commands.{inputs_of, command_outcome, outcome_on, Obeys, FallsOn, NeedsBytes, IsRefusedCommand, IsRightWith, judges, is_verdict};
+ghost use Rattle.boot_run.specs.Inputs.{inputs_of};
+ghost use Rattle.boot_run.specs.Commands.{command_outcome, outcome_on, Obeys, FallsOn, NeedsBytes, IsRefusedCommand, IsRightWith, judges, is_verdict};
 ghost use Rattle.cli_course.specs.Ends.{cut};
 
 /// The outcome of a command on the bytes of its inputs is the one that is right by the rules. The
@@ -49,14 +49,8 @@ pub fn statuses_come_exactly()
         → is_verdict status ≡ true
         → ((command_outcome command read).status ≡ status) ↔ IsRightWith command read status }
     ensures verdict { (command : CommandLineView) (read : List (List ℕ))
-        → length read ≡ length (inputs_of command) → judges command ≡ false
+        → length read ≡ length (inputs_of command) → judges command.verb ≡ false
         → is_verdict (command_outcome command read).status ≡ false }
-{}
-
-/// The inputs of a command are the arguments of its row that name an input file, in their order.
-pub fn inputs_are_those_of_the_row()
-    ensures { (words : List (List ℕ)) (request : RequestView) → request_of words ≡ Some request
-        → request_inputs request ≡ inputs_of request.command }
 {}
 
 /// What is read of files that are longer decides as the whole files do.

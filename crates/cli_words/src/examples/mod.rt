@@ -4,11 +4,12 @@
 ghost use Rattle.std.specs.Prelude.{◌≡◌, [], ◌∷◌, ◌++◌, codes, Some, None};
 ghost use Rattle.pico_board.specs.declared.boot.Cpu.TheVariants.{Arm, Riscv};
 ghost use Rattle.pico_board.specs.declared.boot.BootKind.TheVariants.{Normal, Bootsel as AskBootsel, Update};
-ghost use Rattle.cli_words.specs.Rows.{row_of, Table, OtpFile, command_of, boot_kind_of, Boot, Info, OwnedData, Explain, Caveats, Map, Replay, Usage, Help, Release, Sweep, Chart, Cuts, Check, Seal, Elf, Firm, Uf2, Plan, Load, Copy, ListScript, WriteScript, Gen};
+ghost use Rattle.cli_words.specs.Rows.{row_of, command_line, command_of, Boot, OwnedData, Caveats};
 ghost use Rattle.cli_words.specs.declared.rows.Verb.TheVariants as verbs;
 ghost use Rattle.cli_words.specs.declared.usage.TheConstants.{STATUSES};
+ghost use Rattle.cli_words.specs.Examples.{board};
 ghost use Rattle.cli_words.specs.Usages.{help_text, release_line, row_line};
-ghost use Rattle.cli_words.specs.Values.{family_of};
+ghost use Rattle.cli_words.specs.Values.{boot_kind_of, family_of, no_values};
 
 /// The arguments of each command.
 pub fn words_of_commands()
@@ -19,45 +20,58 @@ pub fn words_of_commands()
         (codes "boot" ∷ codes "" ∷ codes "o" ∷ codes "riscv" ∷ codes "bootsel" ∷ [])
         ≡ Some (Boot (codes "") (codes "o") Riscv AskBootsel) }
     ensures info { command_of (codes "info" ∷ codes "f" ∷ codes "o" ∷ codes "arm" ∷ [])
-        ≡ Some (Info (codes "f") (codes "o") Arm) }
+        ≡ Some (command_line verbs.Info board) }
     ensures data { command_of
         (codes "data" ∷ codes "f" ∷ codes "o" ∷ codes "arm" ∷ codes "normal" ∷ [])
         ≡ Some (OwnedData (codes "f") (codes "o") Arm Normal) }
     ensures explain { command_of
         (codes "explain" ∷ codes "f" ∷ codes "o" ∷ codes "riscv" ∷ codes "bootsel" ∷ [])
-        ≡ Some (Explain (codes "f") (codes "o") Riscv AskBootsel) }
+        ≡ Some (command_line verbs.Explain (record board { cpu = Riscv; kind = AskBootsel })) }
     ensures caveats { command_of
         (codes "caveats" ∷ codes "f" ∷ codes "o" ∷ codes "riscv" ∷ codes "normal" ∷ [])
         ≡ Some (Caveats (codes "f") (codes "o") Riscv Normal) }
     ensures map { command_of
         (codes "map" ∷ codes "f" ∷ codes "o" ∷ codes "riscv" ∷ codes "a" ∷ [])
-        ≡ Some (Map (codes "f") (codes "o") Riscv (codes "a")) }
+        ≡ Some (command_line verbs.Map (record board { cpu = Riscv; out = codes "a" })) }
     ensures map_to_normal { command_of
         (codes "map" ∷ codes "f" ∷ codes "o" ∷ codes "arm" ∷ codes "normal" ∷ [])
-        ≡ Some (Map (codes "f") (codes "o") Arm (codes "normal")) }
+        ≡ Some (command_line verbs.Map (record board { out = codes "normal" })) }
     ensures replay { command_of
         (codes "replay" ∷ codes "f" ∷ codes "o" ∷ codes "riscv" ∷ codes "s" ∷ codes "a"
-        ∷ codes "b" ∷ []) ≡ Some
-        (Replay (codes "f") (codes "o") Riscv (codes "s") (codes "a") (codes "b")) }
+        ∷ codes "b" ∷ [])
+        ≡ Some (command_line verbs.Replay
+        (record board {
+          cpu = Riscv;
+          script = codes "s";
+          out_flash = codes "a";
+          out_otp = codes "b";
+        })) }
     ensures chart { command_of
         (codes "chart" ∷ codes "f" ∷ codes "o" ∷ codes "arm" ∷ codes "s" ∷ codes "p"
-        ∷ codes "a" ∷ []) ≡ Some
-        (Chart (codes "f") (codes "o") Arm (codes "s") (codes "p") (codes "a")) }
+        ∷ codes "a" ∷ [])
+        ≡ Some (command_line verbs.Chart
+        (record board { script = codes "s"; pattern = codes "p"; out = codes "a" })) }
     ensures cuts { command_of
         (codes "cuts" ∷ codes "f" ∷ codes "o" ∷ codes "arm" ∷ codes "s" ∷ codes "p" ∷ [])
-        ≡ Some (Cuts (codes "f") (codes "o") Arm (codes "s") (codes "p")) }
+        ≡ Some (command_line verbs.Cuts
+        (record board { script = codes "s"; pattern = codes "p" })) }
     ensures check { command_of
         (codes "check" ∷ codes "f" ∷ codes "o" ∷ codes "arm" ∷ codes "s" ∷ codes "p" ∷ [])
-        ≡ Some (Check (codes "f") (codes "o") Arm (codes "s") (codes "p")) }
-    ensures help { command_of (codes "--help" ∷ []) ≡ Some Usage }
-    ensures short_help { command_of (codes "-h" ∷ []) ≡ Some Usage }
-    ensures help_word { command_of (codes "help" ∷ []) ≡ Some Usage }
-    ensures help_of { command_of (codes "help" ∷ codes "boot" ∷ []) ≡ Some (Help (codes "boot")) }
+        ≡ Some (command_line verbs.Check
+        (record board { script = codes "s"; pattern = codes "p" })) }
+    ensures help { command_of (codes "--help" ∷ []) ≡ Some (command_line verbs.Usage no_values) }
+    ensures short_help { command_of (codes "-h" ∷ [])
+        ≡ Some (command_line verbs.ShortUsage no_values) }
+    ensures help_word { command_of (codes "help" ∷ [])
+        ≡ Some (command_line verbs.WordUsage no_values) }
+    ensures help_of { command_of (codes "help" ∷ codes "boot" ∷ [])
+        ≡ Some (command_line verbs.Help (record no_values { command = codes "boot" })) }
     ensures help_of_help { command_of (codes "help" ∷ codes "help" ∷ [])
-        ≡ Some (Help (codes "help")) }
+        ≡ Some (command_line verbs.Help (record no_values { command = codes "help" })) }
     ensures help_of_short { command_of (codes "help" ∷ codes "-h" ∷ [])
-        ≡ Some (Help (codes "-h")) }
-    ensures release { command_of (codes "--version" ∷ []) ≡ Some Release }
+        ≡ Some (command_line verbs.Help (record no_values { command = codes "-h" })) }
+    ensures release { command_of (codes "--version" ∷ [])
+        ≡ Some (command_line verbs.Release no_values) }
 {}
 
 /// The kind of an update boot has eight hexadecimal digits of either case.
@@ -117,44 +131,55 @@ pub fn other_words()
 /// The arguments of a sealing and of a table.
 pub fn words_of_sealings()
     ensures seal { command_of (codes "seal" ∷ codes "b" ∷ codes "s" ∷ codes "a" ∷ [])
-        ≡ Some (Seal (codes "b") (codes "s") (codes "a")) }
+        ≡ Some (command_line verbs.Seal
+        (record no_values { binary = codes "b"; spec = codes "s"; out = codes "a" })) }
     ensures table { command_of (codes "table" ∷ codes "t" ∷ codes "a" ∷ [])
-        ≡ Some (Table (codes "t") (codes "a")) }
+        ≡ Some (command_line verbs.Table (record no_values { json = codes "t"; out = codes "a" })) }
     ensures otp { command_of (codes "otp" ∷ codes "t" ∷ codes "a" ∷ [])
-        ≡ Some (OtpFile (codes "t") (codes "a")) }
+        ≡ Some (command_line verbs.OtpFile
+        (record no_values { json = codes "t"; out = codes "a" })) }
     ensures elf { command_of (codes "elf" ∷ codes "e" ∷ codes "s" ∷ codes "a" ∷ [])
-        ≡ Some (Elf (codes "e") (codes "s") (codes "a")) }
+        ≡ Some (command_line verbs.Elf
+        (record no_values { elf = codes "e"; spec = codes "s"; out = codes "a" })) }
     ensures elf_of_three { command_of (codes "elf" ∷ codes "e" ∷ codes "s" ∷ []) ≡ None }
     ensures seal_of_three { command_of (codes "seal" ∷ codes "b" ∷ codes "s" ∷ []) ≡ None }
     ensures table_of_four { command_of
         (codes "table" ∷ codes "t" ∷ codes "a" ∷ codes "arm" ∷ []) ≡ None }
     ensures seal_for_arm { command_of (codes "seal" ∷ codes "b" ∷ codes "s" ∷ codes "arm" ∷ [])
-        ≡ Some (Seal (codes "b") (codes "s") (codes "arm")) }
+        ≡ Some (command_line verbs.Seal
+        (record no_values { binary = codes "b"; spec = codes "s"; out = codes "arm" })) }
 {}
 
 /// The arguments of each of the commands.
 pub fn words_of_tools()
     ensures uf2 { command_of (codes "uf2" ∷ codes "i" ∷ codes "data" ∷ codes "a" ∷ [])
-        ≡ Some (Uf2 (codes "i") 0xe48bff58 (codes "a")) }
+        ≡ Some (command_line verbs.Uf2
+        (record no_values { image = codes "i"; family = 0xe48bff58; out = codes "a" })) }
     ensures uf2_cpu { command_of (codes "uf2" ∷ codes "i" ∷ codes "data" ∷ codes "arm" ∷ [])
-        ≡ Some (Uf2 (codes "i") 0xe48bff58 (codes "arm")) }
+        ≡ Some (command_line verbs.Uf2
+        (record no_values { image = codes "i"; family = 0xe48bff58; out = codes "arm" })) }
     ensures plan { command_of
         (codes "plan" ∷ codes "f" ∷ codes "o" ∷ codes "riscv" ∷ codes "i" ∷ codes "a" ∷ [])
-        ≡ Some (Plan (codes "f") (codes "o") Riscv (codes "i") (codes "a")) }
+        ≡ Some (command_line verbs.Plan
+        (record board { cpu = Riscv; image = codes "i"; out = codes "a" })) }
     ensures load { command_of
         (codes "load" ∷ codes "f" ∷ codes "o" ∷ codes "arm" ∷ codes "i" ∷ codes "a" ∷ [])
-        ≡ Some (Load (codes "f") (codes "o") Arm (codes "i") (codes "a")) }
+        ≡ Some (command_line verbs.Load (record board { image = codes "i"; out = codes "a" })) }
     ensures sweep { command_of
         (codes "sweep" ∷ codes "f" ∷ codes "o" ∷ codes "arm" ∷ codes "s" ∷ codes "p" ∷ [])
-        ≡ Some (Sweep (codes "f") (codes "o") Arm (codes "s") (codes "p")) }
+        ≡ Some (command_line verbs.Sweep
+        (record board { script = codes "s"; pattern = codes "p" })) }
     ensures firm { command_of (codes "firm" ∷ codes "i" ∷ codes "riscv" ∷ [])
-        ≡ Some (Firm (codes "i") Riscv) }
+        ≡ Some (command_line verbs.Firm (record no_values { image = codes "i"; cpu = Riscv })) }
     ensures copy { command_of (codes "copy" ∷ codes "u" ∷ codes "a" ∷ [])
-        ≡ Some (Copy (codes "u") (codes "a")) }
-    ensures list { command_of (codes "list" ∷ codes "7" ∷ []) ≡ Some (ListScript (codes "7")) }
+        ≡ Some (command_line verbs.Copy (record no_values { uf2 = codes "u"; out = codes "a" })) }
+    ensures list { command_of (codes "list" ∷ codes "7" ∷ [])
+        ≡ Some (command_line verbs.ListScript (record no_values { script = codes "7" })) }
     ensures script { command_of (codes "script" ∷ codes "t" ∷ codes "a" ∷ [])
-        ≡ Some (WriteScript (codes "t") (codes "a")) }
-    ensures made { command_of (codes "gen" ∷ codes "007" ∷ []) ≡ Some (Gen 7) }
+        ≡ Some (command_line verbs.WriteScript
+        (record no_values { text = codes "t"; out = codes "a" })) }
+    ensures made { command_of (codes "gen" ∷ codes "007" ∷ [])
+        ≡ Some (command_line verbs.Gen (record no_values { number = 7 })) }
 {}
 
 /// Arguments that are none of the commands.

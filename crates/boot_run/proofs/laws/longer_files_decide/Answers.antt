@@ -1,5 +1,6 @@
 use Rattle.cli_inputs.proofs.InputLemmas.{outcome-cut}
-use Rattle.boot_run.specs.Commands.{inputs_of, work_of}
+use Rattle.boot_run.specs.Inputs.{inputs_of}
+use Rattle.boot_run.specs.Commands.{work_of}
 use Rattle.boot_run.proofs.laws.longer_files_decide.Goals as goal
 
 pub returns : goal.returns
