@@ -1,7 +1,7 @@
 //! Laws on what a session on one slot of a pair leaves, each the contract of a function that does
 //! nothing.
 
-ghost use Rattle.std.specs.Prelude.{◌≡◌, ◌≢◌, ◌⊎◌, ◌↔◌, ◌++◌, ◌∷◌, [], ℕ, ◌+◌, ◌<◌, ◌≤◌, List, Ok, Some, length, slice_index, true};
+ghost use Rattle.std.specs.Prelude.{◌≡◌, ◌≢◌, ◌⊎◌, ◌↔◌, ◌++◌, ◌∷◌, [], ℕ, ◌+◌, ◌-◌, ◌^◌, ◌<◌, ◌≤◌, List, Ok, Some, false, length, slice_index, true};
 ghost use Rattle.boot_script.specs.Events.{EventView};
 ghost use Rattle.boot_script.specs.Scripts.{events};
 ghost use Rattle.script_plan.specs.Plans.{plan_text};
@@ -14,9 +14,11 @@ ghost use Rattle.pico_board.specs.Content.{Content, IsContent};
 ghost use Rattle.pico_board.specs.Sessions.{Confined, Gated, Unfinished};
 ghost use Rattle.pico_board.specs.Steps.{CutOf, MayLeave, after_all};
 ghost use Rattle.pico_board.specs.declared.Step.{Step};
+ghost use Rattle.pico_board.specs.declared.mem_board.MemBoard.{MemBoard};
 ghost use Rattle.pico_board.specs.declared.boot.BootKind.TheVariants.{Normal};
 ghost use Rattle.pico_board.specs.declared.boot.Cpu.{Cpu};
 ghost use Rattle.pico_board.specs.declared.window.Window.{Window};
+ghost use Rattle.image_check.specs.Valid.{Valid};
 ghost use Rattle.slot_choice.specs.declared.choice.Choice.{Choice};
 ghost use Rattle.boot_rules.specs.Chosen.{Chosen, IsBootMember};
 ghost use Rattle.boot_rules.specs.Starts.{table_of_content};
@@ -27,6 +29,8 @@ ghost use Rattle.part_table.specs.Windows.{partition_window};
 ghost use Rattle.boot_rules.specs.declared.decision.Decision.{Decision};
 ghost use Rattle.boot_rules.specs.declared.decision.Decision.TheVariants.{Start};
 ghost use Rattle.boot_rules.specs.declared.tables.Found.{Found};
+ghost use Rattle.boot_session.specs.Recordings.{IsRecorderOf};
+ghost use Rattle.boot_session.specs.declared.recorder.Recorder.{Recorder};
 ghost use Rattle.boot_session.specs.Slots.{IsSlot, session_slot};
 ghost use Rattle.boot_session.specs.CutSessions.{ConfinedSession, CutSession, IsInNoUnit, StartsOutside, StartsFinished, StartsThere};
 
@@ -148,4 +152,19 @@ pub fn plays_do_sessions()
 pub fn slots_are_found()
     ensures { (c : Content) (cpu : Cpu) (steps : List Step) (w : Window) → IsContent c
         → (session_slot c cpu steps ≡ Some w) ↔ IsSlot c cpu steps w }
+{}
+
+/// A recorder counts all steps of a session, those too that it does not keep. Its count has not come
+/// to its type's end.
+pub fn steps_are_counted()
+    ensures all { (r : Recorder MemBoard) (c : Content) (cpu : Cpu) (steps : List Step)
+        → IsRecorderOf r c cpu steps → r.count ≡ length steps }
+    ensures few { (r : Recorder MemBoard) (c : Content) (cpu : Cpu) (steps : List Step)
+        → IsRecorderOf r c cpu steps → r.count < 2 ^ 32 - 1 }
+{}
+
+/// What a session on one slot makes start there is valid where no trial image is allowed.
+pub fn no_trial_image_starts_there()
+    ensures { (d : Content) (w : Window) (cpu : Cpu) (there : StartsThere d w cpu)
+        → Valid d w cpu false there.choice.image }
 {}

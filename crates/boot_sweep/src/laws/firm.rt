@@ -1,22 +1,30 @@
 //! Laws on firm images, each the contract of a function that does nothing.
 
-ghost use Rattle.std.specs.Prelude.{◌≡◌, ◌≢◌, ℕ, ◌+◌, ◌<◌, ◌≤◌, ◌++◌, ◌∷◌, All, Contains, List, None, Some, false, length};
-ghost use Rattle.pico_board.specs.Content.{Content, IsContent};
+ghost use Rattle.std.specs.Prelude.{◌≡◌, ◌≢◌, ℕ, ◌+◌, ◌<◌, ◌≤◌, ◌++◌, ◌∷◌, All, Contains, List, None, Some, false, true, length};
+ghost use Rattle.pico_board.specs.Content.{Content, IsContent, window_bytes};
 ghost use Rattle.pico_board.specs.Sessions.{Gated, Unfinished};
 ghost use Rattle.pico_board.specs.Steps.{IsCutAt, after_all};
 ghost use Rattle.pico_board.specs.declared.Step.{Step};
 ghost use Rattle.pico_board.specs.declared.boot.Cpu.{Cpu};
 ghost use Rattle.pico_board.specs.declared.window.Window.{Window};
 ghost use Rattle.image_def.specs.declared.started.Started.{Started};
+ghost use Rattle.image_check.specs.Valid.{Valid};
 ghost use Rattle.boot_rules.specs.Chosen.{IsBootMember};
 ghost use Rattle.boot_rules.specs.Tables.{table_in};
 ghost use Rattle.boot_rules.specs.declared.tables.Found.{Found};
 ghost use Rattle.boot_rules.specs.AccidentalImages.{HasNoAccidentalImage};
 ghost use Rattle.boot_sweep.specs.declared.results.CutResult.TheVariants.{Chance};
-ghost use Rattle.boot_sweep.specs.Firms.{Firm, HasOwnDigests, Stray};
+ghost use Rattle.boot_sweep.specs.Firms.{Firm, HasOwnDigests, IsFirm, Stray};
 ghost use Rattle.boot_sweep.specs.Refusals.{sweep_refusal};
 ghost use Rattle.boot_session.specs.Slots.{IsSlot};
 ghost use Rattle.boot_sweep.specs.Sweeps.{Line, content_at_line, sweep_lines};
+
+/// An image that is valid where a trial image is allowed, and that is firm by its bytes, is firm. So
+/// a trial image may be firm.
+pub fn trial_images_may_be_firm()
+    ensures { (c : Content) (w : Window) (cpu : Cpu) (s : Started) → Valid c w cpu true s
+        → IsFirm cpu (window_bytes c w) s → Firm c w cpu s }
+{}
 
 /// Let a gated session write a firm image, and a cut in a step other than the first one leave no
 /// stray block. Then it leaves no image by chance, where covered texts that differ have digests

@@ -83,6 +83,11 @@ pub fn chance_is_an_accidental_image()
         → count_by is_chance (sweep_lines c cpu pattern steps) ≤ max 1 (2 * length last) }
 {}
 
+/// The lines that are counted are those whose result is `chance`, and no others.
+pub fn counted_lines_are_those_of_chance()
+    ensures { (line : Line) → (is_chance line ≡ true) ↔ (line.result ≡ Chance) }
+{}
+
 /// The text of a sweep says, in the rules' words, what a normal boot makes of each cut.
 pub fn sweeps_are_told()
     ensures { (c : Content) (cpu : Cpu) (pattern : List ℕ) (steps : List Step) → IsContent c

@@ -1,13 +1,15 @@
 //! Laws on UF2 files that a host copies whole to the board's drive. Each is the contract of a
 //! function that does nothing.
 
-ghost use Rattle.std.specs.Prelude.{◌≡◌, ◌⊎◌, ◌/◌, false, ℕ, List, Ok, Some, length, map};
-ghost use Rattle.pico_board.specs.Content.{Content, window_bytes};
+ghost use Rattle.std.specs.Prelude.{◌≡◌, ◌⊎◌, ◌+◌, ◌*◌, ◌/◌, ◌<◌, ◌≤◌, All, false, true, ℕ, List, Ok, Some, length, map};
+ghost use Rattle.pico_board.specs.Content.{Content, IsContent, window_bytes};
 ghost use Rattle.pico_board.specs.Sessions.{Gated};
 ghost use Rattle.pico_board.specs.Steps.{after_all};
 ghost use Rattle.pico_board.specs.declared.boot.BootKind.TheVariants.{Normal};
 ghost use Rattle.pico_board.specs.declared.boot.Cpu.{Cpu};
 ghost use Rattle.part_table.specs.declared.Target.{Target};
+ghost use Rattle.part_table.specs.declared.table.Right.TheVariants.{BootWrite};
+ghost use Rattle.part_table.specs.Rights.{allowed_by};
 ghost use Rattle.uf2_place.specs.Blocks.{written_block};
 ghost use Rattle.uf2_place.specs.Files.{file_blocks, file_bytes};
 ghost use Rattle.uf2_place.specs.Placement.{download_steps};
@@ -16,11 +18,25 @@ ghost use Rattle.boot_script.specs.Scripts.{events};
 ghost use Rattle.boot_rules.specs.declared.decision.Decision.{Decision};
 ghost use Rattle.boot_rules.specs.Chosen.{Chosen, IsBootMember};
 ghost use Rattle.boot_rules.specs.Starts.{table_of_content};
-ghost use Rattle.boot_rules.specs.Targets.{target_of};
+ghost use Rattle.boot_rules.specs.Targets.{is_executable, target_of};
 ghost use Rattle.boot_session.specs.CutSessions.{CutSession, StartsFinished};
 ghost use Rattle.cli_course.specs.Outcomes.{Answers, one_file};
 ghost use Rattle.cli_scripts.specs.Copies.{blocks_in, copy_events, copy_line, copy_work};
 ghost use Rattle.law_downloads.specs.Copied.{AreLostUpdates, IsCutDownload, IsDownload, IsLostUpdate, copied_script, copied_session, downloaded, last_of};
+
+/// The laws below ask no more of a download than this: an executable family has a gated target by
+/// the content's own table, every sector of its window has boot write, and the image has at least
+/// one byte, and at most as many as the window.
+pub fn downloads_are_asked_no_more()
+    ensures { (c : Content) (cpu : Cpu) (family : ℕ) (target : Target) (image : List ℕ)
+        → IsContent c → is_executable family ≡ true
+        → target_of c (table_of_content c) cpu family ≡ Some target → target.gated ≡ true
+        → ((s : ℕ) → target.window.start ≤ 4096 * s
+        → 4096 * s < target.window.start + target.window.len
+        → allowed_by (table_of_content c) s BootWrite ≡ true)
+        → All (λ b. b < 256) image → 0 < length image → length image ≤ target.window.len
+        → IsDownload c cpu family target image }
+{}
 
 /// Suppose that an executable family has a gated target by a content's own table, and that every
 /// sector of its window has boot write. Let an image be not empty, and no longer than the window.

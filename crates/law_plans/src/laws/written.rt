@@ -1,11 +1,12 @@
 //! Laws of written images, each the contract of a function that does nothing.
 
-ghost use Rattle.std.specs.Prelude.{◌≡◌, ◌*◌, ◌<◌, ◌≤◌, ◌/◌, ◌+◌, ◌%◌, ℕ, Bool, true, List, All, length, replicate, ◌++◌, ◌-◌, slice_index};
+ghost use Rattle.std.specs.Prelude.{◌≡◌, ◌↔◌, ◌*◌, ◌<◌, ◌≤◌, ◌/◌, ◌+◌, ◌%◌, ℕ, Bool, true, List, All, length, replicate, ◌++◌, ◌-◌, slice_index};
 ghost use Rattle.pico_board.specs.Content.{Content, IsContent, window_bytes};
 ghost use Rattle.pico_board.specs.Steps.{after_all};
 ghost use Rattle.pico_board.specs.declared.boot.Cpu.{Cpu};
 ghost use Rattle.pico_board.specs.declared.window.Window.{Window};
 ghost use Rattle.pico_board.specs.declared.window.TheConstants.{MOST_FLASH_BYTES};
+ghost use Rattle.block_codec.specs.Blocks.{BlockAt, BlockView, block_size};
 ghost use Rattle.block_codec.specs.Erased.{IsErasedFrom};
 ghost use Rattle.image_def.specs.declared.started.Started.{Started};
 ghost use Rattle.load_map.specs.Stored.{AreStoredIn};
@@ -32,6 +33,13 @@ pub fn what_stands_behind_an_image()
         → IsErasedFrom one n (length one) → AgreeFrom one two 0 n
         → AreStoredIn n v.sound.loads → HasNoLowBlockPast n two
         → IsValidImage in_flash w cpu trial otp two s }
+{}
+
+/// What is asked of low blocks there, and what is told of them below, is just this: each block that
+/// begins below offset 4096 ends at or before n.
+pub fn low_blocks_end_before()
+    ensures { (n : ℕ) (bytes : List ℕ) → HasNoLowBlockPast n bytes
+        ↔ ((x : ℕ) (b : BlockView) → x < 4096 → BlockAt bytes x b → x + block_size b ≤ n) }
 {}
 
 /// What a plan's steps leave in the window: the image, 0 to the end of its last page, 0xff to the
