@@ -1,7 +1,7 @@
 //! Laws on power that is lost in what a boot or a buy writes. Each is a function that does
 //! nothing, whose contract is the law.
 
-ghost use Rattle.std.specs.Prelude.{◌≡◌, ◌⊎◌, ◌↔◌, ℕ, List, None, Some, false, true, slice_get};
+ghost use Rattle.std.specs.Prelude.{◌≡◌, ◌≢◌, ◌⊎◌, ◌↔◌, ℕ, Contains, List, None, Some, false, true, slice_get};
 ghost use Rattle.block_codec.specs.Erased.{IsErasedFrom};
 ghost use Rattle.boot_rules.specs.Choosing.{boot_units_in};
 ghost use Rattle.boot_rules.specs.Chosen.{Chosen};
@@ -17,6 +17,7 @@ ghost use Rattle.image_check.specs.Changes.{bought};
 ghost use Rattle.image_check.specs.SameImage.{SameImage};
 ghost use Rattle.image_check.specs.Valid.{Valid};
 ghost use Rattle.image_def.specs.declared.started.Started.{Started};
+ghost use Rattle.otp_roll.specs.Rows.{AreRowsApart, IsOutside};
 ghost use Rattle.pico_board.specs.Content.{Content, IsContent, window_bytes};
 ghost use Rattle.pico_board.specs.Sessions.{IsConfined};
 ghost use Rattle.pico_board.specs.Steps.{CutOf, IsCutAt, IsRaise, MayLeave, after_all};
@@ -28,9 +29,29 @@ ghost use Rattle.pico_board.specs.declared.boot.Cpu.{Cpu};
 ghost use Rattle.pico_board.specs.declared.window.Window.{Window};
 ghost use Rattle.slot_choice.specs.declared.choice.Choice.{Choice};
 ghost use Rattle.slot_choice.specs.declared.unit.SlotUnit.{SlotUnit};
+ghost use Rattle.slot_choice.specs.declared.unit.Member.{Member};
+ghost use Rattle.slot_choice.specs.Units.{member_window};
 ghost use Rattle.slot_choice.specs.Updates.{updated_member};
 ghost use Rattle.trial_buy.specs.Buying.{buy_steps};
 ghost use Rattle.trial_buy.specs.Starting.{image_raises, start_steps};
+
+/// What is asked below of the rows of other boot units is asked of images alone that are valid in
+/// a normal boot, so of no trial image.
+pub fn trial_images_of_other_units_are_not_asked()
+    ensures rows { (c : Content) (cpu : Cpu) (u : SlotUnit) (steps : List Step)
+        → ((i : ℕ) (v : SlotUnit) (m : Member) (w : Window) (s : Started) (r row bits : ℕ)
+        → slice_get (boot_units_in c cpu) i ≡ Some v → v ≢ u → member_window m v ≡ Some w
+        → Valid c w cpu false s → Contains s.rows.items r → Contains steps (Raise row bits)
+        → IsOutside row r)
+        → KeepsOtherRows c cpu u steps }
+    ensures triples { (c : Content) (cpu : Cpu) (choice : Choice) (u : SlotUnit)
+        (steps : List Step)
+        → ((i : ℕ) (v : SlotUnit) (m : Member) (w : Window) (s : Started) (r q row bits : ℕ)
+        → slice_get (boot_units_in c cpu) i ≡ Some v → v ≢ u → member_window m v ≡ Some w
+        → Valid c w cpu false s → Contains s.rows.items r → Contains choice.image.rows.items q
+        → Contains steps (Raise row bits) → ¬ (IsOutside row q) → AreRowsApart r q)
+        → KeepsOtherTriples c cpu choice u steps }
+{}
 
 /// Suppose that power is lost in the raises that a normal boot does, or an update of an address at
 /// which no member starts. Then the next normal boot starts the same image. The raises of any
