@@ -9,4 +9,5 @@ pub mod WriteLemmas
 pub mod AtLemmas
 pub mod HighByteLemmas
 pub mod PageLemmas
+pub mod SearchLemmas
 mod KindLemmas

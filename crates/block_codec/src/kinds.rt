@@ -1,10 +1,10 @@
 //! The kinds of items that image definitions and partition tables read, and what both read alike
 //! in them (RP2350 Datasheet, chapter 5, Bootrom, "Common block items").
 
-ghost use Rattle.std.specs.Prelude.{◌≡◌, ◌+◌, ◌∷◌, take, slice_range, flat_map, Contains, length, ◌≤◌};
-ghost use Rattle.block_codec.specs.Items.{items_of};
-ghost use Rattle.block_codec.specs.Blocks.{block_words};
-ghost use Rattle.block_codec.specs.Kinds.{first_spelling, hash_count_of, digest_of};
+ghost use Rattle.std.specs.Prelude.{◌≡◌, ◌+◌, ◌∷◌, take, slice_range, flat_map, Contains, IfSome, length, true, ◌≤◌};
+ghost use Rattle.block_codec.specs.Items.{items_of, IsItemOf};
+ghost use Rattle.block_codec.specs.Blocks.{block_words, IsWholeBlock};
+ghost use Rattle.block_codec.specs.Kinds.{first_spelling, is_of_kind, item_of_kind, hash_count_of, digest_of};
 ghost use Rattle.block_codec.specs.Words.{bytes_of};
 
 use crate::blocks::Block;
@@ -47,6 +47,23 @@ pub fn kind_of(type_byte: u8) -> u8
         LONG_PARTITION_TABLE => PARTITION_TABLE,
         other => other,
     }
+}
+
+/// The first item of a kind, which is named by its first spelling.
+pub fn find_item(block: &Block, kind: u8) -> Option<Item>
+    ensures value { result ≡ item_of_kind kind (items_of block.now.items) }
+    ensures of_block { IfSome result (λ item. Contains (items_of block.now.items) item) }
+    ensures inside { IfSome result (λ item. IsItemOf block.now.items item) }
+    ensures kind { IfSome result (λ item. is_of_kind kind item ≡ true) }
+    ensures whole { IsWholeBlock block.now }
+{
+    for i in 0..block.count() {
+        let item = block.item(i);
+        if kind_of(item.kind) == kind {
+            return Some(item);
+        }
+    }
+    None
 }
 
 /// The number of the block's words, from the start word on, that a HASH_DEF item names; None

@@ -5,12 +5,12 @@ use Rattle.std.specs.Result.{result_ok}
 use Rattle.std.proofs.lemmas.List.{reverse-append, take_all, take_more}
 use Rattle.std.proofs.lemmas.Option.{slice_get_within, get_or_from_slice_get, same_Some}
 use Rattle.block_codec.specs.Blocks.{BlockView}
+use Rattle.block_codec.proofs.SearchLemmas.{find-passes}
 use Rattle.block_loop.specs.Loop.{loop_of}
 use Rattle.block_loop.specs.Offsets.{AreLoop}
 use Rattle.block_loop.proofs.PlaceLemmas.{as-many}
 use Rattle.block_loop.proofs.ChainLemmas.{loop_of-loop}
 use Rattle.block_loop.specs.declared.fault.LoopFault.{LoopFault}
-use Rattle.image_def.proofs.FoundLemmas.{find-passes}
 use Rattle.otp_roll.specs.Flags.{slot_size}
 use Rattle.part_table.specs.declared.table.Table.{Table}
 use Rattle.part_table.specs.declared.table.TableFault.{TableFault}

@@ -22,6 +22,7 @@ use Rattle.block_codec.specs.Kinds.{first_spelling, is_of_kind}
 use Rattle.block_codec.specs.Words.{word_of}
 use Rattle.block_codec.proofs.AtLemmas.{AreBytes-block, BlockAt-room, BlockAt-word, block_byte}
 use Rattle.block_codec.proofs.FrameLemmas.{word-item}
+use Rattle.block_codec.proofs.SearchLemmas.{find-passes, find-place}
 use Rattle.block_loop.specs.Loop.{IsLoop}
 use Rattle.block_loop.proofs.SameLoopLemmas.{IsLoop-from_answer, changed_others, loop_of-changed}
 use Rattle.image_def.specs.declared.started.Started.{Started}
@@ -29,7 +30,6 @@ use Rattle.image_def.specs.Flags.{is_trial}
 use Rattle.image_def.specs.Guarantees.{IsDefinition, IsImageItem, IsLoadMapItem}
 use Rattle.image_def.specs.Suits.{does_suit}
 use Rattle.image_def.specs.Trial.{trial_cleared, untried, untried_answer}
-use Rattle.image_def.proofs.FoundLemmas.{find-passes, find-place}
 use Rattle.image_def.proofs.GuaranteeLemmas.{definition_from_ok}
 use Rattle.image_def.proofs.TrialLemmas.{changed-cleared, definition-cleared, item-cleared, size-cleared, suits-cleared, type_byte-there}
 use Rattle.load_map.specs.declared.load.Load.{Load}

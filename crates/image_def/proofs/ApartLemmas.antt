@@ -1,5 +1,5 @@
 -- Items do not overlap, so a change of one header changes no word that another item has behind its own.
-use Rattle.std.proofs.Common.{◌≡◌, ◌≢◌, ℕ, zero, suc, ◌+◌, ◌-◌, ◌*◌, ◌/◌, ◌%◌, ◌<◌, ◌≤◌, ◌&&◌, ◌||◌, min, Bool, true, false, cond, eqb, List, [], ◌∷◌, length, drop, get_or, slice_range, Option, Some, None, refl, sym, ap, ◌∙◌, inl, inr, arith, length-take, length-drop}
+use Rattle.std.proofs.Common.{◌≡◌, ◌≢◌, ℕ, zero, suc, ◌+◌, ◌-◌, ◌*◌, ◌/◌, ◌%◌, ◌<◌, ◌≤◌, ◌&&◌, min, Bool, true, false, cond, eqb, List, [], ◌∷◌, length, drop, get_or, slice_range, Option, Some, None, refl, sym, ap, ◌∙◌, inl, inr, arith, length-take, length-drop}
 use Rattle.std.proofs.Math.Dec.{leb}
 use Rattle.std.proofs.lemmas.Bool.{eqb-true, cases_eq, eq-eqb, and_left}
 use Rattle.std.proofs.lemmas.Bool.Decides.{nat_tests}
@@ -11,12 +11,13 @@ use Rattle.pico_board.proofs.ConfinementLemmas.{slice_range_ext}
 use Rattle.std.specs.Option.{is_some, unwrap_or}
 use Rattle.block_codec.specs.declared.items.Item.{Item}
 use Rattle.block_codec.specs.declared.versions.Version.{Version}
-use Rattle.block_codec.specs.declared.kinds.TheConstants.{IMAGE_TYPE, VECTOR_TABLE, ENTRY_POINT, WINDOW_DELTA, LOAD_MAP, HASH_DEF, VERSION, HASH_VALUE}
+use Rattle.block_codec.specs.declared.kinds.TheConstants.{LOAD_MAP, HASH_DEF, VERSION}
 use Rattle.block_codec.specs.Items.{item_at, items_from, size_of}
 use Rattle.block_codec.specs.Kinds.{version_words, version_of, hash_count_of, digest_of}
 use Rattle.block_codec.specs.Words.{bytes_of, low_half, high_half}
 use Rattle.image_def.specs.Rows.{version_tail, rollback_in, rows_in}
 use Rattle.image_def.specs.Faults.{is_right_version, is_well_formed_as}
+use Rattle.image_def.specs.Kinds.{has_right_size}
 use Rattle.image_def.proofs.RowLemmas.{tail-low, tail-high, length-halves}
 
 from_place : (place k : ℕ) (ws : List ℕ) (j : ℕ) (x : Item) → slice_get (items_from place k ws) j ≡ Some x
@@ -71,14 +72,11 @@ wrong words x t =
     (unwrap_or (rollback_in words x) 0) (24 * x.high)) t
 
 -- what is well formed, by the parts that read words
-abbrev chain : ℕ → Item → Bool → Bool → Bool → Bool
-chain kind x count version value =
-    cond (eqb kind IMAGE_TYPE) (eqb x.words 1)
-    (cond (eqb kind VECTOR_TABLE) (eqb x.words 2)
-    (cond (eqb kind ENTRY_POINT) (eqb x.words 3 || eqb x.words 4)
-    (cond (eqb kind WINDOW_DELTA) (eqb x.words 2)
-    (cond (eqb kind LOAD_MAP) (eqb x.words (1 + 3 * (x.high % 128)))
-    (cond (eqb kind HASH_DEF) count (cond (eqb kind VERSION) version (cond (eqb kind HASH_VALUE) value true)))))))
+abbrev chain : ℕ → Item → Bool → Bool → Bool
+chain kind x count version =
+    has_right_size kind x
+    && cond (eqb kind LOAD_MAP) (eqb x.words (1 + 3 * (x.high % 128)))
+    (cond (eqb kind HASH_DEF) count (cond (eqb kind VERSION) version true))
 
 -- words that differ at one place alone, and an item that has no word behind its header there
 module _ (words new : List ℕ) (p : ℕ) (long : length new ≡ length words)
@@ -190,6 +188,5 @@ module _ (words new : List ℕ) (p : ℕ) (long : length new ≡ length words)
       go false t = refl
 
   pub right_as : (kind : ℕ) → is_well_formed_as kind new x ≡ is_well_formed_as kind words x
-  right_as kind = ap (λ b. chain kind x (is_some (hash_count_of new x)) b (is_some (digest_of new x))) right_same
-      ∙ ap (λ o. chain kind x (is_some o) (is_right_version words x) (is_some (digest_of new x))) hash_count_same
-      ∙ ap (λ o. chain kind x (is_some (hash_count_of words x)) (is_right_version words x) (is_some o)) digest_same
+  right_as kind = ap (λ b. chain kind x (is_some (hash_count_of new x)) b) right_same
+      ∙ ap (λ o. chain kind x (is_some o) (is_right_version words x)) hash_count_same

@@ -1,6 +1,6 @@
 -- The fault of an item, and what is true of items without one.
-use Rattle.std.proofs.Common.{◌≡◌, ◌≢◌, ℕ, ◌*◌, ◌≤◌, ◌&&◌, not, Bool, true, false, cond, eqb, List, length, take, Option, Some, None, refl, sym, ap, subst, ◌∙◌, inl, inr, arith}
-use Rattle.std.proofs.lemmas.Bool.{eqb-true, leb-true, eq-eqb, ne_eqb, and_parts, or_cases}
+use Rattle.std.proofs.Common.{◌≡◌, ◌≢◌, ℕ, ◌*◌, ◌≤◌, ◌&&◌, not, Bool, true, false, cond, eqb, List, length, take, Option, Some, None, refl, sym, ap, subst, ◌∙◌, arith}
+use Rattle.std.proofs.lemmas.Bool.{eqb-true, leb-true, le-leb, eq-eqb, ne_eqb, and_parts}
 use Rattle.std.proofs.lemmas.Bool.Decides.{nat_tests}
 use Rattle.std.proofs.lemmas.Option.{slice_get_within, get_or_from_slice_get}
 use Rattle.std.proofs.Math.Dec.{leb}
@@ -16,10 +16,11 @@ use Rattle.block_codec.specs.FirstFault.{first_fault, AreSound}
 use Rattle.block_codec.proofs.FirstFaultLemmas.{sound_from_none}
 use Rattle.image_def.specs.declared.fault.DefFault.{DefFault}
 use Rattle.image_def.specs.declared.fault.DefFault.TheVariants.{Repeated, BadItem}
-use Rattle.image_def.specs.Found.{is_read_kind, IsHeldItem, IsVersion}
+use Rattle.image_def.specs.Kinds.{is_read_kind}
+use Rattle.image_def.specs.Held.{IsHeldItem, IsVersion}
 use Rattle.image_def.specs.Rows.{rollback_in, rows_in, row_fault}
 use Rattle.image_def.specs.Faults.{first_item_fault, hashed_fault, hash_count_in, last_fault, is_right_version, is_well_formed, is_well_formed_as, item_fault}
-use Rattle.image_def.proofs.FoundLemmas.{NoneBefore, find-place, find-passes}
+use Rattle.block_codec.proofs.SearchLemmas.{find-place, find-passes}
 
 -- the order of an item's faults, by its tests
 abbrev pub judged : Bool → Bool → Bool → Bool → ℕ → Option DefFault → Option DefFault
@@ -105,10 +106,6 @@ faultless_item words before item none read =
     faultless (is_read_kind (first_spelling item.kind)) _ _ _ (first_spelling item.kind)
     (first_fault row_fault (rows_in words item)) none read
 
-pub none_before : (words : List ℕ) (before : List Item) (item : Item) → item_fault words before item ≡ None
-    → NoneBefore before item
-none_before words before item none read = (faultless_item words before item none read).0
-
 -- the item of a kind that is read, among items without a fault
 pub record IsSoundItem (words : List ℕ) (items : List Item) (kind : ℕ) (item : Item) : Type 0 where
   pub of_items : Contains items item
@@ -163,6 +160,27 @@ right_version words item e =
       within = leb-true (unwrap_or (rollback_in words item) 0) (24 * item.high) p.1;
     }
 
+-- the size of an item that is well formed, and what it has beside
+pub in_range : (item : Item) (least most : ℕ) (inside : Bool)
+    → ((leb least item.words && leb item.words most) && inside) ≡ true
+    → ((least ≤ item.words) × (item.words ≤ most)) × (inside ≡ true)
+in_range item least most inside e =
+    let p = and_parts (leb least item.words && leb item.words most) inside e in
+    let q = and_parts (leb least item.words) (leb item.words most) p.0 in
+    ((leb-true least item.words q.0, leb-true item.words most q.1), p.1)
+
+version_fits : (words high : ℕ) → words ≡ version_words high → high ≤ 32 → (2 ≤ words) × (words ≤ 19)
+version_fits words high e few = grind (arith, nat_tests)
+
+-- a right VERSION item has the size of its kind
+pub well_formed_version : (words : List ℕ) (item : Item) → is_right_version words item ≡ true
+    → is_well_formed_as VERSION words item ≡ true
+well_formed_version words item right =
+    let v = right_version words item right in
+    let fits = version_fits item.words item.high v.size v.few in
+    ap (λ t. (t && leb item.words 19) && is_right_version words item) (le-leb 2 item.words fits.0)
+    ∙ (ap (λ t. t && is_right_version words item) (le-leb item.words 19 fits.1) ∙ right)
+
 module _ (b : BlockView) (none : first_item_fault b ≡ None) where
   sound : AreSound (item_fault (block_words b)) (items_of b.items) (length (items_of b.items))
   sound = sound_from_none (item_fault (block_words b)) (items_of b.items) none
@@ -170,24 +188,17 @@ module _ (b : BlockView) (none : first_item_fault b ≡ None) where
   pub held-vector : (item : Item) → item_of_kind VECTOR_TABLE (items_of b.items) ≡ Some item → IsHeldItem b 2 item
   held-vector item is =
       let s = sound_item (block_words b) (items_of b.items) VECTOR_TABLE item sound refl is in
-      let size : item.words ≡ 2 = eqb-true item.words 2 s.right in
-      record { of_block = s.of_items; size = omega arith }
+      record { of_block = s.of_items; size = (in_range item 2 2 true s.right).0.0 }
 
   pub held-delta : (item : Item) → item_of_kind WINDOW_DELTA (items_of b.items) ≡ Some item → IsHeldItem b 2 item
   held-delta item is =
       let s = sound_item (block_words b) (items_of b.items) WINDOW_DELTA item sound refl is in
-      let size : item.words ≡ 2 = eqb-true item.words 2 s.right in
-      record { of_block = s.of_items; size = omega arith }
+      record { of_block = s.of_items; size = (in_range item 2 2 true s.right).0.0 }
 
   pub held-entry : (item : Item) → item_of_kind ENTRY_POINT (items_of b.items) ≡ Some item → IsHeldItem b 3 item
   held-entry item is =
       let s = sound_item (block_words b) (items_of b.items) ENTRY_POINT item sound refl is in
-      elim (or_cases (eqb item.words 3) (eqb item.words 4) s.right) [
-        | inl three ↦ let size : item.words ≡ 3 = eqb-true item.words 3 three in
-            record { of_block = s.of_items; size = omega arith }
-        | inr four ↦ let size : item.words ≡ 4 = eqb-true item.words 4 four in
-            record { of_block = s.of_items; size = omega arith }
-      ]
+      record { of_block = s.of_items; size = (in_range item 3 4 true s.right).0.0 }
 
   pub held-digest : (item : Item) → item_of_kind HASH_VALUE (items_of b.items) ≡ Some item → IsHeldItem b 0 item
   held-digest item is =
@@ -197,7 +208,7 @@ module _ (b : BlockView) (none : first_item_fault b ≡ None) where
   pub held-version : (item : Item) → item_of_kind VERSION (items_of b.items) ≡ Some item → IsVersion b item
   held-version item is =
       let s = sound_item (block_words b) (items_of b.items) VERSION item sound refl is in
-      let v = right_version (block_words b) item s.right in
+      let v = right_version (block_words b) item (in_range item 2 19 _ s.right).1 in
       record { of_block = s.of_items; kind = version_kind item.kind s.kind_is; size = v.size; few = v.few }
 
 -- the fault for after all items, where there is a HASH_DEF and no HASH_VALUE

@@ -16,7 +16,7 @@ use Rattle.image_def.specs.declared.fault.DefFault.{DefFault}
 use Rattle.image_def.specs.declared.fault.DefFault.TheVariants.{BadItem}
 use Rattle.image_def.specs.Rows.{version_tail, rollback_in, rows_in, is_near, row_fault}
 use Rattle.image_def.proofs.RowLemmas.{length-halves}
-use Rattle.image_def.proofs.FaultLemmas.{IsRightVersion, sound_at, sound_item, right_version}
+use Rattle.image_def.proofs.FaultLemmas.{IsRightVersion, in_range, sound_at, sound_item, right_version}
 use Rattle.block_codec.specs.Words.{bytes_of}
 use Rattle.block_codec.specs.Blocks.{BlockView, block_words}
 use Rattle.block_codec.specs.Items.{AreItems, items_of, item_at, low_byte, high_byte}
@@ -206,7 +206,8 @@ module _ (b : BlockView) (whole : AreItems b.items) (none : IsFaultless b) where
   version_rows =
       gives_slot words (item_of_kind VERSION items) (λ item is.
       let s = sound_item words items VERSION item none.items refl is in
-      gives_rows words item (right_version words item s.right) (item-inside item s.of_items) (s.rows refl))
+      gives_rows words item (right_version words item (in_range item 2 19 _ s.right).1) (item-inside item s.of_items)
+      (s.rows refl))
 
   map_there : (o : Option ℕ) → position (is_of_kind LOAD_MAP) items ≡ o
       → IfSome o (λ i. (item : Item) × IsLoadMapItem b i item)
@@ -216,7 +217,8 @@ module _ (b : BlockView) (whole : AreItems b.items) (none : IsFaultless b) where
       let item = get_or items i (item_at 0 0) in
       let here = slice_get-get_or items i (item_at 0 0) at.0 in
       let s = sound_at words items LOAD_MAP i item none.items refl here at.1 in
-      (item, record { at = here; kind = at.1; size = eqb-true item.words (1 + 3 * (item.high % 128)) s.right })
+      let size = eqb-true item.words (1 + 3 * (item.high % 128)) (in_range item 1 382 _ s.right).1 in
+      (item, record { at = here; kind = at.1; size = size })
 
   map_within : (o : Option ℕ) → position (is_of_kind LOAD_MAP) items ≡ o → IfSome o (λ i. i < length items)
   map_within None e = tt
@@ -260,7 +262,8 @@ module _ (b : BlockView) (whole : AreItems b.items) (none : IsFaultless b) where
   image_there None e some = absurd (true≢false (sym some))
   image_there (Some item) e some =
       let s = sound_item words items IMAGE_TYPE item none.items refl e in
-      let size : item.words ≡ 1 = eqb-true item.words 1 s.right in
+      let range = (in_range item 1 1 true s.right).0 in
+      let size : item.words ≡ 1 = omega (arith, range) in
       let is = IsItemOf-from_contains b.items item whole s.of_items in (
         item,
         record {

@@ -3,8 +3,8 @@ use Rattle.std.proofs.Common.{◌≡◌, ◌⊎◌, ℕ, zero, suc, ◌<◌, ◌
 use Rattle.std.proofs.lemmas.Bool.{cases_order, eqb-true, eq-eqb, cases_eq, cases_Bool, true≢false}
 use Rattle.std.proofs.lemmas.Option.{none-some, same_Some, slice_get_within}
 use Rattle.std.proofs.lemmas.Bool.Decides.{nat_tests}
-use Rattle.image_def.proofs.FaultLemmas.{fault-unread, fault-repeated, fault-bad, fault-rows, fault-none}
-use Rattle.image_def.proofs.FoundLemmas.{is_some-find, find-place, find-passes}
+use Rattle.image_def.proofs.FaultLemmas.{fault-bad, fault-none, fault-repeated, fault-rows, fault-unread, in_range, well_formed_version}
+use Rattle.block_codec.proofs.SearchLemmas.{is_some-find, find-place, find-passes}
 use Rattle.std.specs.List.{slice_get, list_any}
 use Rattle.std.specs.Option.{option_or, is_some}
 use Rattle.block_codec.specs.declared.items.Item.{Item}
@@ -17,7 +17,7 @@ use Rattle.block_codec.specs.FirstFault.{first_fault, ok_unless, IsFirst, AreSou
 use Rattle.block_codec.proofs.FirstFaultLemmas.{sound_from_none, none_from_sound_at, fault_from_first, first_from_fault}
 use Rattle.image_def.specs.declared.fault.DefFault.{DefFault}
 use Rattle.image_def.specs.declared.fault.DefFault.TheVariants.{Repeated, BadItem, BadRow, RepeatedRow}
-use Rattle.image_def.specs.Found.{is_read_kind}
+use Rattle.image_def.specs.Kinds.{is_read_kind}
 use Rattle.image_def.specs.Rows.{rows_in, row_fault}
 use Rattle.image_def.specs.Faults.{is_well_formed, is_well_formed_as, item_fault, last_fault, def_fault, IsRepeated, ListsRows, IsItemFault, IsFaultless, IsDefFault}
 use Rattle.image_def.specs.Definition.{def_record, def_of}
@@ -38,7 +38,7 @@ or-some : {F : Type 0} (o p : Option F) (f : F) → option_or o p ≡ Some f →
 or-some None p f e = inr (refl, e)
 or-some (Some g) p f e = inl e
 
-get-take : {X : Type 0} (xs : List X) (i j : ℕ) (x : X) → i < j → slice_get xs i ≡ Some x
+pub get-take : {X : Type 0} (xs : List X) (i j : ℕ) (x : X) → i < j → slice_get xs i ≡ Some x
     → slice_get (take j xs) i ≡ Some x
 get-take [] i j x lt at = absurd (none-some x at)
 get-take (y ∷ xs) i zero x lt at = absurd (omega arith)
@@ -92,7 +92,7 @@ module _ (b : BlockView) where
             ∙ ap (λ o. ok_unless o (def_record words items)) last.1
       ]
 
-any_at : {X : Type 0} (p : X → Bool) (xs : List X) (j : ℕ) (x : X) → slice_get xs j ≡ Some x → p x ≡ true
+pub any_at : {X : Type 0} (p : X → Bool) (xs : List X) (j : ℕ) (x : X) → slice_get xs j ≡ Some x → p x ≡ true
     → list_any p xs ≡ true
 any_at p [] j x at is = absurd (none-some x at)
 any_at p (y ∷ xs) zero x at is = ap (λ b. b || list_any p xs) (ap p (same_Some y x at) ∙ is)
@@ -136,7 +136,7 @@ rows_fault : (words : List ℕ) (before : List Item) (item : Item) (f : DefFault
 rows_fault words before item f lists (i, first) =
     let same : VERSION ≡ first_spelling item.kind = sym (eqb-true (first_spelling item.kind) VERSION lists.kind) in
     sym (fault-rows words before item VERSION same refl (lacks VERSION before lists.first)
-    (subst (λ k. is_well_formed_as k words item ≡ true) same lists.right) refl)
+    (subst (λ k. is_well_formed_as k words item ≡ true) same (well_formed_version words item lists.right)) refl)
     ∙ fault_from_first row_fault (rows_in words item) i f first
 
 pub item_fault_from : (words : List ℕ) (before : List Item) (item : Item) (f : DefFault)
@@ -188,7 +188,7 @@ item_fault_is words before item f e =
                 (record {
                   kind = subst (λ k. is_of_kind k item ≡ true) version own;
                   first = subst (λ k. IsRepeated k before → ⊥) version (lacked kind before none);
-                  right = subst (λ k. is_well_formed_as k words item ≡ true) version right;
+                  right = (in_range item 2 19 _ (subst (λ k. is_well_formed_as k words item ≡ true) version right)).1;
                 })
                 (first_from_fault row_fault (rows_in words item) f
                 (fault-rows words before item kind refl read none right version ∙ e))

@@ -1,7 +1,7 @@
 -- A block whose trial bit is cleared gives the same definition but for that bit.
-use Rattle.std.proofs.Common.{◌≡◌, ◌≢◌, ◌⊎◌, ℕ, suc, ◌+◌, ◌-◌, ◌*◌, ◌/◌, ◌%◌, ◌^◌, ◌<◌, ◌≤◌, ◌&&◌, ◌||◌, Bool, true, false, cond, eqb, ℤ, List, [], ◌∷◌, ◌++◌, length, map, get_or, set, Option, Some, None, Ok, pos, refl, sym, ap, subst, ◌∙◌, inl, inr, arith}
+use Rattle.std.proofs.Common.{◌≡◌, ◌≢◌, ℕ, suc, ◌+◌, ◌-◌, ◌*◌, ◌/◌, ◌%◌, ◌^◌, ◌<◌, ◌≤◌, ◌&&◌, ◌||◌, Bool, true, false, cond, eqb, ℤ, List, [], ◌∷◌, ◌++◌, length, map, get_or, set, Option, Some, None, Ok, pos, refl, sym, ap, subst, ◌∙◌, inl, inr, arith}
 use Rattle.std.proofs.Math.Dec.{leb}
-use Rattle.std.proofs.lemmas.Bool.{or_cases, eqb-true, cases_eq, eq-eqb, ne_eqb, true≢false}
+use Rattle.std.proofs.lemmas.Bool.{eqb-true, cases_eq, eq-eqb, ne_eqb, true≢false}
 use Rattle.std.proofs.lemmas.Bool.Decides.{nat_tests}
 use Rattle.std.proofs.lemmas.List.{length-set, get_or-set_other, map-append}
 use Rattle.std.proofs.lemmas.Iterator.Adapters.{position_from-zero}
@@ -27,15 +27,15 @@ use Rattle.block_codec.proofs.HighByteLemmas.{frame-set_item, items_of-set, chan
 use Rattle.block_codec.proofs.ItemLemmas.{IsItemOf-from_get}
 use Rattle.image_def.specs.declared.fault.DefFault.{DefFault}
 use Rattle.image_def.specs.Flags.{flags_of, image_kind, chip_of, processor_of, security_of}
-use Rattle.image_def.specs.Found.{is_read_kind}
+use Rattle.image_def.specs.Kinds.{is_read_kind}
 use Rattle.image_def.specs.Rows.{rollback_in, rows_in, row_fault}
 use Rattle.image_def.specs.Faults.{is_well_formed, is_well_formed_as, item_fault, hashed_fault, hash_count_in, hash_value_place, last_fault, def_fault}
 use Rattle.image_def.specs.Definition.{second_word, entry_point_in, no_version, def_record, def_of}
 use Rattle.image_def.specs.Suits.{image_type_of, has_image_type, image_flags_of, suits_flags, does_suit}
 use Rattle.image_def.specs.Trial.{top_cleared, trial_cleared, untried, untried_answer}
 use Rattle.image_def.proofs.ApartLemmas.{Lies, Same, Before, Behind, lies, right_as, rows_same, rollback_same, hash_count_same, digest_same, version_same, read}
-use Rattle.image_def.proofs.FoundLemmas.{find-place, find-passes}
-use Rattle.image_def.proofs.FaultLemmas.{judged, right_version, sound_item}
+use Rattle.block_codec.proofs.SearchLemmas.{find-place, find-passes}
+use Rattle.image_def.proofs.FaultLemmas.{in_range, judged, right_version, sound_item}
 
 -- lists of which each element is mapped
 any-map : {X : Type 0} (p : X → Bool) (h : X → X) → ((x : X) → p (h x) ≡ p x) → (xs : List X)
@@ -207,7 +207,7 @@ module _ (words new : List ℕ) (items : List Item) (p u : ℕ) (long : length n
         | inl e ↦
             ap (λ k. is_well_formed_as (first_spelling k) new (h x)) (kind_kept p u x)
             ∙ ap (λ k. is_well_formed_as k new (h x)) e
-            ∙ ap (λ n. eqb n 1) (words_kept p u x) ∙ sym (ap (λ k. is_well_formed_as k words x) e)
+            ∙ ap (λ n. (leb 1 n && leb n 1) && true) (words_kept p u x) ∙ sym (ap (λ k. is_well_formed_as k words x) e)
         | inr ne ↦ ap (is_well_formed new) (elsewhere j x at ne)
             ∙ right_as words new p long other x (apart j x at) (first_spelling x.kind)
       ]
@@ -217,7 +217,8 @@ module _ (words new : List ℕ) (items : List Item) (p u : ℕ) (long : length n
   rows-kept j x at right version =
       let is = eqb-true (first_spelling x.kind) VERSION version in
       let ne : first_spelling x.kind ≢ IMAGE_TYPE = λ e. absurd (omega (arith, is, e)) in
-      let sized = right_version words x (subst (λ k. is_well_formed_as k words x ≡ true) is right) in
+      let sized = right_version words x
+      (in_range x 2 19 _ (subst (λ k. is_well_formed_as k words x ≡ true) is right)).1 in
       ap (rows_in new) (elsewhere j x at ne) ∙ rows_same words new p long other x (apart j x at) sized.size
 
   fault-kept : (front : List Item) (j : ℕ) (x : Item) → slice_get items j ≡ Some x
@@ -264,19 +265,15 @@ module _ (words new : List ℕ) (items : List Item) (p u : ℕ) (long : length n
       ∙ ap (λ o. hashed_fault (hash_value_place items) o (length new)) count-kept
       ∙ ap (λ n. hashed_fault (hash_value_place items) (hash_count_in words items) n) long
 
-  second-kept : (kind : ℕ) (x : Item) → item_of_kind kind items ≡ Some x → x.words ≡ 2
+  second-kept : (kind : ℕ) (x : Item) → item_of_kind kind items ≡ Some x → 2 ≤ x.words
       → second_word new x ≡ second_word words x
   second-kept kind x e size = read words new p long other x (slot_apart kind x e) 1 (x.first + 1) refl (omega arith)
       (omega (arith, size))
 
-  entry-kept : (x : Item) → item_of_kind ENTRY_POINT items ≡ Some x
-      → (eqb x.words 3 ≡ true) ⊎ (eqb x.words 4 ≡ true) → entry_point_in new x ≡ entry_point_in words x
-  entry-kept x e size =
+  entry-kept : (x : Item) → item_of_kind ENTRY_POINT items ≡ Some x → 3 ≤ x.words
+      → entry_point_in new x ≡ entry_point_in words x
+  entry-kept x e most =
       let free = slot_apart ENTRY_POINT x e in
-      let most : 3 ≤ x.words = elim size [
-        | inl three ↦ (let n = eqb-true x.words 3 three in omega (arith, n))
-        | inr four ↦ (let n = eqb-true x.words 4 four in omega (arith, n))
-      ] in
       same_entry (read words new p long other x free 1 (x.first + 1) refl (omega arith) (omega (arith, most)))
       (read words new p long other x free 2 (x.first + 2) refl (omega arith) (omega (arith, most)))
       (limit (eqb x.words 4) refl free)
@@ -290,7 +287,8 @@ module _ (words new : List ℕ) (items : List Item) (p u : ℕ) (long : length n
 
   sized : (x : Item) → item_of_kind VERSION items ≡ Some x → AreSound (item_fault words) items (length items)
       → x.words ≡ version_words x.high
-  sized x e sound = (right_version words x (sound_item words items VERSION x sound refl e).right).size
+  sized x e sound =
+      (right_version words x (in_range x 2 19 _ (sound_item words items VERSION x sound refl e).right).1).size
 
   pub fault-same : def_fault new (map h items) ≡ def_fault words items
   fault-same = ap (λ o. option_or o (last_fault new (map h items))) first-kept
@@ -310,16 +308,15 @@ module _ (words new : List ℕ) (items : List Item) (p u : ℕ) (long : length n
       (ap (option_map (second_word new)) (slot-kept VECTOR_TABLE (λ e. absurd (omega (arith, e))))
       ∙ map_some _ _ (item_of_kind VECTOR_TABLE items)
       (λ x e. second-kept VECTOR_TABLE x e
-      (eqb-true x.words 2 (sound_item words items VECTOR_TABLE x sound refl e).right)))
+      (in_range x 2 2 true (sound_item words items VECTOR_TABLE x sound refl e).right).0.0))
       (ap (option_map (entry_point_in new)) (slot-kept ENTRY_POINT (λ e. absurd (omega (arith, e))))
       ∙ map_some _ _ (item_of_kind ENTRY_POINT items)
-      (λ x e. entry-kept x e (or_cases (eqb x.words 3) (eqb x.words 4)
-      (sound_item words items ENTRY_POINT x sound refl e).right)))
+      (λ x e. entry-kept x e (in_range x 3 4 true (sound_item words items ENTRY_POINT x sound refl e).right).0.0))
       (ap (λ o. option_map_or (λ (item : Item). cast_signed w32 (second_word new item)) o (pos 0))
       (slot-kept WINDOW_DELTA (λ e. absurd (omega (arith, e))))
       ∙ or_some _ _ (item_of_kind WINDOW_DELTA items) (pos 0)
       (λ x e. ap (cast_signed w32) (second-kept WINDOW_DELTA x e
-      (eqb-true x.words 2 (sound_item words items WINDOW_DELTA x sound refl e).right))))
+      (in_range x 2 2 true (sound_item words items WINDOW_DELTA x sound refl e).right).0.0)))
       (position-map (is_of_kind LOAD_MAP) h (of_kind p u LOAD_MAP) items)
       (ap (λ o. unwrap_or o 0) count-kept)
       (ap (option_and_then (digest_of new)) (slot-kept HASH_VALUE (λ e. absurd (omega (arith, e))))

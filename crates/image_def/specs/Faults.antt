@@ -1,17 +1,17 @@
 -- The faults of the items of a block, and the first of them (RP2350 Datasheet, chapter 5, "Image
 -- definition items"; the faults and their order are this project's own).
-use Rattle.std.specs.Prelude.{◌≡◌, ◌⊎◌, ℕ, ◌+◌, ◌*◌, ◌%◌, Bool, true, false, not, ◌&&◌, ◌||◌, if◌then◌else◌, ◌==◌, nat_le, List, length, slice_get, is_some, Option, Some, None, option_map, option_and_then, unwrap_or}
+use Rattle.std.specs.Prelude.{◌≡◌, ◌⊎◌, ℕ, ◌+◌, ◌*◌, ◌%◌, Bool, true, false, not, ◌&&◌, if◌then◌else◌, ◌==◌, nat_le, List, length, slice_get, is_some, Option, Some, None, option_map, option_and_then, unwrap_or}
 use Rattle.std.specs.List.{list_any}
 use Rattle.std.specs.Option.{option_or}
 use Rattle.block_codec.specs.declared.items.Item.{Item}
-use Rattle.block_codec.specs.declared.kinds.TheConstants.{IMAGE_TYPE, VECTOR_TABLE, ENTRY_POINT, WINDOW_DELTA, LOAD_MAP, HASH_DEF, VERSION, HASH_VALUE}
+use Rattle.block_codec.specs.declared.kinds.TheConstants.{LOAD_MAP, HASH_DEF, VERSION, HASH_VALUE}
 use Rattle.block_codec.specs.Items.{items_of}
 use Rattle.block_codec.specs.Blocks.{BlockView, block_words}
-use Rattle.block_codec.specs.Kinds.{first_spelling, is_of_kind, item_of_kind, version_of, hash_count_of, digest_of}
+use Rattle.block_codec.specs.Kinds.{first_spelling, is_of_kind, item_of_kind, version_of, hash_count_of}
 use Rattle.block_codec.specs.FirstFault.{first_fault, IsFirst, AreSound}
 use Rattle.image_def.specs.declared.fault.DefFault.{DefFault}
 use Rattle.image_def.specs.declared.fault.DefFault.TheVariants.{Repeated, BadItem}
-use Rattle.image_def.specs.Found.{is_read_kind}
+use Rattle.image_def.specs.Kinds.{has_right_size, is_read_kind}
 use Rattle.image_def.specs.Rows.{rollback_in, rows_in, row_fault}
 
 -- a VERSION item of the right size, with at most 32 rows; its rollback version is at most 24 for
@@ -21,18 +21,19 @@ is_right_version words item =
     is_some (version_of words item) && nat_le item.high 32
     && nat_le (unwrap_or (rollback_in words item) 0) (24 * item.high)
 
+-- what an item's kind asks for beside its size: of a load map's entries, of the algorithm of a
+-- hash, and of rows
+abbrev pub is_right_inside : ℕ → List ℕ → Item → Bool
+is_right_inside kind words item =
+    if kind == LOAD_MAP then item.words == 1 + 3 * (item.high % 128)
+    else if kind == HASH_DEF then is_some (hash_count_of words item)
+    else if kind == VERSION then is_right_version words item
+    else true
+
 -- an item has the size, and the header byte, that its kind asks for
 abbrev pub is_well_formed_as : ℕ → List ℕ → Item → Bool
 is_well_formed_as kind words item =
-    if kind == IMAGE_TYPE then item.words == 1
-    else if kind == VECTOR_TABLE then item.words == 2
-    else if kind == ENTRY_POINT then item.words == 3 || item.words == 4
-    else if kind == WINDOW_DELTA then item.words == 2
-    else if kind == LOAD_MAP then item.words == 1 + 3 * (item.high % 128)
-    else if kind == HASH_DEF then is_some (hash_count_of words item)
-    else if kind == VERSION then is_right_version words item
-    else if kind == HASH_VALUE then is_some (digest_of words item)
-    else true
+    has_right_size kind item && is_right_inside kind words item
 
 -- an item has the size, and the header byte, that the kind named by its type byte asks for
 abbrev pub is_well_formed : List ℕ → Item → Bool

@@ -2,8 +2,8 @@
 pub mod Flags
 pub mod Suits
 pub mod Rows
-pub mod Found
-pub mod Finding
+pub mod Kinds
+pub mod Held
 pub mod Faults
 pub mod Definition
 pub mod Guarantees

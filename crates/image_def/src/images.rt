@@ -4,7 +4,7 @@ ghost use Rattle.std.specs.Prelude.{◌≡◌, ◌↔◌, ◌<◌, ◌^◌, fals
 ghost use Rattle.image_def.specs.Flags.{flags_of};
 ghost use Rattle.image_def.specs.Suits.{has_image_type, image_flags_of, suits_flags, does_suit};
 
-use block_codec::kinds::{IMAGE_TYPE, kind_of};
+use block_codec::kinds::{IMAGE_TYPE, find_item};
 use block_codec::{Block, Item};
 use pico_board::Cpu;
 
@@ -34,13 +34,8 @@ pub fn image_flags(block: &Block) -> Option<u16>
     ensures value { result ≡ image_flags_of block.now }
     ensures none { IsNone result ↔ (has_image_type block.now ≡ false) }
 {
-    for i in 0..block.count() {
-        let item = block.item(i);
-        if kind_of(item.kind) == IMAGE_TYPE {
-            return Some(flags(&item));
-        }
-    }
-    None
+    let item = find_item(block, IMAGE_TYPE)?;
+    Some(flags(&item))
 }
 
 /// Whether the flags are those of an executable for the RP2350 and this processor; for Arm a

@@ -1,19 +1,16 @@
 //! The faults of the items of a block.
 
-ghost use Rattle.std.specs.Prelude.{◌≡◌, List, Contains, length, IfSome};
+ghost use Rattle.std.specs.Prelude.{◌≡◌, ◌<◌, ◌≤◌, Contains, Some, length, slice_get, take};
+ghost use Rattle.std.specs.List.{list_any};
 ghost use Rattle.block_codec.specs.Items.{items_of};
 ghost use Rattle.block_codec.specs.Blocks.{block_words, IsWholeBlock};
-ghost use Rattle.block_codec.specs.FirstFault.{ok_unless};
-ghost use Rattle.image_def.specs.Faults.{is_right_version, is_well_formed, item_fault, first_item_fault, hash_count_in, last_fault};
-ghost use Rattle.image_def.specs.Found.{found_in};
+ghost use Rattle.block_codec.specs.Kinds.{first_spelling, is_of_kind};
+ghost use Rattle.image_def.specs.Faults.{is_right_inside, is_right_version, is_well_formed, item_fault, first_item_fault, hash_count_in, last_fault};
 
 use crate::fault::DefFault;
-use crate::found::{Found, is_read};
+use crate::kinds::{has_right_size, is_read};
 use crate::rows::{first_bad_row, listed_rows, rollback_version};
-use block_codec::kinds::{
-    ENTRY_POINT, HASH_DEF, HASH_VALUE, IMAGE_TYPE, LOAD_MAP, VECTOR_TABLE, VERSION, WINDOW_DELTA,
-    digest, hash_count, kind_of,
-};
+use block_codec::kinds::{HASH_DEF, HASH_VALUE, LOAD_MAP, VERSION, find_item, hash_count, kind_of};
 use block_codec::{Block, Item, version_item};
 
 /// The greatest number of rows that an image may list.
@@ -35,79 +32,94 @@ fn is_version(block: &Block, item: &Item) -> bool
     }
 }
 
-/// Whether an item has the size, and the header byte, of its kind; of a VERSION item also whether
-/// its rows are at most 32 and its rollback version is within their bound.
-fn is_right(block: &Block, item: &Item) -> bool
+/// Whether an item is what its kind asks for beside its size. A LOAD_MAP item has three words for
+/// each of its entries. A HASH_DEF item names SHA-256. A VERSION item has at most 32 rows, and its
+/// rollback version is within their bound.
+fn is_right_inside(block: &Block, kind: u8, item: &Item) -> bool
     requires of_block { Contains (items_of block.now.items) item.now }
-    ensures { result ≡ is_well_formed (block_words block.now) item.now }
+    requires kind { kind ≡ first_spelling item.now.kind }
+    ensures { result ≡ is_right_inside kind (block_words block.now) item.now }
 {
-    match kind_of(item.kind) {
-        IMAGE_TYPE => item.words == 1,
-        VECTOR_TABLE | WINDOW_DELTA => item.words == 2,
-        ENTRY_POINT => item.words == 3 || item.words == 4,
+    match kind {
         LOAD_MAP => item.words == 1 + 3 * u32::from(item.high % 128),
         HASH_DEF => hash_count(block, item).is_some(),
         VERSION => is_version(block, item),
-        HASH_VALUE => digest(block, item).is_some(),
         _ => true,
     }
 }
 
-/// The fault of an item after those before it.
-fn fault_of(block: &Block, found: &Found, item: &Item) -> Option<DefFault>
+/// Whether an item has the size, and the header byte, of its kind.
+fn is_right(block: &Block, item: &Item) -> bool
     requires of_block { Contains (items_of block.now.items) item.now }
-    ensures { (before : List _) → found.now ≡ found_in before
-        → result ≡ item_fault (block_words block.now) before item.now }
+    ensures { result ≡ is_well_formed (block_words block.now) item.now }
 {
+    let kind = kind_of(item.kind);
+    has_right_size(kind, item) && is_right_inside(block, kind, item)
+}
+
+/// Whether an item of this kind stands before the one with this index.
+fn stands_before(block: &Block, kind: u8, index: u32) -> bool
+    requires inside { index ≤ length (items_of block.now.items) }
+    ensures { result ≡ list_any (is_of_kind kind) (take index (items_of block.now.items)) }
+{
+    for i in 0..index {
+        if kind_of(block.item(i).kind) == kind {
+            return true;
+        }
+    }
+    false
+}
+
+/// The fault of the item with this index.
+fn fault_at(block: &Block, index: u32) -> Option<DefFault>
+    requires inside { index < length (items_of block.now.items) }
+    ensures { (item : Item) → slice_get (items_of block.now.items) index ≡ Some item
+        → result ≡ item_fault (block_words block.now) (take index (items_of block.now.items)) item }
+{
+    let item = block.item(index);
     let kind = kind_of(item.kind);
     if !is_read(kind) {
         None
-    } else if found.has(kind) {
+    } else if stands_before(block, kind, index) {
         Some(DefFault::Repeated(kind))
-    } else if !is_right(block, item) {
+    } else if !is_right(block, &item) {
         Some(DefFault::BadItem(kind))
     } else if kind == VERSION {
-        first_bad_row(listed_rows(block, item).as_slice())
+        first_bad_row(listed_rows(block, &item).as_slice())
     } else {
         None
     }
 }
 
-/// The items of a block by their kinds, or the first fault of one of them.
-pub(crate) fn find_items(block: &Block) -> Result<Found, DefFault>
-    ensures value { result
-        ≡ ok_unless (first_item_fault block.now) (found_in (items_of block.now.items)) }
+/// The fault of the first item of a block that has one.
+pub(crate) fn item_fault(block: &Block) -> Option<DefFault>
+    ensures value { result ≡ first_item_fault block.now }
     ensures whole { IsWholeBlock block.now }
 {
-    let mut found = Found::new();
     for i in 0..block.count() {
-        let item = block.item(i);
-        if let Some(fault) = fault_of(block, &found, &item) {
-            return Err(fault);
+        if let Some(fault) = fault_at(block, i) {
+            return Some(fault);
         }
-        found.add(i, item);
     }
-    Ok(found)
+    None
 }
 
 /// How many words of the block are hashed, where a HASH_DEF item names it.
-pub(crate) fn hashed_words(block: &Block, found: &Found) -> Option<u32>
-    requires { found.now ≡ found_in (items_of block.now.items) }
+pub(crate) fn hashed_words(block: &Block) -> Option<u32>
     ensures { result ≡ hash_count_in (block_words block.now) (items_of block.now.items) }
 {
-    match found.hash_def {
+    match find_item(block, HASH_DEF) {
         Some(item) => hash_count(block, &item),
         None => None,
     }
 }
 
 /// The fault that is judged after all items.
-pub(crate) fn fault_after(block: &Block, found: &Found) -> Option<DefFault>
-    requires { found.now ≡ found_in (items_of block.now.items) }
+pub(crate) fn fault_after(block: &Block) -> Option<DefFault>
     ensures { result ≡ last_fault (block_words block.now) (items_of block.now.items) }
 {
-    let count = hashed_words(block, found);
-    match (found.hash_value, count) {
+    let count = hashed_words(block);
+    match (find_item(block, HASH_VALUE), count) {
         (Some(_), None) => Some(DefFault::BadItem(HASH_VALUE)),
         (Some(value), Some(count)) if count > value.first => Some(DefFault::BadItem(HASH_DEF)),
         (None, Some(count)) if count > block.size() / 4 => Some(DefFault::BadItem(HASH_DEF)),

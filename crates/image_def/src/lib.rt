@@ -2,16 +2,16 @@
 //! what its items say.
 //!
 //! The definitions stand in `specs/`: `Flags` and `Suits` say which block is the definition,
-//! `Rows` what a VERSION item lists, `Faults` the first fault of a block's items, and `Definition`
-//! what a block says. `Guarantees` is what callers may assume of each definition, and `Trial` what
-//! a cleared trial bit leaves.
+//! `Kinds` which items are read, `Rows` what a VERSION item lists, `Faults` the first fault of a
+//! block's items, and `Definition` what a block says. `Guarantees` is what callers may assume of
+//! each definition, and `Trial` what a cleared trial bit leaves.
 #![tactic(auto)]
 
 pub mod examples;
 mod fault;
-mod found;
 mod images;
 mod judging;
+mod kinds;
 pub mod laws;
 mod reading;
 mod rows;

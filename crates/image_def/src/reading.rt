@@ -1,25 +1,28 @@
 //! The definition that a block gives.
 
-ghost use Rattle.std.specs.Prelude.{◌≡◌, ◌≤◌, true, pos, None, option_map, option_and_then, unwrap_or, IfSome, IfOk, IfErr, []};
+ghost use Rattle.std.specs.Prelude.{◌≡◌, ◌≤◌, true, pos, None, option_map, option_and_then, unwrap_or, position, IfSome, IfOk, IfErr, []};
 ghost use Rattle.std.specs.Option.{option_map_or};
 ghost use Rattle.block_codec.specs.Items.{items_of};
 ghost use Rattle.block_codec.specs.Blocks.{block_words, IsWholeBlock};
-ghost use Rattle.block_codec.specs.Kinds.{version_of, digest_of};
+ghost use Rattle.block_codec.specs.Kinds.{is_of_kind, version_of, digest_of};
+ghost use Rattle.block_codec.specs.declared.kinds.TheConstants.{LOAD_MAP};
 ghost use Rattle.image_def.specs.Suits.{has_image_type};
 ghost use Rattle.image_def.specs.Rows.{rollback_in, rows_in};
-ghost use Rattle.image_def.specs.Found.{found_in, IsHeldItem, IsVersion};
+ghost use Rattle.image_def.specs.Held.{IsHeldItem, IsVersion};
 ghost use Rattle.image_def.specs.Faults.{first_item_fault, IsDefFault};
 ghost use Rattle.image_def.specs.Flags.{flags_of};
 ghost use Rattle.image_def.specs.Guarantees.{IsDefinition};
 ghost use Rattle.image_def.specs.Definition.{second_word, delta_in, entry_point_in, no_version, def_record, def_of};
 
 use crate::fault::DefFault;
-use crate::found::Found;
 use crate::images::flags;
-use crate::judging::{fault_after, find_items, hashed_words};
+use crate::judging::{fault_after, hashed_words, item_fault};
 use crate::rows::{listed_rows, rollback_version};
 use arrayvec::ArrayVec;
-use block_codec::kinds::digest;
+use block_codec::kinds::{
+    ENTRY_POINT, HASH_VALUE, IMAGE_TYPE, LOAD_MAP, VECTOR_TABLE, VERSION, WINDOW_DELTA, digest,
+    find_item, kind_of,
+};
 use block_codec::{Block, Def, EntryPoint, Item, Version, version_item};
 
 /// The flags of the IMAGE_TYPE item.
@@ -129,24 +132,37 @@ fn rows_of(block: &Block, item: Option<Item>) -> ArrayVec<u16, 32>
     }
 }
 
+/// The index of a block's first LOAD_MAP item among its items.
+fn map_place(block: &Block) -> Option<u32>
+    ensures { result ≡ position (is_of_kind LOAD_MAP) (items_of block.now.items) }
+{
+    for i in 0..block.count() {
+        if kind_of(block.item(i).kind) == LOAD_MAP {
+            return Some(i);
+        }
+    }
+    None
+}
+
 /// What the items of a block say, where none of them has a fault.
-fn def_from(block: &Block, found: &Found) -> Def
-    requires found { found.now ≡ found_in (items_of block.now.items) }
+fn def_from(block: &Block) -> Def
     requires sound { first_item_fault block.now ≡ None }
     ensures { result ≡ def_record (block_words block.now) (items_of block.now.items) }
 {
+    let image_type = find_item(block, IMAGE_TYPE);
+    let version = find_item(block, VERSION);
     Def {
-        flags: image_flags_of(found.image_type),
-        image_word: image_word_of(found.image_type),
-        vector: vector_of(block, found.vector_table),
-        entry_point: entry_point_of(block, found.entry_point),
-        delta: delta_of(block, found.window_delta),
-        map_item: found.load_map,
-        hash_words: hashed_words(block, found).unwrap_or(0),
-        digest: digest_of(block, found.hash_value),
-        version: version_of(block, found.version),
-        rollback: rollback_of(block, found.version),
-        rows: rows_of(block, found.version),
+        flags: image_flags_of(image_type),
+        image_word: image_word_of(image_type),
+        vector: vector_of(block, find_item(block, VECTOR_TABLE)),
+        entry_point: entry_point_of(block, find_item(block, ENTRY_POINT)),
+        delta: delta_of(block, find_item(block, WINDOW_DELTA)),
+        map_item: map_place(block),
+        hash_words: hashed_words(block).unwrap_or(0),
+        digest: digest_of(block, find_item(block, HASH_VALUE)),
+        version: version_of(block, version),
+        rollback: rollback_of(block, version),
+        rows: rows_of(block, version),
     }
 }
 
@@ -156,10 +172,12 @@ fn read_items(block: &Block) -> Result<Def, DefFault>
     ensures value { result ≡ def_of block.now }
     ensures whole { IsWholeBlock block.now }
 {
-    let found = find_items(block)?;
-    match fault_after(block, &found) {
+    if let Some(fault) = item_fault(block) {
+        return Err(fault);
+    }
+    match fault_after(block) {
         Some(fault) => Err(fault),
-        None => Ok(def_from(block, &found)),
+        None => Ok(def_from(block)),
     }
 }
 

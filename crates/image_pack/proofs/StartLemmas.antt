@@ -1,5 +1,5 @@
 -- A sealed image keeps the ENTRY_POINT of its binary, or else its VECTOR_TABLE.
-use Rattle.std.proofs.Common.{◌≡◌, ℕ, ◌+◌, ◌-◌, ◌<◌, ◌≤◌, ◌==◌, ◌||◌, Bool, true, false, cond, List, [], ◌∷◌, length, get_or, take, drop, ℤ, refl, sym, ap, subst, ◌∙◌, arith, Option, Some, None, Ok, option_map, get_or-drop, length-drop}
+use Rattle.std.proofs.Common.{◌≡◌, ℕ, ◌+◌, ◌-◌, ◌<◌, ◌≤◌, ◌==◌, Bool, true, false, cond, List, [], ◌∷◌, length, get_or, take, drop, ℤ, refl, sym, ap, subst, ◌∙◌, arith, Option, Some, None, Ok, option_map, get_or-drop, length-drop}
 use Rattle.std.specs.Option.{option_or}
 use Rattle.std.proofs.lemmas.Bool.{eqb-true}
 use Rattle.std.proofs.lemmas.Bool.Decides.{nat_tests}
@@ -16,7 +16,7 @@ use Rattle.block_codec.specs.Kinds.{first_spelling, is_of_kind, item_of_kind}
 use Rattle.block_codec.proofs.FrameLemmas.{length-frame, word-item}
 use Rattle.block_codec.proofs.ItemLemmas.{IsItemOf-from_contains}
 use Rattle.image_def.specs.Definition.{def_of, entry_point_in, second_word}
-use Rattle.image_def.proofs.FaultLemmas.{sound_item}
+use Rattle.image_def.proofs.FaultLemmas.{in_range, sound_item}
 use Rattle.image_def.proofs.RelationLemmas.{faultless_from_ok}
 use Rattle.load_map.specs.declared.load.Load.{Load}
 use Rattle.part_table.proofs.SearchLemmas.{contained}
@@ -64,9 +64,6 @@ module _ (b : BlockView) (p : List ℕ) (block : IsBlock p b.items b.link) (def 
         → get_or (block_words b) (item.first + k) 0 ≡ get_or (item_words_of b (Some item)) k 0
     kind_of : type_byte (get_or (item_words_of b (Some item)) 0 0) ≡ kind
 
-  entry_size : (n : ℕ) → (n == 3 || n == 4) ≡ true → 3 ≤ n
-  entry_size n e = grind (arith, nat_tests)
-
   entry_kind : (k : ℕ) → (first_spelling k == ENTRY_POINT) ≡ true → k ≡ 0x44
   entry_kind k e = grind (arith, nat_tests, common_steps)
 
@@ -106,14 +103,13 @@ module _ (b : BlockView) (p : List ℕ) (block : IsBlock p b.items b.link) (def 
   entry_stands item is =
       let s = sound_item (block_words b) (items_of b.items) ENTRY_POINT item (faultless_from_ok b def read).0.items
       refl is in
-      item_stands ENTRY_POINT 3 item is (omega arith) (entry_size item.words s.right) entry_kind
+      item_stands ENTRY_POINT 3 item is (omega arith) (in_range item 3 4 true s.right).0.0 entry_kind
 
   table_stands : (item : Item) → item_of_kind VECTOR_TABLE (items_of b.items) ≡ Some item → Stands VECTOR_TABLE 2 item
   table_stands item is =
       let s = sound_item (block_words b) (items_of b.items) VECTOR_TABLE item (faultless_from_ok b def read).0.items
       refl is in
-      let size : item.words ≡ 2 = eqb-true item.words 2 s.right in
-      item_stands VECTOR_TABLE 2 item is (omega arith) (omega (arith, size)) table_kind
+      item_stands VECTOR_TABLE 2 item is (omega arith) (in_range item 2 2 true s.right).0.0 table_kind
 
   -- what the definition says by its copied item
   own_entry : (one : Option Item) → item_of_kind ENTRY_POINT (items_of b.items) ≡ one

@@ -9,7 +9,7 @@ ghost use Rattle.block_codec.specs.Kinds.{is_of_kind};
 ghost use Rattle.block_codec.specs.declared.kinds.TheConstants.{IMAGE_TYPE};
 ghost use Rattle.image_def.specs.Definition.{def_of, def_record};
 ghost use Rattle.image_def.specs.Faults.{item_fault, IsItemFault, IsFaultless, IsDefFault};
-ghost use Rattle.image_def.specs.Found.{is_read_kind};
+ghost use Rattle.image_def.specs.Kinds.{is_read_kind};
 ghost use Rattle.image_def.specs.Guarantees.{IsDefinition, IsDigestItem};
 ghost use Rattle.image_def.specs.Suits.{image_type_of, has_image_type, image_flags_of, does_suit};
 ghost use Rattle.image_def.specs.Trial.{trial_cleared, untried_answer};

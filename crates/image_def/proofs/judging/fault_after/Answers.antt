@@ -5,7 +5,6 @@ use Rattle.block_codec.specs.Items.{items_of}
 use Rattle.block_codec.specs.declared.kinds.TheConstants.{HASH_DEF}
 use Rattle.block_codec.proofs.FrameLemmas.{length-frame}
 use Rattle.image_def.specs.declared.fault.DefFault.TheVariants.{BadItem}
-use Rattle.image_def.specs.declared.found.Found.{Found}
 use Rattle.image_def.proofs.FaultLemmas.{last-counted}
 use Rattle.image_def.proofs.judging.fault_after.Goals as goal
 
@@ -16,7 +15,7 @@ returns-in-None-Some c =
     let count = c.in-None-Some.count in
     let past = lt-leb count (length words) (omega (arith, long, c.size.ensures.value, c.if-count-size.true)) in
     sym (last-counted words (items_of c.args.block.now.items) count
-    (sym (ap (λ (f : Found). f.hash_value) c.requires) ∙ c.in-None-Some.is-0)
+    (sym c.find_item.ensures.value ∙ c.in-None-Some.is-0)
     (sym c.hashed_words-count.ensures ∙ c.in-None-Some.is-1) ∙ ap (λ b. cond b None (Some (BadItem HASH_DEF))) past)
 
 pub returns-in_default-2 : goal.returns-in_default-2
@@ -26,5 +25,5 @@ returns-in_default-2 c =
     let count = c.in-None-Some.count in
     let inside = le-leb count (length words) (omega (arith, long, c.size.ensures.value, c.if-count-size.false)) in
     sym (last-counted words (items_of c.args.block.now.items) count
-    (sym (ap (λ (f : Found). f.hash_value) c.requires) ∙ c.in-None-Some.is-0)
+    (sym c.find_item.ensures.value ∙ c.in-None-Some.is-0)
     (sym c.hashed_words-count.ensures ∙ c.in-None-Some.is-1) ∙ ap (λ b. cond b None (Some (BadItem HASH_DEF))) inside)

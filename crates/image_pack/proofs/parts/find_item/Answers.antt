@@ -2,7 +2,7 @@ use Rattle.std.proofs.Common.{◌≡◌, ◌∙◌, Some, sym}
 use Rattle.std.proofs.lemmas.Bool.{eq-eqb, ne_eqb}
 use Rattle.block_codec.specs.Items.{items_of}
 use Rattle.block_codec.specs.Kinds.{first_spelling, is_of_kind, item_of_kind}
-use Rattle.image_def.proofs.FoundLemmas.{find_here, find_past, find-contains}
+use Rattle.block_codec.proofs.SearchLemmas.{find_here, find_past, find-contains}
 use Rattle.image_pack.proofs.parts.find_item.Goals as goal
 use Rattle.image_pack.proofs.parts.find_item.Goals.{Then-kind_of-kind}
 
