@@ -2,16 +2,15 @@
 
 ghost use Rattle.std.specs.Prelude.{◌≡◌, ◌+◌, ◌≤◌, Contains, IfOk, IfSome, length, slice_range};
 ghost use Rattle.pico_board.specs.declared.window.TheConstants.{MOST_FLASH_BYTES};
-ghost use Rattle.block_codec.specs.Blocks.{IsWholeBlock, block_words};
+ghost use Rattle.block_codec.specs.Blocks.{block_words};
 ghost use Rattle.block_codec.specs.Items.{IsItemOf, items_of};
-ghost use Rattle.block_codec.specs.Kinds.{item_of_kind};
 ghost use Rattle.image_pack.specs.Filling.{whole_sectors, whole_words};
 ghost use Rattle.image_pack.specs.Sealing.{copied_words, entry_item, item_words_of, parts_in};
 ghost use Rattle.image_pack.specs.Within.{IsWithin};
 
 use crate::filling::whole_sectors;
 use arrayvec::ArrayVec;
-use block_codec::kinds::{ENTRY_POINT, VECTOR_TABLE, kind_of};
+use block_codec::kinds::{ENTRY_POINT, VECTOR_TABLE, find_item};
 use block_codec::{Block, Item};
 use block_loop::{LoopFault, block_of, walk};
 use image_check::{Addressing, Why, defined_in, loads_of};
@@ -32,23 +31,6 @@ pub(crate) struct Parts {
     pub(crate) entry: ArrayVec<u32, 156>,
     /// The loads of the definition's map.
     pub(crate) loads: Loads,
-}
-
-/// The first item of a kind, which is named by its first spelling.
-fn find_item(block: &Block, kind: u8) -> Option<Item>
-    ensures value { result ≡ item_of_kind kind (items_of block.now.items) }
-    ensures of_block { IfSome result (λ item. Contains (items_of block.now.items) item) }
-    ensures inside { IfSome result (λ item. IsItemOf block.now.items item) }
-    ensures whole { IsWholeBlock block.now }
-{
-    let count = block.count();
-    for i in 0..count {
-        let item = block.item(i);
-        if kind_of(item.kind) == kind {
-            return Some(item);
-        }
-    }
-    None
 }
 
 /// The words of an item.

@@ -1,31 +1,15 @@
 //! The items of a block that a table is read from.
 
-ghost use Rattle.std.specs.Prelude.{◌≡◌, ◌+◌, ◌≤◌, length, Contains, IfSome, is_some, true};
+ghost use Rattle.std.specs.Prelude.{◌≡◌, length, Contains};
 ghost use Rattle.block_codec.specs.Blocks.{block_words};
 ghost use Rattle.block_codec.specs.Items.{items_of, IsItemOf};
-ghost use Rattle.block_codec.specs.Kinds.{is_of_kind, item_of_kind, items_of_kind, version_of, hash_count_of, digest_of};
+ghost use Rattle.block_codec.specs.Kinds.{item_of_kind, version_of, hash_count_of, digest_of};
 ghost use Rattle.part_table.specs.Contents.{body_of, is_repeated, is_bad, said, version_in, hash_count, is_misplaced_digest, ok_unless_bad};
 
 use crate::TableFault;
 use arrayvec::ArrayVec;
-use block_codec::kinds::{HASH_DEF, HASH_VALUE, VERSION, digest, hash_count, kind_of};
+use block_codec::kinds::{HASH_DEF, HASH_VALUE, VERSION, digest, find_item, hash_count, kind_of};
 use block_codec::{Block, Item, Version, version_item};
-
-/// The first item of a kind, which is named by its first spelling.
-pub(crate) fn find_item(block: &Block, kind: u8) -> Option<Item>
-    ensures value { result ≡ item_of_kind kind (items_of block.now.items) }
-    ensures of_block { IfSome result (λ x. Contains (items_of block.now.items) x) }
-    ensures inside { IfSome result (λ x. IsItemOf block.now.items x) }
-    ensures kind { IfSome result (λ x. is_of_kind kind x ≡ true) }
-{
-    for i in 0..block.count() {
-        let item = block.item(i);
-        if kind_of(item.kind) == kind {
-            return Some(item);
-        }
-    }
-    None
-}
 
 /// Whether the block has two items of a kind or more.
 pub(crate) fn is_repeated(block: &Block, kind: u8) -> bool

@@ -11,10 +11,10 @@ ghost use Rattle.part_table.specs.Windows.{IsPlacedWindow, partition_window};
 use crate::contents::table_from;
 use crate::faults::parts_fault;
 use crate::hashes::{is_wrong_hash, read_hash};
-use crate::items::{find_item, is_repeated, item_body, read_version};
+use crate::items::{is_repeated, item_body, read_version};
 use crate::{Table, TableFault};
 use block_codec::Block;
-use block_codec::kinds::PARTITION_TABLE;
+use block_codec::kinds::{PARTITION_TABLE, find_item};
 
 /// Whether the block has a PARTITION_TABLE item.
 pub fn has_table(block: &Block) -> bool

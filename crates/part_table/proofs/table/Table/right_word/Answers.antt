@@ -1,8 +1,8 @@
-use Rattle.std.proofs.Common.{◌≡◌, ◌∙◌, sym, ap, subst, add-one, Some, None, take, find, slice_get}
+use Rattle.std.proofs.Common.{◌≡◌, ◌∙◌, sym, ap, subst, Some, slice_get}
 use Rattle.std.specs.Option.{option_map_or}
+use Rattle.block_codec.proofs.SearchLemmas.{find_here, find_past}
 use Rattle.part_table.specs.declared.partition.Partition.{Partition}
 use Rattle.part_table.specs.Windows.{has_sector}
-use Rattle.part_table.proofs.SearchLemmas.{find_here, find_past}
 use Rattle.part_table.proofs.FaultLemmas.{index_of}
 use Rattle.part_table.proofs.table.Table.right_word.Goals as goal
 
@@ -21,8 +21,6 @@ loop-part-preserved c =
     let at : slice_get c.args.self.now.parts.items c.loop-part.part-index ≡ Some c.part-item.result =
     subst (λ ps. slice_get ps c.loop-part.part-index ≡ Some c.part-item.result) c.as_slice-part-items.ensures.value
     (index_of _ c.loop-part.part-index c.part-item.result c.loop-part-test.true c.part-item.is) in
-    subst (λ n. find (has_sector c.args.sector) (take n c.args.self.now.parts.items) ≡ None)
-    (sym (add-one c.loop-part.part-index))
-    (find_past (has_sector c.args.sector) c.args.self.now.parts.items c.loop-part.part-index c.part-item.result
+    find_past (has_sector c.args.sector) c.args.self.now.parts.items c.loop-part.part-index c.part-item.result
     c.loop-part.invariant at
-    (sym c.has_sector.ensures ∙ c.if-has_sector.false))
+    (sym c.has_sector.ensures ∙ c.if-has_sector.false)
