@@ -1,10 +1,12 @@
 -- Blocks for worked examples.
-use Rattle.std.specs.Prelude.{ℕ, pos, negsuc, List, [], ◌∷◌, replicate, Option, Some, None}
+use Rattle.std.specs.Prelude.{ℕ, false, pos, negsuc, List, [], ◌∷◌, replicate, Option, Some, None}
 use Rattle.std.specs.Result.{result_err}
+use Rattle.pico_board.specs.declared.window.Window.{Window}
 use Rattle.block_codec.specs.declared.definition.Def.{Def}
 use Rattle.block_codec.specs.Blocks.{BlockView}
 use Rattle.image_def.specs.declared.fault.DefFault.{DefFault}
-use Rattle.image_def.specs.Definition.{def_of}
+use Rattle.image_def.specs.declared.started.Started.{Started}
+use Rattle.image_def.specs.Definition.{def_of, no_version}
 
 -- the block of these item words that stands at the window's start and closes a loop of one
 abbrev pub block_with : List ℕ → BlockView
@@ -37,7 +39,7 @@ def_with flags hashed = record {
   map_item = None;
   hash_words = hashed;
   digest = None;
-  version = record { major = 0; minor = 0 };
+  version = no_version;
   rollback = None;
   rows = record { items = [] };
 }
@@ -45,6 +47,22 @@ def_with flags hashed = record {
 -- what the IMAGE_TYPE item for Arm alone says
 abbrev pub arm_def : Def
 arm_def = def_with 0x1021 0
+
+-- an image in this window, with its block and its IMAGE_TYPE item at these offsets, that starts at
+-- this PC with SP 0x20082000; it names no limit, no version and no rows, and is no trial
+abbrev pub started_in : Window → ℕ → ℕ → ℕ → Started
+started_in window block image_at pc = record {
+  window = window;
+  block = block;
+  image_at = image_at;
+  pc = pc;
+  sp = 0x20082000;
+  limit = 0;
+  version = no_version;
+  rollback = None;
+  rows = record { items = [] };
+  trial = false;
+}
 
 -- a block at this offset with this IMAGE_TYPE item and n items of one word that are passed over;
 -- it has 20 + 4 * n bytes

@@ -5,13 +5,13 @@ crate::specs::Definition::def_of, block_codec::specs::Blocks::frame,
 // an item by its size, and a digest as the bytes of its words
 block_codec::specs::Items::size_of, block_codec::specs::Words::word_bytes))]
 
-ghost use Rattle.std.specs.Prelude.{ℕ, ◌≡◌, pos, negsuc, Some, None, Ok, Err, [], ◌∷◌, ◌++◌, true, false};
+ghost use Rattle.std.specs.Prelude.{ℕ, ◌≡◌, negsuc, Some, None, Ok, Err, [], ◌∷◌, ◌++◌, true, false};
 ghost use Rattle.std.specs.Result.{result_err};
 ghost use Rattle.block_codec.specs.Items.{item_at};
 ghost use Rattle.block_codec.specs.Blocks.{BlockView, block_size};
 ghost use Rattle.image_def.specs.declared.fault.DefFault.TheVariants.{Repeated, BadItem, BadRow, RepeatedRow};
 ghost use Rattle.pico_board.specs.declared.boot.Cpu.TheVariants.{Arm, Riscv};
-ghost use Rattle.image_def.specs.Definition.{def_of, no_version};
+ghost use Rattle.image_def.specs.Definition.{def_of};
 ghost use Rattle.image_def.specs.Guarantees.{IsDefinition};
 ghost use Rattle.image_def.specs.Flags.{flags_of, image_kind, security_of, processor_of, chip_of, is_trial};
 ghost use Rattle.image_def.specs.Rows.{is_near};
@@ -139,51 +139,23 @@ pub fn fields_of_definitions()
 pub fn entry_without_limit()
     ensures { def_of (arm_block (0xabcd0344 ∷ 0x10000301 ∷ 0x20001000 ∷ 0xabcd0203 ∷ 5 ∷ 0xabcd0205
         ∷ 0xffffffff ∷ []))
-        ≡ Ok (record {
-          flags = 0x1021;
-          image_word = 1;
+        ≡ Ok (record arm_def {
           vector = Some 5;
           entry_point = Some (record { pc = 0x10000301; sp = 0x20001000; limit = 0 });
           delta = negsuc 0;
-          map_item = None;
-          hash_words = 0;
-          digest = None;
-          version = no_version;
-          rollback = None;
-          rows = record { items = [] };
         }) }
 {}
 
 /// A VERSION item without rows gives a version alone.
 pub fn version_without_rows()
     ensures { def_of (arm_block (0x00ff0248 ∷ 0x00020003 ∷ []))
-        ≡ Ok (record {
-          flags = 0x1021;
-          image_word = 1;
-          vector = None;
-          entry_point = None;
-          delta = pos 0;
-          map_item = None;
-          hash_words = 0;
-          digest = None;
-          version = record { major = 2; minor = 3 };
-          rollback = None;
-          rows = record { items = [] };
-        }) }
+        ≡ Ok (record arm_def { version = record { major = 2; minor = 3 } }) }
 {}
 
 /// With an even number of rows the last half word of a VERSION item is padding.
 pub fn version_with_padding()
     ensures { def_of (arm_block (0x02ff0448 ∷ 0x00010000 ∷ 0x00c30003 ∷ 0xffff00c0 ∷ []))
-        ≡ Ok (record {
-          flags = 0x1021;
-          image_word = 1;
-          vector = None;
-          entry_point = None;
-          delta = pos 0;
-          map_item = None;
-          hash_words = 0;
-          digest = None;
+        ≡ Ok (record arm_def {
           version = record { major = 1; minor = 0 };
           rollback = Some 3;
           rows = record { items = 0x0c3 ∷ 0x0c0 ∷ [] };
@@ -194,19 +166,7 @@ pub fn version_with_padding()
 /// read.
 pub fn hash_without_value()
     ensures { def_of (arm_block (0x01ff0247 ∷ 0xffff0003 ∷ []))
-        ≡ Ok (record {
-          flags = 0x1021;
-          image_word = 1;
-          vector = None;
-          entry_point = None;
-          delta = pos 0;
-          map_item = None;
-          hash_words = 3;
-          digest = None;
-          version = no_version;
-          rollback = None;
-          rows = record { items = [] };
-        }) }
+        ≡ Ok (record arm_def { hash_words = 3 }) }
 {}
 
 /// LOAD_MAP and HASH_VALUE may have a size of two bytes, and the HASH_VALUE may come first. Bit 7
@@ -214,18 +174,10 @@ pub fn hash_without_value()
 pub fn long_spellings()
     ensures { def_of (arm_block (0x000009cb
         ∷ (digest_words ++ (0x81000486 ∷ 1 ∷ 2 ∷ 3 ∷ 0x01000247 ∷ 2 ∷ []))))
-        ≡ Ok (record {
-          flags = 0x1021;
-          image_word = 1;
-          vector = None;
-          entry_point = None;
-          delta = pos 0;
+        ≡ Ok (record arm_def {
           map_item = Some 2;
           hash_words = 2;
           digest = Some digest_bytes;
-          version = no_version;
-          rollback = None;
-          rows = record { items = [] };
         }) }
 {}
 
