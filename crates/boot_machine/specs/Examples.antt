@@ -1,5 +1,6 @@
 -- Worked examples of what events do in each state.
 use Rattle.std.specs.Prelude.{ℕ, Bool, true, false, List, [], ◌∷◌, replicate, Some, None, Option}
+use Rattle.image_def.specs.Examples.{started_in}
 use Rattle.worked_flashes.specs.Images.{arm_type, window_with}
 use Rattle.pico_board.specs.Content.{Content}
 use Rattle.worked_flashes.specs.Tables.{guarded_table, pair_version}
@@ -36,12 +37,7 @@ erased_flash = one_sector bare_sector
 -- an updated start of an image, a trial or not, in the B of a pair
 abbrev pub running : Bool → Choice
 running trial = record {
-  image = record {
-    window = window_at 0x20000 0x1e000;
-    block = 0x100;
-    image_at = 0x104;
-    pc = 0x10000201;
-    sp = 0x20082000;
+  image = record (started_in (window_at 0x20000 0x1e000) 0x100 0x104 0x10000201) {
     limit = 0x20000000;
     version = record { major = 1; minor = 2 };
     rollback = Some 3;

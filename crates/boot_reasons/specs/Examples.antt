@@ -1,8 +1,9 @@
 -- Tables and images of the worked examples.
-use Rattle.std.specs.Prelude.{ℕ, Bool, false, [], None}
+use Rattle.std.specs.Prelude.{ℕ, Bool, []}
 use Rattle.pico_board.specs.declared.window.Window.{Window}
 use Rattle.block_codec.specs.declared.versions.Version.{Version}
 use Rattle.image_def.specs.declared.started.Started.{Started}
+use Rattle.image_def.specs.Examples.{started_in}
 use Rattle.part_table.specs.declared.table.Table.{Table}
 
 abbrev pub example_version : ℕ → ℕ → Version
@@ -26,15 +27,6 @@ window_of_b = record { start = 0x4000; len = 0x2000 }
 
 -- an image of this version in a window
 abbrev pub example_image : Window → ℕ → ℕ → Started
-example_image w major minor = record {
-  window = w;
-  block = 0x100;
-  image_at = 0x104;
-  pc = 0x10000201;
-  sp = 0x20082000;
-  limit = 0;
+example_image w major minor = record (started_in w 0x100 0x104 0x10000201) {
   version = example_version major minor;
-  rollback = None;
-  rows = record { items = [] };
-  trial = false;
 }

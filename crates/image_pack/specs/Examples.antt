@@ -1,10 +1,11 @@
 -- A binary and specs that stand as worked examples.
-use Rattle.std.specs.Prelude.{ℕ, ◌+◌, Bool, false, List, [], ◌∷◌, ◌++◌, Option, None, Some, replicate, pos}
+use Rattle.std.specs.Prelude.{ℕ, ◌+◌, Bool, List, [], ◌∷◌, ◌++◌, Option, Some, replicate, pos}
 use Rattle.pico_board.specs.declared.boot.Cpu.{Cpu}
 use Rattle.pico_board.specs.declared.window.Window.{Window}
 use Rattle.block_codec.specs.Blocks.{BlockView, frame}
 use Rattle.block_codec.specs.Words.{bytes_of}
 use Rattle.image_def.specs.declared.started.Started.{Started}
+use Rattle.image_def.specs.Examples.{started_in}
 use Rattle.load_map.specs.declared.load.Load.{Load}
 use Rattle.image_pack.specs.declared.parts.Parts.{Parts}
 use Rattle.image_pack.specs.declared.spec.SealSpec.{SealSpec}
@@ -36,18 +37,10 @@ window_of_length len = record { start = 0; len = len }
 -- the record of an image in such a window; it starts by the two words of this vector table, and
 -- its definition stands at this offset and says this version
 abbrev pub table_record : ℕ → ℕ → ℕ → ℕ → Started
-table_record len block major minor = record {
-  window = window_of_length len;
-  block = block;
-  image_at = block + 4;
-  pc = 0x10000201;
-  sp = 0x20082000;
-  limit = 0;
-  version = record { major = major; minor = minor };
-  rollback = None;
-  rows = record { items = [] };
-  trial = false;
-}
+table_record len block major minor =
+    record (started_in (window_of_length len) block (block + 4) 0x10000201) {
+      version = record { major = major; minor = minor };
+    }
 
 -- an image for Arm whose vector table is loaded to the start of SRAM: the table is its first eight
 -- bytes, and its block at 8 has a VECTOR_TABLE and a LOAD_MAP item
@@ -95,15 +88,7 @@ block_at_40 items = record { at = 0x40; items = items; link = pos 0 }
 
 -- a record of an image that starts with this PC, SP and limit
 abbrev pub started_at : ℕ → ℕ → ℕ → Started
-started_at pc sp limit = record {
-  window = record { start = 0; len = 4096 };
-  block = 8;
-  image_at = 12;
-  pc = pc;
+started_at pc sp limit = record (started_in (record { start = 0; len = 4096 }) 8 12 pc) {
   sp = sp;
   limit = limit;
-  version = record { major = 0; minor = 0 };
-  rollback = None;
-  rows = record { items = [] };
-  trial = false;
 }

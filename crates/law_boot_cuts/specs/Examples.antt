@@ -4,6 +4,7 @@ use Rattle.std.specs.Prelude.{ℕ, ◌+◌, ◌*◌, Bool, true, false, List, []
 use Rattle.block_codec.specs.Words.{bytes_of}
 use Rattle.worked_flashes.specs.Images.{plain_image}
 use Rattle.image_def.specs.declared.started.Started.{Started}
+use Rattle.image_def.specs.Examples.{started_in}
 use Rattle.pico_board.specs.Content.{Content}
 use Rattle.pico_board.specs.declared.Step.{Step}
 use Rattle.pico_board.specs.declared.Step.TheVariants.{Raise}
@@ -36,17 +37,10 @@ rows_sector version row = typed_sector 0x10210142 version row
 
 -- the record of the Arm image of `rows_sector` in this window
 abbrev pub rows_image : Window → ℕ → ℕ → Started
-rows_image w version row = record {
-  window = w;
-  block = 8;
-  image_at = 12;
-  pc = 0x20000001;
-  sp = 0x20082000;
-  limit = 0;
+rows_image w version row = record (started_in w 8 12 0x20000001) {
   version = record { major = 1; minor = 0 };
   rollback = Some version;
   rows = record { items = row ∷ [] };
-  trial = false;
 }
 
 -- OTP rows of 0 but for the triple of row 0x0c0
@@ -123,16 +117,7 @@ hidden_table second = record {
 
 -- the image in the whole of that flash, with its trial bit or not
 abbrev pub whole_image : Bool → Started
-whole_image trial = record {
-  window = window_at 0 0x3000;
-  block = 0x10d8;
-  image_at = 0x10dc;
-  pc = 0x20000001;
-  sp = 0x20082000;
-  limit = 0;
-  version = record { major = 0; minor = 0 };
-  rollback = None;
-  rows = record { items = [] };
+whole_image trial = record (started_in (window_at 0 0x3000) 0x10d8 0x10dc 0x20000001) {
   trial = trial;
 }
 

@@ -1,8 +1,9 @@
 -- Worked images alone in a window of 8 KiB. Each lacks one of the conditions of a firm image. This
 -- project's own; another implementation computed the digests.
-use Rattle.std.specs.Prelude.{ℕ, ◌+◌, false, List, [], ◌∷◌, ◌++◌, None}
+use Rattle.std.specs.Prelude.{ℕ, ◌+◌, List, [], ◌∷◌, ◌++◌}
 use Rattle.pico_board.specs.declared.window.Window.{Window}
 use Rattle.image_def.specs.declared.started.Started.{Started}
+use Rattle.image_def.specs.Examples.{started_in}
 use Rattle.pico_board.specs.Content.{Content}
 use Rattle.worked_flashes.specs.Flashes.{framed, region, rows_with}
 
@@ -11,18 +12,7 @@ whole = record { start = 0; len = 0x2000 }
 
 -- the start of an Arm image without a version; its definition stands at this offset
 abbrev pub arm_start_at : ℕ → Started
-arm_start_at at = record {
-  window = whole;
-  block = at;
-  image_at = at + 4;
-  pc = 0x10000201;
-  sp = 0x20082000;
-  limit = 0;
-  version = record { major = 0; minor = 0 };
-  rollback = None;
-  rows = record { items = [] };
-  trial = false;
-}
+arm_start_at at = started_in whole at (at + 4) 0x10000201
 
 -- a vector table in a page of 256 bytes
 abbrev pub vectors : List ℕ

@@ -8,7 +8,7 @@ use Rattle.sector_pool.specs.Pool.{Pool, erased}
 use Rattle.part_table.specs.declared.target.Target.{Target}
 use Rattle.slot_choice.specs.declared.unit.SlotUnit.{SlotUnit}
 use Rattle.slot_choice.specs.Examples.{the_pair, window_at, pair_unit}
-use Rattle.image_def.specs.Definition.{no_version}
+use Rattle.image_def.specs.Examples.{arm_def}
 use Rattle.image_def.specs.declared.started.Started.{Started}
 use Rattle.image_check.specs.declared.examining.Defined.{Defined}
 use Rattle.image_check.specs.Examples.{map_of}
@@ -136,18 +136,10 @@ digested_image = plain_image (window_at 0 0x2000) 0x20000001 false
 abbrev pub digested_definition : Defined
 digested_definition = record {
   block = record { at = 8; items = digested_items; link = pos 0 };
-  def = record {
-    flags = 0x1021;
-    image_word = 1;
-    vector = None;
-    entry_point = None;
-    delta = pos 0;
+  def = record arm_def {
     map_item = Some 1;
     hash_words = 4;
     digest = Some (bytes_of stored_digest);
-    version = no_version;
-    rollback = None;
-    rows = record { items = [] };
   };
 }
 

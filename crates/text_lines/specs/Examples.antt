@@ -3,6 +3,7 @@ use Rattle.std.specs.Prelude.{ℕ, ◌-◌, ◌^◌, [], ◌∷◌, replicate, O
 use Rattle.pico_board.specs.declared.window.Window.{Window}
 use Rattle.part_table.specs.declared.partition.Partition.{Partition}
 use Rattle.image_def.specs.declared.started.Started.{Started}
+use Rattle.image_def.specs.Examples.{started_in}
 use Rattle.slot_choice.specs.declared.choice.Choice.{Choice}
 use Rattle.slot_choice.specs.declared.unit.Member.TheVariants.{A}
 use Rattle.picoboot_cmd.specs.declared.cmd.Cmd.{Cmd}
@@ -12,33 +13,16 @@ use Rattle.boot_rules.specs.declared.tables.Found.{Found}
 
 -- an image in this window, with its block there, of this version, rollback version and trial bit
 abbrev pub image_in : ℕ → ℕ → ℕ → ℕ → ℕ → Option ℕ → Bool → Started
-image_in start len block major minor rollback trial = record {
-  window = record { start = start; len = len };
-  block = block;
-  image_at = block;
-  pc = 0x10000201;
-  sp = 0x20082000;
-  limit = 0;
-  version = record { major = major; minor = minor };
-  rollback = rollback;
-  rows = record { items = [] };
-  trial = trial;
-}
+image_in start len block major minor rollback trial =
+    record (started_in (record { start = start; len = len }) block block 0x10000201) {
+      version = record { major = major; minor = minor };
+      rollback = rollback;
+      trial = trial;
+    }
 
 -- an image of 28 bytes in RAM
 abbrev pub ram_image : Started
-ram_image = record {
-  window = record { start = 0x20000000; len = 28 };
-  block = 8;
-  image_at = 12;
-  pc = 0x20000021;
-  sp = 0x20082000;
-  limit = 0;
-  version = record { major = 0; minor = 0 };
-  rollback = None;
-  rows = record { items = [] };
-  trial = false;
-}
+ram_image = started_in (record { start = 0x20000000; len = 28 }) 8 12 0x20000021
 
 -- the choice of an image
 abbrev pub example_choice : Started → Choice
@@ -74,16 +58,9 @@ small_window = record { start = 0; len = 0x2000 }
 
 -- an image there of this version, rollback version and trial bit
 abbrev pub example_image : ℕ → ℕ → Option ℕ → Bool → Started
-example_image major minor rollback trial = record {
-  window = small_window;
-  block = 0x114;
-  image_at = 0x118;
-  pc = 0x10000201;
-  sp = 0x20082000;
-  limit = 0;
+example_image major minor rollback trial = record (started_in small_window 0x114 0x118 0x10000201) {
   version = record { major = major; minor = minor };
   rollback = rollback;
-  rows = record { items = [] };
   trial = trial;
 }
 

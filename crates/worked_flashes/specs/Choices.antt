@@ -1,13 +1,13 @@
 -- Worked starts in a pair of slots and alone, and targets. The examples of several crates take
 -- them.
-use Rattle.std.specs.Prelude.{◌-◌, Bool, true, false, [], Some, None}
+use Rattle.std.specs.Prelude.{◌-◌, Bool, true, false, Some, None}
 use Rattle.pico_board.specs.declared.window.Window.{Window}
 use Rattle.image_def.specs.declared.started.Started.{Started}
 use Rattle.part_table.specs.declared.target.Target.{Target}
 use Rattle.slot_choice.specs.declared.unit.Member.TheVariants.{A, B}
 use Rattle.slot_choice.specs.declared.choice.Choice.{Choice}
 use Rattle.slot_choice.specs.Examples.{window_at}
-use Rattle.worked_flashes.specs.Images.{image_of_version, in_a, in_b}
+use Rattle.worked_flashes.specs.Images.{image_of_version, in_a, in_b, plain_image}
 
 -- the start of an image in the pair's A, and in its B
 abbrev pub starts_a : Bool → Started → Choice
@@ -36,18 +36,7 @@ to w gated stay = record { window = w; gated = gated; stay = stay }
 
 -- the start of a trial image in the whole of a flash of two sectors, before it is bought
 abbrev pub running_trial : Choice
-running_trial = starts_alone true (record {
-  window = window_at 0 0x2000;
-  block = 8;
-  image_at = 12;
-  pc = 0x20000001;
-  sp = 0x20082000;
-  limit = 0;
-  version = record { major = 0; minor = 0 };
-  rollback = None;
-  rows = record { items = [] };
-  trial = true;
-})
+running_trial = starts_alone true (plain_image (window_at 0 0x2000) 0x20000001 true)
 
 -- the start of version 1.9 in A, and that of version 1.10 in B
 abbrev pub former_start : Choice

@@ -8,6 +8,7 @@ use Rattle.block_codec.specs.declared.versions.Version.{Version}
 use Rattle.block_codec.specs.Blocks.{BlockView}
 use Rattle.block_codec.specs.Words.{bytes_of}
 use Rattle.image_def.specs.Definition.{no_version}
+use Rattle.image_def.specs.Examples.{arm_def, started_in}
 use Rattle.slot_choice.specs.declared.unit.Member.TheVariants.{A, B}
 use Rattle.slot_choice.specs.Examples.{window_at}
 
@@ -21,30 +22,13 @@ table_bytes = 0x00 ∷ 0x20 ∷ 0x08 ∷ 0x20 ∷ 0x01 ∷ 0x02 ∷ 0x00 ∷ 0x1
 
 -- a definition with this VECTOR_TABLE address, rollback version and listed rows
 abbrev pub def_with_rows : Option ℕ → Option ℕ → List ℕ → Def
-def_with_rows vector rollback rows = record {
-  flags = 0x1021;
-  image_word = 1;
-  vector = vector;
-  entry_point = None;
-  delta = pos 0;
-  map_item = None;
-  hash_words = 0;
-  digest = None;
-  version = no_version;
-  rollback = rollback;
-  rows = record { items = rows };
-}
+def_with_rows vector rollback rows =
+    record arm_def { vector = vector; rollback = rollback; rows = record { items = rows } }
 
 -- the record of an image after a vector table at its window's start, by window, PC, version,
 -- rollback version, rows and the trial bit
 abbrev pub image_record : Window → ℕ → Version → Option ℕ → List ℕ → Bool → Started
-image_record window pc version rollback rows trial = record {
-  window = window;
-  block = 8;
-  image_at = 12;
-  pc = pc;
-  sp = 0x20082000;
-  limit = 0;
+image_record window pc version rollback rows trial = record (started_in window 8 12 pc) {
   version = version;
   rollback = rollback;
   rows = record { items = rows };
@@ -92,16 +76,8 @@ stored_digest =
 
 -- the image of a version in a window; it is a trial or not
 abbrev pub image_of_version : Window → ℕ → ℕ → Bool → Started
-image_of_version w major minor trial = record {
-  window = w;
-  block = 0x100;
-  image_at = 0x104;
-  pc = 0x10000201;
-  sp = 0x20082000;
-  limit = 0;
+image_of_version w major minor trial = record (started_in w 0x100 0x104 0x10000201) {
   version = record { major = major; minor = minor };
-  rollback = None;
-  rows = record { items = [] };
   trial = trial;
 }
 
