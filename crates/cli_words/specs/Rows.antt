@@ -6,8 +6,9 @@ use Rattle.std.specs.declared.alloc.Global.{Global}
 use Rattle.pico_board.specs.declared.boot.Cpu.{Cpu}
 use Rattle.pico_board.specs.Processors.{cpu_of}
 use Rattle.pico_board.specs.declared.boot.BootKind.{BootKind}
+use Rattle.part_table.specs.Families.{family_of}
 use Rattle.text_words.specs.Reading.{number_of}
-use Rattle.cli_words.specs.Values.{ValuesView, boot_kind_of, family_of, no_values, values_from}
+use Rattle.cli_words.specs.Values.{ValuesView, boot_kind_of, no_values, values_from}
 use Rattle.cli_words.specs.declared.rows.TheConstants.{VERBS}
 use Rattle.cli_words.specs.declared.rows.Verb.{Verb}
 use Rattle.cli_words.specs.declared.rows.Verb.TheVariants as verbs

@@ -1,11 +1,9 @@
--- The values of a command's arguments: what names the boot type and the UF2 family. This project's
--- own, over the families of the RP2350.
+-- The values of a command's arguments, and what names the boot type.
 use Rattle.std.specs.Prelude.{ℕ, ◌==◌, ◌&&◌, if◌then◌else◌, List, [], length, take, drop, Option, Some, None, option_map, codes, bytes_eq}
 use Rattle.pico_board.specs.declared.boot.Cpu.{Cpu}
 use Rattle.pico_board.specs.declared.boot.Cpu.TheVariants.{Arm}
 use Rattle.pico_board.specs.declared.boot.BootKind.{BootKind}
 use Rattle.pico_board.specs.declared.boot.BootKind.TheVariants.{Normal, Bootsel, Update}
-use Rattle.part_table.specs.Families.{rp2040_family, absolute_family, data_family, arm_s_family, riscv_family, arm_ns_family}
 use Rattle.text_words.specs.Reading.{hex_value}
 use Rattle.cli_words.specs.declared.values.Values.{Values}
 
@@ -92,14 +90,3 @@ boot_kind_of word =
     if bytes_eq word (codes "normal") then Some Normal
     else if bytes_eq word (codes "bootsel") then Some Bootsel
     else option_map Update (update_base word)
-
--- the family that an argument names
-abbrev pub family_of : List ℕ → Option ℕ
-family_of word =
-    if bytes_eq word (codes "rp2040") then Some rp2040_family
-    else if bytes_eq word (codes "absolute") then Some absolute_family
-    else if bytes_eq word (codes "data") then Some data_family
-    else if bytes_eq word (codes "rp2350-arm-s") then Some arm_s_family
-    else if bytes_eq word (codes "rp2350-riscv") then Some riscv_family
-    else if bytes_eq word (codes "rp2350-arm-ns") then Some arm_ns_family
-    else None

@@ -99,9 +99,11 @@ impl Word {
             Word::Elf =>
                 "ELF     a file of at most 67108864 bytes: a 32-bit executable of segments in flash, or in SRAM\n",
             Word::Spec =>
-                "SPEC    a JSON text of at most 65536 bytes: processor, version, rollback, rows and trial\n        of the image; those of the binary, and its window delta, are lost, also if left out\n",
+                "SPEC    a JSON text of at most 65536 bytes: processor, version, rollback, rows and trial
+        of the image; those of the binary, and its window delta, are lost, also if left out\n",
             Word::Json | Word::OtpJson =>
-                "JSON    a JSON text of at most 65536 bytes: for table version, singleton, unpartitioned and\n        partitions; for otp rollback_required, flash_off, slot_size and rows\n",
+                "JSON    a JSON text of at most 65536 bytes: for table version, singleton, unpartitioned and
+        partitions; for otp rollback_required, flash_off, slot_size and rows\n",
             Word::Image =>
                 "IMAGE   a file of 1 to 16777216 bytes; for plan and load at most as many as there is room for\n",
             Word::Uf2 =>
@@ -112,7 +114,8 @@ impl Word {
                 "FAMILY  rp2040, absolute, data, rp2350-arm-s, rp2350-riscv or rp2350-arm-ns\n",
             Word::Number => "N       a number below 4294967296, of 1 to 10 decimal digits\n",
             Word::Out =>
-                "OUT     a file to write: the sealed image; the first sector of a flash with the table; the OTP file;\n        the UF2 file, in blocks of 512 bytes; the script; or the picture\n",
+                "OUT     a file to write: the sealed image; the first sector of a flash with the table; the OTP file;
+        the UF2 file, in blocks of 512 bytes; the script; or the picture\n",
             Word::Command => "COMMAND  the first word of a line above\n",
         }
     }

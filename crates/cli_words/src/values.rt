@@ -3,13 +3,11 @@
 ghost use Rattle.std.specs.Prelude.{◌≡◌, map, option_map, string_bytes};
 ghost use Rattle.text_words.specs.Reading.{number_of};
 ghost use Rattle.cli_words.specs.Rows.{is_row_name, with_word, with_words, row_values};
-ghost use Rattle.cli_words.specs.Values.{boot_kind_of, family_of, no_values, update_base, values_from};
+ghost use Rattle.cli_words.specs.Values.{boot_kind_of, no_values, update_base, values_from};
 
 use crate::arguments::Word;
 use crate::rows::{VERBS, Verb};
-use part_table::{
-    ABSOLUTE_FAMILY, ARM_NS_FAMILY, ARM_S_FAMILY, DATA_FAMILY, RISCV_FAMILY, RP2040_FAMILY,
-};
+use part_table::family_of;
 use pico_board::{BootKind, Cpu};
 use text_words::{decimal_number, hex_number};
 
@@ -110,21 +108,6 @@ fn kind_word(word: &str) -> Option<BootKind>
     }
 }
 
-/// The family that an argument names.
-fn family_word(word: &str) -> Option<u32>
-    ensures { result ≡ family_of word.now }
-{
-    match word {
-        "rp2040" => Some(RP2040_FAMILY),
-        "absolute" => Some(ABSOLUTE_FAMILY),
-        "data" => Some(DATA_FAMILY),
-        "rp2350-arm-s" => Some(ARM_S_FAMILY),
-        "rp2350-riscv" => Some(RISCV_FAMILY),
-        "rp2350-arm-ns" => Some(ARM_NS_FAMILY),
-        _ => None,
-    }
-}
-
 /// The number below 2^32 that an argument of 1 to 10 decimal digits is.
 fn number_word(word: &str) -> Option<u32>
     ensures { result ≡ number_of word.now }
@@ -210,7 +193,7 @@ fn with_word<'a>(kind: Word, word: &'a str, values: Values<'a>) -> Option<Values
             ..values
         }),
         Word::Family => {
-            let family = family_word(word)?;
+            let family = family_of(word)?;
             Some(Values { family, ..values })
         }
         Word::Number => {

@@ -1,5 +1,5 @@
 -- UF2 families, and what a table accepts.
-use Rattle.std.specs.Prelude.{ℕ, Bool, ◌+◌, ◌-◌, ◌==◌, ◌&&◌, ◌||◌, nat_le}
+use Rattle.std.specs.Prelude.{ℕ, Bool, ◌+◌, ◌-◌, ◌==◌, ◌&&◌, ◌||◌, nat_le, List, [], ◌∷◌, Option, option_map, codes, bytes_eq, position}
 use Rattle.std.specs.List.{list_any}
 use Rattle.part_table.specs.declared.partition.Partition.{Partition}
 use Rattle.part_table.specs.declared.table.Table.{Table}
@@ -29,6 +29,17 @@ riscv_family = 0xe48bff5a
 -- the family rp2350-arm-ns has this number (picotool's documentation, UF2 families)
 abbrev pub arm_ns_family : ℕ
 arm_ns_family = 0xe48bff5b
+
+-- the names of the six families, in the order of their numbers, which follow each other (picotool's
+-- documentation, UF2 families)
+abbrev pub family_names : List (List ℕ)
+family_names =
+    codes "rp2040" ∷ codes "absolute" ∷ codes "data" ∷ codes "rp2350-arm-s"
+    ∷ codes "rp2350-riscv" ∷ codes "rp2350-arm-ns" ∷ []
+
+-- the family of a name
+abbrev pub family_of : List ℕ → Option ℕ
+family_of name = option_map (λ i. rp2040_family + i) (position (bytes_eq name) family_names)
 
 -- the six families have the bits 14 to 19 of a flag word, in the order of their numbers
 abbrev pub has_family_bit : ℕ → ℕ → Bool

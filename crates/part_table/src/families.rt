@@ -1,5 +1,8 @@
-//! The numbers of the UF2 families that a flag word has bits for (picotool's documentation, UF2
-//! families).
+//! The numbers and the names of the UF2 families that a flag word has bits for (picotool's
+//! documentation, UF2 families).
+
+ghost use Rattle.std.specs.Prelude.{◌≡◌};
+ghost use Rattle.part_table.specs.Families.{family_of};
 
 /// The family rp2040, the first of the six.
 pub const RP2040_FAMILY: u32 = 0xe48b_ff56;
@@ -13,3 +16,18 @@ pub const ARM_S_FAMILY: u32 = 0xe48b_ff59;
 pub const RISCV_FAMILY: u32 = 0xe48b_ff5a;
 /// The family rp2350-arm-ns, of non-secure executables for Arm; the last of the six.
 pub const ARM_NS_FAMILY: u32 = 0xe48b_ff5b;
+
+/// The family of a name.
+pub fn family_of(name: &str) -> Option<u32>
+    ensures { result ≡ family_of name.now }
+{
+    match name {
+        "rp2040" => Some(RP2040_FAMILY),
+        "absolute" => Some(ABSOLUTE_FAMILY),
+        "data" => Some(DATA_FAMILY),
+        "rp2350-arm-s" => Some(ARM_S_FAMILY),
+        "rp2350-riscv" => Some(RISCV_FAMILY),
+        "rp2350-arm-ns" => Some(ARM_NS_FAMILY),
+        _ => None,
+    }
+}

@@ -21,6 +21,7 @@ mod writing;
 
 pub use families::{
     ABSOLUTE_FAMILY, ARM_NS_FAMILY, ARM_S_FAMILY, DATA_FAMILY, RISCV_FAMILY, RP2040_FAMILY,
+    family_of,
 };
 pub use partition::Partition;
 pub use reading::{has_table, read_table};

@@ -12,9 +12,10 @@ use Rattle.table_json.specs.declared.members.Shape.TheVariants.{OfPermissions}
 use Rattle.table_json.specs.Steps.{◌>>=◌}
 use Rattle.table_json.specs.Members.{member_name, has_unknown, required_in, required, optional_in, optional}
 use Rattle.table_json.specs.Forms.{values_in, number_in, if_below, number_below, link_type_of, link_of, link_in, link_form, rights_of, rights_form, rights_for, permissions_from_rights, permissions_in, permissions_by, permissions_form}
-use Rattle.table_json.specs.Families.{bit_if, is_family, family_bits, family_numbers, few_numbers, families_with, families_in, families_form, is_this_text, no_families}
+use Rattle.table_json.specs.Families.{bit_if, is_family, family_bits, family_numbers, few_numbers, families_with, families_in, families_form, names_family, no_families}
 use Rattle.std.specs.List.{list_any, list_all}
 use Rattle.part_table.specs.declared.partition.Partition.{Partition}
+use Rattle.part_table.specs.Families.{rp2040_family, absolute_family, data_family, arm_s_family, riscv_family, arm_ns_family}
 use Rattle.table_json.specs.declared.members.Shape.TheVariants.{OfPartition}
 use Rattle.table_json.specs.declared.fault.Place.TheVariants.{Partition as Numbered}
 use Rattle.table_json.specs.declared.fault.Field.TheVariants.{Families, Permissions, First, Last, Id, Name, Link, IgnoreArm, IgnoreRiscv, NoReboot}
@@ -158,12 +159,12 @@ bit_less false bit = omega arith
 
 bits_less : (ds : List Data) → family_bits ds < 64
 bits_less ds =
-    let a = bit_less (list_any (is_this_text (codes "rp2040")) ds) 1 in
-    let b = bit_less (list_any (is_this_text (codes "absolute")) ds) 2 in
-    let c = bit_less (list_any (is_this_text (codes "data")) ds) 4 in
-    let e = bit_less (list_any (is_this_text (codes "rp2350-arm-s")) ds) 8 in
-    let f = bit_less (list_any (is_this_text (codes "rp2350-riscv")) ds) 16 in
-    let g = bit_less (list_any (is_this_text (codes "rp2350-arm-ns")) ds) 32 in
+    let a = bit_less (list_any (names_family rp2040_family) ds) 1 in
+    let b = bit_less (list_any (names_family absolute_family) ds) 2 in
+    let c = bit_less (list_any (names_family data_family) ds) 4 in
+    let e = bit_less (list_any (names_family arm_s_family) ds) 8 in
+    let f = bit_less (list_any (names_family riscv_family) ds) 16 in
+    let g = bit_less (list_any (names_family arm_ns_family) ds) 32 in
     omega (arith, a, b, c, e, f, g)
 
 pub families_few : (d : Data) (f : FamilyList) → families_form d ≡ Some f → AreFew f

@@ -1,23 +1,22 @@
 -- Lists of UF2 families. The names are picotool's, the places of their bits this project's own.
-use Rattle.std.specs.Prelude.{ℕ, Bool, false, ◌+◌, ◌^◌, ◌||◌, if◌then◌else◌, List, [], ◌∷◌, length, nat_le, codes, bytes_eq, is_some, filter_map}
+use Rattle.std.specs.Prelude.{ℕ, Bool, false, ◌+◌, ◌^◌, ◌||◌, ◌==◌, if◌then◌else◌, List, [], length, nat_le, is_some, filter_map}
 use Rattle.std.specs.Prelude.{Option, None, Some, option_map, option_and_then}
 use Rattle.std.specs.Option.{option_map_or}
 use Rattle.std.specs.List.{list_any, list_all}
 use Rattle.arrayvec.specs.ArrayVec.{ArrayVec}
 use Rattle.serde_json.specs.Data.{Data}
 use Rattle.serde_json.specs.Find.{as_str}
+use Rattle.part_table.specs.Families.{family_of, rp2040_family, absolute_family, data_family, arm_s_family, riscv_family, arm_ns_family}
 use Rattle.table_json.specs.declared.families.Families.{Families}
 use Rattle.table_json.specs.Forms.{number_below, values_in}
 
--- the names of the six families that have a bit
-abbrev pub family_names : List (List ℕ)
-family_names =
-    codes "rp2040" ∷ codes "absolute" ∷ codes "data" ∷ codes "rp2350-arm-s"
-    ∷ codes "rp2350-riscv" ∷ codes "rp2350-arm-ns" ∷ []
+-- the family that a value names
+abbrev pub named_family : Data → Option ℕ
+named_family d = option_and_then family_of (as_str d)
 
 -- whether a value is the name of a family
 abbrev pub is_family_name : Data → Bool
-is_family_name d = option_map_or (λ text. list_any (bytes_eq text) family_names) (as_str d) false
+is_family_name d = is_some (named_family d)
 
 -- the number of another family
 abbrev pub family_number : Data → Option ℕ
@@ -27,9 +26,9 @@ family_number d = number_below (2 ^ 32) d
 abbrev pub is_family : Data → Bool
 is_family d = is_family_name d || is_some (family_number d)
 
--- whether a value is this text
-abbrev pub is_this_text : List ℕ → Data → Bool
-is_this_text text d = option_map_or (λ found. bytes_eq found text) (as_str d) false
+-- whether a value names this family
+abbrev pub names_family : ℕ → Data → Bool
+names_family family d = option_map_or (λ named. named == family) (named_family d) false
 
 -- a bit is set where a list names its family
 abbrev pub bit_if : Bool → ℕ → ℕ
@@ -38,12 +37,12 @@ bit_if set bit = if set then bit else 0
 -- the six bits of a list
 abbrev pub family_bits : List Data → ℕ
 family_bits ds =
-    bit_if (list_any (is_this_text (codes "rp2040")) ds) 1
-    + bit_if (list_any (is_this_text (codes "absolute")) ds) 2
-    + bit_if (list_any (is_this_text (codes "data")) ds) 4
-    + bit_if (list_any (is_this_text (codes "rp2350-arm-s")) ds) 8
-    + bit_if (list_any (is_this_text (codes "rp2350-riscv")) ds) 16
-    + bit_if (list_any (is_this_text (codes "rp2350-arm-ns")) ds) 32
+    bit_if (list_any (names_family rp2040_family) ds) 1
+    + bit_if (list_any (names_family absolute_family) ds) 2
+    + bit_if (list_any (names_family data_family) ds) 4
+    + bit_if (list_any (names_family arm_s_family) ds) 8
+    + bit_if (list_any (names_family riscv_family) ds) 16
+    + bit_if (list_any (names_family arm_ns_family) ds) 32
 
 -- the numbers of a list, in its order, at most three
 abbrev pub family_numbers : List Data → List ℕ

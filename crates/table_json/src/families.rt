@@ -3,10 +3,14 @@
 ghost use Rattle.std.specs.Prelude.{◌≡◌, ◌<◌, ◌≤◌, length, map, IfSome};
 ghost use Rattle.std.specs.List.{list_any, list_all};
 ghost use Rattle.serde_json.specs.View.{view};
-ghost use Rattle.table_json.specs.Families.{is_family_name, is_family, is_this_text, bit_if, family_bits, few_numbers, names_in, names_form, families_in, families_form, no_families};
+ghost use Rattle.table_json.specs.Families.{named_family, is_family_name, is_family, names_family, bit_if, family_bits, few_numbers, names_in, names_form, families_in, families_form, no_families};
 
 use crate::forms::{number_below, values};
 use arrayvec::ArrayVec;
+use part_table::{
+    ABSOLUTE_FAMILY, ARM_NS_FAMILY, ARM_S_FAMILY, DATA_FAMILY, RISCV_FAMILY, RP2040_FAMILY,
+    family_of,
+};
 use serde_json::Value;
 
 /// The families that a partition accepts.
@@ -31,21 +35,18 @@ pub(crate) fn no_families() -> Families
     }
 }
 
+/// The family that a value names.
+fn named_family(value: &Value) -> Option<u32>
+    ensures { result ≡ named_family (view value.now) }
+{
+    family_of(value.as_str()?)
+}
+
 /// Whether a value is the name of a family.
 fn is_family_name(value: &Value) -> bool
     ensures { result ≡ is_family_name (view value.now) }
 {
-    match value.as_str() {
-        Some(name) => {
-            name == "rp2040"
-                || name == "absolute"
-                || name == "data"
-                || name == "rp2350-arm-s"
-                || name == "rp2350-riscv"
-                || name == "rp2350-arm-ns"
-        }
-        None => false,
-    }
+    named_family(value).is_some()
 }
 
 /// Whether a value is a family: a name, or a number below 2^32.
@@ -79,22 +80,22 @@ fn are_families(values: &[Value]) -> bool
     true
 }
 
-/// Whether a value is this text.
-fn is_this_text(value: &Value, text: &str) -> bool
-    ensures { result ≡ is_this_text text.now (view value.now) }
+/// Whether a value names this family.
+fn names_family(value: &Value, family: u32) -> bool
+    ensures { result ≡ names_family family (view value.now) }
 {
-    match value.as_str() {
-        Some(found) => found == text,
+    match named_family(value) {
+        Some(named) => named == family,
         None => false,
     }
 }
 
-/// Whether a value of a list is this text.
-fn has_text(values: &[Value], text: &str) -> bool
-    ensures { result ≡ list_any (is_this_text text.now) (map view values.now) }
+/// Whether a value of a list names this family.
+fn is_named(values: &[Value], family: u32) -> bool
+    ensures { result ≡ list_any (names_family family) (map view values.now) }
 {
     for value in values {
-        if is_this_text(value, text) {
+        if names_family(value, family) {
             return true;
         }
     }
@@ -114,12 +115,12 @@ fn family_bits(values: &[Value]) -> u32
     ensures value { result ≡ family_bits (map view values.now) }
     ensures small { result < 64 }
 {
-    bit_if(has_text(values, "rp2040"), 1)
-        + bit_if(has_text(values, "absolute"), 2)
-        + bit_if(has_text(values, "data"), 4)
-        + bit_if(has_text(values, "rp2350-arm-s"), 8)
-        + bit_if(has_text(values, "rp2350-riscv"), 16)
-        + bit_if(has_text(values, "rp2350-arm-ns"), 32)
+    bit_if(is_named(values, RP2040_FAMILY), 1)
+        + bit_if(is_named(values, ABSOLUTE_FAMILY), 2)
+        + bit_if(is_named(values, DATA_FAMILY), 4)
+        + bit_if(is_named(values, ARM_S_FAMILY), 8)
+        + bit_if(is_named(values, RISCV_FAMILY), 16)
+        + bit_if(is_named(values, ARM_NS_FAMILY), 32)
 }
 
 /// The numbers of a list, in its order; None where there are more than three.

@@ -7,9 +7,10 @@ ghost use Rattle.pico_board.specs.declared.boot.BootKind.TheVariants.{Normal, Bo
 ghost use Rattle.cli_words.specs.Rows.{row_of, command_line, command_of, Boot, OwnedData, Caveats};
 ghost use Rattle.cli_words.specs.declared.rows.Verb.TheVariants as verbs;
 ghost use Rattle.cli_words.specs.declared.usage.TheConstants.{STATUSES};
+ghost use Rattle.part_table.specs.Families.{family_of};
 ghost use Rattle.cli_words.specs.Examples.{board};
 ghost use Rattle.cli_words.specs.Usages.{help_text, release_line, row_line};
-ghost use Rattle.cli_words.specs.Values.{boot_kind_of, family_of, no_values};
+ghost use Rattle.cli_words.specs.Values.{boot_kind_of, no_values};
 
 /// The arguments of each command.
 pub fn words_of_commands()

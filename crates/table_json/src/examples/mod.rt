@@ -2,12 +2,12 @@
 
 ghost use Rattle.std.specs.Prelude.{◌≡◌, ◌++◌, ℕ, [], ◌∷◌, true, false, codes, length, replicate, is_ok, IfSome, None, Some, Ok, Err, option_map};
 ghost use Rattle.part_table.specs.declared.table.TableFault.{TableFault};
+ghost use Rattle.part_table.specs.Families.{family_names};
 ghost use Rattle.part_table.specs.Examples.{pair_version, owned_table, named_table, table_with, plain_partition, partition_with};
 ghost use Rattle.pico_board.specs.declared.boot.Cpu.{Cpu};
 ghost use Rattle.serde_json.specs.Data.{Data};
 ghost use Rattle.serde_json.specs.Read.{read};
 ghost use Rattle.table_json.specs.declared.members.Shape.TheVariants.{OfPartition, OfPermissions, OfSpec, OfTable, OfUnpartitioned};
-ghost use Rattle.table_json.specs.Families.{family_names};
 ghost use Rattle.table_json.specs.Members.{names_of};
 ghost use Rattle.table_json.specs.Says.{SaysText};
 ghost use Rattle.table_json.specs.Seals.{spec_with};
