@@ -56,7 +56,8 @@ pair_target t family u second B =
 
 -- the target in a load unit whose B is given, where it has one
 abbrev pub unit_target : Content → Option Table → Cpu → ℕ → SlotUnit → Option Window → Target
-unit_target c t cpu family u None = record { window = u.a; gated = false; stay = is_staying_target t u.a_part }
+unit_target c t cpu family u None =
+    record { window = u.a; gated = false; stay = is_staying_target t u.a_part }
 unit_target c t cpu family u (Some second) =
     pair_target t family u second (member_for (taken_member c cpu (deciding_unit t u)))
 

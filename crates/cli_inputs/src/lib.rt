@@ -1,6 +1,7 @@
-//! The forms of input files, and what a file gives that has its form, or its first fault: a board in
-//! memory, a script, a pattern, the spec of a sealed image, a partition table, and others. Also here
-//! are the pool for the calls of a boot, and when the work of a command is right by rules of its own.
+//! The forms of input files, and what a file gives that has its form, or its first fault: a board
+//! in memory, a script, a pattern, the spec of a sealed image, a partition table, and others. Also
+//! here are the pool for the calls of a boot, and when the work of a command is right by rules of
+//! its own.
 #![tactic(auto)]
 
 mod boards;

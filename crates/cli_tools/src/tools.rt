@@ -128,7 +128,8 @@ fn sealed(
         ≡ sealed_text binary.entry.bytes.now spec.now)) }
     ensures block { IfOk result (λ done. IfOk done
         (λ image. image.1 ≡ block_offset binary.entry.bytes.now)) }
-    ensures none { IfOk result (λ done. OnOk done (seal_error binary.entry.bytes.now spec.now ≡ None)) }
+    ensures none { IfOk result
+        (λ done. OnOk done (seal_error binary.entry.bytes.now spec.now ≡ None)) }
     ensures error { IfOk result
         (λ done. IfErr done (λ error. seal_error binary.entry.bytes.now spec.now ≡ Some error)) }
 {

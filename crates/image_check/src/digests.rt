@@ -128,7 +128,8 @@ impl Digests {
     }
 
     /// Counts a digest that was made, and remembers its answer. Where the memory is full, all
-    /// that it has goes first; a table has no more than 16 partitions.
+    /// that it has goes first. It has room for the windows of a table, which has at most 15
+    /// partitions.
     pub(crate) fn note(&mut self, entry: Digested)
         ensures { self.new ≡ noted entry self.old }
     {

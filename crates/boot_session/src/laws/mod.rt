@@ -154,8 +154,8 @@ pub fn slots_are_found()
         → (session_slot c cpu steps ≡ Some w) ↔ IsSlot c cpu steps w }
 {}
 
-/// A recorder counts all steps of a session, those too that it does not keep. Its count has not come
-/// to its type's end.
+/// A recorder counts all steps of a session, those too that it does not keep. Its count has not
+/// come to its type's end.
 pub fn steps_are_counted()
     ensures all { (r : Recorder MemBoard) (c : Content) (cpu : Cpu) (steps : List Step)
         → IsRecorderOf r c cpu steps → r.count ≡ length steps }

@@ -19,8 +19,8 @@ ghost use Rattle.boot_sweep.specs.Refusals.{sweep_refusal};
 ghost use Rattle.boot_session.specs.Slots.{IsSlot};
 ghost use Rattle.boot_sweep.specs.Sweeps.{Line, content_at_line, sweep_lines};
 
-/// An image that is valid where a trial image is allowed, and that is firm by its bytes, is firm. So
-/// a trial image may be firm.
+/// An image that is valid where a trial image is allowed, and that is firm by its bytes, is firm.
+/// So a trial image may be firm.
 pub fn trial_images_may_be_firm()
     ensures { (c : Content) (w : Window) (cpu : Cpu) (s : Started) → Valid c w cpu true s
         → IsFirm cpu (window_bytes c w) s → Firm c w cpu s }

@@ -28,14 +28,19 @@ pub fn a_script_that_is_swept()
     ensures swept { IsSweptScript (beside_small bare_slot) Arm small_script }
     ensures line { (pattern : List ℕ) → slice_get (sweep_lines (beside_small bare_slot) Arm pattern
         (session (beside_small bare_slot) Arm small_script)) 6
-        ≡ Some (record { number = 3; step = Program 66 data_page; within = false; result = Chance }) }
+        ≡ Some (record {
+          number = 3;
+          step = Program 66 data_page;
+          within = false;
+          result = Chance;
+        }) }
 {
     a_cut_behind_the_image();
     a_cut_within_the_image();
 }
 
-/// It is gated on the slot. Cut number 6 leaves an image that lacks its last page, and starts: it is
-/// neither the former nor the finished one.
+/// It is gated on the slot. Cut number 6 leaves an image that lacks its last page, and starts: it
+/// is neither the former nor the finished one.
 pub fn a_gated_script_with_an_accidental_image()
     ensures gated { IsGatedScript (beside_small bare_slot) Arm small_script small_slot }
     ensures cut { (pattern : List ℕ) → slice_get (cut_contents pattern
