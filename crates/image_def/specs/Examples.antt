@@ -1,4 +1,4 @@
--- Blocks for worked examples.
+-- Blocks, and records of images, for worked examples.
 use Rattle.std.specs.Prelude.{ℕ, false, pos, negsuc, List, [], ◌∷◌, replicate, Option, Some, None}
 use Rattle.std.specs.Result.{result_err}
 use Rattle.pico_board.specs.declared.window.Window.{Window}

@@ -21,8 +21,8 @@ is_right_version words item =
     is_some (version_of words item) && nat_le item.high 32
     && nat_le (unwrap_or (rollback_in words item) 0) (24 * item.high)
 
--- what an item's kind asks for beside its size: of a load map's entries, of the algorithm of a
--- hash, and of rows
+-- what an item's kind asks for beyond the bounds of its size: the exact size of a load map or of a
+-- version, the algorithm of a hash, and the bounds of rows
 abbrev pub is_right_inside : ℕ → List ℕ → Item → Bool
 is_right_inside kind words item =
     if kind == LOAD_MAP then item.words == 1 + 3 * (item.high % 128)

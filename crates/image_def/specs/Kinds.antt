@@ -6,7 +6,7 @@ use Rattle.block_codec.specs.declared.items.Item.{Item}
 use Rattle.block_codec.specs.declared.kinds.TheConstants.{IMAGE_TYPE, VECTOR_TABLE, ENTRY_POINT, WINDOW_DELTA, LOAD_MAP, HASH_DEF, VERSION, HASH_VALUE}
 use Rattle.image_def.specs.declared.kinds.ItemSize.{ItemSize}
 
--- from so many words to so many
+-- a size of at least and at most so many words
 abbrev pub between : ℕ → ℕ → Option ItemSize
 between least most = Some (record { least = least; most = most })
 

@@ -32,15 +32,15 @@ fn is_version(block: &Block, item: &Item) -> bool
     }
 }
 
-/// Whether an item is what its kind asks for beside its size. A LOAD_MAP item has three words for
-/// each of its entries. A HASH_DEF item names SHA-256. A VERSION item has at most 32 rows, and its
-/// rollback version is within their bound.
-fn is_right_inside(block: &Block, kind: u8, item: &Item) -> bool
+/// Whether an item is what its kind asks for beyond the bounds of its size. A LOAD_MAP item has
+/// three words for each of its entries. A HASH_DEF item names SHA-256. A VERSION item has the size
+/// of its rows, at most 32 of them, and a rollback version within their bound.
+fn is_right_inside(block: &Block, item: &Item) -> bool
     requires of_block { Contains (items_of block.now.items) item.now }
-    requires kind { kind ≡ first_spelling item.now.kind }
-    ensures { result ≡ is_right_inside kind (block_words block.now) item.now }
+    ensures { result
+        ≡ is_right_inside (first_spelling item.now.kind) (block_words block.now) item.now }
 {
-    match kind {
+    match kind_of(item.kind) {
         LOAD_MAP => item.words == 1 + 3 * u32::from(item.high % 128),
         HASH_DEF => hash_count(block, item).is_some(),
         VERSION => is_version(block, item),
@@ -48,13 +48,12 @@ fn is_right_inside(block: &Block, kind: u8, item: &Item) -> bool
     }
 }
 
-/// Whether an item has the size, and the header byte, of its kind.
+/// Whether an item has a size that its kind may have, and is what its kind asks for beyond that.
 fn is_right(block: &Block, item: &Item) -> bool
     requires of_block { Contains (items_of block.now.items) item.now }
     ensures { result ≡ is_well_formed (block_words block.now) item.now }
 {
-    let kind = kind_of(item.kind);
-    has_right_size(kind, item) && is_right_inside(block, kind, item)
+    has_right_size(kind_of(item.kind), item) && is_right_inside(block, item)
 }
 
 /// Whether an item of this kind stands before the one with this index.
@@ -91,7 +90,7 @@ fn fault_at(block: &Block, index: u32) -> Option<DefFault>
     }
 }
 
-/// The fault of the first item of a block that has one.
+/// The first fault of a block's items, in their order.
 pub(crate) fn item_fault(block: &Block) -> Option<DefFault>
     ensures value { result ≡ first_item_fault block.now }
     ensures whole { IsWholeBlock block.now }

@@ -17,15 +17,14 @@ struct ItemSize {
     most: u32,
 }
 
-/// From so many words to so many.
+/// A size of at least and at most so many words.
 fn between(least: u32, most: u32) -> Option<ItemSize>
     ensures { result ≡ between least most }
 {
     Some(ItemSize { least, most })
 }
 
-/// The kinds that are read, each with how many words an item of it has; None for all others, which
-/// are passed over. What else an item of a kind has to be is judged beside its size.
+/// The fewest and the most words of an item of this kind; None for a kind that is passed over.
 fn size_of_kind(kind: u8) -> Option<ItemSize>
     ensures { result ≡ size_of_kind kind }
 {
