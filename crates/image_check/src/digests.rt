@@ -127,9 +127,8 @@ impl Digests {
         remembered(self.entries.as_slice(), window, cpu)
     }
 
-    /// Counts a digest that was made, and remembers its answer. Where the memory is full, all
-    /// that it has goes first. It has room for the windows of a table, which has at most 15
-    /// partitions.
+    /// Counts a digest that was made, and remembers its answer. Where the memory is full, it is
+    /// emptied first. It holds 16 answers, and a table has at most 15 partitions.
     pub(crate) fn note(&mut self, entry: Digested)
         ensures { self.new ≡ noted entry self.old }
     {

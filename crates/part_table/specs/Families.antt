@@ -1,4 +1,4 @@
--- UF2 families, and what a table accepts.
+-- UF2 families, by number and by name, and what a table accepts.
 use Rattle.std.specs.Prelude.{ℕ, Bool, ◌+◌, ◌-◌, ◌==◌, ◌&&◌, ◌||◌, nat_le, List, [], ◌∷◌, Option, option_map, codes, bytes_eq, position}
 use Rattle.std.specs.List.{list_any}
 use Rattle.part_table.specs.declared.partition.Partition.{Partition}
@@ -37,7 +37,7 @@ family_names =
     codes "rp2040" ∷ codes "absolute" ∷ codes "data" ∷ codes "rp2350-arm-s"
     ∷ codes "rp2350-riscv" ∷ codes "rp2350-arm-ns" ∷ []
 
--- the family of a name
+-- the family of a name; None where no family has it
 abbrev pub family_of : List ℕ → Option ℕ
 family_of name = option_map (λ i. rp2040_family + i) (position (bytes_eq name) family_names)
 

@@ -17,7 +17,7 @@ pub const RISCV_FAMILY: u32 = 0xe48b_ff5a;
 /// The family rp2350-arm-ns, of non-secure executables for Arm; the last of the six.
 pub const ARM_NS_FAMILY: u32 = 0xe48b_ff5b;
 
-/// The family of a name.
+/// The family of a name. None exactly where no family has it.
 pub fn family_of(name: &str) -> Option<u32>
     ensures { result ≡ family_of name.now }
 {

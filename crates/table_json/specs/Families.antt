@@ -1,4 +1,4 @@
--- Lists of UF2 families. The names are picotool's, the places of their bits this project's own.
+-- Lists of UF2 families. The places of their bits are this project's own.
 use Rattle.std.specs.Prelude.{ℕ, Bool, false, ◌+◌, ◌^◌, ◌||◌, ◌==◌, if◌then◌else◌, List, [], length, nat_le, is_some, filter_map}
 use Rattle.std.specs.Prelude.{Option, None, Some, option_map, option_and_then}
 use Rattle.std.specs.Option.{option_map_or}

@@ -22,6 +22,6 @@ an_image major minor = record (started_in (thirty_sectors_at 0x2000) 0x100 0x104
 }
 
 -- the start of an image of version 1.0 in a member
-abbrev pub started_in : Member → Bool → Choice
-started_in member updated =
+abbrev pub choice_in : Member → Bool → Choice
+choice_in member updated =
     record { image = an_image 1 0; member = member; other = None; updated = updated }

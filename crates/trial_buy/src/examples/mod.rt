@@ -6,7 +6,7 @@ ghost use Rattle.slot_choice.specs.declared.unit.Member.{Member};
 ghost use Rattle.otp_roll.specs.Raises.{raises};
 ghost use Rattle.trial_buy.specs.Starting.{erase_in, erase_of, is_other_better, raises_of};
 ghost use Rattle.trial_buy.specs.Buying.{clearing, cleared, page_programs, trial_place};
-ghost use Rattle.trial_buy.specs.Examples.{an_image, thirty_sectors_at, started_in, version};
+ghost use Rattle.trial_buy.specs.Examples.{an_image, thirty_sectors_at, choice_in, version};
 
 /// The greater version is better, by major and then minor, and A's where they are the same.
 pub fn which_image_is_better()
@@ -21,19 +21,19 @@ pub fn which_image_is_better()
 
 /// A better image is erased where the start was updated, and in no other case.
 pub fn which_sector_is_erased()
-    ensures better { erase_of (started_in Member.A true) (Some (thirty_sectors_at 0x20000))
+    ensures better { erase_of (choice_in Member.A true) (Some (thirty_sectors_at 0x20000))
         (Some (an_image 2 0))
         ≡ Erase 32 ∷ [] }
-    ensures tie_of_a { erase_of (started_in Member.B true) (Some (thirty_sectors_at 0x2000))
+    ensures tie_of_a { erase_of (choice_in Member.B true) (Some (thirty_sectors_at 0x2000))
         (Some (an_image 1 0))
         ≡ Erase 2 ∷ [] }
-    ensures tie_of_b { erase_of (started_in Member.A true) (Some (thirty_sectors_at 0x20000))
+    ensures tie_of_b { erase_of (choice_in Member.A true) (Some (thirty_sectors_at 0x20000))
         (Some (an_image 1 0)) ≡ [] }
-    ensures plain { erase_of (started_in Member.A false) (Some (thirty_sectors_at 0x20000))
+    ensures plain { erase_of (choice_in Member.A false) (Some (thirty_sectors_at 0x20000))
         (Some (an_image 2 0)) ≡ [] }
-    ensures none { erase_of (started_in Member.A true) (Some (thirty_sectors_at 0x20000)) None
+    ensures none { erase_of (choice_in Member.A true) (Some (thirty_sectors_at 0x20000)) None
         ≡ [] }
-    ensures alone { erase_of (started_in Member.A true) None None ≡ [] }
+    ensures alone { erase_of (choice_in Member.A true) None None ≡ [] }
 {}
 
 /// The trial bit is the high bit of the fourth byte of the IMAGE_TYPE item.
