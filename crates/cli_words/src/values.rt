@@ -131,90 +131,30 @@ fn is_row_name(verbs: &[Verb], word: &str) -> bool
 fn with_word<'a>(kind: Word, word: &'a str, values: Values<'a>) -> Option<Values<'a>>
     ensures { option_map values_from result ≡ with_word kind word.now (values_from values.entry) }
 {
+    let mut values = values;
     match kind {
-        Word::Cpu => {
-            let cpu = Cpu::named(word)?;
-            Some(Values { cpu, ..values })
-        }
-        Word::Kind => {
-            let kind = kind_word(word)?;
-            Some(Values { kind, ..values })
-        }
-        Word::Flash => Some(Values {
-            flash: word,
-            ..values
-        }),
-        Word::Otp => Some(Values {
-            otp: word,
-            ..values
-        }),
-        Word::Script => Some(Values {
-            script: word,
-            ..values
-        }),
-        Word::Pattern => Some(Values {
-            pattern: word,
-            ..values
-        }),
-        Word::OutFlash => Some(Values {
-            out_flash: word,
-            ..values
-        }),
-        Word::OutOtp => Some(Values {
-            out_otp: word,
-            ..values
-        }),
-        Word::Binary => Some(Values {
-            binary: word,
-            ..values
-        }),
-        Word::Elf => Some(Values {
-            elf: word,
-            ..values
-        }),
-        Word::Spec => Some(Values {
-            spec: word,
-            ..values
-        }),
-        Word::Json | Word::OtpJson => Some(Values {
-            json: word,
-            ..values
-        }),
-        Word::Image => Some(Values {
-            image: word,
-            ..values
-        }),
-        Word::Uf2 => Some(Values {
-            uf2: word,
-            ..values
-        }),
-        Word::Text => Some(Values {
-            text: word,
-            ..values
-        }),
-        Word::Family => {
-            let family = family_of(word)?;
-            Some(Values { family, ..values })
-        }
-        Word::Number => {
-            let number = number_word(word)?;
-            Some(Values { number, ..values })
-        }
-        Word::Out => Some(Values {
-            out: word,
-            ..values
-        }),
-        Word::Command => {
-            if is_row_name(&VERBS, word) {
-                Some(Values {
-                    command: word,
-                    ..values
-                })
-            } else {
-                None
-            }
-        }
+        Word::Cpu => values.cpu = Cpu::named(word)?,
+        Word::Kind => values.kind = kind_word(word)?,
+        Word::Flash => values.flash = word,
+        Word::Otp => values.otp = word,
+        Word::Script => values.script = word,
+        Word::Pattern => values.pattern = word,
+        Word::OutFlash => values.out_flash = word,
+        Word::OutOtp => values.out_otp = word,
+        Word::Binary => values.binary = word,
+        Word::Elf => values.elf = word,
+        Word::Spec => values.spec = word,
+        Word::Json | Word::OtpJson => values.json = word,
+        Word::Image => values.image = word,
+        Word::Uf2 => values.uf2 = word,
+        Word::Text => values.text = word,
+        Word::Family => values.family = family_of(word)?,
+        Word::Number => values.number = number_word(word)?,
+        Word::Out => values.out = word,
+        Word::Command if is_row_name(&VERBS, word) => values.command = word,
+        Word::Command => return None,
     }
+    Some(values)
 }
 
 /// The values with those of arguments that are of these kinds, one after another.
