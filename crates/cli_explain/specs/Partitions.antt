@@ -4,7 +4,7 @@ use Rattle.std.specs.List.{flat_map}
 use Rattle.pico_board.specs.declared.boot.Cpu.TheVariants.{Arm, Riscv}
 use Rattle.arrayvec.specs.ArrayVec.{ArrayVec}
 use Rattle.part_table.specs.declared.partition.Partition.{Partition}
-use Rattle.part_table.specs.Families.{has_family_bit, rp2040_family, absolute_family, data_family, arm_s_family, riscv_family, arm_ns_family}
+use Rattle.part_table.specs.Families.{has_family_bit, rp2040_family, family_names}
 use Rattle.part_table.specs.Fields.{has_bit, is_ignored, is_staying, link_type, link_value}
 use Rattle.part_table.specs.Windows.{part_window}
 use Rattle.text_words.specs.Writing.{hex_digits, hex_word, yes_or_no}
@@ -38,15 +38,16 @@ added (x ∷ text) word = (x ∷ text) ++ (codes "," ++ word)
 abbrev pub with_bit : ℕ → ℕ → List ℕ → List ℕ → List ℕ
 with_bit flags family name text = if has_family_bit flags family then added text name else text
 
+-- a text, and after it each of these names whose family's bit the flag word has; the first name is
+-- that of this family, the next that of the next number
+abbrev pub with_bits : ℕ → ℕ → List (List ℕ) → List ℕ → List ℕ
+with_bits flags family [] text = text
+with_bits flags family (name ∷ names) text =
+    with_bits flags (family + 1) names (with_bit flags family name text)
+
 -- the families of the bits of a flag word by name, in numeric order
 abbrev pub named_families : ℕ → List ℕ
-named_families flags =
-    with_bit flags arm_ns_family (codes "rp2350-arm-ns")
-    (with_bit flags riscv_family (codes "rp2350-riscv")
-    (with_bit flags arm_s_family (codes "rp2350-arm-s")
-    (with_bit flags data_family (codes "data")
-    (with_bit flags absolute_family (codes "absolute")
-    (with_bit flags rp2040_family (codes "rp2040") [])))))
+named_families flags = with_bits flags rp2040_family family_names []
 
 -- further families by number, in their order
 abbrev pub with_families : List ℕ → List ℕ → List ℕ

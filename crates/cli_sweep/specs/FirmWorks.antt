@@ -1,5 +1,5 @@
 -- The work of `firm`, as a function.
-use Rattle.std.specs.Prelude.{ℕ, Bool, true, false, if◌then◌else◌, List, [], ◌∷◌, ◌++◌, length, Result, Ok, Err, codes}
+use Rattle.std.specs.Prelude.{ℕ, Bool, true, false, List, [], ◌∷◌, ◌++◌, length, Result, Ok, Err, codes}
 use Rattle.pico_board.specs.declared.boot.Cpu.{Cpu}
 use Rattle.pico_board.specs.declared.window.Window.{Window}
 use Rattle.pico_board.specs.Content.{Content, window_bytes}
@@ -9,6 +9,7 @@ use Rattle.image_check.specs.Image.{image_at}
 use Rattle.cli_course.specs.Outcomes.{Work, Answers, Refuses, line}
 use Rattle.cli_inputs.specs.Forms.{content_of_files, filled_flash}
 use Rattle.text_lines.specs.Faults.{why_text}
+use Rattle.text_words.specs.Writing.{yes_or_no}
 use Rattle.cli_sweep.specs.Firmness.{is_firm}
 
 -- an image alone: a flash of its bytes, filled to whole sectors, and an OTP of zeros
@@ -20,7 +21,7 @@ abbrev pub whole_window : List ℕ → Window
 whole_window image = record { start = 0; len = length (filled_flash image) }
 
 abbrev pub firm_line : Bool → List ℕ
-firm_line firm = codes "firm " ++ line (if firm then codes "yes" else codes "no")
+firm_line firm = codes "firm " ++ line (yes_or_no firm)
 
 -- an image that fails a rule is refused
 abbrev pub judged_work : List ℕ → List ℕ → Cpu → Result Started Why → Work

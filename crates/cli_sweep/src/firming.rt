@@ -18,16 +18,14 @@ use image_check::{Started, Why, check};
 use pico_board::{Board, Cpu, FlashView, MemBoard, Window};
 use std::alloc::{AllocError, Global};
 use text_lines::why_text;
+use text_words::yes_or_no;
 
 /// The line that says whether an image is firm.
 fn firm_line(alloc: Global, firm: bool) -> Result<String, AllocError>
     ensures { IfOk result (λ t. string_bytes t ≡ firm_line firm) }
 {
-    if firm {
-        format!(in alloc; "firm yes\n")
-    } else {
-        format!(in alloc; "firm no\n")
-    }
+    let word = yes_or_no(firm);
+    format!(in alloc; "firm {word}\n")
 }
 
 /// Whether the image that a window of the board holds is firm.
@@ -86,10 +84,9 @@ fn firm_answer<'a>(
     }
 }
 
-/// The work of `firm` on an image. It prints whether the image
-/// is firm for the processor, alone in a flash with an OTP of zeros and with trial images allowed.
-/// Or it refuses the image, by its argument: there is no byte, or the image fails a rule. It fails
-/// only where memory is out.
+/// The work of `firm` on an image. It prints whether the image is firm for the processor, alone in
+/// a flash with an OTP of zeros and with trial images allowed. Or it refuses the image, by its
+/// argument: there is no byte, or the image fails a rule. It fails only where memory is out.
 pub fn firm_image<'a>(
     alloc: Global,
     name: &str,
