@@ -12,19 +12,20 @@ use Rattle.boot_rules.proofs.DecisionLemmas.{decision-chosen, chosen-decision}
 use Rattle.cli_course.specs.declared.status.Status.TheVariants.{Input as Refused, Bootsel}
 use Rattle.cli_course.specs.Outcomes.{AreOfBytes, AnswerView, Answers, found, outcome_found, Work, Refuses, Judges, worked}
 use Rattle.cli_course.proofs.ReadLemmas.{found-long}
-use Rattle.cli_words.specs.Rows.{CommandLineView, command_line}
+use Rattle.cli_words.specs.Rows.{CommandLineView, command_line, Boot}
 use Rattle.cli_words.specs.declared.rows.Verb.{Verb}
 use Rattle.cli_words.specs.declared.rows.Verb.TheVariants as verbs
 use Rattle.cli_words.specs.Values.{ValuesView}
 use Rattle.cli_words.specs.Usages.{usage_text, help_text, release_line}
 use Rattle.cli_inputs.specs.declared.forms.Form.TheVariants.{Flash, Otp, OtpText}
 use Rattle.cli_inputs.specs.Forms.{HasForm, content_of_files}
-use Rattle.cli_inputs.specs.Inputs.{flash_and_otp, readings, first_input_fault, unless_refused, of_one, of_two, of_three, of_four}
-use Rattle.cli_inputs.specs.Rules.{WorksBy}
+use Rattle.cli_inputs.specs.Inputs.{readings, first_input_fault, unless_refused}
+use Rattle.cli_inputs.specs.Rules.{AreFormed, IsByRules}
+use Rattle.cli_inputs.proofs.ContentLemmas.{formed-content}
 use Rattle.cli_inputs.proofs.InputLemmas.{Judged, all_formed, one_faulty, judged-first, formed-none, readings-long}
 use Rattle.cli_inputs.specs.Jsons.{otp_read, spec_read, table_read}
 use Rattle.cli_inputs.proofs.JsonLemmas.{otp-gives}
-use Rattle.cli_inputs.proofs.WorkLemmas.{work-obeys, work-only, work-refused, none-works}
+use Rattle.cli_inputs.proofs.WorkLemmas.{work-obeys, work-only, work-refused, never-refuses, needs-more, formed-long, of-one, of-two, of-three, of-four}
 use Rattle.cli_boot.specs.Rules.{decided_status}
 use Rattle.cli_boot.proofs.BoardWorkLemmas.{boot-works, info-works, data-works}
 use Rattle.cli_explain.proofs.ReasonWorkLemmas.{explain-works}
@@ -47,62 +48,88 @@ use Rattle.boot_run.specs.Commands.{row_work, work_of, command_outcome, outcome_
 use Rattle.part_table.specs.declared.target.Target.{Target}
 use Rattle.script_plan.specs.declared.writing.WriteOrder.{WriteOrder}
 use Rattle.script_plan.specs.declared.writing.WriteOrder.TheVariants.{FirstLast, Ascending}
-use Rattle.cli_boot.specs.Works.{boot_work, info_work, data_work}
-use Rattle.cli_explain.specs.Works.{explain_work}
-use Rattle.cli_caveats.specs.Works.{caveats_work}
-use Rattle.cli_map.specs.Works.{map_work}
 use Rattle.cli_otp.specs.OtpWords.{otp_work}
-use Rattle.cli_scripts.specs.ReplayWorks.{replay_work}
-use Rattle.cli_scripts.specs.Copies.{copy_work}
-use Rattle.cli_scripts.specs.TextWorks.{list_work, read_work, write_work}
-use Rattle.cli_sweep.specs.ChartWorks.{chart_work, drawn_work}
+use Rattle.cli_scripts.specs.TextWorks.{read_work}
+use Rattle.cli_sweep.specs.ChartWorks.{drawn_work}
 use Rattle.cli_sweep.specs.FirmWorks.{firm_work, judged_work as firm_judged}
-use Rattle.cli_sweep.specs.SweepWorks.{sweep_work, swept_work}
+use Rattle.cli_sweep.specs.SweepWorks.{swept_work}
 use Rattle.cli_tools.specs.Elfs.{elf_work, packed_work}
 use Rattle.cli_tools.specs.Tools.{seal_work, table_work, judged_work as seal_judged}
-use Rattle.cli_tools.specs.ToolWorks.{uf2_work, plan_work, load_work, target_work}
+use Rattle.cli_tools.specs.ToolWorks.{target_work}
 
 -- a told text is right
-told-works : (text : List ℕ)
-    → WorksBy [] (λ read. ⊤) (λ read. Answers false text []) (λ read name fault. ⊥) (λ read o. Tells text o)
-told-works text = none-works (λ read. ⊤) (Answers false text []) (Tells text) refl (λ o right. right) (λ h. cc)
+told-works : (text : List ℕ) → IsByRules ⊤ (Answers false text []) (λ name fault. ⊥) (Tells text)
+told-works text = never-refuses ⊤ (Answers false text []) (Tells text) (λ need. refl) (λ o right. right) (λ h. cc)
 
--- the work of each row's command is right by the rules
-row-works : (verb : Verb) (v : ValuesView)
-    → WorksBy (inputs_of (command_line verb v)) (NeedsBytes (command_line verb v)) (row_work verb v)
-    (IsRowRefused verb v) (IsRowRight verb v)
-row-works verbs.Boot v = boot-works v.flash v.otp v.cpu v.kind
-row-works verbs.Info v = info-works v.flash v.otp v.cpu
-row-works verbs.OwnedData v = data-works v.flash v.otp v.cpu v.kind
-row-works verbs.Explain v = explain-works v.flash v.otp v.cpu v.kind
-row-works verbs.Caveats v = caveats-works v.flash v.otp v.cpu v.kind
-row-works verbs.Map v = map-works v.flash v.otp v.out v.cpu
-row-works verbs.Replay v = replay-works v.flash v.otp v.script v.out_flash v.out_otp v.cpu
-row-works verbs.Sweep v = sweep-works v.flash v.otp v.script v.pattern v.cpu
-row-works verbs.Chart v = chart-works v.flash v.otp v.script v.pattern v.out v.cpu
-row-works verbs.Cuts v = cuts-works v.flash v.otp v.script v.pattern v.cpu
-row-works verbs.Check v = check-works v.flash v.otp v.script v.pattern v.cpu
-row-works verbs.Seal v = seal-works v.binary v.spec v.out
-row-works verbs.Elf v = elf-works v.elf v.spec v.out
-row-works verbs.Firm v = firm-works v.image v.cpu
-row-works verbs.Table v = table-works v.json v.out
-row-works verbs.OtpFile v = otp-works OtpText otp_read (λ j has. has.1) otp-gives v.json v.out
-row-works verbs.Uf2 v = uf2-works v.image v.out v.family
-row-works verbs.Plan v = plan-works v.flash v.otp v.image v.out v.cpu
-row-works verbs.Load v = load-works v.flash v.otp v.image v.out v.cpu
-row-works verbs.Copy v = copy-works v.uf2 v.out
-row-works verbs.ListScript v = list-works v.script
-row-works verbs.WriteScript v = write-works v.text v.out
-row-works verbs.Gen v = gen-works v.number
-row-works verbs.Usage v = told-works usage_text
-row-works verbs.ShortUsage v = told-works usage_text
-row-works verbs.WordUsage v = told-works usage_text
-row-works verbs.Help v = told-works (help_text v.command)
-row-works verbs.Release v = told-works release_line
+-- on inputs that have their forms the work of a row's command is right by the rules
+abbrev IsRowRuled : Verb → ValuesView → List (List ℕ) → Type 0
+IsRowRuled verb v read =
+    AreFormed (inputs_of (command_line verb v)) read
+    → IsByRules (NeedsBytes (command_line verb v) read) (row_work verb v read) (IsRowRefused verb v read)
+    (IsRowRight verb v read)
 
-works : (command : CommandLineView)
-    → WorksBy (inputs_of command) (NeedsBytes command) (work_of command) (IsRefusedWork command) (IsRight command)
-works command = row-works command.verb command.values
+row-works : (verb : Verb) (v : ValuesView) (read : List (List ℕ)) → length read ≡ length (inputs_of (command_line verb v))
+    → IsRowRuled verb v read
+row-works verbs.Boot v = of-two (IsRowRuled verbs.Boot v) (λ f g all. boot-works (content_of_files f g) v.cpu v.kind)
+row-works verbs.Info v = of-two (IsRowRuled verbs.Info v) (λ f g all. info-works (content_of_files f g) v.cpu)
+row-works verbs.OwnedData v =
+    of-two (IsRowRuled verbs.OwnedData v) (λ f g all. data-works (content_of_files f g) v.cpu v.kind)
+row-works verbs.Explain v =
+    of-two (IsRowRuled verbs.Explain v) (λ f g all. explain-works (content_of_files f g) v.cpu v.kind)
+row-works verbs.Caveats v =
+    of-two (IsRowRuled verbs.Caveats v) (λ f g all. caveats-works (content_of_files f g) v.cpu v.kind)
+row-works verbs.Map v =
+    of-two (IsRowRuled verbs.Map v) (λ f g all.
+    needs-more (λ (small : AreOfBytes (f ∷ g ∷ [])). formed-content f g all.0 all.1.0 small.0)
+    (map-works (content_of_files f g) v.cpu v.out))
+row-works verbs.Replay v =
+    of-three (IsRowRuled verbs.Replay v) (λ f g s all.
+    needs-more (λ (small : AreOfBytes (f ∷ g ∷ s ∷ [])). (small.0, small.1.1.0))
+    (replay-works f g s v.out_flash v.out_otp v.cpu all.1.1.0))
+row-works verbs.Sweep v =
+    of-four (IsRowRuled verbs.Sweep v) (λ f g s p all.
+    needs-more (λ (small : AreOfBytes (f ∷ g ∷ s ∷ p ∷ [])).
+    (formed-content f g all.0 all.1.0 small.0, small.1.1.1.0))
+    (sweep-works (content_of_files f g) v.cpu v.script s p))
+row-works verbs.Chart v =
+    of-four (IsRowRuled verbs.Chart v) (λ f g s p all.
+    needs-more (λ (small : AreOfBytes (f ∷ g ∷ s ∷ p ∷ [])). formed-content f g all.0 all.1.0 small.0)
+    (chart-works (content_of_files f g) v.cpu v.script v.out s p))
+row-works verbs.Cuts v =
+    of-four (IsRowRuled verbs.Cuts v) (λ f g s p all.
+    cuts-works (content_of_files f g) v.cpu v.script s p all.1.1.0)
+row-works verbs.Check v =
+    of-four (IsRowRuled verbs.Check v) (λ f g s p all.
+    needs-more (λ (small : AreOfBytes (f ∷ g ∷ s ∷ p ∷ [])). formed-content f g all.0 all.1.0 small.0)
+    (check-works (content_of_files f g) v.cpu v.script s p))
+row-works verbs.Seal v =
+    of-two (IsRowRuled verbs.Seal v) (λ b s all. seal-works v.binary v.spec v.out b s all.1.0)
+row-works verbs.Elf v =
+    of-two (IsRowRuled verbs.Elf v) (λ e s all.
+    needs-more (λ (small : AreOfBytes (e ∷ s ∷ [])). small.0) (elf-works v.elf v.spec v.out e s all.1.0))
+row-works verbs.Firm v = of-one (IsRowRuled verbs.Firm v) (λ i all. firm-works v.image i v.cpu)
+row-works verbs.Table v = of-one (IsRowRuled verbs.Table v) (λ j all. table-works v.out j all.0)
+row-works verbs.OtpFile v =
+    of-one (IsRowRuled verbs.OtpFile v) (λ j all. otp-works OtpText otp_read (λ t has. has.1) otp-gives v.out j all.0)
+row-works verbs.Uf2 v = of-one (IsRowRuled verbs.Uf2 v) (λ i all. uf2-works v.image v.out i v.family)
+row-works verbs.Plan v =
+    of-three (IsRowRuled verbs.Plan v) (λ f g i all. plan-works v.image v.out i (content_of_files f g) v.cpu)
+row-works verbs.Load v =
+    of-three (IsRowRuled verbs.Load v) (λ f g i all. load-works v.image v.out i (content_of_files f g) v.cpu)
+row-works verbs.Copy v = of-one (IsRowRuled verbs.Copy v) (λ u all. copy-works v.out u all.0)
+row-works verbs.ListScript v = of-one (IsRowRuled verbs.ListScript v) (λ s all. list-works s all.0)
+row-works verbs.WriteScript v = of-one (IsRowRuled verbs.WriteScript v) (λ t all. write-works v.text v.out t all.0)
+row-works verbs.Gen v = λ read long all. gen-works v.number
+row-works verbs.Usage v = λ read long all. told-works usage_text
+row-works verbs.ShortUsage v = λ read long all. told-works usage_text
+row-works verbs.WordUsage v = λ read long all. told-works usage_text
+row-works verbs.Help v = λ read long all. told-works (help_text v.command)
+row-works verbs.Release v = λ read long all. told-works release_line
+
+works : (command : CommandLineView) (read : List (List ℕ)) → AreFormed (inputs_of command) read
+    → IsByRules (NeedsBytes command read) (work_of command read) (IsRefusedWork command read) (IsRight command read)
+works command read all =
+    row-works command.verb command.values read (formed-long (inputs_of command) read all) all
 
 -- the outcome of each command on the bytes of its inputs is right by the rules
 pub obeys : (command : CommandLineView) (read : List (List ℕ)) → length read ≡ length (inputs_of command)
@@ -160,37 +187,6 @@ by-test : (t : Bool) (v w : Work) → IsPlain v → IsPlain w → IsPlain (cond 
 by-test true v w left right = left
 by-test false v w left right = right
 
--- a work on so many inputs
-on-one : (work : List ℕ → Work) → ((a : List ℕ) → IsPlain (work a)) → (read : List (List ℕ))
-    → IsPlain (of_one work read)
-on-one work all [] = tt
-on-one work all (a ∷ []) = all a
-on-one work all (a ∷ b ∷ read) = tt
-
-on-two : (work : List ℕ → List ℕ → Work) → ((a b : List ℕ) → IsPlain (work a b)) → (read : List (List ℕ))
-    → IsPlain (of_two work read)
-on-two work all [] = tt
-on-two work all (a ∷ []) = tt
-on-two work all (a ∷ b ∷ []) = all a b
-on-two work all (a ∷ b ∷ c ∷ read) = tt
-
-on-three : (work : List ℕ → List ℕ → List ℕ → Work) → ((a b c : List ℕ) → IsPlain (work a b c))
-    → (read : List (List ℕ)) → IsPlain (of_three work read)
-on-three work all [] = tt
-on-three work all (a ∷ []) = tt
-on-three work all (a ∷ b ∷ []) = tt
-on-three work all (a ∷ b ∷ c ∷ []) = all a b c
-on-three work all (a ∷ b ∷ c ∷ d ∷ read) = tt
-
-on-four : (work : List ℕ → List ℕ → List ℕ → List ℕ → Work) → ((a b c d : List ℕ) → IsPlain (work a b c d))
-    → (read : List (List ℕ)) → IsPlain (of_four work read)
-on-four work all [] = tt
-on-four work all (a ∷ []) = tt
-on-four work all (a ∷ b ∷ []) = tt
-on-four work all (a ∷ b ∷ c ∷ []) = tt
-on-four work all (a ∷ b ∷ c ∷ d ∷ []) = all a b c d
-on-four work all (a ∷ b ∷ c ∷ d ∷ e ∷ read) = tt
-
 firm-plain : (name image : List ℕ) (cpu : Cpu) → IsPlain (firm_work name image cpu)
 firm-plain name [] cpu = tt
 firm-plain name (b ∷ bytes) cpu =
@@ -203,59 +199,54 @@ target-plain order name out image (Some target) =
     by-test (length image == 0) _ _ tt (by-test (nat_lt target.window.len (length image)) _ _ tt tt)
 
 -- a command that judges nothing has such a work
+abbrev IsRowPlain : Verb → ValuesView → List (List ℕ) → Type 0
+IsRowPlain verb v read = IsPlain (row_work verb v read)
+
 row-plain : (verb : Verb) (v : ValuesView) → judges verb ≡ false → (read : List (List ℕ))
-    → IsPlain (row_work verb v read)
-row-plain verbs.Boot v h read = on-two (λ f g. boot_work (content_of_files f g) v.cpu v.kind) (λ f g. tt) read
-row-plain verbs.Info v h read = on-two (λ f g. info_work (content_of_files f g) v.cpu) (λ f g. tt) read
-row-plain verbs.OwnedData v h read = on-two (λ f g. data_work (content_of_files f g) v.cpu v.kind) (λ f g. tt) read
-row-plain verbs.Explain v h read = on-two (λ f g. explain_work (content_of_files f g) v.cpu v.kind) (λ f g. tt) read
-row-plain verbs.Caveats v h read = on-two (λ f g. caveats_work (content_of_files f g) v.cpu v.kind) (λ f g. tt) read
-row-plain verbs.Map v h read = on-two (λ f g. map_work (content_of_files f g) v.cpu v.out) (λ f g. tt) read
-row-plain verbs.Replay v h read =
-    on-three (λ f g s. replay_work (content_of_files f g) v.cpu s v.out_flash v.out_otp) (λ f g s. tt) read
-row-plain verbs.Sweep v h read =
-    on-four (λ f g s p. sweep_work (content_of_files f g) v.cpu v.script s p)
-    (λ f g s p. by-option (swept_work v.script _) tt (λ e. tt) _) read
-row-plain verbs.Chart v h read =
-    on-four (λ f g s p. chart_work (content_of_files f g) v.cpu v.script v.out s p)
-    (λ f g s p. by-option (drawn_work v.script v.out _ _) tt (λ e. tt) _) read
-row-plain verbs.Cuts v h read = cc
-row-plain verbs.Check v h read = cc
-row-plain verbs.Seal v h read =
-    on-two (λ b s. seal_work v.binary v.spec v.out b (spec_read s))
-    (λ b s. by-result (seal_work v.binary v.spec v.out b)
-    (λ asked. by-option (seal_judged v.binary v.spec v.out b asked) tt (λ e. tt) _) (λ e. tt) (spec_read s)) read
-row-plain verbs.Elf v h read =
-    on-two (λ e s. elf_work v.elf v.spec v.out e (spec_read s))
-    (λ e s. by-result (elf_work v.elf v.spec v.out e)
-    (λ asked. by-option (packed_work v.elf v.spec v.out e asked) tt (λ f. tt) _) (λ f. tt) (spec_read s)) read
-row-plain verbs.Firm v h read = on-one (λ i. firm_work v.image i v.cpu) (λ i. firm-plain v.image i v.cpu) read
-row-plain verbs.Table v h read =
-    on-one (λ j. table_work v.out (table_read j))
-    (λ j. by-result (table_work v.out) (λ t. tt) (λ e. tt) (table_read j)) read
-row-plain verbs.OtpFile v h read =
-    on-one (λ j. otp_work v.out (otp_read j))
-    (λ j. by-result (otp_work v.out) (λ spec. tt) (λ e. tt) (otp_read j)) read
-row-plain verbs.Uf2 v h read = on-one (uf2_work v.image v.family v.out) (λ i. by-test (length i == 0) _ _ tt tt) read
-row-plain verbs.Plan v h read =
-    on-three (λ f g i. plan_work (content_of_files f g) v.cpu v.image v.out i)
-    (λ f g i. target-plain FirstLast v.image v.out i _) read
-row-plain verbs.Load v h read =
-    on-three (λ f g i. load_work (content_of_files f g) v.cpu v.image v.out i)
-    (λ f g i. target-plain Ascending v.image v.out i _) read
-row-plain verbs.Copy v h read = on-one (copy_work v.out) (λ u. tt) read
-row-plain verbs.ListScript v h read = on-one list_work (λ s. tt) read
-row-plain verbs.WriteScript v h read =
-    on-one (write_work v.text v.out) (λ t. by-result (read_work v.text v.out) (λ es. tt) (λ e. tt) _) read
-row-plain verbs.Gen v h read = tt
-row-plain verbs.Usage v h read = tt
-row-plain verbs.ShortUsage v h read = tt
-row-plain verbs.WordUsage v h read = tt
-row-plain verbs.Help v h read = tt
-row-plain verbs.Release v h read = tt
+    → length read ≡ length (inputs_of (command_line verb v)) → IsRowPlain verb v read
+row-plain verbs.Boot v h = of-two (IsRowPlain verbs.Boot v) (λ f g. tt)
+row-plain verbs.Info v h = of-two (IsRowPlain verbs.Info v) (λ f g. tt)
+row-plain verbs.OwnedData v h = of-two (IsRowPlain verbs.OwnedData v) (λ f g. tt)
+row-plain verbs.Explain v h = of-two (IsRowPlain verbs.Explain v) (λ f g. tt)
+row-plain verbs.Caveats v h = of-two (IsRowPlain verbs.Caveats v) (λ f g. tt)
+row-plain verbs.Map v h = of-two (IsRowPlain verbs.Map v) (λ f g. tt)
+row-plain verbs.Replay v h = of-three (IsRowPlain verbs.Replay v) (λ f g s. tt)
+row-plain verbs.Sweep v h =
+    of-four (IsRowPlain verbs.Sweep v) (λ f g s p. by-option (swept_work v.script _) tt (λ e. tt) _)
+row-plain verbs.Chart v h =
+    of-four (IsRowPlain verbs.Chart v) (λ f g s p. by-option (drawn_work v.script v.out _ _) tt (λ e. tt) _)
+row-plain verbs.Cuts v h = cc
+row-plain verbs.Check v h = cc
+row-plain verbs.Seal v h =
+    of-two (IsRowPlain verbs.Seal v) (λ b s. by-result (seal_work v.binary v.spec v.out b)
+    (λ asked. by-option (seal_judged v.binary v.spec v.out b asked) tt (λ e. tt) _) (λ e. tt) (spec_read s))
+row-plain verbs.Elf v h =
+    of-two (IsRowPlain verbs.Elf v) (λ e s. by-result (elf_work v.elf v.spec v.out e)
+    (λ asked. by-option (packed_work v.elf v.spec v.out e asked) tt (λ f. tt) _) (λ f. tt) (spec_read s))
+row-plain verbs.Firm v h = of-one (IsRowPlain verbs.Firm v) (λ i. firm-plain v.image i v.cpu)
+row-plain verbs.Table v h =
+    of-one (IsRowPlain verbs.Table v) (λ j. by-result (table_work v.out) (λ t. tt) (λ e. tt) (table_read j))
+row-plain verbs.OtpFile v h =
+    of-one (IsRowPlain verbs.OtpFile v) (λ j. by-result (otp_work v.out) (λ spec. tt) (λ e. tt) (otp_read j))
+row-plain verbs.Uf2 v h = of-one (IsRowPlain verbs.Uf2 v) (λ i. by-test (length i == 0) _ _ tt tt)
+row-plain verbs.Plan v h =
+    of-three (IsRowPlain verbs.Plan v) (λ f g i. target-plain FirstLast v.image v.out i _)
+row-plain verbs.Load v h =
+    of-three (IsRowPlain verbs.Load v) (λ f g i. target-plain Ascending v.image v.out i _)
+row-plain verbs.Copy v h = of-one (IsRowPlain verbs.Copy v) (λ u. tt)
+row-plain verbs.ListScript v h = of-one (IsRowPlain verbs.ListScript v) (λ s. tt)
+row-plain verbs.WriteScript v h =
+    of-one (IsRowPlain verbs.WriteScript v)
+    (λ t. by-result (read_work v.text v.out) (λ es. tt) (λ e. tt) _)
+row-plain verbs.Gen v h = λ read long. tt
+row-plain verbs.Usage v h = λ read long. tt
+row-plain verbs.ShortUsage v h = λ read long. tt
+row-plain verbs.WordUsage v h = λ read long. tt
+row-plain verbs.Help v h = λ read long. tt
+row-plain verbs.Release v h = λ read long. tt
 
 pub plain : (command : CommandLineView) → judges command.verb ≡ false → (read : List (List ℕ))
-    → IsPlain (work_of command read)
+    → length read ≡ length (inputs_of command) → IsPlain (work_of command read)
 plain command = row-plain command.verb command.values
 
 -- the outcome on files that have all inputs is right
@@ -282,7 +273,7 @@ fall-then f g cpu kind (FallsToBootsel fall) is h flash otp = record {
 
 falls-then : (flash otp f g : List ℕ) (cpu : Cpu) (kind : BootKind) (w : AnswerView)
     → w.status ≡ decided_status (decision_in (content_of_files f g) cpu kind)
-    → (o : Option AnswerView) → Judged (flash_and_otp flash otp) (f ∷ g ∷ []) o → (unless_refused o w).status ≡ Bootsel
+    → (o : Option AnswerView) → Judged (inputs_of (Boot flash otp cpu kind)) (f ∷ g ∷ []) o → (unless_refused o w).status ≡ Bootsel
     → FallsOn f g cpu kind
 falls-then flash otp f g cpu kind w is None (all_formed all) h =
     fall-then f g cpu kind (decision_in (content_of_files f g) cpu kind) refl (sym is ∙ h) all.0 all.1.0
@@ -290,21 +281,21 @@ falls-then flash otp f g cpu kind w is (Some _) (one_faulty name fault first) h 
 
 then-falls : (flash otp f g : List ℕ) (cpu : Cpu) (kind : BootKind) (w : AnswerView)
     → w.status ≡ decided_status (decision_in (content_of_files f g) cpu kind)
-    → FallsOn f g cpu kind → (unless_refused (first_input_fault (flash_and_otp flash otp) (f ∷ g ∷ [])) w).status
+    → FallsOn f g cpu kind → (unless_refused (first_input_fault (inputs_of (Boot flash otp cpu kind)) (f ∷ g ∷ [])) w).status
     ≡ Bootsel
 then-falls flash otp f g cpu kind w is falls =
     ap (λ o. (unless_refused o w).status)
-    (formed-none (flash_and_otp flash otp) (f ∷ g ∷ []) (falls.flash, (falls.otp, tt)))
+    (formed-none (inputs_of (Boot flash otp cpu kind)) (f ∷ g ∷ []) (falls.flash, (falls.otp, tt)))
     ∙ (is ∙ ap decided_status
     (sym (chosen-decision (content_of_files f g) cpu kind (FallsToBootsel falls.fall) falls.chosen)))
 
 -- a boot ends with Bootsel exactly where the rules name a fall
 pub falls-exactly : (flash otp f g : List ℕ) (cpu : Cpu) (kind : BootKind) (w : AnswerView)
     → w.status ≡ decided_status (decision_in (content_of_files f g) cpu kind)
-    → ((unless_refused (first_input_fault (flash_and_otp flash otp) (f ∷ g ∷ [])) w).status
+    → ((unless_refused (first_input_fault (inputs_of (Boot flash otp cpu kind)) (f ∷ g ∷ [])) w).status
     ≡ Bootsel) ↔ FallsOn f g cpu kind
 falls-exactly flash otp f g cpu kind w is = (
-  falls-then flash otp f g cpu kind w is (first_input_fault (flash_and_otp flash otp) (f ∷ g ∷ []))
-      (judged-first (flash_and_otp flash otp) (f ∷ g ∷ []) refl),
+  falls-then flash otp f g cpu kind w is (first_input_fault (inputs_of (Boot flash otp cpu kind)) (f ∷ g ∷ []))
+      (judged-first (inputs_of (Boot flash otp cpu kind)) (f ∷ g ∷ []) refl),
   then-falls flash otp f g cpu kind w is,
 )

@@ -29,7 +29,7 @@ use Rattle.cli_boot.specs.Works.{boot_work}
 use Rattle.cli_course.specs.Outcomes.{AnswerView, outcome_found, found, found_next, worked, is_finished}
 use Rattle.boot_run.specs.Inputs.{inputs_of}
 use Rattle.boot_run.specs.Commands.{work_of, inputs_in, outcome_in, outcome_on, command_outcome, Names, Obeys, IsRefusedCommand}
-use Rattle.cli_inputs.specs.Inputs.{flash_and_otp, unless_refused, readings}
+use Rattle.cli_inputs.specs.Inputs.{unless_refused, readings}
 use Rattle.cli_boot.specs.Rules.{decided_status}
 use Rattle.cli_course.specs.Courses.{Runs}
 use Rattle.cli_course.specs.Ends.{AreRead, LacksOne, DoesRun, ShowsOutcome, LeftAt}
@@ -69,13 +69,13 @@ pub boot-told : (flash otp f g : List ℕ) (cpu : Cpu) (kind : BootKind) (files 
     → HasForm Flash f → HasForm Otp g → Chosen (content_of_files f g) cpu kind d → outcome_on command files ≡ decided d
 boot-told flash otp f g cpu kind files d command asks is_f is_g flash_form otp_form chosen =
     let boot : CommandLineView = Boot flash otp cpu kind in
-    let there : found files (readings (flash_and_otp flash otp)) ≡ Some (f ∷ g ∷ []) =
+    let there : found files (readings (inputs_of boot)) ≡ Some (f ∷ g ∷ []) =
     ap (λ h. found_next h (found_next (file_of files otp) (Some []))) is_f ∙ ap
     (λ h. found_next (Some f) (found_next h (Some []))) is_g in
     ap (λ c. outcome_on c files) asks
     ∙ (ap (outcome_found (command_outcome boot)) there
     ∙ (ap (λ o. unless_refused o (worked (boot_work (content_of_files f g) cpu kind)))
-    (formed-none (flash_and_otp flash otp) (f ∷ g ∷ []) (flash_form, (otp_form, tt)))
+    (formed-none (inputs_of boot) (f ∷ g ∷ []) (flash_form, (otp_form, tt)))
     ∙ (worked-decided (content_of_files f g) cpu kind ∙ ap decided
     (sym (chosen-decision (content_of_files f g) cpu kind d chosen)))))
 

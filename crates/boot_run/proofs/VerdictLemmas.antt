@@ -18,7 +18,7 @@ no-verdict command read long h =
   where
     go : (o : Option AnswerView) → Judged (inputs_of command) read o
         → is_verdict (unless_refused o (worked (work_of command read))).status ≡ false
-    go None j = plain-status (work_of command read) (plain command h read)
+    go None j = plain-status (work_of command read) (plain command h read long)
     go (Some _) (one_faulty name fault first) = refl
 
 -- a verdict comes exactly where each input has its form and what is right for the command ends with it

@@ -1,6 +1,6 @@
 -- The commands: the work of each on the bytes of its inputs, which gives the outcome of a run; and
 -- what is right for it by the rules. This project's own, over the rules of a boot.
-use Rattle.std.specs.Prelude.{ℕ, Bool, true, false, List, [], Option, Some, None, Result, Ok, Err, ◌≡◌, ⊤}
+use Rattle.std.specs.Prelude.{ℕ, Bool, true, false, List, [], ◌∷◌, Option, Some, None, Result, Ok, Err, ◌≡◌, ⊤}
 use Rattle.pico_board.specs.Files.{File}
 use Rattle.cli_course.specs.Outcomes.{LimitedInputView, AnswerView, Work, Answers, not_understood, found, outcome_found, AreOfBytes}
 use Rattle.cli_words.specs.Rows.{CommandLineView, command_line}
@@ -14,7 +14,7 @@ use Rattle.cli_inputs.specs.Jsons.{spec_read, table_read, otp_read}
 use Rattle.cli_course.specs.declared.answers.Answer.{Answer}
 use Rattle.cli_course.specs.Views.{answer_from}
 use Rattle.cli_inputs.specs.declared.fail.InputFail.{InputFail}
-use Rattle.cli_inputs.specs.Inputs.{Tells as TellsRefusal, readings, of_one, of_two, of_three, of_four, outcome_by}
+use Rattle.cli_inputs.specs.Inputs.{Tells as TellsRefusal, readings, outcome_by}
 use Rattle.boot_run.specs.Inputs.{inputs_of}
 use Rattle.cli_boot.specs.Works.{boot_work, info_work, data_work}
 use Rattle.cli_explain.specs.Works.{explain_work}
@@ -46,7 +46,7 @@ use Rattle.cli_course.specs.declared.status.Status.{Status}
 use Rattle.cli_course.specs.declared.status.Status.TheVariants.{Done, Unbootable, Neither, NoEffect, Refused}
 use Rattle.text_lines.specs.Texts.{decision_line}
 use Rattle.cli_inputs.specs.declared.forms.Form.TheVariants.{Flash, Otp}
-use Rattle.cli_inputs.specs.Rules.{AreFormed, OfOne, OfTwo, OfThree, OfFour, IsRefusedFor, IsWorked}
+use Rattle.cli_inputs.specs.Rules.{AreFormed, IsRefusedFor, IsWorked}
 use Rattle.cli_boot.specs.Rules.{decided_status, IsBootOutcome, IsInfoOutcome, IsDataOutcome}
 use Rattle.cli_explain.specs.Rules.{IsExplainOf}
 use Rattle.cli_caveats.specs.Rules.{IsCaveatsOf}
@@ -61,36 +61,38 @@ use Rattle.cli_tools.specs.ToolRules.{IsUf2Refused, IsUf2Of, IsPlanRefused, IsPl
 
 -- the work of a row's command, by the values of its arguments, on the bytes of its inputs
 abbrev pub row_work : Verb → ValuesView → List (List ℕ) → Work
-row_work verbs.Boot v = of_two (λ f g. boot_work (content_of_files f g) v.cpu v.kind)
-row_work verbs.Info v = of_two (λ f g. info_work (content_of_files f g) v.cpu)
-row_work verbs.OwnedData v = of_two (λ f g. data_work (content_of_files f g) v.cpu v.kind)
-row_work verbs.Explain v = of_two (λ f g. explain_work (content_of_files f g) v.cpu v.kind)
-row_work verbs.Caveats v = of_two (λ f g. caveats_work (content_of_files f g) v.cpu v.kind)
-row_work verbs.Map v = of_two (λ f g. map_work (content_of_files f g) v.cpu v.out)
-row_work verbs.Replay v =
-    of_three (λ f g s. replay_work (content_of_files f g) v.cpu s v.out_flash v.out_otp)
-row_work verbs.Sweep v = of_four (λ f g s p. sweep_work (content_of_files f g) v.cpu v.script s p)
-row_work verbs.Chart v =
-    of_four (λ f g s p. chart_work (content_of_files f g) v.cpu v.script v.out s p)
-row_work verbs.Cuts v = of_four (λ f g s p. cuts_work (content_of_files f g) v.cpu v.script s p)
-row_work verbs.Check v = of_four (λ f g s p. check_work (content_of_files f g) v.cpu v.script s p)
-row_work verbs.Seal v = of_two (λ b s. seal_work v.binary v.spec v.out b (spec_read s))
-row_work verbs.Elf v = of_two (λ e s. elf_work v.elf v.spec v.out e (spec_read s))
-row_work verbs.Firm v = of_one (λ i. firm_work v.image i v.cpu)
-row_work verbs.Table v = of_one (λ j. table_work v.out (table_read j))
-row_work verbs.OtpFile v = of_one (λ j. otp_work v.out (otp_read j))
-row_work verbs.Uf2 v = of_one (uf2_work v.image v.family v.out)
-row_work verbs.Plan v = of_three (λ f g i. plan_work (content_of_files f g) v.cpu v.image v.out i)
-row_work verbs.Load v = of_three (λ f g i. load_work (content_of_files f g) v.cpu v.image v.out i)
-row_work verbs.Copy v = of_one (copy_work v.out)
-row_work verbs.ListScript v = of_one list_work
-row_work verbs.WriteScript v = of_one (write_work v.text v.out)
-row_work verbs.Gen v = λ read. gen_work v.number
-row_work verbs.Usage v = λ read. Answers false usage_text []
-row_work verbs.ShortUsage v = λ read. Answers false usage_text []
-row_work verbs.WordUsage v = λ read. Answers false usage_text []
-row_work verbs.Help v = λ read. Answers false (help_text v.command) []
-row_work verbs.Release v = λ read. Answers false release_line []
+row_work verbs.Boot v (f ∷ g ∷ []) = boot_work (content_of_files f g) v.cpu v.kind
+row_work verbs.Info v (f ∷ g ∷ []) = info_work (content_of_files f g) v.cpu
+row_work verbs.OwnedData v (f ∷ g ∷ []) = data_work (content_of_files f g) v.cpu v.kind
+row_work verbs.Explain v (f ∷ g ∷ []) = explain_work (content_of_files f g) v.cpu v.kind
+row_work verbs.Caveats v (f ∷ g ∷ []) = caveats_work (content_of_files f g) v.cpu v.kind
+row_work verbs.Map v (f ∷ g ∷ []) = map_work (content_of_files f g) v.cpu v.out
+row_work verbs.Replay v (f ∷ g ∷ s ∷ []) =
+    replay_work (content_of_files f g) v.cpu s v.out_flash v.out_otp
+row_work verbs.Sweep v (f ∷ g ∷ s ∷ p ∷ []) = sweep_work (content_of_files f g) v.cpu v.script s p
+row_work verbs.Chart v (f ∷ g ∷ s ∷ p ∷ []) =
+    chart_work (content_of_files f g) v.cpu v.script v.out s p
+row_work verbs.Cuts v (f ∷ g ∷ s ∷ p ∷ []) = cuts_work (content_of_files f g) v.cpu v.script s p
+row_work verbs.Check v (f ∷ g ∷ s ∷ p ∷ []) = check_work (content_of_files f g) v.cpu v.script s p
+row_work verbs.Seal v (b ∷ s ∷ []) = seal_work v.binary v.spec v.out b (spec_read s)
+row_work verbs.Elf v (e ∷ s ∷ []) = elf_work v.elf v.spec v.out e (spec_read s)
+row_work verbs.Firm v (i ∷ []) = firm_work v.image i v.cpu
+row_work verbs.Table v (j ∷ []) = table_work v.out (table_read j)
+row_work verbs.OtpFile v (j ∷ []) = otp_work v.out (otp_read j)
+row_work verbs.Uf2 v (i ∷ []) = uf2_work v.image v.family v.out i
+row_work verbs.Plan v (f ∷ g ∷ i ∷ []) = plan_work (content_of_files f g) v.cpu v.image v.out i
+row_work verbs.Load v (f ∷ g ∷ i ∷ []) = load_work (content_of_files f g) v.cpu v.image v.out i
+row_work verbs.Copy v (u ∷ []) = copy_work v.out u
+row_work verbs.ListScript v (s ∷ []) = list_work s
+row_work verbs.WriteScript v (t ∷ []) = write_work v.text v.out t
+row_work verbs.Gen v read = gen_work v.number
+row_work verbs.Usage v read = Answers false usage_text []
+row_work verbs.ShortUsage v read = Answers false usage_text []
+row_work verbs.WordUsage v read = Answers false usage_text []
+row_work verbs.Help v read = Answers false (help_text v.command) []
+row_work verbs.Release v read = Answers false release_line []
+-- on another number of inputs than it has a command does nothing
+row_work verb v read = Answers false [] []
 
 -- the work of a command
 abbrev pub work_of : CommandLineView → List (List ℕ) → Work
@@ -124,27 +126,23 @@ outcome_on command files = outcome_found (outcome_in command) (found files (inpu
 
 -- the work of a row's command refuses the input of this name with this fault
 abbrev pub IsRowRefused : Verb → ValuesView → List (List ℕ) → List ℕ → List ℕ → Type 0
-IsRowRefused verbs.Sweep v read name fault =
-    OfFour (λ f g s p. IsSweepRefused v.script (content_of_files f g) v.cpu s name fault) read
-IsRowRefused verbs.Chart v read name fault =
-    OfFour (λ f g s p. IsSweepRefused v.script (content_of_files f g) v.cpu s name fault) read
-IsRowRefused verbs.Cuts v read name fault =
-    OfFour (λ f g s p. IsCutsRefused v.script (content_of_files f g) v.cpu s name fault) read
-IsRowRefused verbs.Check v read name fault =
-    OfFour (λ f g s p. IsCheckRefused v.script (content_of_files f g) v.cpu s name fault) read
-IsRowRefused verbs.Seal v read name fault =
-    OfTwo (λ b s. IsUnsealed v.binary v.spec b s name fault) read
-IsRowRefused verbs.Elf v read name fault =
-    OfTwo (λ e s. IsElfRefused v.elf v.spec e s name fault) read
-IsRowRefused verbs.Firm v read name fault =
-    OfOne (λ i. IsFirmRefused v.image i v.cpu name fault) read
-IsRowRefused verbs.Uf2 v read name fault = OfOne (λ i. IsUf2Refused v.image i name fault) read
-IsRowRefused verbs.WriteScript v read name fault =
-    OfOne (λ t. IsTextRefused v.text t name fault) read
-IsRowRefused verbs.Plan v read name fault =
-    OfThree (λ f g i. IsPlanRefused (content_of_files f g) v.cpu v.image i name fault) read
-IsRowRefused verbs.Load v read name fault =
-    OfThree (λ f g i. IsLoadRefused (content_of_files f g) v.cpu v.image i name fault) read
+IsRowRefused verbs.Sweep v (f ∷ g ∷ s ∷ p ∷ []) name fault =
+    IsSweepRefused v.script (content_of_files f g) v.cpu s name fault
+IsRowRefused verbs.Chart v (f ∷ g ∷ s ∷ p ∷ []) name fault =
+    IsSweepRefused v.script (content_of_files f g) v.cpu s name fault
+IsRowRefused verbs.Cuts v (f ∷ g ∷ s ∷ p ∷ []) name fault =
+    IsCutsRefused v.script (content_of_files f g) v.cpu s name fault
+IsRowRefused verbs.Check v (f ∷ g ∷ s ∷ p ∷ []) name fault =
+    IsCheckRefused v.script (content_of_files f g) v.cpu s name fault
+IsRowRefused verbs.Seal v (b ∷ s ∷ []) name fault = IsUnsealed v.binary v.spec b s name fault
+IsRowRefused verbs.Elf v (e ∷ s ∷ []) name fault = IsElfRefused v.elf v.spec e s name fault
+IsRowRefused verbs.Firm v (i ∷ []) name fault = IsFirmRefused v.image i v.cpu name fault
+IsRowRefused verbs.Uf2 v (i ∷ []) name fault = IsUf2Refused v.image i name fault
+IsRowRefused verbs.WriteScript v (t ∷ []) name fault = IsTextRefused v.text t name fault
+IsRowRefused verbs.Plan v (f ∷ g ∷ i ∷ []) name fault =
+    IsPlanRefused (content_of_files f g) v.cpu v.image i name fault
+IsRowRefused verbs.Load v (f ∷ g ∷ i ∷ []) name fault =
+    IsLoadRefused (content_of_files f g) v.cpu v.image i name fault
 IsRowRefused _ v read name fault = ⊥
 
 -- the work of a command refuses the input of this name with this fault
@@ -162,45 +160,37 @@ Tells text o = o ≡ record { status = Done; text = text; files = [] }
 
 -- the outcome is right for a row's command on inputs that have their forms
 abbrev pub IsRowRight : Verb → ValuesView → List (List ℕ) → AnswerView → Type 0
-IsRowRight verbs.Boot v read o = OfTwo
-    (λ f g. IsBootOutcome (content_of_files f g) v.cpu v.kind o) read
-IsRowRight verbs.Info v read o = OfTwo (λ f g. IsInfoOutcome (content_of_files f g) v.cpu o) read
-IsRowRight verbs.OwnedData v read o =
-    OfTwo (λ f g. IsDataOutcome (content_of_files f g) v.cpu v.kind o) read
-IsRowRight verbs.Explain v read o =
-    OfTwo (λ f g. IsExplainOf (content_of_files f g) v.cpu v.kind o) read
-IsRowRight verbs.Caveats v read o =
-    OfTwo (λ f g. IsCaveatsOf (content_of_files f g) v.cpu v.kind o) read
-IsRowRight verbs.Map v read o = OfTwo (λ f g. IsMapOf (content_of_files f g) v.cpu v.out o) read
-IsRowRight verbs.Replay v read o =
-    OfThree (λ f g s. IsReplayOf (content_of_files f g) v.cpu s v.out_flash v.out_otp o) read
-IsRowRight verbs.Sweep v read o =
-    OfFour (λ f g s p. IsSweepOf (content_of_files f g) v.cpu s p o) read
-IsRowRight verbs.Chart v read o =
-    OfFour (λ f g s p. IsChartOf (content_of_files f g) v.cpu v.out s p o) read
-IsRowRight verbs.Cuts v read o =
-    OfFour (λ f g s p. IsCutsOf (content_of_files f g) v.cpu s p o) read
-IsRowRight verbs.Check v read o =
-    OfFour (λ f g s p. IsCheckOf (content_of_files f g) v.cpu s p o) read
-IsRowRight verbs.Seal v read o = OfTwo (λ b s. IsSealedOf v.out b s o) read
-IsRowRight verbs.Elf v read o = OfTwo (λ e s. IsElfOf v.out e s o) read
-IsRowRight verbs.Firm v read o = OfOne (λ i. IsFirmOf i v.cpu o) read
-IsRowRight verbs.Table v read o = OfOne (λ j. IsTableOf v.out j o) read
-IsRowRight verbs.OtpFile v read o = OfOne (λ j. IsOtpOf v.out j o) read
-IsRowRight verbs.Uf2 v read o = OfOne (λ i. IsUf2Of i v.family v.out o) read
-IsRowRight verbs.Plan v read o =
-    OfThree (λ f g i. IsPlanOf (content_of_files f g) v.cpu i v.out o) read
-IsRowRight verbs.Load v read o =
-    OfThree (λ f g i. IsLoadOf (content_of_files f g) v.cpu i v.out o) read
-IsRowRight verbs.Copy v read o = OfOne (λ u. IsCopyOf u v.out o) read
-IsRowRight verbs.ListScript v read o = OfOne (λ s. IsListOf s o) read
-IsRowRight verbs.WriteScript v read o = OfOne (λ t. IsWrittenOf t v.out o) read
+IsRowRight verbs.Boot v (f ∷ g ∷ []) o = IsBootOutcome (content_of_files f g) v.cpu v.kind o
+IsRowRight verbs.Info v (f ∷ g ∷ []) o = IsInfoOutcome (content_of_files f g) v.cpu o
+IsRowRight verbs.OwnedData v (f ∷ g ∷ []) o = IsDataOutcome (content_of_files f g) v.cpu v.kind o
+IsRowRight verbs.Explain v (f ∷ g ∷ []) o = IsExplainOf (content_of_files f g) v.cpu v.kind o
+IsRowRight verbs.Caveats v (f ∷ g ∷ []) o = IsCaveatsOf (content_of_files f g) v.cpu v.kind o
+IsRowRight verbs.Map v (f ∷ g ∷ []) o = IsMapOf (content_of_files f g) v.cpu v.out o
+IsRowRight verbs.Replay v (f ∷ g ∷ s ∷ []) o =
+    IsReplayOf (content_of_files f g) v.cpu s v.out_flash v.out_otp o
+IsRowRight verbs.Sweep v (f ∷ g ∷ s ∷ p ∷ []) o = IsSweepOf (content_of_files f g) v.cpu s p o
+IsRowRight verbs.Chart v (f ∷ g ∷ s ∷ p ∷ []) o =
+    IsChartOf (content_of_files f g) v.cpu v.out s p o
+IsRowRight verbs.Cuts v (f ∷ g ∷ s ∷ p ∷ []) o = IsCutsOf (content_of_files f g) v.cpu s p o
+IsRowRight verbs.Check v (f ∷ g ∷ s ∷ p ∷ []) o = IsCheckOf (content_of_files f g) v.cpu s p o
+IsRowRight verbs.Seal v (b ∷ s ∷ []) o = IsSealedOf v.out b s o
+IsRowRight verbs.Elf v (e ∷ s ∷ []) o = IsElfOf v.out e s o
+IsRowRight verbs.Firm v (i ∷ []) o = IsFirmOf i v.cpu o
+IsRowRight verbs.Table v (j ∷ []) o = IsTableOf v.out j o
+IsRowRight verbs.OtpFile v (j ∷ []) o = IsOtpOf v.out j o
+IsRowRight verbs.Uf2 v (i ∷ []) o = IsUf2Of i v.family v.out o
+IsRowRight verbs.Plan v (f ∷ g ∷ i ∷ []) o = IsPlanOf (content_of_files f g) v.cpu i v.out o
+IsRowRight verbs.Load v (f ∷ g ∷ i ∷ []) o = IsLoadOf (content_of_files f g) v.cpu i v.out o
+IsRowRight verbs.Copy v (u ∷ []) o = IsCopyOf u v.out o
+IsRowRight verbs.ListScript v (s ∷ []) o = IsListOf s o
+IsRowRight verbs.WriteScript v (t ∷ []) o = IsWrittenOf t v.out o
 IsRowRight verbs.Gen v read o = IsGenOf v.number o
 IsRowRight verbs.Usage v read o = Tells usage_text o
 IsRowRight verbs.ShortUsage v read o = Tells usage_text o
 IsRowRight verbs.WordUsage v read o = Tells usage_text o
 IsRowRight verbs.Help v read o = Tells (help_text v.command) o
 IsRowRight verbs.Release v read o = Tells release_line o
+IsRowRight verb v read o = ⊥
 
 -- the outcome is right for a command on inputs that have their forms
 abbrev pub IsRight : CommandLineView → List (List ℕ) → AnswerView → Type 0

@@ -18,12 +18,10 @@ use Rattle.boot_rules.specs.Choosing.{decision_in}
 use Rattle.boot_rules.specs.Chosen.{Chosen}
 use Rattle.boot_rules.proofs.DecisionLemmas.{decision-chosen, chosen-decision, chosen-not_below}
 use Rattle.cli_course.specs.declared.status.Status.TheVariants.{Done, Input as Refused}
-use Rattle.cli_course.specs.Outcomes.{AnswerView, Work, answered_status, line, worked}
+use Rattle.cli_course.specs.Outcomes.{AnswerView, answered_status, line, worked}
 use Rattle.text_lines.specs.Texts.{decision_line, image_text, table_text}
-use Rattle.cli_inputs.specs.Forms.{content_of_files}
-use Rattle.cli_inputs.specs.Inputs.{flash_and_otp, of_two}
-use Rattle.cli_inputs.specs.Rules.{AreFormed, OfTwo, IsRefusedOrRight, WorksBy}
-use Rattle.cli_inputs.proofs.WorkLemmas.{same-outcome}
+use Rattle.cli_inputs.specs.Rules.{IsByRules}
+use Rattle.cli_inputs.proofs.WorkLemmas.{same-outcome, never-refuses}
 use Rattle.cli_boot.specs.Works.{is_fall, boot_work, info_work, data_work, window_line, windows_in, decided_data, data_line}
 use Rattle.cli_boot.specs.Rules.{decided_status, IsBootOutcome, IsLineOf, AreLinesOf, IsInfoOutcome, IsDataOutcome}
 
@@ -41,7 +39,7 @@ worked-decided c cpu kind =
     ap (λ s. record { status = s; text = decision_line (decision_in c cpu kind); files = [] })
     (fall-status (decision_in c cpu kind))
 
-pub boot-right : (c : Content) (cpu : Cpu) (kind : BootKind) → IsBootOutcome c cpu kind (worked (boot_work c cpu kind))
+boot-right : (c : Content) (cpu : Cpu) (kind : BootKind) → IsBootOutcome c cpu kind (worked (boot_work c cpu kind))
 boot-right c cpu kind = record {
   decision = decision_in c cpu kind;
   chosen = decision-chosen c cpu kind;
@@ -52,7 +50,7 @@ boot-right c cpu kind = record {
   files = refl;
 }
 
-pub data-right : (c : Content) (cpu : Cpu) (kind : BootKind) → IsDataOutcome c cpu kind (worked (data_work c cpu kind))
+data-right : (c : Content) (cpu : Cpu) (kind : BootKind) → IsDataOutcome c cpu kind (worked (data_work c cpu kind))
 data-right c cpu kind = record {
   decision = decision_in c cpu kind;
   chosen = decision-chosen c cpu kind;
@@ -74,7 +72,7 @@ lines-right c cpu [] = refl
 lines-right c cpu (w ∷ ws) =
     (window_line c cpu w, flat_map (window_line c cpu) ws, line-right c cpu w, lines-right c cpu ws, refl)
 
-pub info-right : (c : Content) (cpu : Cpu) → IsInfoOutcome c cpu (worked (info_work c cpu))
+info-right : (c : Content) (cpu : Cpu) → IsInfoOutcome c cpu (worked (info_work c cpu))
 info-right c cpu = record {
   lines = flat_map (window_line c cpu) (windows_in c cpu);
   windows = lines-right c cpu (windows_in c cpu);
@@ -83,7 +81,7 @@ info-right c cpu = record {
   files = refl;
 }
 
-pub boot-only : (c : Content) (cpu : Cpu) (kind : BootKind) (o : AnswerView) → IsBootOutcome c cpu kind o
+boot-only : (c : Content) (cpu : Cpu) (kind : BootKind) (o : AnswerView) → IsBootOutcome c cpu kind o
     → o ≡ worked (boot_work c cpu kind)
 boot-only c cpu kind o right =
     same-outcome o (decided_status right.decision) (decision_line right.decision) [] right.status right.text right.files
@@ -102,7 +100,7 @@ lines-only c cpu (w ∷ ws) text (first, rest, one, others, is) =
     is ∙ (ap (λ x. x ++ rest) (line-only c cpu w first one) ∙ ap (λ x. window_line c cpu w ++ x)
     (lines-only c cpu ws rest others))
 
-pub info-only : (c : Content) (cpu : Cpu) (o : AnswerView) → IsInfoOutcome c cpu o → o ≡ worked (info_work c cpu)
+info-only : (c : Content) (cpu : Cpu) (o : AnswerView) → IsInfoOutcome c cpu o → o ≡ worked (info_work c cpu)
 info-only c cpu o right =
     same-outcome o Done _ [] right.status
     (right.text ∙ ap (λ x. line (table_text (table_in c)) ++ x)
@@ -113,7 +111,7 @@ told-data : Content → Decision → AnswerView
 told-data c d =
     record { status = decided_status d; text = decision_line d ++ flat_map data_line (decided_data c d); files = [] }
 
-pub data-only : (c : Content) (cpu : Cpu) (kind : BootKind) (o : AnswerView) → IsDataOutcome c cpu kind o
+data-only : (c : Content) (cpu : Cpu) (kind : BootKind) (o : AnswerView) → IsDataOutcome c cpu kind o
     → o ≡ worked (data_work c cpu kind)
 unfolding told-data
 data-only c cpu kind o right =
@@ -127,67 +125,24 @@ data-only c cpu kind o right =
     }) (fall-status (decision_in c cpu kind))))
 
 -- an answer is no refusal
-answer-not_refused : (falls : Bool) → answered_status falls ≡ Refused → ⊥
+pub answer-not_refused : (falls : Bool) → answered_status falls ≡ Refused → ⊥
 answer-not_refused true h = cc
 answer-not_refused false h = cc
 
--- a work on the content of a flash file and an OTP file, which refuses nothing
-board-works : (flash otp : List ℕ) (work : Content → Work) (Right : Content → AnswerView → Type 0)
-    → ((c : Content) → Right c (worked (work c))) → ((c : Content) (o : AnswerView) → Right c o → o ≡ worked (work c))
-    → ((c : Content) → (worked (work c)).status ≡ Refused → ⊥)
-    → WorksBy (flash_and_otp flash otp) (λ read. ⊤) (of_two (λ f g. work (content_of_files f g))) (λ read name fault. ⊥)
-    (λ read o. OfTwo (λ f g. Right (content_of_files f g) o) read)
-board-works flash otp work Right right only apart = record {
-  done = go_done;
-  only = go_only;
-  refuses = go_refuses;
-  exact = λ read name fault all h. absurd h;
-}
-  where
-    go_done : (read : List (List ℕ)) → AreFormed (flash_and_otp flash otp) read → ⊤
-        → IsRefusedOrRight (λ name fault. ⊥) (λ o. OfTwo (λ f g. Right (content_of_files f g) o) read)
-        (worked (of_two (λ f g. work (content_of_files f g)) read))
-    go_done [] all need = absurd all
-    go_done (f ∷ []) all need = absurd all.1
-    go_done (f ∷ g ∷ []) all need = inr (right (content_of_files f g))
-    go_done (f ∷ g ∷ h ∷ read) all need = absurd all.1.1
+-- `boot`, `info` and `data` are right by their rules
+pub boot-works : (c : Content) (cpu : Cpu) (kind : BootKind)
+    → IsByRules ⊤ (boot_work c cpu kind) (λ name fault. ⊥) (IsBootOutcome c cpu kind)
+boot-works c cpu kind =
+    never-refuses ⊤ (boot_work c cpu kind) (IsBootOutcome c cpu kind) (λ need. boot-right c cpu kind)
+    (boot-only c cpu kind) (answer-not_refused (is_fall (decision_in c cpu kind)))
 
-    go_only : (read : List (List ℕ)) (o : AnswerView) → AreFormed (flash_and_otp flash otp) read
-        → OfTwo (λ f g. Right (content_of_files f g) o) read
-        → o ≡ worked (of_two (λ f g. work (content_of_files f g)) read)
-    go_only [] o all fits = absurd fits
-    go_only (f ∷ []) o all fits = absurd fits
-    go_only (f ∷ g ∷ []) o all fits = only (content_of_files f g) o fits
-    go_only (f ∷ g ∷ h ∷ read) o all fits = absurd fits
+pub info-works : (c : Content) (cpu : Cpu)
+    → IsByRules ⊤ (info_work c cpu) (λ name fault. ⊥) (IsInfoOutcome c cpu)
+info-works c cpu =
+    never-refuses ⊤ (info_work c cpu) (IsInfoOutcome c cpu) (λ need. info-right c cpu) (info-only c cpu) (λ h. cc)
 
-    go_refuses : (read : List (List ℕ)) → AreFormed (flash_and_otp flash otp) read
-        → (worked (of_two (λ f g. work (content_of_files f g)) read)).status ≡ Refused
-        → (name : List ℕ) × (fault : List ℕ) × ⊥
-    go_refuses [] all e = absurd all
-    go_refuses (f ∷ []) all e = absurd all.1
-    go_refuses (f ∷ g ∷ []) all e = absurd (apart (content_of_files f g) e)
-    go_refuses (f ∷ g ∷ h ∷ read) all e = absurd all.1.1
-
--- `boot` is right by its rules
-pub boot-works : (flash otp : List ℕ) (cpu : Cpu) (kind : BootKind) → WorksBy (flash_and_otp flash otp) (λ read. ⊤)
-    (of_two (λ f g. boot_work (content_of_files f g) cpu kind)) (λ read name fault. ⊥)
-    (λ read o. OfTwo (λ f g. IsBootOutcome (content_of_files f g) cpu kind o) read)
-boot-works flash otp cpu kind =
-    board-works flash otp (λ c. boot_work c cpu kind) (λ c o. IsBootOutcome c cpu kind o) (λ c. boot-right c cpu kind)
-    (λ c o right. boot-only c cpu kind o right) (λ c h. answer-not_refused (is_fall (decision_in c cpu kind)) h)
-
--- `info` is right by its rules
-pub info-works : (flash otp : List ℕ) (cpu : Cpu) → WorksBy (flash_and_otp flash otp) (λ read. ⊤)
-    (of_two (λ f g. info_work (content_of_files f g) cpu)) (λ read name fault. ⊥)
-    (λ read o. OfTwo (λ f g. IsInfoOutcome (content_of_files f g) cpu o) read)
-info-works flash otp cpu =
-    board-works flash otp (λ c. info_work c cpu) (λ c o. IsInfoOutcome c cpu o) (λ c. info-right c cpu)
-    (λ c o right. info-only c cpu o right) (λ c h. cc)
-
--- `data` is right by its rules
-pub data-works : (flash otp : List ℕ) (cpu : Cpu) (kind : BootKind) → WorksBy (flash_and_otp flash otp) (λ read. ⊤)
-    (of_two (λ f g. data_work (content_of_files f g) cpu kind)) (λ read name fault. ⊥)
-    (λ read o. OfTwo (λ f g. IsDataOutcome (content_of_files f g) cpu kind o) read)
-data-works flash otp cpu kind =
-    board-works flash otp (λ c. data_work c cpu kind) (λ c o. IsDataOutcome c cpu kind o) (λ c. data-right c cpu kind)
-    (λ c o right. data-only c cpu kind o right) (λ c h. answer-not_refused (is_fall (decision_in c cpu kind)) h)
+pub data-works : (c : Content) (cpu : Cpu) (kind : BootKind)
+    → IsByRules ⊤ (data_work c cpu kind) (λ name fault. ⊥) (IsDataOutcome c cpu kind)
+data-works c cpu kind =
+    never-refuses ⊤ (data_work c cpu kind) (IsDataOutcome c cpu kind) (λ need. data-right c cpu kind)
+    (data-only c cpu kind) (answer-not_refused (is_fall (decision_in c cpu kind)))

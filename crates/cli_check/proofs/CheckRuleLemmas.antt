@@ -17,13 +17,9 @@ use Rattle.boot_cuts.specs.Found.{trace_limit}
 use Rattle.boot_cuts.specs.Traces.{trace, trace_steps}
 use Rattle.boot_cuts.proofs.ClassLemmas.{answer-is, answers-are, class-exactly, one-answers}
 use Rattle.cli_course.specs.declared.status.Status.TheVariants.{Input as Refused}
-use Rattle.cli_course.specs.Outcomes.{AreOfBytes, AnswerView, Refuses, refused, verdict_status, worked}
-use Rattle.cli_inputs.specs.declared.forms.Form.TheVariants.{Flash, Otp, Pattern, Script}
-use Rattle.cli_inputs.specs.Forms.{content_of_files}
-use Rattle.cli_inputs.specs.Inputs.{flash_otp_script_pattern, of_four}
-use Rattle.cli_inputs.specs.Rules.{IsRefusedOrRight, OfFour, WorksBy}
-use Rattle.cli_inputs.proofs.ContentLemmas.{formed-content}
-use Rattle.cli_inputs.proofs.WorkLemmas.{four-works, same-outcome}
+use Rattle.cli_course.specs.Outcomes.{AnswerView, Refuses, refused, verdict_status, worked}
+use Rattle.cli_inputs.specs.Rules.{IsRefusedOrRight, IsByRules}
+use Rattle.cli_inputs.proofs.WorkLemmas.{same-outcome}
 use Rattle.cli_check.specs.declared.findings.CutCounts.{CutCounts}
 use Rattle.cli_check.specs.declared.findings.Findings.{Findings}
 use Rattle.cli_check.specs.declared.findings.SessionLaw.{SessionLaw}
@@ -173,20 +169,12 @@ module _ (script : List ℕ) (c : Content) (cpu : Cpu) (bytes pattern : List ℕ
   check-exact name fault h =
       long h.0 ∙ (ap (λ n. refused n (codes "too-many-steps")) (sym h.1) ∙ ap (refused name) (sym h.2))
 
--- `check` is right by its rules, where its inputs are of bytes, since a content is
-pub check-works : (flash otp script pattern : List ℕ) (cpu : Cpu)
-    → WorksBy (flash_otp_script_pattern flash otp script pattern) AreOfBytes
-    (of_four (λ f g s p. check_work (content_of_files f g) cpu script s p))
-    (λ read name fault. OfFour (λ f g s p. IsCheckRefused script (content_of_files f g) cpu s name fault) read)
-    (λ read o. OfFour (λ f g s p. IsCheckOf (content_of_files f g) cpu s p o) read)
-check-works flash otp script pattern cpu =
-    four-works (record { name = flash; form = Flash }) (record { name = otp; form = Otp })
-    (record { name = script; form = Script }) (record { name = pattern; form = Pattern }) AreOfBytes
-    (λ f g s p. check_work (content_of_files f g) cpu script s p)
-    (λ f g s p. IsCheckRefused script (content_of_files f g) cpu s)
-    (λ f g s p o. IsCheckOf (content_of_files f g) cpu s p o)
-    (λ f g s p x y z w small.
-    check-right script (content_of_files f g) cpu s p (formed-content f g x y small.0))
-    (λ f g s p o x y z w right. check-only script (content_of_files f g) cpu s p o right)
-    (λ f g s p x y z w h. check-refuses script (content_of_files f g) cpu s p h)
-    (λ f g s p name fault x y z w h. check-exact script (content_of_files f g) cpu s p name fault h)
+-- `check` is right by its rules
+pub check-works : (c : Content) (cpu : Cpu) (script s p : List ℕ)
+    → IsByRules (IsContent c) (check_work c cpu script s p) (IsCheckRefused script c cpu s) (IsCheckOf c cpu s p)
+check-works c cpu script s p = record {
+  done = check-right script c cpu s p;
+  only = check-only script c cpu s p;
+  refuses = check-refuses script c cpu s p;
+  exact = check-exact script c cpu s p;
+}

@@ -1,6 +1,6 @@
 -- `cuts` is right by its rules.
-use Rattle.std.proofs.Common.{◌≡◌, ◌⊎◌, ℕ, ◌<◌, ◌≤◌, Bool, true, false, List, [], ◌∷◌, length, Ok, refl, sym, ap, ◌∙◌, subst, inl, inr}
-use Rattle.std.specs.Prelude.{⊤, nat_lt, if◌then◌else◌, codes}
+use Rattle.std.proofs.Common.{◌≡◌, ℕ, ◌<◌, ◌≤◌, Bool, List, [], ◌∷◌, length, Ok, refl, sym, ap, ◌∙◌, subst, inl, inr}
+use Rattle.std.specs.Prelude.{⊤, if◌then◌else◌, codes}
 use Rattle.std.proofs.lemmas.Bool.{cases_lt, le-ltb, lt-ltb}
 use Rattle.pico_board.specs.declared.boot.Cpu.{Cpu}
 use Rattle.pico_board.specs.Content.{Content}
@@ -9,18 +9,17 @@ use Rattle.boot_script.specs.Scripts.{events, events_read, script_events}
 use Rattle.boot_script.proofs.WalkLemmas.{events-read}
 use Rattle.cli_course.specs.declared.status.Status.TheVariants.{Input as Refused}
 use Rattle.cli_course.specs.Outcomes.{AnswerView, Judges, Refuses, Work, ended, refused, verdict_status, worked}
-use Rattle.cli_inputs.specs.declared.forms.Form.TheVariants.{Flash, Otp, Pattern, Script}
-use Rattle.cli_inputs.specs.Forms.{HasForm, content_of_files}
-use Rattle.cli_inputs.specs.Inputs.{flash_otp_script_pattern, of_four}
-use Rattle.cli_inputs.specs.Rules.{IsRefusedOrRight, OfFour, WorksBy}
-use Rattle.cli_inputs.proofs.WorkLemmas.{four-works, same-outcome}
+use Rattle.cli_inputs.specs.declared.forms.Form.TheVariants.{Script}
+use Rattle.cli_inputs.specs.Forms.{HasForm}
+use Rattle.cli_inputs.specs.Rules.{IsRefusedOrRight, IsByRules}
+use Rattle.cli_inputs.proofs.WorkLemmas.{same-outcome}
 use Rattle.boot_cuts.specs.declared.answers.Answer.{Answer}
 use Rattle.boot_cuts.specs.declared.found.Cuts.{Cuts}
 use Rattle.boot_cuts.specs.declared.runs.Run.{Run}
 use Rattle.boot_cuts.specs.Answers.{answers, end_answer}
 use Rattle.boot_cuts.specs.Contents.{cut_contents}
 use Rattle.boot_cuts.specs.Found.{AreCutsOf, trace_limit}
-use Rattle.boot_cuts.specs.Runs.{AreRuns, runs_of}
+use Rattle.boot_cuts.specs.Runs.{runs_of}
 use Rattle.boot_cuts.specs.Traces.{trace, trace_steps}
 use Rattle.boot_cuts.proofs.ClassLemmas.{answer-is, answers-are, one-answer, one-answers}
 use Rattle.boot_cuts.proofs.RunLawLemmas.{runs-are, runs-one}
@@ -148,18 +147,11 @@ module _ (c : Content) (cpu : Cpu) (name script pattern : List ℕ) where
       ∙ (ap (λ n. refused n (codes "too-many-steps")) (sym is.blames) ∙ ap (refused blamed) (sym is.tells)))
 
 -- `cuts` is right by its rules
-pub cuts-works : (flash otp script pattern : List ℕ) (cpu : Cpu)
-    → WorksBy (flash_otp_script_pattern flash otp script pattern) (λ read. ⊤)
-    (of_four (λ f g s p. cuts_work (content_of_files f g) cpu script s p))
-    (λ read name fault. OfFour (λ f g s p. IsCutsRefused script (content_of_files f g) cpu s name fault) read)
-    (λ read o. OfFour (λ f g s p. IsCutsOf (content_of_files f g) cpu s p o) read)
-cuts-works flash otp script pattern cpu =
-    four-works (record { name = flash; form = Flash }) (record { name = otp; form = Otp })
-    (record { name = script; form = Script }) (record { name = pattern; form = Pattern }) (λ read. ⊤)
-    (λ f g s p. cuts_work (content_of_files f g) cpu script s p)
-    (λ f g s p. IsCutsRefused script (content_of_files f g) cpu s)
-    (λ f g s p o. IsCutsOf (content_of_files f g) cpu s p o)
-    (λ f g s p x y z w need. cuts-right (content_of_files f g) cpu script s p z)
-    (λ f g s p o x y z w right. cuts-only (content_of_files f g) cpu script s p o right)
-    (λ f g s p x y z w h. cuts-refuses (content_of_files f g) cpu script s p z h)
-    (λ f g s p name fault x y z w h. cuts-exact (content_of_files f g) cpu script s p name fault h)
+pub cuts-works : (c : Content) (cpu : Cpu) (script s p : List ℕ) → HasForm Script s
+    → IsByRules ⊤ (cuts_work c cpu script s p) (IsCutsRefused script c cpu s) (IsCutsOf c cpu s p)
+cuts-works c cpu script s p form = record {
+  done = λ need. cuts-right c cpu script s p form;
+  only = cuts-only c cpu script s p;
+  refuses = cuts-refuses c cpu script s p form;
+  exact = cuts-exact c cpu script s p;
+}

@@ -1,20 +1,15 @@
 -- What is right for a command, by rules of its own on inputs that have their forms.
-use Rattle.std.specs.Prelude.{ℕ, ⊤, ◌≡◌, ◌⊎◌, List, [], ◌∷◌, map, length}
+use Rattle.std.specs.Prelude.{ℕ, ⊤, ◌≡◌, ◌⊎◌, List, [], ◌∷◌, length}
 use Rattle.cli_course.specs.declared.status.Status.TheVariants.{Input as Refused}
 use Rattle.cli_course.specs.Outcomes.{AnswerView, Work, refused, worked}
-use Rattle.cli_inputs.specs.declared.forms.Form.{Form}
 use Rattle.cli_inputs.specs.Forms.{HasForm, IsFormFault}
 use Rattle.cli_inputs.specs.Inputs.{FormInputView}
 
--- each of so many files has its form
-abbrev pub HaveForms : List Form → List (List ℕ) → Type 0
-HaveForms [] [] = ⊤
-HaveForms (form ∷ forms) (bytes ∷ read) = HasForm form bytes × HaveForms forms read
-HaveForms _ _ = ⊥
-
--- each input has its form
+-- each of so many inputs has its form
 abbrev pub AreFormed : List FormInputView → List (List ℕ) → Type 0
-AreFormed inputs read = HaveForms (map (λ (input : FormInputView). input.form) inputs) read
+AreFormed [] [] = ⊤
+AreFormed (input ∷ inputs) (bytes ∷ read) = HasForm input.form bytes × AreFormed inputs read
+AreFormed _ _ = ⊥
 
 -- the first input, in the order of the arguments, that does not have its form has this name; its
 -- bytes have this fault
@@ -23,24 +18,6 @@ IsFirstInputFault (input ∷ inputs) (bytes ∷ read) name fault =
     ((name ≡ input.name) × IsFormFault input.form bytes fault)
     ⊎ (HasForm input.form bytes × IsFirstInputFault inputs read name fault)
 IsFirstInputFault _ _ name fault = ⊥
-
--- a fact of the bytes of one input, of two, of three and of four; of another number of inputs
--- nothing holds
-abbrev pub OfOne : (List ℕ → Type 0) → List (List ℕ) → Type 0
-OfOne P (a ∷ []) = P a
-OfOne P _ = ⊥
-
-abbrev pub OfTwo : (List ℕ → List ℕ → Type 0) → List (List ℕ) → Type 0
-OfTwo P (a ∷ b ∷ []) = P a b
-OfTwo P _ = ⊥
-
-abbrev pub OfThree : (List ℕ → List ℕ → List ℕ → Type 0) → List (List ℕ) → Type 0
-OfThree P (a ∷ b ∷ c ∷ []) = P a b c
-OfThree P _ = ⊥
-
-abbrev pub OfFour : (List ℕ → List ℕ → List ℕ → List ℕ → Type 0) → List (List ℕ) → Type 0
-OfFour P (a ∷ b ∷ c ∷ d ∷ []) = P a b c d
-OfFour P _ = ⊥
 
 -- the input of this name is refused with this fault: it is the first that breaks its form; or all
 -- inputs have their forms and the work refuses it
@@ -65,18 +42,12 @@ IsRefusedOrRight IsRefusedWork IsRight o =
     ((name : List ℕ) × (fault : List ℕ) × IsRefusedWork name fault × (o ≡ refused name fault))
     ⊎ IsRight o
 
--- On inputs that have their forms a work is right by the rules, where its inputs are as it needs:
--- it refuses an input where the rules do, and no other; otherwise its outcome is right, and no
--- other outcome is right.
-pub record WorksBy (inputs : List FormInputView) (Needs : List (List ℕ) → Type 0)
-    (work : List (List ℕ) → Work) (IsRefusedWork : List (List ℕ) → List ℕ → List ℕ → Type 0)
-    (IsRight : List (List ℕ) → AnswerView → Type 0) : Type 0 where
-  pub done : (read : List (List ℕ)) → AreFormed inputs read → Needs read
-      → IsRefusedOrRight (IsRefusedWork read) (IsRight read) (worked (work read))
-  pub only : (read : List (List ℕ)) (o : AnswerView) → AreFormed inputs read → IsRight read o
-      → o ≡ worked (work read)
-  pub refuses : (read : List (List ℕ)) → AreFormed inputs read
-      → (worked (work read)).status ≡ Refused
-      → (name : List ℕ) × (fault : List ℕ) × IsRefusedWork read name fault
-  pub exact : (read : List (List ℕ)) (name fault : List ℕ) → AreFormed inputs read
-      → IsRefusedWork read name fault → worked (work read) ≡ refused name fault
+-- A work is right by the rules: it refuses an input where the rules do, and no other. Where what it
+-- needs holds, its outcome is otherwise right. No other outcome is right.
+pub record IsByRules (Needs : Type 0) (work : Work) (IsRefusedWork : List ℕ → List ℕ → Type 0)
+    (IsRight : AnswerView → Type 0) : Type 0 where
+  pub done : Needs → IsRefusedOrRight IsRefusedWork IsRight (worked work)
+  pub only : (o : AnswerView) → IsRight o → o ≡ worked work
+  pub refuses : (worked work).status ≡ Refused
+      → (name : List ℕ) × (fault : List ℕ) × IsRefusedWork name fault
+  pub exact : (name fault : List ℕ) → IsRefusedWork name fault → worked work ≡ refused name fault

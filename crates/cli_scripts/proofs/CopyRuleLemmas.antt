@@ -1,18 +1,16 @@
 -- `copy` is right by its rules.
-use Rattle.std.proofs.Common.{◌≡◌, ℕ, ◌*◌, ◌/◌, ◌%◌, List, [], ◌∷◌, length, refl, sym, ap, ◌∙◌, arith}
+use Rattle.std.proofs.Common.{◌≡◌, ℕ, ◌*◌, ◌/◌, List, length, refl, sym, ap, ◌∙◌, arith}
 use Rattle.std.specs.Prelude.{⊤}
-use Rattle.cli_course.specs.declared.status.Status.TheVariants.{Done, Input as Refused}
+use Rattle.cli_course.specs.declared.status.Status.TheVariants.{Done}
 use Rattle.cli_course.specs.Outcomes.{AnswerView, one_file, worked}
 use Rattle.cli_inputs.specs.declared.forms.Form.TheVariants.{Uf2}
 use Rattle.cli_inputs.specs.Forms.{HasForm}
-use Rattle.cli_inputs.specs.Inputs.{of_one, uf2_alone}
-use Rattle.cli_inputs.specs.Rules.{OfOne, WorksBy}
-use Rattle.cli_inputs.proofs.WorkLemmas.{same-outcome}
+use Rattle.cli_inputs.specs.Rules.{IsByRules}
+use Rattle.cli_inputs.proofs.WorkLemmas.{same-outcome, never-refuses}
 use Rattle.script_text.specs.Reading.{script_of}
 use Rattle.cli_scripts.specs.Copies.{blocks_in, copy_events, copy_line, copy_work}
 use Rattle.cli_scripts.specs.TextRules.{IsCopyOf}
 use Rattle.cli_scripts.proofs.BlockLemmas.{blocks-long, blocks-only, blocks-right, count-of}
-use Rattle.cli_scripts.proofs.LoneLemmas.{lone-works}
 
 module _ (out : List ℕ) where
   told-copy : List (List ℕ) → AnswerView
@@ -46,8 +44,8 @@ module _ (out : List ℕ) where
       same-outcome o Done _ _ is.status is.told is.files ∙ ap told-copy (sym same)
 
 -- `copy` is right by its rules, and refuses nothing
-pub copy-works : (uf2 out : List ℕ) → WorksBy (uf2_alone uf2) (λ read. ⊤) (of_one (copy_work out))
-    (λ read name fault. ⊥) (λ read o. OfOne (λ u. IsCopyOf u out o) read)
-copy-works uf2 out =
-    lone-works (record { name = uf2; form = Uf2 }) (copy_work out) (λ u o. IsCopyOf u out o) (copy-right out)
-    (λ u o form is. copy-only out u o is) (λ u form h. let e : Done ≡ Refused = h in cc)
+pub copy-works : (out uf2 : List ℕ) → HasForm Uf2 uf2
+    → IsByRules ⊤ (copy_work out uf2) (λ name fault. ⊥) (IsCopyOf uf2 out)
+copy-works out uf2 form =
+    never-refuses ⊤ (copy_work out uf2) (IsCopyOf uf2 out) (λ need. copy-right out uf2 form) (copy-only out uf2)
+    (λ h. cc)

@@ -1,19 +1,16 @@
 -- The work of a replay is right by the rules.
-use Rattle.std.proofs.Common.{◌≡◌, ℕ, ◌-◌, ◌<◌, ◌++◌, replicate, ◌∙◌, List, [], ◌∷◌, length, None, Result, Ok, refl, sym, ap, inr, arith}
+use Rattle.std.proofs.Common.{◌≡◌, ℕ, ◌-◌, ◌<◌, ◌++◌, replicate, ◌∙◌, List, length, None, refl, sym, ap, arith}
 use Rattle.std.proofs.lemmas.List.Elements.{All-append, All-replicate}
 use Rattle.pico_board.specs.declared.boot.Cpu.{Cpu}
 use Rattle.pico_board.specs.Content.{Content}
-use Rattle.boot_script.specs.declared.event.ScriptFault.{ScriptFault}
-use Rattle.boot_script.specs.Events.{EventView}
-use Rattle.boot_script.specs.Scripts.{events, events_read, script_events}
+use Rattle.boot_script.specs.Scripts.{events_read, script_events}
 use Rattle.boot_script.proofs.WalkLemmas.{events-read}
-use Rattle.cli_course.specs.declared.status.Status.TheVariants.{Done, Input as Refused}
-use Rattle.cli_course.specs.Outcomes.{AreBytes, AreOfBytes, AnswerView, worked}
+use Rattle.cli_course.specs.declared.status.Status.TheVariants.{Done}
+use Rattle.cli_course.specs.Outcomes.{AreBytes, AnswerView, worked}
 use Rattle.cli_inputs.specs.declared.forms.Form.TheVariants.{Script}
 use Rattle.cli_inputs.specs.Forms.{HasForm, content_of_files, filled_flash, filled_length}
-use Rattle.cli_inputs.specs.Inputs.{flash_otp_script, of_three}
-use Rattle.cli_inputs.specs.Rules.{AreFormed, OfThree, IsRefusedOrRight, WorksBy}
-use Rattle.cli_inputs.proofs.WorkLemmas.{same-outcome}
+use Rattle.cli_inputs.specs.Rules.{IsByRules}
+use Rattle.cli_inputs.proofs.WorkLemmas.{same-outcome, never-refuses}
 use Rattle.boot_plays.specs.Plays.{Played, played, powerless}
 use Rattle.cli_scripts.specs.ReplayWorks.{event_lines, end_line, content_files, replay_work}
 use Rattle.cli_scripts.specs.ReplayRules.{IsReplayOf}
@@ -65,43 +62,12 @@ replay-only c cpu s flash otp o right =
     p.lines
     ∙ ap (λ es. told-replay (played (powerless c cpu) es) flash otp) same))
 
--- `replay` is right by its rules, where its inputs are of bytes, since power that is lost in an erase leaves bytes
-pub replay-works : (flash otp script out_flash out_otp : List ℕ) (cpu : Cpu)
-    → WorksBy (flash_otp_script flash otp script) AreOfBytes
-    (of_three (λ f g s. replay_work (content_of_files f g) cpu s out_flash out_otp)) (λ read name fault. ⊥)
-    (λ read o. OfThree (λ f g s. IsReplayOf (content_of_files f g) cpu s out_flash out_otp o) read)
-replay-works flash otp script out_flash out_otp cpu = record {
-  done = go_done;
-  only = go_only;
-  refuses = go_refuses;
-  exact = λ read name fault all h. absurd h;
-}
-  where
-    go_done : (read : List (List ℕ)) → AreFormed (flash_otp_script flash otp script) read → AreOfBytes read
-        → IsRefusedOrRight (λ name fault. ⊥)
-        (λ o. OfThree (λ f g s. IsReplayOf (content_of_files f g) cpu s out_flash out_otp o) read)
-        (worked (of_three (λ f g s. replay_work (content_of_files f g) cpu s out_flash out_otp) read))
-    go_done [] all small = absurd all
-    go_done (f ∷ []) all small = absurd all.1
-    go_done (f ∷ g ∷ []) all small = absurd all.1.1
-    go_done (f ∷ g ∷ s ∷ []) all small = inr (replay-right f g s out_flash out_otp cpu small.0 small.1.1.0 all.1.1.0)
-    go_done (f ∷ g ∷ s ∷ t ∷ read) all small = absurd all.1.1.1
-
-    go_only : (read : List (List ℕ)) (o : AnswerView) → AreFormed (flash_otp_script flash otp script) read
-        → OfThree (λ f g s. IsReplayOf (content_of_files f g) cpu s out_flash out_otp o) read
-        → o ≡ worked (of_three (λ f g s. replay_work (content_of_files f g) cpu s out_flash out_otp) read)
-    go_only [] o all right = absurd right
-    go_only (f ∷ []) o all right = absurd right
-    go_only (f ∷ g ∷ []) o all right = absurd right
-    go_only (f ∷ g ∷ s ∷ []) o all right = replay-only (content_of_files f g) cpu s out_flash out_otp o right
-    go_only (f ∷ g ∷ s ∷ t ∷ read) o all right = absurd right
-
-    go_refuses : (read : List (List ℕ)) → AreFormed (flash_otp_script flash otp script) read
-        → (worked (of_three (λ f g s. replay_work (content_of_files f g) cpu s out_flash out_otp) read)).status
-        ≡ Refused
-        → (name : List ℕ) × (fault : List ℕ) × ⊥
-    go_refuses [] all h = absurd all
-    go_refuses (f ∷ []) all h = absurd all.1
-    go_refuses (f ∷ g ∷ []) all h = absurd all.1.1
-    go_refuses (f ∷ g ∷ s ∷ []) all h = cc
-    go_refuses (f ∷ g ∷ s ∷ t ∷ read) all h = absurd all.1.1.1
+-- `replay` is right by its rules, where its files are of bytes, since power that is lost in an erase leaves bytes
+pub replay-works : (f g s out_flash out_otp : List ℕ) (cpu : Cpu) → HasForm Script s
+    → IsByRules (AreBytes f × AreBytes s) (replay_work (content_of_files f g) cpu s out_flash out_otp)
+    (λ name fault. ⊥) (IsReplayOf (content_of_files f g) cpu s out_flash out_otp)
+replay-works f g s out_flash out_otp cpu form =
+    never-refuses (AreBytes f × AreBytes s) (replay_work (content_of_files f g) cpu s out_flash out_otp)
+    (IsReplayOf (content_of_files f g) cpu s out_flash out_otp)
+    (λ small. replay-right f g s out_flash out_otp cpu small.0 small.1 form)
+    (replay-only (content_of_files f g) cpu s out_flash out_otp) (λ h. cc)

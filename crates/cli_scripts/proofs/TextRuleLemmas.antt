@@ -1,5 +1,5 @@
 -- `list` and `script` are right by their rules.
-use Rattle.std.proofs.Common.{◌≡◌, ℕ, ◌+◌, ◌^◌, ◌<◌, ◌≤◌, false, List, [], ◌∷◌, length, Result, Ok, Err, refl, sym, ap, ◌∙◌, inl, inr, arith}
+use Rattle.std.proofs.Common.{◌≡◌, ℕ, ◌+◌, ◌^◌, ◌<◌, false, List, [], length, Result, Ok, Err, refl, sym, ap, ◌∙◌, inl, inr, arith}
 use Rattle.std.specs.Prelude.{⊤}
 use Rattle.boot_script.specs.Events.{EventView}
 use Rattle.boot_script.specs.Scripts.{events_read, script_events}
@@ -8,9 +8,8 @@ use Rattle.cli_course.specs.declared.status.Status.TheVariants.{Done, Input as R
 use Rattle.cli_course.specs.Outcomes.{Answers, AnswerView, one_file, refused, worked}
 use Rattle.cli_inputs.specs.declared.forms.Form.TheVariants.{Script, Text}
 use Rattle.cli_inputs.specs.Forms.{HasForm}
-use Rattle.cli_inputs.specs.Inputs.{of_one, script_alone, text_alone}
-use Rattle.cli_inputs.specs.Rules.{IsRefusedOrRight, OfOne, WorksBy}
-use Rattle.cli_inputs.proofs.WorkLemmas.{one-works, same-outcome}
+use Rattle.cli_inputs.specs.Rules.{IsRefusedOrRight, IsByRules}
+use Rattle.cli_inputs.proofs.WorkLemmas.{same-outcome, never-refuses}
 use Rattle.script_text.specs.declared.script.TextError.{TextError}
 use Rattle.script_text.specs.declared.script.TextScript.{TextScript}
 use Rattle.script_text.specs.Listing.{listed}
@@ -18,7 +17,6 @@ use Rattle.script_text.specs.Meaning.{IsScriptTextFault, IsScriptOf}
 use Rattle.script_text.specs.Reading.{script_of, text_events}
 use Rattle.script_text.proofs.BackLemmas.{fault-comes, text-read}
 use Rattle.script_text.proofs.MeaningLemmas.{text-fails, text-means}
-use Rattle.cli_scripts.proofs.LoneLemmas.{lone-works}
 use Rattle.cli_scripts.specs.TextRules.{IsListOf, IsTextRefused, IsWrittenOf}
 use Rattle.cli_scripts.specs.TextWorks.{list_work, read_work, script_line, text_fault, write_work}
 
@@ -41,11 +39,10 @@ list-only script o is =
     same-outcome o Done _ _ is.status is.text is.files ∙ ap told-list same
 
 -- `list` is right by its rules, and refuses nothing
-pub list-works : (script : List ℕ) → WorksBy (script_alone script) (λ read. ⊤) (of_one list_work)
-    (λ read name fault. ⊥) (λ read o. OfOne (λ s. IsListOf s o) read)
-list-works script =
-    lone-works (record { name = script; form = Script }) list_work (λ s o. IsListOf s o) list-right
-    (λ s o form is. list-only s o is) (λ s form h. let e : Done ≡ Refused = h in cc)
+pub list-works : (script : List ℕ) → HasForm Script script
+    → IsByRules ⊤ (list_work script) (λ name fault. ⊥) (IsListOf script)
+list-works script form =
+    never-refuses ⊤ (list_work script) (IsListOf script) (λ need. list-right script form) (list-only script) (λ h. cc)
 
 module _ (name out : List ℕ) where
   read-outcome : Result (List EventView) TextError → AnswerView
@@ -136,11 +133,11 @@ module _ (name out : List ℕ) where
   fault-refused text fault form is = read-err text fault (fault-comes text fault (small text form) is)
 
 -- `script` is right by its rules
-pub write-works : (text out : List ℕ) → WorksBy (text_alone text) (λ read. ⊤) (of_one (write_work text out))
-    (λ read name fault. OfOne (λ t. IsTextRefused text t name fault) read)
-    (λ read o. OfOne (λ t. IsWrittenOf t out o) read)
-write-works text out =
-    one-works (record { name = text; form = Text }) (λ read. ⊤) (write_work text out) (IsTextRefused text)
-    (λ t o. IsWrittenOf t out o) (λ t form need. write-right text out t form)
-    (λ t o form right. write-only text out t o form right) (λ t form h. write-refuses text out t form h)
-    (λ t name fault form h. write-exact text out t name fault form h)
+pub write-works : (text out t : List ℕ) → HasForm Text t
+    → IsByRules ⊤ (write_work text out t) (IsTextRefused text t) (IsWrittenOf t out)
+write-works text out t form = record {
+  done = λ need. write-right text out t form;
+  only = λ o. write-only text out t o form;
+  refuses = write-refuses text out t form;
+  exact = λ name fault. write-exact text out t name fault form;
+}

@@ -26,13 +26,9 @@ use Rattle.boot_sweep.specs.Sweeps.{content_after_cut}
 use Rattle.boot_sweep.proofs.RefusalCaseLemmas.{refused-exactly}
 use Rattle.boot_sweep.proofs.ResultLemmas.{judged, judged-exactly}
 use Rattle.cli_course.specs.declared.status.Status.TheVariants.{Done, Input as Refused}
-use Rattle.cli_course.specs.Outcomes.{AreBytes, AreOfBytes, AnswerView, Work, one_file, refused, worked}
-use Rattle.cli_inputs.specs.declared.forms.Form.TheVariants.{Flash, Otp, Pattern, Script}
-use Rattle.cli_inputs.specs.Forms.{HasForm, content_of_files}
-use Rattle.cli_inputs.specs.Inputs.{flash_otp_script_pattern, of_four}
-use Rattle.cli_inputs.specs.Rules.{IsRefusedOrRight, OfFour, WorksBy}
-use Rattle.cli_inputs.proofs.ContentLemmas.{formed-content}
-use Rattle.cli_inputs.proofs.WorkLemmas.{four-works, same-outcome}
+use Rattle.cli_course.specs.Outcomes.{AnswerView, one_file, refused, worked}
+use Rattle.cli_inputs.specs.Rules.{IsRefusedOrRight, IsByRules}
+use Rattle.cli_inputs.proofs.WorkLemmas.{same-outcome}
 use Rattle.text_lines.specs.Texts.{decision_text}
 use Rattle.svg_sweep.specs.Charts.{Chart}
 use Rattle.cli_sweep.specs.SweepRules.{IsSweepRefused}
@@ -232,19 +228,13 @@ module _ (c : Content) (cpu : Cpu) (script out bytes pattern : List ℕ) where
       some-told is.reason is.named
       ∙ (ap (λ n. refused n (sweep_fault is.reason)) (sym is.blames) ∙ ap (λ f. refused name f) (sym is.tells))
 
--- `chart` is right by its rules, where its inputs are of bytes, as a sweep is
-pub chart-works : (flash otp script pattern out : List ℕ) (cpu : Cpu)
-    → WorksBy (flash_otp_script_pattern flash otp script pattern) AreOfBytes
-    (of_four (λ f g s p. chart_work (content_of_files f g) cpu script out s p))
-    (λ read name fault. OfFour (λ f g s p. IsSweepRefused script (content_of_files f g) cpu s name fault) read)
-    (λ read o. OfFour (λ f g s p. IsChartOf (content_of_files f g) cpu out s p o) read)
-chart-works flash otp script pattern out cpu =
-    four-works (record { name = flash; form = Flash }) (record { name = otp; form = Otp })
-    (record { name = script; form = Script }) (record { name = pattern; form = Pattern }) AreOfBytes
-    (λ f g s p. chart_work (content_of_files f g) cpu script out s p)
-    (λ f g s p. IsSweepRefused script (content_of_files f g) cpu s)
-    (λ f g s p o. IsChartOf (content_of_files f g) cpu out s p o)
-    (λ f g s p x y z w small. chart-right (content_of_files f g) cpu script out s p (formed-content f g x y small.0))
-    (λ f g s p o x y z w right. chart-only (content_of_files f g) cpu script out s p o right)
-    (λ f g s p x y z w h. chart-refuses (content_of_files f g) cpu script out s p h)
-    (λ f g s p name fault x y z w h. chart-exact (content_of_files f g) cpu script out s p name fault h)
+-- `chart` is right by its rules
+pub chart-works : (c : Content) (cpu : Cpu) (script out s p : List ℕ)
+    → IsByRules (IsContent c) (chart_work c cpu script out s p) (IsSweepRefused script c cpu s)
+    (IsChartOf c cpu out s p)
+chart-works c cpu script out s p = record {
+  done = chart-right c cpu script out s p;
+  only = chart-only c cpu script out s p;
+  refuses = chart-refuses c cpu script out s p;
+  exact = chart-exact c cpu script out s p;
+}

@@ -10,19 +10,16 @@ use Rattle.image_check.specs.Addressing.{in_flash}
 use Rattle.image_check.specs.Image.{image_at, started_of}
 use Rattle.image_check.specs.SameImage.{HoldsImage}
 use Rattle.image_check.specs.Valid.{Valid}
-use Rattle.image_check.specs.WhyNot.{WhyNot}
 use Rattle.image_check.proofs.LawLemmas.{at-valid, valid-at, why-exactly}
-use Rattle.boot_sweep.specs.Firms.{Firm, IsFirm}
+use Rattle.boot_sweep.specs.Firms.{IsFirm}
 use Rattle.cli_course.specs.declared.status.Status.TheVariants.{Done, Input as Refused}
 use Rattle.cli_course.specs.Outcomes.{AnswerView, refused, worked}
-use Rattle.cli_inputs.specs.declared.forms.Form.TheVariants.{Image}
-use Rattle.cli_inputs.specs.Inputs.{image_alone as one_image, of_one}
-use Rattle.cli_inputs.specs.Rules.{IsRefusedOrRight, OfOne, WorksBy}
-use Rattle.cli_inputs.proofs.WorkLemmas.{one-works, same-outcome}
+use Rattle.cli_inputs.specs.Rules.{IsRefusedOrRight, IsByRules}
+use Rattle.cli_inputs.proofs.WorkLemmas.{same-outcome}
 use Rattle.text_lines.specs.Faults.{why_text}
 use Rattle.cli_sweep.specs.Firmness.{is_firm}
 use Rattle.cli_sweep.specs.FirmWorks.{firm_line, firm_work, image_alone, judged_work, whole_window}
-use Rattle.cli_sweep.specs.SweepRules.{IsFirmOf, IsFirmRefused, IsNoImage, SaysFirm}
+use Rattle.cli_sweep.specs.SweepRules.{IsFirmOf, IsFirmRefused, SaysFirm}
 use Rattle.cli_sweep.proofs.FirmnessLemmas.{firm-decides}
 
 -- an image that is valid is held
@@ -145,12 +142,11 @@ module _ (name : List ℕ) (cpu : Cpu) where
       go (inr right) = let e : Done ≡ Refused = sym right.status ∙ h in cc
 
 -- `firm` is right by its rules
-pub firm-works : (image : List ℕ) (cpu : Cpu) → WorksBy (one_image image) (λ read. ⊤)
-    (of_one (λ i. firm_work image i cpu))
-    (λ read name fault. OfOne (λ i. IsFirmRefused image i cpu name fault) read)
-    (λ read o. OfOne (λ i. IsFirmOf i cpu o) read)
-firm-works image cpu =
-    one-works (record { name = image; form = Image }) (λ read. ⊤) (λ i. firm_work image i cpu)
-    (λ i. IsFirmRefused image i cpu) (λ i o. IsFirmOf i cpu o) (λ i x need. firm-right image cpu i)
-    (λ i o x right. firm-only image cpu i o right) (λ i x h. firm-refuses image cpu i h)
-    (λ i name fault x h. firm-exact image cpu i name fault h)
+pub firm-works : (image i : List ℕ) (cpu : Cpu)
+    → IsByRules ⊤ (firm_work image i cpu) (IsFirmRefused image i cpu) (IsFirmOf i cpu)
+firm-works image i cpu = record {
+  done = λ need. firm-right image cpu i;
+  only = firm-only image cpu i;
+  refuses = firm-refuses image cpu i;
+  exact = firm-exact image cpu i;
+}

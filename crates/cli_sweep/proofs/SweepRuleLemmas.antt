@@ -1,5 +1,5 @@
 -- `sweep` is right by its rules.
-use Rattle.std.proofs.Common.{◌≡◌, ℕ, ◌≤◌, true, List, [], ◌∷◌, length, Option, Some, None, refl, sym, ap, ◌∙◌, subst, inl, inr, arith}
+use Rattle.std.proofs.Common.{◌≡◌, ℕ, true, List, [], ◌∷◌, Option, Some, None, refl, sym, ap, ◌∙◌, subst, inl, inr, arith}
 use Rattle.pico_board.specs.declared.Step.{Step}
 use Rattle.pico_board.specs.declared.boot.Cpu.{Cpu}
 use Rattle.pico_board.specs.Content.{Content, IsContent}
@@ -13,13 +13,11 @@ use Rattle.boot_sweep.proofs.OnlySweepLemmas.{only-sweep}
 use Rattle.boot_sweep.proofs.RefusalCaseLemmas.{refused-exactly}
 use Rattle.boot_sweep.proofs.SweptLemmas.{is-sweep}
 use Rattle.cli_course.specs.declared.status.Status.TheVariants.{Done, Input as Refused}
-use Rattle.cli_course.specs.Outcomes.{AreBytes, AreOfBytes, AnswerView, Work, refused, worked}
-use Rattle.cli_inputs.specs.declared.forms.Form.TheVariants.{Flash, Otp, Pattern, Script}
-use Rattle.cli_inputs.specs.Forms.{HasForm, content_of_files}
-use Rattle.cli_inputs.specs.Inputs.{flash_otp_script_pattern, of_four}
-use Rattle.cli_inputs.specs.Rules.{IsRefusedOrRight, OfFour, WorksBy}
-use Rattle.cli_inputs.proofs.ContentLemmas.{formed-content}
-use Rattle.cli_inputs.proofs.WorkLemmas.{four-works, same-outcome}
+use Rattle.cli_course.specs.Outcomes.{AreBytes, AnswerView, refused, worked}
+use Rattle.cli_inputs.specs.declared.forms.Form.TheVariants.{Pattern}
+use Rattle.cli_inputs.specs.Forms.{HasForm}
+use Rattle.cli_inputs.specs.Rules.{IsRefusedOrRight, IsByRules}
+use Rattle.cli_inputs.proofs.WorkLemmas.{same-outcome}
 use Rattle.cli_sweep.specs.SweepRules.{IsSweepOf, IsSweepRefused}
 use Rattle.cli_sweep.specs.SweepWorks.{sweep_fault, sweep_work, swept_work}
 
@@ -114,20 +112,13 @@ module _ (c : Content) (cpu : Cpu) (script bytes pattern : List ℕ) where
       some-told is.reason is.named
       ∙ (ap (λ n. refused n (sweep_fault is.reason)) (sym is.blames) ∙ ap (λ f. refused name f) (sym is.tells))
 
--- `sweep` is right by its rules, where its inputs are of bytes, since power that is lost in an erase leaves bytes
-pub sweep-works : (flash otp script pattern : List ℕ) (cpu : Cpu)
-    → WorksBy (flash_otp_script_pattern flash otp script pattern) AreOfBytes
-    (of_four (λ f g s p. sweep_work (content_of_files f g) cpu script s p))
-    (λ read name fault. OfFour (λ f g s p. IsSweepRefused script (content_of_files f g) cpu s name fault) read)
-    (λ read o. OfFour (λ f g s p. IsSweepOf (content_of_files f g) cpu s p o) read)
-sweep-works flash otp script pattern cpu =
-    four-works (record { name = flash; form = Flash }) (record { name = otp; form = Otp })
-    (record { name = script; form = Script }) (record { name = pattern; form = Pattern }) AreOfBytes
-    (λ f g s p. sweep_work (content_of_files f g) cpu script s p)
-    (λ f g s p. IsSweepRefused script (content_of_files f g) cpu s)
-    (λ f g s p o. IsSweepOf (content_of_files f g) cpu s p o)
-    (λ f g s p x y z w small.
-    sweep-right (content_of_files f g) cpu script s p (formed-content f g x y small.0) small.1.1.1.0)
-    (λ f g s p o x y z w right. sweep-only (content_of_files f g) cpu script s p o right)
-    (λ f g s p x y z w h. sweep-refuses (content_of_files f g) cpu script s p h)
-    (λ f g s p name fault x y z w h. sweep-exact (content_of_files f g) cpu script s p name fault h)
+-- `sweep` is right by its rules, where its pattern is of bytes, since power that is lost in an erase leaves bytes
+pub sweep-works : (c : Content) (cpu : Cpu) (script s p : List ℕ)
+    → IsByRules (IsContent c × AreBytes p) (sweep_work c cpu script s p) (IsSweepRefused script c cpu s)
+    (IsSweepOf c cpu s p)
+sweep-works c cpu script s p = record {
+  done = λ need. sweep-right c cpu script s p need.0 need.1;
+  only = sweep-only c cpu script s p;
+  refuses = sweep-refuses c cpu script s p;
+  exact = sweep-exact c cpu script s p;
+}

@@ -18,14 +18,13 @@ use Rattle.elf_pack.proofs.AnswerLemmas.{says-none, says-some}
 use Rattle.elf_pack.proofs.FaultLemmas.{elf-fault-is, elf-fault-none}
 use Rattle.elf_pack.proofs.WholeLemmas.{whole-told}
 use Rattle.cli_course.specs.declared.status.Status.TheVariants.{Done, Input as Refused}
-use Rattle.cli_course.specs.Outcomes.{AreBytes, AreOfBytes, AnswerView, Work, one_file, refused, worked}
-use Rattle.cli_inputs.specs.declared.forms.Form.TheVariants.{Elf as ElfForm, Spec}
+use Rattle.cli_course.specs.Outcomes.{AreBytes, AnswerView, Work, one_file, refused, worked}
+use Rattle.cli_inputs.specs.declared.forms.Form.TheVariants.{Spec}
 use Rattle.cli_inputs.specs.Forms.{HasForm}
-use Rattle.cli_inputs.specs.Inputs.{elf_and_spec, of_two}
 use Rattle.cli_inputs.specs.Jsons.{IsSpecText, spec_read}
-use Rattle.cli_inputs.specs.Rules.{OfTwo, IsRefusedOrRight, WorksBy}
+use Rattle.cli_inputs.specs.Rules.{IsRefusedOrRight, IsByRules}
 use Rattle.cli_inputs.proofs.JsonLemmas.{spec-gives}
-use Rattle.cli_inputs.proofs.WorkLemmas.{same-outcome, two-works}
+use Rattle.cli_inputs.proofs.WorkLemmas.{same-outcome}
 use Rattle.cli_tools.specs.Seals.{seal_error, sealed_line}
 use Rattle.cli_tools.specs.Elfs.{IsElfOf, IsElfRefused, elf_blamed, elf_text, elf_work, image_fault, packed_work}
 use Rattle.cli_tools.proofs.AloneLemmas.{starts-alone}
@@ -209,15 +208,12 @@ module _ (elf spec out e s : List ℕ) where
         record { asked = form.1.0; says = form.1.1; error = fault; wrong = wrong; blames = refl; tells = refl },
       )
 
--- `elf` is right by its rules, where its inputs are of bytes, since the entry of the file is a word
-pub elf-works : (elf spec out : List ℕ) → WorksBy (elf_and_spec elf spec) AreOfBytes
-    (of_two (λ e s. elf_work elf spec out e (spec_read s)))
-    (λ read name fault. OfTwo (λ e s. IsElfRefused elf spec e s name fault) read)
-    (λ read o. OfTwo (λ e s. IsElfOf out e s o) read)
-elf-works elf spec out =
-    two-works (record { name = elf; form = ElfForm }) (record { name = spec; form = Spec }) AreOfBytes
-    (λ e s. elf_work elf spec out e (spec_read s)) (λ e s. IsElfRefused elf spec e s)
-    (λ e s o. IsElfOf out e s o) (λ e s x form small. elf-right elf spec out e s form small.0)
-    (λ e s o x form right. elf-only elf spec out e s o right)
-    (λ e s x form h. elf-refuses elf spec out e s form h)
-    (λ e s name fault x form h. elf-exact elf spec out e s name fault h)
+-- `elf` is right by its rules, where its file is of bytes, since the entry of the file is a word
+pub elf-works : (elf spec out e s : List ℕ) → HasForm Spec s
+    → IsByRules (AreBytes e) (elf_work elf spec out e (spec_read s)) (IsElfRefused elf spec e s) (IsElfOf out e s)
+elf-works elf spec out e s form = record {
+  done = elf-right elf spec out e s form;
+  only = elf-only elf spec out e s;
+  refuses = elf-refuses elf spec out e s form;
+  exact = elf-exact elf spec out e s;
+}

@@ -1,5 +1,5 @@
 -- The outcomes of a sealing and of a table are right by the rules, and no others are.
-use Rattle.std.proofs.Common.{◌≡◌, ◌≢◌, ◌⊎◌, ℕ, List, [], ◌∷◌, length, Option, Some, None, refl, sym, ◌∙◌, ap, inl, inr}
+use Rattle.std.proofs.Common.{◌≡◌, ◌≢◌, ◌⊎◌, ℕ, List, length, Option, Some, None, refl, sym, ◌∙◌, ap, inl, inr}
 use Rattle.std.specs.Prelude.{⊤}
 use Rattle.part_table.specs.declared.table.Table.{Table}
 use Rattle.image_pack.specs.declared.spec.SealError.{SealError}
@@ -8,7 +8,7 @@ use Rattle.image_pack.specs.declared.spec.SealError.TheVariants.{Memory}
 use Rattle.image_pack.specs.Faults.{IsSealFault, block_offset}
 use Rattle.image_pack.specs.Sealing.{sealed_text}
 use Rattle.cli_course.specs.declared.status.Status.TheVariants.{Done, Input as Refused}
-use Rattle.cli_inputs.specs.declared.forms.Form.TheVariants.{Spec, Json, Binary}
+use Rattle.cli_inputs.specs.declared.forms.Form.TheVariants.{Spec, Json}
 use Rattle.cli_inputs.specs.Forms.{HasForm}
 use Rattle.cli_inputs.specs.Jsons.{IsSpecText, IsTableText, spec_read, table_read}
 use Rattle.cli_tools.specs.Seals.{IsUnsealed, blamed, seal_error, seal_text, sealed_line}
@@ -16,9 +16,8 @@ use Rattle.cli_tools.specs.Tools.{judged_work, seal_work, table_file, table_line
 use Rattle.cli_course.specs.Outcomes.{Work, AnswerView, refused, worked, one_file}
 use Rattle.cli_tools.specs.SealRules.{IsSealedOf, IsTableOf}
 use Rattle.cli_inputs.proofs.JsonLemmas.{spec-gives, table-gives}
-use Rattle.cli_inputs.specs.Inputs.{binary_and_spec, one_json, of_one, of_two}
-use Rattle.cli_inputs.specs.Rules.{AreFormed, OfOne, OfTwo, IsRefusedOrRight, WorksBy}
-use Rattle.cli_inputs.proofs.WorkLemmas.{same-outcome, two-works}
+use Rattle.cli_inputs.specs.Rules.{IsRefusedOrRight, IsByRules}
+use Rattle.cli_inputs.proofs.WorkLemmas.{same-outcome, never-refuses}
 use Rattle.cli_tools.proofs.SealLemmas.{IsJudged, is_sealed, has_fault, seal-judged, fault-first, sealed-none}
 
 -- the outcome of a table that is written
@@ -131,55 +130,23 @@ module _ (binary spec out b s : List ℕ) where
       go (inl (name, fault, is, same)) = (name, fault, is)
       go (inr right) = let e : Done ≡ Refused = sym right.status ∙ h in cc
 
--- the status of a table is never Input
-pub table-not_refused : (out j : List ℕ) → HasForm Json j
-    → (worked (table_work out (table_read j))).status ≡ Refused → ⊥
-table-not_refused out j form h =
-    let right = table-right out j form in let e : Done ≡ Refused = sym right.status ∙ h in cc
-
 -- `seal` is right by its rules
-pub seal-works : (binary spec out : List ℕ) → WorksBy (binary_and_spec binary spec) (λ read. ⊤)
-    (of_two (λ b s. seal_work binary spec out b (spec_read s)))
-    (λ read name fault. OfTwo (λ b s. IsUnsealed binary spec b s name fault) read)
-    (λ read o. OfTwo (λ b s. IsSealedOf out b s o) read)
-seal-works binary spec out =
-    two-works (record { name = binary; form = Binary }) (record { name = spec; form = Spec }) (λ read. ⊤)
-    (λ b s. seal_work binary spec out b (spec_read s)) (λ b s. IsUnsealed binary spec b s)
-    (λ b s o. IsSealedOf out b s o) (λ b s x form need. seal-right binary spec out b s form)
-    (λ b s o x form right. seal-only binary spec out b s o right)
-    (λ b s x form h. unsealed-then binary spec out b s form h)
-    (λ b s name fault x form h. unsealed-outcome binary spec out b s name fault h)
+pub seal-works : (binary spec out b s : List ℕ) → HasForm Spec s
+    → IsByRules ⊤ (seal_work binary spec out b (spec_read s)) (IsUnsealed binary spec b s) (IsSealedOf out b s)
+seal-works binary spec out b s form = record {
+  done = λ need. seal-right binary spec out b s form;
+  only = seal-only binary spec out b s;
+  refuses = unsealed-then binary spec out b s form;
+  exact = unsealed-outcome binary spec out b s;
+}
 
 -- `table` is right by its rules, and refuses no text that has its form
-pub table-works : (json out : List ℕ) → WorksBy (one_json json) (λ read. ⊤)
-    (of_one (λ j. table_work out (table_read j))) (λ read name fault. ⊥)
-    (λ read o. OfOne (λ j. IsTableOf out j o) read)
-table-works json out = record {
-  done = go_done;
-  only = go_only;
-  refuses = go_refuses;
-  exact = λ read name fault all h. absurd h;
-}
-  where
-    go_done : (read : List (List ℕ)) → AreFormed (one_json json) read → ⊤
-        → IsRefusedOrRight (λ name fault. ⊥) (λ o. OfOne (λ j. IsTableOf out j o) read)
-        (worked (of_one (λ j. table_work out (table_read j)) read))
-    go_done [] all need = absurd all
-    go_done (j ∷ []) all need = inr (table-right out j all.0)
-    go_done (j ∷ k ∷ read) all need = absurd all.1
-
-    go_only : (read : List (List ℕ)) (o : AnswerView) → AreFormed (one_json json) read
-        → OfOne (λ j. IsTableOf out j o) read → o ≡ worked (of_one (λ j. table_work out (table_read j)) read)
-    go_only [] o all right = absurd right
-    go_only (j ∷ []) o all right = table-only out j o right
-    go_only (j ∷ k ∷ read) o all right = absurd right
-
-    go_refuses : (read : List (List ℕ)) → AreFormed (one_json json) read
-        → (worked (of_one (λ j. table_work out (table_read j)) read)).status ≡ Refused
-        → (name : List ℕ) × (fault : List ℕ) × ⊥
-    go_refuses [] all h = absurd all
-    go_refuses (j ∷ []) all h = absurd (table-not_refused out j all.0 h)
-    go_refuses (j ∷ k ∷ read) all h = absurd all.1
+pub table-works : (out j : List ℕ) → HasForm Json j
+    → IsByRules ⊤ (table_work out (table_read j)) (λ name fault. ⊥) (IsTableOf out j)
+table-works out j form =
+    let right = table-right out j form in
+    never-refuses ⊤ (table_work out (table_read j)) (IsTableOf out j) (λ need. right) (table-only out j)
+    (λ h. let e : Done ≡ Refused = sym right.status ∙ h in cc)
 
 -- an error of a sealing is the first by the rules, unless there is no memory
 pub error-first : (b : List ℕ) (asked : SealSpec) (error : SealError)

@@ -14,14 +14,11 @@ use Rattle.script_plan.specs.declared.writing.WriteOrder.{WriteOrder}
 use Rattle.script_plan.specs.declared.writing.WriteOrder.TheVariants.{FirstLast, Ascending}
 use Rattle.script_plan.specs.Orders.{script_text}
 use Rattle.cli_course.specs.declared.status.Status.TheVariants.{Done, Input as Refused}
-use Rattle.cli_inputs.specs.Forms.{content_of_files}
 use Rattle.cli_course.specs.Outcomes.{Work, Answers, Refuses, one_file, AnswerView, refused, worked}
 use Rattle.cli_tools.specs.ToolWorks.{uf2_line, uf2_work, plan_target, script_line, window_work, target_work, script_work, plan_work, load_work, made_content, gen_line, gen_work}
 use Rattle.cli_tools.specs.ToolRules.{IsUf2Refused, IsUf2Of, IsTargetRefused, IsScriptOf, IsPlanRefused, IsPlanOf, IsLoadRefused, IsLoadOf, IsGenOf}
-use Rattle.cli_inputs.specs.declared.forms.Form.TheVariants.{Flash, Otp, Image}
-use Rattle.cli_inputs.specs.Inputs.{image_alone, flash_otp_image, of_one, of_three}
-use Rattle.cli_inputs.specs.Rules.{OfOne, OfThree, IsRefusedOrRight, WorksBy}
-use Rattle.cli_inputs.proofs.WorkLemmas.{same-outcome, none-works, one-works, three-works}
+use Rattle.cli_inputs.specs.Rules.{IsRefusedOrRight, IsByRules}
+use Rattle.cli_inputs.proofs.WorkLemmas.{same-outcome, never-refuses}
 use Rattle.text_lines.specs.Texts.{decision_line}
 use Rattle.image_pack.specs.Flashes.{generated}
 
@@ -150,7 +147,7 @@ module _ (order : WriteOrder) (image out i : List ℕ) (c : Content) (cpu : Cpu)
       sym (by-target (Some target) goes
       ∙ by-window target false some (le-ltb target.window.len (length i) few))
 
-pub gen-right : (n : ℕ) → IsGenOf n (worked (gen_work n))
+gen-right : (n : ℕ) → IsGenOf n (worked (gen_work n))
 gen-right n = record {
   decision = decision_in (made_content n) Arm Normal;
   chosen = decision-chosen (made_content n) Arm Normal;
@@ -167,51 +164,36 @@ refused-done IsRefusal Right o done (inl (name, fault, refuses, is)) h = (name, 
 refused-done IsRefusal Right o done (inr right) h = let e : Done ≡ Refused = sym (done right) ∙ h in cc
 
 -- `uf2` is right by its rules
-pub uf2-works : (image out : List ℕ) (family : ℕ) → WorksBy (image_alone image) (λ read. ⊤)
-    (of_one (uf2_work image family out)) (λ read name fault. OfOne (λ i. IsUf2Refused image i name fault) read)
-    (λ read o. OfOne (λ i. IsUf2Of i family out o) read)
-uf2-works image out family =
-    one-works (record { name = image; form = Image }) (λ read. ⊤) (uf2_work image family out) (IsUf2Refused image)
-    (λ i o. IsUf2Of i family out o) (λ i form need. uf2-done image out i family)
-    (λ i o form right. same-outcome o Done _ _ right.status right.text right.files
-    ∙ uf2-whole image out i family right.some)
-    (λ i form h. refused-done (IsUf2Refused image i) (IsUf2Of i family out) (worked (uf2_work image family out i))
-    (λ right. right.status) (uf2-done image out i family) h)
-    (λ i name fault form h. uf2-exact image out i name fault family h)
+pub uf2-works : (image out i : List ℕ) (family : ℕ)
+    → IsByRules ⊤ (uf2_work image family out i) (IsUf2Refused image i) (IsUf2Of i family out)
+uf2-works image out i family = record {
+  done = λ need. uf2-done image out i family;
+  only = λ o right. same-outcome o Done _ _ right.status right.text right.files
+      ∙ uf2-whole image out i family right.some;
+  refuses = refused-done (IsUf2Refused image i) (IsUf2Of i family out) (worked (uf2_work image family out i))
+      (λ right. right.status) (uf2-done image out i family);
+  exact = λ name fault. uf2-exact image out i name fault family;
+}
 
 -- the scripts are right by their rules
-script-works : (order : WriteOrder) (flash otp image out : List ℕ) (cpu : Cpu)
-    → WorksBy (flash_otp_image flash otp image) (λ read. ⊤)
-    (of_three (λ f g i. script_work order (content_of_files f g) cpu image out i))
-    (λ read name fault. OfThree (λ f g i. IsTargetRefused (content_of_files f g) cpu image i name fault) read)
-    (λ read o. OfThree (λ f g i. IsScriptOf order (content_of_files f g) cpu i out o) read)
-script-works order flash otp image out cpu =
-    three-works (record { name = flash; form = Flash }) (record { name = otp; form = Otp })
-    (record { name = image; form = Image }) (λ read. ⊤)
-    (λ f g i. script_work order (content_of_files f g) cpu image out i)
-    (λ f g i. IsTargetRefused (content_of_files f g) cpu image i)
-    (λ f g i o. IsScriptOf order (content_of_files f g) cpu i out o)
-    (λ f g i a b c need. script-done order image out i (content_of_files f g) cpu)
-    (λ f g i o a b c right. same-outcome o Done _ _ right.status right.text right.files
-    ∙ script-whole order image out i (content_of_files f g) cpu right.target right.goes right.some right.fits)
-    (λ f g i a b c h. refused-done (IsTargetRefused (content_of_files f g) cpu image i)
-    (IsScriptOf order (content_of_files f g) cpu i out)
-    (worked (script_work order (content_of_files f g) cpu image out i)) (λ right. right.status)
-    (script-done order image out i (content_of_files f g) cpu) h)
-    (λ f g i name fault a b c h. script-exact order image out i (content_of_files f g) cpu name fault h)
+script-works : (order : WriteOrder) (image out i : List ℕ) (c : Content) (cpu : Cpu)
+    → IsByRules ⊤ (script_work order c cpu image out i) (IsTargetRefused c cpu image i) (IsScriptOf order c cpu i out)
+script-works order image out i c cpu = record {
+  done = λ need. script-done order image out i c cpu;
+  only = λ o right. same-outcome o Done _ _ right.status right.text right.files
+      ∙ script-whole order image out i c cpu right.target right.goes right.some right.fits;
+  refuses = refused-done (IsTargetRefused c cpu image i) (IsScriptOf order c cpu i out)
+      (worked (script_work order c cpu image out i)) (λ right. right.status) (script-done order image out i c cpu);
+  exact = λ name fault. script-exact order image out i c cpu name fault;
+}
 
--- `plan` is right by its rules
-pub plan-works : (flash otp image out : List ℕ) (cpu : Cpu) → WorksBy (flash_otp_image flash otp image) (λ read. ⊤)
-    (of_three (λ f g i. plan_work (content_of_files f g) cpu image out i))
-    (λ read name fault. OfThree (λ f g i. IsPlanRefused (content_of_files f g) cpu image i name fault) read)
-    (λ read o. OfThree (λ f g i. IsPlanOf (content_of_files f g) cpu i out o) read)
+-- `plan` and `load` are right by their rules
+pub plan-works : (image out i : List ℕ) (c : Content) (cpu : Cpu)
+    → IsByRules ⊤ (plan_work c cpu image out i) (IsPlanRefused c cpu image i) (IsPlanOf c cpu i out)
 plan-works = script-works FirstLast
 
--- `load` is right by its rules
-pub load-works : (flash otp image out : List ℕ) (cpu : Cpu) → WorksBy (flash_otp_image flash otp image) (λ read. ⊤)
-    (of_three (λ f g i. load_work (content_of_files f g) cpu image out i))
-    (λ read name fault. OfThree (λ f g i. IsLoadRefused (content_of_files f g) cpu image i name fault) read)
-    (λ read o. OfThree (λ f g i. IsLoadOf (content_of_files f g) cpu i out o) read)
+pub load-works : (image out i : List ℕ) (c : Content) (cpu : Cpu)
+    → IsByRules ⊤ (load_work c cpu image out i) (IsLoadRefused c cpu image i) (IsLoadOf c cpu i out)
 load-works = script-works Ascending
 
 gen-only : (n : ℕ) (o : AnswerView) → IsGenOf n o → o ≡ worked (gen_work n)
@@ -221,5 +203,5 @@ gen-only n o right =
     (chosen-decision (made_content n) Arm Normal right.decision right.chosen)
 
 -- `gen` is right by its rules
-pub gen-works : (n : ℕ) → WorksBy [] (λ read. ⊤) (λ read. gen_work n) (λ read name fault. ⊥) (λ read o. IsGenOf n o)
-gen-works n = none-works (λ read. ⊤) (gen_work n) (IsGenOf n) (gen-right n) (gen-only n) (λ h. cc)
+pub gen-works : (n : ℕ) → IsByRules ⊤ (gen_work n) (λ name fault. ⊥) (IsGenOf n)
+gen-works n = never-refuses ⊤ (gen_work n) (IsGenOf n) (λ need. gen-right n) (gen-only n) (λ h. cc)

@@ -1,14 +1,14 @@
 //! Worked examples of the definitions, proved by computing: each is the `ensures` of a function
 //! that does nothing.
 
-ghost use Rattle.std.specs.Prelude.{◌≡◌, [], ◌∷◌, codes, Some, None};
+ghost use Rattle.std.specs.Prelude.{◌≡◌, [], ◌∷◌, codes, false, Some, None};
 ghost use Rattle.pico_board.specs.declared.boot.Cpu.TheVariants.{Arm};
 ghost use Rattle.pico_board.specs.declared.boot.BootKind.TheVariants.{Normal};
 ghost use Rattle.cli_words.specs.Rows.{Boot, Caveats, OwnedData, command_line};
 ghost use Rattle.cli_words.specs.declared.rows.Verb.TheVariants as verbs;
-ghost use Rattle.boot_run.specs.Commands.{Names, NeedsBytes, command_outcome, outcome_on};
+ghost use Rattle.boot_run.specs.Commands.{Names, NeedsBytes, command_outcome, outcome_on, row_work};
 ghost use Rattle.boot_run.specs.Examples.{named, no_start, sink_of};
-ghost use Rattle.cli_course.specs.Outcomes.{refused, unread, not_understood};
+ghost use Rattle.cli_course.specs.Outcomes.{Answers, refused, unread, not_understood};
 ghost use Rattle.cli_course.specs.declared.status.Status.{Status};
 
 /// Of two inputs that break their form the first, in the order of the arguments, is named. A
@@ -31,6 +31,13 @@ pub fn first_faults()
     ensures lacking { outcome_on (Some (Boot (codes "f") (codes "o") Arm Normal))
         (record { name = codes "f"; bytes = [] } ∷ []) ≡ unread }
     ensures words { outcome_on None [] ≡ not_understood }
+{}
+
+/// On another number of inputs than its own a command comes to nothing: no fall, no text and no
+/// file.
+pub fn other_numbers_of_inputs()
+    ensures fewer { row_work verbs.Boot named ([] ∷ []) ≡ Answers false [] [] }
+    ensures more { row_work verbs.Firm named ([] ∷ [] ∷ []) ≡ Answers false [] [] }
 {}
 
 /// A wrong spec is refused under its own name. A fault of a form comes before any refusal.

@@ -1,28 +1,15 @@
 //! Laws of `caveats`, proved: each is the `ensures` of a function that does nothing.
 
-ghost use Rattle.std.specs.Prelude.{◌≡◌, ⊤, ℕ, List};
+ghost use Rattle.std.specs.Prelude.{⊤};
 ghost use Rattle.pico_board.specs.declared.boot.Cpu.{Cpu};
 ghost use Rattle.pico_board.specs.declared.boot.BootKind.{BootKind};
 ghost use Rattle.pico_board.specs.Content.{Content};
-ghost use Rattle.cli_course.specs.Outcomes.{AnswerView, worked};
-ghost use Rattle.cli_inputs.specs.Forms.{content_of_files};
-ghost use Rattle.cli_inputs.specs.Inputs.{flash_and_otp, of_two};
-ghost use Rattle.cli_inputs.specs.Rules.{OfTwo, WorksBy};
+ghost use Rattle.cli_inputs.specs.Rules.{IsByRules};
 ghost use Rattle.cli_caveats.specs.Rules.{IsCaveatsOf};
 ghost use Rattle.cli_caveats.specs.Works.{caveats_work};
 
-/// The outcome of `caveats` on a content is the one that is right by the rules.
-pub fn outcomes_are_right()
-    ensures right { (c : Content) (cpu : Cpu) (kind : BootKind)
-        → IsCaveatsOf c cpu kind (worked (caveats_work c cpu kind)) }
-    ensures only { (c : Content) (cpu : Cpu) (kind : BootKind) (o : AnswerView)
-        → IsCaveatsOf c cpu kind o → o ≡ worked (caveats_work c cpu kind) }
-{}
-
-/// On files that have their forms the work is right by its rules, and refuses no file.
+/// The work on a content is right by its rules, and refuses nothing.
 pub fn works_are_right()
-    ensures { (flash otp : List ℕ) (cpu : Cpu) (kind : BootKind)
-        → WorksBy (flash_and_otp flash otp) (λ read. ⊤)
-        (of_two (λ f g. caveats_work (content_of_files f g) cpu kind)) (λ read name fault. ⊥)
-        (λ read o. OfTwo (λ f g. IsCaveatsOf (content_of_files f g) cpu kind o) read) }
+    ensures { (c : Content) (cpu : Cpu) (kind : BootKind)
+        → IsByRules ⊤ (caveats_work c cpu kind) (λ name fault. ⊥) (IsCaveatsOf c cpu kind) }
 {}

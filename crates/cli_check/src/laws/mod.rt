@@ -15,24 +15,18 @@ ghost use Rattle.boot_rules.specs.Chosen.{Chosen};
 ghost use Rattle.boot_script.specs.Events.{EventView};
 ghost use Rattle.boot_session.specs.CutSessions.{StartsFinished, StartsThere};
 ghost use Rattle.boot_cuts.specs.Traces.{trace, trace_steps};
-ghost use Rattle.cli_course.specs.Outcomes.{AreOfBytes};
-ghost use Rattle.cli_inputs.specs.Forms.{content_of_files};
-ghost use Rattle.cli_inputs.specs.Inputs.{flash_otp_script_pattern, of_four};
-ghost use Rattle.cli_inputs.specs.Rules.{OfFour, WorksBy};
+ghost use Rattle.cli_inputs.specs.Rules.{IsByRules};
 ghost use Rattle.cli_check.specs.declared.findings.SessionLaw.TheVariants.{ConfinedTo, GatedOn};
 ghost use Rattle.cli_check.specs.CheckRules.{IsCheckOf, IsCheckRefused};
 ghost use Rattle.cli_check.specs.CheckWorks.{check_work};
 ghost use Rattle.cli_check.specs.SessionLaws.{law_of};
 
-/// On files of bytes that have their forms the work of `check` is right by its rules, and no other
-/// outcome is. It refuses a script exactly where its trace is too long.
+/// On a content the outcome of `check` is the one that is right by its rules. It refuses a script
+/// exactly where its trace is too long.
 pub fn works_are_right()
-    ensures { (flash otp script pattern : List ℕ) (cpu : Cpu)
-        → WorksBy (flash_otp_script_pattern flash otp script pattern) AreOfBytes
-        (of_four (λ f g s p. check_work (content_of_files f g) cpu script s p))
-        (λ read name fault. OfFour (λ f g s p. IsCheckRefused script
-        (content_of_files f g) cpu s name fault) read)
-        (λ read o. OfFour (λ f g s p. IsCheckOf (content_of_files f g) cpu s p o) read) }
+    ensures { (c : Content) (cpu : Cpu) (script s p : List ℕ)
+        → IsByRules (IsContent c) (check_work c cpu script s p)
+        (IsCheckRefused script c cpu s) (IsCheckOf c cpu s p) }
 {}
 
 /// Let `law confined` be told of a slot. The script's steps are done, or power is lost in them,

@@ -1,13 +1,11 @@
 //! Worked examples of the definitions, proved by computing: each is the `ensures` of a function
 //! that does nothing.
 
-ghost use Rattle.std.specs.Prelude.{◌≡◌, ◌*◌, [], ◌∷◌, ◌++◌, codes, replicate, slice_get, Some, None, true, false};
+ghost use Rattle.std.specs.Prelude.{◌≡◌, ◌*◌, [], ◌∷◌, codes, replicate, slice_get, Some, None};
 ghost use Rattle.part_table.specs.declared.table.TableFault.TheVariants.{Overlap, BadItem, Permissions, Range, Link, Hash};
-ghost use Rattle.cli_course.specs.Outcomes.{Answers, Refuses};
 ghost use Rattle.cli_inputs.specs.declared.forms.Form.TheVariants.{Flash, Otp, Script, Pattern, Binary, Spec, Json, Image, Elf, Uf2, Text, OtpText};
 ghost use Rattle.boot_script.specs.declared.event.ScriptError.TheVariants.{TooMany};
 ghost use Rattle.cli_inputs.specs.Forms.{limit_of, form_fault, script_text, filled_flash, filled_length, rows_of, otp_of};
-ghost use Rattle.cli_inputs.specs.Inputs.{of_one, of_two, of_three, of_four};
 ghost use Rattle.table_json.specs.declared.fault.JsonFault.TheVariants.{NotJson, Unknown, Missing, Value, TooLong, Table as Faulty};
 ghost use Rattle.table_json.specs.declared.fault.Place.TheVariants.{Top, Unpartitioned as Outside, Partition as Numbered};
 ghost use Rattle.table_json.specs.declared.fault.Field.TheVariants.{Processor, Partitions, Families, IgnoreArm};
@@ -136,30 +134,4 @@ pub fn rows_of_otps()
     ensures behind { slice_get (otp_of (1 ∷ 2 ∷ 3 ∷ 0 ∷ [])) 1 ≡ Some 0 }
     ensures last { slice_get (otp_of (1 ∷ 2 ∷ 3 ∷ 0 ∷ [])) 4095 ≡ Some 0 }
     ensures past { slice_get (otp_of (1 ∷ 2 ∷ 3 ∷ 0 ∷ [])) 4096 ≡ None }
-{}
-
-/// A work has the bytes of its inputs in their order. On another number of inputs than its own it
-/// comes to nothing: no fall, no text and no file.
-pub fn works_on_inputs()
-    ensures one { of_one (λ a. Answers true a []) ((1 ∷ []) ∷ []) ≡ Answers true (1 ∷ []) [] }
-    ensures two { of_two (λ a b. Refuses a b) ((1 ∷ []) ∷ (2 ∷ []) ∷ [])
-        ≡ Refuses (1 ∷ []) (2 ∷ []) }
-    ensures three { of_three (λ a b c. Refuses a (b ++ c)) ((1 ∷ []) ∷ (2 ∷ []) ∷ (3 ∷ []) ∷ [])
-        ≡ Refuses (1 ∷ []) (2 ∷ 3 ∷ []) }
-    ensures four { of_four (λ a b c d. Refuses (a ++ b) (c ++ d))
-        ((1 ∷ []) ∷ (2 ∷ []) ∷ (3 ∷ []) ∷ (4 ∷ []) ∷ [])
-        ≡ Refuses (1 ∷ 2 ∷ []) (3 ∷ 4 ∷ []) }
-    ensures none_for_one { of_one (λ a. Answers true a []) [] ≡ Answers false [] [] }
-    ensures two_for_one { of_one (λ a. Answers true a []) ([] ∷ [] ∷ []) ≡ Answers false [] [] }
-    ensures one_for_two { of_two (λ a b. Refuses a b) ([] ∷ []) ≡ Answers false [] [] }
-    ensures three_for_two { of_two (λ a b. Refuses a b) ([] ∷ [] ∷ [] ∷ [])
-        ≡ Answers false [] [] }
-    ensures two_for_three { of_three (λ a b c. Refuses a (b ++ c)) ([] ∷ [] ∷ [])
-        ≡ Answers false [] [] }
-    ensures four_for_three { of_three (λ a b c. Refuses a (b ++ c)) ([] ∷ [] ∷ [] ∷ [] ∷ [])
-        ≡ Answers false [] [] }
-    ensures three_for_four { of_four (λ a b c d. Refuses (a ++ b) (c ++ d)) ([] ∷ [] ∷ [] ∷ [])
-        ≡ Answers false [] [] }
-    ensures five_for_four { of_four (λ a b c d. Refuses (a ++ b) (c ++ d))
-        ([] ∷ [] ∷ [] ∷ [] ∷ [] ∷ []) ≡ Answers false [] [] }
 {}

@@ -5,6 +5,7 @@ ghost use Rattle.pico_board.specs.Content.{Content, IsContent};
 ghost use Rattle.cli_inputs.specs.declared.forms.Form.{Form};
 ghost use Rattle.cli_inputs.specs.declared.forms.Form.TheVariants.{Flash, Otp};
 ghost use Rattle.cli_course.specs.Ends.{cut};
+ghost use Rattle.cli_course.specs.Outcomes.{AreBytes};
 ghost use Rattle.cli_inputs.specs.Inputs.{FormInputView, readings};
 ghost use Rattle.cli_inputs.specs.Forms.{limit_of, HasForm, IsFormFault, form_fault, content_of_files};
 
@@ -16,9 +17,12 @@ pub fn forms_are_judged()
         ↔ HasForm form bytes }
 {}
 
-/// Every content is that of a flash file and an OTP file that have their forms.
+/// A flash file of bytes and an OTP file that have their forms give a content, and every content is
+/// that of two such files.
 pub fn every_content_is_given()
-    ensures { (c : Content) → IsContent c
+    ensures content { (f g : List ℕ) → HasForm Flash f → HasForm Otp g → AreBytes f
+        → IsContent (content_of_files f g) }
+    ensures every { (c : Content) → IsContent c
         → (f : List ℕ) × (g : List ℕ) × HasForm Flash f × HasForm Otp g
         × (content_of_files f g ≡ c) }
 {}

@@ -8,10 +8,7 @@ ghost use Rattle.boot_rules.specs.declared.decision.Decision.TheVariants.{Bootse
 ghost use Rattle.boot_rules.specs.declared.decision.Fall.{Fall};
 ghost use Rattle.boot_map.specs.declared.maps.FlashMap.{FlashMap};
 ghost use Rattle.boot_map.specs.MapRules.{IsMap};
-ghost use Rattle.cli_course.specs.Outcomes.{AreOfBytes, AnswerView, worked};
-ghost use Rattle.cli_inputs.specs.Forms.{content_of_files};
-ghost use Rattle.cli_inputs.specs.Inputs.{flash_and_otp, of_two};
-ghost use Rattle.cli_inputs.specs.Rules.{OfTwo, WorksBy};
+ghost use Rattle.cli_inputs.specs.Rules.{IsByRules};
 ghost use Rattle.svg_marks.specs.declared.class.Class.TheVariants.{Window, Row, Join, Starts};
 ghost use Rattle.svg_marks.specs.Marks.{class_text, escaped};
 ghost use Rattle.svg_marks.specs.Reading.{marks_in, times};
@@ -20,21 +17,10 @@ ghost use Rattle.cli_map.specs.Rules.{IsMapOf};
 ghost use Rattle.cli_map.specs.Texts.{bars_of};
 ghost use Rattle.cli_map.specs.Works.{map_file, map_work};
 
-/// The outcome of `map` on a content is the one that is right by the rules.
-pub fn outcomes_are_right()
-    ensures right { (c : Content) (cpu : Cpu) (out : List ℕ) → IsContent c
-        → IsMapOf c cpu out (worked (map_work c cpu out)) }
-    ensures only { (c : Content) (cpu : Cpu) (out : List ℕ) (o : AnswerView)
-        → IsMapOf c cpu out o → o ≡ worked (map_work c cpu out) }
-{}
-
-/// On files that have their forms and are of bytes the work of `map` is right by the rules of a
-/// flash's map. It refuses no file.
+/// The work on a content is right by the rules of a flash's map, and refuses nothing.
 pub fn works_are_right()
-    ensures map { (flash otp out : List ℕ) (cpu : Cpu)
-        → WorksBy (flash_and_otp flash otp) AreOfBytes
-        (of_two (λ f g. map_work (content_of_files f g) cpu out)) (λ read name fault. ⊥)
-        (λ read o. OfTwo (λ f g. IsMapOf (content_of_files f g) cpu out o) read) }
+    ensures { (c : Content) (cpu : Cpu) (out : List ℕ)
+        → IsByRules (IsContent c) (map_work c cpu out) (λ name fault. ⊥) (IsMapOf c cpu out) }
 {}
 
 /// For each window of the map its file has one rectangle, one row, and one line that joins both,

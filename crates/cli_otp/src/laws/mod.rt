@@ -1,7 +1,7 @@
 //! Laws of the OTP files that are made, proved: each is the `ensures` of a function that does
 //! nothing.
 
-ghost use Rattle.std.specs.Prelude.{◌≡◌, ◌≢◌, ⊤, ℕ, ◌+◌, ◌*◌, ◌/◌, ◌%◌, ◌^◌, ◌<◌, ◌≤◌, List, [], ◌∷◌, ◌++◌, All, length, slice_index, codes, Result, Ok, decimal};
+ghost use Rattle.std.specs.Prelude.{◌≡◌, ◌≢◌, ⊤, ℕ, ◌+◌, ◌*◌, ◌/◌, ◌%◌, ◌^◌, ◌≤◌, List, ◌∷◌, ◌++◌, All, length, slice_index, codes, Result, Ok, decimal};
 ghost use Rattle.pico_board.specs.declared.boot.Cpu.{Cpu};
 ghost use Rattle.pico_board.specs.declared.boot.BootKind.{BootKind};
 ghost use Rattle.pico_board.specs.Content.{Content};
@@ -17,8 +17,7 @@ ghost use Rattle.cli_course.specs.Outcomes.{line};
 ghost use Rattle.cli_explain.specs.Texts.{explain_text};
 ghost use Rattle.cli_inputs.specs.declared.forms.Form.{Form};
 ghost use Rattle.cli_inputs.specs.declared.forms.Form.TheVariants.{Otp};
-ghost use Rattle.cli_inputs.specs.Inputs.{of_one};
-ghost use Rattle.cli_inputs.specs.Rules.{OfOne, WorksBy};
+ghost use Rattle.cli_inputs.specs.Rules.{IsByRules};
 ghost use Rattle.cli_otp.specs.OtpOutcomes.{IsOtpOf};
 ghost use Rattle.cli_inputs.specs.Forms.{HasForm, otp_of};
 ghost use Rattle.cli_otp.specs.OtpWords.{listed, otp_bytes, otp_line, otp_words, otp_work, set_count, told_text};
@@ -79,10 +78,9 @@ pub fn otps_are_none_of_raw_dumps()
 /// such a text says. Then the work is right by its rules: it refuses nothing, and its outcome is
 /// the one that is right.
 pub fn works_are_right()
-    ensures { (form : Form) (reads : List ℕ → Result OtpView JsonFault) (json out : List ℕ)
+    ensures { (form : Form) (reads : List ℕ → Result OtpView JsonFault)
         → ((j : List ℕ) → HasForm form j → (spec : OtpView) × IsOtpText j spec)
         → ((j : List ℕ) (spec : OtpView) → IsOtpText j spec → reads j ≡ Ok spec)
-        → WorksBy (record { name = json; form = form } ∷ []) (λ read. ⊤)
-        (of_one (λ j. otp_work out (reads j))) (λ read name fault. ⊥)
-        (λ read o. OfOne (λ j. IsOtpOf out j o) read) }
+        → (out j : List ℕ) → HasForm form j
+        → IsByRules ⊤ (otp_work out (reads j)) (λ name fault. ⊥) (IsOtpOf out j) }
 {}

@@ -1,20 +1,21 @@
 //! Laws of sealings and tables, proved: each is the `ensures` of a function that does nothing.
 
-ghost use Rattle.std.specs.Prelude.{◌≡◌, ◌↔◌, ◌≤◌, ℕ, List, length, Some, None, ⊤, []};
+ghost use Rattle.std.specs.Prelude.{◌≡◌, ◌↔◌, ◌≤◌, ℕ, List, length, Some, None, ⊤};
 ghost use Rattle.part_table.specs.declared.table.Table.{Table};
 ghost use Rattle.part_table.specs.Written.{written_size};
 ghost use Rattle.image_pack.specs.declared.spec.SealError.{SealError};
 ghost use Rattle.image_pack.specs.declared.spec.SealSpec.{SealSpec};
 ghost use Rattle.image_pack.specs.Faults.{IsSealFault, IsSealed};
-ghost use Rattle.cli_course.specs.Outcomes.{AreOfBytes};
+ghost use Rattle.cli_course.specs.Outcomes.{AreBytes};
 ghost use Rattle.cli_tools.specs.Elfs.{elf_work, IsElfOf, IsElfRefused};
 ghost use Rattle.cli_tools.specs.Seals.{seal_error, IsUnsealed};
 ghost use Rattle.cli_tools.specs.Tools.{table_file, seal_work, table_work};
 ghost use Rattle.pico_board.specs.declared.boot.Cpu.{Cpu};
-ghost use Rattle.cli_inputs.specs.Forms.{content_of_files};
+ghost use Rattle.pico_board.specs.Content.{Content};
+ghost use Rattle.cli_inputs.specs.declared.forms.Form.TheVariants.{Json, Spec};
+ghost use Rattle.cli_inputs.specs.Forms.{HasForm};
 ghost use Rattle.cli_inputs.specs.Jsons.{spec_read, table_read};
-ghost use Rattle.cli_inputs.specs.Inputs.{binary_and_spec, elf_and_spec, one_json, image_alone, flash_otp_image, of_one, of_two, of_three};
-ghost use Rattle.cli_inputs.specs.Rules.{OfOne, OfTwo, OfThree, WorksBy};
+ghost use Rattle.cli_inputs.specs.Rules.{IsByRules};
 ghost use Rattle.cli_tools.specs.SealRules.{IsSealedOf, IsTableOf};
 ghost use Rattle.cli_tools.specs.ToolWorks.{uf2_work, plan_work, load_work, gen_work};
 ghost use Rattle.cli_tools.specs.ToolRules.{IsUf2Refused, IsUf2Of, IsPlanRefused, IsPlanOf, IsLoadRefused, IsLoadOf, IsGenOf};
@@ -33,36 +34,25 @@ pub fn sealings_are_judged()
         → (seal_error binary spec ≡ None) ↔ IsSealed binary spec }
 {}
 
-/// On files that have their forms the work of each command is right by its rules. It refuses an
+/// The work of each command is right by its rules: of `seal` and `elf` with a spec that has its
+/// form, of `table` with a text that has its form, and of `elf` on a file of bytes. It refuses an
 /// input exactly where the rules do. Otherwise its outcome is the one that is right.
 pub fn works_are_right()
-    ensures seal { (binary spec out : List ℕ) → WorksBy (binary_and_spec binary spec) (λ read. ⊤)
-        (of_two (λ b s. seal_work binary spec out b (spec_read s)))
-        (λ read name fault. OfTwo (λ b s. IsUnsealed binary spec b s name fault) read)
-        (λ read o. OfTwo (λ b s. IsSealedOf out b s o) read) }
-    ensures elf { (elf spec out : List ℕ) → WorksBy (elf_and_spec elf spec) AreOfBytes
-        (of_two (λ e s. elf_work elf spec out e (spec_read s)))
-        (λ read name fault. OfTwo (λ e s. IsElfRefused elf spec e s name fault) read)
-        (λ read o. OfTwo (λ e s. IsElfOf out e s o) read) }
-    ensures table { (json out : List ℕ) → WorksBy (one_json json) (λ read. ⊤)
-        (of_one (λ j. table_work out (table_read j))) (λ read name fault. ⊥)
-        (λ read o. OfOne (λ j. IsTableOf out j o) read) }
-    ensures uf2 { (image out : List ℕ) (family : ℕ) → WorksBy (image_alone image) (λ read. ⊤)
-        (of_one (uf2_work image family out))
-        (λ read name fault. OfOne (λ i. IsUf2Refused image i name fault) read)
-        (λ read o. OfOne (λ i. IsUf2Of i family out o) read) }
-    ensures plan { (flash otp image out : List ℕ) (cpu : Cpu)
-        → WorksBy (flash_otp_image flash otp image) (λ read. ⊤)
-        (of_three (λ f g i. plan_work (content_of_files f g) cpu image out i))
-        (λ read name fault. OfThree
-        (λ f g i. IsPlanRefused (content_of_files f g) cpu image i name fault) read)
-        (λ read o. OfThree (λ f g i. IsPlanOf (content_of_files f g) cpu i out o) read) }
-    ensures load { (flash otp image out : List ℕ) (cpu : Cpu)
-        → WorksBy (flash_otp_image flash otp image) (λ read. ⊤)
-        (of_three (λ f g i. load_work (content_of_files f g) cpu image out i))
-        (λ read name fault. OfThree
-        (λ f g i. IsLoadRefused (content_of_files f g) cpu image i name fault) read)
-        (λ read o. OfThree (λ f g i. IsLoadOf (content_of_files f g) cpu i out o) read) }
-    ensures made { (n : ℕ) → WorksBy [] (λ read. ⊤) (λ read. gen_work n)
-        (λ read name fault. ⊥) (λ read o. IsGenOf n o) }
+    ensures seal { (binary spec out b s : List ℕ) → HasForm Spec s
+        → IsByRules ⊤ (seal_work binary spec out b (spec_read s))
+        (IsUnsealed binary spec b s) (IsSealedOf out b s) }
+    ensures elf { (elf spec out e s : List ℕ) → HasForm Spec s
+        → IsByRules (AreBytes e) (elf_work elf spec out e (spec_read s))
+        (IsElfRefused elf spec e s) (IsElfOf out e s) }
+    ensures table { (out j : List ℕ) → HasForm Json j
+        → IsByRules ⊤ (table_work out (table_read j)) (λ name fault. ⊥) (IsTableOf out j) }
+    ensures uf2 { (image out i : List ℕ) (family : ℕ)
+        → IsByRules ⊤ (uf2_work image family out i) (IsUf2Refused image i) (IsUf2Of i family out) }
+    ensures plan { (image out i : List ℕ) (c : Content) (cpu : Cpu)
+        → IsByRules ⊤ (plan_work c cpu image out i)
+        (IsPlanRefused c cpu image i) (IsPlanOf c cpu i out) }
+    ensures load { (image out i : List ℕ) (c : Content) (cpu : Cpu)
+        → IsByRules ⊤ (load_work c cpu image out i)
+        (IsLoadRefused c cpu image i) (IsLoadOf c cpu i out) }
+    ensures made { (n : ℕ) → IsByRules ⊤ (gen_work n) (λ name fault. ⊥) (IsGenOf n) }
 {}
