@@ -37,7 +37,7 @@ start {} {} {} rollback={} trial={}|image {} ok {} rollback={}|data {}|end state
 table slot={} {} partitions={}|table bytes=4096 partitions={}
 input {}: {}|image {} fault={}
 #|{} {}{}{}|{} token={}|{}+{}|before|buy|command|command bad-magic|copy blocks={}|cut|device
-enter-xip|erase|exclusive|exit-xip|firm no|firm yes|flags={}|kind={}|normal|otp-read|otp-write
+enter-xip|erase|exclusive|exit-xip|firm|flags={}|kind={}|normal|otp-read|otp-write
 partition={}|power|program|raise|ram={}|read|reboot|row={} count={} ecc={}|script records={}|table
 target={}|uf2 number={} count={} address={} family={}|update={}|write
 uf2 number={} count={}|{}{}|{} because={}|{} name={} id={} families={}|{} trial={}|{}{}{}{}|\\\\x{}|a={}|absolute|alone|arm|both|only
