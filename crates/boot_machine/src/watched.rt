@@ -24,7 +24,7 @@ use trial_buy::{better_sector, buy_at, settle_at, start_sector};
 
 /// A board with what is remembered of its table and of the digests of its windows. Contracts see
 /// the board alone. A step, done or torn, forgets the windows that share a byte with its range, and
-/// the table where it may change a table slot. So what is remembered is true of the board's content.
+/// the table where it may change a table slot. So what is remembered is true of the content.
 #[derive(Drop)]
 pub struct Watched<B: Board> {
     board: B,

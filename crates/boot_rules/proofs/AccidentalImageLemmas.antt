@@ -19,10 +19,10 @@ use Rattle.boot_rules.specs.AccidentalImages.{HasNoImage, IsKnownImage, IsSameIm
 
 -- each image of a window without an accidental image is that of c or that of z; and where each is, and the table is
 -- that of c, the window has no accidental image
-pub lucky-image : (c z d : Content) (w : Window) (cpu : Cpu) → HasNoAccidentalImage c z d w cpu → (s : Started)
+pub free-image : (c z d : Content) (w : Window) (cpu : Cpu) → HasNoAccidentalImage c z d w cpu → (s : Started)
     → Valid d w cpu false s
     → IsSameImageIn c d w cpu s ⊎ IsSameImageIn z d w cpu s
-lucky-image c z d w cpu no_accident s valid = go no_accident.image
+free-image c z d w cpu no_accident s valid = go no_accident.image
   where
     go : HasNoImage d w cpu ⊎ ((s : Started) × IsKnownImage c z d w cpu s)
         → IsSameImageIn c d w cpu s ⊎ IsSameImageIn z d w cpu s
@@ -31,10 +31,10 @@ lucky-image c z d w cpu no_accident s valid = go no_accident.image
         let same = one-image in_flash w cpu false d.otp (window_bytes d w) known.0 s known.1.valid valid in
         subst (λ (t : Started). IsSameImageIn c d w cpu t ⊎ IsSameImageIn z d w cpu t) same known.1.known
 
-pub image-lucky : (c z d : Content) (w : Window) (cpu : Cpu) → table_in d ≡ table_in c
+pub free-by-image : (c z d : Content) (w : Window) (cpu : Cpu) → table_in d ≡ table_in c
     → ((s : Started) → Valid d w cpu false s → IsSameImageIn c d w cpu s ⊎ IsSameImageIn z d w cpu s)
     → HasNoAccidentalImage c z d w cpu
-image-lucky c z d w cpu table each = record { table = table; image = go (images_in d cpu w false) refl }
+free-by-image c z d w cpu table each = record { table = table; image = go (images_in d cpu w false) refl }
   where
     none : images_in d cpu w false ≡ None → (s : Started) → Valid d w cpu false s → ⊥
     none e s valid = let h : Some s ≡ None = sym (valid-found d cpu w false s valid) ∙ e in cc
@@ -45,12 +45,12 @@ image-lucky c z d w cpu table each = record { table = table; image = go (images_
     go (Some s) e =
         let valid = found-valid d cpu w false s e in inr (s, record { valid = valid; known = each s valid })
 
-pub lucky-exactly : (c z d : Content) (w : Window) (cpu : Cpu) → HasNoAccidentalImage c z d w cpu
+pub free-exactly : (c z d : Content) (w : Window) (cpu : Cpu) → HasNoAccidentalImage c z d w cpu
     ↔ ((table_in d ≡ table_in c)
     × ((s : Started) → Valid d w cpu false s → IsSameImageIn c d w cpu s ⊎ IsSameImageIn z d w cpu s))
-lucky-exactly c z d w cpu = (
-  λ no_accident. (no_accident.table, lucky-image c z d w cpu no_accident),
-  λ both. image-lucky c z d w cpu both.0 both.1,
+free-exactly c z d w cpu = (
+  λ no_accident. (no_accident.table, free-image c z d w cpu no_accident),
+  λ both. free-by-image c z d w cpu both.0 both.1,
 )
 
 -- two contents with the same bytes in a window and the same rows have the same image there
@@ -66,24 +66,24 @@ same-there c d w cpu bytes rows s valid =
           (subst (λ v. window_bytes d v ≡ window_bytes c v) (sym here) bytes);
     }
 
-pub former-lucky : (c z d : Content) (w : Window) (cpu : Cpu) → table_in d ≡ table_in c
+pub former-free : (c z d : Content) (w : Window) (cpu : Cpu) → table_in d ≡ table_in c
     → window_bytes d w ≡ window_bytes c w → d.otp ≡ c.otp → HasNoAccidentalImage c z d w cpu
-former-lucky c z d w cpu table bytes rows =
-    image-lucky c z d w cpu table (λ s valid. inl (same-there c d w cpu bytes rows s valid))
+former-free c z d w cpu table bytes rows =
+    free-by-image c z d w cpu table (λ s valid. inl (same-there c d w cpu bytes rows s valid))
 
-pub finished-lucky : (c z d : Content) (w : Window) (cpu : Cpu) → table_in d ≡ table_in c
+pub finished-free : (c z d : Content) (w : Window) (cpu : Cpu) → table_in d ≡ table_in c
     → window_bytes d w ≡ window_bytes z w → d.otp ≡ z.otp → HasNoAccidentalImage c z d w cpu
-finished-lucky c z d w cpu table bytes rows =
-    image-lucky c z d w cpu table (λ s valid. inr (same-there z d w cpu bytes rows s valid))
+finished-free c z d w cpu table bytes rows =
+    free-by-image c z d w cpu table (λ s valid. inr (same-there z d w cpu bytes rows s valid))
 
 -- a window without an image
-pub empty-lucky : (c z d : Content) (w : Window) (cpu : Cpu) → table_in d ≡ table_in c → HasNoImage d w cpu
+pub empty-free : (c z d : Content) (w : Window) (cpu : Cpu) → table_in d ≡ table_in c → HasNoImage d w cpu
     → HasNoAccidentalImage c z d w cpu
-empty-lucky c z d w cpu table none = record { table = table; image = inl none }
+empty-free c z d w cpu table none = record { table = table; image = inl none }
 
-pub erased-lucky : (c z d : Content) (w : Window) (cpu : Cpu) → table_in d ≡ table_in c
+pub erased-free : (c z d : Content) (w : Window) (cpu : Cpu) → table_in d ≡ table_in c
     → IsErasedFrom (window_bytes d w) 0 4096 → HasNoAccidentalImage c z d w cpu
-erased-lucky c z d w cpu table erased = empty-lucky c z d w cpu table (λ s valid.
+erased-free c z d w cpu table erased = empty-free c z d w cpu table (λ s valid.
     differ s (at-valid d w cpu false s valid)
     (erased-none in_flash w cpu false d.otp (window_bytes d w) erased))
   where

@@ -95,8 +95,8 @@ never-known s known =
     go is (inl former) = none-some _ s image-before (valid-found small_before Arm small_slot false s former.valid)
     go is (inr after) = other-byte (subst (λ (t : Started). SameImage cut_short finished t Arm) is after.same)
 
-pub never-lucky : HasNoAccidentalImage small_before finished cut_short small_slot Arm → ⊥
-never-lucky accident_free = elim accident_free.image [
+pub never-free : HasNoAccidentalImage small_before finished cut_short small_slot Arm → ⊥
+never-free accident_free = elim accident_free.image [
   | inl none ↦ none small_finished.image (found-valid cut_short Arm small_slot false small_finished.image image-short)
   | inr some ↦ never-known some.0 some.1
 ]

@@ -16,8 +16,8 @@ use Rattle.boot_sweep.specs.Firms.{Firm, HasOwnDigests, Stray}
 use Rattle.boot_sweep.specs.Refusals.{sweep_refusal}
 use Rattle.boot_session.specs.Slots.{IsSlot}
 use Rattle.boot_sweep.specs.Sweeps.{Line, content_after_cut, content_at_line, sweep_lines}
-use Rattle.boot_sweep.proofs.ChanceLemmas.{line-cut, line-luck, slot-inside}
-use Rattle.boot_sweep.proofs.FirmLaws.{firm-lucky}
+use Rattle.boot_sweep.proofs.ChanceLemmas.{line-cut, line-accident, slot-inside}
+use Rattle.boot_sweep.proofs.FirmLaws.{firm-free}
 use Rattle.boot_sweep.proofs.LineLemmas.{line-of-sweep}
 use Rattle.boot_sweep.proofs.RefusalLemmas.{sweepable}
 use Rattle.boot_sweep.proofs.StrayLemmas.{none-stray}
@@ -47,7 +47,7 @@ pub no-chance-before : (c : Content) (cpu : Cpu) (pattern : List ℕ) (steps : L
     → Contains (sweep_lines c cpu pattern steps) line → line.within ≡ false → line.result ≢ Chance
 no-chance-before c cpu pattern steps line w s found right small table none slot firm own has before chance =
     let of = line-of-sweep c cpu pattern steps line has in
-    let no_accident = line-luck c cpu pattern steps line w right small none slot of.0 of.1 chance in
+    let no_accident = line-accident c cpu pattern steps line w right small none slot of.0 of.1 chance in
     let gated = (sweepable c cpu steps w right none slot).gated in
     let inside = slot-inside c cpu steps w right slot in
     let d = content_at_line c pattern steps line in
@@ -58,5 +58,5 @@ no-chance-before c cpu pattern steps line w s found right small table none slot 
     λ stray. none-stray c w steps (take line.number steps) parts.0 line.step right inside gated parts.1 unfinished
     (subst (λ x. Stray (after_all c steps) x w) is stray) in
     let some = some-before c steps w line.number unfinished in
-    no_accident.1 (firm-lucky c w cpu steps s line.number line.step d found right table slot.boot_member gated firm
+    no_accident.1 (firm-free c w cpu steps s line.number line.step d found right table slot.boot_member gated firm
     (line-cut c pattern steps w line right small gated inside of.0) some clean own no_accident.0)

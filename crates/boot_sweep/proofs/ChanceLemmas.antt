@@ -32,8 +32,8 @@ module _ (c : Content) (cpu : Cpu) (steps : List Step) (w : Window) (right : IsC
     (is : IsSweepable c cpu steps w) (d : Content) (cut : CutOf c steps d)
     (chance : IsCutResult c (after_all c steps) d cpu Chance) where
   -- it is not so that the content, wherever it is unfinished, has the former table and no accidental image in the slot
-  not-lucky : (Unfinished c steps w d → HasNoAccidentalImage c (after_all c steps) d w cpu) → ⊥
-  not-lucky no_accident =
+  not-free : (Unfinished c steps w d → HasNoAccidentalImage c (after_all c steps) d w cpu) → ⊥
+  not-free no_accident =
       elim (gated-decision c w cpu steps d (decision_in c cpu Normal) (record {
         right = right;
         boot_member = is.slot.boot_member;
@@ -48,21 +48,21 @@ module _ (c : Content) (cpu : Cpu) (steps : List Step) (w : Window) (right : IsC
         | inr finished ↦ chance.1 finished
       ]
 
-  no-luck : HasNoAccidentalImage c (after_all c steps) d w cpu → ⊥
-  no-luck accident_free = not-lucky (λ u. accident_free)
+  has-accident : HasNoAccidentalImage c (after_all c steps) d w cpu → ⊥
+  has-accident accident_free = not-free (λ u. accident_free)
 
   unfinished : Unfinished c steps w d
   unfinished = record {
-    moved = λ same. not-lucky (λ u. absurd (u.moved same));
-    short = λ same. not-lucky (λ u. absurd (u.short same));
+    moved = λ same. not-free (λ u. absurd (u.moved same));
+    short = λ same. not-free (λ u. absurd (u.short same));
     touched = elim (decide-blank d.flash w.start 4096) [
-      | inl blank ↦ absurd (not-lucky (λ u. absurd (u.touched.2 (blank u.touched.0 u.touched.1))))
+      | inl blank ↦ absurd (not-free (λ u. absurd (u.touched.2 (blank u.touched.0 u.touched.1))))
       | inr some ↦ some
     ];
   }
 
-  pub bad-luck : Unfinished c steps w d × (HasNoAccidentalImage c (after_all c steps) d w cpu → ⊥)
-  bad-luck = (unfinished, no-luck)
+  pub left-accident : Unfinished c steps w d × (HasNoAccidentalImage c (after_all c steps) d w cpu → ⊥)
+  left-accident = (unfinished, has-accident)
 
 all-take : (P : Step → Type 0) (n : ℕ) (xs : List Step) → AllByRecursion P xs → AllByRecursion P (take n xs)
 all-take P zero xs all = tt
@@ -102,15 +102,15 @@ pub slot-inside : (c : Content) (cpu : Cpu) (steps : List Step) (w : Window) →
 slot-inside c cpu steps w right slot =
     let is = placed c w cpu right slot.boot_member in let inside = is.inside in omega (arith, inside)
 
-pub line-luck : (c : Content) (cpu : Cpu) (pattern : List ℕ) (steps : List Step) (line : Line) (w : Window)
+pub line-accident : (c : Content) (cpu : Cpu) (pattern : List ℕ) (steps : List Step) (line : Line) (w : Window)
     → IsContent c → All (λ b. b < 256) pattern → sweep_refusal c cpu steps ≡ None → IsSlot c cpu steps w
     → slice_get steps line.number ≡ Some line.step
     → line.result ≡ result_of c (after_all c steps) (content_at_line c pattern steps line) cpu → line.result ≡ Chance
     → Unfinished c steps w (content_at_line c pattern steps line)
     × (HasNoAccidentalImage c (after_all c steps) (content_at_line c pattern steps line) w cpu → ⊥)
-line-luck c cpu pattern steps line w right small none slot stands is chance =
+line-accident c cpu pattern steps line w right small none slot stands is chance =
     let able = sweepable c cpu steps w right none slot in
     let d = content_at_line c pattern steps line in
     let at = line-cut c pattern steps w line right small able.gated (slot-inside c cpu steps w right slot) stands in
-    bad-luck c cpu steps w right able d (CutOf-from c steps d (line.number, line.step, at))
+    left-accident c cpu steps w right able d (CutOf-from c steps d (line.number, line.step, at))
     ((judged-exactly c (after_all c steps) d cpu Chance).1 (sym chance ∙ is))

@@ -20,7 +20,7 @@ use Rattle.boot_sweep.specs.Comparing.{result_of}
 use Rattle.boot_sweep.specs.Refusals.{sweep_refusal}
 use Rattle.boot_session.specs.Slots.{IsSlot, outside_from, session_slot}
 use Rattle.boot_sweep.specs.Sweeps.{Line, content_after_cut, content_at_line, is_chance, is_chance_result, swept_line, lines_from, sweep_lines}
-use Rattle.boot_sweep.proofs.ChanceLemmas.{line-cut, line-luck, slot-inside}
+use Rattle.boot_sweep.proofs.ChanceLemmas.{line-cut, line-accident, slot-inside}
 use Rattle.boot_sweep.proofs.LineLemmas.{IsLineOf, all-by, all-lines}
 use Rattle.boot_sweep.proofs.RefusalLemmas.{no-reason, sweepable}
 use Rattle.boot_session.proofs.SlotLemmas.{slot-found}
@@ -204,7 +204,7 @@ module _ (c : Content) (cpu : Cpu) (pattern : List ℕ) (steps : List Step) (w :
 
       unfinished : Unfinished c steps w (content_at_line c pattern steps line)
       unfinished =
-          (line-luck c cpu pattern steps line w right small none slot stands
+          (line-accident c cpu pattern steps line w right small none slot stands
           (is.result ∙ ap (λ p. judge (content_after_cut
           (after_all c (take p steps)) pattern line.step line.within)) same)
           (chance-is line.result chance)).0

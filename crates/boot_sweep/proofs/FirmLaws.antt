@@ -413,12 +413,12 @@ firm-none c w cpu steps s k step d inside (inr (sector, elsewhere, last, g)) fir
         let f = g.first in
         omega (arith, f, high)
 
-pub firm-lucky : (c : Content) (w : Window) (cpu : Cpu) (steps : List Step) (s : Started) (k : ℕ) (step : Step)
+pub firm-free : (c : Content) (w : Window) (cpu : Cpu) (steps : List Step) (s : Started) (k : ℕ) (step : Step)
     (d : Content) (found : Found) → IsContent c → table_in c ≡ Some found → IsBootMember c w cpu → Gated steps w
     → Firm (after_all c steps) w cpu s → IsCutAt c steps k step d → 1 ≤ k
     → (Stray (after_all c steps) d w → ⊥) → HasOwnDigests (after_all c steps) d w cpu s → Unfinished c steps w d
     → HasNoAccidentalImage c (after_all c steps) d w cpu
-firm-lucky c w cpu steps s k step d found right table boot_member gated firm at some clean own unfinished =
+firm-free c w cpu steps s k step d found right table boot_member gated firm at some clean own unfinished =
     let inside = (placed c w cpu right boot_member).inside in
     let cut = CutOf-from c steps d (k, step, at) in record {
       table = confined-table c w cpu steps d found right boot_member (gated-confined w steps gated) (inr cut) table

@@ -11,7 +11,7 @@ use Rattle.boot_sweep.specs.Comparing.{result_of}
 use Rattle.boot_sweep.specs.Refusals.{sweep_refusal}
 use Rattle.boot_sweep.specs.Sweeps.{content_after_cut, swept_line, lines_from, sweep_lines, sweep_text}
 use Rattle.boot_sweep.specs.Swept.{HasLineAt, IsLineOf, IsSweep}
-use Rattle.boot_sweep.proofs.ChanceLemmas.{line-luck}
+use Rattle.boot_sweep.proofs.ChanceLemmas.{line-accident}
 use Rattle.boot_sweep.proofs.CountLemmas.{few-chances}
 use Rattle.boot_sweep.proofs.LineLemmas.{line-of-sweep, two-each}
 use Rattle.boot_sweep.proofs.ResultLemmas.{judged-exactly}
@@ -91,6 +91,6 @@ module _ (c : Content) (cpu : Cpu) (pattern : List ℕ) (steps : List Step) wher
     whole = (judged-exactly c (after_all c steps) (after_all c steps) cpu (judge (after_all c steps))).1 refl;
     no_accident = λ line w has chance slot.
         let is = line-of-sweep c cpu pattern steps line has in
-        line-luck c cpu pattern steps line w right small none slot is.0 is.1 chance;
+        line-accident c cpu pattern steps line w right small none slot is.0 is.1 chance;
     few = few-chances c cpu pattern steps right small none;
   }

@@ -219,7 +219,7 @@ module _ (c : Content) (cpu : Cpu) (choice : Choice) (right : IsContent c) (plac
         by_erase : EraseLeft c cpu choice right placed others updated before confined d
             → (taken d cpu u ≡ taken c cpu u) ⊎ TakesSettled d
         by_erase (kept k same) = absurd (subst (λ steps. CutOf x0 steps d) k.none cut)
-        by_erase (erased e same way) = by_luck (no_accident e.window (inr e.other) inside).image
+        by_erase (erased e same way) = by_images (no_accident e.window (inr e.other) inside).image
           where
             inside : IsConfined e.window step
             inside = all-there (IsConfined e.window) (other_erase c cpu choice) j step
@@ -251,12 +251,12 @@ module _ (c : Content) (cpu : Cpu) (choice : Choice) (right : IsContent c) (plac
                 some-none (images_in z cpu e.window false) s (valid-found z cpu e.window false s later.valid)
                 (erased-none-there z all-done e)
 
-            by_luck : HasNoImage d e.window cpu ⊎ ((s : Started) × IsKnownImage c z d e.window cpu s)
+            by_images : HasNoImage d e.window cpu ⊎ ((s : Started) × IsKnownImage c z d e.window cpu s)
                 → (taken d cpu u ≡ taken c cpu u) ⊎ TakesSettled d
-            by_luck (inl none) =
+            by_images (inl none) =
                 inr (settles d bytes valid
                 (no_image (other-there d e.window e.other ∙ none-found d cpu e.window none)))
-            by_luck (inr known) = by_known known.0 known.1.valid known.1.known
+            by_images (inr known) = by_known known.0 known.1.valid known.1.known
 
     -- power is lost in any step, where it is known what a cut before the erase leaves
     pub cut-taken : ((k : ℕ) (step : Step) (d : Content) → IsCutAt c before k step d
@@ -279,7 +279,7 @@ module _ (c : Content) (cpu : Cpu) (choice : Choice) (right : IsContent c) (plac
     -- power is lost in the rewrite of the sector of the trial bit of an image that a normal boot does not take
     pub cut-first : mine c ≡ None → (k : ℕ) (step : Step) (d : Content) → IsCutAt c before k step d
         → LeavesNoAccidentalImage c z d cpu choice step → (taken d cpu u ≡ taken c cpu u) ⊎ TakesSettled d
-    cut-first unheld k step d at no_accident = by_luck (no_accident W (inl refl) inside).image
+    cut-first unheld k step d at no_accident = by_images (no_accident W (inl refl) inside).image
       where
         inside : IsConfined W step
         inside = all-there (IsConfined W) before k step confined at.stands
@@ -327,9 +327,9 @@ module _ (c : Content) (cpu : Cpu) (choice : Choice) (right : IsContent c) (plac
                   (beaten B here e.better))
             ]
 
-        by_luck : HasNoImage d W cpu ⊎ ((s : Started) × IsKnownImage c z d W cpu s)
+        by_images : HasNoImage d W cpu ⊎ ((s : Started) × IsKnownImage c z d W cpu s)
             → (taken d cpu u ≡ taken c cpu u) ⊎ TakesSettled d
-        by_luck (inl none) =
+        by_images (inl none) =
             inl (taken-by d None (theirs c) (none-found d cpu W none) second
             ∙ sym (taken-by c None (theirs c) unheld refl))
-        by_luck (inr known) = by_known known.0 known.1.valid known.1.known
+        by_images (inr known) = by_known known.0 known.1.valid known.1.known

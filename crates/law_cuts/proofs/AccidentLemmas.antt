@@ -74,8 +74,8 @@ module _ (c : Content) (cpu : Cpu) (events : List EventView) (w : Window) (is : 
       ∙ ap (after_all c) (sym (ap (λ ts. trace_steps ts) (trace-is c cpu events one) ∙ steps-of c (session c cpu events)))
 
   -- it is not so that d, wherever it is unfinished, has the former table and no accidental image in the slot
-  not-lucky : (Unfinished c steps w d → HasNoAccidentalImage c (after_all c steps) d w cpu) → ⊥
-  not-lucky no_accident =
+  not-free : (Unfinished c steps w d → HasNoAccidentalImage c (after_all c steps) d w cpu) → ⊥
+  not-free no_accident =
       elim (gated-decision c w cpu steps d (decision_in c cpu Normal) (record {
         right = is.right;
         boot_member = is.keeps.slot.boot_member;
@@ -98,14 +98,14 @@ module _ (c : Content) (cpu : Cpu) (events : List EventView) (w : Window) (is : 
   pub accident-is : IsAccident c cpu events w d
   accident-is = record {
     unfinished = record {
-      moved = λ same. not-lucky (λ u. absurd (u.moved same));
-      short = λ same. not-lucky (λ u. absurd (u.short same));
+      moved = λ same. not-free (λ u. absurd (u.moved same));
+      short = λ same. not-free (λ u. absurd (u.short same));
       touched = elim (decide-blank d.flash w.start 4096) [
-        | inl blank ↦ absurd (not-lucky (λ u. absurd (u.touched.2 (blank u.touched.0 u.touched.1))))
+        | inl blank ↦ absurd (not-free (λ u. absurd (u.touched.2 (blank u.touched.0 u.touched.1))))
         | inr some ↦ some
       ];
     };
-    accident = λ free. not-lucky (λ u. subst (λ x. HasNoAccidentalImage c x d w cpu) leads free);
+    accident = λ free. not-free (λ u. subst (λ x. HasNoAccidentalImage c x d w cpu) leads free);
   }
 
 pub cut-of-script : (c : Content) (cpu : Cpu) (events : List EventView) (pattern : List ℕ) (w : Window) (n : ℕ)

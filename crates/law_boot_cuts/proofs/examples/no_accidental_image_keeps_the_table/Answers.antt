@@ -13,7 +13,7 @@ use Rattle.slot_choice.specs.Examples.{window_at}
 use Rattle.worked_flashes.specs.Flashes.{empty_table}
 use Rattle.boot_rules.specs.Examples.{found_in_slot}
 use Rattle.worked_flashes.specs.Flashes.{bare_sector, one_sector, table_and_bare}
-use Rattle.boot_rules.proofs.AccidentalImageLemmas.{former-lucky}
+use Rattle.boot_rules.proofs.AccidentalImageLemmas.{former-free}
 use Rattle.law_boot_cuts.proofs.examples.no_accidental_image_keeps_the_table.Goals as goal
 
 table-there : table_in table_and_bare ≡ Some (found_in_slot 0 (empty_table false 0 0))
@@ -36,4 +36,4 @@ pub returns-clause-came : goal.returns-clause-came
 returns-clause-came c = λ z w no_accident. differ no_accident.table
 
 pub returns-clause-kept : goal.returns-clause-kept
-returns-clause-kept c = λ z. former-lucky table_and_bare z table_and_bare (window_at 0x1000 0x1000) Arm refl refl refl
+returns-clause-kept c = λ z. former-free table_and_bare z table_and_bare (window_at 0x1000 0x1000) Arm refl refl refl

@@ -25,7 +25,7 @@ use Rattle.boot_rules.specs.Choosing.{images_in}
 use Rattle.boot_rules.proofs.DecisionLemmas.{valid-found}
 use Rattle.worked_flashes.specs.Flashes.{bare_sector, one_sector, plain_sector}
 use Rattle.law_boot_cuts.specs.Examples.{mapped_sector, rows_image, sector_image, three_images, trial_sector}
-use Rattle.boot_rules.proofs.AccidentalImageLemmas.{empty-lucky, finished-lucky, former-lucky, lucky-image}
+use Rattle.boot_rules.proofs.AccidentalImageLemmas.{empty-free, finished-free, former-free, free-image}
 use Rattle.law_boot_cuts.proofs.examples.the_former_and_the_finished_image_are_no_accident.Goals as goal
 
 abbrev second : Window
@@ -58,22 +58,22 @@ valid-mapped = valid-at (one_sector (mapped_sector 0)) second Arm false sector_i
 pub returns-clause-bare : goal.returns-clause-bare
 unfolding table_in image_in def_of loop_of follow block_from block_at front_block item_words frame size_of word_of
     word_bytes
-returns-clause-bare c = empty-lucky (one_sector (plain_sector 0)) (one_sector (plain_sector 1))
+returns-clause-bare c = empty-free (one_sector (plain_sector 0)) (one_sector (plain_sector 1))
     (one_sector bare_sector) second Arm refl no-image
 
 pub returns-clause-former : goal.returns-clause-former
-returns-clause-former c = former-lucky (one_sector (plain_sector 0)) (one_sector bare_sector)
+returns-clause-former c = former-free (one_sector (plain_sector 0)) (one_sector bare_sector)
     (one_sector (plain_sector 0)) second Arm refl refl refl
 
 pub returns-clause-finished : goal.returns-clause-finished
 unfolding table_in image_in def_of loop_of follow block_from block_at front_block item_words frame size_of word_of
     word_bytes
-returns-clause-finished c = finished-lucky (one_sector bare_sector) (one_sector (plain_sector 0))
+returns-clause-finished c = finished-free (one_sector bare_sector) (one_sector (plain_sector 0))
     (one_sector (plain_sector 0)) second Arm refl refl refl
 
 pub returns-clause-new : goal.returns-clause-new
 returns-clause-new c = λ no_accident.
-    elim (lucky-image (one_sector bare_sector) (one_sector bare_sector)
+    elim (free-image (one_sector bare_sector) (one_sector bare_sector)
     (one_sector (plain_sector 0)) second Arm no_accident
     sector_image valid-plain) [
       | inl known ↦ no-image sector_image known.valid
@@ -93,7 +93,7 @@ last-byte same =
 
 pub returns-clause-other_byte : goal.returns-clause-other_byte
 returns-clause-other_byte c = λ no_accident.
-    elim (lucky-image (one_sector (plain_sector 0)) (one_sector (plain_sector 0)) (one_sector (plain_sector 1)) second
+    elim (free-image (one_sector (plain_sector 0)) (one_sector (plain_sector 0)) (one_sector (plain_sector 1)) second
     Arm no_accident sector_image valid-other) [ inl known ↦ last-byte known.same | inr known ↦ last-byte known.same ]
 
 valid-moved : Valid (one_sector (mapped_sector 1)) second Arm false sector_image
@@ -140,7 +140,7 @@ block-word same =
 
 pub returns-clause-other_block : goal.returns-clause-other_block
 returns-clause-other_block c = λ no_accident.
-    elim (lucky-image (one_sector (plain_sector 0)) (one_sector bare_sector) (one_sector (mapped_sector 0)) second Arm
+    elim (free-image (one_sector (plain_sector 0)) (one_sector bare_sector) (one_sector (mapped_sector 0)) second Arm
     no_accident sector_image valid-mapped) [
       | inl known ↦ block-word known.same
       | inr known ↦ no-image sector_image known.valid
@@ -158,12 +158,12 @@ no-trial s valid =
 pub returns-clause-trial : goal.returns-clause-trial
 unfolding table_in image_in def_of loop_of follow block_from block_at front_block item_words frame size_of
     word_of word_bytes
-returns-clause-trial c = empty-lucky (one_sector bare_sector) (one_sector bare_sector) (one_sector trial_sector) second
+returns-clause-trial c = empty-free (one_sector bare_sector) (one_sector bare_sector) (one_sector trial_sector) second
     Arm refl no-trial
 
 pub returns-clause-was_trial : goal.returns-clause-was_trial
 returns-clause-was_trial c = λ no_accident.
-    elim (lucky-image (one_sector trial_sector) (one_sector bare_sector)
+    elim (free-image (one_sector trial_sector) (one_sector bare_sector)
     (one_sector (plain_sector 0)) second Arm no_accident
     sector_image valid-plain) [
       | inl known ↦ no-trial sector_image known.valid
@@ -191,7 +191,7 @@ not-below s valid =
 
 pub returns-clause-was_below : goal.returns-clause-was_below
 returns-clause-was_below c = λ no_accident.
-    elim (lucky-image (three_images 0x0c0 3 3 3) (three_images 0x0c0 3 3 3) (three_images 0x0c0 0 0 0)
+    elim (free-image (three_images 0x0c0 3 3 3) (three_images 0x0c0 3 3 3) (three_images 0x0c0 0 0 0)
     (window_at 0x2000 0x1000) Arm no_accident
     (rows_image (window_at 0x2000 0x1000) 0 0x0c0) valid-first) [
       | inl known ↦ not-below (rows_image (window_at 0x2000 0x1000) 0 0x0c0) known.valid

@@ -15,7 +15,7 @@ use Rattle.worked_flashes.specs.Choices.{small_finished, small_slot}
 use Rattle.worked_flashes.specs.Writes.{longer_steps}
 use Rattle.boot_session.specs.CutSessions.{StartsFinished}
 use Rattle.boot_session.proofs.ExampleLemmas.{small_before, chosen-by, decided}
-use Rattle.boot_session.proofs.CutWithinLemmas.{cut_short, finished, done, starts-short, starts-finished, other-byte, unfinished, never-lucky}
+use Rattle.boot_session.proofs.CutWithinLemmas.{cut_short, finished, done, starts-short, starts-finished, other-byte, unfinished, never-free}
 use Rattle.boot_session.proofs.examples.session.a_cut_within_the_image.Goals as goal
 
 pub returns-clause-unfinished : goal.returns-clause-unfinished
@@ -53,4 +53,4 @@ returns-clause-not_finished c = λ starts.
 
 pub returns-clause-accident : goal.returns-clause-accident
 returns-clause-accident c = λ accident_free.
-    never-lucky (subst (λ (z : Content). HasNoAccidentalImage small_before z cut_short small_slot Arm) done accident_free)
+    never-free (subst (λ (z : Content). HasNoAccidentalImage small_before z cut_short small_slot Arm) done accident_free)

@@ -1,4 +1,4 @@
-use Rattle.boot_sweep.proofs.ChanceLemmas.{line-luck}
+use Rattle.boot_sweep.proofs.ChanceLemmas.{line-accident}
 use Rattle.boot_sweep.proofs.CountLemmas.{chances, few-chances}
 use Rattle.boot_sweep.proofs.LineLemmas.{line-of-sweep}
 use Rattle.boot_sweep.proofs.laws.sweep.chance_is_an_accidental_image.Goals as goal
@@ -6,7 +6,7 @@ use Rattle.boot_sweep.proofs.laws.sweep.chance_is_an_accidental_image.Goals as g
 pub returns-clause-no_accident : goal.returns-clause-no_accident
 returns-clause-no_accident c = λ content cpu pattern steps line w right usable small none slot has chance.
     let is = line-of-sweep content cpu pattern steps line has in
-    line-luck content cpu pattern steps line w right small none slot is.0 is.1 chance
+    line-accident content cpu pattern steps line w right small none slot is.0 is.1 chance
 
 pub returns-clause-few : goal.returns-clause-few
 returns-clause-few c = λ content cpu pattern steps right usable small none.

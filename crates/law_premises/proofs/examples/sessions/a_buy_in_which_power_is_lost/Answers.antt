@@ -22,7 +22,7 @@ use Rattle.boot_rules.specs.AccidentalImages.{HasNoAccidentalImage}
 use Rattle.boot_rules.specs.Choosing.{decision_in}
 use Rattle.boot_rules.specs.Starts.{IsOfUnit}
 use Rattle.boot_rules.specs.Tables.{table_in}
-use Rattle.boot_rules.proofs.AccidentalImageLemmas.{empty-lucky}
+use Rattle.boot_rules.proofs.AccidentalImageLemmas.{empty-free}
 use Rattle.boot_script.specs.Events.{EventView}
 use Rattle.boot_machine.specs.Machines.{MachineView}
 use Rattle.boot_machine.specs.Moves.{Moves, Plays, lost_text}
@@ -93,7 +93,7 @@ unfolding image_in def_of loop_of follow block_from block_at front_block item_wo
 none = refl
 
 lone : (z : Content) → HasNoAccidentalImage trial_flash z lost_machine.content running_trial.image.window Arm
-lone z = empty-lucky trial_flash z lost_machine.content running_trial.image.window Arm (no-table-left ∙ sym no-table)
+lone z = empty-free trial_flash z lost_machine.content running_trial.image.window Arm (no-table-left ∙ sym no-table)
     (λ s valid.
     let e : Err NoBlock ≡ Ok s = sym none ∙ at-valid lost_machine.content running_trial.image.window Arm false s valid
     in cc)
