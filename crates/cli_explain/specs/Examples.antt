@@ -2,8 +2,10 @@
 use Rattle.std.specs.Prelude.{ℕ, ◌+◌, ◌*◌, ◌^◌, false, true, List, [], ◌∷◌, Some, None, Ok, Err}
 use Rattle.pico_board.specs.declared.boot.BootKind.TheVariants.{Normal}
 use Rattle.pico_board.specs.declared.window.Window.{Window}
+use Rattle.pico_board.specs.Examples.{window_at}
 use Rattle.block_loop.specs.declared.fault.LoopFault.TheVariants.{NoBlock}
 use Rattle.image_check.specs.declared.why.Why.TheVariants.{Digest, NoDefinition}
+use Rattle.part_table.specs.Examples.{plain_partition}
 use Rattle.part_table.specs.declared.partition.Partition.{Partition}
 use Rattle.slot_choice.specs.declared.unit.Member.TheVariants.{A, B}
 use Rattle.boot_reasons.specs.declared.looks.UnitReport.{UnitReport}
@@ -17,27 +19,18 @@ use Rattle.text_lines.specs.Examples.{example_choice, example_image}
 -- a partition of sectors 2 to 3 with these flags and extra families; its three pairs of
 -- permissions are read and write, read, and write
 abbrev pub example_part : ℕ → List ℕ → Partition
-example_part flags families = record {
-  location = 2 + 2 ^ 13 * 3 + 2 ^ 26 * 39;
-  flags = flags;
-  id = None;
-  families = record { items = families };
-  name = None;
-}
+example_part flags families =
+    record (plain_partition (2 + 2 ^ 13 * 3 + 2 ^ 26 * 39) flags) {
+      families = record { items = families };
+    }
 
 -- a partition of sectors 4 to 5 with the link "A is 0" and every permission
 abbrev pub linked_part : Partition
-linked_part = record {
-  location = 4 + 2 ^ 13 * 5 + 2 ^ 26 * 63;
-  flags = 2;
-  id = None;
-  families = record { items = [] };
-  name = None;
-}
+linked_part = plain_partition (4 + 2 ^ 13 * 5 + 2 ^ 26 * 63) 2
 
 -- a window of two sectors
 abbrev pub two_sectors_at : ℕ → Window
-two_sectors_at start = record { start = start; len = 0x2000 }
+two_sectors_at start = window_at start 0x2000
 
 -- partition 0 stands alone, and has no image
 abbrev pub alone_look : UnitReport

@@ -5,8 +5,6 @@ use Rattle.block_loop.specs.declared.fault.LoopFault.TheVariants.{NoBlock, Broke
 use Rattle.image_def.specs.declared.started.Started.{Started}
 use Rattle.image_check.specs.declared.why.Why.{Why}
 use Rattle.part_table.specs.declared.table.Table.{Table}
-use Rattle.part_table.specs.declared.table.TableFault.{TableFault}
-use Rattle.part_table.specs.declared.table.TableFault.TheVariants.{BadItem, Permissions, Range, Overlap as Shared, Link, Hash}
 use Rattle.slot_choice.specs.declared.unit.SlotUnit.{SlotUnit}
 use Rattle.boot_rules.specs.declared.slots.SlotFault.{SlotFault}
 use Rattle.boot_rules.specs.declared.slots.SlotFault.TheVariants.{Loop, NoTable, Table as Faulty}
@@ -23,6 +21,7 @@ use Rattle.text_words.specs.Writing.{hex_word, yes_or_no}
 use Rattle.text_lines.specs.Faults.{loop_text}
 use Rattle.text_lines.specs.Texts.{decision_line, invalid_text, valid_text, version_text, window_text}
 use Rattle.cli_course.specs.Outcomes.{line}
+use Rattle.cli_inputs.specs.JsonTexts.{table_fault_text}
 use Rattle.cli_explain.specs.Partitions.{partition_lines}
 
 -- what the OTP says of a boot: whether rollback versions are required; whether flash boot is off;
@@ -32,15 +31,6 @@ otp_text required off size =
     codes "otp rollback-required="
     ++ (yes_or_no required ++ (codes " flash-off=" ++ (yes_or_no off
     ++ (codes " slot-size=" ++ hex_word size))))
-
--- the fault of a table
-abbrev pub table_fault_text : TableFault → List ℕ
-table_fault_text BadItem = codes "bad-item"
-table_fault_text (Permissions i) = codes "permissions " ++ decimal i
-table_fault_text (Range i) = codes "range " ++ decimal i
-table_fault_text (Shared i j) = codes "overlap " ++ (decimal i ++ (codes " " ++ decimal j))
-table_fault_text (Link i) = codes "link " ++ decimal i
-table_fault_text Hash = codes "hash"
 
 -- why a slot has no table
 abbrev pub slot_fault_text : SlotFault → List ℕ

@@ -6,15 +6,16 @@ ghost use Rattle.part_table.specs.Fields.{first_sector, last_sector};
 ghost use Rattle.part_table.specs.Sound.{IsSoundTable};
 ghost use Rattle.boot_reasons.specs.Reasons.{table_of_reasons};
 ghost use Rattle.cli_course.specs.Outcomes.{line};
-ghost use Rattle.cli_explain.specs.Texts.{explain_text, look_lines, looks_lines, member_text, otp_text, pair_text, second_line, slot_fault_text, slot_table_text, slot_text, table_fault_text, table_lines, table_reason_text, tables_lines, taken_text, takes_text, told_text, unit_kind_text, unit_reason_text, unit_text, units_lines, unreached_lines, unreached_text};
+ghost use Rattle.cli_explain.specs.Texts.{explain_text, look_lines, looks_lines, member_text, otp_text, pair_text, second_line, slot_fault_text, slot_table_text, slot_text, table_lines, table_reason_text, tables_lines, taken_text, takes_text, told_text, unit_kind_text, unit_reason_text, unit_text, units_lines, unreached_lines, unreached_text};
 
 use crate::partitions::partition_lines;
 use block_loop::LoopFault;
 use boot_reasons::{
     Reasons, SlotFault, TableInForce, TableReason, TakenImage, UnitReason, UnitReport, taken_table,
 };
+use cli_inputs::table_fault_text;
 use image_check::{Started, Why};
-use part_table::{Table, TableFault};
+use part_table::Table;
 use pico_board::Window;
 use slot_choice::SlotUnit;
 use std::alloc::{AllocError, Global};
@@ -37,20 +38,6 @@ pub fn otp_text(alloc: Global, required: bool, off: bool, size: u32) -> Result<S
     let off = yes_or_no(off);
     let size = hex_text(alloc, u64::from(size))?;
     format!(in alloc; "otp rollback-required={required} flash-off={off} slot-size={size}")
-}
-
-/// The fault of a table.
-fn table_fault_text(alloc: Global, fault: TableFault) -> Result<String, AllocError>
-    ensures { IfOk result (λ t. string_bytes t ≡ table_fault_text fault) }
-{
-    match fault {
-        TableFault::BadItem => format!(in alloc; "bad-item"),
-        TableFault::Permissions(i) => format!(in alloc; "permissions {i}"),
-        TableFault::Range(i) => format!(in alloc; "range {i}"),
-        TableFault::Overlap(i, j) => format!(in alloc; "overlap {i} {j}"),
-        TableFault::Link(i) => format!(in alloc; "link {i}"),
-        TableFault::Hash => format!(in alloc; "hash"),
-    }
 }
 
 /// Why a slot has no table.

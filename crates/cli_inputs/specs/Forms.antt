@@ -63,14 +63,11 @@ HasForm Otp bytes =
     (length bytes ≤ OTP_LIMIT) × (length bytes % 4 ≡ 0) × All (λ row. row < 2 ^ 24) (rows_of bytes)
 HasForm Script bytes = IsScript bytes
 HasForm Pattern bytes = (bytes ≢ []) × (length bytes ≤ PATTERN_LIMIT)
-HasForm Binary bytes = length bytes ≤ BINARY_LIMIT
 HasForm Spec bytes = (length bytes ≤ JSON_LIMIT) × ((spec : SealSpec) × IsSpecText bytes spec)
 HasForm Json bytes = (length bytes ≤ JSON_LIMIT) × ((table : Table) × IsTableText bytes table)
 HasForm OtpText bytes = (length bytes ≤ JSON_LIMIT) × ((spec : OtpView) × IsOtpText bytes spec)
-HasForm Image bytes = length bytes ≤ IMAGE_LIMIT
-HasForm Elf bytes = length bytes ≤ ELF_LIMIT
 HasForm Uf2 bytes = (length bytes ≤ UF2_LIMIT) × AreWholeUf2Blocks bytes
-HasForm Text bytes = length bytes ≤ TEXT_LIMIT
+HasForm form bytes = length bytes ≤ limit_of form
 
 -- a file is too long, and this is its fault
 abbrev pub IsTooLarge : Form → List ℕ → List ℕ → Type 0
@@ -94,14 +91,11 @@ IsOwnFault Otp bytes fault =
 IsOwnFault Script bytes text =
     (error : ScriptError) × IsScriptError bytes error × (text ≡ script_text error)
 IsOwnFault Pattern bytes fault = (bytes ≡ []) × (fault ≡ codes "pattern-length")
-IsOwnFault Binary bytes fault = ⊥
 IsOwnFault Spec bytes fault = IsTextFault IsSpecFault bytes fault
 IsOwnFault Json bytes fault = IsTextFault IsTableFault bytes fault
 IsOwnFault OtpText bytes fault = IsTextFault IsOtpFault bytes fault
-IsOwnFault Image bytes fault = ⊥
-IsOwnFault Elf bytes fault = ⊥
 IsOwnFault Uf2 bytes fault = (AreWholeUf2Blocks bytes → ⊥) × (fault ≡ codes "uf2-length")
-IsOwnFault Text bytes fault = ⊥
+IsOwnFault _ bytes fault = ⊥
 
 -- why a file does not have its form: a file that is too long comes first
 abbrev pub IsFormFault : Form → List ℕ → List ℕ → Type 0
@@ -134,14 +128,11 @@ own_fault Otp bytes = otp_fault bytes
 own_fault Script bytes = option_map script_text (script_error bytes)
 own_fault Pattern [] = Some (codes "pattern-length")
 own_fault Pattern (b ∷ bytes) = None
-own_fault Binary bytes = None
 own_fault Spec bytes = read_fault (spec_read bytes)
 own_fault Json bytes = read_fault (table_read bytes)
 own_fault OtpText bytes = read_fault (otp_read bytes)
-own_fault Image bytes = None
-own_fault Elf bytes = None
 own_fault Uf2 bytes = uf2_fault bytes
-own_fault Text bytes = None
+own_fault _ bytes = None
 
 -- the fault of a file
 abbrev pub form_fault : Form → List ℕ → Option (List ℕ)

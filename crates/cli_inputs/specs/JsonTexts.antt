@@ -20,14 +20,13 @@ abbrev pub json_member_text : Place → Field → List ℕ
 json_member_text place field = object_text place ++ (codes " " ++ member_name field)
 
 -- the fault of a table
-abbrev pub json_table_fault_text : TableFault → List ℕ
-json_table_fault_text BadItem = codes "table bad-item"
-json_table_fault_text (Permissions i) = codes "table permissions " ++ decimal i
-json_table_fault_text (Range i) = codes "table range " ++ decimal i
-json_table_fault_text (Overlap i j) =
-    codes "table overlap " ++ (decimal i ++ (codes " " ++ decimal j))
-json_table_fault_text (Link i) = codes "table link " ++ decimal i
-json_table_fault_text Hash = codes "table hash"
+abbrev pub table_fault_text : TableFault → List ℕ
+table_fault_text BadItem = codes "bad-item"
+table_fault_text (Permissions i) = codes "permissions " ++ decimal i
+table_fault_text (Range i) = codes "range " ++ decimal i
+table_fault_text (Overlap i j) = codes "overlap " ++ (decimal i ++ (codes " " ++ decimal j))
+table_fault_text (Link i) = codes "link " ++ decimal i
+table_fault_text Hash = codes "hash"
 
 -- the fault of a text; the last one is never the fault of a text
 abbrev pub json_text : JsonFault → List ℕ
@@ -36,5 +35,5 @@ json_text (Unknown place) = codes "unknown " ++ object_text place
 json_text (Missing place field) = codes "missing " ++ json_member_text place field
 json_text (Value place field) = codes "value " ++ json_member_text place field
 json_text (TooLong size) = codes "too-long " ++ decimal size
-json_text (Faulty fault) = json_table_fault_text fault
+json_text (Faulty fault) = codes "table " ++ table_fault_text fault
 json_text Memory = codes "memory"

@@ -4,4 +4,3 @@ pub mod Jsons
 pub mod Forms
 pub mod Inputs
 pub mod Rules
-pub mod Views

@@ -7,7 +7,7 @@ ghost use Rattle.pico_board.specs.Content.{IsFlashLength};
 ghost use Rattle.pico_board.specs.MemBoard.{state_of, new_state};
 ghost use Rattle.cli_course.specs.Outcomes.{AnswerView};
 ghost use Rattle.cli_inputs.specs.Forms.{form_fault, otp_fault, wide_from, rows_of, filled_flash, filled_length, otp_of};
-ghost use Rattle.cli_inputs.specs.Inputs.{named_fault, Tells};
+ghost use Rattle.cli_inputs.specs.Inputs.{IsJudged, named_fault, Tells};
 
 use crate::fail::{InputFail, judge_length, refuse};
 use crate::forms::Form;
@@ -42,9 +42,7 @@ fn filled(bytes: Vec<u8>) -> Result<WholeFlash, AllocError>
 /// The flash of a file.
 fn read_flash(alloc: Global, name: &str, file: Vec<u8>) -> Result<WholeFlash, InputFail>
     ensures value { IfOk result (λ flash. flash.bytes.items ≡ filled_flash file.items) }
-    ensures formed { OnOk result (form_fault Form.Flash file.items ≡ None) }
-    ensures refused { IfErr result (λ fail. Tells fail
-        (named_fault (record { name = name.now; form = Form.Flash }) file.items)) }
+    ensures judged { IsJudged result (record { name = name.now; form = Form.Flash }) file.items }
 {
     judge_length(alloc, Form::Flash, name, &file)?;
     if file.is_empty() {
@@ -126,9 +124,7 @@ fn otp_fault(alloc: Global, file: &[u8]) -> Result<Option<String>, AllocError>
 #[tactic(auto, unfolding(crate::specs::Forms::otp_of))]
 fn read_rows(alloc: Global, name: &str, file: &[u8]) -> Result<OtpRows, InputFail>
     ensures value { IfOk result (λ otp. otp.rows.items ≡ otp_of file.now) }
-    ensures formed { OnOk result (form_fault Form.Otp file.now ≡ None) }
-    ensures refused { IfErr result (λ fail. Tells fail
-        (named_fault (record { name = name.now; form = Form.Otp }) file.now)) }
+    ensures judged { IsJudged result (record { name = name.now; form = Form.Otp }) file.now }
 {
     judge_length(alloc, Form::Otp, name, file)?;
     let found = otp_fault(alloc, file)?;

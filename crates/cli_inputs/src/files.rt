@@ -1,8 +1,8 @@
 //! The values of input files: scripts, patterns, binaries, ELF files, images, UF2 files and texts.
 
-ghost use Rattle.std.specs.Prelude.{◌≡◌, IfErr, IfOk, OnOk, None, string_bytes};
-ghost use Rattle.cli_inputs.specs.Forms.{form_fault, script_text};
-ghost use Rattle.cli_inputs.specs.Inputs.{named_fault, Tells};
+ghost use Rattle.std.specs.Prelude.{◌≡◌, IfOk, string_bytes};
+ghost use Rattle.cli_inputs.specs.Forms.{script_text};
+ghost use Rattle.cli_inputs.specs.Inputs.{IsJudged};
 
 use crate::fail::{InputFail, judge_length, refuse};
 use crate::forms::Form;
@@ -28,9 +28,7 @@ fn script_text(alloc: Global, error: ScriptError) -> Result<String, AllocError>
 /// The script of a file.
 pub fn read_script<'a>(alloc: Global, name: &str, file: &'a [u8]) -> Result<Script<'a>, InputFail>
     ensures value { IfOk result (λ script. script.bytes.now ≡ file.now) }
-    ensures formed { OnOk result (form_fault Form.Script file.now ≡ None) }
-    ensures refused { IfErr result (λ fail. Tells fail
-        (named_fault (record { name = name.now; form = Form.Script }) file.now)) }
+    ensures judged { IsJudged result (record { name = name.now; form = Form.Script }) file.now }
 {
     judge_length(alloc, Form::Script, name, file)?;
     match Script::read(file) {
@@ -45,9 +43,7 @@ pub fn read_script<'a>(alloc: Global, name: &str, file: &'a [u8]) -> Result<Scri
 /// The pattern of a file.
 pub fn read_pattern<'a>(alloc: Global, name: &str, file: &'a [u8]) -> Result<Pattern<'a>, InputFail>
     ensures value { IfOk result (λ pattern. pattern.bytes.now ≡ file.now) }
-    ensures formed { OnOk result (form_fault Form.Pattern file.now ≡ None) }
-    ensures refused { IfErr result (λ fail. Tells fail
-        (named_fault (record { name = name.now; form = Form.Pattern }) file.now)) }
+    ensures judged { IsJudged result (record { name = name.now; form = Form.Pattern }) file.now }
 {
     judge_length(alloc, Form::Pattern, name, file)?;
     if file.is_empty() {
@@ -59,9 +55,7 @@ pub fn read_pattern<'a>(alloc: Global, name: &str, file: &'a [u8]) -> Result<Pat
 /// The binary of a file.
 pub fn read_binary<'a>(alloc: Global, name: &str, file: &'a [u8]) -> Result<Binary<'a>, InputFail>
     ensures value { IfOk result (λ binary. binary.bytes.now ≡ file.now) }
-    ensures formed { OnOk result (form_fault Form.Binary file.now ≡ None) }
-    ensures refused { IfErr result (λ fail. Tells fail
-        (named_fault (record { name = name.now; form = Form.Binary }) file.now)) }
+    ensures judged { IsJudged result (record { name = name.now; form = Form.Binary }) file.now }
 {
     judge_length(alloc, Form::Binary, name, file)?;
     Ok(Binary { bytes: file })
@@ -70,9 +64,7 @@ pub fn read_binary<'a>(alloc: Global, name: &str, file: &'a [u8]) -> Result<Bina
 /// The ELF file of a file's bytes. What they say is judged by the work.
 pub fn read_elf<'a>(alloc: Global, name: &str, file: &'a [u8]) -> Result<Elf<'a>, InputFail>
     ensures value { IfOk result (λ elf. elf.bytes.now ≡ file.now) }
-    ensures formed { OnOk result (form_fault Form.Elf file.now ≡ None) }
-    ensures refused { IfErr result (λ fail. Tells fail
-        (named_fault (record { name = name.now; form = Form.Elf }) file.now)) }
+    ensures judged { IsJudged result (record { name = name.now; form = Form.Elf }) file.now }
 {
     judge_length(alloc, Form::Elf, name, file)?;
     Ok(Elf { bytes: file })
@@ -81,9 +73,7 @@ pub fn read_elf<'a>(alloc: Global, name: &str, file: &'a [u8]) -> Result<Elf<'a>
 /// The image of a file. What its bytes say is judged by the work.
 pub fn read_image(alloc: Global, name: &str, file: Vec<u8>) -> Result<Image, InputFail>
     ensures value { IfOk result (λ image. image.bytes.items ≡ file.items) }
-    ensures formed { OnOk result (form_fault Form.Image file.items ≡ None) }
-    ensures refused { IfErr result (λ fail. Tells fail
-        (named_fault (record { name = name.now; form = Form.Image }) file.items)) }
+    ensures judged { IsJudged result (record { name = name.now; form = Form.Image }) file.items }
 {
     judge_length(alloc, Form::Image, name, &file)?;
     Ok(Image { bytes: file })
@@ -92,9 +82,7 @@ pub fn read_image(alloc: Global, name: &str, file: Vec<u8>) -> Result<Image, Inp
 /// The blocks of a UF2 file. The blocks themselves are not judged.
 pub fn read_uf2<'a>(alloc: Global, name: &str, file: &'a [u8]) -> Result<Uf2<'a>, InputFail>
     ensures value { IfOk result (λ uf2. uf2.bytes.now ≡ file.now) }
-    ensures formed { OnOk result (form_fault Form.Uf2 file.now ≡ None) }
-    ensures refused { IfErr result (λ fail. Tells fail
-        (named_fault (record { name = name.now; form = Form.Uf2 }) file.now)) }
+    ensures judged { IsJudged result (record { name = name.now; form = Form.Uf2 }) file.now }
 {
     judge_length(alloc, Form::Uf2, name, file)?;
     if file.is_empty() || file.len() % 512 != 0 {
@@ -106,9 +94,7 @@ pub fn read_uf2<'a>(alloc: Global, name: &str, file: &'a [u8]) -> Result<Uf2<'a>
 /// The text of a file. What it says is judged by the work.
 pub fn read_text<'a>(alloc: Global, name: &str, file: &'a [u8]) -> Result<Text<'a>, InputFail>
     ensures value { IfOk result (λ text. text.bytes.now ≡ file.now) }
-    ensures formed { OnOk result (form_fault Form.Text file.now ≡ None) }
-    ensures refused { IfErr result (λ fail. Tells fail
-        (named_fault (record { name = name.now; form = Form.Text }) file.now)) }
+    ensures judged { IsJudged result (record { name = name.now; form = Form.Text }) file.now }
 {
     judge_length(alloc, Form::Text, name, file)?;
     Ok(Text { bytes: file })

@@ -2,8 +2,7 @@
 
 ghost use Rattle.std.specs.Prelude.{◌≡◌, ◌∷◌, [], IfOk, length, map};
 ghost use Rattle.cli_course.specs.Views.{limited_input_from, bytes_of_files};
-ghost use Rattle.cli_inputs.specs.Inputs.{to_read, readings};
-ghost use Rattle.cli_inputs.specs.Views.{form_input_from};
+ghost use Rattle.cli_inputs.specs.Inputs.{to_read, readings, form_input_from};
 
 use crate::forms::Form;
 use cli_course::LimitedInput;

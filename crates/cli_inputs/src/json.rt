@@ -1,12 +1,11 @@
 //! The values of JSON texts: specs of sealed images, tables and OTPs; and the texts of their
 //! faults.
 
-ghost use Rattle.std.specs.Prelude.{◌≡◌, ◌≢◌, ◌≤◌, All, None, Some, Ok, Err, IfErr, IfOk, OnOk, string_bytes};
+ghost use Rattle.std.specs.Prelude.{◌≡◌, ◌≢◌, ◌≤◌, All, Some, Ok, Err, IfOk, string_bytes};
 ghost use Rattle.cli_course.specs.Outcomes.{refused};
 ghost use Rattle.part_table.specs.Written.{AgreesWithFlags, written_size};
-ghost use Rattle.cli_inputs.specs.Forms.{form_fault};
-ghost use Rattle.cli_inputs.specs.Inputs.{named_fault, Tells};
-ghost use Rattle.cli_inputs.specs.JsonTexts.{object_text, json_member_text, json_table_fault_text, json_text};
+ghost use Rattle.cli_inputs.specs.Inputs.{IsJudged, Tells};
+ghost use Rattle.cli_inputs.specs.JsonTexts.{object_text, json_member_text, table_fault_text, json_text};
 ghost use Rattle.cli_inputs.specs.Jsons.{spec_read, table_read, otp_read};
 ghost use Rattle.table_json.specs.Otps.{otp_answer, otp_spec_from};
 ghost use Rattle.table_json.specs.OtpRules.{IsSound};
@@ -39,17 +38,17 @@ fn json_member_text(alloc: Global, place: Place, field: Field) -> Result<String,
     format!(in alloc; "{place} {name}")
 }
 
-/// The fault of a table.
-fn json_table_fault_text(alloc: Global, fault: TableFault) -> Result<String, AllocError>
-    ensures { IfOk result (λ t. string_bytes t ≡ json_table_fault_text fault) }
+/// The fault of a table. It fails only where memory is out.
+pub fn table_fault_text(alloc: Global, fault: TableFault) -> Result<String, AllocError>
+    ensures { IfOk result (λ t. string_bytes t ≡ table_fault_text fault) }
 {
     match fault {
-        TableFault::BadItem => format!(in alloc; "table bad-item"),
-        TableFault::Permissions(i) => format!(in alloc; "table permissions {i}"),
-        TableFault::Range(i) => format!(in alloc; "table range {i}"),
-        TableFault::Overlap(i, j) => format!(in alloc; "table overlap {i} {j}"),
-        TableFault::Link(i) => format!(in alloc; "table link {i}"),
-        TableFault::Hash => format!(in alloc; "table hash"),
+        TableFault::BadItem => format!(in alloc; "bad-item"),
+        TableFault::Permissions(i) => format!(in alloc; "permissions {i}"),
+        TableFault::Range(i) => format!(in alloc; "range {i}"),
+        TableFault::Overlap(i, j) => format!(in alloc; "overlap {i} {j}"),
+        TableFault::Link(i) => format!(in alloc; "link {i}"),
+        TableFault::Hash => format!(in alloc; "hash"),
     }
 }
 
@@ -87,7 +86,10 @@ fn json_text(alloc: Global, fault: JsonFault) -> Result<String, AllocError>
         JsonFault::Missing(place, field) => missing_text(alloc, place, field),
         JsonFault::Value(place, field) => value_text(alloc, place, field),
         JsonFault::TooLong(size) => format!(in alloc; "too-long {size}"),
-        JsonFault::Table(fault) => json_table_fault_text(alloc, fault),
+        JsonFault::Table(fault) => {
+            let fault = table_fault_text(alloc, fault)?;
+            format!(in alloc; "table {fault}")
+        }
         JsonFault::Memory => format!(in alloc; "memory"),
     }
 }
@@ -129,9 +131,7 @@ fn refuse_text(alloc: Global, name: &str, fault: JsonFault) -> InputFail
 /// The spec of a text.
 pub fn read_spec(alloc: Global, name: &str, text: &[u8]) -> Result<SealSpec, InputFail>
     ensures value { IfOk result (λ spec. spec_read text.now ≡ Ok spec) }
-    ensures formed { OnOk result (form_fault Form.Spec text.now ≡ None) }
-    ensures refused { IfErr result (λ fail. Tells fail
-        (named_fault (record { name = name.now; form = Form.Spec }) text.now)) }
+    ensures judged { IsJudged result (record { name = name.now; form = Form.Spec }) text.now }
 {
     judge_length(alloc, Form::Spec, name, text)?;
     match exact_spec(alloc, text) {
@@ -144,9 +144,7 @@ pub fn read_spec(alloc: Global, name: &str, text: &[u8]) -> Result<SealSpec, Inp
 /// The table of a text.
 pub fn read_table(alloc: Global, name: &str, text: &[u8]) -> Result<JsonTable, InputFail>
     ensures value { IfOk result (λ json. table_read text.now ≡ Ok json.table) }
-    ensures formed { OnOk result (form_fault Form.Json text.now ≡ None) }
-    ensures refused { IfErr result (λ fail. Tells fail
-        (named_fault (record { name = name.now; form = Form.Json }) text.now)) }
+    ensures judged { IsJudged result (record { name = name.now; form = Form.Json }) text.now }
 {
     judge_length(alloc, Form::Json, name, text)?;
     match exact_table(alloc, text) {
@@ -159,9 +157,7 @@ pub fn read_table(alloc: Global, name: &str, text: &[u8]) -> Result<JsonTable, I
 /// What a text says of an OTP.
 pub fn read_otp(alloc: Global, name: &str, text: &[u8]) -> Result<JsonOtp, InputFail>
     ensures value { IfOk result (λ json. otp_read text.now ≡ Ok (otp_spec_from json.spec)) }
-    ensures formed { OnOk result (form_fault Form.OtpText text.now ≡ None) }
-    ensures refused { IfErr result (λ fail. Tells fail
-        (named_fault (record { name = name.now; form = Form.OtpText }) text.now)) }
+    ensures judged { IsJudged result (record { name = name.now; form = Form.OtpText }) text.now }
 {
     judge_length(alloc, Form::OtpText, name, text)?;
     match exact_otp(alloc, text) {

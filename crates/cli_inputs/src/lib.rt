@@ -24,7 +24,7 @@ pub use files::{
 };
 pub use forms::Form;
 pub use inputs::{FormInput, four, one, readings, three, two};
-pub use json::{read_otp, read_spec, read_table};
+pub use json::{read_otp, read_spec, read_table, table_fault_text};
 pub use limits::{
     BINARY_LIMIT, ELF_LIMIT, FLASH_LIMIT, IMAGE_LIMIT, JSON_LIMIT, OTP_LIMIT, PATTERN_LIMIT,
     TEXT_LIMIT, UF2_LIMIT,

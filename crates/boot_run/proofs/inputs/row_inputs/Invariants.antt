@@ -1,5 +1,5 @@
 use Rattle.std.proofs.Common.{◌≡◌, ◌++◌, drop, map}
-use Rattle.cli_inputs.specs.Views.{form_input_from}
+use Rattle.cli_inputs.specs.Inputs.{form_input_from}
 use Rattle.cli_words.specs.Values.{values_from}
 use Rattle.boot_run.specs.Inputs.{row_inputs}
 use Rattle.boot_run.proofs.inputs.row_inputs.Given as goal

@@ -6,8 +6,7 @@ use Rattle.cli_course.specs.Courses.{ReadsIn}
 use Rattle.cli_course.specs.Views.{limited_input_from, bytes_of_files}
 use Rattle.cli_course.proofs.CourseLemmas.{run-read, run-no_room}
 use Rattle.cli_inputs.specs.declared.inputs.FormInput.{FormInput}
-use Rattle.cli_inputs.specs.Inputs.{FormInputView, readings}
-use Rattle.cli_inputs.specs.Views.{form_input_from}
+use Rattle.cli_inputs.specs.Inputs.{FormInputView, readings, form_input_from}
 use Rattle.cli_inputs.proofs.InputLemmas.{readings-long}
 use Rattle.cli_words.specs.Rows.{command_from}
 use Rattle.boot_run.specs.Inputs.{inputs_of}

@@ -1,7 +1,6 @@
 use Rattle.std.proofs.Common.{◌≡◌, map, take}
 use Rattle.cli_course.specs.Views.{limited_input_from}
-use Rattle.cli_inputs.specs.Inputs.{readings}
-use Rattle.cli_inputs.specs.Views.{form_input_from}
+use Rattle.cli_inputs.specs.Inputs.{readings, form_input_from}
 use Rattle.cli_inputs.proofs.inputs.readings.Given as goal
 
 -- what is read of the inputs so far
