@@ -1,7 +1,7 @@
 -- The work of `check`, as a function.
 use Rattle.std.specs.Prelude.{ℕ, Bool, true, false, if◌then◌else◌, nat_lt, is_some, List, length, count_by, Option, Some, None, Result, Ok, Err, codes}
 use Rattle.pico_board.specs.declared.Step.{Step}
-use Rattle.pico_board.specs.declared.step.Step.TheVariants.{Erase, Program, Raise}
+use Rattle.pico_board.specs.declared.step.Step.TheVariants.{Raise}
 use Rattle.pico_board.specs.declared.boot.Cpu.{Cpu}
 use Rattle.pico_board.specs.declared.boot.BootKind.TheVariants.{Normal}
 use Rattle.pico_board.specs.Content.{Content, window_bytes}
@@ -29,9 +29,8 @@ use Rattle.cli_check.specs.Records.{refused_from}
 use Rattle.cli_check.specs.SessionLaws.{law_of}
 
 abbrev pub is_raise : Step → Bool
-is_raise (Erase s) = false
-is_raise (Program p d) = false
 is_raise (Raise r b) = true
+is_raise _ = false
 
 -- how many of the steps are raises
 abbrev pub raise_count : List Step → ℕ

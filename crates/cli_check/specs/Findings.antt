@@ -1,7 +1,7 @@
 -- The lines of what is found of an update, and the verdict on it.
 use Rattle.std.specs.Prelude.{ℕ, ◌==◌, ◌&&◌, ◌||◌, not, Bool, true, false, is_none, is_some, if◌then◌else◌, List, ◌++◌, Option, Some, None, codes, decimal}
 use Rattle.boot_cuts.specs.declared.answers.Class.{Class}
-use Rattle.boot_cuts.specs.declared.answers.Class.TheVariants.{Former, Finished, Neither}
+use Rattle.boot_cuts.specs.declared.answers.Class.TheVariants.{Former, Neither}
 use Rattle.boot_cuts.specs.Classing.{is_start}
 use Rattle.text_words.specs.Writing.{yes_or_no}
 use Rattle.text_lines.specs.Texts.{decision_line, window_text}
@@ -13,13 +13,11 @@ use Rattle.cli_check.specs.declared.findings.SessionLaw.TheVariants.{GatedOn, Co
 
 abbrev pub is_former_class : Class → Bool
 is_former_class Former = true
-is_former_class Finished = false
-is_former_class Neither = false
+is_former_class _ = false
 
 abbrev pub is_neither_class : Class → Bool
-is_neither_class Former = false
-is_neither_class Finished = false
 is_neither_class Neither = true
+is_neither_class _ = false
 
 -- there is an effect where a normal boot after the script starts an image, and not as before it
 abbrev pub has_effect : Findings → Bool

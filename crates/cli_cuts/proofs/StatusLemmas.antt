@@ -1,10 +1,10 @@
 -- The status of lines is that of their verdict.
-use Rattle.std.proofs.Common.{◌≡◌, ◌≢◌, ◌⊎◌, ℕ, zero, suc, ◌<◌, Bool, true, false, List, [], ◌∷◌, length, get_or, refl, sym, ap, ◌∙◌, subst, inl, inr, arith}
+use Rattle.std.proofs.Common.{◌≡◌, ◌≢◌, ◌⊎◌, ℕ, zero, suc, ◌<◌, Bool, true, false, List, [], ◌∷◌, length, get_or, refl, sym, ap, ◌∙◌, inl, inr, arith}
 use Rattle.std.specs.Prelude.{◌||◌, Contains, if◌then◌else◌}
 use Rattle.boot_rules.specs.declared.decision.Decision.{Decision}
 use Rattle.boot_rules.specs.declared.decision.Decision.TheVariants.{Start, Bootsel}
 use Rattle.cli_course.specs.declared.status.Status.{Status}
-use Rattle.cli_course.specs.declared.status.Status.TheVariants.{Done, Input, Unbootable, Neither as NeitherStatus}
+use Rattle.cli_course.specs.declared.status.Status.TheVariants.{Input}
 use Rattle.cli_course.specs.Outcomes.{Verdict, Passes, IsUnbootable, IsNeither, HasNoEffect, IsRefused, verdict_status}
 use Rattle.boot_cuts.specs.declared.answers.Answer.{Answer}
 use Rattle.boot_cuts.specs.declared.answers.Class.{Class}

@@ -3,7 +3,10 @@ use Rattle.std.specs.Prelude.{ℕ, ◌+◌, ◌*◌, ◌^◌, Bool, false, [], �
 use Rattle.block_loop.specs.declared.fault.LoopFault.TheVariants.{NoBlock}
 use Rattle.image_def.specs.declared.started.Started.{Started}
 use Rattle.image_check.specs.declared.why.Why.{Why}
+use Rattle.pico_board.specs.Examples.{window_at}
+use Rattle.part_table.specs.Examples.{plain_partition}
 use Rattle.part_table.specs.declared.partition.Partition.{Partition}
+use Rattle.cli_explain.specs.Examples.{linked_part}
 use Rattle.slot_choice.specs.declared.unit.Member.{Member}
 use Rattle.boot_rules.specs.declared.slots.SlotFault.TheVariants.{Loop, NoTable}
 use Rattle.boot_reasons.specs.declared.slots.TableReason.TheVariants.{Only}
@@ -15,27 +18,14 @@ use Rattle.boot_map.specs.declared.maps.Pairing.{Pairing}
 use Rattle.boot_map.specs.declared.places.MapPlace.{MapPlace}
 use Rattle.boot_map.specs.declared.places.MapPlace.TheVariants.{Free}
 
--- partition 0, in sectors 2 to 3, has a name and two families by their bits; its location word has
--- every permission; partition 1, in sectors 4 to 5, has the link "A is 0"
+-- a partition of sectors 2 to 3 with a name, two families by their bits and every permission
 abbrev pub main_part : Partition
-main_part = record {
-  location = 2 + 2 ^ 13 * 3 + 2 ^ 26 * 63;
-  flags = 2 ^ 14 + 2 ^ 17 + 2 ^ 12;
-  id = None;
-  families = record { items = [] };
-  name = Some (record { items = codes "main" });
-}
+main_part =
+    record (plain_partition (2 + 2 ^ 13 * 3 + 2 ^ 26 * 63) (2 ^ 14 + 2 ^ 17 + 2 ^ 12)) {
+      name = Some (record { items = codes "main" });
+    }
 
-abbrev pub part_linked_to_main : Partition
-part_linked_to_main = record {
-  location = 4 + 2 ^ 13 * 5 + 2 ^ 26 * 63;
-  flags = 2;
-  id = None;
-  families = record { items = [] };
-  name = None;
-}
-
--- a map of a flash: its slot 0 has a table of version 1.9 with both
+-- a map of a flash: its slot 0 has a table of version 1.9 with that partition and a linked one
 abbrev pub table_map : FlashMap
 table_map = record {
   decision = Bootsel NoImage;
@@ -43,7 +33,7 @@ table_map = record {
     version = record { major = 1; minor = 9 };
     singleton = false;
     unpartitioned = 0;
-    parts = record { items = main_part ∷ part_linked_to_main ∷ [] };
+    parts = record { items = main_part ∷ linked_part ∷ [] };
   });
   second = Err (Loop NoBlock);
   table = Some (record { slot = 0; because = Only });
@@ -52,19 +42,13 @@ table_map = record {
 
 -- a map of a flash that has no table
 abbrev pub bare_map : FlashMap
-bare_map = record {
-  decision = Bootsel NoImage;
-  first = Err NoTable;
-  second = Err (Loop NoBlock);
-  table = None;
-  rows = record { items = [] };
-}
+bare_map = record table_map { first = Err NoTable; table = None }
 
 -- a window without an image in its row
 abbrev pub bare_row_at : MapPlace → ℕ → ℕ → MapRow
 bare_row_at place start len = record {
   place = place;
-  window = record { start = start; len = len };
+  window = window_at start len;
   image = None;
   pair = None;
   starts = false;
@@ -74,7 +58,7 @@ bare_row_at place start len = record {
 abbrev pub row_with : MapPlace → ℕ → ℕ → Result Started Why → Option Pairing → Bool → MapRow
 row_with place start len image pair starts = record {
   place = place;
-  window = record { start = start; len = len };
+  window = window_at start len;
   image = Some image;
   pair = pair;
   starts = starts;
@@ -86,11 +70,7 @@ some_pairing member other = Some (record { member = member; other = other })
 
 -- the map of a flash of 32 KiB without a table; its slots have 8 KiB
 abbrev pub three_rows : FlashMap
-three_rows = record {
-  decision = Bootsel NoImage;
-  first = Err NoTable;
-  second = Err (Loop NoBlock);
-  table = None;
+three_rows = record bare_map {
   rows = record {
     items = bare_row_at Free 0 0x2000 ∷ bare_row_at Free 0x2000 0x2000
         ∷ bare_row_at Free 0x4000 0x4000 ∷ [];

@@ -74,10 +74,8 @@ row_text m row =
 
 -- a window is a free stretch
 abbrev pub is_free_stretch : MapPlace → Bool
-is_free_stretch (Slot number) = false
-is_free_stretch (Part i) = false
-is_free_stretch Whole = false
 is_free_stretch Free = true
+is_free_stretch _ = false
 
 -- what is drawn of a window
 abbrev pub bar_of : FlashMap → MapRow → MapBarView

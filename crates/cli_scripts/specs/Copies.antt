@@ -18,10 +18,8 @@ copy_events blocks = PowerOn ∷ Reset Bootsel ∷ map (λ block. Uf2 block) blo
 abbrev pub copy_line : ℕ → List ℕ
 copy_line n = codes "copy blocks=" ++ line (decimal n)
 
-abbrev pub copied_work : List ℕ → List (List ℕ) → Work
-copied_work out blocks =
-    Answers false (copy_line (length blocks)) (one_file out (script_of (copy_events blocks)))
-
 -- the blocks of a file of whole blocks
 abbrev pub copy_work : List ℕ → List ℕ → Work
-copy_work out bytes = copied_work out (blocks_in (length bytes / 512) bytes)
+copy_work out bytes =
+    let blocks = blocks_in (length bytes / 512) bytes in Answers false (copy_line (length blocks))
+    (one_file out (script_of (copy_events blocks)))

@@ -1,5 +1,5 @@
 -- What is right for the picture of a sweep, by the rules.
-use Rattle.std.specs.Prelude.{◌≡◌, ℕ, false, true, Bool, List, length, slice_get, take, Some}
+use Rattle.std.specs.Prelude.{◌≡◌, ℕ, false, true, List, length, slice_get, take, Some}
 use Rattle.pico_board.specs.declared.Step.{Step}
 use Rattle.pico_board.specs.declared.boot.Cpu.{Cpu}
 use Rattle.pico_board.specs.declared.boot.BootKind.TheVariants.{Normal}

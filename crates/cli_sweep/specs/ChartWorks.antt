@@ -1,5 +1,5 @@
 -- The work of `chart`, as a function.
-use Rattle.std.specs.Prelude.{ℕ, false, List, [], ◌∷◌, map, Option, Some, None}
+use Rattle.std.specs.Prelude.{ℕ, false, List, map, Option, Some, None}
 use Rattle.pico_board.specs.declared.Step.{Step}
 use Rattle.pico_board.specs.declared.boot.Cpu.{Cpu}
 use Rattle.pico_board.specs.declared.boot.BootKind.TheVariants.{Normal}
@@ -64,11 +64,7 @@ drawn_work script out chart decided None =
     Answers false (chart_line chart) (one_file out (chart_file chart decided))
 
 -- the session of a script on a content
-abbrev pub steps_work : Content → Cpu → List ℕ → List ℕ → List ℕ → List Step → Work
-steps_work c cpu script out pattern steps =
-    drawn_work script out (chart_of c cpu pattern steps) (decision_text (decision_in c cpu Normal))
-    (sweep_refusal c cpu steps)
-
 abbrev pub chart_work : Content → Cpu → List ℕ → List ℕ → List ℕ → List ℕ → Work
 chart_work c cpu script out bytes pattern =
-    steps_work c cpu script out pattern (script_session c cpu bytes)
+    let steps = script_session c cpu bytes in drawn_work script out (chart_of c cpu pattern steps)
+    (decision_text (decision_in c cpu Normal)) (sweep_refusal c cpu steps)

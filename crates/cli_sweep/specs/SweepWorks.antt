@@ -1,6 +1,5 @@
 -- The work of `sweep`, as a function, and its refusals.
 use Rattle.std.specs.Prelude.{ℕ, false, List, [], ◌++◌, Option, Some, None, codes, decimal}
-use Rattle.pico_board.specs.declared.Step.{Step}
 use Rattle.pico_board.specs.declared.boot.Cpu.{Cpu}
 use Rattle.pico_board.specs.Content.{Content}
 use Rattle.boot_sweep.specs.declared.error.SweepError.{SweepError}
@@ -25,10 +24,7 @@ swept_work script text (Some reason) = Refuses script (sweep_fault reason)
 swept_work script text None = Answers false text []
 
 -- the session of a script on a content
-abbrev pub session_work : Content → Cpu → List ℕ → List ℕ → List Step → Work
-session_work c cpu script pattern steps =
-    swept_work script (sweep_text c cpu pattern steps) (sweep_refusal c cpu steps)
-
 abbrev pub sweep_work : Content → Cpu → List ℕ → List ℕ → List ℕ → Work
 sweep_work c cpu script bytes pattern =
-    session_work c cpu script pattern (script_session c cpu bytes)
+    let steps = script_session c cpu bytes in swept_work script (sweep_text c cpu pattern steps)
+    (sweep_refusal c cpu steps)

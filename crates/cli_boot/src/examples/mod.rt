@@ -4,12 +4,13 @@
 ghost use Rattle.std.specs.Prelude.{◌≡◌, [], ◌∷◌, Some, None};
 ghost use Rattle.pico_board.specs.declared.boot.Cpu.TheVariants.{Arm, Riscv};
 ghost use Rattle.pico_board.specs.Content.{Content};
+ghost use Rattle.pico_board.specs.Examples.{window_at};
 ghost use Rattle.slot_choice.specs.declared.unit.Member.TheVariants.{A, B};
 ghost use Rattle.boot_rules.specs.declared.decision.Decision.TheVariants.{Bootsel, Start};
 ghost use Rattle.boot_rules.specs.declared.decision.Fall.{Fall};
 ghost use Rattle.worked_flashes.specs.Flashes.{bare_owner, owned_content};
 ghost use Rattle.cli_boot.specs.Works.{decided_data, windows_of};
-ghost use Rattle.cli_boot.specs.Examples.{first_part, second_part, found_with_parts, paired_start_in, window_at};
+ghost use Rattle.cli_boot.specs.Examples.{first_part, second_part, found_with_parts, paired_start_in};
 
 /// The windows of a flash: those of its table's partitions, in table order; without a table its
 /// two slots, or all of it.

@@ -1,4 +1,4 @@
-use Rattle.std.proofs.Common.{◌≡◌, ◌+◌, ◌-◌, ◌*◌, ◌/◌, suc, length, arith}
+use Rattle.std.proofs.Common.{◌≡◌, ◌+◌, ◌-◌, ◌/◌, suc, length, arith}
 use Rattle.cli_scripts.proofs.BlockLemmas.{copied-more}
 use Rattle.cli_scripts.proofs.copying.push_blocks.Goals as goal
 

@@ -1,4 +1,4 @@
-use Rattle.std.proofs.Common.{◌≡◌, ◌∙◌, sym, rules, subst, IfOk}
+use Rattle.std.proofs.Common.{◌≡◌, sym, rules, subst, IfOk}
 use Rattle.cli_course.specs.Outcomes.{AnswerView}
 use Rattle.cli_course.specs.Views.{answer_from}
 use Rattle.cli_scripts.proofs.TextRuleLemmas.{fault-refused, written-told}
