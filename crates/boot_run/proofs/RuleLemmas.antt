@@ -42,7 +42,7 @@ use Rattle.cli_scripts.proofs.CopyRuleLemmas.{copy-works}
 use Rattle.cli_scripts.proofs.TextRuleLemmas.{list-works, write-works}
 use Rattle.cli_tools.proofs.ElfLemmas.{elf-works}
 use Rattle.cli_tools.proofs.SealCaseLemmas.{seal-works, table-works}
-use Rattle.cli_tools.proofs.ToolLemmas.{uf2-works, plan-works, load-works, gen-works}
+use Rattle.cli_tools.proofs.ToolLemmas.{uf2-works, script-works, gen-works}
 use Rattle.boot_run.specs.Inputs.{inputs_of}
 use Rattle.boot_run.specs.Commands.{row_work, work_of, command_outcome, outcome_on, IsRefusedCommand, Asks, needs_bytes, NeedsBytes, judges, is_verdict, IsRefusedWork, IsRowRefused, IsRight, IsRowRight, Tells, Obeys, FallsOn}
 use Rattle.part_table.specs.declared.target.Target.{Target}
@@ -90,35 +90,35 @@ row-works verbs.Sweep v =
     of-four (IsRowRuled verbs.Sweep v) (λ f g s p all.
     needs-more (λ (small : AreOfBytes (f ∷ g ∷ s ∷ p ∷ [])).
     (formed-content f g all.0 all.1.0 small.0, small.1.1.1.0))
-    (sweep-works (content_of_files f g) v.cpu v.script s p))
+    (sweep-works (content_of_files f g) v.cpu v.file s p))
 row-works verbs.Chart v =
     of-four (IsRowRuled verbs.Chart v) (λ f g s p all.
     needs-more (λ (small : AreOfBytes (f ∷ g ∷ s ∷ p ∷ [])). formed-content f g all.0 all.1.0 small.0)
-    (chart-works (content_of_files f g) v.cpu v.script v.out s p))
+    (chart-works (content_of_files f g) v.cpu v.file v.out s p))
 row-works verbs.Cuts v =
     of-four (IsRowRuled verbs.Cuts v) (λ f g s p all.
-    cuts-works (content_of_files f g) v.cpu v.script s p all.1.1.0)
+    cuts-works (content_of_files f g) v.cpu v.file s p all.1.1.0)
 row-works verbs.Check v =
     of-four (IsRowRuled verbs.Check v) (λ f g s p all.
     needs-more (λ (small : AreOfBytes (f ∷ g ∷ s ∷ p ∷ [])). formed-content f g all.0 all.1.0 small.0)
-    (check-works (content_of_files f g) v.cpu v.script s p))
+    (check-works (content_of_files f g) v.cpu v.file s p))
 row-works verbs.Seal v =
-    of-two (IsRowRuled verbs.Seal v) (λ b s all. seal-works v.binary v.spec v.out b s all.1.0)
+    of-two (IsRowRuled verbs.Seal v) (λ b s all. seal-works v.file v.spec v.out b s all.1.0)
 row-works verbs.Elf v =
     of-two (IsRowRuled verbs.Elf v) (λ e s all.
-    needs-more (λ (small : AreOfBytes (e ∷ s ∷ [])). small.0) (elf-works v.elf v.spec v.out e s all.1.0))
-row-works verbs.Firm v = of-one (IsRowRuled verbs.Firm v) (λ i all. firm-works v.image i v.cpu)
+    needs-more (λ (small : AreOfBytes (e ∷ s ∷ [])). small.0) (elf-works v.file v.spec v.out e s all.1.0))
+row-works verbs.Firm v = of-one (IsRowRuled verbs.Firm v) (λ i all. firm-works v.file i v.cpu)
 row-works verbs.Table v = of-one (IsRowRuled verbs.Table v) (λ j all. table-works v.out j all.0)
 row-works verbs.OtpFile v =
     of-one (IsRowRuled verbs.OtpFile v) (λ j all. otp-works OtpText otp_read (λ t has. has.1) otp-gives v.out j all.0)
-row-works verbs.Uf2 v = of-one (IsRowRuled verbs.Uf2 v) (λ i all. uf2-works v.image v.out i v.family)
+row-works verbs.Uf2 v = of-one (IsRowRuled verbs.Uf2 v) (λ i all. uf2-works v.file v.out i v.family)
 row-works verbs.Plan v =
-    of-three (IsRowRuled verbs.Plan v) (λ f g i all. plan-works v.image v.out i (content_of_files f g) v.cpu)
+    of-three (IsRowRuled verbs.Plan v) (λ f g i all. script-works FirstLast v.file v.out i (content_of_files f g) v.cpu)
 row-works verbs.Load v =
-    of-three (IsRowRuled verbs.Load v) (λ f g i all. load-works v.image v.out i (content_of_files f g) v.cpu)
+    of-three (IsRowRuled verbs.Load v) (λ f g i all. script-works Ascending v.file v.out i (content_of_files f g) v.cpu)
 row-works verbs.Copy v = of-one (IsRowRuled verbs.Copy v) (λ u all. copy-works v.out u all.0)
 row-works verbs.ListScript v = of-one (IsRowRuled verbs.ListScript v) (λ s all. list-works s all.0)
-row-works verbs.WriteScript v = of-one (IsRowRuled verbs.WriteScript v) (λ t all. write-works v.text v.out t all.0)
+row-works verbs.WriteScript v = of-one (IsRowRuled verbs.WriteScript v) (λ t all. write-works v.file v.out t all.0)
 row-works verbs.Gen v = λ read long all. gen-works v.number
 row-works verbs.Usage v = λ read long all. told-works usage_text
 row-works verbs.ShortUsage v = λ read long all. told-works usage_text
@@ -212,32 +212,32 @@ row-plain verbs.Caveats v h = of-two (IsRowPlain verbs.Caveats v) (λ f g. tt)
 row-plain verbs.Map v h = of-two (IsRowPlain verbs.Map v) (λ f g. tt)
 row-plain verbs.Replay v h = of-three (IsRowPlain verbs.Replay v) (λ f g s. tt)
 row-plain verbs.Sweep v h =
-    of-four (IsRowPlain verbs.Sweep v) (λ f g s p. by-option (swept_work v.script _) tt (λ e. tt) _)
+    of-four (IsRowPlain verbs.Sweep v) (λ f g s p. by-option (swept_work v.file _) tt (λ e. tt) _)
 row-plain verbs.Chart v h =
-    of-four (IsRowPlain verbs.Chart v) (λ f g s p. by-option (drawn_work v.script v.out _ _) tt (λ e. tt) _)
+    of-four (IsRowPlain verbs.Chart v) (λ f g s p. by-option (drawn_work v.file v.out _ _) tt (λ e. tt) _)
 row-plain verbs.Cuts v h = cc
 row-plain verbs.Check v h = cc
 row-plain verbs.Seal v h =
-    of-two (IsRowPlain verbs.Seal v) (λ b s. by-result (seal_work v.binary v.spec v.out b)
-    (λ asked. by-option (seal_judged v.binary v.spec v.out b asked) tt (λ e. tt) _) (λ e. tt) (spec_read s))
+    of-two (IsRowPlain verbs.Seal v) (λ b s. by-result (seal_work v.file v.spec v.out b)
+    (λ asked. by-option (seal_judged v.file v.spec v.out b asked) tt (λ e. tt) _) (λ e. tt) (spec_read s))
 row-plain verbs.Elf v h =
-    of-two (IsRowPlain verbs.Elf v) (λ e s. by-result (elf_work v.elf v.spec v.out e)
-    (λ asked. by-option (packed_work v.elf v.spec v.out e asked) tt (λ f. tt) _) (λ f. tt) (spec_read s))
-row-plain verbs.Firm v h = of-one (IsRowPlain verbs.Firm v) (λ i. firm-plain v.image i v.cpu)
+    of-two (IsRowPlain verbs.Elf v) (λ e s. by-result (elf_work v.file v.spec v.out e)
+    (λ asked. by-option (packed_work v.file v.spec v.out e asked) tt (λ f. tt) _) (λ f. tt) (spec_read s))
+row-plain verbs.Firm v h = of-one (IsRowPlain verbs.Firm v) (λ i. firm-plain v.file i v.cpu)
 row-plain verbs.Table v h =
     of-one (IsRowPlain verbs.Table v) (λ j. by-result (table_work v.out) (λ t. tt) (λ e. tt) (table_read j))
 row-plain verbs.OtpFile v h =
     of-one (IsRowPlain verbs.OtpFile v) (λ j. by-result (otp_work v.out) (λ spec. tt) (λ e. tt) (otp_read j))
 row-plain verbs.Uf2 v h = of-one (IsRowPlain verbs.Uf2 v) (λ i. by-test (length i == 0) _ _ tt tt)
 row-plain verbs.Plan v h =
-    of-three (IsRowPlain verbs.Plan v) (λ f g i. target-plain FirstLast v.image v.out i _)
+    of-three (IsRowPlain verbs.Plan v) (λ f g i. target-plain FirstLast v.file v.out i _)
 row-plain verbs.Load v h =
-    of-three (IsRowPlain verbs.Load v) (λ f g i. target-plain Ascending v.image v.out i _)
+    of-three (IsRowPlain verbs.Load v) (λ f g i. target-plain Ascending v.file v.out i _)
 row-plain verbs.Copy v h = of-one (IsRowPlain verbs.Copy v) (λ u. tt)
 row-plain verbs.ListScript v h = of-one (IsRowPlain verbs.ListScript v) (λ s. tt)
 row-plain verbs.WriteScript v h =
     of-one (IsRowPlain verbs.WriteScript v)
-    (λ t. by-result (read_work v.text v.out) (λ es. tt) (λ e. tt) _)
+    (λ t. by-result (read_work v.file v.out) (λ es. tt) (λ e. tt) _)
 row-plain verbs.Gen v h = λ read long. tt
 row-plain verbs.Usage v h = λ read long. tt
 row-plain verbs.ShortUsage v h = λ read long. tt

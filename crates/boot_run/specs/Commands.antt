@@ -34,7 +34,8 @@ use Rattle.cli_scripts.specs.TextWorks.{list_work, write_work}
 use Rattle.cli_sweep.specs.SweepWorks.{sweep_work}
 use Rattle.cli_tools.specs.Elfs.{elf_work, IsElfOf, IsElfRefused}
 use Rattle.cli_tools.specs.Tools.{seal_work, table_work}
-use Rattle.cli_tools.specs.ToolWorks.{uf2_work, plan_work, load_work, gen_work}
+use Rattle.script_plan.specs.declared.writing.WriteOrder.TheVariants.{FirstLast, Ascending}
+use Rattle.cli_tools.specs.ToolWorks.{uf2_work, script_work, gen_work}
 use Rattle.pico_board.specs.declared.boot.Cpu.{Cpu}
 use Rattle.pico_board.specs.declared.boot.BootKind.{BootKind}
 use Rattle.pico_board.specs.Puts.{IsPut, SinkState}
@@ -57,7 +58,7 @@ use Rattle.cli_sweep.specs.ChartRules.{IsChartOf}
 use Rattle.cli_sweep.specs.SweepRules.{IsFirmOf, IsFirmRefused, IsSweepOf, IsSweepRefused}
 use Rattle.cli_tools.specs.Seals.{IsUnsealed}
 use Rattle.cli_tools.specs.SealRules.{IsSealedOf, IsTableOf}
-use Rattle.cli_tools.specs.ToolRules.{IsUf2Refused, IsUf2Of, IsPlanRefused, IsPlanOf, IsLoadRefused, IsLoadOf, IsGenOf}
+use Rattle.cli_tools.specs.ToolRules.{IsUf2Refused, IsUf2Of, IsTargetRefused, IsScriptOf, IsGenOf}
 
 -- the work of a row's command, by the values of its arguments, on the bytes of its inputs
 abbrev pub row_work : Verb → ValuesView → List (List ℕ) → Work
@@ -69,22 +70,24 @@ row_work verbs.Caveats v (f ∷ g ∷ []) = caveats_work (content_of_files f g) 
 row_work verbs.Map v (f ∷ g ∷ []) = map_work (content_of_files f g) v.cpu v.out
 row_work verbs.Replay v (f ∷ g ∷ s ∷ []) =
     replay_work (content_of_files f g) v.cpu s v.out_flash v.out_otp
-row_work verbs.Sweep v (f ∷ g ∷ s ∷ p ∷ []) = sweep_work (content_of_files f g) v.cpu v.script s p
+row_work verbs.Sweep v (f ∷ g ∷ s ∷ p ∷ []) = sweep_work (content_of_files f g) v.cpu v.file s p
 row_work verbs.Chart v (f ∷ g ∷ s ∷ p ∷ []) =
-    chart_work (content_of_files f g) v.cpu v.script v.out s p
-row_work verbs.Cuts v (f ∷ g ∷ s ∷ p ∷ []) = cuts_work (content_of_files f g) v.cpu v.script s p
-row_work verbs.Check v (f ∷ g ∷ s ∷ p ∷ []) = check_work (content_of_files f g) v.cpu v.script s p
-row_work verbs.Seal v (b ∷ s ∷ []) = seal_work v.binary v.spec v.out b (spec_read s)
-row_work verbs.Elf v (e ∷ s ∷ []) = elf_work v.elf v.spec v.out e (spec_read s)
-row_work verbs.Firm v (i ∷ []) = firm_work v.image i v.cpu
+    chart_work (content_of_files f g) v.cpu v.file v.out s p
+row_work verbs.Cuts v (f ∷ g ∷ s ∷ p ∷ []) = cuts_work (content_of_files f g) v.cpu v.file s p
+row_work verbs.Check v (f ∷ g ∷ s ∷ p ∷ []) = check_work (content_of_files f g) v.cpu v.file s p
+row_work verbs.Seal v (b ∷ s ∷ []) = seal_work v.file v.spec v.out b (spec_read s)
+row_work verbs.Elf v (e ∷ s ∷ []) = elf_work v.file v.spec v.out e (spec_read s)
+row_work verbs.Firm v (i ∷ []) = firm_work v.file i v.cpu
 row_work verbs.Table v (j ∷ []) = table_work v.out (table_read j)
 row_work verbs.OtpFile v (j ∷ []) = otp_work v.out (otp_read j)
-row_work verbs.Uf2 v (i ∷ []) = uf2_work v.image v.family v.out i
-row_work verbs.Plan v (f ∷ g ∷ i ∷ []) = plan_work (content_of_files f g) v.cpu v.image v.out i
-row_work verbs.Load v (f ∷ g ∷ i ∷ []) = load_work (content_of_files f g) v.cpu v.image v.out i
+row_work verbs.Uf2 v (i ∷ []) = uf2_work v.file v.family v.out i
+row_work verbs.Plan v (f ∷ g ∷ i ∷ []) =
+    script_work FirstLast (content_of_files f g) v.cpu v.file v.out i
+row_work verbs.Load v (f ∷ g ∷ i ∷ []) =
+    script_work Ascending (content_of_files f g) v.cpu v.file v.out i
 row_work verbs.Copy v (u ∷ []) = copy_work v.out u
 row_work verbs.ListScript v (s ∷ []) = list_work s
-row_work verbs.WriteScript v (t ∷ []) = write_work v.text v.out t
+row_work verbs.WriteScript v (t ∷ []) = write_work v.file v.out t
 row_work verbs.Gen v read = gen_work v.number
 row_work verbs.Usage v read = Answers false usage_text []
 row_work verbs.ShortUsage v read = Answers false usage_text []
@@ -127,22 +130,22 @@ outcome_on command files = outcome_found (outcome_in command) (found files (inpu
 -- the work of a row's command refuses the input of this name with this fault
 abbrev pub IsRowRefused : Verb → ValuesView → List (List ℕ) → List ℕ → List ℕ → Type 0
 IsRowRefused verbs.Sweep v (f ∷ g ∷ s ∷ p ∷ []) name fault =
-    IsSweepRefused v.script (content_of_files f g) v.cpu s name fault
+    IsSweepRefused v.file (content_of_files f g) v.cpu s name fault
 IsRowRefused verbs.Chart v (f ∷ g ∷ s ∷ p ∷ []) name fault =
-    IsSweepRefused v.script (content_of_files f g) v.cpu s name fault
+    IsSweepRefused v.file (content_of_files f g) v.cpu s name fault
 IsRowRefused verbs.Cuts v (f ∷ g ∷ s ∷ p ∷ []) name fault =
-    IsCutsRefused v.script (content_of_files f g) v.cpu s name fault
+    IsCutsRefused v.file (content_of_files f g) v.cpu s name fault
 IsRowRefused verbs.Check v (f ∷ g ∷ s ∷ p ∷ []) name fault =
-    IsCheckRefused v.script (content_of_files f g) v.cpu s name fault
-IsRowRefused verbs.Seal v (b ∷ s ∷ []) name fault = IsUnsealed v.binary v.spec b s name fault
-IsRowRefused verbs.Elf v (e ∷ s ∷ []) name fault = IsElfRefused v.elf v.spec e s name fault
-IsRowRefused verbs.Firm v (i ∷ []) name fault = IsFirmRefused v.image i v.cpu name fault
-IsRowRefused verbs.Uf2 v (i ∷ []) name fault = IsUf2Refused v.image i name fault
-IsRowRefused verbs.WriteScript v (t ∷ []) name fault = IsTextRefused v.text t name fault
+    IsCheckRefused v.file (content_of_files f g) v.cpu s name fault
+IsRowRefused verbs.Seal v (b ∷ s ∷ []) name fault = IsUnsealed v.file v.spec b s name fault
+IsRowRefused verbs.Elf v (e ∷ s ∷ []) name fault = IsElfRefused v.file v.spec e s name fault
+IsRowRefused verbs.Firm v (i ∷ []) name fault = IsFirmRefused v.file i v.cpu name fault
+IsRowRefused verbs.Uf2 v (i ∷ []) name fault = IsUf2Refused v.file i name fault
+IsRowRefused verbs.WriteScript v (t ∷ []) name fault = IsTextRefused v.file t name fault
 IsRowRefused verbs.Plan v (f ∷ g ∷ i ∷ []) name fault =
-    IsPlanRefused (content_of_files f g) v.cpu v.image i name fault
+    IsTargetRefused (content_of_files f g) v.cpu v.file i name fault
 IsRowRefused verbs.Load v (f ∷ g ∷ i ∷ []) name fault =
-    IsLoadRefused (content_of_files f g) v.cpu v.image i name fault
+    IsTargetRefused (content_of_files f g) v.cpu v.file i name fault
 IsRowRefused _ v read name fault = ⊥
 
 -- the work of a command refuses the input of this name with this fault
@@ -179,8 +182,10 @@ IsRowRight verbs.Firm v (i ∷ []) o = IsFirmOf i v.cpu o
 IsRowRight verbs.Table v (j ∷ []) o = IsTableOf v.out j o
 IsRowRight verbs.OtpFile v (j ∷ []) o = IsOtpOf v.out j o
 IsRowRight verbs.Uf2 v (i ∷ []) o = IsUf2Of i v.family v.out o
-IsRowRight verbs.Plan v (f ∷ g ∷ i ∷ []) o = IsPlanOf (content_of_files f g) v.cpu i v.out o
-IsRowRight verbs.Load v (f ∷ g ∷ i ∷ []) o = IsLoadOf (content_of_files f g) v.cpu i v.out o
+IsRowRight verbs.Plan v (f ∷ g ∷ i ∷ []) o =
+    IsScriptOf FirstLast (content_of_files f g) v.cpu i v.out o
+IsRowRight verbs.Load v (f ∷ g ∷ i ∷ []) o =
+    IsScriptOf Ascending (content_of_files f g) v.cpu i v.out o
 IsRowRight verbs.Copy v (u ∷ []) o = IsCopyOf u v.out o
 IsRowRight verbs.ListScript v (s ∷ []) o = IsListOf s o
 IsRowRight verbs.WriteScript v (t ∷ []) o = IsWrittenOf t v.out o

@@ -8,19 +8,7 @@ use Rattle.boot_rules.specs.declared.decision.Fall.TheVariants.{NoImage}
 
 -- the values of arguments that name files, each by a letter, for Arm
 abbrev pub named : ValuesView
-named = record no_values {
-  flash = codes "f";
-  otp = codes "o";
-  script = codes "s";
-  binary = codes "b";
-  elf = codes "e";
-  spec = codes "s";
-  json = codes "t";
-  image = codes "i";
-  out = codes "a";
-  out_flash = codes "a";
-  out_otp = codes "b";
-}
+named = record no_values { flash = codes "f"; otp = codes "o"; file = codes "i"; spec = codes "s" }
 
 -- a steady sink that has these bytes
 abbrev pub sink_of : List ℕ → SinkState

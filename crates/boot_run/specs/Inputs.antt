@@ -11,16 +11,16 @@ use Rattle.cli_words.specs.declared.arguments.Word.TheVariants as kinds
 abbrev pub word_input : Word → ValuesView → Option FormInputView
 word_input kinds.Flash v = Some (record { name = v.flash; form = forms.Flash })
 word_input kinds.Otp v = Some (record { name = v.otp; form = forms.Otp })
-word_input kinds.Script v = Some (record { name = v.script; form = forms.Script })
+word_input kinds.Script v = Some (record { name = v.file; form = forms.Script })
 word_input kinds.Pattern v = Some (record { name = v.pattern; form = forms.Pattern })
-word_input kinds.Binary v = Some (record { name = v.binary; form = forms.Binary })
-word_input kinds.Elf v = Some (record { name = v.elf; form = forms.Elf })
+word_input kinds.Binary v = Some (record { name = v.file; form = forms.Binary })
+word_input kinds.Elf v = Some (record { name = v.file; form = forms.Elf })
 word_input kinds.Spec v = Some (record { name = v.spec; form = forms.Spec })
-word_input kinds.Json v = Some (record { name = v.json; form = forms.Json })
-word_input kinds.OtpJson v = Some (record { name = v.json; form = forms.OtpText })
-word_input kinds.Image v = Some (record { name = v.image; form = forms.Image })
-word_input kinds.Uf2 v = Some (record { name = v.uf2; form = forms.Uf2 })
-word_input kinds.Text v = Some (record { name = v.text; form = forms.Text })
+word_input kinds.Json v = Some (record { name = v.file; form = forms.Json })
+word_input kinds.OtpJson v = Some (record { name = v.file; form = forms.OtpText })
+word_input kinds.Image v = Some (record { name = v.file; form = forms.Image })
+word_input kinds.Uf2 v = Some (record { name = v.file; form = forms.Uf2 })
+word_input kinds.Text v = Some (record { name = v.file; form = forms.Text })
 word_input _ v = None
 
 -- one input more, where an argument names one

@@ -1,7 +1,7 @@
 //! The inputs of a command: the arguments of its row that name input files, in their order.
 
 ghost use Rattle.std.specs.Prelude.{◌≡◌, IfOk, map, option_map};
-ghost use Rattle.cli_inputs.specs.Views.{form_input_from};
+ghost use Rattle.cli_inputs.specs.Inputs.{form_input_from};
 ghost use Rattle.cli_words.specs.Rows.{command_from};
 ghost use Rattle.cli_words.specs.Values.{values_from};
 ghost use Rattle.boot_run.specs.Inputs.{word_input, row_inputs, inputs_of};
@@ -17,16 +17,16 @@ fn word_input<'a>(word: Word, values: &Values<'a>) -> Option<FormInput<'a>>
     let (name, form) = match word {
         Word::Flash => (values.flash, Form::Flash),
         Word::Otp => (values.otp, Form::Otp),
-        Word::Script => (values.script, Form::Script),
+        Word::Script => (values.file, Form::Script),
         Word::Pattern => (values.pattern, Form::Pattern),
-        Word::Binary => (values.binary, Form::Binary),
-        Word::Elf => (values.elf, Form::Elf),
+        Word::Binary => (values.file, Form::Binary),
+        Word::Elf => (values.file, Form::Elf),
         Word::Spec => (values.spec, Form::Spec),
-        Word::Json => (values.json, Form::Json),
-        Word::OtpJson => (values.json, Form::OtpText),
-        Word::Image => (values.image, Form::Image),
-        Word::Uf2 => (values.uf2, Form::Uf2),
-        Word::Text => (values.text, Form::Text),
+        Word::Json => (values.file, Form::Json),
+        Word::OtpJson => (values.file, Form::OtpText),
+        Word::Image => (values.file, Form::Image),
+        Word::Uf2 => (values.file, Form::Uf2),
+        Word::Text => (values.file, Form::Text),
         Word::Cpu
         | Word::Kind
         | Word::OutFlash

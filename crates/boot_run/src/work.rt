@@ -1,6 +1,12 @@
 //! The commands: what each does on the files of its inputs.
 
-ghost use Rattle.std.specs.Prelude.{◌≡◌, IfOk, length};
+ghost use Rattle.std.specs.Prelude.{◌≡◌, IfErr, IfOk, None, OnOk, Option, length};
+ghost use Rattle.std.specs.Option.{option_or};
+ghost use Rattle.pico_board.specs.MemBoard.{new_state, state_of};
+ghost use Rattle.cli_course.specs.Outcomes.{AnswerView};
+ghost use Rattle.cli_inputs.specs.declared.forms.Form.TheVariants as forms;
+ghost use Rattle.cli_inputs.specs.Forms.{filled_flash, form_fault, otp_of};
+ghost use Rattle.cli_inputs.specs.Inputs.{Tells, named_fault};
 ghost use Rattle.cli_course.specs.Views.{answer_from, bytes_of_files};
 ghost use Rattle.cli_words.specs.Rows.{command_from};
 ghost use Rattle.cli_words.specs.declared.rows.Verb.TheVariants as verbs;
@@ -23,69 +29,30 @@ use cli_scripts::{copy_uf2, list_script, replay, write_script};
 use cli_sweep::{chart_script, firm_image, sweep_script};
 use cli_tools::{load, made_flash, pack_elf, plan_image, seal_binary, table, uf2};
 use cli_words::{CommandLine, Values, Verb, help_text, release_line, usage_text};
+use pico_board::MemBoard;
 use std::alloc::{AllocError, Global};
 
 /// What the work on a command's files gives.
 type Done<'a> = Result<Answer<'a>, InputFail>;
 
-/// Which image a boot starts.
-fn boot_on<'a>(alloc: Global, files: Vec<Vec<u8>>, values: &Values<'a>) -> Done<'a>
-    requires { length files.items ≡ 2 }
-    ensures { IsDone verbs.Boot values.now (bytes_of_files files.items) result }
+/// The board of a command's flash file and OTP file.
+fn board(
+    alloc: Global,
+    values: &Values<'_>,
+    files: (Vec<u8>, Vec<u8>),
+) -> Result<MemBoard, InputFail>
+    ensures board { IfOk result (λ board. state_of board
+        ≡ new_state (filled_flash files.0.items) (otp_of files.1.items)) }
+    ensures flash { OnOk result (form_fault forms.Flash files.0.items ≡ None) }
+    ensures otp { OnOk result (form_fault forms.Otp files.1.items ≡ None) }
+    ensures refused { IfErr result (λ fail. (behind : Option AnswerView) → Tells fail
+        (option_or
+        (named_fault (record { name = values.now.flash.now; form = forms.Flash }) files.0.items)
+        (option_or
+        (named_fault (record { name = values.now.otp.now; form = forms.Otp }) files.1.items)
+        behind))) }
 {
-    let (flash_file, otp_file) = two(files);
-    let board = read_board(alloc, values.flash, flash_file, values.otp, &otp_file)?;
-    Ok(boot(alloc, board, values.cpu, values.kind)?)
-}
-
-/// The partition table, and the image in each window.
-fn info_on<'a>(alloc: Global, files: Vec<Vec<u8>>, values: &Values<'a>) -> Done<'a>
-    requires { length files.items ≡ 2 }
-    ensures { IsDone verbs.Info values.now (bytes_of_files files.items) result }
-{
-    let (flash_file, otp_file) = two(files);
-    let board = read_board(alloc, values.flash, flash_file, values.otp, &otp_file)?;
-    Ok(info(alloc, board, values.cpu)?)
-}
-
-/// Which image a boot starts, and the data that it owns.
-fn data_on<'a>(alloc: Global, files: Vec<Vec<u8>>, values: &Values<'a>) -> Done<'a>
-    requires { length files.items ≡ 2 }
-    ensures { IsDone verbs.OwnedData values.now (bytes_of_files files.items) result }
-{
-    let (flash_file, otp_file) = two(files);
-    let board = read_board(alloc, values.flash, flash_file, values.otp, &otp_file)?;
-    Ok(data(alloc, board, values.cpu, values.kind)?)
-}
-
-/// Why a boot decides as it does.
-fn explain_on<'a>(alloc: Global, files: Vec<Vec<u8>>, values: &Values<'a>) -> Done<'a>
-    requires { length files.items ≡ 2 }
-    ensures { IsDone verbs.Explain values.now (bytes_of_files files.items) result }
-{
-    let (flash_file, otp_file) = two(files);
-    let board = read_board(alloc, values.flash, flash_file, values.otp, &otp_file)?;
-    Ok(explain(alloc, board, values.cpu, values.kind)?)
-}
-
-/// Where the chip may decide otherwise than the model on a boot.
-fn caveats_on<'a>(alloc: Global, files: Vec<Vec<u8>>, values: &Values<'a>) -> Done<'a>
-    requires { length files.items ≡ 2 }
-    ensures { IsDone verbs.Caveats values.now (bytes_of_files files.items) result }
-{
-    let (flash_file, otp_file) = two(files);
-    let board = read_board(alloc, values.flash, flash_file, values.otp, &otp_file)?;
-    Ok(caveats(alloc, board, values.cpu, values.kind)?)
-}
-
-/// A picture of a flash.
-fn map_on<'a>(alloc: Global, files: Vec<Vec<u8>>, values: &Values<'a>) -> Done<'a>
-    requires { length files.items ≡ 2 }
-    ensures { IsDone verbs.Map values.now (bytes_of_files files.items) result }
-{
-    let (flash_file, otp_file) = two(files);
-    let board = read_board(alloc, values.flash, flash_file, values.otp, &otp_file)?;
-    Ok(map_flash(alloc, board, values.cpu, values.out)?)
+    read_board(alloc, values.flash, files.0, values.otp, &files.1)
 }
 
 /// What a script does to a machine.
@@ -93,17 +60,11 @@ fn replay_on<'a>(alloc: Global, files: Vec<Vec<u8>>, values: &Values<'a>) -> Don
     requires { length files.items ≡ 3 }
     ensures { IsDone verbs.Replay values.now (bytes_of_files files.items) result }
 {
-    let (flash_file, otp_file, script_file) = three(files);
-    let board = read_board(alloc, values.flash, flash_file, values.otp, &otp_file)?;
-    let events = read_script(alloc, values.script, &script_file)?;
-    Ok(replay(
-        alloc,
-        board,
-        values.cpu,
-        events,
-        values.out_flash,
-        values.out_otp,
-    )?)
+    let (out_flash, out_otp) = (values.out_flash, values.out_otp);
+    let (flash, otp, script) = three(files);
+    let board = read_board(alloc, values.flash, flash, values.otp, &otp)?;
+    let events = read_script(alloc, values.file, &script)?;
+    Ok(replay(alloc, board, values.cpu, events, out_flash, out_otp)?)
 }
 
 /// What a normal boot makes of each loss of power in a script's session.
@@ -111,11 +72,11 @@ fn sweep_on<'a>(alloc: Global, files: Vec<Vec<u8>>, values: &Values<'a>) -> Done
     requires { length files.items ≡ 4 }
     ensures { IsDone verbs.Sweep values.now (bytes_of_files files.items) result }
 {
-    let (flash_file, otp_file, script_file, pattern_file) = four(files);
-    let board = read_board(alloc, values.flash, flash_file, values.otp, &otp_file)?;
-    let events = read_script(alloc, values.script, &script_file)?;
-    let bytes = read_pattern(alloc, values.pattern, &pattern_file)?;
-    Ok(sweep_script(alloc, board, values.cpu, values.script, events, bytes)?)
+    let (flash, otp, script, pattern) = four(files);
+    let board = read_board(alloc, values.flash, flash, values.otp, &otp)?;
+    let events = read_script(alloc, values.file, &script)?;
+    let bytes = read_pattern(alloc, values.pattern, &pattern)?;
+    Ok(sweep_script(alloc, board, values.cpu, values.file, events, bytes)?)
 }
 
 /// A picture of a sweep.
@@ -123,19 +84,12 @@ fn chart_on<'a>(alloc: Global, files: Vec<Vec<u8>>, values: &Values<'a>) -> Done
     requires { length files.items ≡ 4 }
     ensures { IsDone verbs.Chart values.now (bytes_of_files files.items) result }
 {
-    let (flash_file, otp_file, script_file, pattern_file) = four(files);
-    let board = read_board(alloc, values.flash, flash_file, values.otp, &otp_file)?;
-    let events = read_script(alloc, values.script, &script_file)?;
-    let bytes = read_pattern(alloc, values.pattern, &pattern_file)?;
-    Ok(chart_script(
-        alloc,
-        board,
-        values.cpu,
-        values.script,
-        events,
-        bytes,
-        values.out,
-    )?)
+    let file = values.file;
+    let (flash, otp, script, pattern) = four(files);
+    let board = read_board(alloc, values.flash, flash, values.otp, &otp)?;
+    let events = read_script(alloc, file, &script)?;
+    let bytes = read_pattern(alloc, values.pattern, &pattern)?;
+    Ok(chart_script(alloc, board, values.cpu, file, events, bytes, values.out)?)
 }
 
 /// What a normal boot makes of each loss of power in a script.
@@ -143,11 +97,11 @@ fn cuts_on<'a>(alloc: Global, files: Vec<Vec<u8>>, values: &Values<'a>) -> Done<
     requires { length files.items ≡ 4 }
     ensures { IsDone verbs.Cuts values.now (bytes_of_files files.items) result }
 {
-    let (flash_file, otp_file, script_file, pattern_file) = four(files);
-    let board = read_board(alloc, values.flash, flash_file, values.otp, &otp_file)?;
-    let events = read_script(alloc, values.script, &script_file)?;
-    let bytes = read_pattern(alloc, values.pattern, &pattern_file)?;
-    Ok(cuts(alloc, board, values.cpu, values.script, events, bytes)?)
+    let (flash, otp, script, pattern) = four(files);
+    let board = read_board(alloc, values.flash, flash, values.otp, &otp)?;
+    let events = read_script(alloc, values.file, &script)?;
+    let bytes = read_pattern(alloc, values.pattern, &pattern)?;
+    Ok(cuts(alloc, board, values.cpu, values.file, events, bytes)?)
 }
 
 /// Whether an update does what it is for, whatever power is lost in it.
@@ -155,11 +109,11 @@ fn check_on<'a>(alloc: Global, files: Vec<Vec<u8>>, values: &Values<'a>) -> Done
     requires { length files.items ≡ 4 }
     ensures { IsDone verbs.Check values.now (bytes_of_files files.items) result }
 {
-    let (flash_file, otp_file, script_file, pattern_file) = four(files);
-    let board = read_board(alloc, values.flash, flash_file, values.otp, &otp_file)?;
-    let events = read_script(alloc, values.script, &script_file)?;
-    let bytes = read_pattern(alloc, values.pattern, &pattern_file)?;
-    Ok(check(alloc, board, values.cpu, values.script, events, bytes)?)
+    let (flash, otp, script, pattern) = four(files);
+    let board = read_board(alloc, values.flash, flash, values.otp, &otp)?;
+    let events = read_script(alloc, values.file, &script)?;
+    let bytes = read_pattern(alloc, values.pattern, &pattern)?;
+    Ok(check(alloc, board, values.cpu, values.file, events, bytes)?)
 }
 
 /// The sealed image of a binary.
@@ -167,10 +121,10 @@ fn seal_on<'a>(alloc: Global, files: Vec<Vec<u8>>, values: &Values<'a>) -> Done<
     requires { length files.items ≡ 2 }
     ensures { IsDone verbs.Seal values.now (bytes_of_files files.items) result }
 {
-    let (binary_file, spec_file) = two(files);
-    let bytes = read_binary(alloc, values.binary, &binary_file)?;
-    let asked = read_spec(alloc, values.spec, &spec_file)?;
-    Ok(seal_binary(alloc, values.binary, values.spec, values.out, bytes, &asked)?)
+    let (binary, spec) = two(files);
+    let bytes = read_binary(alloc, values.file, &binary)?;
+    let asked = read_spec(alloc, values.spec, &spec)?;
+    Ok(seal_binary(alloc, values.file, values.spec, values.out, bytes, &asked)?)
 }
 
 /// The sealed image of an ELF file.
@@ -178,46 +132,10 @@ fn elf_on<'a>(alloc: Global, files: Vec<Vec<u8>>, values: &Values<'a>) -> Done<'
     requires { length files.items ≡ 2 }
     ensures { IsDone verbs.Elf values.now (bytes_of_files files.items) result }
 {
-    let (elf_file, spec_file) = two(files);
-    let bytes = read_elf(alloc, values.elf, &elf_file)?;
-    let asked = read_spec(alloc, values.spec, &spec_file)?;
-    Ok(pack_elf(alloc, values.elf, values.spec, values.out, bytes, &asked)?)
-}
-
-/// Whether an image is firm.
-fn firm_on<'a>(alloc: Global, files: Vec<Vec<u8>>, values: &Values<'a>) -> Done<'a>
-    requires { length files.items ≡ 1 }
-    ensures { IsDone verbs.Firm values.now (bytes_of_files files.items) result }
-{
-    let bytes = read_image(alloc, values.image, one(files))?;
-    Ok(firm_image(alloc, values.image, bytes, values.cpu)?)
-}
-
-/// The partition table of a text.
-fn table_on<'a>(alloc: Global, files: Vec<Vec<u8>>, values: &Values<'a>) -> Done<'a>
-    requires { length files.items ≡ 1 }
-    ensures { IsDone verbs.Table values.now (bytes_of_files files.items) result }
-{
-    let text = read_table(alloc, values.json, &one(files))?;
-    Ok(table(alloc, &text, values.out)?)
-}
-
-/// The OTP file of a board that a text describes.
-fn otp_on<'a>(alloc: Global, files: Vec<Vec<u8>>, values: &Values<'a>) -> Done<'a>
-    requires { length files.items ≡ 1 }
-    ensures { IsDone verbs.OtpFile values.now (bytes_of_files files.items) result }
-{
-    let text = read_otp(alloc, values.json, &one(files))?;
-    Ok(otp(alloc, &text, values.out)?)
-}
-
-/// The UF2 file of an image.
-fn uf2_on<'a>(alloc: Global, files: Vec<Vec<u8>>, values: &Values<'a>) -> Done<'a>
-    requires { length files.items ≡ 1 }
-    ensures { IsDone verbs.Uf2 values.now (bytes_of_files files.items) result }
-{
-    let bytes = read_image(alloc, values.image, one(files))?;
-    Ok(uf2(alloc, values.image, values.family, values.out, &bytes)?)
+    let (elf, spec) = two(files);
+    let bytes = read_elf(alloc, values.file, &elf)?;
+    let asked = read_spec(alloc, values.spec, &spec)?;
+    Ok(pack_elf(alloc, values.file, values.spec, values.out, bytes, &asked)?)
 }
 
 /// The script that writes an image to where a download goes.
@@ -225,10 +143,10 @@ fn plan_on<'a>(alloc: Global, files: Vec<Vec<u8>>, values: &Values<'a>) -> Done<
     requires { length files.items ≡ 3 }
     ensures { IsDone verbs.Plan values.now (bytes_of_files files.items) result }
 {
-    let (flash_file, otp_file, image_file) = three(files);
-    let board = read_board(alloc, values.flash, flash_file, values.otp, &otp_file)?;
-    let bytes = read_image(alloc, values.image, image_file)?;
-    Ok(plan_image(alloc, board, values.cpu, values.image, values.out, &bytes)?)
+    let (flash, otp, image) = three(files);
+    let board = read_board(alloc, values.flash, flash, values.otp, &otp)?;
+    let bytes = read_image(alloc, values.file, image)?;
+    Ok(plan_image(alloc, board, values.cpu, values.file, values.out, &bytes)?)
 }
 
 /// The script that writes an image in ascending order.
@@ -236,40 +154,10 @@ fn load_on<'a>(alloc: Global, files: Vec<Vec<u8>>, values: &Values<'a>) -> Done<
     requires { length files.items ≡ 3 }
     ensures { IsDone verbs.Load values.now (bytes_of_files files.items) result }
 {
-    let (flash_file, otp_file, image_file) = three(files);
-    let board = read_board(alloc, values.flash, flash_file, values.otp, &otp_file)?;
-    let bytes = read_image(alloc, values.image, image_file)?;
-    Ok(load(alloc, board, values.cpu, values.image, values.out, &bytes)?)
-}
-
-/// The script of a host that copies a UF2 file to the board's drive.
-fn copy_on<'a>(alloc: Global, files: Vec<Vec<u8>>, values: &Values<'a>) -> Done<'a>
-    requires { length files.items ≡ 1 }
-    ensures { IsDone verbs.Copy values.now (bytes_of_files files.items) result }
-{
-    let file = one(files);
-    let blocks = read_uf2(alloc, values.uf2, &file)?;
-    Ok(copy_uf2(alloc, blocks, values.out)?)
-}
-
-/// A script as text.
-fn list_on<'a>(alloc: Global, files: Vec<Vec<u8>>, values: &Values<'a>) -> Done<'a>
-    requires { length files.items ≡ 1 }
-    ensures { IsDone verbs.ListScript values.now (bytes_of_files files.items) result }
-{
-    let file = one(files);
-    let events = read_script(alloc, values.script, &file)?;
-    Ok(list_script(alloc, events)?)
-}
-
-/// The script of a text.
-fn write_on<'a>(alloc: Global, files: Vec<Vec<u8>>, values: &Values<'a>) -> Done<'a>
-    requires { length files.items ≡ 1 }
-    ensures { IsDone verbs.WriteScript values.now (bytes_of_files files.items) result }
-{
-    let file = one(files);
-    let lines = read_text(alloc, values.text, &file)?;
-    Ok(write_script(alloc, values.text, lines, values.out)?)
+    let (flash, otp, image) = three(files);
+    let board = read_board(alloc, values.flash, flash, values.otp, &otp)?;
+    let bytes = read_image(alloc, values.file, image)?;
+    Ok(load(alloc, board, values.cpu, values.file, values.out, &bytes)?)
 }
 
 /// What a command does on the files of its inputs: it reads each into what its form gives, in the
@@ -278,33 +166,43 @@ fn perform<'a>(alloc: Global, command: &CommandLine<'a>, files: Vec<Vec<u8>>) ->
     requires { length files.items ≡ length (inputs_of (command_from command.now)) }
     ensures { IsDone command.now.verb command.now.values (bytes_of_files files.items) result }
 {
-    let values = &command.values;
+    let args = &command.values;
+    let (cpu, kind, file, out) = (args.cpu, args.kind, args.file, args.out);
     match command.verb {
-        Verb::Boot => boot_on(alloc, files, values),
-        Verb::Info => info_on(alloc, files, values),
-        Verb::OwnedData => data_on(alloc, files, values),
-        Verb::Explain => explain_on(alloc, files, values),
-        Verb::Caveats => caveats_on(alloc, files, values),
-        Verb::Map => map_on(alloc, files, values),
-        Verb::Replay => replay_on(alloc, files, values),
-        Verb::Sweep => sweep_on(alloc, files, values),
-        Verb::Chart => chart_on(alloc, files, values),
-        Verb::Cuts => cuts_on(alloc, files, values),
-        Verb::Check => check_on(alloc, files, values),
-        Verb::Seal => seal_on(alloc, files, values),
-        Verb::Elf => elf_on(alloc, files, values),
-        Verb::Firm => firm_on(alloc, files, values),
-        Verb::Table => table_on(alloc, files, values),
-        Verb::OtpFile => otp_on(alloc, files, values),
-        Verb::Uf2 => uf2_on(alloc, files, values),
-        Verb::Plan => plan_on(alloc, files, values),
-        Verb::Load => load_on(alloc, files, values),
-        Verb::Copy => copy_on(alloc, files, values),
-        Verb::ListScript => list_on(alloc, files, values),
-        Verb::WriteScript => write_on(alloc, files, values),
-        Verb::Gen => Ok(made_flash(alloc, values.number)?),
+        Verb::Boot => Ok(boot(alloc, board(alloc, args, two(files))?, cpu, kind)?),
+        Verb::Info => Ok(info(alloc, board(alloc, args, two(files))?, cpu)?),
+        Verb::OwnedData => Ok(data(alloc, board(alloc, args, two(files))?, cpu, kind)?),
+        Verb::Explain => Ok(explain(alloc, board(alloc, args, two(files))?, cpu, kind)?),
+        Verb::Caveats => Ok(caveats(alloc, board(alloc, args, two(files))?, cpu, kind)?),
+        Verb::Map => Ok(map_flash(alloc, board(alloc, args, two(files))?, cpu, out)?),
+        Verb::Replay => replay_on(alloc, files, args),
+        Verb::Sweep => sweep_on(alloc, files, args),
+        Verb::Chart => chart_on(alloc, files, args),
+        Verb::Cuts => cuts_on(alloc, files, args),
+        Verb::Check => check_on(alloc, files, args),
+        Verb::Seal => seal_on(alloc, files, args),
+        Verb::Elf => elf_on(alloc, files, args),
+        Verb::Firm => {
+            let image = read_image(alloc, file, one(files))?;
+            Ok(firm_image(alloc, file, image, cpu)?)
+        }
+        Verb::Table => Ok(table(alloc, &read_table(alloc, file, &one(files))?, out)?),
+        Verb::OtpFile => Ok(otp(alloc, &read_otp(alloc, file, &one(files))?, out)?),
+        Verb::Uf2 => {
+            let image = read_image(alloc, file, one(files))?;
+            Ok(uf2(alloc, file, args.family, out, &image)?)
+        }
+        Verb::Plan => plan_on(alloc, files, args),
+        Verb::Load => load_on(alloc, files, args),
+        Verb::Copy => Ok(copy_uf2(alloc, read_uf2(alloc, file, &one(files))?, out)?),
+        Verb::ListScript => Ok(list_script(alloc, read_script(alloc, file, &one(files))?)?),
+        Verb::WriteScript => {
+            let text = one(files);
+            Ok(write_script(alloc, file, read_text(alloc, file, &text)?, out)?)
+        }
+        Verb::Gen => Ok(made_flash(alloc, args.number)?),
         Verb::Usage | Verb::ShortUsage | Verb::WordUsage => Ok(told(alloc, usage_text(alloc)?)),
-        Verb::Help => Ok(told(alloc, help_text(alloc, values.command)?)),
+        Verb::Help => Ok(told(alloc, help_text(alloc, args.command)?)),
         Verb::Release => Ok(told(alloc, release_line(alloc)?)),
     }
 }

@@ -11,12 +11,11 @@ use Rattle.boot_rules.specs.Choosing.{decision_in}
 use Rattle.boot_rules.proofs.DecisionLemmas.{decision-chosen, chosen-decision}
 use Rattle.uf2_place.specs.Files.{file_bytes, page_count}
 use Rattle.script_plan.specs.declared.writing.WriteOrder.{WriteOrder}
-use Rattle.script_plan.specs.declared.writing.WriteOrder.TheVariants.{FirstLast, Ascending}
 use Rattle.script_plan.specs.Orders.{script_text}
 use Rattle.cli_course.specs.declared.status.Status.TheVariants.{Done, Input as Refused}
 use Rattle.cli_course.specs.Outcomes.{Work, Answers, Refuses, one_file, AnswerView, refused, worked}
-use Rattle.cli_tools.specs.ToolWorks.{uf2_line, uf2_work, plan_target, script_line, window_work, target_work, script_work, plan_work, load_work, made_content, gen_line, gen_work}
-use Rattle.cli_tools.specs.ToolRules.{IsUf2Refused, IsUf2Of, IsTargetRefused, IsScriptOf, IsPlanRefused, IsPlanOf, IsLoadRefused, IsLoadOf, IsGenOf}
+use Rattle.cli_tools.specs.ToolWorks.{uf2_line, uf2_work, plan_target, script_line, window_work, target_work, script_work, made_content, gen_line, gen_work}
+use Rattle.cli_tools.specs.ToolRules.{IsUf2Refused, IsUf2Of, IsTargetRefused, IsScriptOf, IsGenOf}
 use Rattle.cli_inputs.specs.Rules.{IsRefusedOrRight, IsByRules}
 use Rattle.cli_inputs.proofs.WorkLemmas.{same-outcome, never-refuses}
 use Rattle.text_lines.specs.Texts.{decision_line}
@@ -175,8 +174,8 @@ uf2-works image out i family = record {
   exact = λ name fault. uf2-exact image out i name fault family;
 }
 
--- the scripts are right by their rules
-script-works : (order : WriteOrder) (image out i : List ℕ) (c : Content) (cpu : Cpu)
+-- `plan` and `load` are right by their rules
+pub script-works : (order : WriteOrder) (image out i : List ℕ) (c : Content) (cpu : Cpu)
     → IsByRules ⊤ (script_work order c cpu image out i) (IsTargetRefused c cpu image i) (IsScriptOf order c cpu i out)
 script-works order image out i c cpu = record {
   done = λ need. script-done order image out i c cpu;
@@ -186,15 +185,6 @@ script-works order image out i c cpu = record {
       (worked (script_work order c cpu image out i)) (λ right. right.status) (script-done order image out i c cpu);
   exact = λ name fault. script-exact order image out i c cpu name fault;
 }
-
--- `plan` and `load` are right by their rules
-pub plan-works : (image out i : List ℕ) (c : Content) (cpu : Cpu)
-    → IsByRules ⊤ (plan_work c cpu image out i) (IsPlanRefused c cpu image i) (IsPlanOf c cpu i out)
-plan-works = script-works FirstLast
-
-pub load-works : (image out i : List ℕ) (c : Content) (cpu : Cpu)
-    → IsByRules ⊤ (load_work c cpu image out i) (IsLoadRefused c cpu image i) (IsLoadOf c cpu i out)
-load-works = script-works Ascending
 
 gen-only : (n : ℕ) (o : AnswerView) → IsGenOf n o → o ≡ worked (gen_work n)
 gen-only n o right =

@@ -10,7 +10,6 @@ use Rattle.boot_rules.specs.declared.decision.Decision.{Decision}
 use Rattle.boot_rules.specs.Chosen.{Chosen}
 use Rattle.uf2_place.specs.Files.{file_bytes, page_count}
 use Rattle.script_plan.specs.declared.writing.WriteOrder.{WriteOrder}
-use Rattle.script_plan.specs.declared.writing.WriteOrder.TheVariants.{FirstLast, Ascending}
 use Rattle.script_plan.specs.Orders.{script_text}
 use Rattle.image_pack.specs.Flashes.{generated}
 use Rattle.cli_course.specs.declared.status.Status.TheVariants.{Done}
@@ -46,8 +45,9 @@ IsTargetFault c cpu image fault =
 abbrev pub IsTargetRefused : Content → Cpu → List ℕ → List ℕ → List ℕ → List ℕ → Type 0
 IsTargetRefused c cpu image i name fault = (name ≡ image) × IsTargetFault c cpu i fault
 
--- the outcome prints the window of the target of the processor's executables, and the image's
--- length; it writes the script that writes the image into that window in this order
+-- `plan`, with the first sector last, and `load`, in ascending order: the outcome prints the window
+-- of the target of the processor's executables, and the image's length; it writes the script that
+-- writes the image into that window in this order
 pub record IsScriptOf (order : WriteOrder) (c : Content) (cpu : Cpu) (image out : List ℕ)
     (o : AnswerView) : Type 0 where
   pub target : Target
@@ -57,20 +57,6 @@ pub record IsScriptOf (order : WriteOrder) (c : Content) (cpu : Cpu) (image out 
   pub status : o.status ≡ Done
   pub text : o.text ≡ script_line order target.window (length image)
   pub files : o.files ≡ one_file out (script_text order target.window.start image)
-
--- `plan`: the script writes the first sector last
-abbrev pub IsPlanRefused : Content → Cpu → List ℕ → List ℕ → List ℕ → List ℕ → Type 0
-IsPlanRefused c cpu image i name fault = IsTargetRefused c cpu image i name fault
-
-abbrev pub IsPlanOf : Content → Cpu → List ℕ → List ℕ → AnswerView → Type 0
-IsPlanOf c cpu image out o = IsScriptOf FirstLast c cpu image out o
-
--- `load`: the script writes one sector after another, in ascending order
-abbrev pub IsLoadRefused : Content → Cpu → List ℕ → List ℕ → List ℕ → List ℕ → Type 0
-IsLoadRefused c cpu image i name fault = IsTargetRefused c cpu image i name fault
-
-abbrev pub IsLoadOf : Content → Cpu → List ℕ → List ℕ → AnswerView → Type 0
-IsLoadOf c cpu image out o = IsScriptOf Ascending c cpu image out o
 
 -- `gen`: the outcome prints a line on the flash of the number, and the one decision that the rules
 -- name for a normal boot for Arm; the boot is on that flash and an OTP of zeros; where the

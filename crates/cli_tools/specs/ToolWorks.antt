@@ -72,13 +72,6 @@ target_work order (Some target) name out image = window_work order target.window
 abbrev pub script_work : WriteOrder → Content → Cpu → List ℕ → List ℕ → List ℕ → Work
 script_work order c cpu name out image = target_work order (plan_target c cpu) name out image
 
--- the script that writes the first sector last, and the one that writes in ascending order
-abbrev pub plan_work : Content → Cpu → List ℕ → List ℕ → List ℕ → Work
-plan_work c cpu name out image = script_work FirstLast c cpu name out image
-
-abbrev pub load_work : Content → Cpu → List ℕ → List ℕ → List ℕ → Work
-load_work c cpu name out image = script_work Ascending c cpu name out image
-
 -- the flash of a number, and an OTP of zeros
 abbrev pub made_content : ℕ → Content
 made_content n = record { flash = generated n; otp = zero_otp }

@@ -5,7 +5,7 @@ ghost use Rattle.part_table.specs.Windows.{IsPlacedWindow};
 ghost use Rattle.sector_pool.specs.Pool.{HasFree};
 ghost use Rattle.script_plan.specs.Plans.{IsPlanned};
 ghost use Rattle.cli_course.specs.Outcomes.{worked};
-ghost use Rattle.cli_tools.specs.ToolWorks.{executable_family, load_work, order_word, plan_target, plan_work, script_line, script_work, window_work};
+ghost use Rattle.cli_tools.specs.ToolWorks.{executable_family, order_word, plan_target, script_line, script_work, window_work};
 ghost use Rattle.pico_board.specs.MemBoard.{state_of};
 ghost use Rattle.cli_course.specs.Views.{answer_from};
 
@@ -129,7 +129,8 @@ pub fn plan_image<'a>(
 ) -> Result<Answer<'a>, AllocError>
     requires { IsTrue (state_of board).powered }
     ensures { IfOk result (λ answer. answer_from answer ≡ worked
-        (plan_work (state_of board).content cpu name.now out.entry.now image.now.bytes.items)) }
+        (script_work WriteOrder.FirstLast (state_of board).content cpu name.now out.entry.now
+        image.now.bytes.items)) }
 {
     script_answer(alloc, WriteOrder::FirstLast, &board, cpu, name, out, image)
 }
@@ -147,7 +148,8 @@ pub fn load<'a>(
 ) -> Result<Answer<'a>, AllocError>
     requires { IsTrue (state_of board).powered }
     ensures { IfOk result (λ answer. answer_from answer ≡ worked
-        (load_work (state_of board).content cpu name.now out.entry.now image.now.bytes.items)) }
+        (script_work WriteOrder.Ascending (state_of board).content cpu name.now out.entry.now
+        image.now.bytes.items)) }
 {
     script_answer(alloc, WriteOrder::Ascending, &board, cpu, name, out, image)
 }

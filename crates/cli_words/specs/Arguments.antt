@@ -1,30 +1,30 @@
 -- The kinds of arguments: what the usage calls each, and its lines on it.
 use Rattle.std.specs.Prelude.{ℕ, List, codes}
 use Rattle.cli_words.specs.declared.arguments.Word.{Word}
-use Rattle.cli_words.specs.declared.arguments.Word.TheVariants as kinds
+use Rattle.cli_words.specs.declared.arguments.Word.TheVariants.{Binary, Command, Cpu, Elf, Family, Flash, Image, Json, Kind, Number, Otp, OtpJson, Out, OutFlash, OutOtp, Pattern, Script, Spec, Text, Uf2}
 
 -- what the usage calls an argument
 abbrev pub word_name : Word → List ℕ
-word_name kinds.Cpu = codes "CPU"
-word_name kinds.Kind = codes "KIND"
-word_name kinds.Flash = codes "FLASH"
-word_name kinds.Otp = codes "OTP"
-word_name kinds.Script = codes "SCRIPT"
-word_name kinds.Pattern = codes "PATTERN"
-word_name kinds.OutFlash = codes "OUTFLASH"
-word_name kinds.OutOtp = codes "OUTOTP"
-word_name kinds.Binary = codes "BIN"
-word_name kinds.Elf = codes "ELF"
-word_name kinds.Spec = codes "SPEC"
-word_name kinds.Json = codes "JSON"
-word_name kinds.OtpJson = codes "JSON"
-word_name kinds.Image = codes "IMAGE"
-word_name kinds.Uf2 = codes "UF2"
-word_name kinds.Text = codes "TEXT"
-word_name kinds.Family = codes "FAMILY"
-word_name kinds.Number = codes "N"
-word_name kinds.Out = codes "OUT"
-word_name kinds.Command = codes "COMMAND"
+word_name Cpu = codes "CPU"
+word_name Kind = codes "KIND"
+word_name Flash = codes "FLASH"
+word_name Otp = codes "OTP"
+word_name Script = codes "SCRIPT"
+word_name Pattern = codes "PATTERN"
+word_name OutFlash = codes "OUTFLASH"
+word_name OutOtp = codes "OUTOTP"
+word_name Binary = codes "BIN"
+word_name Elf = codes "ELF"
+word_name Spec = codes "SPEC"
+word_name Json = codes "JSON"
+word_name OtpJson = codes "JSON"
+word_name Image = codes "IMAGE"
+word_name Uf2 = codes "UF2"
+word_name Text = codes "TEXT"
+word_name Family = codes "FAMILY"
+word_name Number = codes "N"
+word_name Out = codes "OUT"
+word_name Command = codes "COMMAND"
 
 -- the lines of the usage on a JSON text
 abbrev pub json_note : List ℕ
@@ -33,41 +33,36 @@ json_note =
 
 -- the lines of the usage on an argument
 abbrev pub word_note : Word → List ℕ
-word_note kinds.Cpu =
-    codes "CPU     arm or riscv\n"
-word_note kinds.Kind =
+word_note Cpu = codes "CPU     arm or riscv\n"
+word_note Kind =
     codes "KIND    normal, bootsel, or update=0x and eight hexadecimal digits: the flash address of the update\n"
-word_note kinds.Flash =
+word_note Flash =
     codes "FLASH   a file of 1 to 16777216 bytes, filled with 0xff to whole sectors of 4096 bytes, at least two\n"
-word_note kinds.Otp =
+word_note Otp =
     codes "OTP     a file of at most 16384 bytes, 4 for each row, the lowest byte first; missing rows are 0\n"
-word_note kinds.Script =
+word_note Script =
     codes "SCRIPT  a file of at most 67108864 bytes, with an end among its first 524288 records\n"
-word_note kinds.Pattern =
+word_note Pattern =
     codes "PATTERN  a file of 1 to 4096 bytes, which a loss of power within a step leaves, repeated\n"
-word_note kinds.OutFlash =
-    codes "OUTFLASH  a file to write: the whole flash\n"
-word_note kinds.OutOtp =
-    codes "OUTOTP  a file to write: all 4096 rows, 4 bytes each\n"
-word_note kinds.Binary =
+word_note OutFlash = codes "OUTFLASH  a file to write: the whole flash\n"
+word_note OutOtp = codes "OUTOTP  a file to write: all 4096 rows, 4 bytes each\n"
+word_note Binary =
     codes "BIN     a file of at most 16777216 bytes: an image, with or without a version and a digest\n"
-word_note kinds.Elf =
+word_note Elf =
     codes "ELF     a file of at most 67108864 bytes: a 32-bit executable of segments in flash, or in SRAM\n"
-word_note kinds.Spec =
+word_note Spec =
     codes "SPEC    a JSON text of at most 65536 bytes: processor, version, rollback, rows and trial\n        of the image; those of the binary, and its window delta, are lost, also if left out\n"
-word_note kinds.Json = json_note
-word_note kinds.OtpJson = json_note
-word_note kinds.Image =
+word_note Json = json_note
+word_note OtpJson = json_note
+word_note Image =
     codes "IMAGE   a file of 1 to 16777216 bytes; for plan and load at most as many as there is room for\n"
-word_note kinds.Uf2 =
+word_note Uf2 =
     codes "UF2     a file of 512 to 33554944 bytes, in blocks of 512; the board judges them, not this command\n"
-word_note kinds.Text =
+word_note Text =
     codes "TEXT    a file of at most 201326592 bytes: one record a line, as list writes them\n"
-word_note kinds.Family =
+word_note Family =
     codes "FAMILY  rp2040, absolute, data, rp2350-arm-s, rp2350-riscv or rp2350-arm-ns\n"
-word_note kinds.Number =
-    codes "N       a number below 4294967296, of 1 to 10 decimal digits\n"
-word_note kinds.Out =
+word_note Number = codes "N       a number below 4294967296, of 1 to 10 decimal digits\n"
+word_note Out =
     codes "OUT     a file to write: the sealed image; the first sector of a flash with the table; the OTP file;\n        the UF2 file, in blocks of 512 bytes; the script; or the picture\n"
-word_note kinds.Command =
-    codes "COMMAND  the first word of a line above\n"
+word_note Command = codes "COMMAND  the first word of a line above\n"

@@ -1,9 +1,10 @@
 -- The table of commands: for each row its name, its arguments in order, and what it does; and the
 -- command that the arguments of a run are.
-use Rattle.std.specs.Prelude.{ℕ, ◌==◌, Bool, true, false, if◌then◌else◌, List, [], ◌∷◌, length, Option, Some, None, option_map, option_and_then, codes, bytes_eq, map, Vec, String, string_bytes}
+use Rattle.std.specs.Prelude.{ℕ, ◌==◌, Bool, if◌then◌else◌, List, [], ◌∷◌, length, Option, Some, None, option_map, option_and_then, codes, bytes_eq, map, Vec, String, string_bytes}
+use Rattle.std.specs.List.{list_any}
 use Rattle.std.specs.Option.{option_or}
 use Rattle.std.specs.declared.alloc.Global.{Global}
-use Rattle.pico_board.specs.declared.boot.Cpu.{Cpu}
+use Rattle.pico_board.specs.declared.boot.Cpu.{Cpu as Processor}
 use Rattle.pico_board.specs.Processors.{cpu_of}
 use Rattle.pico_board.specs.declared.boot.BootKind.{BootKind}
 use Rattle.part_table.specs.Families.{family_of}
@@ -13,7 +14,7 @@ use Rattle.cli_words.specs.declared.rows.TheConstants.{VERBS}
 use Rattle.cli_words.specs.declared.rows.Verb.{Verb}
 use Rattle.cli_words.specs.declared.rows.Verb.TheVariants as verbs
 use Rattle.cli_words.specs.declared.arguments.Word.{Word}
-use Rattle.cli_words.specs.declared.arguments.Word.TheVariants as kinds
+use Rattle.cli_words.specs.declared.arguments.Word.TheVariants.{Binary, Command, Cpu, Elf, Family, Flash, Image, Json, Kind, Number, Otp, OtpJson, Out, OutFlash, OutOtp, Pattern, Script, Spec, Text, Uf2}
 use Rattle.cli_words.specs.declared.rows.CommandLine.{CommandLine}
 use Rattle.cli_words.specs.declared.rows.Row.{Row}
 
@@ -32,95 +33,79 @@ row_from of = row of.name.now of.words.now of.does.now
 
 -- the rows
 abbrev pub row_of : Verb → RowView
-row_of verbs.Boot = row (codes "boot") (kinds.Flash ∷ kinds.Otp ∷ kinds.Cpu ∷ kinds.Kind ∷ [])
+row_of verbs.Boot = row (codes "boot") (Flash ∷ Otp ∷ Cpu ∷ Kind ∷ [])
     (codes "which image a boot starts, or why it falls to BOOTSEL")
-row_of verbs.Info = row (codes "info") (kinds.Flash ∷ kinds.Otp ∷ kinds.Cpu ∷ [])
+row_of verbs.Info = row (codes "info") (Flash ∷ Otp ∷ Cpu ∷ [])
     (codes "the partition table, and the image in each window or why there is none")
-row_of verbs.OwnedData = row (codes "data") (kinds.Flash ∷ kinds.Otp ∷ kinds.Cpu ∷ kinds.Kind ∷ [])
+row_of verbs.OwnedData = row (codes "data") (Flash ∷ Otp ∷ Cpu ∷ Kind ∷ [])
     (codes "the same as boot, and the windows of the data that the image owns")
-row_of verbs.Explain = row (codes "explain") (kinds.Flash ∷ kinds.Otp ∷ kinds.Cpu ∷ kinds.Kind ∷ [])
+row_of verbs.Explain = row (codes "explain") (Flash ∷ Otp ∷ Cpu ∷ Kind ∷ [])
     (codes "why a boot decides so: each table, partition, unit and image")
-row_of verbs.Caveats = row (codes "caveats") (kinds.Flash ∷ kinds.Otp ∷ kinds.Cpu ∷ kinds.Kind ∷ [])
+row_of verbs.Caveats = row (codes "caveats") (Flash ∷ Otp ∷ Cpu ∷ Kind ∷ [])
     (codes "the same as boot, and where the chip may decide otherwise")
-row_of verbs.Map = row (codes "map") (kinds.Flash ∷ kinds.Otp ∷ kinds.Cpu ∷ kinds.Out ∷ [])
+row_of verbs.Map = row (codes "map") (Flash ∷ Otp ∷ Cpu ∷ Out ∷ [])
     (codes "a picture of the flash, in SVG: what is where, and what a boot starts")
-row_of verbs.Replay = row (codes "replay")
-    (kinds.Flash ∷ kinds.Otp ∷ kinds.Cpu ∷ kinds.Script ∷ kinds.OutFlash ∷ kinds.OutOtp ∷ [])
+row_of verbs.Replay = row (codes "replay") (Flash ∷ Otp ∷ Cpu ∷ Script ∷ OutFlash ∷ OutOtp ∷ [])
     (codes "what each event of a script does, and what it leaves")
-row_of verbs.Sweep = row (codes "sweep")
-    (kinds.Flash ∷ kinds.Otp ∷ kinds.Cpu ∷ kinds.Script ∷ kinds.Pattern ∷ [])
+row_of verbs.Sweep = row (codes "sweep") (Flash ∷ Otp ∷ Cpu ∷ Script ∷ Pattern ∷ [])
     (codes "what a boot makes of each loss of power in a script's session")
-row_of verbs.Chart = row (codes "chart")
-    (kinds.Flash ∷ kinds.Otp ∷ kinds.Cpu ∷ kinds.Script ∷ kinds.Pattern ∷ kinds.Out ∷ [])
+row_of verbs.Chart = row (codes "chart") (Flash ∷ Otp ∷ Cpu ∷ Script ∷ Pattern ∷ Out ∷ [])
     (codes "the same as a picture: a file in SVG")
-row_of verbs.Cuts = row (codes "cuts")
-    (kinds.Flash ∷ kinds.Otp ∷ kinds.Cpu ∷ kinds.Script ∷ kinds.Pattern ∷ [])
+row_of verbs.Cuts = row (codes "cuts") (Flash ∷ Otp ∷ Cpu ∷ Script ∷ Pattern ∷ [])
     (codes "what a boot makes of each loss of power in any script")
-row_of verbs.Check = row (codes "check")
-    (kinds.Flash ∷ kinds.Otp ∷ kinds.Cpu ∷ kinds.Script ∷ kinds.Pattern ∷ [])
+row_of verbs.Check = row (codes "check") (Flash ∷ Otp ∷ Cpu ∷ Script ∷ Pattern ∷ [])
     (codes "whether a script does what an update is for")
-row_of verbs.Seal = row (codes "seal") (kinds.Binary ∷ kinds.Spec ∷ kinds.Out ∷ [])
+row_of verbs.Seal = row (codes "seal") (Binary ∷ Spec ∷ Out ∷ [])
     (codes "the sealed image of a binary: with a version, a load map and a digest")
-row_of verbs.Elf = row (codes "elf") (kinds.Elf ∷ kinds.Spec ∷ kinds.Out ∷ [])
+row_of verbs.Elf = row (codes "elf") (Elf ∷ Spec ∷ Out ∷ [])
     (codes "the sealed image of an ELF file, as a linker writes it")
-row_of verbs.Firm = row (codes "firm") (kinds.Image ∷ kinds.Cpu ∷ [])
+row_of verbs.Firm = row (codes "firm") (Image ∷ Cpu ∷ [])
     (codes "whether an image is firm: its definition and digest follow its first sector")
-row_of verbs.Table = row (codes "table") (kinds.Json ∷ kinds.Out ∷ [])
+row_of verbs.Table = row (codes "table") (Json ∷ Out ∷ [])
     (codes "the partition table of a text, as the first sector of a flash")
-row_of verbs.OtpFile = row (codes "otp") (kinds.OtpJson ∷ kinds.Out ∷ [])
+row_of verbs.OtpFile = row (codes "otp") (OtpJson ∷ Out ∷ [])
     (codes "the OTP file of a board that is told in words")
-row_of verbs.Uf2 = row (codes "uf2") (kinds.Image ∷ kinds.Family ∷ kinds.Out ∷ [])
-    (codes "the UF2 file of an image")
-row_of verbs.Plan = row (codes "plan")
-    (kinds.Flash ∷ kinds.Otp ∷ kinds.Cpu ∷ kinds.Image ∷ kinds.Out ∷ [])
+row_of verbs.Uf2 = row (codes "uf2") (Image ∷ Family ∷ Out ∷ []) (codes "the UF2 file of an image")
+row_of verbs.Plan = row (codes "plan") (Flash ∷ Otp ∷ Cpu ∷ Image ∷ Out ∷ [])
     (codes "a script that writes an image to where a download of it goes")
-row_of verbs.Load = row (codes "load")
-    (kinds.Flash ∷ kinds.Otp ∷ kinds.Cpu ∷ kinds.Image ∷ kinds.Out ∷ [])
+row_of verbs.Load = row (codes "load") (Flash ∷ Otp ∷ Cpu ∷ Image ∷ Out ∷ [])
     (codes "a script that writes an image there in ascending order, as a host does")
-row_of verbs.Copy = row (codes "copy") (kinds.Uf2 ∷ kinds.Out ∷ [])
+row_of verbs.Copy = row (codes "copy") (Uf2 ∷ Out ∷ [])
     (codes "a script of a host that copies a UF2 file to the board's drive")
-row_of verbs.ListScript = row (codes "list") (kinds.Script ∷ [])
+row_of verbs.ListScript = row (codes "list") (Script ∷ [])
     (codes "a script as text, with comments that say what its records are")
-row_of verbs.WriteScript = row (codes "script") (kinds.Text ∷ kinds.Out ∷ [])
+row_of verbs.WriteScript = row (codes "script") (Text ∷ Out ∷ [])
     (codes "the script of such a text")
-row_of verbs.Gen = row (codes "gen") (kinds.Number ∷ [])
+row_of verbs.Gen = row (codes "gen") (Number ∷ [])
     (codes "the digest of a flash that is made of a number, and what boots on it")
 row_of verbs.Usage = row (codes "--help") [] (codes "this text")
 row_of verbs.ShortUsage = row (codes "-h") [] (codes "the same")
 row_of verbs.WordUsage = row (codes "help") [] (codes "the same")
-row_of verbs.Help = row (codes "help") (kinds.Command ∷ []) (codes "how one command is used")
+row_of verbs.Help = row (codes "help") (Command ∷ []) (codes "how one command is used")
 row_of verbs.Release = row (codes "--version") [] (codes "the version of the program")
 
 -- an argument is the name of a row
-abbrev pub is_row_name : List Verb → List ℕ → Bool
-is_row_name [] word = false
-is_row_name (verb ∷ verbs) word =
-    if bytes_eq (row_of verb).name word then true else is_row_name verbs word
+abbrev pub is_row_name : List ℕ → Bool
+is_row_name word = list_any (λ verb. bytes_eq (row_of verb).name word) VERBS
 
 -- the values with that of one argument more, where the argument is of this kind; a name is any
--- argument but that of a command
+-- argument but that of a command; a script, a binary, an image, a text and the like is the file
+-- that the command works on
 abbrev pub with_word : Word → List ℕ → ValuesView → Option ValuesView
-with_word kinds.Cpu word v = option_map (λ cpu. record v { cpu = cpu }) (cpu_of word)
-with_word kinds.Kind word v = option_map (λ kind. record v { kind = kind }) (boot_kind_of word)
-with_word kinds.Flash word v = Some (record v { flash = word })
-with_word kinds.Otp word v = Some (record v { otp = word })
-with_word kinds.Script word v = Some (record v { script = word })
-with_word kinds.Pattern word v = Some (record v { pattern = word })
-with_word kinds.OutFlash word v = Some (record v { out_flash = word })
-with_word kinds.OutOtp word v = Some (record v { out_otp = word })
-with_word kinds.Binary word v = Some (record v { binary = word })
-with_word kinds.Elf word v = Some (record v { elf = word })
-with_word kinds.Spec word v = Some (record v { spec = word })
-with_word kinds.Json word v = Some (record v { json = word })
-with_word kinds.OtpJson word v = Some (record v { json = word })
-with_word kinds.Image word v = Some (record v { image = word })
-with_word kinds.Uf2 word v = Some (record v { uf2 = word })
-with_word kinds.Text word v = Some (record v { text = word })
-with_word kinds.Family word v = option_map (λ family. record v { family = family }) (family_of word)
-with_word kinds.Number word v = option_map (λ number. record v { number = number }) (number_of word)
-with_word kinds.Out word v = Some (record v { out = word })
-with_word kinds.Command word v =
-    if is_row_name VERBS word then Some (record v { command = word }) else None
+with_word Cpu word v = option_map (λ cpu. record v { cpu = cpu }) (cpu_of word)
+with_word Kind word v = option_map (λ kind. record v { kind = kind }) (boot_kind_of word)
+with_word Flash word v = Some (record v { flash = word })
+with_word Otp word v = Some (record v { otp = word })
+with_word Pattern word v = Some (record v { pattern = word })
+with_word Spec word v = Some (record v { spec = word })
+with_word OutFlash word v = Some (record v { out_flash = word })
+with_word OutOtp word v = Some (record v { out_otp = word })
+with_word Out word v = Some (record v { out = word })
+with_word Family word v = option_map (λ family. record v { family = family }) (family_of word)
+with_word Number word v = option_map (λ number. record v { number = number }) (number_of word)
+with_word Command word v =
+    if is_row_name word then Some (record v { command = word }) else None
+with_word _ word v = Some (record v { file = word })
 
 -- the values with those of arguments that are of these kinds, one after another
 abbrev pub with_words : List Word → List (List ℕ) → ValuesView → Option ValuesView
@@ -141,20 +126,14 @@ pub record CommandLineView : Type 0 where
 abbrev pub command_line : Verb → ValuesView → CommandLineView
 command_line verb values = record { verb = verb; values = values }
 
--- the values of a boot
-abbrev pub boot_values : (flash otp : List ℕ) → (cpu : Cpu) → (kind : BootKind) → ValuesView
-boot_values flash otp cpu kind =
-    record no_values { flash = flash; otp = otp; cpu = cpu; kind = kind }
+-- a command that has the arguments of a boot
+abbrev pub boot_line : Verb → (flash otp : List ℕ) → Processor → BootKind → CommandLineView
+boot_line verb flash otp cpu kind =
+    command_line verb
+    (record no_values { flash = flash; otp = otp; cpu = cpu; kind = kind })
 
--- the commands that end as a boot does
-abbrev pub Boot : (flash otp : List ℕ) → (cpu : Cpu) → (kind : BootKind) → CommandLineView
-Boot flash otp cpu kind = command_line verbs.Boot (boot_values flash otp cpu kind)
-
-abbrev pub OwnedData : (flash otp : List ℕ) → (cpu : Cpu) → (kind : BootKind) → CommandLineView
-OwnedData flash otp cpu kind = command_line verbs.OwnedData (boot_values flash otp cpu kind)
-
-abbrev pub Caveats : (flash otp : List ℕ) → (cpu : Cpu) → (kind : BootKind) → CommandLineView
-Caveats flash otp cpu kind = command_line verbs.Caveats (boot_values flash otp cpu kind)
+abbrev pub Boot : (flash otp : List ℕ) → (cpu : Processor) → (kind : BootKind) → CommandLineView
+Boot flash otp cpu kind = boot_line verbs.Boot flash otp cpu kind
 
 -- the command of the arguments after a name, where they are this row
 abbrev pub row_command : Verb → List ℕ → List (List ℕ) → Option CommandLineView

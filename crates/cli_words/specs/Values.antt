@@ -13,20 +13,14 @@ pub record ValuesView : Type 0 where
   pub kind : BootKind
   pub flash : List ℕ
   pub otp : List ℕ
-  pub script : List ℕ
+  pub file : List ℕ
   pub pattern : List ℕ
+  pub spec : List ℕ
   pub out_flash : List ℕ
   pub out_otp : List ℕ
-  pub binary : List ℕ
-  pub elf : List ℕ
-  pub spec : List ℕ
-  pub json : List ℕ
-  pub image : List ℕ
-  pub uf2 : List ℕ
-  pub text : List ℕ
+  pub out : List ℕ
   pub family : ℕ
   pub number : ℕ
-  pub out : List ℕ
   pub command : List ℕ
 
 -- the values where there is no argument
@@ -36,20 +30,14 @@ no_values = record {
   kind = Normal;
   flash = [];
   otp = [];
-  script = [];
+  file = [];
   pattern = [];
+  spec = [];
   out_flash = [];
   out_otp = [];
-  binary = [];
-  elf = [];
-  spec = [];
-  json = [];
-  image = [];
-  uf2 = [];
-  text = [];
+  out = [];
   family = 0;
   number = 0;
-  out = [];
   command = [];
 }
 
@@ -60,20 +48,14 @@ values_from v = record {
   kind = v.kind;
   flash = v.flash.now;
   otp = v.otp.now;
-  script = v.script.now;
+  file = v.file.now;
   pattern = v.pattern.now;
+  spec = v.spec.now;
   out_flash = v.out_flash.now;
   out_otp = v.out_otp.now;
-  binary = v.binary.now;
-  elf = v.elf.now;
-  spec = v.spec.now;
-  json = v.json.now;
-  image = v.image.now;
-  uf2 = v.uf2.now;
-  text = v.text.now;
+  out = v.out.now;
   family = v.family;
   number = v.number;
-  out = v.out.now;
   command = v.command.now;
 }
 

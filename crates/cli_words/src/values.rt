@@ -6,13 +6,14 @@ ghost use Rattle.cli_words.specs.Rows.{is_row_name, with_word, with_words, row_v
 ghost use Rattle.cli_words.specs.Values.{boot_kind_of, no_values, update_base, values_from};
 
 use crate::arguments::Word;
-use crate::rows::{VERBS, Verb};
+use crate::rows::VERBS;
 use part_table::family_of;
 use pico_board::{BootKind, Cpu};
 use text_words::{decimal_number, hex_number};
 
-/// The values of a command's arguments, by their kinds. A command has at most one argument of each.
-/// A value that it does not have is an empty text, 0, or the first of its type.
+/// The values of a command's arguments. A command has at most one argument of each kind, and at
+/// most one file that it works on. A value that it does not have is an empty text, 0, or the first
+/// of its type.
 #[derive(Clone, Copy, Drop)]
 pub struct Values<'a> {
     /// The processor.
@@ -23,34 +24,22 @@ pub struct Values<'a> {
     pub flash: &'a str,
     /// The name of the OTP file.
     pub otp: &'a str,
-    /// The name of the script.
-    pub script: &'a str,
+    /// The name of the file that the command works on: a script, an image, a text and the like.
+    pub file: &'a str,
     /// The name of the file whose bytes a cut within a step leaves.
     pub pattern: &'a str,
+    /// The name of the text that says what an image is asked to be.
+    pub spec: &'a str,
     /// The name of the flash that is left.
     pub out_flash: &'a str,
     /// The name of the OTP that is left.
     pub out_otp: &'a str,
-    /// The name of the binary.
-    pub binary: &'a str,
-    /// The name of the ELF file.
-    pub elf: &'a str,
-    /// The name of the text that says what an image is asked to be.
-    pub spec: &'a str,
-    /// The name of the JSON text.
-    pub json: &'a str,
-    /// The name of the image.
-    pub image: &'a str,
-    /// The name of the UF2 file.
-    pub uf2: &'a str,
-    /// The name of the text.
-    pub text: &'a str,
+    /// The name of the file to write.
+    pub out: &'a str,
     /// The UF2 family.
     pub family: u32,
     /// The number.
     pub number: u32,
-    /// The name of the file to write.
-    pub out: &'a str,
     /// The name of a command.
     pub command: &'a str,
 }
@@ -65,20 +54,14 @@ impl<'a> Values<'a> {
             kind: BootKind::Normal,
             flash: "",
             otp: "",
-            script: "",
+            file: "",
             pattern: "",
+            spec: "",
             out_flash: "",
             out_otp: "",
-            binary: "",
-            elf: "",
-            spec: "",
-            json: "",
-            image: "",
-            uf2: "",
-            text: "",
+            out: "",
             family: 0,
             number: 0,
-            out: "",
             command: "",
         }
     }
@@ -115,16 +98,11 @@ fn number_word(word: &str) -> Option<u32>
     decimal_number(word.as_bytes())
 }
 
-/// Whether an argument is the name of one of these rows.
-fn is_row_name(verbs: &[Verb], word: &str) -> bool
-    ensures { result ≡ is_row_name verbs.now word.now }
+/// Whether an argument is the name of a row.
+fn is_row_name(word: &str) -> bool
+    ensures { result ≡ is_row_name word.now }
 {
-    for verb in verbs {
-        if verb.row().name == word {
-            return true;
-        }
-    }
-    false
+    VERBS.iter().any(|verb| verb.row().name == word)
 }
 
 /// The values with that of one argument more, where the argument is of this kind.
@@ -137,22 +115,17 @@ fn with_word<'a>(kind: Word, word: &'a str, values: Values<'a>) -> Option<Values
         Word::Kind => values.kind = kind_word(word)?,
         Word::Flash => values.flash = word,
         Word::Otp => values.otp = word,
-        Word::Script => values.script = word,
         Word::Pattern => values.pattern = word,
+        Word::Spec => values.spec = word,
         Word::OutFlash => values.out_flash = word,
         Word::OutOtp => values.out_otp = word,
-        Word::Binary => values.binary = word,
-        Word::Elf => values.elf = word,
-        Word::Spec => values.spec = word,
-        Word::Json | Word::OtpJson => values.json = word,
-        Word::Image => values.image = word,
-        Word::Uf2 => values.uf2 = word,
-        Word::Text => values.text = word,
+        Word::Out => values.out = word,
         Word::Family => values.family = family_of(word)?,
         Word::Number => values.number = number_word(word)?,
-        Word::Out => values.out = word,
-        Word::Command if is_row_name(&VERBS, word) => values.command = word,
+        Word::Command if is_row_name(word) => values.command = word,
         Word::Command => return None,
+        Word::Script | Word::Binary | Word::Elf | Word::Json | Word::OtpJson => values.file = word,
+        Word::Image | Word::Uf2 | Word::Text => values.file = word,
     }
     Some(values)
 }

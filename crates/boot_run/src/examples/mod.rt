@@ -4,7 +4,7 @@
 ghost use Rattle.std.specs.Prelude.{◌≡◌, [], ◌∷◌, codes, false, Some, None};
 ghost use Rattle.pico_board.specs.declared.boot.Cpu.TheVariants.{Arm};
 ghost use Rattle.pico_board.specs.declared.boot.BootKind.TheVariants.{Normal};
-ghost use Rattle.cli_words.specs.Rows.{Boot, Caveats, OwnedData, command_line};
+ghost use Rattle.cli_words.specs.Rows.{Boot, boot_line, command_line};
 ghost use Rattle.cli_words.specs.declared.rows.Verb.TheVariants as verbs;
 ghost use Rattle.boot_run.specs.Commands.{Names, NeedsBytes, command_outcome, outcome_on, row_work};
 ghost use Rattle.boot_run.specs.Examples.{named, no_start, sink_of};
@@ -18,16 +18,16 @@ pub fn first_faults()
         ≡ refused (codes "f") (codes "empty") }
     ensures otp { command_outcome (command_line verbs.Info named) ((0 ∷ []) ∷ (0 ∷ []) ∷ [])
         ≡ refused (codes "o") (codes "otp-length") }
-    ensures data { command_outcome (OwnedData (codes "f") (codes "o") Arm Normal)
+    ensures data { command_outcome (boot_line verbs.OwnedData (codes "f") (codes "o") Arm Normal)
         ([] ∷ (0 ∷ []) ∷ []) ≡ refused (codes "f") (codes "empty") }
-    ensures caveats { command_outcome (Caveats (codes "f") (codes "o") Arm Normal)
+    ensures caveats { command_outcome (boot_line verbs.Caveats (codes "f") (codes "o") Arm Normal)
         ([] ∷ (0 ∷ []) ∷ []) ≡ refused (codes "f") (codes "empty") }
     ensures replay_flash { command_outcome (command_line verbs.Replay named)
         ([] ∷ (0 ∷ []) ∷ (9 ∷ []) ∷ []) ≡ refused (codes "f") (codes "empty") }
     ensures replay_otp { command_outcome (command_line verbs.Replay named)
         ((0 ∷ []) ∷ (0 ∷ []) ∷ (9 ∷ []) ∷ []) ≡ refused (codes "o") (codes "otp-length") }
     ensures replay_script { command_outcome (command_line verbs.Replay named)
-        ((0 ∷ []) ∷ [] ∷ (9 ∷ []) ∷ []) ≡ refused (codes "s") (codes "script kind at=0") }
+        ((0 ∷ []) ∷ [] ∷ (9 ∷ []) ∷ []) ≡ refused (codes "i") (codes "script kind at=0") }
     ensures lacking { outcome_on (Some (Boot (codes "f") (codes "o") Arm Normal))
         (record { name = codes "f"; bytes = [] } ∷ []) ≡ unread }
     ensures words { outcome_on None [] ≡ not_understood }
@@ -51,9 +51,9 @@ pub fn refusals_of_sealings()
     ensures form { command_outcome (command_line verbs.Seal named) ([] ∷ codes "{}" ∷ [])
         ≡ refused (codes "s") (codes "missing top processor") }
     ensures table { command_outcome (command_line verbs.Table named) (codes "[]" ∷ [])
-        ≡ refused (codes "t") (codes "value top partitions") }
+        ≡ refused (codes "i") (codes "value top partitions") }
     ensures otp { command_outcome (command_line verbs.OtpFile named) (codes "{\"x\":1}" ∷ [])
-        ≡ refused (codes "t") (codes "unknown top") }
+        ≡ refused (codes "i") (codes "unknown top") }
 {}
 
 /// An image is refused for the first fault, under its own name. Faults of forms come before it.

@@ -7,7 +7,8 @@ ghost use Rattle.pico_board.specs.declared.boot.BootKind.{BootKind};
 ghost use Rattle.pico_board.specs.Files.{File};
 ghost use Rattle.cli_course.specs.declared.status.Status.{Status};
 ghost use Rattle.cli_course.specs.declared.status.Status.TheVariants.{Input, Bootsel};
-ghost use Rattle.cli_words.specs.Rows.{CommandLineView, Boot, Caveats, OwnedData};
+ghost use Rattle.cli_words.specs.Rows.{CommandLineView, Boot, boot_line};
+ghost use Rattle.cli_words.specs.declared.rows.Verb.TheVariants as verbs;
 ghost use Rattle.cli_inputs.specs.Inputs.{readings};
 ghost use Rattle.cli_course.specs.Outcomes.{AnswerView, found};
 ghost use Rattle.boot_run.specs.Inputs.{inputs_of};
@@ -39,11 +40,11 @@ pub fn statuses_come_exactly()
         → ((command_outcome (Boot flash otp cpu kind) (f ∷ g ∷ [])).status ≡ Bootsel)
         ↔ FallsOn f g cpu kind }
     ensures data { (flash otp f g : List ℕ) (cpu : Cpu) (kind : BootKind)
-        → ((command_outcome (OwnedData flash otp cpu kind) (f ∷ g ∷ [])).status ≡ Bootsel)
-        ↔ FallsOn f g cpu kind }
+        → ((command_outcome (boot_line verbs.OwnedData flash otp cpu kind) (f ∷ g ∷ [])).status
+        ≡ Bootsel) ↔ FallsOn f g cpu kind }
     ensures caveats { (flash otp f g : List ℕ) (cpu : Cpu) (kind : BootKind)
-        → ((command_outcome (Caveats flash otp cpu kind) (f ∷ g ∷ [])).status ≡ Bootsel)
-        ↔ FallsOn f g cpu kind }
+        → ((command_outcome (boot_line verbs.Caveats flash otp cpu kind) (f ∷ g ∷ [])).status
+        ≡ Bootsel) ↔ FallsOn f g cpu kind }
     ensures judged { (command : CommandLineView) (read : List (List ℕ)) (status : Status)
         → length read ≡ length (inputs_of command) → NeedsBytes command read
         → is_verdict status ≡ true

@@ -12,13 +12,14 @@ ghost use Rattle.cli_tools.specs.Seals.{seal_error, IsUnsealed};
 ghost use Rattle.cli_tools.specs.Tools.{table_file, seal_work, table_work};
 ghost use Rattle.pico_board.specs.declared.boot.Cpu.{Cpu};
 ghost use Rattle.pico_board.specs.Content.{Content};
+ghost use Rattle.script_plan.specs.declared.writing.WriteOrder.{WriteOrder};
 ghost use Rattle.cli_inputs.specs.declared.forms.Form.TheVariants.{Json, Spec};
 ghost use Rattle.cli_inputs.specs.Forms.{HasForm};
 ghost use Rattle.cli_inputs.specs.Jsons.{spec_read, table_read};
 ghost use Rattle.cli_inputs.specs.Rules.{IsByRules};
 ghost use Rattle.cli_tools.specs.SealRules.{IsSealedOf, IsTableOf};
-ghost use Rattle.cli_tools.specs.ToolWorks.{uf2_work, plan_work, load_work, gen_work};
-ghost use Rattle.cli_tools.specs.ToolRules.{IsUf2Refused, IsUf2Of, IsPlanRefused, IsPlanOf, IsLoadRefused, IsLoadOf, IsGenOf};
+ghost use Rattle.cli_tools.specs.ToolWorks.{uf2_work, script_work, gen_work};
+ghost use Rattle.cli_tools.specs.ToolRules.{IsUf2Refused, IsUf2Of, IsTargetRefused, IsScriptOf, IsGenOf};
 
 /// The file of a table whose block is not too long has 4096 bytes.
 pub fn table_files_are_one_sector()
@@ -48,11 +49,8 @@ pub fn works_are_right()
         → IsByRules ⊤ (table_work out (table_read j)) (λ name fault. ⊥) (IsTableOf out j) }
     ensures uf2 { (image out i : List ℕ) (family : ℕ)
         → IsByRules ⊤ (uf2_work image family out i) (IsUf2Refused image i) (IsUf2Of i family out) }
-    ensures plan { (image out i : List ℕ) (c : Content) (cpu : Cpu)
-        → IsByRules ⊤ (plan_work c cpu image out i)
-        (IsPlanRefused c cpu image i) (IsPlanOf c cpu i out) }
-    ensures load { (image out i : List ℕ) (c : Content) (cpu : Cpu)
-        → IsByRules ⊤ (load_work c cpu image out i)
-        (IsLoadRefused c cpu image i) (IsLoadOf c cpu i out) }
+    ensures script { (order : WriteOrder) (image out i : List ℕ) (c : Content) (cpu : Cpu)
+        → IsByRules ⊤ (script_work order c cpu image out i)
+        (IsTargetRefused c cpu image i) (IsScriptOf order c cpu i out) }
     ensures made { (n : ℕ) → IsByRules ⊤ (gen_work n) (λ name fault. ⊥) (IsGenOf n) }
 {}

@@ -4,75 +4,56 @@
 ghost use Rattle.std.specs.Prelude.{◌≡◌, [], ◌∷◌, ◌++◌, codes, Some, None};
 ghost use Rattle.pico_board.specs.declared.boot.Cpu.TheVariants.{Arm, Riscv};
 ghost use Rattle.pico_board.specs.declared.boot.BootKind.TheVariants.{Normal, Bootsel as AskBootsel, Update};
-ghost use Rattle.cli_words.specs.Rows.{row_of, command_line, command_of, Boot, OwnedData, Caveats};
+ghost use Rattle.cli_words.specs.Rows.{row_of, command_line, command_of, boot_line, Boot};
 ghost use Rattle.cli_words.specs.declared.rows.Verb.TheVariants as verbs;
 ghost use Rattle.cli_words.specs.declared.usage.TheConstants.{STATUSES};
 ghost use Rattle.part_table.specs.Families.{family_of};
-ghost use Rattle.cli_words.specs.Examples.{board};
+ghost use Rattle.cli_words.specs.Examples.{board, command_by};
 ghost use Rattle.cli_words.specs.Usages.{help_text, release_line, row_line};
 ghost use Rattle.cli_words.specs.Values.{boot_kind_of, no_values};
 
 /// The arguments of each command.
 pub fn words_of_commands()
-    ensures boot { command_of
-        (codes "boot" ∷ codes "f" ∷ codes "o" ∷ codes "arm" ∷ codes "normal" ∷ [])
+    ensures boot { command_by (codes "boot f o arm normal")
         ≡ Some (Boot (codes "f") (codes "o") Arm Normal) }
-    ensures bootsel { command_of
-        (codes "boot" ∷ codes "" ∷ codes "o" ∷ codes "riscv" ∷ codes "bootsel" ∷ [])
+    ensures bootsel { command_by (codes "boot  o riscv bootsel")
         ≡ Some (Boot (codes "") (codes "o") Riscv AskBootsel) }
-    ensures info { command_of (codes "info" ∷ codes "f" ∷ codes "o" ∷ codes "arm" ∷ [])
-        ≡ Some (command_line verbs.Info board) }
-    ensures data { command_of
-        (codes "data" ∷ codes "f" ∷ codes "o" ∷ codes "arm" ∷ codes "normal" ∷ [])
-        ≡ Some (OwnedData (codes "f") (codes "o") Arm Normal) }
-    ensures explain { command_of
-        (codes "explain" ∷ codes "f" ∷ codes "o" ∷ codes "riscv" ∷ codes "bootsel" ∷ [])
+    ensures info { command_by (codes "info f o arm") ≡ Some (command_line verbs.Info board) }
+    ensures data { command_by (codes "data f o arm normal")
+        ≡ Some (boot_line verbs.OwnedData (codes "f") (codes "o") Arm Normal) }
+    ensures explain { command_by (codes "explain f o riscv bootsel")
         ≡ Some (command_line verbs.Explain (record board { cpu = Riscv; kind = AskBootsel })) }
-    ensures caveats { command_of
-        (codes "caveats" ∷ codes "f" ∷ codes "o" ∷ codes "riscv" ∷ codes "normal" ∷ [])
-        ≡ Some (Caveats (codes "f") (codes "o") Riscv Normal) }
-    ensures map { command_of
-        (codes "map" ∷ codes "f" ∷ codes "o" ∷ codes "riscv" ∷ codes "a" ∷ [])
+    ensures caveats { command_by (codes "caveats f o riscv normal")
+        ≡ Some (boot_line verbs.Caveats (codes "f") (codes "o") Riscv Normal) }
+    ensures map { command_by (codes "map f o riscv a")
         ≡ Some (command_line verbs.Map (record board { cpu = Riscv; out = codes "a" })) }
-    ensures map_to_normal { command_of
-        (codes "map" ∷ codes "f" ∷ codes "o" ∷ codes "arm" ∷ codes "normal" ∷ [])
+    ensures map_to_normal { command_by (codes "map f o arm normal")
         ≡ Some (command_line verbs.Map (record board { out = codes "normal" })) }
-    ensures replay { command_of
-        (codes "replay" ∷ codes "f" ∷ codes "o" ∷ codes "riscv" ∷ codes "s" ∷ codes "a"
-        ∷ codes "b" ∷ [])
+    ensures replay { command_by (codes "replay f o riscv s a b")
         ≡ Some (command_line verbs.Replay
         (record board {
           cpu = Riscv;
-          script = codes "s";
+          file = codes "s";
           out_flash = codes "a";
           out_otp = codes "b";
         })) }
-    ensures chart { command_of
-        (codes "chart" ∷ codes "f" ∷ codes "o" ∷ codes "arm" ∷ codes "s" ∷ codes "p"
-        ∷ codes "a" ∷ [])
+    ensures chart { command_by (codes "chart f o arm s p a")
         ≡ Some (command_line verbs.Chart
-        (record board { script = codes "s"; pattern = codes "p"; out = codes "a" })) }
-    ensures cuts { command_of
-        (codes "cuts" ∷ codes "f" ∷ codes "o" ∷ codes "arm" ∷ codes "s" ∷ codes "p" ∷ [])
-        ≡ Some (command_line verbs.Cuts
-        (record board { script = codes "s"; pattern = codes "p" })) }
-    ensures check { command_of
-        (codes "check" ∷ codes "f" ∷ codes "o" ∷ codes "arm" ∷ codes "s" ∷ codes "p" ∷ [])
-        ≡ Some (command_line verbs.Check
-        (record board { script = codes "s"; pattern = codes "p" })) }
-    ensures help { command_of (codes "--help" ∷ []) ≡ Some (command_line verbs.Usage no_values) }
-    ensures short_help { command_of (codes "-h" ∷ [])
-        ≡ Some (command_line verbs.ShortUsage no_values) }
-    ensures help_word { command_of (codes "help" ∷ [])
-        ≡ Some (command_line verbs.WordUsage no_values) }
-    ensures help_of { command_of (codes "help" ∷ codes "boot" ∷ [])
+        (record board { file = codes "s"; pattern = codes "p"; out = codes "a" })) }
+    ensures cuts { command_by (codes "cuts f o arm s p")
+        ≡ Some (command_line verbs.Cuts (record board { file = codes "s"; pattern = codes "p" })) }
+    ensures check { command_by (codes "check f o arm s p")
+        ≡ Some (command_line verbs.Check (record board { file = codes "s"; pattern = codes "p" })) }
+    ensures help { command_by (codes "--help") ≡ Some (command_line verbs.Usage no_values) }
+    ensures short_help { command_by (codes "-h") ≡ Some (command_line verbs.ShortUsage no_values) }
+    ensures help_word { command_by (codes "help") ≡ Some (command_line verbs.WordUsage no_values) }
+    ensures help_of { command_by (codes "help boot")
         ≡ Some (command_line verbs.Help (record no_values { command = codes "boot" })) }
-    ensures help_of_help { command_of (codes "help" ∷ codes "help" ∷ [])
+    ensures help_of_help { command_by (codes "help help")
         ≡ Some (command_line verbs.Help (record no_values { command = codes "help" })) }
-    ensures help_of_short { command_of (codes "help" ∷ codes "-h" ∷ [])
+    ensures help_of_short { command_by (codes "help -h")
         ≡ Some (command_line verbs.Help (record no_values { command = codes "-h" })) }
-    ensures release { command_of (codes "--version" ∷ [])
-        ≡ Some (command_line verbs.Release no_values) }
+    ensures release { command_by (codes "--version") ≡ Some (command_line verbs.Release no_values) }
 {}
 
 /// The kind of an update boot has eight hexadecimal digits of either case.
@@ -94,118 +75,92 @@ pub fn update_words()
 /// Arguments that are no command.
 pub fn other_words()
     ensures none { command_of [] ≡ None }
-    ensures three { command_of (codes "boot" ∷ codes "f" ∷ codes "o" ∷ []) ≡ None }
-    ensures six { command_of
-        (codes "boot" ∷ codes "f" ∷ codes "o" ∷ codes "arm" ∷ codes "normal" ∷ codes "" ∷ [])
-        ≡ None }
-    ensures cpu { command_of
-        (codes "boot" ∷ codes "f" ∷ codes "o" ∷ codes "Arm" ∷ codes "normal" ∷ []) ≡ None }
-    ensures kind { command_of
-        (codes "boot" ∷ codes "f" ∷ codes "o" ∷ codes "arm" ∷ codes "Normal" ∷ []) ≡ None }
-    ensures name { command_of
-        (codes "info" ∷ codes "f" ∷ codes "o" ∷ codes "arm" ∷ codes "normal" ∷ []) ≡ None }
-    ensures four { command_of (codes "boot" ∷ codes "f" ∷ codes "o" ∷ codes "arm" ∷ []) ≡ None }
-    ensures info_cpu { command_of (codes "info" ∷ codes "f" ∷ codes "o" ∷ codes "x86" ∷ []) ≡ None }
-    ensures one { command_of (codes "-help" ∷ []) ≡ None }
-    ensures help_help { command_of (codes "help" ∷ codes "boots" ∷ []) ≡ None }
-    ensures help_two { command_of (codes "help" ∷ codes "boot" ∷ codes "info" ∷ []) ≡ None }
-    ensures dash_two { command_of (codes "-h" ∷ codes "boot" ∷ []) ≡ None }
-    ensures two { command_of (codes "--version" ∷ codes "x" ∷ []) ≡ None }
-    ensures seven { command_of
-        (codes "boot" ∷ codes "f" ∷ codes "o" ∷ codes "arm" ∷ codes "s" ∷ codes "a" ∷ codes "b"
-        ∷ []) ≡ None }
-    ensures replay_cpu { command_of
-        (codes "replay" ∷ codes "f" ∷ codes "o" ∷ codes "x86" ∷ codes "s" ∷ codes "a" ∷ codes "b"
-        ∷ []) ≡ None }
-    ensures map_cpu { command_of
-        (codes "map" ∷ codes "f" ∷ codes "o" ∷ codes "x86" ∷ codes "a" ∷ []) ≡ None }
-    ensures map_of_three { command_of
-        (codes "map" ∷ codes "f" ∷ codes "o" ∷ codes "arm" ∷ []) ≡ None }
-    ensures map_of_five { command_of
-        (codes "map" ∷ codes "f" ∷ codes "o" ∷ codes "arm" ∷ codes "normal" ∷ codes "a" ∷ [])
-        ≡ None }
-    ensures eight { command_of
-        (codes "replay" ∷ codes "f" ∷ codes "o" ∷ codes "arm" ∷ codes "s" ∷ codes "a" ∷ codes "b"
-        ∷ codes "c" ∷ []) ≡ None }
+    ensures three { command_by (codes "boot f o") ≡ None }
+    ensures six { command_by (codes "boot f o arm normal ") ≡ None }
+    ensures cpu { command_by (codes "boot f o Arm normal") ≡ None }
+    ensures kind { command_by (codes "boot f o arm Normal") ≡ None }
+    ensures name { command_by (codes "info f o arm normal") ≡ None }
+    ensures four { command_by (codes "boot f o arm") ≡ None }
+    ensures info_cpu { command_by (codes "info f o x86") ≡ None }
+    ensures one { command_by (codes "-help") ≡ None }
+    ensures help_help { command_by (codes "help boots") ≡ None }
+    ensures help_two { command_by (codes "help boot info") ≡ None }
+    ensures dash_two { command_by (codes "-h boot") ≡ None }
+    ensures two { command_by (codes "--version x") ≡ None }
+    ensures seven { command_by (codes "boot f o arm s a b") ≡ None }
+    ensures replay_cpu { command_by (codes "replay f o x86 s a b") ≡ None }
+    ensures map_cpu { command_by (codes "map f o x86 a") ≡ None }
+    ensures map_of_three { command_by (codes "map f o arm") ≡ None }
+    ensures map_of_five { command_by (codes "map f o arm normal a") ≡ None }
+    ensures eight { command_by (codes "replay f o arm s a b c") ≡ None }
 {}
 
 /// The arguments of a sealing and of a table.
 pub fn words_of_sealings()
-    ensures seal { command_of (codes "seal" ∷ codes "b" ∷ codes "s" ∷ codes "a" ∷ [])
+    ensures seal { command_by (codes "seal b s a")
         ≡ Some (command_line verbs.Seal
-        (record no_values { binary = codes "b"; spec = codes "s"; out = codes "a" })) }
-    ensures table { command_of (codes "table" ∷ codes "t" ∷ codes "a" ∷ [])
-        ≡ Some (command_line verbs.Table (record no_values { json = codes "t"; out = codes "a" })) }
-    ensures otp { command_of (codes "otp" ∷ codes "t" ∷ codes "a" ∷ [])
+        (record no_values { file = codes "b"; spec = codes "s"; out = codes "a" })) }
+    ensures table { command_by (codes "table t a")
+        ≡ Some (command_line verbs.Table (record no_values { file = codes "t"; out = codes "a" })) }
+    ensures otp { command_by (codes "otp t a")
         ≡ Some (command_line verbs.OtpFile
-        (record no_values { json = codes "t"; out = codes "a" })) }
-    ensures elf { command_of (codes "elf" ∷ codes "e" ∷ codes "s" ∷ codes "a" ∷ [])
+        (record no_values { file = codes "t"; out = codes "a" })) }
+    ensures elf { command_by (codes "elf e s a")
         ≡ Some (command_line verbs.Elf
-        (record no_values { elf = codes "e"; spec = codes "s"; out = codes "a" })) }
-    ensures elf_of_three { command_of (codes "elf" ∷ codes "e" ∷ codes "s" ∷ []) ≡ None }
-    ensures seal_of_three { command_of (codes "seal" ∷ codes "b" ∷ codes "s" ∷ []) ≡ None }
-    ensures table_of_four { command_of
-        (codes "table" ∷ codes "t" ∷ codes "a" ∷ codes "arm" ∷ []) ≡ None }
-    ensures seal_for_arm { command_of (codes "seal" ∷ codes "b" ∷ codes "s" ∷ codes "arm" ∷ [])
+        (record no_values { file = codes "e"; spec = codes "s"; out = codes "a" })) }
+    ensures elf_of_three { command_by (codes "elf e s") ≡ None }
+    ensures seal_of_three { command_by (codes "seal b s") ≡ None }
+    ensures table_of_four { command_by (codes "table t a arm") ≡ None }
+    ensures seal_for_arm { command_by (codes "seal b s arm")
         ≡ Some (command_line verbs.Seal
-        (record no_values { binary = codes "b"; spec = codes "s"; out = codes "arm" })) }
+        (record no_values { file = codes "b"; spec = codes "s"; out = codes "arm" })) }
 {}
 
 /// The arguments of each of the commands.
 pub fn words_of_tools()
-    ensures uf2 { command_of (codes "uf2" ∷ codes "i" ∷ codes "data" ∷ codes "a" ∷ [])
+    ensures uf2 { command_by (codes "uf2 i data a")
         ≡ Some (command_line verbs.Uf2
-        (record no_values { image = codes "i"; family = 0xe48bff58; out = codes "a" })) }
-    ensures uf2_cpu { command_of (codes "uf2" ∷ codes "i" ∷ codes "data" ∷ codes "arm" ∷ [])
+        (record no_values { file = codes "i"; family = 0xe48bff58; out = codes "a" })) }
+    ensures uf2_cpu { command_by (codes "uf2 i data arm")
         ≡ Some (command_line verbs.Uf2
-        (record no_values { image = codes "i"; family = 0xe48bff58; out = codes "arm" })) }
-    ensures plan { command_of
-        (codes "plan" ∷ codes "f" ∷ codes "o" ∷ codes "riscv" ∷ codes "i" ∷ codes "a" ∷ [])
+        (record no_values { file = codes "i"; family = 0xe48bff58; out = codes "arm" })) }
+    ensures plan { command_by (codes "plan f o riscv i a")
         ≡ Some (command_line verbs.Plan
-        (record board { cpu = Riscv; image = codes "i"; out = codes "a" })) }
-    ensures load { command_of
-        (codes "load" ∷ codes "f" ∷ codes "o" ∷ codes "arm" ∷ codes "i" ∷ codes "a" ∷ [])
-        ≡ Some (command_line verbs.Load (record board { image = codes "i"; out = codes "a" })) }
-    ensures sweep { command_of
-        (codes "sweep" ∷ codes "f" ∷ codes "o" ∷ codes "arm" ∷ codes "s" ∷ codes "p" ∷ [])
-        ≡ Some (command_line verbs.Sweep
-        (record board { script = codes "s"; pattern = codes "p" })) }
-    ensures firm { command_of (codes "firm" ∷ codes "i" ∷ codes "riscv" ∷ [])
-        ≡ Some (command_line verbs.Firm (record no_values { image = codes "i"; cpu = Riscv })) }
-    ensures copy { command_of (codes "copy" ∷ codes "u" ∷ codes "a" ∷ [])
-        ≡ Some (command_line verbs.Copy (record no_values { uf2 = codes "u"; out = codes "a" })) }
-    ensures list { command_of (codes "list" ∷ codes "7" ∷ [])
-        ≡ Some (command_line verbs.ListScript (record no_values { script = codes "7" })) }
-    ensures script { command_of (codes "script" ∷ codes "t" ∷ codes "a" ∷ [])
+        (record board { cpu = Riscv; file = codes "i"; out = codes "a" })) }
+    ensures load { command_by (codes "load f o arm i a")
+        ≡ Some (command_line verbs.Load (record board { file = codes "i"; out = codes "a" })) }
+    ensures sweep { command_by (codes "sweep f o arm s p")
+        ≡ Some (command_line verbs.Sweep (record board { file = codes "s"; pattern = codes "p" })) }
+    ensures firm { command_by (codes "firm i riscv")
+        ≡ Some (command_line verbs.Firm (record no_values { file = codes "i"; cpu = Riscv })) }
+    ensures copy { command_by (codes "copy u a")
+        ≡ Some (command_line verbs.Copy (record no_values { file = codes "u"; out = codes "a" })) }
+    ensures list { command_by (codes "list 7")
+        ≡ Some (command_line verbs.ListScript (record no_values { file = codes "7" })) }
+    ensures script { command_by (codes "script t a")
         ≡ Some (command_line verbs.WriteScript
-        (record no_values { text = codes "t"; out = codes "a" })) }
-    ensures made { command_of (codes "gen" ∷ codes "007" ∷ [])
+        (record no_values { file = codes "t"; out = codes "a" })) }
+    ensures made { command_by (codes "gen 007")
         ≡ Some (command_line verbs.Gen (record no_values { number = 7 })) }
 {}
 
 /// Arguments that are none of the commands.
 pub fn other_words_of_tools()
-    ensures family { command_of (codes "uf2" ∷ codes "i" ∷ codes "arm" ∷ codes "a" ∷ []) ≡ None }
-    ensures three { command_of (codes "uf2" ∷ codes "i" ∷ codes "data" ∷ []) ≡ None }
-    ensures cpu { command_of
-        (codes "plan" ∷ codes "f" ∷ codes "o" ∷ codes "x86" ∷ codes "i" ∷ codes "a" ∷ []) ≡ None }
-    ensures load_cpu { command_of
-        (codes "load" ∷ codes "f" ∷ codes "o" ∷ codes "x86" ∷ codes "i" ∷ codes "a" ∷ []) ≡ None }
-    ensures firm_cpu { command_of (codes "firm" ∷ codes "i" ∷ codes "x86" ∷ []) ≡ None }
-    ensures firm_alone { command_of (codes "firm" ∷ codes "i" ∷ []) ≡ None }
-    ensures sweep_cpu { command_of
-        (codes "sweep" ∷ codes "f" ∷ codes "o" ∷ codes "x86" ∷ codes "s" ∷ codes "p" ∷ []) ≡ None }
-    ensures sweep_of_five { command_of
-        (codes "sweep" ∷ codes "f" ∷ codes "o" ∷ codes "arm" ∷ codes "s" ∷ []) ≡ None }
-    ensures five { command_of
-        (codes "plan" ∷ codes "f" ∷ codes "o" ∷ codes "arm" ∷ codes "i" ∷ []) ≡ None }
-    ensures name { command_of
-        (codes "boot" ∷ codes "f" ∷ codes "o" ∷ codes "arm" ∷ codes "i" ∷ codes "a" ∷ []) ≡ None }
-    ensures copy_alone { command_of (codes "copy" ∷ codes "u" ∷ []) ≡ None }
-    ensures list_of_two { command_of (codes "list" ∷ codes "s" ∷ codes "a" ∷ []) ≡ None }
-    ensures script_alone { command_of (codes "script" ∷ codes "t" ∷ []) ≡ None }
-    ensures number { command_of (codes "gen" ∷ codes "x" ∷ []) ≡ None }
-    ensures two { command_of (codes "uf2" ∷ codes "7" ∷ []) ≡ None }
+    ensures family { command_by (codes "uf2 i arm a") ≡ None }
+    ensures three { command_by (codes "uf2 i data") ≡ None }
+    ensures cpu { command_by (codes "plan f o x86 i a") ≡ None }
+    ensures load_cpu { command_by (codes "load f o x86 i a") ≡ None }
+    ensures firm_cpu { command_by (codes "firm i x86") ≡ None }
+    ensures firm_alone { command_by (codes "firm i") ≡ None }
+    ensures sweep_cpu { command_by (codes "sweep f o x86 s p") ≡ None }
+    ensures sweep_of_five { command_by (codes "sweep f o arm s") ≡ None }
+    ensures five { command_by (codes "plan f o arm i") ≡ None }
+    ensures name { command_by (codes "boot f o arm i a") ≡ None }
+    ensures copy_alone { command_by (codes "copy u") ≡ None }
+    ensures list_of_two { command_by (codes "list s a") ≡ None }
+    ensures script_alone { command_by (codes "script t") ≡ None }
+    ensures number { command_by (codes "gen x") ≡ None }
+    ensures two { command_by (codes "uf2 7") ≡ None }
 {}
 
 /// The families by their arguments.

@@ -1,6 +1,6 @@
 use Rattle.cli_tools.proofs.SealCaseLemmas.{seal-works, table-works}
 use Rattle.cli_tools.proofs.ElfLemmas.{elf-works}
-use Rattle.cli_tools.proofs.ToolLemmas.{uf2-works, plan-works, load-works, gen-works}
+use Rattle.cli_tools.proofs.ToolLemmas.{uf2-works, script-works, gen-works}
 use Rattle.cli_tools.proofs.laws.works_are_right.Goals as goal
 
 pub returns-clause-seal : goal.returns-clause-seal
@@ -15,11 +15,8 @@ returns-clause-table c = table-works
 pub returns-clause-uf2 : goal.returns-clause-uf2
 returns-clause-uf2 c = uf2-works
 
-pub returns-clause-plan : goal.returns-clause-plan
-returns-clause-plan c = plan-works
+pub returns-clause-script : goal.returns-clause-script
+returns-clause-script c = script-works
 
 pub returns-clause-made : goal.returns-clause-made
 returns-clause-made c = gen-works
-
-pub returns-clause-load : goal.returns-clause-load
-returns-clause-load c = load-works
