@@ -26,6 +26,8 @@ NO_FILE = re.compile(r"(^|[/_])(tests?|examples|laws|usage|words|values)(/|\.rt$
 IN_PARTS = "crates/text_lines/src/faults.rt"
 # A file whose lines are put by two calls, of a name and a window or a partition.
 CAVEATS = "crates/cli_caveats/src/texts.rt"
+# It puts the fault of a table behind a word.
+JSON = "crates/cli_inputs/src/json.rt"
 
 # Texts that tell no fault.
 OTHERS = """
@@ -86,6 +88,9 @@ def code_texts(files):
         if file == CAVEATS:
             code = re.sub(r'window_text\(alloc, "', '("caveat ', code)
             code = re.sub(r'partition_text\(alloc, "([^"]*)"', r'("caveat \1 partition={}"', code)
+        if file == JSON:
+            faults = re.findall(r'TableFault::\w+.*?"([^"]*)"', code)
+            code += "".join(f'"table {it}"\n' for it in faults)
         texts = re.findall(r'"((?:[^"\\]|\\.)*)"', code)
         for text in joined(texts) if file == IN_PARTS else texts:
             # what begins or ends with a blank or a sign is a part of a line

@@ -6,7 +6,7 @@ use Rattle.boot_rules.specs.declared.decision.Decision.{Decision}
 use Rattle.boot_rules.specs.declared.decision.Decision.TheVariants.{Bootsel}
 use Rattle.boot_rules.specs.declared.decision.Fall.TheVariants.{NoImage}
 
--- the values of arguments that name files, each by a letter, for Arm
+-- the flash file f, the OTP file o, the file i and the spec s, for Arm
 abbrev pub named : ValuesView
 named = record no_values { flash = codes "f"; otp = codes "o"; file = codes "i"; spec = codes "s" }
 

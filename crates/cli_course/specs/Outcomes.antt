@@ -106,8 +106,12 @@ outcome_found outcome (Some whole) = outcome whole
 
 -- a status with which the whole text was put
 abbrev pub is_finished : Status → Bool
-is_finished ReadFault = false
-is_finished WriteFault = false
-is_finished OutputFault = false
-is_finished Memory = false
-is_finished _ = true
+is_finished Done = true
+is_finished Words = true
+is_finished Input = true
+is_finished Bootsel = true
+is_finished Unbootable = true
+is_finished Neither = true
+is_finished NoEffect = true
+is_finished Refused = true
+is_finished _ = false

@@ -34,7 +34,8 @@ abbrev pub Tells : InputFail → Option AnswerView → Type 0
 Tells (Refused answer) o = o ≡ Some (answer_from answer)
 Tells Memory o = ⊤
 
--- an input gives a value only where its bytes have its form; otherwise its fault is told
+-- an input gives a value only where its bytes have its form; otherwise its fault is told, or there
+-- was no memory
 abbrev pub IsJudged : {A : Type 0} → Result A InputFail → FormInputView → List ℕ → Type 0
 IsJudged (Ok value) input bytes = form_fault input.form bytes ≡ None
 IsJudged (Err fail) input bytes = Tells fail (named_fault input bytes)

@@ -18,7 +18,7 @@ copy_events blocks = PowerOn ∷ Reset Bootsel ∷ map (λ block. Uf2 block) blo
 abbrev pub copy_line : ℕ → List ℕ
 copy_line n = codes "copy blocks=" ++ line (decimal n)
 
--- the blocks of a file of whole blocks
+-- the line of the number of a file's blocks, and the script that copies them
 abbrev pub copy_work : List ℕ → List ℕ → Work
 copy_work out bytes =
     let blocks = blocks_in (length bytes / 512) bytes in Answers false (copy_line (length blocks))

@@ -63,7 +63,7 @@ drawn_work script out chart decided (Some reason) = Refuses script (sweep_fault 
 drawn_work script out chart decided None =
     Answers false (chart_line chart) (one_file out (chart_file chart decided))
 
--- the session of a script on a content
+-- the session of a script on a content is drawn, or refused
 abbrev pub chart_work : Content → Cpu → List ℕ → List ℕ → List ℕ → List ℕ → Work
 chart_work c cpu script out bytes pattern =
     let steps = script_session c cpu bytes in drawn_work script out (chart_of c cpu pattern steps)

@@ -23,7 +23,7 @@ abbrev pub swept_work : List ℕ → List ℕ → Option SweepError → Work
 swept_work script text (Some reason) = Refuses script (sweep_fault reason)
 swept_work script text None = Answers false text []
 
--- the session of a script on a content
+-- the session of a script on a content is swept, or refused
 abbrev pub sweep_work : Content → Cpu → List ℕ → List ℕ → List ℕ → Work
 sweep_work c cpu script bytes pattern =
     let steps = script_session c cpu bytes in swept_work script (sweep_text c cpu pattern steps)

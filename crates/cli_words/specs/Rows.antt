@@ -89,7 +89,7 @@ abbrev pub is_row_name : List ℕ → Bool
 is_row_name word = list_any (λ verb. bytes_eq (row_of verb).name word) VERBS
 
 -- the values with that of one argument more, where the argument is of this kind; a name is any
--- argument but that of a command; a script, a binary, an image, a text and the like is the file
+-- argument but that of a command; a script, a binary, an image, a text or the like is the file
 -- that the command works on
 abbrev pub with_word : Word → List ℕ → ValuesView → Option ValuesView
 with_word Cpu word v = option_map (λ cpu. record v { cpu = cpu }) (cpu_of word)

@@ -31,7 +31,7 @@ impl<B: Board> Counted<B> {
     }
 
     /// How many bytes were read.
-    pub fn bytes(&self) -> u64 {
+    pub(crate) fn bytes(&self) -> u64 {
         self.bytes.get()
     }
 }

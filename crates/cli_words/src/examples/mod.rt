@@ -1,15 +1,17 @@
 //! Worked examples of the definitions, proved by computing: each is the `ensures` of a function
 //! that does nothing.
 
-ghost use Rattle.std.specs.Prelude.{◌≡◌, [], ◌∷◌, ◌++◌, codes, Some, None};
+ghost use Rattle.std.specs.Prelude.{◌≡◌, [], ◌++◌, codes, Some, None, true};
 ghost use Rattle.pico_board.specs.declared.boot.Cpu.TheVariants.{Arm, Riscv};
 ghost use Rattle.pico_board.specs.declared.boot.BootKind.TheVariants.{Normal, Bootsel as AskBootsel, Update};
 ghost use Rattle.cli_words.specs.Rows.{row_of, command_line, command_of, boot_line, Boot};
 ghost use Rattle.cli_words.specs.declared.rows.Verb.TheVariants as verbs;
+ghost use Rattle.std.specs.List.{list_all};
+ghost use Rattle.cli_words.specs.declared.rows.TheConstants.{VERBS};
 ghost use Rattle.cli_words.specs.declared.usage.TheConstants.{STATUSES};
 ghost use Rattle.part_table.specs.Families.{family_of};
-ghost use Rattle.cli_words.specs.Examples.{board, command_by};
-ghost use Rattle.cli_words.specs.Usages.{help_text, release_line, row_line};
+ghost use Rattle.cli_words.specs.Examples.{board, command_by, has_one_file};
+ghost use Rattle.cli_words.specs.Usages.{help_text, release_line, row_line, synopsis};
 ghost use Rattle.cli_words.specs.Values.{boot_kind_of, no_values};
 
 /// The arguments of each command.
@@ -178,6 +180,32 @@ pub fn families()
 /// The line of the version.
 pub fn lines_of_releases()
     ensures { release_line ≡ codes "dugnatsew 0.1.0\n" }
+{}
+
+/// The arguments of each row that names the file a command works on, as the usage calls them.
+pub fn synopses_of_rows()
+    ensures replay { synopsis (row_of verbs.Replay)
+        ≡ codes "replay FLASH OTP CPU SCRIPT OUTFLASH OUTOTP" }
+    ensures sweep { synopsis (row_of verbs.Sweep) ≡ codes "sweep FLASH OTP CPU SCRIPT PATTERN" }
+    ensures chart { synopsis (row_of verbs.Chart) ≡ codes "chart FLASH OTP CPU SCRIPT PATTERN OUT" }
+    ensures cuts { synopsis (row_of verbs.Cuts) ≡ codes "cuts FLASH OTP CPU SCRIPT PATTERN" }
+    ensures check { synopsis (row_of verbs.Check) ≡ codes "check FLASH OTP CPU SCRIPT PATTERN" }
+    ensures seal { synopsis (row_of verbs.Seal) ≡ codes "seal BIN SPEC OUT" }
+    ensures elf { synopsis (row_of verbs.Elf) ≡ codes "elf ELF SPEC OUT" }
+    ensures firm { synopsis (row_of verbs.Firm) ≡ codes "firm IMAGE CPU" }
+    ensures table { synopsis (row_of verbs.Table) ≡ codes "table JSON OUT" }
+    ensures otp { synopsis (row_of verbs.OtpFile) ≡ codes "otp JSON OUT" }
+    ensures uf2 { synopsis (row_of verbs.Uf2) ≡ codes "uf2 IMAGE FAMILY OUT" }
+    ensures plan { synopsis (row_of verbs.Plan) ≡ codes "plan FLASH OTP CPU IMAGE OUT" }
+    ensures load { synopsis (row_of verbs.Load) ≡ codes "load FLASH OTP CPU IMAGE OUT" }
+    ensures copy { synopsis (row_of verbs.Copy) ≡ codes "copy UF2 OUT" }
+    ensures list { synopsis (row_of verbs.ListScript) ≡ codes "list SCRIPT" }
+    ensures script { synopsis (row_of verbs.WriteScript) ≡ codes "script TEXT OUT" }
+{}
+
+/// No row names two files that a command works on.
+pub fn rows_have_one_file()
+    ensures { list_all has_one_file VERBS ≡ true }
 {}
 
 /// The line of a row has its name and arguments in a column of 23 characters, where they are no
