@@ -33,6 +33,6 @@ pub use firmness::firm;
 pub use gating::ungated;
 pub use judge::Judge;
 pub use results::{CutResult, Ends, StepResults, SweepResults, Verdict};
-pub use script::{is_start_in, sweep, swept, swept_text};
+pub use script::{is_start_in, sweep, swept};
 pub use slots::{Last, Slot, are_confined, slot_of, verdict_beside};
 pub use steps::{complete, cut};

@@ -214,7 +214,7 @@ pub fn swept(
 
 /// The text of the sweep of a script's session, which [`sweep`] appends to bytes. It is refused as
 /// there. The pool keeps what is out.
-pub fn swept_text(
+fn swept_text(
     alloc: Global,
     flash: &Vec<u8>,
     otp: &Vec<u32>,

@@ -149,7 +149,7 @@ fn boot_answer<'a, B: Board>(
     let text = decision_line(alloc, &decision)?;
     Ok(Answer {
         status: decision_status(&decision),
-        text,
+        text: text.into_bytes(),
         files: Vec::new(alloc),
     })
 }
@@ -173,7 +173,7 @@ fn info_answer<'a, B: Board>(
     text.push_str(&lines)?;
     Ok(Answer {
         status: Status::Done,
-        text,
+        text: text.into_bytes(),
         files: Vec::new(alloc),
     })
 }
@@ -198,7 +198,7 @@ fn data_answer<'a, B: Board>(
     text.push_str(&lines)?;
     Ok(Answer {
         status: decision_status(&decision),
-        text,
+        text: text.into_bytes(),
         files: Vec::new(alloc),
     })
 }

@@ -12,7 +12,7 @@ use crate::texts::caveat_lines;
 use boot_caveats::caveats_by;
 use boot_reasons::gather;
 use boot_rules::Decision;
-use cli_course::{Answer, Status};
+use cli_course::{Answer, Status, ended};
 use cli_inputs::new_pool;
 use pico_board::{Board, BootKind, Cpu, MemBoard};
 use sector_pool::SectorPool;
@@ -47,11 +47,7 @@ fn caveats_answer<'a, B: Board>(
     let caveats = caveats_by(alloc, board, pool, cpu, kind, &reasons)?;
     let lines = caveat_lines(alloc, caveats.as_slice())?;
     text.push_str(&lines)?;
-    Ok(Answer {
-        status: decision_status(&reasons.decision),
-        text,
-        files: Vec::new(alloc),
-    })
+    Ok(ended(alloc, decision_status(&reasons.decision), text))
 }
 
 /// The work of `caveats` on a board. It prints the decision of a boot of this type for the

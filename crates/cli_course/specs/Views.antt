@@ -1,5 +1,5 @@
 -- What the types of the code stand for.
-use Rattle.std.specs.Prelude.{ℕ, Result, Ok, Err, List, map, Vec, string_bytes}
+use Rattle.std.specs.Prelude.{ℕ, Result, Ok, Err, List, map, Vec}
 use Rattle.std.specs.declared.alloc.Global.{Global}
 use Rattle.pico_board.specs.declared.store.StoreFail.{StoreFail}
 use Rattle.pico_board.specs.Files.{File}
@@ -22,7 +22,7 @@ abbrev pub answer_from : Answer → AnswerView
 answer_from answer =
     record {
       status = answer.status;
-      text = string_bytes answer.text;
+      text = answer.text.items;
       files = map out_file_from answer.files.items;
     }
 

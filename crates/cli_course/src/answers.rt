@@ -22,8 +22,8 @@ pub struct OutFile<'a> {
 pub struct Answer<'a> {
     /// The status with which the run ends where all is written and put.
     pub status: Status,
-    /// The text to put.
-    pub text: String,
+    /// The text to put, as bytes.
+    pub text: Vec<u8>,
     /// The files to write, in the order of the arguments.
     pub files: Vec<OutFile<'a>>,
 }
@@ -42,14 +42,14 @@ pub fn refusal(alloc: Global, name: &str, fault: &str) -> Result<Answer<'static>
     let text = fault_line(alloc, name, fault)?;
     Ok(Answer {
         status: Status::Input,
-        text,
+        text: text.into_bytes(),
         files: Vec::new(alloc),
     })
 }
 
-/// The answer of a command that prints a text, is no fall and writes no file.
-pub fn told<'a>(alloc: Global, text: String) -> Answer<'a>
-    ensures { answer_from result ≡ worked (Answers false (string_bytes text) []) }
+/// The answer of a command that prints the bytes of a text, is no fall and writes no file.
+pub fn told_bytes<'a>(alloc: Global, text: Vec<u8>) -> Answer<'a>
+    ensures { answer_from result ≡ worked (Answers false text.items []) }
 {
     Answer {
         status: Status::Done,
@@ -58,13 +58,20 @@ pub fn told<'a>(alloc: Global, text: String) -> Answer<'a>
     }
 }
 
+/// The answer of a command that prints a text, is no fall and writes no file.
+pub fn told<'a>(alloc: Global, text: String) -> Answer<'a>
+    ensures { answer_from result ≡ worked (Answers false (string_bytes text) []) }
+{
+    told_bytes(alloc, text.into_bytes())
+}
+
 /// The answer of a command that prints a text with this status and writes no file.
 pub fn ended<'a>(alloc: Global, status: Status, text: String) -> Answer<'a>
     ensures { answer_from result ≡ ended status (string_bytes text) }
 {
     Answer {
         status,
-        text,
+        text: text.into_bytes(),
         files: Vec::new(alloc),
     }
 }
@@ -82,7 +89,7 @@ pub fn one_file<'a>(
     let file = OutFile { name, bytes };
     Ok(Answer {
         status: Status::Done,
-        text,
+        text: text.into_bytes(),
         files: vec![in alloc; file]?,
     })
 }

@@ -128,7 +128,7 @@ pub fn finish<S: Store, K: Sink>(answer: &Answer<'_>, store: &mut S, out: &mut K
         (answer_from answer.now) store.old out.old result store.new out.new }
 {
     match write_all(&answer.files, store) {
-        None => put_text(out, answer.text.as_bytes(), answer.status),
+        None => put_text(out, &answer.text, answer.status),
         Some(status) => status,
     }
 }

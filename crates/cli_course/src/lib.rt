@@ -8,6 +8,6 @@ pub mod examples;
 pub mod laws;
 mod status;
 
-pub use answers::{Answer, OutFile, ended, one_file, refusal, told};
+pub use answers::{Answer, OutFile, ended, one_file, refusal, told, told_bytes};
 pub use course::{LimitedInput, finish, put_text, read_all};
 pub use status::Status;

@@ -34,9 +34,10 @@ mod tests {
         let pattern = Pattern { bytes: &[0xa5] };
         let answer = cuts(alloc, board, Cpu::Arm, "s", script, pattern)?;
         assert_eq!(rt;
-            answer.text.as_str(),
-            "0 erase 0x00001000 before to 0 erase 0x00001000 within former bootsel no-image\n\
-             end 1 former bootsel no-image\n"
+            answer.text.as_slice(),
+            b"0 erase 0x00001000 before to 0 erase 0x00001000 within former bootsel no-image\n\
+              end 1 former bootsel no-image\n"
+                .as_slice()
         );
         assert!(rt; answer.status == Status::Done);
         Ok(())

@@ -9,7 +9,7 @@ ghost use Rattle.cli_explain.specs.Works.{explain_work};
 
 use crate::texts::explain_text;
 use boot_reasons::gather;
-use cli_course::{Answer, Status};
+use cli_course::{Answer, told};
 use cli_inputs::new_pool;
 use pico_board::{Board, BootKind, Cpu, MemBoard};
 use sector_pool::SectorPool;
@@ -30,11 +30,7 @@ fn explain_answer<'a, B: Board>(
 {
     let reasons = gather(board, pool, cpu, kind);
     let text = explain_text(alloc, &reasons)?;
-    Ok(Answer {
-        status: Status::Done,
-        text,
-        files: Vec::new(alloc),
-    })
+    Ok(told(alloc, text))
 }
 
 /// The work of `explain` on a board with power: why a boot of this type decides for the processor

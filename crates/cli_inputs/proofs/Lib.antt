@@ -1,5 +1,6 @@
 mod RowLemmas
 mod BoardLemmas
+mod PoolLemmas
 pub mod JsonLemmas
 pub mod ScriptLemmas
 pub mod FormLemmas

@@ -111,7 +111,7 @@ pub fn replay<'a>(
     };
     Ok(Answer {
         status: Status::Done,
-        text,
+        text: text.into_bytes(),
         files: vec![in alloc; flash, otp]?,
     })
 }

@@ -7,8 +7,8 @@ ghost use Rattle.cli_course.specs.Views.{answer_from};
 ghost use Rattle.cli_sweep.specs.SweepWorks.{sweep_fault, sweep_work};
 
 use boot_script::Script;
-use boot_sweep::{SweepError, swept_text};
-use cli_course::{Answer, refusal, told};
+use boot_sweep::{SweepError, sweep};
+use cli_course::{Answer, refusal, told_bytes};
 use cli_inputs::{Pattern, new_pool};
 use pico_board::{Cpu, MemBoard};
 use std::alloc::{AllocError, Global};
@@ -54,7 +54,8 @@ pub fn sweep_script<'a>(
 {
     let (flash, otp) = board.into_parts();
     let mut pool = new_pool(alloc)?;
-    match swept_text(
+    let mut text = Vec::new(alloc);
+    match sweep(
         alloc,
         &flash,
         &otp,
@@ -62,8 +63,9 @@ pub fn sweep_script<'a>(
         cpu,
         script.bytes,
         pattern.bytes,
+        &mut text,
     ) {
-        Ok(text) => Ok(told(alloc, text)),
+        Ok(()) => Ok(told_bytes(alloc, text)),
         Err(SweepError::Memory) => Err(AllocError),
         Err(reason) => unswept(alloc, name, reason),
     }

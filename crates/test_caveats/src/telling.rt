@@ -53,7 +53,7 @@ fn compare(
     requires power { IsTrue (state_of board).powered }
 {
     let answer = caveats(rt.alloc(), board, cpu, kind)?;
-    assert_eq!(rt; answer.text.as_str(), text);
+    assert_eq!(rt; answer.text.as_slice(), text.as_bytes());
     assert_eq!(rt; answer.status, status);
     assert!(rt; answer.files.is_empty());
     Ok(())

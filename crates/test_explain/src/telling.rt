@@ -39,7 +39,7 @@ pub(crate) fn compare(
     let board = lone_board(alloc, bytes)?;
     let answer = explain(alloc, board, Cpu::Arm, kind)?;
     let wanted = joined(alloc, lines)?;
-    assert_eq!(rt; answer.text.as_str(), wanted.as_str(), "{name}");
+    assert_eq!(rt; answer.text.as_slice(), wanted.as_bytes(), "{name}");
     assert_eq!(rt; answer.status, Status::Done, "{name}");
     assert!(rt; answer.files.is_empty(), "{name}");
     Ok(())

@@ -1,7 +1,6 @@
-use Rattle.std.proofs.Common.{◌∙◌, ap, length, ◌/◌, map}
-use Rattle.boot_reasons.specs.Reasons.{reasons_in, table_of_reasons}
-use Rattle.cli_course.specs.declared.status.Status.TheVariants.{Done}
-use Rattle.cli_course.specs.Views.{out_file_from}
+use Rattle.std.proofs.Common.{◌∙◌, ap, length, ◌/◌, false, []}
+use Rattle.boot_reasons.specs.Reasons.{table_of_reasons}
+use Rattle.cli_course.specs.Outcomes.{Answers, worked}
 use Rattle.cli_explain.specs.Texts.{explain_text}
 use Rattle.cli_explain.proofs.SoundPartLemmas.{sound-parts, sound-reasons}
 use Rattle.cli_explain.proofs.explaining.explain_answer.Goals as goal
@@ -14,10 +13,6 @@ explain_text-requires g c =
 
 pub returns : goal.returns
 returns g c =
-    ap (λ t. record { status = Done; text = t; files = map out_file_from c.new.result.items })
+    c.told.ensures
+    ∙ ap (λ text. worked (Answers false text []))
     (c.in_ok-text.ensures ∙ ap explain_text c.gather-reasons.ensures.function)
-    ∙ ap (λ xs. record {
-      status = Done;
-      text = explain_text (reasons_in (g.B.Board.state c.args.board.now).content c.args.cpu c.args.kind);
-      files = map out_file_from xs;
-    }) c.new.ensures.items
