@@ -1,6 +1,8 @@
 # make demo       builds the program without proving it as out/dugnatsew, and boots the example image
 # make            proves the program and every crate below it, builds it as crates/boot_cli/out/boot_cli, and boots the example image
 # make test       the gate: proves everything, tries the must-fail edits, and runs the tests and the program; then lists what no example holds
+# make edits      tries the edits of crates/NAME/edits/ that have to be refused, many in one check; CRATES="a b" those of these crates, SINCE=REV those of
+#                 the crates that differ from a commit
 # make examples   writes the files that the documents take as examples into examples/
 # make readme     runs each session of the documents with the newer of the two programs, and compares the manual page, the
 #                 completions, the page of faults and the sizes of the pages; needs bash, and tries zsh and mandoc where they are
@@ -35,7 +37,7 @@ NEWER = program=$$(ls -t $(PROVED) $(UNPROVED) 2> /dev/null | head -n 1); \
 	if [ -z "$$program" ]; then echo 'There is no program: "make demo" builds one, and "make" a proved one.' >&2; exit 1; fi; \
 	echo "With $$program:"
 
-.PHONY: all demo test examples readme interface faults faults-io fuzz board record real pictures install uninstall dist bench
+.PHONY: all demo test edits examples readme interface faults faults-io fuzz board record real pictures install uninstall dist bench
 
 all:
 	cd crates/boot_cli && rt run -- boot data/flash data/otp arm normal
@@ -47,6 +49,9 @@ demo:
 test:
 	rt ci
 	@python3 tools/premises.py
+
+edits:
+	@python3 tools/edits.py $(if $(SINCE),--since $(SINCE)) $(CRATES)
 
 examples:
 	@$(NEWER); python3 tools/examples.py "$$program" examples
