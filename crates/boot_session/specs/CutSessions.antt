@@ -56,8 +56,8 @@ pub record CutSession (c : Content) (w : Window) (cpu : Cpu) (steps : List Step)
 
 -- a session on the content c writes only one slot w of a pair. It is done, or power is lost in it,
 -- and leaves d. The decision e of a normal boot on c starts no image of the slot (elsewhere).
--- Where c has no table, d has none (same table). That d has no accidental image in the slot is not
--- asked.
+-- Where c has no table, d has none (no new table). That d has no accidental image in the slot is
+-- not asked.
 pub record ConfinedSession (c : Content) (w : Window) (cpu : Cpu) (steps : List Step) (d : Content)
     (e : Decision) : Type 0 where
   pub right : IsContent c

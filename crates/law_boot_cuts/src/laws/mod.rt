@@ -77,8 +77,8 @@ pub fn raises_cut()
 /// it writes (`LeavesNoAccidentalImage`). Then the pick of the started image's unit is one of two:
 /// the former one; or the started image with a clear trial bit, as after all steps, with the same
 /// bytes. The same holds of the whole decision of a normal boot under two conditions: the table is
-/// the former one too, also after all steps; and the steps raise no row that an image of another
-/// boot unit lists.
+/// the former one too, also after all steps; and the steps raise no row in the triple of a row
+/// that an image of another boot unit, valid in a normal boot, lists.
 pub fn boots_own_writes()
     ensures pick { (c : Content) (cpu : Cpu) (kind : BootKind) (choice : Choice) (u : SlotUnit)
         (steps : List Step) (k : ℕ) (step : Step) (d : Content)

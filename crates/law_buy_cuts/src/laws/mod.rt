@@ -43,8 +43,8 @@ pub fn a_valid_updated_image_is_chosen()
 /// Suppose that power is lost in the own writes of an updated image that is valid where it stands.
 /// Suppose also that a cut erase or program leaves no accidental image
 /// (`LeavesNoAccidentalImage`). Then the pick of its unit is the former one, or the image with a
-/// clear trial bit. With a table so is the decision of a normal boot, where no other unit's listed
-/// row is raised.
+/// clear trial bit. With a table so is the decision of a normal boot, where no raised row lies in
+/// the triple of a row that another unit's image lists.
 pub fn own_writes_of_a_valid_image()
     ensures pick { (c : Content) (cpu : Cpu) (choice : Choice) (u : SlotUnit)
         (steps : List Step) (k : ℕ) (step : Step) (d : Content)
@@ -76,9 +76,9 @@ pub fn own_writes_of_a_valid_image()
 /// image runs in it, and that power is lost in the image's buy. Then power is lost in a step of
 /// the buy on the content as it is, and the image stands in a boot unit. Where the cut leaves no
 /// accidental image (`LeavesNoAccidentalImage`), the pick of that unit is the former one or the
-/// bought image. With a table, and where no other unit's listed row is raised, power that comes
-/// back leads where the former decision leads. Or it starts the bought image, as after a whole
-/// buy.
+/// bought image. With a table, and where no raised row lies in the triple of a row that another
+/// unit's image lists, power that comes back leads where the former decision leads. Or it starts
+/// the bought image, as after a whole buy.
 pub fn a_buy_that_loses_power()
     ensures steps { (m n o : MachineView) (choice : Choice) → RunsTrial m n choice
         → Moves n EventView.Buy o lost_text
