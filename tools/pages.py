@@ -17,9 +17,9 @@ MOST = {
     "docs/PROVED.md": 10_000,
     "docs/DECISIONS.md": 12_000,
     "docs/GLOSSARY.md": 9_000,
-    "docs/WORKING.md": 14_000,
+    "docs/WORKING.md": 16_000,
 }
-OTHERS = ("GUIDE", "TUTORIAL", "REFERENCE", "PROMISE", "FAQ", "MODEL", "FAULTS", "CHIP")
+OTHERS = ("GUIDE", "TUTORIAL", "REFERENCE", "PROMISE", "FAQ", "MODEL", "FAULTS", "CHIP", "RULES")
 LEAST_PAGE, MOST_PAGE = 150, 5_000
 
 
