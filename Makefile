@@ -1,8 +1,11 @@
 # make demo       builds the program without proving it as out/dugnatsew, and boots the example image
 # make            proves the program and every crate below it, builds it as crates/boot_cli/out/boot_cli, and boots the example image
-# make test       the gate: proves everything, tries the must-fail edits, and runs the tests and the program; then lists what no example holds
+# make test       runs the worked rows of rows/ on the newer of the two programs, and builds the unproved one where there is none; proves nothing
+# make prove      the gate: proves everything, tries the must-fail edits, and runs the tests and the programs; then lists what no example holds
 # make edits      tries the edits of crates/NAME/edits/ that have to be refused, many in one check; CRATES="a b" those of these crates, SINCE=REV those of
 #                 the crates that differ from a commit
+# make rows       writes the rows with whole files into out/rows, for another implementation
+# make pack       writes the small rows anew as the text that test_rows reads
 # make examples   writes the files that the documents take as examples into examples/
 # make readme     runs each session of the documents with the newer of the two programs, and compares the manual page, the
 #                 completions, the page of faults, the places that RULES names and the sizes of the pages; needs bash, and tries zsh and mandoc where they are
@@ -27,8 +30,12 @@ BASH_WORDS = $(DESTDIR)$(PREFIX)/share/bash-completion/completions/dugnatsew
 ZSH_WORDS = $(DESTDIR)$(PREFIX)/share/zsh/site-functions/_dugnatsew
 PAGES = $(DESTDIR)$(PREFIX)/share/doc/dugnatsew
 
+# How long `make prove` takes where nothing is kept.
+PROVE_TIME = about an hour on four processors
+
 PROVED = crates/boot_cli/out/boot_cli
 UNPROVED = out/dugnatsew
+PACK = crates/test_rows/data/rows.txt
 SESSIONS = README.md docs/GUIDE.md docs/TUTORIAL.md docs/MODEL.md
 USERS = docs/GUIDE.md docs/TUTORIAL.md docs/REFERENCE.md docs/PROMISE.md docs/PROVED.md docs/FAQ.md docs/MODEL.md docs/FAULTS.md docs/GLOSSARY.md
 
@@ -37,7 +44,7 @@ NEWER = program=$$(ls -t $(PROVED) $(UNPROVED) 2> /dev/null | head -n 1); \
 	if [ -z "$$program" ]; then echo 'There is no program: "make demo" builds one, and "make" a proved one.' >&2; exit 1; fi; \
 	echo "With $$program:"
 
-.PHONY: all demo test edits examples readme interface faults faults-io fuzz board record real pictures install uninstall dist bench
+.PHONY: all demo test prove edits rows pack examples readme interface faults faults-io fuzz board record real pictures install uninstall dist bench
 
 all:
 	cd crates/boot_cli && rt run -- boot data/flash data/otp arm normal
@@ -47,11 +54,25 @@ demo:
 	@python3 tools/demo.py $(UNPROVED)
 
 test:
+	@test -e $(PROVED) -o -e $(UNPROVED) || $(MAKE) --no-print-directory demo
+	@python3 tools/rows.py pack --check $(PACK)
+	@python3 tools/rows.py run
+
+prove:
+	@echo 'With nothing kept this takes $(PROVE_TIME). A kept proof: what passes is kept on'
+	@echo 'this machine, by the checksums of all that was read, so that the next run proves only what'
+	@echo 'changed and the crates above it. Each test and each program is run every time.'
 	rt ci
 	@python3 tools/premises.py
 
 edits:
 	@python3 tools/edits.py $(if $(SINCE),--since $(SINCE)) $(CRATES)
+
+rows:
+	@python3 tools/rows.py make
+
+pack:
+	@python3 tools/rows.py pack $(PACK)
 
 examples:
 	@$(NEWER); python3 tools/examples.py "$$program" examples
