@@ -21,7 +21,9 @@ for each piece, in ascending order. What no line names is 0xff. A line with `#` 
 
 `run` runs each row, or those whose name has a NAME in it, and prints what differs. PROGRAM is a
 path with a slash; where it is left out, it is the newer of the proved and the unproved program.
-The unproved one is not run on rows that are slow, and no program is with --quick.
+An input file that a run changes is a difference too. The last line is `N passed, M failed`.
+
+The unproved program is not run on rows that are slow, and with --quick none is.
 
 `make` writes the rows with whole files to FOLDER, or to out/rows, for another implementation.
 
@@ -34,6 +36,7 @@ only looks whether FILE is that text.
 
 import argparse
 import concurrent.futures
+import glob
 import os
 import shutil
 import subprocess
@@ -386,11 +389,21 @@ def newer_program():
     return max(there, key=os.path.getmtime)
 
 
+def is_stale(program):
+    """Whether a source has changed since the program was built."""
+    built = os.path.getmtime(program)
+    sources = glob.iglob(os.path.join(TOP, "crates", "*", "src", "**", "*.rt"), recursive=True)
+    return any(os.path.getmtime(path) > built for path in sources)
+
+
 def run(words):
     names = words.names
-    program = names.pop(0) if names and "/" in names[0] else newer_program()
+    is_given = bool(names) and "/" in names[0]
+    program = names.pop(0) if is_given else newer_program()
     is_quick = words.quick or os.path.realpath(program) == os.path.realpath(UNPROVED)
     print(f"The rows of rows/ on {os.path.relpath(program)}:", flush=True)
+    if not is_given and is_stale(program):
+        print("A source is newer than this program; it is not built anew here.", flush=True)
     passed, failed, left_out = run_rows(os.path.abspath(program), row_names(names), is_quick)
     if left_out:
         print(f"{left_out} rows are slow, and left out here; the proved program runs them")
