@@ -145,7 +145,10 @@ def piece_of(line):
     count = int(words[3]) if len(words) == 4 and words[2] == "*" else 1
     if len(words) not in (2, 4) or len(words) == 4 and words[2] != "*" or count < 1:
         raise ValueError(f"out of form: {line[:80]}")
-    return int(words[0]), bytes.fromhex(words[1]) * count
+    piece = bytes.fromhex(words[1])
+    if not piece:
+        raise ValueError(f"no bytes: {line}")
+    return int(words[0]), piece * count
 
 
 def is_text(data):
