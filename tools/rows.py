@@ -228,13 +228,13 @@ def row_names(chosen=()):
 
 
 def write_row(row, folder, put):
-    """Writes a row into a new folder; put writes a file of it."""
+    """Writes a row into a new folder; put writes its files."""
     os.makedirs(folder)
-    put(folder, "args", b"".join(word + b"\n" for word in row.words))
-    put(folder, "stdout", row.stdout)
-    put(folder, "status", b"%d\n" % row.status)
+    put_whole(folder, "args", b"".join(word + b"\n" for word in row.words))
+    put_whole(folder, "status", b"%d\n" % row.status)
     for mark in row.marks:
-        put(folder, mark, b"")
+        put_whole(folder, mark, b"")
+    put(folder, "stdout", row.stdout)
     put_files(folder, row.inputs, put)
     if row.want:
         os.mkdir(os.path.join(folder, "want"))
