@@ -4,7 +4,7 @@
 # make prove      the gate: proves everything, tries the must-fail edits, and runs the tests and the programs; then lists what no example holds
 # make edits      tries the edits of crates/NAME/edits/ that have to be refused, many in one check; CRATES="a b" those of these crates, SINCE=REV those of
 #                 the crates that differ from a commit
-# make rows       writes the rows with whole files into out/rows, for another implementation
+# make rows       writes the rows with whole files into out/rows, some 300 MiB, for another implementation
 # make pack       writes the small rows anew as the text that test_rows reads
 # make examples   writes the files that the documents take as examples into examples/
 # make readme     runs each session of the documents with the newer of the two programs, and compares the manual page, the
@@ -59,8 +59,8 @@ test:
 	@python3 tools/rows.py run
 
 prove:
-	@echo 'With nothing kept this takes $(PROVE_TIME). A kept proof: what passes is kept on'
-	@echo 'this machine, by the checksums of all that was read, so that the next run proves only what'
+	@echo 'With nothing kept this takes $(PROVE_TIME). What passes is a kept proof: it is kept on'
+	@echo 'this machine by the checksums of all that was read, so that the next run proves only what'
 	@echo 'changed and the crates above it. Each test and each program is run every time.'
 	rt ci
 	@python3 tools/premises.py
