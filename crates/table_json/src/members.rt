@@ -25,44 +25,72 @@ pub(crate) enum Shape {
     OfOtp,
 }
 
+/// Whether a name is listed for a table.
+fn is_table_member(name: &str) -> bool
+    ensures { result ≡ is_member_name Shape.OfTable name.now }
+{
+    name == "version" || name == "singleton" || name == "unpartitioned" || name == "partitions"
+}
+
+/// Whether a name is listed for what a table says of the sectors that no partition has.
+fn is_unpartitioned_member(name: &str) -> bool
+    ensures { result ≡ is_member_name Shape.OfUnpartitioned name.now }
+{
+    name == "families" || name == "permissions"
+}
+
+/// Whether a name is listed for a partition.
+fn is_partition_member(name: &str) -> bool
+    ensures { result ≡ is_member_name Shape.OfPartition name.now }
+{
+    name == "first"
+        || name == "last"
+        || name == "families"
+        || name == "permissions"
+        || name == "id"
+        || name == "name"
+        || name == "link"
+        || name == "ignore_arm"
+        || name == "ignore_riscv"
+        || name == "no_reboot"
+}
+
+/// Whether a name is listed for permissions.
+fn is_permissions_member(name: &str) -> bool
+    ensures { result ≡ is_member_name Shape.OfPermissions name.now }
+{
+    name == "secure" || name == "nonsecure" || name == "bootloader"
+}
+
+/// Whether a name is listed for a spec.
+fn is_spec_member(name: &str) -> bool
+    ensures { result ≡ is_member_name Shape.OfSpec name.now }
+{
+    name == "processor"
+        || name == "version"
+        || name == "rollback"
+        || name == "rows"
+        || name == "trial"
+}
+
+/// Whether a name is listed for an OTP.
+fn is_otp_member(name: &str) -> bool
+    ensures { result ≡ is_member_name Shape.OfOtp name.now }
+{
+    name == "rollback_required" || name == "flash_off" || name == "slot_size" || name == "rows"
+}
+
 /// Whether a name is listed for an object.
 fn is_member_name(shape: Shape, name: &str) -> bool
     ensures { result ≡ is_member_name shape name.now }
 {
     match shape {
-        Shape::OfTable => {
-            name == "version"
-                || name == "singleton"
-                || name == "unpartitioned"
-                || name == "partitions"
-        }
-        Shape::OfUnpartitioned => name == "families" || name == "permissions",
-        Shape::OfPartition => {
-            name == "first"
-                || name == "last"
-                || name == "families"
-                || name == "permissions"
-                || name == "id"
-                || name == "name"
-                || name == "link"
-                || name == "ignore_arm"
-                || name == "ignore_riscv"
-                || name == "no_reboot"
-        }
-        Shape::OfPermissions => name == "secure" || name == "nonsecure" || name == "bootloader",
-        Shape::OfSpec => {
-            name == "processor"
-                || name == "version"
-                || name == "rollback"
-                || name == "rows"
-                || name == "trial"
-        }
-        Shape::OfOtp => {
-            name == "rollback_required"
-                || name == "flash_off"
-                || name == "slot_size"
-                || name == "rows"
-        }
+        Shape::OfTable => is_table_member(name),
+        Shape::OfUnpartitioned => is_unpartitioned_member(name),
+        Shape::OfPartition => is_partition_member(name),
+        Shape::OfPermissions => is_permissions_member(name),
+        Shape::OfSpec => is_spec_member(name),
+        Shape::OfOtp => is_otp_member(name),
     }
 }
 

@@ -1,9 +1,9 @@
 //! The OTP of a board, from a text.
 
-ghost use Rattle.std.specs.Prelude.{◌≡◌, ◌≢◌, ◌≤◌, [], length, map, Option, None, Ok, Err, IfOk, IfErr};
+ghost use Rattle.std.specs.Prelude.{◌≡◌, ◌≢◌, ◌≤◌, [], length, map, Option, None, Ok, Err, IfOk, IfErr, option_and_then};
 ghost use Rattle.serde_json.specs.Data.{Data};
 ghost use Rattle.serde_json.specs.View.{view};
-ghost use Rattle.table_json.specs.Forms.{number_below};
+ghost use Rattle.table_json.specs.Forms.{number_below, number_in};
 ghost use Rattle.table_json.specs.Members.{optional};
 ghost use Rattle.table_json.specs.Otps.{exponent_of, if_listed, listed_pairs, otp_answer, otp_from, otp_spec_from, pair_form, pair_in, pairs_after, pairs_form, pairs_read, rows_answer, size_form};
 ghost use Rattle.table_json.specs.OtpRules.{IsSound};
@@ -81,13 +81,20 @@ fn if_listed(row: u64) -> Option<u16>
     }
 }
 
+/// The row of a value, where it may be listed.
+fn row_in(value: &Value) -> Option<u16>
+    ensures { result ≡ option_and_then if_listed (number_in (view value.now)) }
+{
+    if_listed(value.as_u64()?)
+}
+
 /// The row and the value of two values.
 fn pair_in(values: &[Value]) -> Option<OtpRow>
     ensures { result ≡ pair_in (map view values.now) }
 {
     match values {
         [row, value] => Some(OtpRow {
-            row: if_listed(row.as_u64()?)?,
+            row: row_in(row)?,
             value: number_below(value, 1 << 24)? as u32,
         }),
         _ => None,

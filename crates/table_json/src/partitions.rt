@@ -28,6 +28,14 @@ pub(crate) fn truth(object: &Value, place: Place, field: Field) -> Result<bool, 
     }
 }
 
+/// The sector of a value.
+fn sector_in(value: &Value) -> Option<u32>
+    ensures value { result ≡ number_below 8192 (view value.now) }
+    ensures small { IfSome result (λ sector. sector < 8192) }
+{
+    Some(number_below(value, 8192)? as u32)
+}
+
 /// A required sector.
 fn sector(object: &Value, place: Place, field: Field) -> Result<u32, JsonFault>
     ensures value { result ≡ required (number_below 8192) place field (view object.now) }
@@ -35,8 +43,8 @@ fn sector(object: &Value, place: Place, field: Field) -> Result<u32, JsonFault>
 {
     match object.get(field.name()) {
         None => Err(JsonFault::Missing(place, field)),
-        Some(value) => match number_below(value, 8192) {
-            Some(sector) => Ok(sector as u32),
+        Some(value) => match sector_in(value) {
+            Some(sector) => Ok(sector),
             None => Err(JsonFault::Value(place, field)),
         },
     }
