@@ -113,18 +113,6 @@ fn each_failing_call_ends_its_command(rt: HostRuntime) -> Result<(), Fail> {
 }
 
 #[test]
-fn a_name_that_the_store_lacks_is_a_read_fault(rt: HostRuntime) -> Result<(), Fail> {
-    for texts in [
-        ["boot", "y", "o", "arm", "normal"],
-        ["boot", "f", "y", "arm", "normal"],
-    ] {
-        let end = ended(rt.alloc(), &texts, (9, 9, 9))?;
-        assert_eq!(rt; end, (Status::ReadFault, false, false, false));
-    }
-    Ok(())
-}
-
-#[test]
 fn a_check_of_no_effect_ends_with_its_verdict(rt: HostRuntime) -> Result<(), Fail> {
     let alloc = rt.alloc();
     let words: &[&str] = &["check", "f", "o", "arm", "s", "t"];

@@ -11,7 +11,7 @@ use std::alloc::{AllocError, Global};
 pub const VECTORS: [u32; 2] = [0x2008_2000, 0x1000_0201];
 
 /// The least block of an executable for the Arm cores.
-pub const ARM: [u32; 5] = [0xffff_ded3, 0x1021_0142, 0x0000_01ff, 0, 0xab12_3579];
+const ARM: [u32; 5] = [0xffff_ded3, 0x1021_0142, 0x0000_01ff, 0, 0xab12_3579];
 
 /// The block of one of version 1.0.
 pub const ARM_1_0: [u32; 7] = [
@@ -19,50 +19,6 @@ pub const ARM_1_0: [u32; 7] = [
     0x1021_0142,
     0x0000_0248,
     0x0001_0000,
-    0x0000_03ff,
-    0,
-    0xab12_3579,
-];
-
-/// The block of one of version 1.1.
-pub const ARM_1_1: [u32; 7] = [
-    0xffff_ded3,
-    0x1021_0142,
-    0x0000_0248,
-    0x0001_0001,
-    0x0000_03ff,
-    0,
-    0xab12_3579,
-];
-
-/// The block of one of version 1.1, as a trial.
-pub const TRIAL_1_1: [u32; 7] = [
-    0xffff_ded3,
-    0x9021_0142,
-    0x0000_0248,
-    0x0001_0001,
-    0x0000_03ff,
-    0,
-    0xab12_3579,
-];
-
-/// The block of one of version 1.9.
-pub const ARM_1_9: [u32; 7] = [
-    0xffff_ded3,
-    0x1021_0142,
-    0x0000_0248,
-    0x0001_0009,
-    0x0000_03ff,
-    0,
-    0xab12_3579,
-];
-
-/// The block of one of version 1.10.
-pub const ARM_1_10: [u32; 7] = [
-    0xffff_ded3,
-    0x1021_0142,
-    0x0000_0248,
-    0x0001_000a,
     0x0000_03ff,
     0,
     0xab12_3579,
@@ -78,24 +34,6 @@ pub const PAIR: [u32; 10] = [
     0xfc07_a020,
     0xfc02_0002,
     0x0000_06ff,
-    0,
-    0xab12_3579,
-];
-
-/// A table of a pair at 0x2000 and 0xa000, and of a pair of its data at 0x12000 and 0x1a000.
-pub const OWNED: [u32; 14] = [
-    0xffff_ded3,
-    0x0400_0a0a,
-    0xfc00_8000,
-    0xfc01_2002,
-    0xfc02_0000,
-    0xfc02_200a,
-    0xfc02_0002,
-    0xfc03_2012,
-    0xfc01_0004,
-    0xfc04_201a,
-    0xfc01_0012,
-    0x0000_0aff,
     0,
     0xab12_3579,
 ];

@@ -14,7 +14,7 @@ use std::alloc::Global;
 use std::process::Abort;
 use std::test::Fail;
 use test_fixtures::board_of;
-use uf2_place::{Accepted, Download, PlaceFault, Target, Uf2, Uf2WriteFault, read_uf2, write_uf2};
+use uf2_place::{Accepted, Download, PlaceFault, Target, Uf2, read_uf2, write_uf2};
 
 /// The family rp2350-arm-s.
 const ARM_S: u32 = 0xe48b_ff59;
@@ -153,20 +153,6 @@ fn a_file_is_written_and_read(rt: HostRuntime) -> Result<(), Fail> {
 }
 
 #[test]
-fn an_image_may_have_16_mebibytes(rt: HostRuntime) -> Result<(), Fail> {
-    let alloc = rt.alloc();
-    let mut out = vec![in alloc; 7_u8]?;
-    let image = vec![in alloc; 0_u8; 16_777_217]?;
-    assert_eq!(rt;
-        write_uf2(alloc, &image, ARM_S, &mut out),
-        Err(Uf2WriteFault::TooLarge)
-    );
-    assert_eq!(rt; write_uf2(alloc, &image[1..], ARM_S, &mut out), Ok(()));
-    assert_eq!(rt; out.len(), 33_554_433);
-    Ok(())
-}
-
-#[test]
 fn a_gated_download_is_cut_in_its_final_programs(rt: HostRuntime) -> Result<(), Fail> {
     let alloc = rt.alloc();
     let mut bed = Bed::make(&rt, alloc, board(alloc)?)?;
@@ -185,23 +171,5 @@ fn a_gated_download_is_cut_in_its_final_programs(rt: HostRuntime) -> Result<(), 
     assert_eq!(rt; flash_byte(&rt, &bed.board, 0x20100), 0x11);
     assert_eq!(rt; flash_byte(&rt, &bed.board, 0x20200), 0x2f);
     assert_eq!(rt; flash_byte(&rt, &bed.board, 0x21000), 0x33);
-    Ok(())
-}
-
-#[test]
-fn a_gated_download_is_done(rt: HostRuntime) -> Result<(), Fail> {
-    let alloc = rt.alloc();
-    let mut bed = Bed::make(&rt, alloc, board(alloc)?)?;
-    let first = block(2, 0x1000_0f00, 0x0f);
-    assert_eq!(rt; bed.place(&rt, &first), Ok(Accepted::Taken));
-    assert_eq!(rt; bed.place(&rt, &first), Ok(Accepted::Again));
-    let second = block(1, 0x1000_0200, 0x11);
-    assert_eq!(rt; bed.place(&rt, &second), Ok(Accepted::Taken));
-    let later = block(0, 0x1000_0f00, 0xf0);
-    assert_eq!(rt; bed.place(&rt, &later), Ok(Accepted::Done(slot())));
-    assert_eq!(rt; bed.board.steps(), 3);
-    assert_eq!(rt; bed.pool.free(), 1);
-    assert_eq!(rt; flash_byte(&rt, &bed.board, 0x20200), 0x11);
-    assert_eq!(rt; flash_byte(&rt, &bed.board, 0x20fff), 0xf0);
     Ok(())
 }

@@ -7,8 +7,6 @@ mod commands;
 #[cfg(test)]
 mod downloads;
 #[cfg(test)]
-mod infos;
-#[cfg(test)]
 mod scripts;
 #[cfg(test)]
 mod tables;

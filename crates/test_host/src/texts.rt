@@ -85,11 +85,6 @@ fn read(alloc: Global, text: &[u8]) -> Result<(String, u32, String), TextError> 
     }
 }
 
-/// The fault of a text.
-fn fault(alloc: Global, text: &[u8]) -> Option<TextError> {
-    read(alloc, text).err()
-}
-
 /// The last 480 bytes of a UF2 block, in hexadecimal: a page of 0 to 255, zeros, and the last word.
 fn block_end(alloc: Global) -> Result<String, Fail> {
     let mut rest = String::new(alloc);
@@ -147,59 +142,5 @@ end\n"
     assert_eq!(rt; script, wanted);
     assert_eq!(rt; records, 12);
     assert_eq!(rt; listed, text);
-    Ok(())
-}
-
-#[test]
-fn what_is_passed_over_has_no_record(rt: HostRuntime) -> Result<(), Fail> {
-    let alloc = rt.alloc();
-    for (text, script, records) in [
-        (b"".as_slice(), "00", 1),
-        (b"#\r\n\n#\xff\x00 power\n#end".as_slice(), "00", 1),
-        (b"\n# power\n\npower".as_slice(), "0400", 2),
-        (b"buy\nend\nEND\nbuy\n".as_slice(), "0600", 2),
-    ] {
-        let (bytes, count, _) = read(alloc, text)?;
-        assert_eq!(rt; bytes.as_str(), script);
-        assert_eq!(rt; count, records);
-    }
-    Ok(())
-}
-
-#[test]
-fn the_first_line_that_is_no_record_is_named(rt: HostRuntime) -> Result<(), Fail> {
-    for (text, line) in [
-        (" # a\n", 1),
-        ("cut 4294967296 before\n", 1),
-        ("cut 01 before\n", 1),
-        ("cut 1 before\ncut 1 within \n", 2),
-        ("reset update=0x1002ABCD\n", 1),
-        ("power\nbuy\nend \n", 3),
-        ("# a\r\npower\r\nend\r\n", 2),
-        ("power\n\r\n", 2),
-        (
-            "power\n\ncommand \
-            0bd11f4301000000030800000000000000000210001000000000000000000000 -\n",
-            3,
-        ),
-    ] {
-        assert_eq!(rt;
-            fault(rt.alloc(), text.as_bytes()),
-            Some(TextError::Line(line))
-        );
-    }
-    Ok(())
-}
-
-#[test]
-fn a_script_has_524287_records_before_its_end(rt: HostRuntime) -> Result<(), Fail> {
-    let alloc = rt.alloc();
-    let mut text = String::new(alloc);
-    for _ in 0..524_287 {
-        text.push_str("buy\n")?;
-    }
-    assert_eq!(rt; fault(alloc, text.as_bytes()), None);
-    text.push_str("buy\nno record\n")?;
-    assert_eq!(rt; fault(alloc, text.as_bytes()), Some(TextError::TooMany));
     Ok(())
 }

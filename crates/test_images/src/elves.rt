@@ -1,6 +1,6 @@
 //! The calls with ample memory. The digests are those of files that were made outside this program.
 
-use crate::fixtures::{BLOCK, LEAST_SEALED, sha256, spec};
+use crate::fixtures::{sha256, spec};
 use elf_pack::{ElfFault, elf_binary, elf_image};
 use image_pack::SealSpec;
 use pico_board::Cpu;
@@ -76,19 +76,6 @@ fn file(
     Ok(file)
 }
 
-/// The least image for Arm: SP and PC, and the least block at 0x114.
-fn least_image(alloc: Global) -> Result<Vec<u8>, AllocError> {
-    let mut bytes = Vec::new(alloc);
-    for word in [0x2008_2000u32, 0x1000_0201] {
-        bytes.extend_from_slice(&word.to_le_bytes())?;
-    }
-    bytes.resize(0x114, 0xff)?;
-    for word in BLOCK {
-        bytes.extend_from_slice(&word.to_le_bytes())?;
-    }
-    Ok(bytes)
-}
-
 /// The most bytes that a file may have.
 const MOST_BYTES: usize = 67_108_864;
 
@@ -111,27 +98,6 @@ fn image_of(
         return Err(ElfFault::Memory);
     }
     elf_image(alloc, elf, spec, out)
-}
-
-#[test]
-fn a_flash_segment_gives_its_bytes_and_their_sealed_image(rt: HostRuntime) -> Result<(), Fail> {
-    let alloc = rt.alloc();
-    let least = least_image(alloc)?;
-    let elf = file(
-        alloc,
-        ARM,
-        0x1000_0201,
-        &[[1, 84, 0x1000_0000, 296]],
-        &least,
-    )?;
-    let mut binary = Vec::new(alloc);
-    assert_eq!(rt; binary_of(alloc, &elf, Cpu::Arm, &mut binary), Ok(()));
-    assert_eq!(rt; binary.as_slice(), least.as_slice());
-    let mut sealed = Vec::new(alloc);
-    assert_eq!(rt; image_of(alloc, &elf, &spec(9), &mut sealed), Ok(0x128));
-    assert_eq!(rt; sealed.len(), 384);
-    assert_eq!(rt; sha256(&sealed), LEAST_SEALED);
-    Ok(())
 }
 
 #[test]

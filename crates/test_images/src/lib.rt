@@ -1,7 +1,6 @@
-//! Tests of blocks, definitions, load maps and the check of an image. Others are of the calls that
-//! make images, tables and sealed images, and of those that write and start an image in RAM. With
-//! ample memory they answer what was worked out by hand. The digests are those of files that were
-//! made outside this program.
+//! Tests of blocks, definitions and load maps, and of whether two windows hold the same image. Others
+//! are of the calls that make images, tables and sealed images. With ample memory they answer what
+//! was worked out by hand. The digests are those of files that were made outside this program.
 #![tactic(auto)]
 
 #[cfg(test)]
@@ -16,7 +15,5 @@ mod fixtures;
 mod making;
 #[cfg(test)]
 mod maps;
-#[cfg(test)]
-mod starts;
 #[cfg(test)]
 mod texts;

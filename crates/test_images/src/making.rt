@@ -17,18 +17,6 @@ const PLANNED: [u8; 32] = [
     0xbb, 0x70, 0x0f, 0x7e, 0x43, 0x5a, 0x53, 0x9e, 0x82, 0x89, 0xaf, 0xc2, 0xc9, 0xb8, 0xed, 0x3a,
 ];
 
-/// The binary of 65,280 bytes, sealed for Arm with version 1.1.
-const LONG_SEALED: [u8; 32] = [
-    0xe6, 0xe0, 0x04, 0x94, 0x69, 0xda, 0x01, 0xc1, 0x68, 0x0e, 0x59, 0x21, 0x06, 0x04, 0x34, 0x87,
-    0x0b, 0x39, 0x01, 0x0f, 0x8d, 0x12, 0x5a, 0x1c, 0x3e, 0xea, 0xc9, 0x0e, 0x91, 0xb1, 0x0b, 0xec,
-];
-
-/// The script that writes it into the window of sectors 32 to 61.
-const LONG_PLANNED: [u8; 32] = [
-    0x67, 0xcb, 0x18, 0xef, 0x2e, 0x85, 0x5a, 0x79, 0x29, 0xc1, 0xa8, 0xdb, 0x6b, 0x65, 0x59, 0x78,
-    0x11, 0xf6, 0x3c, 0xcf, 0xc7, 0xe6, 0xce, 0x13, 0x9e, 0x2b, 0x7c, 0x46, 0xfd, 0xa3, 0x06, 0x40,
-];
-
 /// The script that loads the binary of 1,025 words into the window of sectors 2 to 31.
 const LOADED: [u8; 32] = [
     0x27, 0x7d, 0xff, 0x6a, 0x0b, 0xdb, 0x92, 0xc9, 0xe5, 0x53, 0x8d, 0xed, 0x42, 0x4e, 0x0b, 0xa7,
@@ -41,8 +29,8 @@ const MADE: [u8; 32] = [
     0x21, 0xe4, 0xdb, 0x43, 0xc7, 0xc7, 0x16, 0x93, 0x9b, 0xe1, 0x8a, 0xaf, 0x08, 0x44, 0x57, 0xc6,
 ];
 
-/// A binary of so many words: SP and PC, the least block at 0x114, and this word elsewhere.
-fn binary(alloc: Global, words: u32, fill: u32) -> Result<Vec<u8>, AllocError>
+/// A binary of so many words: SP and PC, the least block at 0x114, and 0xff elsewhere.
+fn binary(alloc: Global, words: u32) -> Result<Vec<u8>, AllocError>
     requires { words ≤ 16320 }
     ensures { IfOk result (λ bytes. length bytes.items ≤ 65280) }
 {
@@ -54,59 +42,43 @@ fn binary(alloc: Global, words: u32, fill: u32) -> Result<Vec<u8>, AllocError>
             _ => BLOCK
                 .get(place.wrapping_sub(0x45) as usize)
                 .copied()
-                .unwrap_or(fill),
+                .unwrap_or(0xffff_ffff),
         };
         bytes.extend_from_slice(&word.to_le_bytes())?;
     }
     Ok(bytes)
 }
 
-/// The window of the 30 sectors from this one on.
-fn slot(sector: u32) -> Window
-    requires { sector ≤ 32 }
+/// The window of the sectors 2 to 31.
+fn slot() -> Window
     ensures { IsPlanned result }
 {
     Window {
-        start: 4096 * sector,
-        len: 4096 * 30,
+        start: 0x2000,
+        len: 0x1e000,
     }
 }
 
 #[test]
 fn the_least_image_is_sealed_and_planned(rt: HostRuntime) -> Result<(), Fail> {
     let alloc = rt.alloc();
-    let bytes = binary(alloc, 74, 0xffff_ffff)?;
+    let bytes = binary(alloc, 74)?;
     let mut sealed = Vec::new(alloc);
     assert_eq!(rt; seal(alloc, &bytes, &spec(9), &mut sealed), Ok(0x128));
     assert_eq!(rt; sealed.len(), 384);
     assert_eq!(rt; sha256(&sealed), LEAST_SEALED);
     let mut script = Vec::new(alloc);
-    assert_eq!(rt; plan(alloc, slot(2), &sealed, &mut script), Ok(()));
+    assert_eq!(rt; plan(alloc, slot(), &sealed, &mut script), Ok(()));
     assert_eq!(rt; sha256(&script), PLANNED);
-    Ok(())
-}
-
-#[test]
-fn an_image_of_several_sectors_is_planned_with_its_first_sector_last(
-    rt: HostRuntime,
-) -> Result<(), Fail> {
-    let alloc = rt.alloc();
-    let bytes = binary(alloc, 16320, 0)?;
-    let mut sealed = Vec::new(alloc);
-    assert_eq!(rt; seal(alloc, &bytes, &spec(1), &mut sealed), Ok(65_280));
-    assert_eq!(rt; sha256(&sealed), LONG_SEALED);
-    let mut script = Vec::new(alloc);
-    assert_eq!(rt; plan(alloc, slot(32), &sealed, &mut script), Ok(()));
-    assert_eq!(rt; sha256(&script), LONG_PLANNED);
     Ok(())
 }
 
 #[test]
 fn an_image_of_two_sectors_is_loaded_in_ascending_order(rt: HostRuntime) -> Result<(), Fail> {
     let alloc = rt.alloc();
-    let bytes = binary(alloc, 1025, 0xffff_ffff)?;
+    let bytes = binary(alloc, 1025)?;
     let mut script = Vec::new(alloc);
-    assert_eq!(rt; load(alloc, slot(2), &bytes, &mut script), Ok(()));
+    assert_eq!(rt; load(alloc, slot(), &bytes, &mut script), Ok(()));
     assert_eq!(rt; script.len(), 8496);
     assert_eq!(rt; sha256(&script), LOADED);
     Ok(())
