@@ -1,8 +1,6 @@
-//! What no clause says: which arguments are given, and the number with which each status ends the
-//! program.
+//! What no clause says: which arguments are given.
 
 use crate::words;
-use boot_run::Status;
 use std::alloc::Global;
 use std::env::{Env, FillError};
 use std::test::Fail;
@@ -62,24 +60,4 @@ fn words_are_given_whole_or_where_one_is_not_utf_8_none(rt: HostRuntime) -> Resu
     })?;
     assert_eq!(rt; none.len(), 0);
     Ok(())
-}
-
-#[test]
-fn exit_statuses_are_numbered_in_order(rt: HostRuntime) {
-    for (status, number) in [
-        (Status::Done, 0),
-        (Status::Words, 1),
-        (Status::Input, 2),
-        (Status::Bootsel, 3),
-        (Status::ReadFault, 4),
-        (Status::WriteFault, 5),
-        (Status::OutputFault, 6),
-        (Status::Memory, 7),
-        (Status::Unbootable, 8),
-        (Status::Neither, 9),
-        (Status::NoEffect, 10),
-        (Status::Refused, 11),
-    ] {
-        assert_eq!(rt; status.number(), number);
-    }
 }
