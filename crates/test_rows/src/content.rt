@@ -12,11 +12,9 @@ pub fn number_in(text: &str) -> Result<usize> {
     Ok(number as usize)
 }
 
-/// The bytes of a piece, of which there is one at least.
+/// The bytes of a piece.
 fn piece_in(alloc: Global, digits: &str) -> Result<Vec<u8>> {
-    let piece = read_bytes(alloc, digits.as_bytes())?.context("hexadecimal digits are wanted")?;
-    ensure!(!piece.is_empty(), "a piece has no byte");
-    Ok(piece)
+    read_bytes(alloc, digits.as_bytes())?.context("hexadecimal digits are wanted")
 }
 
 /// A content of so many bytes, each of which is 0xff.
@@ -24,8 +22,9 @@ pub fn blank(alloc: Global, size: &str) -> Result<Vec<u8>> {
     Ok(vec![in alloc; 0xff; number_in(size)?]?)
 }
 
-/// Writes a piece so many times into the content, from an offset on.
+/// Writes a piece of one byte at least so many times into the content, from an offset on.
 fn put_piece(content: &mut [u8], offset: usize, piece: &[u8], count: usize) -> Result<()> {
+    ensure!(!piece.is_empty(), "a piece has no byte");
     let end = piece
         .len()
         .checked_mul(count)
