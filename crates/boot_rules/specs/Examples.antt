@@ -1,7 +1,7 @@
 -- Worked examples: images in the members of a pair, and alone; tables, targets and data; and whole
 -- flashes.
 use Rattle.std.specs.Prelude.{ℕ, ◌==◌, ◌&&◌, not, Bool, false, if◌then◌else◌}
-use Rattle.std.specs.Prelude.{[], ◌∷◌, Option, Some, None}
+use Rattle.std.specs.Prelude.{[], ◌∷◌, ◌++◌, List, Option, Some, None}
 use Rattle.block_codec.specs.Blocks.{BlockView}
 use Rattle.pico_board.specs.declared.window.Window.{Window}
 use Rattle.image_def.specs.declared.started.Started.{Started}
@@ -14,8 +14,11 @@ use Rattle.slot_choice.specs.declared.choice.Choice.{Choice}
 use Rattle.worked_flashes.specs.Tables.{pair_unit}
 use Rattle.slot_choice.specs.Examples.{window_at}
 use Rattle.boot_rules.specs.declared.tables.Found.{Found}
+use Rattle.slot_choice.specs.declared.unit.Member.TheVariants.{A, B}
+use Rattle.pico_board.specs.Content.{Content}
 use Rattle.worked_flashes.specs.Images.{image_of_version}
-use Rattle.worked_flashes.specs.Flashes.{several, small_items}
+use Rattle.worked_flashes.specs.Choices.{small_first, small_slot}
+use Rattle.worked_flashes.specs.Flashes.{framed, region, rows_with, several, small_items}
 
 -- an image counts where it is no trial, or where trials are allowed
 abbrev pub counting_image : Bool → Option Started → Option Started
@@ -105,8 +108,44 @@ abbrev pub start_in : Window → Member → Option Window → Choice
 start_in w member other =
     record { image = image_of_version w 1 0 false; member = member; other = other; updated = false }
 
--- the table of that pair where its A accepts all six families, and its B none
+-- the small pair's table where both members accept rp2350-arm-s alone
+abbrev pub arm_table : Table
+arm_table = small_table false 0 0
+
+-- the small pair's table where its A accepts all six families, and its B none
 abbrev pub open_table : Table
 open_table =
     table_with
-    (plain_partition (sectors 2 31) 0xfc0fc000 ∷ plain_partition (sectors 32 61) 0xfc000002 ∷ [])
+    (plain_partition (sectors 2 3) 0xfc0fc000 ∷ plain_partition (sectors 4 5) 0xfc000002 ∷ [])
+
+-- a flash of 24 KiB with the small pair's table and these boot flags, and what stands in the pair's
+-- members, two sectors each
+abbrev pub small_content : ℕ → List ℕ → List ℕ → Content
+small_content flags a b = record {
+  flash = region 0x2000 (framed (small_items several 0) 0) ++ (a ++ b);
+  otp = rows_with flags 0;
+}
+
+-- an image of this version in the window of the small pair's A, and in that of its B
+abbrev pub in_small_a : ℕ → ℕ → Bool → Started
+in_small_a major minor trial = image_of_version small_first major minor trial
+
+abbrev pub in_small_b : ℕ → ℕ → Bool → Started
+in_small_b major minor trial = image_of_version small_slot major minor trial
+
+-- the start of an image in the small pair's A, and in its B
+abbrev pub starts_small_a : Bool → Started → Choice
+starts_small_a updated s = record {
+  image = s;
+  member = A;
+  other = Some small_slot;
+  updated = updated;
+}
+
+abbrev pub starts_small_b : Bool → Started → Choice
+starts_small_b updated s = record {
+  image = s;
+  member = B;
+  other = Some small_first;
+  updated = updated;
+}

@@ -4,16 +4,15 @@
 ghost use Rattle.std.specs.Prelude.{◌≡◌, [], ◌∷◌, ◌++◌, true, false, Some, None};
 ghost use Rattle.pico_board.specs.declared.boot.BootKind.TheVariants.{Normal, Update, Bootsel as AskBootsel};
 ghost use Rattle.pico_board.specs.declared.boot.Cpu.TheVariants.{Arm, Riscv};
-ghost use Rattle.worked_flashes.specs.Tables.{one_part, owned_table, pair_table, plain_partition, sectors};
+ghost use Rattle.worked_flashes.specs.Tables.{one_part, owned_table, plain_partition, sectors};
 ghost use Rattle.part_table.specs.Examples.{table_with};
-ghost use Rattle.worked_flashes.specs.Tables.{the_pair};
-ghost use Rattle.slot_choice.specs.Examples.{window_at};
+ghost use Rattle.slot_choice.specs.Examples.{small_unit, window_at};
 ghost use Rattle.slot_choice.specs.Units.{slot_pair};
 ghost use Rattle.boot_rules.specs.Choosing.{decision_in};
-ghost use Rattle.worked_flashes.specs.Flashes.{arm_member, arm_owner, arm_slot, bare, bare_owner, bare_slot, framed, image_region, owned_content, pair_content, region, several, small_items, tables_content};
-ghost use Rattle.boot_rules.specs.Examples.{found_in_slot, open_table, single, small_table};
-ghost use Rattle.worked_flashes.specs.Images.{in_a, in_b, image_of_version};
-ghost use Rattle.worked_flashes.specs.Choices.{starts_a, starts_b, to};
+ghost use Rattle.worked_flashes.specs.Flashes.{arm_owner, arm_slot, bare_owner, bare_slot, framed, image_region, owned_content, region, several, small_items, tables_content};
+ghost use Rattle.boot_rules.specs.Examples.{arm_table, found_in_slot, in_small_a, in_small_b, open_table, single, small_content, small_table, starts_small_a, starts_small_b};
+ghost use Rattle.worked_flashes.specs.Images.{image_of_version};
+ghost use Rattle.worked_flashes.specs.Choices.{small_first, small_slot, to};
 ghost use Rattle.boot_rules.specs.Picking.{pick};
 ghost use Rattle.boot_rules.specs.Tables.{table_in};
 ghost use Rattle.boot_rules.specs.Targets.{target_of};
@@ -71,38 +70,37 @@ pub fn tables_in_greater_slots()
         ≡ None }
 {}
 
-/// A pair in a flash of 256 KiB. The greater version starts, A on a tie, and the updated member
+/// A pair in a flash of 24 KiB. The greater version starts, A on a tie, and the updated member
 /// before both. Nothing starts where both are bare, where the flash is off, or where BOOTSEL is
 /// asked for.
 pub fn a_pair_boots()
     ensures greater { decision_in
-        (pair_content 0 (image_region 0x1e000 0x10210142 0x10009)
-        (image_region 0x1e000 0x10210142 0x1000a))
-        Arm Normal ≡ Start (starts_b false (in_b 1 10 false)) }
+        (small_content 0 (arm_slot 0x10009) (arm_slot 0x1000a))
+        Arm Normal ≡ Start (starts_small_b false (in_small_b 1 10 false)) }
     ensures tie { decision_in
-        (pair_content 0 (image_region 0x1e000 0x10210142 0x10009)
-        (image_region 0x1e000 0x10210142 0x10009))
-        Arm Normal ≡ Start (starts_a false (in_a 1 9 false)) }
+        (small_content 0 (arm_slot 0x10009) (arm_slot 0x10009))
+        Arm Normal ≡ Start (starts_small_a false (in_small_a 1 9 false)) }
     ensures update { decision_in
-        (pair_content 0 (image_region 0x1e000 0x10210142 0x10000)
-        (image_region 0x1e000 0x90210142 0x10001))
-        Arm (Update 0x10020000) ≡ Start (starts_b true (in_b 1 1 true)) }
+        (small_content 0 (arm_slot 0x10000) (image_region 0x2000 0x90210142 0x10001))
+        Arm (Update 0x10004000) ≡ Start (starts_small_b true (in_small_b 1 1 true)) }
     ensures other_processor { decision_in
-        (pair_content 0 (image_region 0x1e000 0x10210142 0x10009) bare)
+        (small_content 0 (arm_slot 0x10009) bare_slot)
         Riscv Normal ≡ Bootsel NoImage }
-    ensures off { decision_in (pair_content 2 (image_region 0x1e000 0x10210142 0x10009) bare) Arm
+    ensures off { decision_in (small_content 2 (arm_slot 0x10009) bare_slot) Arm
         Normal ≡ Bootsel FlashOff }
     ensures off_update { decision_in
-        (pair_content 2 (image_region 0x1e000 0x10210142 0x10009) bare) Arm (Update 0x10020000)
+        (small_content 2 (arm_slot 0x10009) bare_slot) Arm (Update 0x10004000)
         ≡ Bootsel FlashOff }
-    ensures off_and_bare { decision_in (pair_content 2 bare bare) Arm Normal ≡ Bootsel FlashOff }
-    ensures required_is_not_off { decision_in (pair_content 1 bare bare) Arm Normal ≡ Bootsel
-        NoImage }
-    ensures no_image { decision_in (pair_content 0 bare bare) Arm Normal ≡ Bootsel NoImage }
+    ensures off_and_bare { decision_in (small_content 2 bare_slot bare_slot) Arm Normal
+        ≡ Bootsel FlashOff }
+    ensures required_is_not_off { decision_in (small_content 1 bare_slot bare_slot) Arm Normal
+        ≡ Bootsel NoImage }
+    ensures no_image { decision_in (small_content 0 bare_slot bare_slot) Arm Normal
+        ≡ Bootsel NoImage }
     ensures requested { decision_in
-        (pair_content 0 (image_region 0x1e000 0x10210142 0x10009) bare) Arm AskBootsel
+        (small_content 0 (arm_slot 0x10009) bare_slot) Arm AskBootsel
         ≡ Bootsel Requested }
-    ensures requested_and_off { decision_in (pair_content 2 bare bare) Arm AskBootsel
+    ensures requested_and_off { decision_in (small_content 2 bare_slot bare_slot) Arm AskBootsel
         ≡ Bootsel Requested }
 {}
 
@@ -110,45 +108,44 @@ pub fn a_pair_boots()
 /// would take none.
 pub fn a_pair_is_written()
     ensures second { target_of
-        (pair_content 0 (image_region 0x1e000 0x10210142 0x10009)
-        (image_region 0x1e000 0x90210142 0x10000))
-        (Some pair_table) Arm 0xe48bff59 ≡ Some (to (window_at 0x20000 0x1e000) true false) }
+        (small_content 0 (arm_slot 0x10009) (image_region 0x2000 0x90210142 0x10000))
+        (Some arm_table) Arm 0xe48bff59 ≡ Some (to small_slot true false) }
     ensures first { target_of
-        (pair_content 0 (image_region 0x1e000 0x10210142 0x10009)
-        (image_region 0x1e000 0x10210142 0x1000a))
-        (Some pair_table) Arm 0xe48bff59 ≡ Some (to (window_at 0x2000 0x1e000) true false) }
-    ensures tie { target_of (pair_content 0 (arm_member 0x10009) (arm_member 0x10009))
-        (Some pair_table) Arm 0xe48bff59 ≡ Some (to (window_at 0x20000 0x1e000) true false) }
-    ensures none { target_of (pair_content 0 bare bare) (Some pair_table) Arm 0xe48bff59
-        ≡ Some (to (window_at 0x2000 0x1e000) true false) }
-    ensures absolute { target_of (pair_content 0 bare bare) (Some pair_table) Arm 0xe48bff57
-        ≡ Some (to (window_at 0 0x40000) false false) }
-    ensures data { target_of (pair_content 0 bare bare) (Some pair_table) Arm 0xe48bff58 ≡ None }
-    ensures slots { target_of (pair_content 0 bare bare) None Arm 0xe48bff59
-        ≡ Some (to (window_at 0 0x40000) false false) }
+        (small_content 0 (arm_slot 0x10009) (arm_slot 0x1000a))
+        (Some arm_table) Arm 0xe48bff59 ≡ Some (to small_first true false) }
+    ensures tie { target_of (small_content 0 (arm_slot 0x10009) (arm_slot 0x10009))
+        (Some arm_table) Arm 0xe48bff59 ≡ Some (to small_slot true false) }
+    ensures none { target_of (small_content 0 bare_slot bare_slot) (Some arm_table) Arm 0xe48bff59
+        ≡ Some (to small_first true false) }
+    ensures absolute { target_of (small_content 0 bare_slot bare_slot) (Some arm_table) Arm 0xe48bff57
+        ≡ Some (to (window_at 0 0x6000) false false) }
+    ensures data { target_of (small_content 0 bare_slot bare_slot) (Some arm_table) Arm 0xe48bff58
+        ≡ None }
+    ensures slots { target_of (small_content 0 bare_slot bare_slot) None Arm 0xe48bff59
+        ≡ Some (to (window_at 0 0x6000) false false) }
 {}
 
 /// Where the pair's A accepts all six families, each goes to the member that a normal boot of the
 /// asked processor would not take. The three of executables are gated. An unknown family has no
 /// target. Where A accepts rp2350-arm-s alone, the others have none.
 pub fn families_of_a_pair()
-    ensures riscv { target_of (pair_content 0 (arm_member 0x10009) bare) (Some open_table) Arm
-        0xe48bff5a ≡ Some (to (window_at 0x20000 0x1e000) true false) }
-    ensures riscv_boot { target_of (pair_content 0 (arm_member 0x10009) bare) (Some open_table)
-        Riscv 0xe48bff5a ≡ Some (to (window_at 0x2000 0x1e000) true false) }
-    ensures arm_ns { target_of (pair_content 0 (arm_member 0x10009) bare) (Some open_table) Arm
-        0xe48bff5b ≡ Some (to (window_at 0x20000 0x1e000) true false) }
-    ensures rp2040 { target_of (pair_content 0 (arm_member 0x10009) bare) (Some open_table) Arm
-        0xe48bff56 ≡ Some (to (window_at 0x20000 0x1e000) false false) }
-    ensures data { target_of (pair_content 0 (arm_member 0x10009) bare) (Some open_table) Arm
-        0xe48bff58 ≡ Some (to (window_at 0x20000 0x1e000) false false) }
-    ensures unknown { target_of (pair_content 0 (arm_member 0x10009) bare) (Some open_table) Arm
+    ensures riscv { target_of (small_content 0 (arm_slot 0x10009) bare_slot) (Some open_table) Arm
+        0xe48bff5a ≡ Some (to small_slot true false) }
+    ensures riscv_boot { target_of (small_content 0 (arm_slot 0x10009) bare_slot) (Some open_table)
+        Riscv 0xe48bff5a ≡ Some (to small_first true false) }
+    ensures arm_ns { target_of (small_content 0 (arm_slot 0x10009) bare_slot) (Some open_table) Arm
+        0xe48bff5b ≡ Some (to small_slot true false) }
+    ensures rp2040 { target_of (small_content 0 (arm_slot 0x10009) bare_slot) (Some open_table) Arm
+        0xe48bff56 ≡ Some (to small_slot false false) }
+    ensures data { target_of (small_content 0 (arm_slot 0x10009) bare_slot) (Some open_table) Arm
+        0xe48bff58 ≡ Some (to small_slot false false) }
+    ensures unknown { target_of (small_content 0 (arm_slot 0x10009) bare_slot) (Some open_table) Arm
         0xe48bff5c ≡ None }
-    ensures no_riscv { target_of (pair_content 0 (arm_member 0x10009) bare) (Some pair_table) Arm
+    ensures no_riscv { target_of (small_content 0 (arm_slot 0x10009) bare_slot) (Some arm_table) Arm
         0xe48bff5a ≡ None }
-    ensures no_arm_ns { target_of (pair_content 0 (arm_member 0x10009) bare) (Some pair_table) Arm
+    ensures no_arm_ns { target_of (small_content 0 (arm_slot 0x10009) bare_slot) (Some arm_table) Arm
         0xe48bff5b ≡ None }
-    ensures no_rp2040 { target_of (pair_content 0 (arm_member 0x10009) bare) (Some pair_table) Arm
+    ensures no_rp2040 { target_of (small_content 0 (arm_slot 0x10009) bare_slot) (Some arm_table) Arm
         0xe48bff56 ≡ None }
 {}
 
@@ -193,20 +190,20 @@ pub fn owned_data_is_written()
 /// Of a pair the image of the greater version is picked, A's on a tie, or the only one. A trial
 /// does not count. None is picked where both members are bare or the processor is another.
 pub fn images_are_picked()
-    ensures second { pick (pair_content 0 (arm_member 0x10009) (arm_member 0x1000a)) the_pair Arm
-        ≡ Some (in_b 1 10 false) }
-    ensures first { pick (pair_content 0 (arm_member 0x1000a) (arm_member 0x10009)) the_pair Arm
-        ≡ Some (in_a 1 10 false) }
-    ensures tie { pick (pair_content 0 (arm_member 0x10009) (arm_member 0x10009)) the_pair Arm
-        ≡ Some (in_a 1 9 false) }
+    ensures second { pick (small_content 0 (arm_slot 0x10009) (arm_slot 0x1000a)) small_unit Arm
+        ≡ Some (in_small_b 1 10 false) }
+    ensures first { pick (small_content 0 (arm_slot 0x1000a) (arm_slot 0x10009)) small_unit Arm
+        ≡ Some (in_small_a 1 10 false) }
+    ensures tie { pick (small_content 0 (arm_slot 0x10009) (arm_slot 0x10009)) small_unit Arm
+        ≡ Some (in_small_a 1 9 false) }
     ensures only_first { pick
-        (pair_content 0 (arm_member 0x10000) (image_region 0x1e000 0x90210142 0x10001)) the_pair Arm
-        ≡ Some (in_a 1 0 false) }
-    ensures only_second { pick (pair_content 0 bare (arm_member 0x10009)) the_pair Arm
-        ≡ Some (in_b 1 9 false) }
-    ensures none { pick (pair_content 0 bare bare) the_pair Arm ≡ None }
-    ensures other_processor { pick (pair_content 0 (arm_member 0x10009) (arm_member 0x1000a))
-        the_pair Riscv ≡ None }
+        (small_content 0 (arm_slot 0x10000) (image_region 0x2000 0x90210142 0x10001)) small_unit Arm
+        ≡ Some (in_small_a 1 0 false) }
+    ensures only_second { pick (small_content 0 bare_slot (arm_slot 0x10009)) small_unit Arm
+        ≡ Some (in_small_b 1 9 false) }
+    ensures none { pick (small_content 0 bare_slot bare_slot) small_unit Arm ≡ None }
+    ensures other_processor { pick (small_content 0 (arm_slot 0x10009) (arm_slot 0x1000a))
+        small_unit Riscv ≡ None }
     ensures slots { pick (tables_content 1 (arm_slot 0x10009) (arm_slot 0x1000a)) (slot_pair 0x2000)
         Arm ≡ Some (image_of_version (window_at 0x2000 0x2000) 1 10 false) }
 {}
