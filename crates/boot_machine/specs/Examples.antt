@@ -3,10 +3,10 @@ use Rattle.std.specs.Prelude.{ℕ, Bool, true, false, List, [], ◌∷◌, repli
 use Rattle.image_def.specs.Examples.{started_in}
 use Rattle.worked_flashes.specs.Images.{arm_type, window_with}
 use Rattle.pico_board.specs.Content.{Content}
-use Rattle.worked_flashes.specs.Tables.{guarded_table, pair_version}
+use Rattle.worked_flashes.specs.Tables.{guarded_table}
 use Rattle.slot_choice.specs.Examples.{window_at}
-use Rattle.worked_flashes.specs.Flashes.{bare, image_region, pair_content}
-use Rattle.boot_rules.specs.Examples.{found_in_slot}
+use Rattle.worked_flashes.specs.Flashes.{arm_slot, bare_slot}
+use Rattle.boot_rules.specs.Examples.{arm_table, found_in_slot, small_content}
 use Rattle.slot_choice.specs.declared.choice.Choice.{Choice}
 use Rattle.pico_board.specs.declared.boot.Cpu.TheVariants.{Arm}
 use Rattle.part_table.specs.declared.Target.{Target}
@@ -109,14 +109,14 @@ target_at start = record { window = window_at start 0x1000; gated = false; stay 
 abbrev pub with_image : Host → Host
 with_image host = with_ram host (window_with 0x20000021 (arm_type ∷ []) 0)
 
--- a flash of 256 KiB with the table of a pair, and an image of version 1.0 in A alone
+-- a flash of 24 KiB with the table of the small pair, and an image of version 1.0 in A alone
 abbrev pub image_in_a : Content
-image_in_a = pair_content 0 (image_region 0x1e000 arm_type 0x10000) bare
+image_in_a = small_content 0 (arm_slot 0x10000) bare_slot
 
 -- BOOTSEL as it is entered on `image_in_a`
 abbrev pub pair_host : Host
 pair_host = record {
-  found = Some (found_in_slot 0 (pair_version 0 0));
+  found = Some (found_in_slot 0 arm_table);
   placing = None;
   ram = zero_ram;
 }

@@ -3,9 +3,9 @@
 ghost use Rattle.std.specs.Prelude.{◌≡◌, ◌++◌, List, None, Some, [], ◌∷◌, codes, false, replicate, true, ℕ};
 ghost use Rattle.text_lines.specs.Examples.{ram_image};
 ghost use Rattle.boot_machine.specs.Boots.{decided_place, decided_steps, entered};
-ghost use Rattle.boot_machine.specs.Examples.{bought_trial, arm_uf2_of_two, armed_with, asks_target, busy, erase_both, erased_flash, fresh_host, idle, image_bytes, image_in_a, loaded_host, lost_with, machine_at, pair_host, slot_two, uf2_block};
+ghost use Rattle.boot_machine.specs.Examples.{bought_trial, arm_uf2_of_two, armed_with, asks_target, busy, erase_both, erased_flash, fresh_host, idle, image_bytes, image_in_a, loaded_host, lost_with, machine_at, pair_host, uf2_block};
 ghost use Rattle.worked_flashes.specs.Flashes.{plain_sector, table_and_bare, whole_flash_of};
-ghost use Rattle.worked_flashes.specs.Choices.{running_trial};
+ghost use Rattle.worked_flashes.specs.Choices.{running_trial, small_slot, to};
 ghost use Rattle.boot_machine.specs.Machines.{FromFlash, FromRam, InBootsel, MachineView, Off, Program as AnyProgram, Running};
 ghost use Rattle.boot_machine.specs.Moves.{Moves, Plays, effect, lost_text};
 ghost use Rattle.boot_machine.specs.Ranges.{AreInRange, HasHostBytes};
@@ -36,12 +36,12 @@ ghost use Rattle.uf2_place.specs.declared.answer.Ruling.TheVariants.{Begins};
 pub fn an_answered_target()
     ensures entered { entered image_in_a ≡ InBootsel pair_host }
     ensures b { AnswersTarget image_in_a Arm pair_host (asks_target 0xe48bff59) [] 0xe48bff59
-        (Some (slot_two false)) }
+        (Some (to small_slot true false)) }
     ensures none { AnswersTarget image_in_a Arm pair_host (asks_target 0xe48bff56) [] 0xe48bff56
         None }
-    ensures taken { ruling_on 262144 (table_of_found pair_host.found)
+    ensures taken { ruling_on 0x6000 (table_of_found pair_host.found)
         (target_of image_in_a (table_of_found pair_host.found) Arm 0xe48bff59) None
-        (arm_uf2_of_two 0x10000000 0) ≡ Begins (slot_two false) }
+        (arm_uf2_of_two 0x10000000 0) ≡ Begins (to small_slot true false) }
 {}
 
 /// A host writes an image of 28 bytes into the SRAM and starts it: the run, and its writes.
