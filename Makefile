@@ -13,12 +13,14 @@
 # make faults     compares the page of faults with the program's code; needs no program
 # make faults-io  makes each file call of each command fail in turn; needs strace
 # make fuzz       changes the example files at random for a quarter of an hour, and looks at how each command ends
-# make board      makes the cases for a board, compares their sheet, and plays them on the program in a board's place
+# make board      makes the cases for a board, compares their sheet, tries the kit on a board's stand-in that fails, and plays
+#                 all cases on the program in a board's place
 # make record     tries tools/record.py on captures of USB that are made for it; needs tshark
 # make real       links small firmware with the toolchains that are there, and takes it from its ELF file to a swept update;
 #                 installs nothing, and says which of Debian's packages it uses
 # make pictures   draws flashes and sweeps, compares the documents' with docs/map.svg and docs/chart.svg, and renders them where Chromium is there, into out/pictures
-# make install    puts the proved program, its manual page, its completions and the pages for users below PREFIX; make it first
+# make install    puts the proved program, its manual page, its completions, the pages for users, the kit for a board and record.py
+#                 below PREFIX; make it first
 # make uninstall  takes them away again
 # make dist       writes a tarball of the proved program and of what an installation has into out/, with its SHA-256, for a machine without rt
 # make bench      proves, builds for processors of x86-64-v3, and then times the program beside `openssl dgst -sha256` on flashes of 16 MiB
@@ -29,6 +31,7 @@ MANUAL = $(DESTDIR)$(PREFIX)/share/man/man1/dugnatsew.1
 BASH_WORDS = $(DESTDIR)$(PREFIX)/share/bash-completion/completions/dugnatsew
 ZSH_WORDS = $(DESTDIR)$(PREFIX)/share/zsh/site-functions/_dugnatsew
 PAGES = $(DESTDIR)$(PREFIX)/share/doc/dugnatsew
+TOOLS = $(DESTDIR)$(PREFIX)/share/dugnatsew
 
 # How long `make prove` takes where nothing is kept.
 PROVE_TIME = about an hour on four processors
@@ -37,7 +40,8 @@ PROVED = crates/boot_cli/out/boot_cli
 UNPROVED = out/dugnatsew
 PACK = crates/test_rows/data/rows.txt
 SESSIONS = README.md docs/GUIDE.md docs/TUTORIAL.md docs/MODEL.md
-USERS = docs/GUIDE.md docs/TUTORIAL.md docs/REFERENCE.md docs/PROMISE.md docs/PROVED.md docs/FAQ.md docs/MODEL.md docs/FAULTS.md docs/GLOSSARY.md
+USERS = docs/GUIDE.md docs/TUTORIAL.md docs/REFERENCE.md docs/PROMISE.md docs/PROVED.md docs/FAQ.md docs/MODEL.md docs/CHIP.md docs/FAULTS.md docs/GLOSSARY.md
+KIT = $(addprefix real/board/,README.md cases.py contents.py fake.py make.py picoboot.py play.py usb_link.py probe.S probe_riscv.S sheet.tsv)
 
 # The newer of the two programs.
 NEWER = program=$$(ls -t $(PROVED) $(UNPROVED) 2> /dev/null | head -n 1); \
@@ -93,8 +97,9 @@ fuzz:
 	@$(NEWER); python3 tools/fuzz.py "$$program"
 
 board:
-	@$(NEWER); python3 real/board/make.py "$$program" out/board real/board/sheet.tsv && \
-	python3 real/board/play.py --fake "$$program" real/board/sheet.tsv out/board out/board/sheet.out
+	@$(NEWER); python3 real/board/make.py out/board "$$program" real/board/sheet.tsv && \
+	python3 real/board/kit_test.py "$$program" && rm -f out/board/sheet.out && \
+	python3 real/board/play.py --fake "$$program" out/board/sheet.out
 
 record:
 	@$(NEWER); python3 tools/record_test.py "$$program"
@@ -110,17 +115,20 @@ pictures:
 
 install:
 	@test -x $(PROVED) || { echo 'There is no proved program: "make" builds it.' >&2; exit 1; }
-	install -d $(dir $(BIN)) $(dir $(MANUAL)) $(dir $(BASH_WORDS)) $(dir $(ZSH_WORDS)) $(PAGES)
+	install -d $(dir $(BIN)) $(dir $(MANUAL)) $(dir $(BASH_WORDS)) $(dir $(ZSH_WORDS)) $(PAGES) $(TOOLS)/board
 	install -m 755 $(PROVED) $(BIN)
 	install -m 644 man/dugnatsew.1 $(MANUAL)
 	install -m 644 completions/dugnatsew.bash $(BASH_WORDS)
 	install -m 644 completions/_dugnatsew $(ZSH_WORDS)
 	install -m 644 $(USERS) $(PAGES)
+	install -m 644 $(KIT) $(TOOLS)/board
+	install -m 755 tools/record.py $(TOOLS)
 
 uninstall:
 	rm -f $(BIN) $(MANUAL) $(BASH_WORDS) $(ZSH_WORDS)
 	rm -f $(addprefix $(PAGES)/,$(notdir $(USERS)))
-	-rmdir $(PAGES)
+	rm -f $(addprefix $(TOOLS)/board/,$(notdir $(KIT))) $(TOOLS)/record.py
+	-rmdir $(PAGES) $(TOOLS)/board $(TOOLS)
 
 dist:
 	@rm -rf out/dist && $(MAKE) --no-print-directory install DESTDIR=out/dist PREFIX=

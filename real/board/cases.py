@@ -1,13 +1,15 @@
 """The cases: a flash content each, the kind of boot, the rule that it tries, and what the chip does.
 
 What the chip does is from memory: the number of the image that starts, `bootsel`, or `?` where it is
-not known; and how sure that is.
+not known; and how sure that is. Of a drag onto the drive the answer says too whether the flash's
+last sector is kept. The plainest case is the first one, and those that may hang a board, or leave
+it with rights that refuse an erase, are the last ones.
 """
 
 from contents import (
-    FIRST_BLOCK, FIRST_C, LAST_C, SECTOR, TAKES, block, flash, hashed, image, image_type, item,
-    load_map, nothing, part, table, vector_table, version, with_hash, words, FIRST_A, FIRST_B,
-    LAST_A, LAST_B, ALL_RIGHTS, STACK, PROBE,
+    FIRST_BLOCK, FIRST_C, LAST_C, SECTOR, TAKES, absolute_block, block, flash, hashed, image,
+    image_type, item, load_map, nothing, part, riscv_image, table, uf2, vector_table, version,
+    with_hash, words, FIRST_A, FIRST_B, LAST_A, LAST_B, ALL_RIGHTS, STACK, PROBE,
 )
 
 A, B, C = FIRST_A * SECTOR, FIRST_B * SECTOR, FIRST_C * SECTOR
@@ -20,10 +22,24 @@ UPDATE_A, UPDATE_B, UPDATE_C = (f"update=0x{0x10000000 + at:08x}" for at in (A, 
 OTHER_ENTRY = 0x10000241
 
 
-class Case:
-    """A case: its name, its content, the rule, what the chip does, how sure, and the boot."""
+PLAINEST = "minimal"
+RISKY = (
+    "unknown-item", "block-at-4096", "type-unspecified", "type-nonsecure", "type-rp2040",
+    "map-absolute-storage-end", "map-absolute-runtime-end", "map-covers-block", "window-delta",
+    "map-to-other-place", "map-to-xip-sram", "table-rights-differ", "no-secure-read",
+    "riscv-alone", "riscv-beside-arm", "drag", "drag-with-absolute-block", "drag-onto-table",
+    "drag-onto-table-with-absolute-block",
+)
 
-    def __init__(self, name, content, rule, chip, sure, kind="normal"):
+
+class Case:
+    """A case: its name, its content, the rule, what the chip does, how sure, and the boot.
+
+    Where the boot is that of a drag, there is a UF2 file that is dragged onto the drive.
+    """
+
+    def __init__(self, name, content, rule, chip, sure, kind="normal", file=b""):
+        self.file = file
         self.name = name
         self.content = content
         self.rule = rule
@@ -64,7 +80,7 @@ def block_cases():
         (0x140, block(nothing(), -0x20)),
     ]
     ends = [(0x100, block(image_type(), 0x1000)), (0x1100, block(nothing(), -0x1000))]
-    alone = image(1, blocks=[(0x80, words(0xFFFFDED3)), (0x100, block(image_type()))])
+    alone = image(1, blocks=[(0xE0, words(0xFFFFDED3)), (0x100, block(image_type()))])
     return [
         Case("minimal", flash((0, image(1))), "first block", "1", "certain"),
         Case("erased", b"\xff" * 16, "first block", "bootsel", "certain"),
@@ -163,9 +179,10 @@ def table_cases():
         Case("update-of-slot-0", flash((0, first), (SECTOR, block(table(ALONE, major=2))), *both), "update of a table slot, our own", "1", "likely", "update=0x10000000"),
         Case("table-in-image", flash((0, inside), (0x10000, image(1))), "table in an image, left out", "3", "likely"),
         Case("table-in-image-below-4096", flash((0, below), here), "table in an image, left out", "3", "likely"),
-        Case("image-in-slot-0-table-in-slot-1", flash((0, image(3)), (SECTOR, first), here), "two slots", "?", "unsure"),
+        Case("image-in-slot-0-table-in-slot-1", flash((0, image(3)), (SECTOR, first), here), "image in a slot beside partitions, our own", "3", "likely"),
+        Case("image-in-slot-1-behind-table", flash((0, first), (SECTOR, image(3)), here), "image in a slot beside partitions, our own", "?", "unsure"),
         Case("image-in-slot-1", flash((SECTOR, image(1))), "slots without a table, our own", "1", "likely"),
-        Case("table-item-not-first", flash((0, block(late)), here), "item order, our own", "?", "unsure"),
+        Case("table-item-not-first", flash((0, block(late)), here), "item order, our own", "bootsel", "likely"),
     ]
 
 
@@ -203,8 +220,35 @@ def unit_cases():
     ]
 
 
-def all_cases():
-    return (
-        block_cases() + type_cases() + digest_cases() + map_cases() + table_cases() + pair_cases()
-        + unit_cases()
+def other_processor_cases():
+    beside = flash(
+        (0, block(table(part(FIRST_A, LAST_A, TAKES["arm"] | TAKES["riscv"]), IN_C))),
+        (A, riscv_image(1)), (C, image(2)),
     )
+    return [
+        Case("riscv-alone", flash((0, riscv_image(1))), "switch of the processor, left out", "1", "certain"),
+        Case("riscv-beside-arm", beside, "switch of the processor, left out", "1", "likely (two to one)"),
+    ]
+
+
+def drag_cases():
+    file = uf2(image(1))
+    top = flash((0, block(table(IN_A, IN_B, major=1))))
+    erased = b"\xff" * 16
+    absolute = absolute_block() + file
+    return [
+        Case("drag", erased, "drag onto the drive", "1, end kept", "likely", "drag", file),
+        Case("drag-with-absolute-block", erased, "block of E10", "1, end erased", "likely", "drag", absolute),
+        Case("drag-onto-table", top, "erratum E10: the revision matters", "?", "unsure", "drag", file),
+        Case("drag-onto-table-with-absolute-block", top, "block of E10", "1, end erased", "likely", "drag", absolute),
+    ]
+
+
+def all_cases():
+    """The cases, in the order in which they are played."""
+    made = (
+        block_cases() + type_cases() + digest_cases() + map_cases() + table_cases() + pair_cases()
+        + unit_cases() + other_processor_cases() + drag_cases()
+    )
+    assert made[0].name == PLAINEST and set(RISKY) <= {it.name for it in made}
+    return sorted(made, key=lambda it: it.name in RISKY)
