@@ -1,16 +1,24 @@
 #!/usr/bin/env python3
 """Makes the text of a script of a recorded session between a host and a board in BOOTSEL.
 
-    record.py CAPTURE OUT
+    record.py CAPTURE OUT [DEVICE ..]
 
 CAPTURE is a capture of USB by Wireshark, from usbmon on Linux or USBPcap on Windows. It is read by
 tshark (Debian's package tshark). OUT is the text of a script: `dugnatsew script OUT SCRIPT` makes
 the script of it.
 
-Of all devices in the capture one counts that is sent a command of PICOBOOT: 32 bytes that begin with
-0x431fd10b. Each command becomes a `command` line, with the payload that follows it, however many
-transfers that has. Where the device comes anew with another address, as after a reboot, there is a
-`reset bootsel`. A last command whose payload is cut short is left out, with a word.
+The devices that count are those that are sent a command of PICOBOOT, 32 bytes that begin with
+0x431fd10b, or a UF2 block by SCSI's WRITE(10). Each command becomes a record with the payload that
+follows it, however many transfers that has, and each UF2 block on the drive becomes one too. Behind
+each reboot command there is a `reset` of its kind, and `reset bootsel` where the board comes back to
+be sent more, whether its address is another one or not. Behind the last record there is none where
+the command itself does it: `check` then still sees one session of a host.
+
+Where bytes are missing a warning says so: a command that comes while a payload is short, a transfer
+that the capture has in part, and a last payload that is cut short, whose command is left out.
+
+Where two boards are in the capture there is no text. DEVICE names the one that is meant, BUS.ADDRESS
+as Wireshark has them; a board that comes back has one address after the other, and all are named.
 """
 
 import shutil
@@ -20,18 +28,52 @@ import sys
 MAGIC = bytes.fromhex("0bd11f43")  # 0x431fd10b, the lowest byte first
 COMMAND = 32
 BULK = 3
+REBOOT = 0x0A
+RESETS = {0: "normal", 2: "bootsel", 4: "update"}  # kinds of a reboot that a reset has too
+KIND_BITS, SERVED_BITS = 0x0F, 0x10F  # of its flags; the program serves no other ones
+WRAPPER, WRAPPER_SIZE, WRITE_10 = b"USBC", 31, 0x2A
+SECTOR = 512
+UF2 = ((0, bytes.fromhex("5546320a")), (4, bytes.fromhex("57515d9e")), (508, bytes.fromhex("306fb10a")))
 FIELDS = (
     "usb.transfer_type", "usb.bus_id", "usb.device_address", "usb.endpoint_address",
-    "usb.urb_type", "usb.irp_info.direction", "usb.capdata",
+    "usb.urb_type", "usb.irp_info.direction", "usb.urb_len", "usb.data_len", "usb.capdata",
 )
 
 
-class Sent:
-    """What a host sent in one bulk transfer: the pipe that it went through, and the bytes."""
+# The spelling of each record.
 
-    def __init__(self, pipe, data):
-        self.pipe = pipe
+def power_line():
+    return "power"
+
+
+def reset_line(kind, base=0):
+    return f"reset update=0x{base:08x}" if kind == "update" else f"reset {kind}"
+
+
+def command_line(command, payload):
+    return f"command {command.hex()} {payload.hex()}" if payload else f"command {command.hex()}"
+
+
+def uf2_line(block):
+    return f"uf2 {block.hex()}"
+
+
+def end_line():
+    return "end"
+
+
+def warn(text):
+    print(f"record.py: {text}", file=sys.stderr)
+
+
+class Sent:
+    """What a host sent in one bulk transfer: the device, the endpoint, the bytes, how many lack."""
+
+    def __init__(self, device, endpoint, data, missing):
+        self.device = device
+        self.endpoint = endpoint
         self.data = data
+        self.missing = missing
 
 
 def number(text):
@@ -47,23 +89,25 @@ def is_sent(endpoint, urb_type, direction):
 
 def sent_of(line):
     """What a packet's fields say was sent in a bulk transfer, or None."""
-    kind, bus, device, endpoint, urb_type, direction, data = line.split("\t")
+    kind, bus, device, endpoint, urb_type, direction, wanted, there, data = line.split("\t")
     if number(kind) != BULK or not data or not is_sent(number(endpoint), urb_type, direction):
         return None
-    pipe = (number(bus), number(device), number(endpoint))
-    return Sent(pipe, bytes.fromhex(data.replace(":", "")))
+    missing = number(wanted) - number(there) if urb_type and wanted and there else 0
+    sent = bytes.fromhex(data.replace(":", ""))
+    return Sent((number(bus), number(device)), number(endpoint), sent, missing)
 
 
 def read(capture):
     """The bulk transfers of a capture that a host sent, in their order."""
     words = ["tshark", "-r", capture, "-T", "fields", "-E", "occurrence=f"]
+    words += ["--disable-protocol", "usbms", "--disable-protocol", "uasp"]
     for field in FIELDS:
         words += ["-e", field]
     done = subprocess.run(words, capture_output=True, text=True, check=False)
     if done.returncode != 0 and not done.stdout:
         sys.exit(f"record.py: tshark cannot read {capture}: {done.stderr.strip()}")
     if done.returncode != 0:
-        print("record.py: the capture is cut short", file=sys.stderr)
+        warn("the capture is cut short")
     found = [sent_of(line) for line in done.stdout.splitlines()]
     return [it for it in found if it]
 
@@ -78,57 +122,156 @@ def payload_length(command):
     return 0 if is_answered else int.from_bytes(command[12:16], "little")
 
 
-class Session:
-    """The commands of a session, each with its payload, and where the device came anew."""
+def is_write(data):
+    """Whether the bytes are the wrapper of a WRITE(10)."""
+    return len(data) == WRAPPER_SIZE and data.startswith(WRAPPER) and data[15] == WRITE_10
+
+
+def is_uf2(sector):
+    return len(sector) == SECTOR and all(sector[at:at + 4] == word for at, word in UF2)
+
+
+def flags_of(command):
+    return int.from_bytes(command[16:20], "little")
+
+
+def reset_after(command):
+    """The line of the reset that a reboot command makes, or None for other commands and kinds."""
+    if command[8] != REBOOT or flags_of(command) & KIND_BITS not in RESETS:
+        return None
+    return reset_line(RESETS[flags_of(command) & KIND_BITS], int.from_bytes(command[24:28], "little"))
+
+
+class Drive:
+    """What a host writes to a board's drive: the sectors of each WRITE(10)."""
 
     def __init__(self):
-        self.pipe = None
+        self.left = 0
+        self.sectors = b""
+
+    def begin(self, wrapper):
+        if self.left:
+            warn(f"{self.left} bytes of a WRITE(10) were lost")
+        self.left, self.sectors = int.from_bytes(wrapper[8:12], "little"), b""
+
+    def take(self, sent):
+        """The UF2 blocks that are whole with what was sent."""
+        self.left = max(0, self.left - len(sent.data) - sent.missing)
+        self.sectors += sent.data
+        count = len(self.sectors) // SECTOR * SECTOR
+        done, self.sectors = self.sectors[:count], self.sectors[count:]
+        sectors = [done[at:at + SECTOR] for at in range(0, count, SECTOR)]
+        return [it for it in sectors if is_uf2(it)]
+
+
+class Session:
+    """What one board was sent: its commands with their payloads, its blocks, and its resets."""
+
+    def __init__(self):
+        self.device = self.endpoint = self.command = self.rebooted = None
         self.lines = []
-        self.command = None
         self.payload = b""
+        self.drives = {}
+        self.former = set()  # addresses that the board had before
+        self.commands = self.blocks = self.devices = 0
 
     def take(self, sent):
         """Takes what was sent, where it belongs to the session."""
-        if self.command is None and is_command(sent.data):
+        if is_command(sent.data):
             self.begin(sent)
-        elif self.command is not None and sent.pipe == self.pipe:
+        elif self.command is not None and (sent.device, sent.endpoint) == (self.device, self.endpoint):
             self.payload += sent.data
+            self.tell_missing(sent)
+        else:
+            self.take_drive(sent)
         self.end()
 
+    def tell_missing(self, sent):
+        if sent.missing:
+            warn(f"{sent.missing} bytes of a transfer are not in the capture")
+
+    def take_drive(self, sent):
+        drive = self.drives.setdefault((sent.device, sent.endpoint), Drive())
+        if is_write(sent.data):
+            drive.begin(sent.data)
+        elif drive.left:
+            blocks = drive.take(sent)
+            for block in blocks:
+                self.come(sent.device)
+                self.lines.append(uf2_line(block))
+                self.blocks += 1
+            if blocks:
+                self.tell_missing(sent)
+
     def begin(self, sent):
-        if self.pipe != sent.pipe:
-            self.lines.append("reset bootsel")
-        self.pipe = sent.pipe
+        if self.command is not None:
+            lack = payload_length(self.command) - len(self.payload)
+            warn(f"{lack} bytes of a payload were lost: a new command comes before them")
+            self.finish()
+        self.come(sent.device)
+        self.endpoint = sent.endpoint
         self.command, self.payload = sent.data, b""
+
+    def come(self, device):
+        """The board is sent something: where it has come anew, it was reset into BOOTSEL."""
+        if device in self.former:
+            sys.exit(f"record.py: two boards are in the capture, {spelled(device)} and "
+                     f"{spelled(self.device)}: name the one that is meant")
+        if device != self.device or self.rebooted:
+            self.come_anew(device)
+
+    def come_anew(self, device):
+        if self.device is not None and device != self.device:
+            self.former.add(self.device)
+            if not self.rebooted and not self.blocks:
+                warn(f"no reboot is seen before {spelled(device)}: where it is another board, "
+                     "name the one that is meant")
+        resets = [reset_after(self.rebooted)] if self.rebooted else []
+        if reset_line("bootsel") not in resets:
+            resets.append(reset_line("bootsel"))
+        self.lines += [it for it in resets if it]
+        self.device, self.rebooted = device, None
+        self.devices += 1
 
     def end(self):
         """Writes the command that has its whole payload."""
-        if self.command is None or len(self.payload) < payload_length(self.command):
-            return
-        line = f"command {self.command.hex()}"
-        self.lines.append(f"{line} {self.payload.hex()}" if self.payload else line)
+        if self.command is not None and len(self.payload) >= payload_length(self.command):
+            self.finish()
+
+    def finish(self):
+        self.lines.append(command_line(self.command, self.payload))
+        self.commands += 1
+        self.rebooted = self.command if self.command[8] == REBOOT else None
         self.command = None
 
     def text(self):
-        return "\n".join(["power", *self.lines, "end"]) + "\n"
+        last = self.rebooted and reset_after(self.rebooted)
+        needs_reset = last and flags_of(self.rebooted) & ~SERVED_BITS
+        lines = [*self.lines, last] if needs_reset else self.lines
+        return "\n".join([power_line(), *lines, end_line()]) + "\n"
+
+
+def spelled(device):
+    return f"{device[0]}.{device[1]}"
 
 
 def main():
-    if len(sys.argv) != 3:
+    if len(sys.argv) < 3:
         sys.exit(__doc__)
     if not shutil.which("tshark"):
         sys.exit("record.py: there is no tshark; it is a package of Debian's")
+    named = sys.argv[3:]
     session = Session()
     for sent in read(sys.argv[1]):
-        session.take(sent)
+        if not named or spelled(sent.device) in named:
+            session.take(sent)
     if session.command is not None:
-        print("record.py: the last command's payload is cut short, so it is left out", file=sys.stderr)
+        warn("the last command's payload is cut short, so it is left out")
     if not session.lines:
-        sys.exit("record.py: no command of PICOBOOT is in the capture")
+        sys.exit("record.py: no command of PICOBOOT and no UF2 block is in the capture")
     with open(sys.argv[2], "w", encoding="ascii") as file:
         file.write(session.text())
-    count = sum(line.startswith("command") for line in session.lines)
-    print(f"commands={count} devices={session.lines.count('reset bootsel')}")
+    print(f"commands={session.commands} blocks={session.blocks} devices={session.devices}")
 
 
 main()

@@ -3,10 +3,8 @@
 
     record_test.py [PROGRAM]
 
-Each capture is a pcapng file that tshark reads: a session of an erase, a write in several transfers
-and a reboot, a second device with bulk traffic of its own between them, the board anew at another
-address, and a last write. One more capture is cut short within that write. With PROGRAM the text is
-made a script too. The last line is `N captures as wanted, M not`.
+Each capture is a pcapng file that tshark reads. With PROGRAM each text is made a script too. The last
+line is `N captures as wanted, M not`.
 """
 
 import os
@@ -23,6 +21,7 @@ MAGIC = 0x431FD10B
 FLASH = 0x10000000
 CUT = 2000  # bytes, of which the last write has more
 DATA = bytes(at % 251 for at in range(4096))
+PICOBOOT, DRIVE = 0x03, 0x02  # endpoints out
 
 
 def words(*values):
@@ -34,33 +33,110 @@ def command(number, arguments, length, token):
     return head + arguments.ljust(16, b"\0")
 
 
+def reboot(flags, base=0):
+    return command(0x0A, words(flags, 10, base, 0), 0, 3)
+
+
+def block(number, count):
+    head = words(0x0A324655, 0x9E5D5157, 0x2000, FLASH + 256 * number, 256, number, count, 0xE48BFF59)
+    return (head + bytes([number]) * 256).ljust(508, b"\0") + words(0x0AB16F30)
+
+
+def wrapper(place, size):
+    scsi = struct.pack(">BBIBHB", 0x2A, 0, place, 0, size // 512, 0).ljust(16, b"\0")
+    return b"USBC" + words(place, size) + bytes((0, 0, 10)) + scsi
+
+
 ERASE = command(0x03, words(FLASH, 4096), 0, 1)
 WRITE = command(0x05, words(FLASH, 4096), 4096, 2)
-REBOOT = command(0x0A, words(0x102, 10, 0, 0), 0, 3)
-READ = command(0x84, words(FLASH, 256), 256, 1)
 LAST = command(0x05, words(FLASH + 4096, 4096), 4096, 2)
+READ = command(0x84, words(FLASH, 256), 256, 1)
+NORMAL, TO_BOOTSEL, UPDATE, TO_ARM = reboot(0x100), reboot(0x102), reboot(4, FLASH + 0x20000), reboot(0x14, FLASH)
+BLOCKS = [block(at, 3) for at in range(3)]
+SECTORS = b"".join(BLOCKS)
+
+
+def line(*parts):
+    return " ".join(("command", *(it.hex() for it in parts)))
+
+
+def uf2(part):
+    return f"uf2 {part.hex()}"
+
+
+ANEW = "reset bootsel"
 
 # What is sent and received: device, endpoint, bytes.
 SESSION = (
-    (5, 0x03, ERASE), (5, 0x84, b""), (5, 0x03, WRITE),
-    (9, 0x02, b"another device"), (5, 0x03, DATA[:64]), (9, 0x81, MAGIC.to_bytes(4, "little") * 8),
-    (5, 0x03, DATA[64:4000]), (5, 0x03, DATA[4000:]), (5, 0x84, b""), (5, 0x03, REBOOT),
-    (6, 0x03, READ), (6, 0x84, DATA[:256]), (6, 0x03, b""), (6, 0x03, LAST), (6, 0x03, DATA),
+    (5, PICOBOOT, ERASE), (5, 0x84, b""), (5, PICOBOOT, WRITE),
+    (9, 0x02, b"another device"), (5, PICOBOOT, DATA[:64]), (9, 0x81, MAGIC.to_bytes(4, "little") * 8),
+    (5, PICOBOOT, DATA[64:4000]), (5, PICOBOOT, DATA[4000:]), (5, 0x84, b""), (5, PICOBOOT, TO_BOOTSEL),
+    (6, PICOBOOT, READ), (6, 0x84, DATA[:256]), (6, PICOBOOT, b""), (6, PICOBOOT, LAST), (6, PICOBOOT, DATA),
 )
 WANTED = (
-    "power", "reset bootsel", f"command {ERASE.hex()}", f"command {WRITE.hex()} {DATA.hex()}",
-    f"command {REBOOT.hex()}", "reset bootsel", f"command {READ.hex()}",
-    f"command {LAST.hex()} {DATA.hex()}", "end",
+    ANEW, line(ERASE), line(WRITE, DATA), line(TO_BOOTSEL), ANEW, line(READ), line(LAST, DATA),
+)
+
+# Each capture: its name, the transfers, the devices that are named, the lines between `power` and
+# `end` or None where it is refused, and a part of what is said besides.
+CAPTURES = (
+    ("session", SESSION, (), WANTED, ""),
+    (
+        "payload lost",
+        ((5, PICOBOOT, WRITE), (5, PICOBOOT, DATA[:4000]), (5, PICOBOOT, ERASE)), (),
+        (ANEW, line(WRITE, DATA[:4000]), line(ERASE)), "96 bytes of a payload were lost",
+    ),
+    (
+        "reboots, one address",
+        ((5, PICOBOOT, NORMAL), (5, PICOBOOT, ERASE), (5, PICOBOOT, UPDATE), (5, PICOBOOT, ERASE),
+         (5, PICOBOOT, TO_BOOTSEL), (5, PICOBOOT, ERASE), (5, PICOBOOT, UPDATE)), (),
+        (ANEW, line(NORMAL), "reset normal", ANEW, line(ERASE), line(UPDATE), "reset update=0x10020000",
+         ANEW, line(ERASE), line(TO_BOOTSEL), ANEW, line(ERASE), line(UPDATE)), "",
+    ),
+    (
+        "reboots, other addresses",
+        ((5, PICOBOOT, NORMAL), (6, PICOBOOT, ERASE), (6, PICOBOOT, TO_ARM)), (),
+        (ANEW, line(NORMAL), "reset normal", ANEW, line(ERASE), line(TO_ARM), "reset update=0x10000000"), "",
+    ),
+    (
+        "no reboot seen",
+        ((5, PICOBOOT, ERASE), (6, PICOBOOT, ERASE)), (),
+        (ANEW, line(ERASE), ANEW, line(ERASE)), "no reboot is seen before 1.6",
+    ),
+    (
+        "two boards",
+        ((5, PICOBOOT, ERASE), (6, PICOBOOT, ERASE), (5, PICOBOOT, READ)), (),
+        None, "two boards are in the capture, 1.5 and 1.6",
+    ),
+    (
+        "two boards, one named",
+        ((5, PICOBOOT, ERASE), (6, PICOBOOT, ERASE), (5, PICOBOOT, READ)), ("1.5",),
+        (ANEW, line(ERASE), line(READ)), "",
+    ),
+    (
+        "drag",
+        ((5, DRIVE, wrapper(1, 512)), (5, DRIVE, bytes(512)), (5, 0x81, b"USBS" + bytes(9)),
+         (5, DRIVE, wrapper(200, 1024)), (5, DRIVE, SECTORS[:1024]), (5, 0x81, b"USBS" + bytes(9)),
+         (5, DRIVE, wrapper(202, 512)), (5, DRIVE, SECTORS[1024:1324]), (5, DRIVE, SECTORS[1324:])), (),
+        (ANEW, *map(uf2, BLOCKS)), "",
+    ),
+    (
+        "drag, and another drive",
+        ((9, DRIVE, wrapper(7, 512)), (5, DRIVE, wrapper(200, 512)), (9, DRIVE, bytes(512)),
+         (5, DRIVE, BLOCKS[0]), (6, PICOBOOT, ERASE)), (),
+        (ANEW, uf2(BLOCKS[0]), ANEW, line(ERASE)), "",
+    ),
+    ("no board", ((9, DRIVE, b"another device"),), (), None, "no command of PICOBOOT and no UF2 block"),
 )
 
 
-def usbmon(at, device, endpoint, data):
-    """The packets of a transfer by usbmon: its submission and its end."""
+def usbmon(at, device, endpoint, data, kept=None):
+    """The packets of a transfer by usbmon, of which so many bytes are kept: submission and end."""
     is_in = bool(endpoint & 0x80)
     packets = []
     for kind in "SC":
         has_data = (kind == "C") == is_in and bool(data)
-        part = data if has_data else b""
+        part = data[:kept] if has_data else b""
         head = struct.pack("<Q", at) + bytes((ord(kind), BULK, endpoint, device)) + struct.pack("<H", 1)
         head += b"-" + (b"\0" if has_data else b"<" if is_in else b">")
         head += struct.pack("<qiiII", at, 0, 0, len(data), len(part)) + bytes(8)
@@ -80,7 +156,7 @@ def usbpcap(at, device, endpoint, data):
     return packets
 
 
-def block(kind, body):
+def pcapng_block(kind, body):
     body += bytes(-len(body) % 4)
     size = 12 + len(body)
     return struct.pack("<II", kind, size) + body + struct.pack("<I", size)
@@ -89,34 +165,52 @@ def block(kind, body):
 def capture(link, transfers):
     """A pcapng file of transfers."""
     packets_of = usbmon if link == USBMON else usbpcap
-    made = block(0x0A0D0D0A, struct.pack("<IHHq", 0x1A2B3C4D, 1, 0, -1))
-    made += block(1, struct.pack("<HHI", link, 0, 0))
-    for at, (device, endpoint, data) in enumerate(transfers):
-        for packet in packets_of(at, device, endpoint, data):
-            made += block(6, struct.pack("<IIIII", 0, 0, at, len(packet), len(packet)) + packet)
+    made = pcapng_block(0x0A0D0D0A, struct.pack("<IHHq", 0x1A2B3C4D, 1, 0, -1))
+    made += pcapng_block(1, struct.pack("<HHI", link, 0, 0))
+    for at, transfer in enumerate(transfers):
+        for packet in packets_of(at, *transfer):
+            made += pcapng_block(6, struct.pack("<IIIII", 0, 0, at, len(packet), len(packet)) + packet)
     return made
 
 
-def record(folder, made):
-    """The lines of the text of a capture, and what record.py said besides."""
+def record(folder, made, named=()):
+    """The lines of the text of a capture, or None where it is refused, and what was said besides."""
     source, out = os.path.join(folder, "session.pcapng"), os.path.join(folder, "session.text")
     with open(source, "wb") as file:
         file.write(made)
     done = subprocess.run(
-        [sys.executable, os.path.join(HERE, "record.py"), source, out],
+        [sys.executable, os.path.join(HERE, "record.py"), source, out, *named],
         capture_output=True, text=True, check=False,
     )
     if done.returncode != 0:
-        return [done.stderr.strip()], ""
+        return None, done.stderr
     with open(out, encoding="ascii") as file:
         return file.read().splitlines(), done.stderr
 
 
-def is_script(program, folder):
+def is_script(program, folder, lines):
     """Whether the program makes a script of the text."""
     words_ = [program, "script", "session.text", "session.script"]
     done = subprocess.run(words_, cwd=folder, capture_output=True, text=True, check=False)
-    return done.stdout == f"script records={len(WANTED)}\n"
+    return done.stdout == f"script records={len(lines)}\n"
+
+
+class Tally:
+    def __init__(self, program):
+        self.program = program
+        self.right = self.wrong = 0
+
+    def look(self, name, made, named, wanted, said):
+        """Compares the text of a capture, and what is said, with what is wanted."""
+        wanted = None if wanted is None else ["power", *wanted, "end"]
+        with tempfile.TemporaryDirectory() as folder:
+            lines, heard = record(folder, made, named)
+            is_right = lines == wanted and (said in heard if said else not heard)
+            if is_right and lines and self.program:
+                is_right = is_script(self.program, folder, lines)
+        self.right, self.wrong = self.right + is_right, self.wrong + (not is_right)
+        if not is_right:
+            print(f"{name}: another text than wanted. {heard.strip()}")
 
 
 def main():
@@ -124,21 +218,17 @@ def main():
         sys.exit(__doc__)
     if not shutil.which("tshark"):
         sys.exit("record_test.py: there is no tshark; it is a package of Debian's")
-    program = os.path.abspath(sys.argv[1]) if len(sys.argv) == 2 else None
-    right = wrong = 0
-    for name, link in (("usbmon", USBMON), ("USBPcap", USBPCAP)):
-        with tempfile.TemporaryDirectory() as folder:
-            whole = capture(link, SESSION)
-            lines, _ = record(folder, whole)
-            good = lines == list(WANTED) and (program is None or is_script(program, folder))
-            short, said = record(folder, whole[:-CUT])
-            cut = short == [*WANTED[:-2], "end"] and "cut short" in said
-        for what, is_right in ((name, good), (f"{name}, cut short", cut)):
-            right, wrong = right + is_right, wrong + (not is_right)
-            if not is_right:
-                print(f"{what}: the text is another one than wanted")
-    print(f"{right} captures as wanted, {wrong} not")
-    sys.exit(1 if wrong else 0)
+    tally = Tally(os.path.abspath(sys.argv[1]) if len(sys.argv) == 2 else None)
+    for link_name, link in (("usbmon", USBMON), ("USBPcap", USBPCAP)):
+        for name, transfers, named, wanted, said in CAPTURES:
+            tally.look(f"{link_name}, {name}", capture(link, transfers), named, wanted, said)
+        short = capture(link, SESSION)[:-CUT]
+        tally.look(f"{link_name}, cut short", short, (), WANTED[:-1], "cut short")
+    part = ((5, DRIVE, wrapper(200, 1536)), (5, DRIVE, SECTORS, 1024))
+    tally.look("usbmon, transfer in part", capture(USBMON, part), (), (ANEW, *map(uf2, BLOCKS[:2])),
+               "512 bytes of a transfer are not in the capture")
+    print(f"{tally.right} captures as wanted, {tally.wrong} not")
+    sys.exit(1 if tally.wrong else 0)
 
 
 main()
