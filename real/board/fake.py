@@ -18,9 +18,14 @@ DONE, NOT_PERMITTED, UNKNOWN = 0, 10, 99
 NO_PARTITION = 0x7F
 
 
+def path_of(program):
+    """The whole path of a program that is named by its path, or by a name that is on PATH."""
+    return os.path.abspath(shutil.which(program) or program)
+
+
 class FakeLink:
     def __init__(self, program):
-        self.program = shutil.which(program) or os.path.abspath(program)
+        self.program = path_of(program)
         self.flash = bytearray(b"\xff" * FLASH)
         self.information = (0, 0, 0, 0)
         self.refuses_erase, self.stalls, self.hangs, self.stops = set(), set(), set(), set()

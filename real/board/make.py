@@ -25,6 +25,7 @@ sys.path.insert(0, HERE)
 
 from cases import all_cases  # noqa: E402
 from contents import END_MARK, FLASH, PROBE, RISCV_PROBE, SECTOR, number_of  # noqa: E402
+from fake import path_of  # noqa: E402
 
 HEAD = (
     "case", "rule", "boot", "model", "chip from memory", "sure", "surest divergences", "board",
@@ -39,7 +40,7 @@ class Model:
     """The program, in a folder with a flash and an empty OTP."""
 
     def __init__(self, program, folder):
-        self.program = shutil.which(program) or os.path.abspath(program)
+        self.program = path_of(program)
         self.folder = folder
 
     def path(self, name):
