@@ -33,7 +33,9 @@ RESETS = {0: "normal", 2: "bootsel", 4: "update"}  # kinds of a reboot that a re
 KIND_BITS, SERVED_BITS = 0x0F, 0x10F  # of its flags; the program serves no other ones
 WRAPPER, WRAPPER_SIZE, WRITE_10 = b"USBC", 31, 0x2A
 SECTOR = 512
-UF2 = ((0, bytes.fromhex("5546320a")), (4, bytes.fromhex("57515d9e")), (508, bytes.fromhex("306fb10a")))
+UF2 = (  # the fixed words of a UF2 block
+    (0, bytes.fromhex("5546320a")), (4, bytes.fromhex("57515d9e")), (508, bytes.fromhex("306fb10a")),
+)
 FIELDS = (
     "usb.transfer_type", "usb.bus_id", "usb.device_address", "usb.endpoint_address",
     "usb.urb_type", "usb.irp_info.direction", "usb.urb_len", "usb.data_len", "usb.capdata",
@@ -74,6 +76,9 @@ class Sent:
         self.endpoint = endpoint
         self.data = data
         self.missing = missing
+
+    def pipe(self):
+        return self.device, self.endpoint
 
 
 def number(text):
@@ -139,7 +144,8 @@ def reset_after(command):
     """The line of the reset that a reboot command makes, or None for other commands and kinds."""
     if command[8] != REBOOT or flags_of(command) & KIND_BITS not in RESETS:
         return None
-    return reset_line(RESETS[flags_of(command) & KIND_BITS], int.from_bytes(command[24:28], "little"))
+    base = int.from_bytes(command[24:28], "little")
+    return reset_line(RESETS[flags_of(command) & KIND_BITS], base)
 
 
 class Drive:
@@ -179,7 +185,7 @@ class Session:
         """Takes what was sent, where it belongs to the session."""
         if is_command(sent.data):
             self.begin(sent)
-        elif self.command is not None and (sent.device, sent.endpoint) == (self.device, self.endpoint):
+        elif self.command is not None and sent.pipe() == (self.device, self.endpoint):
             self.payload += sent.data
             self.tell_missing(sent)
         else:
@@ -191,7 +197,7 @@ class Session:
             warn(f"{sent.missing} bytes of a transfer are not in the capture")
 
     def take_drive(self, sent):
-        drive = self.drives.setdefault((sent.device, sent.endpoint), Drive())
+        drive = self.drives.setdefault(sent.pipe(), Drive())
         if is_write(sent.data):
             drive.begin(sent.data)
         elif drive.left:

@@ -51,7 +51,8 @@ ERASE = command(0x03, words(FLASH, 4096), 0, 1)
 WRITE = command(0x05, words(FLASH, 4096), 4096, 2)
 LAST = command(0x05, words(FLASH + 4096, 4096), 4096, 2)
 READ = command(0x84, words(FLASH, 256), 256, 1)
-NORMAL, TO_BOOTSEL, UPDATE, TO_ARM = reboot(0x100), reboot(0x102), reboot(4, FLASH + 0x20000), reboot(0x14, FLASH)
+NORMAL, TO_BOOTSEL = reboot(0x100), reboot(0x102)
+UPDATE, TO_ARM = reboot(4, FLASH + 0x20000), reboot(0x14, FLASH)
 BLOCKS = [block(at, 3) for at in range(3)]
 SECTORS = b"".join(BLOCKS)
 
@@ -69,9 +70,11 @@ ANEW = "reset bootsel"
 # What is sent and received: device, endpoint, bytes.
 SESSION = (
     (5, PICOBOOT, ERASE), (5, 0x84, b""), (5, PICOBOOT, WRITE),
-    (9, 0x02, b"another device"), (5, PICOBOOT, DATA[:64]), (9, 0x81, MAGIC.to_bytes(4, "little") * 8),
-    (5, PICOBOOT, DATA[64:4000]), (5, PICOBOOT, DATA[4000:]), (5, 0x84, b""), (5, PICOBOOT, TO_BOOTSEL),
-    (6, PICOBOOT, READ), (6, 0x84, DATA[:256]), (6, PICOBOOT, b""), (6, PICOBOOT, LAST), (6, PICOBOOT, DATA),
+    (9, 0x02, b"another device"), (5, PICOBOOT, DATA[:64]),
+    (9, 0x81, MAGIC.to_bytes(4, "little") * 8), (5, PICOBOOT, DATA[64:4000]),
+    (5, PICOBOOT, DATA[4000:]), (5, 0x84, b""), (5, PICOBOOT, TO_BOOTSEL),
+    (6, PICOBOOT, READ), (6, 0x84, DATA[:256]), (6, PICOBOOT, b""), (6, PICOBOOT, LAST),
+    (6, PICOBOOT, DATA),
 )
 WANTED = (
     ANEW, line(ERASE), line(WRITE, DATA), line(TO_BOOTSEL), ANEW, line(READ), line(LAST, DATA),

@@ -85,17 +85,44 @@ def block_cases():
         Case("minimal", flash((0, image(1))), "first block", "1", "certain"),
         Case("erased", b"\xff" * 16, "first block", "bootsel", "certain"),
         Case("block-ends-at-4096", flash((0, image(1, at=4076))), "first block", "1", "likely"),
-        Case("block-begins-at-4092", flash((0, image(1, at=4092))), "first block, our own", "bootsel", "unsure"),
+        Case(
+            "block-begins-at-4092", flash((0, image(1, at=4092))),
+            "first block, our own", "bootsel", "unsure",
+        ),
         Case("block-at-4096", flash((0, image(1, at=4096))), "first block", "bootsel", "likely"),
-        Case("version-before-type", flash((0, image(1, version(1, 0) + image_type()))), "item order, our own", "bootsel", "likely"),
-        Case("two-definitions", flash((0, image(1, blocks=two))), "last definition", "2", "likely"),
-        Case("two-image-types", flash((0, image(1, image_type() + image_type()))), "repeated item, our own", "?", "unsure"),
-        Case("unknown-item", flash((0, image(1, image_type() + item(0x30, 2, 0)))), "unread item", "?", "unsure"),
-        Case("end-block-missing", flash((0, image(1, blocks=ends[:1]))), "loop closes", "bootsel", "certain"),
+        Case(
+            "version-before-type", flash((0, image(1, version(1, 0) + image_type()))),
+            "item order, our own", "bootsel", "likely",
+        ),
+        Case(
+            "two-definitions", flash((0, image(1, blocks=two))),
+            "last definition", "2", "likely",
+        ),
+        Case(
+            "two-image-types", flash((0, image(1, image_type() + image_type()))),
+            "repeated item, our own", "?", "unsure",
+        ),
+        Case(
+            "unknown-item", flash((0, image(1, image_type() + item(0x30, 2, 0)))),
+            "unread item", "?", "unsure",
+        ),
+        Case(
+            "end-block-missing", flash((0, image(1, blocks=ends[:1]))),
+            "loop closes", "bootsel", "certain",
+        ),
         Case("end-block-there", flash((0, image(1, blocks=ends))), "loop closes", "1", "certain"),
-        Case("loop-of-32", flash((0, image(1, blocks=ring(32)))), "most blocks, our own", "1", "unsure"),
-        Case("loop-of-33", flash((0, image(1, blocks=ring(33)))), "most blocks, our own", "?", "unsure"),
-        Case("link-to-second", flash((0, image(1, blocks=to_second))), "overlap", "bootsel", "likely"),
+        Case(
+            "loop-of-32", flash((0, image(1, blocks=ring(32)))),
+            "most blocks, our own", "1", "unsure",
+        ),
+        Case(
+            "loop-of-33", flash((0, image(1, blocks=ring(33)))),
+            "most blocks, our own", "?", "unsure",
+        ),
+        Case(
+            "link-to-second", flash((0, image(1, blocks=to_second))),
+            "overlap", "bootsel", "likely",
+        ),
         Case("marker-without-block", flash((0, alone)), "first block", "?", "unsure"),
     ]
 
@@ -106,7 +133,10 @@ def type_cases():
         (0x0021, "rp2040", "bootsel", "likely"), (0x1022, "data", "bootsel", "likely"),
     )
     return [
-        Case(f"type-{name}", flash((0, image(1, image_type(flags)))), "suits the processor", chip, sure)
+        Case(
+            f"type-{name}", flash((0, image(1, image_type(flags)))),
+            "suits the processor", chip, sure,
+        )
         for flags, name, chip, sure in kinds
     ]
 
@@ -115,9 +145,15 @@ def digest_cases():
     plain = image_type()
     return [
         Case("digest", flash((0, image(1, hashed(plain)))), "digest", "1", "likely"),
-        Case("wrong-digest", flash((0, image(1, hashed(plain, flips=1)))), "digest", "bootsel", "likely"),
+        Case(
+            "wrong-digest", flash((0, image(1, hashed(plain, flips=1)))),
+            "digest", "bootsel", "likely",
+        ),
         Case("hash-def-alone", flash((0, image(1, with_hash(plain)))), "digest", "1", "likely"),
-        Case("digest-of-4-words", flash((0, image(1, hashed(plain, size=4)))), "short digest, left out", "1", "likely"),
+        Case(
+            "digest-of-4-words", flash((0, image(1, hashed(plain, size=4)))),
+            "short digest, left out", "1", "likely",
+        ),
     ]
 
 
@@ -141,10 +177,16 @@ def map_cases():
     covers = image(1, load_map(loaded, "relative", size=0x200), entry=in_sram, size=0x200)
     xip = image(1, load_map(beside, "relative", target=0x13FFC000), entry=0x13FFC041)
     return made + [
-        Case("map-covers-block", flash((0, covers)), "map covers its block, our own", "1", "likely"),
+        Case(
+            "map-covers-block", flash((0, covers)),
+            "map covers its block, our own", "1", "likely",
+        ),
         Case("map-to-xip-sram", flash((0, xip)), "runtime address, our own", "?", "unsure"),
         Case("window-delta", flash((0, image(1, moved))), "window delta, our own", "?", "unsure"),
-        Case("map-to-other-place", flash((0, image(1, elsewhere))), "runtime address", "bootsel", "unsure"),
+        Case(
+            "map-to-other-place", flash((0, image(1, elsewhere))),
+            "runtime address", "bootsel", "unsure",
+        ),
     ]
 
 
@@ -167,22 +209,76 @@ def table_cases():
     tail = block(table(IN_A, part(32, 2047, TAKES["arm"])))
     return [
         Case("table", pair(image(1)), "table", "1", "certain"),
-        Case("table-without-hash", pair(image(1), top=table(IN_A, IN_B, is_hashed=False)), "table's digest", "1", "likely"),
-        Case("table-with-wrong-hash", flash((0, bytes(wrong)), here), "table's digest", "bootsel", "likely"),
-        Case("table-rights-differ", flash((0, block(table(rights, IN_B, is_hashed=False))), here), "table's rights, our own", "?", "unsure"),
-        Case("table-overlap", flash((0, block(table(IN_A, part(31, LAST_B, TAKES["arm"])))), here), "table's overlap, our own", "?", "unsure"),
-        Case("table-past-the-flash", flash((0, tail), here), "table's range, our own", "1", "likely"),
-        Case("partition-in-slot-1", flash((0, block(table(low, IN_B, singleton=True))), (SECTOR, image(1))), "table's range, our own", "1", "unsure"),
-        Case("two-tables-tie", flash((0, first), (SECTOR, block(table(ALONE, major=1))), *both), "two tables, our own", "1", "likely"),
-        Case("greater-table-in-slot-1", flash((0, first), (SECTOR, block(table(ALONE, major=2))), *both), "two tables, our own", "2", "likely"),
-        Case("singleton-in-slot-0", flash((0, block(table(IN_A, major=1, singleton=True))), (SECTOR, block(table(ALONE, major=2))), *both), "two tables, our own", "1", "likely"),
-        Case("update-of-slot-0", flash((0, first), (SECTOR, block(table(ALONE, major=2))), *both), "update of a table slot, our own", "1", "likely", "update=0x10000000"),
-        Case("table-in-image", flash((0, inside), (0x10000, image(1))), "table in an image, left out", "3", "likely"),
-        Case("table-in-image-below-4096", flash((0, below), here), "table in an image, left out", "3", "likely"),
-        Case("image-in-slot-0-table-in-slot-1", flash((0, image(3)), (SECTOR, first), here), "image in a slot beside partitions, our own", "3", "likely"),
-        Case("image-in-slot-1-behind-table", flash((0, first), (SECTOR, image(3)), here), "image in a slot beside partitions, our own", "?", "unsure"),
-        Case("image-in-slot-1", flash((SECTOR, image(1))), "slots without a table, our own", "1", "likely"),
-        Case("table-item-not-first", flash((0, block(late)), here), "item order, our own", "bootsel", "likely"),
+        Case(
+            "table-without-hash", pair(image(1), top=table(IN_A, IN_B, is_hashed=False)),
+            "table's digest", "1", "likely",
+        ),
+        Case(
+            "table-with-wrong-hash", flash((0, bytes(wrong)), here),
+            "table's digest", "bootsel", "likely",
+        ),
+        Case(
+            "table-rights-differ", flash((0, block(table(rights, IN_B, is_hashed=False))), here),
+            "table's rights, our own", "?", "unsure",
+        ),
+        Case(
+            "table-overlap", flash((0, block(table(IN_A, part(31, LAST_B, TAKES["arm"])))), here),
+            "table's overlap, our own", "?", "unsure",
+        ),
+        Case(
+            "table-past-the-flash", flash((0, tail), here),
+            "table's range, our own", "1", "likely",
+        ),
+        Case(
+            "partition-in-slot-1",
+            flash((0, block(table(low, IN_B, singleton=True))), (SECTOR, image(1))),
+            "table's range, our own", "1", "unsure",
+        ),
+        Case(
+            "two-tables-tie", flash((0, first), (SECTOR, block(table(ALONE, major=1))), *both),
+            "two tables, our own", "1", "likely",
+        ),
+        Case(
+            "greater-table-in-slot-1",
+            flash((0, first), (SECTOR, block(table(ALONE, major=2))), *both),
+            "two tables, our own", "2", "likely",
+        ),
+        Case(
+            "singleton-in-slot-0",
+            flash(
+                (0, block(table(IN_A, major=1, singleton=True))),
+                (SECTOR, block(table(ALONE, major=2))), *both,
+            ),
+            "two tables, our own", "1", "likely",
+        ),
+        Case(
+            "update-of-slot-0", flash((0, first), (SECTOR, block(table(ALONE, major=2))), *both),
+            "update of a table slot, our own", "1", "likely", "update=0x10000000",
+        ),
+        Case(
+            "table-in-image", flash((0, inside), (0x10000, image(1))),
+            "table in an image, left out", "3", "likely",
+        ),
+        Case(
+            "table-in-image-below-4096", flash((0, below), here),
+            "table in an image, left out", "3", "likely",
+        ),
+        Case(
+            "image-in-slot-0-table-in-slot-1", flash((0, image(3)), (SECTOR, first), here),
+            "image in a slot beside partitions, our own", "3", "likely",
+        ),
+        Case(
+            "image-in-slot-1-behind-table", flash((0, first), (SECTOR, image(3)), here),
+            "image in a slot beside partitions, our own", "?", "unsure",
+        ),
+        Case(
+            "image-in-slot-1", flash((SECTOR, image(1))),
+            "slots without a table, our own", "1", "likely",
+        ),
+        Case(
+            "table-item-not-first", flash((0, block(late)), here),
+            "item order, our own", "bootsel", "likely",
+        ),
     ]
 
 
@@ -191,15 +287,43 @@ def pair_cases():
     return [
         Case("greater-minor", pair(older, newer), "version", "2", "certain"),
         Case("tie", pair(older, image(2, of_version(1, 9))), "tie, our own", "1", "likely"),
-        Case("no-version-and-0-0", pair(image(1), image(2, of_version(0, 0))), "version, our own", "1", "likely"),
-        Case("no-version-and-0-1", pair(image(1), image(2, of_version(0, 1))), "version, our own", "2", "likely"),
-        Case("newer-has-wrong-digest", pair(older, image(2, hashed(of_version(1, 10), flips=1))), "only valid image", "1", "likely"),
-        Case("newer-is-trial", pair(older, image(2, of_version(1, 10, True))), "trial", "1", "likely"),
-        Case("update-of-older", pair(image(1, of_version(2, 0)), image(2, of_version(1, 0))), "update", "2", "likely", UPDATE_B),
-        Case("update-of-trial", pair(image(1, of_version(1, 0)), image(2, of_version(1, 1, True))), "trial by update", "2", "likely", UPDATE_B),
-        Case("update-of-nothing", pair(image(1, of_version(1, 0))), "update", "1", "likely", UPDATE_B),
-        Case("update-within-b", pair(image(1, of_version(2, 0)), image(2, of_version(1, 0))), "address of an update, our own", "1", "likely", "update=0x10021000"),
-        Case("update-of-equal", pair(older, image(2, of_version(1, 9))), "tie in an update, our own; the last column tells whether A is erased", "2", "likely", UPDATE_B),
+        Case(
+            "no-version-and-0-0", pair(image(1), image(2, of_version(0, 0))),
+            "version, our own", "1", "likely",
+        ),
+        Case(
+            "no-version-and-0-1", pair(image(1), image(2, of_version(0, 1))),
+            "version, our own", "2", "likely",
+        ),
+        Case(
+            "newer-has-wrong-digest", pair(older, image(2, hashed(of_version(1, 10), flips=1))),
+            "only valid image", "1", "likely",
+        ),
+        Case(
+            "newer-is-trial", pair(older, image(2, of_version(1, 10, True))),
+            "trial", "1", "likely",
+        ),
+        Case(
+            "update-of-older", pair(image(1, of_version(2, 0)), image(2, of_version(1, 0))),
+            "update", "2", "likely", UPDATE_B,
+        ),
+        Case(
+            "update-of-trial", pair(image(1, of_version(1, 0)), image(2, of_version(1, 1, True))),
+            "trial by update", "2", "likely", UPDATE_B,
+        ),
+        Case(
+            "update-of-nothing", pair(image(1, of_version(1, 0))),
+            "update", "1", "likely", UPDATE_B,
+        ),
+        Case(
+            "update-within-b", pair(image(1, of_version(2, 0)), image(2, of_version(1, 0))),
+            "address of an update, our own", "1", "likely", "update=0x10021000",
+        ),
+        Case(
+            "update-of-equal", pair(older, image(2, of_version(1, 9))),
+            "tie in an update, our own; the last column tells whether A is erased",
+            "2", "likely", UPDATE_B,
+        ),
     ]
 
 
@@ -212,11 +336,30 @@ def unit_cases():
     unreadable = part(FIRST_A, LAST_A, TAKES["arm"], ALL_RIGHTS & ~(3 << 26))
     return [
         Case("first-unit-first", flash((0, two), *images), "order of units", "1", "likely"),
-        Case("update-of-second-unit", flash((0, two), *images), "update moves its unit, our own", "?", "unsure", UPDATE_C),
-        Case("ignored-by-arm", flash((0, block(table(ignored, IN_C))), *images), "ignored partition", "2", "likely"),
-        Case("owned-partition", flash((0, block(table(IN_A, IN_B, owned))), (C, image(3))), "owned partition, our own", "?", "unsure"),
-        Case("b-ignored-by-arm", pair(image(1, of_version(1, 0)), image(2, of_version(1, 1)), table(IN_A, second_ignored, major=1)), "ignored B, our own", "?", "unsure"),
-        Case("no-secure-read", flash((0, block(table(unreadable))), (A, image(1))), "rights of a boot, not modelled", "?", "unsure"),
+        Case(
+            "update-of-second-unit", flash((0, two), *images),
+            "update moves its unit, our own", "?", "unsure", UPDATE_C,
+        ),
+        Case(
+            "ignored-by-arm", flash((0, block(table(ignored, IN_C))), *images),
+            "ignored partition", "2", "likely",
+        ),
+        Case(
+            "owned-partition", flash((0, block(table(IN_A, IN_B, owned))), (C, image(3))),
+            "owned partition, our own", "?", "unsure",
+        ),
+        Case(
+            "b-ignored-by-arm",
+            pair(
+                image(1, of_version(1, 0)), image(2, of_version(1, 1)),
+                table(IN_A, second_ignored, major=1),
+            ),
+            "ignored B, our own", "?", "unsure",
+        ),
+        Case(
+            "no-secure-read", flash((0, block(table(unreadable))), (A, image(1))),
+            "rights of a boot, not modelled", "?", "unsure",
+        ),
     ]
 
 
@@ -226,8 +369,14 @@ def other_processor_cases():
         (A, riscv_image(1)), (C, image(2)),
     )
     return [
-        Case("riscv-alone", flash((0, riscv_image(1))), "switch of the processor, left out", "1", "certain"),
-        Case("riscv-beside-arm", beside, "switch of the processor, left out", "1", "likely (two to one)"),
+        Case(
+            "riscv-alone", flash((0, riscv_image(1))),
+            "switch of the processor, left out", "1", "certain",
+        ),
+        Case(
+            "riscv-beside-arm", beside,
+            "switch of the processor, left out", "1", "likely (two to one)",
+        ),
     ]
 
 
@@ -238,9 +387,18 @@ def drag_cases():
     absolute = absolute_block() + file
     return [
         Case("drag", erased, "drag onto the drive", "1, end kept", "likely", "drag", file),
-        Case("drag-with-absolute-block", erased, "block of E10", "1, end erased", "likely", "drag", absolute),
-        Case("drag-onto-table", top, "erratum E10: the revision matters", "?", "unsure", "drag", file),
-        Case("drag-onto-table-with-absolute-block", top, "block of E10", "1, end erased", "likely", "drag", absolute),
+        Case(
+            "drag-with-absolute-block", erased,
+            "block of E10", "1, end erased", "likely", "drag", absolute,
+        ),
+        Case(
+            "drag-onto-table", top,
+            "erratum E10: the revision matters", "?", "unsure", "drag", file,
+        ),
+        Case(
+            "drag-onto-table-with-absolute-block", top,
+            "block of E10", "1, end erased", "likely", "drag", absolute,
+        ),
     ]
 
 

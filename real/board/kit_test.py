@@ -23,7 +23,10 @@ import play  # noqa: E402
 from contents import REACH, SECTOR  # noqa: E402
 from picoboot import Board, NoBoard  # noqa: E402
 
-NAMES = ("minimal", "erased", "wrong-digest", "table", "partition-in-slot-1", "no-secure-read", "riscv-alone")
+NAMES = (
+    "minimal", "erased", "wrong-digest", "table", "partition-in-slot-1", "no-secure-read",
+    "riscv-alone",
+)
 PROGRAM = os.path.abspath(sys.argv.pop(1)) if len(sys.argv) == 2 else sys.exit(__doc__)
 ANSWERS = ["1", "bootsel", "bootsel", "1", "bootsel", "1", "bootsel"]
 

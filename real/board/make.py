@@ -5,8 +5,9 @@
     make.py FOLDER PROGRAM             and prints the sheet with what the program answers
     make.py FOLDER PROGRAM SHEET       and compares it with this sheet
 
-Each case is a file CASE.bin of FOLDER: the first bytes of a flash, the rest of which is erased. The
-program is asked on a flash of 512 KiB. A case of a drag has CASE.uf2 besides. PROGRAM is dugnatsew, by its path or by its name.
+Each case is a file CASE.bin of FOLDER: the first bytes of a flash, the rest of which is erased. A
+case of a drag has CASE.uf2 besides. PROGRAM is dugnatsew, by its path or by its name; it is asked on
+a flash of 512 KiB.
 
 The sheet has a line for each case: its name, the rule that it tries, the kind of boot, the program's
 answer, what the chip does from memory and how sure, whether the two are known to part, and an empty
@@ -98,8 +99,8 @@ def sheet(program):
         model = Model(program, folder)
         for case in all_cases():
             says = model.answer(case)
-            row = (case.name, case.rule, case.kind, says, case.chip, case.sure, divergence(case, says))
-            lines.append("\t".join((*row, "")))
+            row = (case.name, case.rule, case.kind, says, case.chip, case.sure)
+            lines.append("\t".join((*row, divergence(case, says), "")))
     return lines
 
 
@@ -137,7 +138,8 @@ def compare(lines, path):
     """Prints the lines of a sheet that differ; how many there are."""
     with open(path, encoding="utf-8") as file:
         there = file.read().splitlines()
-    differ = [it for it in range(max(len(there), len(lines))) if there[it:it + 1] != lines[it:it + 1]]
+    longer = range(max(len(there), len(lines)))
+    differ = [it for it in longer if there[it:it + 1] != lines[it:it + 1]]
     for at in differ:
         print(f"{path}:{at + 1}\n  there  {there[at:at + 1]}\n  made   {lines[at:at + 1]}")
     print(f"{len(lines) - 1} cases, {len(differ)} lines of the sheet differ")

@@ -108,12 +108,16 @@ class Board:
         self.come_back()
 
     def drag(self, blocks):
-        self.link.drag(blocks)
+        try:
+            self.link.drag(blocks)
+        except Stall:
+            self.link.reset()
+            raise Refused("the drive refuses a block") from None
         self.come_back()
 
     def come_back(self):
         if not self.link.comes_back(HANG_SECONDS):
-            raise Hang
+            raise Hang("the board does not come back to BOOTSEL")
         self.take()
 
     def wait_for_replug(self):

@@ -101,16 +101,18 @@ def play_once(board, case):
 
 
 def play(board, case):
-    """The same, with a second attempt where the board refuses a command."""
+    """The same, with a second attempt without a table where the board refuses a command."""
     for attempt in range(1, ATTEMPTS + 1):
         try:
+            if attempt > 1:
+                board.drop_table()
             return play_once(board, case)
         except Refused as refused:
             print(f"{case.name}: {refused}", flush=True)
             if attempt == ATTEMPTS:
                 raise Stopped(f"{case.name}: the board refuses it again") from refused
         except Hang as hang:
-            raise Stopped(f"{case.name}: the board does not come back to BOOTSEL") from hang
+            raise Stopped(f"{case.name}: {hang}") from hang
     return None
 
 
@@ -161,13 +163,16 @@ class Run:
         got, *rest = play(board, case)
         row = [*row[:BOARD], got, *rest]
         if case.name == PLAINEST and is_otherwise(row):
-            raise Stopped(f"the plainest image does not start ({got}), so no other case can tell anything")
+            raise Stopped(
+                f"the plainest image does not start ({got}), so no other case can tell anything"
+            )
         self.keep(row)
         if got == "hang":
             print(f"{case.name}: the board hangs. Hold BOOTSEL, and plug it in again.", flush=True)
             board.wait_for_replug()
         elif is_otherwise(row):
-            print(f"{case.name}: the model says {row[MODEL]}, the board {got}; from memory {row[MEMORY]}")
+            says = f"the model says {row[MODEL]}, the board {got}; from memory {row[MEMORY]}"
+            print(f"{case.name}: {says}")
 
     def play(self, board, cases):
         for case in self.left(cases):
@@ -178,8 +183,17 @@ class Run:
     def total(self):
         """Tells the last line, and whether all cases are as the model."""
         otherwise = sum(is_otherwise(row) for row in self.done)
-        print(f"{len(self.done)} cases: {len(self.done) - otherwise} as the model, {otherwise} otherwise")
+        count = len(self.done)
+        print(f"{count} cases: {count - otherwise} as the model, {otherwise} otherwise")
         return otherwise == 0
+
+
+def usb_link():
+    try:
+        from usb_link import UsbLink
+    except ImportError as error:
+        raise Stopped("there is no pyusb: it is Debian's package python3-usb") from error
+    return UsbLink()
 
 
 def link_of(words_):
@@ -189,9 +203,7 @@ def link_of(words_):
         cases = [it for it in all_cases() if not (is_other and it.kind == "drag")]
         return FakeLink(words_[1]), cases, words_[2]
     if len(words_) == 1 and not words_[0].startswith("-"):
-        from usb_link import UsbLink
-
-        return UsbLink(), all_cases(), words_[0]
+        return usb_link(), all_cases(), words_[0]
     return sys.exit(__doc__)
 
 
@@ -201,8 +213,9 @@ def main():
         run = Run(SHEET, out)
         run.play(Board(link), cases)
         sys.exit(0 if run.total() else 1)
-    except (Stopped, NoBoard, Refused) as stopped:
-        print(f"Stopped: {stopped}. The same command goes on from here.", file=sys.stderr)
+    except (Stopped, NoBoard, Refused, Hang) as stopped:
+        print(f"Stopped: {stopped}. Plug the board in with BOOTSEL held; the same command goes on "
+              "from here.", file=sys.stderr)
         sys.exit(2)
     except KeyboardInterrupt:
         print("Stopped. The same command goes on from here.", file=sys.stderr)

@@ -27,7 +27,7 @@ class UsbLink:
     def __init__(self):
         self.place = None
         if not self.open(OPEN_SECONDS):
-            raise NoBoard("there is no board in BOOTSEL: hold BOOTSEL and plug it in")
+            raise NoBoard("there is no board in BOOTSEL, or none that you may open")
 
     def open(self, seconds):
         """Waits for a board, and opens it."""
@@ -86,6 +86,12 @@ class UsbLink:
 
     def drag(self, blocks):
         """Writes the blocks to the drive, one by one, as SCSI's WRITE(10)."""
+        try:
+            self.write_blocks(blocks)
+        except (usb.core.USBError, StopIteration) as error:
+            raise Stall from error
+
+    def write_blocks(self, blocks):
         interfaces = self.device.get_active_configuration()
         interface = next(it for it in interfaces if it.bInterfaceClass == DRIVE)
         if self.device.is_kernel_driver_active(interface.bInterfaceNumber):
