@@ -4,7 +4,8 @@
     kit_test.py PROGRAM
 
 Seven cases are played. The link is the one of fake.py, which takes the bytes of PICOBOOT commands,
-so all but usb_link.py and the probes is what a board would see.
+so all but usb_link.py and the probes is what a board would see. One test runs usb_link.py on a
+stand-in for pyusb; that says nothing of a board.
 """
 
 import contextlib
@@ -19,6 +20,8 @@ sys.path.insert(0, HERE)
 
 import cases  # noqa: E402
 import fake  # noqa: E402
+import fake_usb  # noqa: E402
+import picoboot  # noqa: E402
 import play  # noqa: E402
 from contents import REACH, SECTOR  # noqa: E402
 from picoboot import Board, NoBoard  # noqa: E402
@@ -152,6 +155,20 @@ class KitTest(unittest.TestCase):
     def test_drag(self):
         names = ("minimal", "drag-with-absolute-block")
         self.assertEqual(self.play(names), ["1", "1, end kept"])
+
+    def test_usb_link_runs_on_a_stand_in_for_pyusb(self):
+        fake_usb.put_in_place(self.link)
+        from usb_link import UsbLink
+
+        self.addCleanup(setattr, picoboot, "HANG_SECONDS", picoboot.HANG_SECONDS)
+        picoboot.HANG_SECONDS = 0.3
+        board = self.link
+        board.hangs, board.stalls, board.awaited = {3}, {4}, 3
+        self.link = UsbLink()
+        names = (*NAMES[:4], "drag-with-absolute-block")
+        self.assertEqual(self.play(names), ["1", "bootsel", "hang", "1", "1, end kept"])
+        self.assertEqual(board.replugs, 1)
+        self.assertIn("minimal: command 0x05 has status 99", self.said.getvalue())
 
 
 if __name__ == "__main__":
