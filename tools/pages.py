@@ -12,12 +12,12 @@ import re
 import sys
 
 MOST = {
-    "README.md": 9_500,
+    "README.md": 10_000,
     "docs/ARCHITECTURE.md": 10_000,
     "docs/PROVED.md": 10_000,
     "docs/DECISIONS.md": 12_000,
     "docs/GLOSSARY.md": 9_000,
-    "docs/WORKING.md": 16_000,
+    "docs/WORKING.md": 17_000,
 }
 OTHERS = ("GUIDE", "TUTORIAL", "REFERENCE", "PROMISE", "FAQ", "MODEL", "FAULTS", "CHIP", "RULES")
 LEAST_PAGE, MOST_PAGE = 150, 5_000
