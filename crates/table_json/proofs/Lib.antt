@@ -1,4 +1,5 @@
 mod ViewLemmas
+mod MemberLemmas
 mod PlainLemmas
 pub mod RuleLemmas
 mod WordFieldLemmas

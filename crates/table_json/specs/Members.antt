@@ -1,5 +1,5 @@
 -- The members of the objects of a text.
-use Rattle.std.specs.Prelude.{ℕ, Bool, false, ◌||◌, not, if◌then◌else◌, List, [], ◌∷◌, ⊤, codes, bytes_eq}
+use Rattle.std.specs.Prelude.{ℕ, Bool, false, ◌||◌, not, if◌then◌else◌, List, [], ◌∷◌, ◌++◌, ⊤, codes, bytes_eq}
 use Rattle.std.specs.Prelude.{Option, None, Some, Result, Ok, Err, ok_or}
 use Rattle.std.specs.List.{list_any}
 use Rattle.serde_json.specs.Data.{Data, Members, no_members, member}
@@ -36,15 +36,22 @@ member_name RollbackRequired = codes "rollback_required"
 member_name FlashOff = codes "flash_off"
 member_name SlotSize = codes "slot_size"
 
+-- the names that are listed for a partition, in two parts
+abbrev pub place_names : List (List ℕ)
+place_names =
+    codes "first" ∷ codes "last" ∷ codes "families" ∷ codes "permissions" ∷ codes "id" ∷ []
+
+abbrev pub further_names : List (List ℕ)
+further_names =
+    codes "name" ∷ codes "link" ∷ codes "ignore_arm" ∷ codes "ignore_riscv"
+    ∷ codes "no_reboot" ∷ []
+
 -- the names that are listed for an object
 abbrev pub names_of : Shape → List (List ℕ)
 names_of OfTable =
     codes "version" ∷ codes "singleton" ∷ codes "unpartitioned" ∷ codes "partitions" ∷ []
 names_of OfUnpartitioned = codes "families" ∷ codes "permissions" ∷ []
-names_of OfPartition =
-    codes "first" ∷ codes "last" ∷ codes "families" ∷ codes "permissions" ∷ codes "id"
-    ∷ codes "name" ∷ codes "link" ∷ codes "ignore_arm" ∷ codes "ignore_riscv"
-    ∷ codes "no_reboot" ∷ []
+names_of OfPartition = place_names ++ further_names
 names_of OfPermissions = codes "secure" ∷ codes "nonsecure" ∷ codes "bootloader" ∷ []
 names_of OfSpec =
     codes "processor" ∷ codes "version" ∷ codes "rollback" ∷ codes "rows" ∷ codes "trial" ∷ []

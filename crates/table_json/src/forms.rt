@@ -4,7 +4,7 @@ ghost use Rattle.std.specs.Prelude.{◌≡◌, ◌%◌, ◌<◌, ◌≤◌, ◌^
 ghost use Rattle.serde_json.specs.View.{view};
 ghost use Rattle.table_json.specs.Forms.{values_in, number_in, number_below, version_in_list, version_form, name_of_text, name_form, link_type_of, link_in, link_form, rights_of, rights_form, rights_for, permissions_in, permissions_form};
 
-use crate::members::{Shape, has_unknown};
+use crate::members::{Shape, has_unknown, is_word};
 use arrayvec::ArrayVec;
 use block_codec::Version;
 use serde_json::Value;
@@ -71,9 +71,9 @@ fn link_type(word: &str) -> Option<u32>
     ensures value { result ≡ link_type_of word.now }
     ensures small { IfSome result (λ kind. kind < 3) }
 {
-    if word == "a" {
+    if is_word(word, "a") {
         Some(1)
-    } else if word == "owner" {
+    } else if is_word(word, "owner") {
         Some(2)
     } else {
         None
@@ -109,13 +109,13 @@ fn rights(text: &str) -> Option<u32>
     ensures value { result ≡ rights_of text.now }
     ensures small { IfSome result (λ rights. rights < 4) }
 {
-    if text == "" {
+    if is_word(text, "") {
         Some(0)
-    } else if text == "r" {
+    } else if is_word(text, "r") {
         Some(1)
-    } else if text == "w" {
+    } else if is_word(text, "w") {
         Some(2)
-    } else if text == "rw" {
+    } else if is_word(text, "rw") {
         Some(3)
     } else {
         None
