@@ -9,6 +9,4 @@ mod downloads;
 #[cfg(test)]
 mod scripts;
 #[cfg(test)]
-mod tables;
-#[cfg(test)]
 mod texts;

@@ -1,24 +1,11 @@
 //! The calls with ample memory. The digests are those of files that were made outside this program.
 
-use crate::fixtures::{sha256, spec};
-use elf_pack::{ElfFault, elf_binary, elf_image};
-use image_pack::SealSpec;
+use crate::fixtures::sha256;
+use elf_pack::{ElfFault, elf_binary};
 use pico_board::Cpu;
 use std::alloc::{AllocError, Global};
 use std::process::Abort;
 use std::test::Fail;
-
-/// The digest of the binary of sixteen bytes in SRAM.
-const IN_SRAM: [u8; 32] = [
-    0x04, 0x19, 0xcd, 0x3c, 0xf9, 0x43, 0xd6, 0x9d, 0xe9, 0x29, 0xcd, 0xd4, 0xed, 0x33, 0xc5, 0x79,
-    0x55, 0x62, 0x2e, 0x90, 0xd1, 0xea, 0xdd, 0xe4, 0xf6, 0x01, 0x01, 0x4b, 0x8a, 0x3a, 0xef, 0x42,
-];
-
-/// The digest of the binary of sixteen bytes in SRAM, sealed for Arm with version 1.0.
-const SRAM_SEALED: [u8; 32] = [
-    0xe5, 0xd7, 0xd5, 0xa9, 0xc2, 0xba, 0x0e, 0x94, 0xec, 0x51, 0xc3, 0xd9, 0x64, 0x65, 0xf3, 0xe0,
-    0xa7, 0x05, 0x0c, 0xbe, 0x32, 0x31, 0x26, 0x8a, 0x0c, 0x03, 0x79, 0x8b, 0x5f, 0x2c, 0x5d, 0xb1,
-];
 
 /// The binary for RISC-V of three segments in SRAM, of 5, 1 and 8 bytes.
 const THREE_IN_SRAM: [u8; 32] = [
@@ -26,12 +13,7 @@ const THREE_IN_SRAM: [u8; 32] = [
     0x48, 0x71, 0x05, 0x9a, 0x0b, 0x23, 0x5f, 0x54, 0xac, 0xcb, 0x24, 0xe8, 0x0e, 0x64, 0x91, 0xa9,
 ];
 
-/// Sixteen bytes.
-const BYTES: [u8; 16] = [0, 1, 2, 3, 4, 5, 6, 7, 8, 9, 10, 11, 12, 13, 14, 15];
-
-/// The machine of Arm, and that of RISC-V.
-const ARM: u16 = 40;
-
+/// The machine of RISC-V.
 const RISCV: u16 = 243;
 
 /// The head of a file, before its program headers.
@@ -85,34 +67,6 @@ fn binary_of(alloc: Global, elf: &[u8], cpu: Cpu, out: &mut Vec<u8>) -> Result<(
         return Err(ElfFault::Memory);
     }
     elf_binary(alloc, elf, cpu, out)
-}
-
-/// What `elf_image` answers of such a file.
-fn image_of(
-    alloc: Global,
-    elf: &[u8],
-    spec: &SealSpec,
-    out: &mut Vec<u8>,
-) -> Result<u32, ElfFault> {
-    if elf.len() > MOST_BYTES {
-        return Err(ElfFault::Memory);
-    }
-    elf_image(alloc, elf, spec, out)
-}
-
-#[test]
-fn an_sram_segment_is_stored_behind_a_block_that_loads_it(rt: HostRuntime) -> Result<(), Fail> {
-    let alloc = rt.alloc();
-    let elf = file(alloc, ARM, 0x2000_0001, &[[1, 84, 0x2000_0000, 16]], &BYTES)?;
-    let mut binary = Vec::new(alloc);
-    assert_eq!(rt; binary_of(alloc, &elf, Cpu::Arm, &mut binary), Ok(()));
-    assert_eq!(rt; binary.len(), 0x290);
-    assert_eq!(rt; sha256(&binary), IN_SRAM);
-    let mut sealed = Vec::new(alloc);
-    assert_eq!(rt; image_of(alloc, &elf, &spec(0), &mut sealed), Ok(0x290));
-    assert_eq!(rt; sealed.len(), 768);
-    assert_eq!(rt; sha256(&sealed), SRAM_SEALED);
-    Ok(())
 }
 
 #[test]

@@ -1,6 +1,6 @@
-//! Tests of blocks, definitions and load maps, and of whether two windows hold the same image. Others
-//! are of the calls that make images, tables and sealed images. With ample memory they answer what
-//! was worked out by hand. The digests are those of files that were made outside this program.
+//! Tests of blocks and load maps, and of whether two windows hold the same image. Others are of the
+//! calls that make images and binaries. With ample memory they answer what was worked out by hand.
+//! The digests are those of files that were made outside this program.
 #![tactic(auto)]
 
 #[cfg(test)]
@@ -15,5 +15,3 @@ mod fixtures;
 mod making;
 #[cfg(test)]
 mod maps;
-#[cfg(test)]
-mod texts;

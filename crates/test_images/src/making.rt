@@ -6,7 +6,7 @@ ghost use Rattle.script_plan.specs.Plans.{IsPlanned};
 use crate::fixtures::{BLOCK, LEAST_SEALED, sha256, spec};
 use image_pack::{generate, seal};
 use pico_board::Window;
-use script_plan::{load, plan};
+use script_plan::plan;
 use std::alloc::{AllocError, Global};
 use std::process::Abort;
 use std::test::Fail;
@@ -15,12 +15,6 @@ use std::test::Fail;
 const PLANNED: [u8; 32] = [
     0x88, 0x69, 0x1f, 0x87, 0x86, 0xfe, 0x57, 0xd0, 0x85, 0x7d, 0xf1, 0x59, 0x5f, 0x5f, 0x94, 0x82,
     0xbb, 0x70, 0x0f, 0x7e, 0x43, 0x5a, 0x53, 0x9e, 0x82, 0x89, 0xaf, 0xc2, 0xc9, 0xb8, 0xed, 0x3a,
-];
-
-/// The script that loads the binary of 1,025 words into the window of sectors 2 to 31.
-const LOADED: [u8; 32] = [
-    0x27, 0x7d, 0xff, 0x6a, 0x0b, 0xdb, 0x92, 0xc9, 0xe5, 0x53, 0x8d, 0xed, 0x42, 0x4e, 0x0b, 0xa7,
-    0xa7, 0x8b, 0x21, 0xc3, 0x0b, 0x94, 0xec, 0x10, 0x13, 0xab, 0x69, 0xf5, 0x25, 0x3d, 0x66, 0x38,
 ];
 
 /// The flash of number 7.
@@ -70,17 +64,6 @@ fn the_least_image_is_sealed_and_planned(rt: HostRuntime) -> Result<(), Fail> {
     let mut script = Vec::new(alloc);
     assert_eq!(rt; plan(alloc, slot(), &sealed, &mut script), Ok(()));
     assert_eq!(rt; sha256(&script), PLANNED);
-    Ok(())
-}
-
-#[test]
-fn an_image_of_two_sectors_is_loaded_in_ascending_order(rt: HostRuntime) -> Result<(), Fail> {
-    let alloc = rt.alloc();
-    let bytes = binary(alloc, 1025)?;
-    let mut script = Vec::new(alloc);
-    assert_eq!(rt; load(alloc, slot(), &bytes, &mut script), Ok(()));
-    assert_eq!(rt; script.len(), 8496);
-    assert_eq!(rt; sha256(&script), LOADED);
     Ok(())
 }
 
