@@ -50,7 +50,7 @@ PROVED = os.path.join(TOP, "crates", "boot_cli", "out", "boot_cli")
 UNPROVED = os.path.join(TOP, "out", "dugnatsew")
 FULL = os.path.join(os.path.dirname(os.devnull), "full")  # a device on which every write fails
 SECONDS = 300  # for one row
-BOUND = 70_000  # bytes of files of a row in a pack
+BOUND = 600_000  # bytes of files of a row in a pack
 
 PARTS = ".parts"
 MARKS = ("put-fails", "slow")
