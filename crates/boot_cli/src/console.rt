@@ -1,8 +1,5 @@
 //! Standard output as a sink. It tells nothing of what it took.
 
-#[cfg(test)]
-mod tests;
-
 ghost use Rattle.std.specs.Prelude.{◌≡◌};
 
 use crate::pieces::write_whole;

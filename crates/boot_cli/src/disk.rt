@@ -2,9 +2,6 @@
 
 ghost use Rattle.std.specs.Prelude.{◌≡◌};
 
-#[cfg(test)]
-mod tests;
-
 use crate::pieces::read_to_limit;
 use crate::replacing::replace;
 use pico_board::{Store, StoreFail};

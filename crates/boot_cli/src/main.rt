@@ -6,8 +6,6 @@ mod console;
 mod disk;
 mod pieces;
 mod replacing;
-#[cfg(test)]
-mod tests;
 
 use boot_run::{Status, run};
 use console::Console;
