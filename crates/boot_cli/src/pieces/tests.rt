@@ -27,6 +27,16 @@ impl Worn {
         }
     }
 
+    /// The file of which each other call is interrupted, the first one too.
+    fn interrupted(left: u8) -> Worn {
+        Worn {
+            left,
+            fails: false,
+            interrupts: true,
+            is_next: false,
+        }
+    }
+
     /// The bytes of the next call; there is room for so many.
     fn turn(&mut self, room: usize) -> io::Result<usize> {
         self.is_next = self.interrupts && !self.is_next;
@@ -75,14 +85,10 @@ fn a_file_that_stops_ends_a_read_and_faults_a_write(rt: HostRuntime) {
 
 #[test]
 fn an_interrupted_call_is_made_again(rt: HostRuntime) {
-    let interrupted = |left| Worn {
-        interrupts: true,
-        ..Worn::new(left, false)
-    };
     let mut read = Vec::new(rt.alloc());
-    assert_eq!(rt; read_up_to(&mut interrupted(3), 9, &mut read), Ok(()));
+    assert_eq!(rt; read_up_to(&mut Worn::interrupted(3), 9, &mut read), Ok(()));
     assert_eq!(rt; read.len(), 3);
-    let mut taking = interrupted(4);
+    let mut taking = Worn::interrupted(4);
     assert_eq!(rt; write_whole(&mut taking, &[1, 2, 3, 4]), true);
     assert_eq!(rt; write_whole(&mut taking, &[5]), false);
 }

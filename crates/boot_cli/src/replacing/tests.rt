@@ -154,8 +154,8 @@ impl Files for FailingFiles<'_> {
 /// The path of a new folder for a test.
 fn new_folder(rt: &HostRuntime, test: &str) -> io::Result<String> {
     let number = process::id(rt.process());
-    let folder = env::temp_dir(rt)?;
-    let path = format!(in rt.alloc(); "{}/{test}-{number}", folder.display())?;
+    let folder = env::temp_dir(rt)?.into_string();
+    let path = format!(in rt.alloc(); "{folder}/{test}-{number}")?;
     fs::create_dir(rt, &path)?;
     Ok(path)
 }
@@ -198,13 +198,11 @@ fn a_write_that_fails_leaves_the_old_bytes_and_no_new_file(rt: HostRuntime) -> R
 }
 
 #[test]
-fn modes_links_and_other_files_are_kept(rt: HostRuntime) -> Result<(), Fail> {
+fn modes_and_links_are_kept(rt: HostRuntime) -> Result<(), Fail> {
     let folder = new_folder(&rt, "replacing-keeps")?;
     let path = format!(in rt.alloc(); "{folder}/flash")?;
     let link = format!(in rt.alloc(); "{folder}/link")?;
-    let taken = format!(in rt.alloc(); "{folder}/.dugnatsew-0")?;
     fs::write(&rt, &path, b"old".as_slice())?;
-    fs::write(&rt, &taken, b"another file".as_slice())?;
     fs::set_permissions(&rt, &path, Permissions::from_mode(0o640))?;
     std::os::unix::fs::symlink(&rt, "flash", &link)?;
     replace(&rt, &link, b"new")?;
@@ -214,6 +212,17 @@ fn modes_links_and_other_files_are_kept(rt: HostRuntime) -> Result<(), Fail> {
         fs::metadata(&rt, &path)?.permissions().mode() & 0o777,
         0o640
     );
+    fs::remove_dir_all(&rt, &folder)?;
+    Ok(())
+}
+
+#[test]
+fn other_files_and_devices_are_kept(rt: HostRuntime) -> Result<(), Fail> {
+    let folder = new_folder(&rt, "replacing-others")?;
+    let path = format!(in rt.alloc(); "{folder}/flash")?;
+    let taken = format!(in rt.alloc(); "{folder}/.dugnatsew-0")?;
+    fs::write(&rt, &taken, b"another file".as_slice())?;
+    replace(&rt, &path, b"new")?;
     assert_eq!(rt;
         fs::read(&rt, &taken)?.as_slice(),
         b"another file".as_slice()
@@ -222,7 +231,7 @@ fn modes_links_and_other_files_are_kept(rt: HostRuntime) -> Result<(), Fail> {
     assert!(rt; !fs::metadata(&rt, "/dev/null")?.is_file());
     assert!(rt; replace(&rt, "/dev/full", b"no room").is_err());
     assert!(rt; replace(&rt, &folder, b"a folder").is_err());
-    assert_eq!(rt; count_files(&rt, &folder)?, 3);
+    assert_eq!(rt; count_files(&rt, &folder)?, 2);
     fs::remove_dir_all(&rt, &folder)?;
     Ok(())
 }
