@@ -1,3 +1,4 @@
 mod WordLemmas
 mod OtpLaws
+mod CaveatLemmas
 pub mod OtpWorkLemmas

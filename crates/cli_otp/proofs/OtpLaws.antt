@@ -1,8 +1,8 @@
 -- What stands in the rows of an OTP, and what is read of them.
-use Rattle.std.proofs.Common.{◌≡◌, ◌≢◌, ℕ, ◌-◌, ◌*◌, ◌/◌, ◌%◌, ◌^◌, ◌<◌, ◌≤◌, ◌==◌, ◌&&◌, Bool, true, false, cond, nat_le, List, [], ◌∷◌, ◌++◌, length, All, replicate, refl, sym, ap, subst, ◌∙◌, arith, inl, inr, append-nil}
+use Rattle.std.proofs.Common.{◌≡◌, ◌≢◌, ℕ, ◌-◌, ◌*◌, ◌/◌, ◌%◌, ◌^◌, ◌<◌, ◌≤◌, ◌==◌, ◌&&◌, Bool, true, false, cond, nat_le, nat_lt, List, [], ◌∷◌, ◌++◌, length, All, replicate, refl, sym, ap, subst, ◌∙◌, arith, inl, inr, append-nil}
 use Rattle.std.specs.Prelude.{◌⊎◌, slice_index}
 use Rattle.std.specs.List.{AllByRecursion}
-use Rattle.std.proofs.lemmas.Bool.{cases_lt, ne_eqb, le-leb}
+use Rattle.std.proofs.lemmas.Bool.{cases_lt, le-leb, le-ltb, lt-leb, lt-ltb, ne_eqb}
 use Rattle.std.proofs.lemmas.List.FromFn.{get_or-map-range_with_len}
 use Rattle.std.proofs.lemmas.List.Elements.{recursion_from_All}
 use Rattle.std.proofs.Math.Seq.{get_or-append_seam}
@@ -22,7 +22,7 @@ use Rattle.cli_course.specs.Outcomes.{line}
 use Rattle.cli_explain.specs.Texts.{explain_text, otp_text, tables_lines, units_lines}
 use Rattle.cli_inputs.specs.declared.forms.Form.TheVariants.{Otp}
 use Rattle.cli_inputs.specs.Forms.{HasForm, otp_of, rows_of}
-use Rattle.cli_otp.specs.OtpWords.{flag_word, listed, listed_from, otp_bytes, otp_words, row_word, told_text}
+use Rattle.cli_otp.specs.OtpWords.{flag_word, listed_from, otp_bytes, otp_words, row_word, told_text, unlisted}
 use Rattle.cli_otp.proofs.WordLemmas.{same_eqb, word-at, word-past, words-long}
 
 -- a row that no pair lists
@@ -52,29 +52,73 @@ listed-narrow (pair ∷ pairs) value row (one, rest) narrow =
     either true a b first second = first
     either false a b first second = second
 
--- a row that is neither of the two settings is the listed one
-row-listed : (spec : OtpView) (row : ℕ) → row ≢ 0x048 → row ≢ 0x055 → row_word spec row ≡ listed spec.rows row
+-- what stands in a row that is not listed
+pub unlisted-none : (secure : Bool) (row : ℕ) → (secure ≡ true → 0x040 ≤ row → row ≤ 0x047 → ⊥)
+    → unlisted secure row ≡ 0
+unlisted-none false row other = refl
+unlisted-none true row other = by_side (cases_lt row 0x040) (cases_lt row 0x048)
+  where
+    by_side : (row < 0x040) ⊎ (0x040 ≤ row) → (row < 0x048) ⊎ (0x048 ≤ row) → unlisted true row ≡ 0
+    by_side (inl below) side = ap (λ t. cond (t && nat_lt row 0x048) 1 0) (lt-leb 0x040 row below)
+    by_side (inr least) (inl most) = absurd (other refl least (omega (arith, most)))
+    by_side (inr least) (inr past) =
+        ap (λ t. cond (t && nat_lt row 0x048) 1 0) (le-leb 0x040 row least)
+        ∙ ap (λ t. cond t 1 0) (le-ltb row 0x048 past)
+
+pub unlisted-one : (row : ℕ) → 0x040 ≤ row → row ≤ 0x047 → unlisted true row ≡ 1
+unlisted-one row least most =
+    ap (λ t. cond (t && nat_lt row 0x048) 1 0) (le-leb 0x040 row least)
+    ∙ ap (λ t. cond t 1 0) (lt-ltb row 0x048 (omega (arith, most)))
+
+unlisted-narrow : (secure : Bool) (row : ℕ) → unlisted secure row < 2 ^ 24
+unlisted-narrow secure row = either (secure && (nat_le 0x040 row && nat_lt row 0x048))
+  where
+    either : (t : Bool) → cond t 1 0 < 2 ^ 24
+    either true = omega arith
+    either false = omega arith
+
+-- a row that is neither of the two settings is the listed one, or one that is not listed
+row-listed : (spec : OtpView) (row : ℕ) → row ≢ 0x048 → row ≢ 0x055
+    → row_word spec row ≡ listed_from (unlisted spec.secure_boot row) spec.rows row
 row-listed spec row flags size =
-    ap (λ t. cond t (flag_word spec.rollback_required spec.flash_off)
-    (cond (row == 0x055) spec.slot_exponent (listed spec.rows row))) (ne_eqb row 0x048 flags)
-    ∙ ap (λ t. cond t spec.slot_exponent (listed spec.rows row)) (ne_eqb row 0x055 size)
+    let listed = listed_from (unlisted spec.secure_boot row) spec.rows row in
+    ap (λ t. cond t (flag_word spec.rollback_required spec.flash_off) (cond (row == 0x055) spec.slot_exponent listed))
+    (ne_eqb row 0x048 flags)
+    ∙ ap (λ t. cond t spec.slot_exponent listed) (ne_eqb row 0x055 size)
+
+pub row-unlisted : (spec : OtpView) (row : ℕ) → row < 4096 → row ≢ 0x048 → row ≢ 0x055
+    → All (λ (pair : OtpRow). pair.row ≢ row) spec.rows
+    → slice_index (otp_words spec) row ≡ unlisted spec.secure_boot row
+row-unlisted spec row within flags size none =
+    word-at spec row within ∙ row-listed spec row flags size
+    ∙ listed-none spec.rows (unlisted spec.secure_boot row) row
+    (recursion_from_All (λ (pair : OtpRow). pair.row ≢ row) spec.rows none)
 
 pub row-none : (spec : OtpView) (row : ℕ) → row ≢ 0x048 → row ≢ 0x055
+    → (spec.secure_boot ≡ true → 0x040 ≤ row → row ≤ 0x047 → ⊥)
     → All (λ (pair : OtpRow). pair.row ≢ row) spec.rows → slice_index (otp_words spec) row ≡ 0
-row-none spec row flags size none = by_place (cases_lt row 4096)
+row-none spec row flags size other none = by_place (cases_lt row 4096)
   where
     by_place : (row < 4096) ⊎ (4096 ≤ row) → slice_index (otp_words spec) row ≡ 0
     by_place (inl within) =
-        word-at spec row within ∙ row-listed spec row flags size
-        ∙ listed-none spec.rows 0 row (recursion_from_All (λ (pair : OtpRow). pair.row ≢ row) spec.rows none)
+        row-unlisted spec row within flags size none ∙ unlisted-none spec.secure_boot row other
     by_place (inr past) = word-past spec row past
 
--- a row below those that may be listed
-pub row-low : (spec : OtpView) (row : ℕ) → IsSound spec → row < 0x0c0 → row ≢ 0x048 → row ≢ 0x055
+-- a row of secure boot
+pub row-secure : (spec : OtpView) (row : ℕ) → spec.secure_boot ≡ true → 0x040 ≤ row → row ≤ 0x047
+    → All (λ (pair : OtpRow). pair.row ≢ row) spec.rows → slice_index (otp_words spec) row ≡ 1
+row-secure spec row secure least most none =
+    row-unlisted spec row (omega (arith, most)) (λ same. omega (arith, most, same)) (λ same. omega (arith, most, same)) none
+    ∙ ap (λ t. unlisted t row) secure ∙ unlisted-one row least most
+
+-- a row below those that are listed, without secure boot
+pub row-low : (spec : OtpView) (row : ℕ) → spec.secure_boot ≡ false
+    → All (λ (pair : OtpRow). 0x0c0 ≤ pair.row) spec.rows → row < 0x0c0 → row ≢ 0x048 → row ≢ 0x055
     → slice_index (otp_words spec) row ≡ 0
-row-low spec row sound low flags size =
+row-low spec row secure high low flags size =
     row-none spec row flags size
-    (λ k d within same. let is = sound.listed k d within in omega (arith, is.least, low, same))
+    (λ on least most. let both : true ≡ false = sym on ∙ secure in cc)
+    (λ k d within same. let least = high k d within in omega (arith, least, low, same))
 
 pub row-last : (spec : OtpView) (before after : List OtpRow) (pair : OtpRow) → IsSound spec
     → spec.rows ≡ before ++ pair ∷ after → All (λ (other : OtpRow). other.row ≢ pair.row) after
@@ -84,11 +128,12 @@ row-last spec before after pair sound is later =
     let here : IsListedRow pair =
     subst IsListedRow (get_or-append_seam before pair after pair)
     (all (length before) pair (seam before)) in
+    let first = unlisted spec.secure_boot pair.row in
     word-at spec pair.row (omega (arith, here.most))
-    ∙ row-listed spec pair.row (λ same. omega (arith, here.least, same)) (λ same. omega (arith, here.least, same))
-    ∙ ap (λ pairs. listed pairs pair.row) is
-    ∙ listed-append before (pair ∷ after) 0 pair.row
-    ∙ ap (λ t. listed_from (cond t pair.value (listed_from 0 before pair.row)) after pair.row)
+    ∙ row-listed spec pair.row here.flags here.size
+    ∙ ap (λ pairs. listed_from first pairs pair.row) is
+    ∙ listed-append before (pair ∷ after) first pair.row
+    ∙ ap (λ t. listed_from (cond t pair.value (listed_from first before pair.row)) after pair.row)
     (same_eqb pair.row pair.row refl)
     ∙ listed-none after pair.value pair.row
     (recursion_from_All (λ (other : OtpRow). other.row ≢ pair.row) after later)
@@ -137,12 +182,6 @@ flags-few spec = ap (λ w. w / 4) (flags-word spec) ∙ flag-few spec.rollback_r
 pub size-few : (spec : OtpView) → IsSound spec → slice_index (otp_words spec) 0x055 / 16 ≡ 0
 size-few spec sound = let is = size-word spec in omega (arith, is, sound.size)
 
-pub secure-none : (spec : OtpView) (row : ℕ) → IsSound spec → 0x040 ≤ row → row ≤ 0x047
-    → slice_index (otp_words spec) row % 2 ≡ 0
-secure-none spec row sound least most =
-    ap (λ w. w % 2)
-    (row-low spec row sound (omega (arith, most)) (λ same. omega (arith, most, same)) (λ same. omega (arith, most, same)))
-
 pub size-back : (spec : OtpView) (n : ℕ) → IsSound spec → 2 * (4096 * 2 ^ spec.slot_exponent) ≤ n
     → slot_size (otp_words spec) n ≡ 4096 * 2 ^ spec.slot_exponent
 size-back spec n sound room =
@@ -161,8 +200,10 @@ row-narrow : (spec : OtpView) (row : ℕ) → IsSound spec → row_word spec row
 row-narrow spec row sound =
     either (row == 0x048) (flag_word spec.rollback_required spec.flash_off) _
     (flag-narrow spec.rollback_required spec.flash_off)
-    (either (row == 0x055) spec.slot_exponent (listed spec.rows row) (omega (arith, sound.size))
-    (listed-narrow spec.rows 0 row (recursion_from_All IsListedRow spec.rows sound.listed) (omega arith)))
+    (either (row == 0x055) spec.slot_exponent (listed_from (unlisted spec.secure_boot row) spec.rows row)
+    (omega (arith, sound.size))
+    (listed-narrow spec.rows (unlisted spec.secure_boot row) row
+    (recursion_from_All IsListedRow spec.rows sound.listed) (unlisted-narrow spec.secure_boot row)))
   where
     flag-narrow : (required off : Bool) → flag_word required off < 2 ^ 24
     flag-narrow required off = let few = flag-few required off in omega (arith, few)

@@ -1,5 +1,5 @@
 -- The OTP file of a board that a text describes, as a function of what the text says.
-use Rattle.std.specs.Prelude.{ℕ, ◌+◌, ◌*◌, ◌^◌, ◌==◌, Bool, false, not, if◌then◌else◌, List, [], ◌∷◌, ◌++◌, map, count_by, Result, Ok, Err, codes, decimal}
+use Rattle.std.specs.Prelude.{ℕ, ◌+◌, ◌*◌, ◌^◌, ◌==◌, ◌&&◌, Bool, false, not, nat_le, nat_lt, if◌then◌else◌, List, [], ◌∷◌, ◌++◌, map, count_by, Result, Ok, Err, codes, decimal}
 use Rattle.std.specs.List.{range_with_len}
 use Rattle.block_codec.specs.Words.{bytes_of}
 use Rattle.otp_roll.specs.declared.flags.TheConstants.{BOOT_FLAGS, SLOT_SIZE_ROW}
@@ -8,6 +8,7 @@ use Rattle.table_json.specs.declared.otps.OtpRow.{OtpRow}
 use Rattle.table_json.specs.Otps.{OtpView}
 use Rattle.cli_explain.specs.Texts.{otp_text}
 use Rattle.cli_course.specs.Outcomes.{line, one_file, Work, Answers}
+use Rattle.cli_otp.specs.declared.writing.TheConstants.{FIRST_SECURE_ROW, SECURE_ROWS}
 
 -- the value of the last pair of a row; where there is none, the value before
 abbrev pub listed_from : ℕ → List OtpRow → ℕ → ℕ
@@ -23,12 +24,22 @@ listed pairs row = listed_from 0 pairs row
 abbrev pub flag_word : Bool → Bool → ℕ
 flag_word required off = (if required then 1 else 0) + (if off then 2 else 0)
 
--- a row of the OTP: the boot flags, the exponent of the slot size, or what is listed
+-- the rows that ask for secure boot, 0x040 to 0x047 (RP2350 Datasheet, chapter 13, OTP, CRIT1 and
+-- its copies)
+abbrev pub is_secure_row : ℕ → Bool
+is_secure_row row = nat_le FIRST_SECURE_ROW row && nat_lt row (FIRST_SECURE_ROW + SECURE_ROWS)
+
+-- what stands in a row that is not listed: bit 0 in these rows where secure boot is on
+abbrev pub unlisted : Bool → ℕ → ℕ
+unlisted secure row = if secure && is_secure_row row then 1 else 0
+
+-- a row of the OTP: the boot flags; the exponent of the slot size; the last listed value; or what
+-- stands in a row that is not listed
 abbrev pub row_word : OtpView → ℕ → ℕ
 row_word spec row =
     if row == BOOT_FLAGS then flag_word spec.rollback_required spec.flash_off
     else if row == SLOT_SIZE_ROW then spec.slot_exponent
-    else listed spec.rows row
+    else listed_from (unlisted spec.secure_boot row) spec.rows row
 
 -- the 4096 rows
 unfoldable pub otp_words : OtpView → List ℕ

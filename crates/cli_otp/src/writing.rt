@@ -6,7 +6,7 @@ ghost use Rattle.cli_course.specs.Outcomes.{line, worked};
 ghost use Rattle.cli_course.specs.Views.{answer_from};
 ghost use Rattle.table_json.specs.Otps.{otp_spec_from};
 ghost use Rattle.cli_otp.specs.OtpWords.{flag_word, otp_line, otp_work, otp_words, set_count};
-ghost use Rattle.cli_otp.specs.Setting.{flags_set, rows_set};
+ghost use Rattle.cli_otp.specs.Setting.{first_bits, flags_set, rows_set, secure_set};
 
 use cli_course::{Answer, one_file};
 use cli_explain::otp_text;
@@ -15,6 +15,11 @@ use otp_roll::{BOOT_FLAGS, SLOT_SIZE_ROW};
 use pico_board::{ROWS, SECTOR};
 use std::alloc::{AllocError, Global};
 use table_json::{OtpRow, OtpSpec};
+
+/// The first of the rows that ask for secure boot.
+pub const FIRST_SECURE_ROW: u16 = 0x040;
+/// How many rows ask for secure boot.
+pub const SECURE_ROWS: u16 = 8;
 
 /// So many rows of 0. It fails only where memory is out.
 fn clear_rows(alloc: Global, count: usize) -> Result<Vec<u32>, AllocError>
@@ -40,6 +45,25 @@ fn set_rows(words: &mut Vec<u32>, pairs: &[OtpRow])
 {
     for pair in pairs {
         set_row(words, pair.row as usize, pair.value);
+    }
+}
+
+/// Sets bit 0 alone of each row that asks for secure boot.
+fn set_secure_rows(words: &mut Vec<u32>)
+    ensures { words.new.items
+        ≡ rows_set words.old.items (first_bits FIRST_SECURE_ROW SECURE_ROWS) }
+{
+    for place in 0..SECURE_ROWS {
+        set_row(words, (FIRST_SECURE_ROW + place) as usize, 1);
+    }
+}
+
+/// Sets the rows that ask for secure boot, where it is on.
+fn set_secure(words: &mut Vec<u32>, secure: bool)
+    ensures { words.new.items ≡ secure_set words.old.items secure }
+{
+    if secure {
+        set_secure_rows(words);
     }
 }
 
@@ -72,25 +96,24 @@ fn set_flags(words: &mut Vec<u32>, spec: &OtpSpec)
     set_row(words, BOOT_FLAGS as usize, flags);
 }
 
-/// The rows that are listed, and how many of them are not 0. It fails only where memory is out.
-fn listed_rows(alloc: Global, pairs: &[OtpRow]) -> Result<(Vec<u32>, usize), AllocError>
-    ensures words { IfOk result (λ rows. rows.0.items ≡ rows_set (replicate 4096 0) pairs.now) }
-    ensures count { IfOk result (λ rows. rows.1 ≡ set_count pairs.now) }
+/// How many rows have a last listed value that is not 0. It fails only where memory is out.
+fn set_count(alloc: Global, pairs: &[OtpRow]) -> Result<usize, AllocError>
+    ensures { IfOk result (λ count. count ≡ set_count pairs.now) }
 {
     let mut words = clear_rows(alloc, ROWS as usize)?;
     set_rows(&mut words, pairs);
-    let count = set_rows_in(&words);
-    Ok((words, count))
+    Ok(set_rows_in(&words))
 }
 
-/// The rows of an OTP, and how many listed ones are not 0. It fails only where memory is out.
-fn otp_words(alloc: Global, spec: &OtpSpec) -> Result<(Vec<u32>, usize), AllocError>
-    ensures words { IfOk result (λ rows. rows.0.items ≡ otp_words (otp_spec_from spec.now)) }
-    ensures count { IfOk result (λ rows. rows.1 ≡ set_count (otp_spec_from spec.now).rows) }
+/// The rows of an OTP. It fails only where memory is out.
+fn otp_words(alloc: Global, spec: &OtpSpec) -> Result<Vec<u32>, AllocError>
+    ensures { IfOk result (λ words. words.items ≡ otp_words (otp_spec_from spec.now)) }
 {
-    let (mut words, count) = listed_rows(alloc, &spec.rows)?;
+    let mut words = clear_rows(alloc, ROWS as usize)?;
+    set_secure(&mut words, spec.secure_boot);
+    set_rows(&mut words, &spec.rows);
     set_flags(&mut words, spec);
-    Ok((words, count))
+    Ok(words)
 }
 
 /// Each row in four bytes, the lowest first. It fails only where memory is out.
@@ -138,7 +161,8 @@ pub fn otp<'a>(alloc: Global, json: &JsonOtp, out: &'a str) -> Result<Answer<'a>
     ensures { IfOk result (λ answer. answer_from answer
         ≡ worked (otp_work out.entry.now (Ok (otp_spec_from json.now.spec)))) }
 {
-    let (words, count) = otp_words(alloc, &json.spec)?;
+    let words = otp_words(alloc, &json.spec)?;
+    let count = set_count(alloc, &json.spec.rows)?;
     let line = otp_line(alloc, &json.spec, count)?;
     let bytes = row_bytes(alloc, &words)?;
     one_file(alloc, line, out, bytes)

@@ -29,7 +29,7 @@ word_name Command = codes "COMMAND"
 -- the lines of the usage on a JSON text
 abbrev pub json_note : List ℕ
 json_note =
-    codes "JSON    a JSON text of at most 65536 bytes: for table version, singleton, unpartitioned and\n        partitions; for otp rollback_required, flash_off, slot_size and rows\n"
+    codes "JSON    a JSON text of at most 65536 bytes: for table version, singleton, unpartitioned and\n        partitions; for otp rollback_required, flash_off, slot_size, rows and secure_boot\n"
 
 -- the lines of the usage on an argument
 abbrev pub word_note : Word → List ℕ

@@ -103,7 +103,7 @@ impl Word {
         of the image; those of the binary, and its window delta, are lost, also if left out\n",
             Word::Json | Word::OtpJson =>
                 "JSON    a JSON text of at most 65536 bytes: for table version, singleton, unpartitioned and
-        partitions; for otp rollback_required, flash_off, slot_size and rows\n",
+        partitions; for otp rollback_required, flash_off, slot_size, rows and secure_boot\n",
             Word::Image =>
                 "IMAGE   a file of 1 to 16777216 bytes; for plan and load at most as many as there is room for\n",
             Word::Uf2 =>

@@ -8,4 +8,5 @@ mod FewFaultLemmas
 mod WholeLemmas
 pub mod SpecLemmas
 pub mod OtpLemmas
+mod TextLemmas
 pub mod OtpLaws

@@ -1,9 +1,9 @@
 -- The OTP of a text is sound.
-use Rattle.std.proofs.Common.{◌≡◌, ℕ, zero, suc, ◌+◌, ◌*◌, ◌^◌, ◌<◌, ◌≤◌, Bool, true, false, cond, nat_le, List, [], ◌∷◌, ◌++◌, length, All, Option, Some, None, Result, Ok, Err, IfOk, option_and_then, refl, sym, ap, subst, ◌∙◌, arith, length-append, inl, inr}
+use Rattle.std.proofs.Common.{◌≡◌, ◌≢◌, ℕ, zero, suc, ◌+◌, ◌*◌, ◌^◌, ◌<◌, ◌≤◌, ◌==◌, ◌&&◌, not, Bool, true, false, cond, nat_le, List, [], ◌∷◌, ◌++◌, length, All, Option, Some, None, Result, Ok, Err, IfOk, option_and_then, refl, sym, ap, subst, ◌∙◌, arith, length-append, inl, inr}
 use Rattle.std.specs.Prelude.{◌⊎◌}
 use Rattle.std.specs.List.{find, range_with_len}
 use Rattle.std.proofs.Math.Pow.{pow-lt}
-use Rattle.std.proofs.lemmas.Bool.{cases_lt, eqb-true, leb-true, ne_eqb}
+use Rattle.std.proofs.lemmas.Bool.{cases_lt, eqb-true, leb-true, lt-ltb, ne_eqb}
 use Rattle.std.proofs.lemmas.Bool.Decides.{nat_tests}
 use Rattle.std.proofs.lemmas.List.Elements.{All-append, All-cons}
 use Rattle.serde_json.specs.Data.{Data}
@@ -14,13 +14,13 @@ use Rattle.table_json.specs.declared.fault.JsonFault.{JsonFault}
 use Rattle.table_json.specs.Texts.{IsJsonText}
 use Rattle.table_json.specs.declared.otps.TheConstants.{SLOT_EXPONENTS}
 use Rattle.table_json.specs.declared.fault.Place.TheVariants.{Top}
-use Rattle.table_json.specs.declared.fault.Field.TheVariants.{Rows, RollbackRequired, FlashOff, SlotSize}
+use Rattle.table_json.specs.declared.fault.Field.TheVariants.{Rows, RollbackRequired, FlashOff, SlotSize, SecureBoot}
 use Rattle.table_json.specs.declared.members.Shape.TheVariants.{OfOtp}
 use Rattle.table_json.specs.Members.{object_judged, optional}
-use Rattle.table_json.specs.Forms.{number_below, number_in, values_in}
+use Rattle.table_json.specs.Forms.{if_below, number_in, number_or_text, values_in}
 use Rattle.table_json.specs.Otps.{OtpView, exponent_of, if_listed, is_size_of, listed_pairs, otp_from, otp_spec_from, otp_with, pair_form, pair_in, pairs_after, pairs_form, row_with, size_form}
 use Rattle.table_json.specs.OtpRules.{IsListedRow, IsSound}
-use Rattle.table_json.proofs.SaysLemmas.{number_less, ok_back, optional_has, then_ok}
+use Rattle.table_json.proofs.SaysLemmas.{if_below_less, ok_back, optional_has, then_ok}
 
 -- what is found among the numbers from a on passes the test, and lies among them
 found-among : (p : ℕ → Bool) (a n k : ℕ) → find p (range_with_len a n) ≡ Some k → (k < a + n) × (p k ≡ true)
@@ -66,41 +66,56 @@ size-exponent size k (few, is) =
         let less : 2 ^ j < 2 ^ k = pow-lt below in
         ne_eqb size (4096 * 2 ^ j) (λ same. omega (arith, same, is, less))
 
-pub listed-row : (row r : ℕ) → if_listed row ≡ Some r → (0x0c0 ≤ row) × (row ≤ 0xeff) × (row ≡ r)
+pub listed-row : (row r : ℕ) → if_listed row ≡ Some r
+    → (row < 4096) × (row ≢ 0x048) × (row ≢ 0x055) × (row ≡ r)
 listed-row row r is =
-    let least : 0x0c0 ≤ row = grind (arith, is) in
-    let most : row ≤ 0xeff = grind (arith, is) in
+    let most : row < 4096 = grind (arith, is) in
     let same : row ≡ r = grind (arith, is) in
-    (least, most, same)
+    (most, other 0x048 refl, other 0x055 refl, same)
+  where
+    other : (n : ℕ) → if_listed n ≡ None → row ≢ n
+    other n none here = let both : None ≡ Some r = sym none ∙ (ap if_listed (sym here) ∙ is) in cc
 
-pub row-listed : (row r : ℕ) → (0x0c0 ≤ row) × (row ≤ 0xeff) × (row ≡ r) → if_listed row ≡ Some r
-row-listed row r (least, most, same) = grind (arith, least, most, same)
+pub row-listed : (row r : ℕ) → (row < 4096) × (row ≢ 0x048) × (row ≢ 0x055) × (row ≡ r)
+    → if_listed row ≡ Some r
+row-listed row r (most, flags, size, same) =
+    ap (λ t. cond ((t && not (row == 0x048)) && not (row == 0x055)) (Some row) None) (lt-ltb row 4096 most)
+    ∙ ap (λ t. cond (not t && not (row == 0x055)) (Some row) None) (ne_eqb row 0x048 flags)
+    ∙ ap (λ t. cond (not t) (Some row) None) (ne_eqb row 0x055 size)
+    ∙ ap Some same
 
 -- a pair that is read is sound
 pair-sound : (d : Data) (pair : OtpRow) → pair_form d ≡ Some pair → IsListedRow pair
 pair-sound d pair is = by_list (values_in d) is
   where
-    parts : (a b : Option ℕ) → ((r : ℕ) → a ≡ Some r → (0x0c0 ≤ r) × (r ≤ 0xeff))
+    parts : (a b : Option ℕ) → ((r : ℕ) → a ≡ Some r → (r < 4096) × (r ≢ 0x048) × (r ≢ 0x055))
         → ((v : ℕ) → b ≡ Some v → v < 2 ^ 24) → row_with a b ≡ Some pair → IsListedRow pair
     parts (Some r) (Some v) one two is =
         let same : record { row = r; value = v } ≡ pair = cc in
         subst IsListedRow same
-        (record { least = (one r refl).0; most = (one r refl).1; narrow = two v refl })
+        (let row = one r refl in
+        record { most = omega (arith, row.0); flags = row.1; size = row.2; narrow = two v refl })
     parts None b one two is = cc
     parts (Some r) None one two is = cc
 
-    row_in : (o : Option ℕ) (r : ℕ) → option_and_then if_listed o ≡ Some r → (0x0c0 ≤ r) × (r ≤ 0xeff)
+    row_in : (o : Option ℕ) (r : ℕ) → option_and_then if_listed o ≡ Some r
+        → (r < 4096) × (r ≢ 0x048) × (r ≢ 0x055)
     row_in None r is = cc
     row_in (Some n) r is =
-        let listed = listed-row n r is in
-        (omega (arith, listed.0, listed.2), omega (arith, listed.1, listed.2))
+        let (most, flags, size, same) = listed-row n r is in
+        subst (λ (k : ℕ). (k < 4096) × (k ≢ 0x048) × (k ≢ 0x055)) same (most, flags, size)
+
+    word_in : (o : Option ℕ) (v : ℕ) → option_and_then (if_below (2 ^ 24)) o ≡ Some v → v < 2 ^ 24
+    word_in None v is = cc
+    word_in (Some n) v is = if_below_less (2 ^ 24) n v is
 
     in_list : (ds : List Data) → pair_in ds ≡ Some pair → IsListedRow pair
     in_list [] is = cc
     in_list (a ∷ []) is = cc
     in_list (a ∷ b ∷ []) is =
-        parts (option_and_then if_listed (number_in a)) (number_below (2 ^ 24) b) (row_in (number_in a))
-        (number_less (2 ^ 24) b) is
+        parts (option_and_then if_listed (number_or_text a))
+        (option_and_then (if_below (2 ^ 24)) (number_or_text b)) (row_in (number_or_text a))
+        (word_in (number_or_text b)) is
     in_list (a ∷ b ∷ e ∷ ds) is = cc
 
     by_list : (o : Option (List Data)) → option_and_then pair_in o ≡ Some pair → IsListedRow pair
@@ -166,7 +181,8 @@ otp-sound d spec is =
     let off = then_ok (optional as_bool false Top FlashOff d) _ spec required.2 in
     let exponent = then_ok (optional size_form 0 Top SlotSize d) _ spec off.2 in
     let rows = then_ok (optional pairs_form [] Top Rows d) _ spec exponent.2 in
-    let made : otp_with required.0 off.0 exponent.0 rows.0 ≡ spec = ok_back _ _ rows.2 in
+    let secure = then_ok (optional as_bool false Top SecureBoot d) _ spec rows.2 in
+    let made : otp_with required.0 off.0 exponent.0 rows.0 secure.0 ≡ spec = ok_back _ _ secure.2 in
     let none : AreSoundPairs 4096 [] =
     record { few = omega arith; listed = none-sound } in
     let pairs = optional_has pairs_form (AreSoundPairs 4096) pairs-few Top Rows d [] none rows.0 rows.1 in

@@ -16,7 +16,7 @@ use Rattle.table_json.specs.declared.members.Shape.{Shape}
 use Rattle.table_json.specs.Steps.{◌>>=◌}
 use Rattle.table_json.specs.Members.{member_name, has_unknown, object_judged_as, object_judged, required_in, required, optional_in, optional}
 use Rattle.table_json.specs.declared.fault.Place.TheVariants.{Top, Unpartitioned as Outside, Partition as Numbered}
-use Rattle.table_json.specs.declared.fault.Field.TheVariants.{Version as OfVersion, Singleton, Unpartitioned, Partitions, Families as OfFamilies, Permissions, First, Last, Id, Name, Link, IgnoreArm, IgnoreRiscv, NoReboot, Processor, Rollback, Rows, Trial, RollbackRequired, FlashOff, SlotSize}
+use Rattle.table_json.specs.declared.fault.Field.TheVariants.{Version as OfVersion, Singleton, Unpartitioned, Partitions, Families as OfFamilies, Permissions, First, Last, Id, Name, Link, IgnoreArm, IgnoreRiscv, NoReboot, Processor, Rollback, Rows, Trial, RollbackRequired, FlashOff, SlotSize, SecureBoot}
 use Rattle.table_json.specs.declared.members.Shape.TheVariants.{OfTable, OfUnpartitioned, OfPartition, OfSpec, OfOtp}
 use Rattle.table_json.specs.Forms.{number_below, version_form, link_form, permissions_form}
 use Rattle.table_json.specs.Families.{names_form, families_form, no_families}
@@ -205,4 +205,5 @@ otp_plain d =
     (λ judged. optional_then as_bool false Top RollbackRequired d _
     (λ required. optional_then as_bool false Top FlashOff d _
     (λ off. optional_then size_form 0 Top SlotSize d _
-    (λ exponent. optional_then pairs_form [] Top Rows d _ (λ rows. ok_plain _)))))
+    (λ exponent. optional_then pairs_form [] Top Rows d _
+    (λ rows. optional_then as_bool false Top SecureBoot d _ (λ secure. ok_plain _))))))

@@ -10,7 +10,7 @@ use Rattle.part_table.specs.declared.partition.Partition.{Partition}
 use Rattle.table_json.specs.declared.fault.Place.{Place}
 use Rattle.table_json.specs.declared.fault.Place.TheVariants.{Top, Unpartitioned as Outside, Partition as Numbered}
 use Rattle.table_json.specs.declared.fault.Field.{Field}
-use Rattle.table_json.specs.declared.fault.Field.TheVariants.{Version, Singleton, Unpartitioned, Families, Permissions, Partitions, First, Last, Id, Name, Link, IgnoreArm, IgnoreRiscv, NoReboot, Processor, Rollback, Rows, Trial, RollbackRequired, FlashOff, SlotSize}
+use Rattle.table_json.specs.declared.fault.Field.TheVariants.{Version, Singleton, Unpartitioned, Families, Permissions, Partitions, First, Last, Id, Name, Link, IgnoreArm, IgnoreRiscv, NoReboot, Processor, Rollback, Rows, Trial, RollbackRequired, FlashOff, SlotSize, SecureBoot}
 use Rattle.table_json.specs.declared.fault.JsonFault.{JsonFault}
 use Rattle.table_json.specs.declared.fault.JsonFault.TheVariants.{Unknown, Missing, Value}
 use Rattle.table_json.specs.declared.members.Shape.{Shape}
@@ -271,8 +271,11 @@ fields_first d =
         kept (Err fault) is = is
 
 -- the rules of an OTP from each on
+abbrev otp_from_secure : Data → List Rule
+otp_from_secure d = optional_rules as_bool Top SecureBoot d
+
 abbrev otp_from_rows : Data → List Rule
-otp_from_rows d = optional_rules pairs_form Top Rows d
+otp_from_rows d = optional_rules pairs_form Top Rows d ++ otp_from_secure d
 
 abbrev otp_from_size : Data → List Rule
 otp_from_size d = optional_rules size_form Top SlotSize d ++ otp_from_rows d
@@ -289,4 +292,5 @@ otp_first d =
     (optional_step (otp_from_off d) as_bool false Top RollbackRequired d _
     (λ required. optional_step (otp_from_size d) as_bool false Top FlashOff d _
     (λ off. optional_step (otp_from_rows d) size_form 0 Top SlotSize d _
-    (λ exponent. optional_step [] pairs_form [] Top Rows d _ (λ rows. refl)))))
+    (λ exponent. optional_step (otp_from_secure d) pairs_form [] Top Rows d _
+    (λ rows. optional_step [] as_bool false Top SecureBoot d _ (λ secure. refl))))))

@@ -52,7 +52,7 @@ module _ {A : Type 0} (form : Data → Option A) (P : A → Type 0) (keeps : (x 
       found (Some x) is = keeps x a (some_if_ok (form x) (Value place field) a is)
 
 -- a number below a bound is below it
-if_below_less : (bound m n : ℕ) → if_below bound m ≡ Some n → n < bound
+pub if_below_less : (bound m n : ℕ) → if_below bound m ≡ Some n → n < bound
 if_below_less bound m n is = grind (arith, is)
 
 pub number_less : (bound : ℕ) (d : Data) (n : ℕ) → number_below bound d ≡ Some n → n < bound

@@ -1,12 +1,14 @@
 -- The forms of the values of members: a form reads a value, or refuses it.
-use Rattle.std.specs.Prelude.{ℕ, ◌+◌, ◌*◌, if◌then◌else◌, List, [], ◌∷◌, length, nat_lt, nat_le, codes, bytes_eq}
+use Rattle.std.specs.Prelude.{ℕ, ◌+◌, ◌*◌, ◌&&◌, if◌then◌else◌, List, [], ◌∷◌, length, nat_lt, nat_le, codes, bytes_eq}
 use Rattle.std.specs.Prelude.{Option, None, Some, option_map, option_and_then}
+use Rattle.std.specs.Option.{option_or}
 use Rattle.arrayvec.specs.ArrayVec.{ArrayVec}
 use Rattle.block_codec.specs.declared.versions.Version.{Version}
 use Rattle.serde_json.specs.Data.{Data, Items, no_items, item, Members}
 use Rattle.serde_json.specs.Find.{get, as_number, as_u64, as_str, as_array, as_object}
 use Rattle.table_json.specs.declared.members.Shape.TheVariants.{OfPermissions}
 use Rattle.table_json.specs.Members.{has_unknown}
+use Rattle.text_words.specs.Reading.{behind_word, hex_value}
 
 -- the values of a list, in its order
 abbrev pub values_of : Items → List Data
@@ -26,6 +28,18 @@ if_below bound n = if nat_lt n bound then Some n else None
 
 abbrev pub number_below : ℕ → Data → Option ℕ
 number_below bound d = option_and_then (if_below bound) (number_in d)
+
+-- a text names a number by 0x and 1 to 6 hexadecimal digits of either case
+abbrev pub number_of_digits : List ℕ → Option ℕ
+number_of_digits digits =
+    if nat_le 1 (length digits) && nat_le (length digits) 6 then hex_value 0 digits else None
+
+abbrev pub number_of_text : List ℕ → Option ℕ
+number_of_text text = option_and_then number_of_digits (behind_word (codes "0x") text)
+
+-- a number, or a text that names one
+abbrev pub number_or_text : Data → Option ℕ
+number_or_text d = option_or (number_in d) (option_and_then number_of_text (as_str d))
 
 -- a version is a list of two numbers below 65,536, major first
 abbrev pub version_of_numbers : Option ℕ → Option ℕ → Option Version

@@ -6,7 +6,7 @@ use Rattle.serde_json.specs.Data.{Data, Members, no_members, member}
 use Rattle.serde_json.specs.Find.{get, as_object}
 use Rattle.table_json.specs.declared.fault.Place.{Place}
 use Rattle.table_json.specs.declared.fault.Field.{Field}
-use Rattle.table_json.specs.declared.fault.Field.TheVariants.{Version, Singleton, Unpartitioned, Families, Permissions, Partitions, First, Last, Id, Name, Link, IgnoreArm, IgnoreRiscv, NoReboot, Processor, Rollback, Rows, Trial, RollbackRequired, FlashOff, SlotSize}
+use Rattle.table_json.specs.declared.fault.Field.TheVariants.{Version, Singleton, Unpartitioned, Families, Permissions, Partitions, First, Last, Id, Name, Link, IgnoreArm, IgnoreRiscv, NoReboot, Processor, Rollback, Rows, Trial, RollbackRequired, FlashOff, SlotSize, SecureBoot}
 use Rattle.table_json.specs.declared.fault.JsonFault.{JsonFault}
 use Rattle.table_json.specs.declared.fault.JsonFault.TheVariants.{Unknown, Missing, Value}
 use Rattle.table_json.specs.declared.members.Shape.{Shape}
@@ -35,6 +35,7 @@ member_name Trial = codes "trial"
 member_name RollbackRequired = codes "rollback_required"
 member_name FlashOff = codes "flash_off"
 member_name SlotSize = codes "slot_size"
+member_name SecureBoot = codes "secure_boot"
 
 -- the names that are listed for a partition, in two parts
 abbrev pub place_names : List (List ℕ)
@@ -56,7 +57,8 @@ names_of OfPermissions = codes "secure" ∷ codes "nonsecure" ∷ codes "bootloa
 names_of OfSpec =
     codes "processor" ∷ codes "version" ∷ codes "rollback" ∷ codes "rows" ∷ codes "trial" ∷ []
 names_of OfOtp =
-    codes "rollback_required" ∷ codes "flash_off" ∷ codes "slot_size" ∷ codes "rows" ∷ []
+    codes "rollback_required" ∷ codes "flash_off" ∷ codes "slot_size" ∷ codes "rows"
+    ∷ codes "secure_boot" ∷ []
 
 -- whether a name is listed for an object
 abbrev pub is_member_name : Shape → List ℕ → Bool

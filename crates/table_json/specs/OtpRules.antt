@@ -1,5 +1,5 @@
 -- What the text of an OTP is, and which fault another text has first.
-use Rattle.std.specs.Prelude.{◌≡◌, ◌^◌, ◌<◌, ◌≤◌, ℕ, List, length, All, None, Some, Ok}
+use Rattle.std.specs.Prelude.{◌≡◌, ◌≢◌, ◌^◌, ◌<◌, ◌≤◌, ℕ, List, length, All, None, Some, Ok}
 use Rattle.serde_json.specs.Data.{Data}
 use Rattle.table_json.specs.declared.otps.OtpRow.{OtpRow}
 use Rattle.table_json.specs.declared.fault.JsonFault.{JsonFault}
@@ -18,10 +18,12 @@ pub record IsOtpText (bytes : List ℕ) (spec : OtpView) : Type 0 where
 abbrev pub IsOtpFault : Data → JsonFault → Type 0
 IsOtpFault d fault = first_broken (otp_rules d) ≡ Some fault
 
--- a row that may be listed, and a value of 24 bits
+-- a row that may be listed, and a value of 24 bits: any row but that of the boot flags, 0x048, and
+-- that of the slot size, 0x055
 pub record IsListedRow (pair : OtpRow) : Type 0 where
-  pub least : 0x0c0 ≤ pair.row
-  pub most : pair.row ≤ 0xeff
+  pub most : pair.row ≤ 0xfff
+  pub flags : pair.row ≢ 0x048
+  pub size : pair.row ≢ 0x055
   pub narrow : pair.value < 2 ^ 24
 
 -- what the OTP of a text is: the slot size is 4096 to 8,388,608, and at most 4096 pairs are

@@ -8,7 +8,7 @@ use Rattle.serde_json.specs.Find.{get, as_object, as_bool}
 use Rattle.table_json.specs.declared.fault.Place.{Place}
 use Rattle.table_json.specs.declared.fault.Place.TheVariants.{Top, Unpartitioned as Outside, Partition as Numbered}
 use Rattle.table_json.specs.declared.fault.Field.{Field}
-use Rattle.table_json.specs.declared.fault.Field.TheVariants.{Version, Singleton, Unpartitioned, Families, Permissions, Partitions, First, Last, Id, Name, Link, IgnoreArm, IgnoreRiscv, NoReboot, Processor, Rollback, Rows, Trial, RollbackRequired, FlashOff, SlotSize}
+use Rattle.table_json.specs.declared.fault.Field.TheVariants.{Version, Singleton, Unpartitioned, Families, Permissions, Partitions, First, Last, Id, Name, Link, IgnoreArm, IgnoreRiscv, NoReboot, Processor, Rollback, Rows, Trial, RollbackRequired, FlashOff, SlotSize, SecureBoot}
 use Rattle.table_json.specs.declared.fault.JsonFault.{JsonFault}
 use Rattle.table_json.specs.declared.fault.JsonFault.TheVariants.{Unknown, Missing, Value}
 use Rattle.table_json.specs.declared.members.Shape.{Shape}
@@ -128,3 +128,4 @@ otp_rules d =
     ++ optional_rules as_bool Top FlashOff d
     ++ optional_rules size_form Top SlotSize d
     ++ optional_rules pairs_form Top Rows d
+    ++ optional_rules as_bool Top SecureBoot d

@@ -62,6 +62,8 @@ pub enum Field {
     FlashOff,
     /// The size of a slot of a flash without a table.
     SlotSize,
+    /// Whether a board asks for secure boot.
+    SecureBoot,
 }
 
 /// Why a text is no table, no spec or no OTP: the first that applies.
@@ -118,6 +120,7 @@ impl Field {
             Field::RollbackRequired => "rollback_required",
             Field::FlashOff => "flash_off",
             Field::SlotSize => "slot_size",
+            Field::SecureBoot => "secure_boot",
         }
     }
 }

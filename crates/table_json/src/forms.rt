@@ -2,12 +2,13 @@
 
 ghost use Rattle.std.specs.Prelude.{◌≡◌, ◌%◌, ◌<◌, ◌≤◌, ◌^◌, length, map, IfSome, option_map};
 ghost use Rattle.serde_json.specs.View.{view};
-ghost use Rattle.table_json.specs.Forms.{values_in, number_in, number_below, version_in_list, version_form, name_of_text, name_form, link_type_of, link_in, link_form, rights_of, rights_form, rights_for, permissions_in, permissions_form};
+ghost use Rattle.table_json.specs.Forms.{values_in, number_in, number_below, number_of_digits, number_of_text, number_or_text, version_in_list, version_form, name_of_text, name_form, link_type_of, link_in, link_form, rights_of, rights_form, rights_for, permissions_in, permissions_form};
 
 use crate::members::{Shape, has_unknown, is_word};
 use arrayvec::ArrayVec;
 use block_codec::Version;
 use serde_json::Value;
+use text_words::{behind_word, hex_number};
 
 /// The values of a list.
 pub(crate) fn values(value: &Value) -> Option<&[Value]>
@@ -23,6 +24,33 @@ pub(crate) fn number_below(value: &Value, bound: u64) -> Option<u64>
 {
     let number = value.as_u64()?;
     if number < bound { Some(number) } else { None }
+}
+
+/// The number of 1 to 6 hexadecimal digits of either case.
+fn number_of_digits(digits: &[u8]) -> Option<u64>
+    ensures { result ≡ number_of_digits digits.now }
+{
+    if digits.is_empty() || digits.len() > 6 {
+        return None;
+    }
+    Some(u64::from(hex_number(digits)?))
+}
+
+/// The number that a text names by 0x and 1 to 6 hexadecimal digits of either case.
+fn number_of_text(text: &str) -> Option<u64>
+    ensures { result ≡ number_of_text text.now }
+{
+    number_of_digits(behind_word(text.as_bytes(), b"0x".as_slice())?)
+}
+
+/// A number, or that which a text names.
+pub(crate) fn number_or_text(value: &Value) -> Option<u64>
+    ensures { result ≡ number_or_text (view value.now) }
+{
+    match value.as_u64() {
+        Some(number) => Some(number),
+        None => number_of_text(value.as_str()?),
+    }
 }
 
 /// A number below 65,536.

@@ -15,8 +15,6 @@ mod seals;
 mod tables;
 
 pub use fault::{Field, JsonFault, Place};
-pub use otps::{
-    FIRST_LISTED, LAST_LISTED, MOST_LISTED, OtpRow, OtpSpec, SLOT_EXPONENTS, otp_spec_of,
-};
+pub use otps::{MOST_LISTED, OtpRow, OtpSpec, SLOT_EXPONENTS, otp_spec_of};
 pub use seals::spec_of;
 pub use tables::table_of;

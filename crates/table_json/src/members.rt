@@ -105,6 +105,7 @@ fn is_otp_member(name: &str) -> bool
         || is_word(name, "flash_off")
         || is_word(name, "slot_size")
         || is_word(name, "rows")
+        || is_word(name, "secure_boot")
 }
 
 /// Whether a name is listed for an object.

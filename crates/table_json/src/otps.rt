@@ -1,27 +1,24 @@
 //! The OTP of a board, from a text.
 
-ghost use Rattle.std.specs.Prelude.{◌≡◌, ◌≢◌, ◌≤◌, [], length, map, Option, None, Ok, Err, IfOk, IfErr, option_and_then};
+ghost use Rattle.std.specs.Prelude.{◌≡◌, ◌≢◌, ◌≤◌, ◌^◌, [], length, map, Option, None, Ok, Err, IfOk, IfErr, option_and_then};
 ghost use Rattle.serde_json.specs.Data.{Data};
 ghost use Rattle.serde_json.specs.View.{view};
-ghost use Rattle.table_json.specs.Forms.{number_below, number_in};
+ghost use Rattle.table_json.specs.Forms.{if_below, number_in, number_or_text};
 ghost use Rattle.table_json.specs.Members.{optional};
 ghost use Rattle.table_json.specs.Otps.{exponent_of, if_listed, listed_pairs, otp_answer, otp_from, otp_spec_from, pair_form, pair_in, pairs_after, pairs_form, pairs_read, rows_answer, size_form};
 ghost use Rattle.table_json.specs.OtpRules.{IsSound};
 ghost use Rattle.table_json.specs.Texts.{IsJsonText};
 
-use crate::forms::{number_below, values};
+use crate::forms::{number_or_text, values};
 use crate::members::{Shape, judge_object};
 use crate::partitions::truth;
 use crate::reading::read;
 use crate::{Field, JsonFault, Place};
-use pico_board::SECTOR;
+use otp_roll::{BOOT_FLAGS, SLOT_SIZE_ROW};
+use pico_board::{ROWS, SECTOR};
 use serde_json::Value;
 use std::alloc::{AllocError, Global};
 
-/// The first row that may be listed.
-pub const FIRST_LISTED: u16 = 0x0c0;
-/// The last row that may be listed.
-pub const LAST_LISTED: u16 = 0xeff;
 /// The most rows that may be listed.
 pub const MOST_LISTED: usize = 4096;
 /// How many slot sizes there are: 4096 times 2 to 0, to 1 and so on.
@@ -48,6 +45,8 @@ pub struct OtpSpec {
     pub slot_exponent: u32,
     /// Rows and their values. Of a row that comes twice the later value counts.
     pub rows: Vec<OtpRow>,
+    /// Whether secure boot is on.
+    pub secure_boot: bool,
 }
 
 /// The exponent of a slot size.
@@ -70,11 +69,11 @@ fn size_form(value: &Value) -> Option<u32>
     exponent_of(value.as_u64()?)
 }
 
-/// A row that may be listed.
+/// A row that may be listed: one of the 4096, but not that of the boot flags or of the slot size.
 fn if_listed(row: u64) -> Option<u16>
     ensures { result ≡ if_listed row }
 {
-    if FIRST_LISTED as u64 <= row && row <= LAST_LISTED as u64 {
+    if row < ROWS as u64 && row != BOOT_FLAGS as u64 && row != SLOT_SIZE_ROW as u64 {
         Some(row as u16)
     } else {
         None
@@ -83,9 +82,21 @@ fn if_listed(row: u64) -> Option<u16>
 
 /// The row of a value, where it may be listed.
 fn row_in(value: &Value) -> Option<u16>
-    ensures { result ≡ option_and_then if_listed (number_in (view value.now)) }
+    ensures { result ≡ option_and_then if_listed (number_or_text (view value.now)) }
 {
-    if_listed(value.as_u64()?)
+    if_listed(number_or_text(value)?)
+}
+
+/// The 24 bits of a value.
+fn word_in(value: &Value) -> Option<u32>
+    ensures { result ≡ option_and_then (if_below (2 ^ 24)) (number_or_text (view value.now)) }
+{
+    let number = number_or_text(value)?;
+    if number < 1 << 24 {
+        Some(number as u32)
+    } else {
+        None
+    }
 }
 
 /// The row and the value of two values.
@@ -95,7 +106,7 @@ fn pair_in(values: &[Value]) -> Option<OtpRow>
     match values {
         [row, value] => Some(OtpRow {
             row: row_in(row)?,
-            value: number_below(value, 1 << 24)? as u32,
+            value: word_in(value)?,
         }),
         _ => None,
     }
@@ -185,6 +196,7 @@ fn otp_in(alloc: Global, value: &Value) -> Result<OtpSpec, JsonFault>
         flash_off: truth(value, Place::Top, Field::FlashOff)?,
         slot_exponent: slot_exponent(value)?,
         rows: rows(alloc, value)?,
+        secure_boot: truth(value, Place::Top, Field::SecureBoot)?,
     })
 }
 

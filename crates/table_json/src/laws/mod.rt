@@ -1,11 +1,13 @@
 //! Laws of the definitions, proved: each is the `ensures` of a function that does nothing.
 
-ghost use Rattle.std.specs.Prelude.{◌≡◌, ◌≢◌, ◌↔◌, ◌*◌, ◌^◌, ◌<◌, ◌≤◌, ℕ, List, Result, Ok, Err, Some};
+ghost use Rattle.std.specs.Prelude.{◌≡◌, ◌≢◌, ◌↔◌, ◌*◌, ◌^◌, ◌++◌, ◌<◌, ◌≤◌, ℕ, List, length, codes, Result, Ok, Err, Some};
 ghost use Rattle.std.specs.Result.{result_err};
 ghost use Rattle.serde_json.specs.Data.{Data};
 ghost use Rattle.part_table.specs.declared.partition.Partition.{Partition};
 ghost use Rattle.part_table.specs.declared.table.TableFault.{TableFault};
 ghost use Rattle.table_json.specs.declared.fault.JsonFault.{JsonFault};
+ghost use Rattle.text_words.specs.Reading.{hex_value};
+ghost use Rattle.table_json.specs.Forms.{number_of_text};
 ghost use Rattle.table_json.specs.Partitions.{partition_of_value};
 ghost use Rattle.table_json.specs.Says.{SaysText};
 ghost use Rattle.table_json.specs.Rules.{first_broken, table_rules, spec_rules, otp_rules};
@@ -82,11 +84,19 @@ pub fn specs_have_half_words()
 {}
 
 /// The slot size of an OTP is 4096 times a power of two, at most 8,388,608. A row that may be
-/// listed is one from 0x0c0 to 0xeff.
+/// listed is any of the 4096 but 0x048 and 0x055.
 pub fn sizes_and_rows_of_otps()
     ensures size { (size k : ℕ) → (exponent_of size ≡ Some k) ↔ ((k ≤ 11) × (size ≡ 4096 * 2 ^ k)) }
     ensures row { (row r : ℕ) → (if_listed row ≡ Some r)
-        ↔ ((0x0c0 ≤ row) × (row ≤ 0xeff) × (row ≡ r)) }
+        ↔ ((row < 4096) × (row ≢ 0x048) × (row ≢ 0x055) × (row ≡ r)) }
+{}
+
+/// A text names a number exactly where it is 0x and 1 to 6 hexadecimal digits of either case: the
+/// number of these digits.
+pub fn texts_name_numbers()
+    ensures { (text : List ℕ) (n : ℕ) → (number_of_text text ≡ Some n)
+        ↔ ((digits : List ℕ) × (text ≡ codes "0x" ++ digits) × (1 ≤ length digits)
+        × (length digits ≤ 6) × (hex_value 0 digits ≡ Some n)) }
 {}
 
 /// The OTP of a text is sound: its slot size is one of these, and it lists at most 4096 pairs.

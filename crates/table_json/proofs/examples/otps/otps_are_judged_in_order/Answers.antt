@@ -22,3 +22,11 @@ returns-clause-off_size c = refl
 pub returns-clause-size_rows : goal.returns-clause-size_rows
 unfolding serde_json_on_literals exponent_of
 returns-clause-size_rows c = refl
+
+pub returns-clause-rows_secure : goal.returns-clause-rows_secure
+unfolding serde_json_on_literals exponent_of
+returns-clause-rows_secure c = refl
+
+pub returns-clause-unknown_secure : goal.returns-clause-unknown_secure
+unfolding serde_json_on_literals exponent_of
+returns-clause-unknown_secure c = refl

@@ -15,6 +15,18 @@ pub returns-clause-repeated : goal.returns-clause-repeated
 unfolding serde_json_on_literals exponent_of
 returns-clause-repeated c = refl
 
+pub returns-clause-beside_settings : goal.returns-clause-beside_settings
+unfolding serde_json_on_literals exponent_of
+returns-clause-beside_settings c = refl
+
+pub returns-clause-beside_secure : goal.returns-clause-beside_secure
+unfolding serde_json_on_literals exponent_of
+returns-clause-beside_secure c = refl
+
+pub returns-clause-no_secure : goal.returns-clause-no_secure
+unfolding serde_json_on_literals exponent_of
+returns-clause-no_secure c = refl
+
 pub returns-clause-least_slot : goal.returns-clause-least_slot
 unfolding serde_json_on_literals exponent_of
 returns-clause-least_slot c = refl

@@ -51,13 +51,57 @@ pub returns-clause-three : goal.returns-clause-three
 unfolding serde_json_on_literals exponent_of
 returns-clause-three c = refl
 
-pub returns-clause-low_row : goal.returns-clause-low_row
+pub returns-clause-row_of_flags : goal.returns-clause-row_of_flags
 unfolding serde_json_on_literals exponent_of
-returns-clause-low_row c = refl
+returns-clause-row_of_flags c = refl
+
+pub returns-clause-row_of_size : goal.returns-clause-row_of_size
+unfolding serde_json_on_literals exponent_of
+returns-clause-row_of_size c = refl
+
+pub returns-clause-text_of_flags : goal.returns-clause-text_of_flags
+unfolding serde_json_on_literals exponent_of
+returns-clause-text_of_flags c = refl
+
+pub returns-clause-text_of_size : goal.returns-clause-text_of_size
+unfolding serde_json_on_literals exponent_of
+returns-clause-text_of_size c = refl
 
 pub returns-clause-high_row : goal.returns-clause-high_row
 unfolding serde_json_on_literals exponent_of
 returns-clause-high_row c = refl
+
+pub returns-clause-high_text : goal.returns-clause-high_text
+unfolding serde_json_on_literals exponent_of
+returns-clause-high_text c = refl
+
+pub returns-clause-long_row : goal.returns-clause-long_row
+unfolding serde_json_on_literals exponent_of
+returns-clause-long_row c = refl
+
+pub returns-clause-long_value : goal.returns-clause-long_value
+unfolding serde_json_on_literals exponent_of
+returns-clause-long_value c = refl
+
+pub returns-clause-no_digits : goal.returns-clause-no_digits
+unfolding serde_json_on_literals exponent_of
+returns-clause-no_digits c = refl
+
+pub returns-clause-truth_row : goal.returns-clause-truth_row
+unfolding serde_json_on_literals exponent_of
+returns-clause-truth_row c = refl
+
+pub returns-clause-secure_number : goal.returns-clause-secure_number
+unfolding serde_json_on_literals exponent_of
+returns-clause-secure_number c = refl
+
+pub returns-clause-secure_text : goal.returns-clause-secure_text
+unfolding serde_json_on_literals exponent_of
+returns-clause-secure_text c = refl
+
+pub returns-clause-text_slot : goal.returns-clause-text_slot
+unfolding serde_json_on_literals exponent_of
+returns-clause-text_slot c = refl
 
 pub returns-clause-wide : goal.returns-clause-wide
 unfolding serde_json_on_literals exponent_of

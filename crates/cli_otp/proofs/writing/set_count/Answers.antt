@@ -1,15 +1,11 @@
 use Rattle.std.proofs.Common.{ℕ, ◌∙◌, ◌==◌, ap, count_by, not, List}
 use Rattle.cli_otp.specs.Setting.{rows_set}
 use Rattle.cli_otp.proofs.WordLemmas.{count-is}
-use Rattle.cli_otp.proofs.writing.listed_rows.Goals as goal
+use Rattle.cli_otp.proofs.writing.set_count.Goals as goal
 
-pub returns-clause-words : goal.returns-clause-words
-returns-clause-words c =
-    c.set_rows.ensures ∙ ap (λ (words : List ℕ). rows_set words c.args.pairs.now) c.in_ok-words.ensures
-
-pub returns-clause-count : goal.returns-clause-count
-returns-clause-count c =
-    c.set_rows_in-count.ensures
+pub returns : goal.returns
+returns c =
+    c.set_rows_in.ensures
     ∙ ap (λ (words : List ℕ). count_by (λ word. not (word == 0)) words)
     (c.deref.ensures.value ∙ (c.set_rows.ensures
     ∙ ap (λ (words : List ℕ). rows_set words c.args.pairs.now) c.in_ok-words.ensures))
