@@ -12,35 +12,43 @@ use Rattle.boot_reasons.specs.Rules.{IsExplained}
 use Rattle.boot_reasons.proofs.ReasonLemmas.{reasons-only, reasons-right}
 use Rattle.boot_caveats.specs.declared.caveat.Caveat.{Caveat}
 use Rattle.boot_caveats.specs.Listing.{AreBoth}
-use Rattle.boot_caveats.specs.Caveats.{board_caveats, caveats_by, caveats_in, choice_caveats, window_caveats}
-use Rattle.boot_caveats.specs.Rules.{AreBoardCaveats, AreCaveats, AreChoiceCaveats, AreWindowCaveats}
+use Rattle.boot_caveats.specs.Caveats.{board_caveats, caveats_by, caveats_in, choice_caveats, last_caveats, window_caveats}
+use Rattle.boot_caveats.specs.Rules.{AreBoardCaveats, AreCaveats, AreChoiceCaveats, AreLastCaveats, AreWindowCaveats}
 use Rattle.boot_caveats.proofs.ListingLemmas.{IsJust, both-just}
-use Rattle.boot_caveats.proofs.OtpLemmas.{otp-just}
+use Rattle.boot_caveats.proofs.OtpLemmas.{critical-just, otp-just, slots-short-just}
 use Rattle.boot_caveats.proofs.TableCaveatLemmas.{short-just, tie-just as table-tie-just, unread-just}
-use Rattle.boot_caveats.proofs.ChoiceCaveatLemmas.{moves-just, other-just, slot-update-just, slots-just, tie-just}
+use Rattle.boot_caveats.proofs.ChoiceCaveatLemmas.{moves-just, nothing-just, other-just, slot-update-just, slots-just, tie-just}
+use Rattle.boot_caveats.proofs.PartLemmas.{ignores-just, reads-just}
 use Rattle.boot_caveats.proofs.StartCaveatLemmas.{rows-just, table-just}
 use Rattle.boot_caveats.proofs.ImageCaveatLemmas.{late-just, orders-just, owned-just, starts-just}
 
 pub all-just : (c : Content) (cpu : Cpu) (kind : BootKind) (r : Reasons) → IsExplained c cpu kind r
-    → IsJust (AreBoth (AreBoardCaveats c r) (AreBoth (AreChoiceCaveats c cpu kind r) (AreWindowCaveats c cpu r)))
+    → IsJust (AreBoth (AreBoardCaveats c r) (AreBoth (AreChoiceCaveats c cpu kind r)
+    (AreBoth (AreWindowCaveats c cpu r) (AreLastCaveats c cpu kind r))))
     (caveats_by c cpu kind r)
 unfolding caveats_by
 all-just c cpu kind r is =
     both-just _ _
     (both-just _ _ (otp-just c.otp)
     (both-just _ _ (short-just (length c.flash) 0 r.first)
-    (both-just _ _ (short-just (length c.flash) 1 r.second) (table-just c r.decision))))
+    (both-just _ _ (short-just (length c.flash) 1 r.second)
+    (both-just _ _ (slots-short-just c.otp (length c.flash)) (table-just c r.decision)))))
     (both-just _ _
     (both-just _ _ (other-just c cpu kind r.decision)
     (both-just _ _ (slots-just c cpu r.decision r.size r.table is.table is.size)
     (both-just _ _ (tie-just r.looks.items)
     (both-just _ _ (slot-update-just c r.size is.size kind r.table is.table)
     (both-just _ _ (moves-just (boot_units_in c cpu) kind) (rows-just c.otp r.decision))))))
+    (both-just _ _
     (both-just _ _ (late-just c r.decision r.size r.looks.items)
     (both-just _ _ (orders-just c cpu r.looks.items)
     (both-just _ _ (starts-just r.looks.items)
     (both-just _ _ (owned-just c cpu (table_of_reasons r))
-    (both-just _ _ (unread-just (table_of_reasons r)) (table-tie-just r.first r.second)))))))
+    (both-just _ _ (unread-just (table_of_reasons r)) (table-tie-just r.first r.second))))))
+    (both-just _ _ (critical-just c.otp)
+    (both-just _ _ (ignores-just (table_of_reasons r))
+    (both-just _ _ (reads-just r.decision (table_of_reasons r))
+    (nothing-just c (boot_units_in c cpu) r.size is.size kind r.table is.table))))))
 
 pub caveats-right : (c : Content) (cpu : Cpu) (kind : BootKind) → AreCaveats c cpu kind (caveats_in c cpu kind)
 caveats-right c cpu kind = record {
@@ -55,16 +63,20 @@ caveats-only c cpu kind list is =
     (all-just c cpu kind is.reasons is.explained).only list is.listed
     ∙ ap (caveats_by c cpu kind) (reasons-only c cpu kind is.reasons is.explained)
 
--- the three lists, one behind the other
-pub gathered : (c : Content) (cpu : Cpu) (kind : BootKind) (r : Reasons) (none one two three : List Caveat)
+-- the four lists, one behind the other
+pub gathered : (c : Content) (cpu : Cpu) (kind : BootKind) (r : Reasons) (none one two three four : List Caveat)
     → r ≡ reasons_in c cpu kind → none ≡ [] → one ≡ none ++ board_caveats c r → two ≡ one ++ choice_caveats c cpu kind r
-    → three ≡ two ++ window_caveats c cpu r → three ≡ caveats_in c cpu kind
+    → three ≡ two ++ window_caveats c cpu r → four ≡ three ++ last_caveats c cpu kind r
+    → four ≡ caveats_in c cpu kind
 unfolding caveats_by
-gathered c cpu kind r none one two three is e0 e1 e2 e3 =
-    e3 ∙ (ap (λ l. l ++ window_caveats c cpu r) (e2 ∙ ap (λ l. l ++ choice_caveats c cpu kind r)
-    (e1 ∙ ap (λ l. l ++ board_caveats c r) e0))
-    ∙ (append_assoc (board_caveats c r) (choice_caveats c cpu kind r) (window_caveats c cpu r)
-    ∙ ap (caveats_by c cpu kind) is))
+gathered c cpu kind r none one two three four is e0 e1 e2 e3 e4 =
+    e4 ∙ (ap (λ l. l ++ last_caveats c cpu kind r) (e3 ∙ ap (λ l. l ++ window_caveats c cpu r)
+    (e2 ∙ ap (λ l. l ++ choice_caveats c cpu kind r) (e1 ∙ ap (λ l. l ++ board_caveats c r) e0)))
+    ∙ (append_assoc (board_caveats c r ++ choice_caveats c cpu kind r) (window_caveats c cpu r)
+    (last_caveats c cpu kind r)
+    ∙ (append_assoc (board_caveats c r) (choice_caveats c cpu kind r)
+    (window_caveats c cpu r ++ last_caveats c cpu kind r)
+    ∙ ap (caveats_by c cpu kind) is)))
 
 -- what was gathered is right by the rules
 pub answered-right : (c : Content) (cpu : Cpu) (kind : BootKind) (r : Result (Vec Caveat Global) AllocError)

@@ -1,8 +1,9 @@
 -- Where the choice of a boot rests on a rule that the chip may have otherwise, by the functions and in the words of the
 -- rules.
-use Rattle.std.proofs.Common.{◌≡◌, ◌≢◌, ◌⊎◌, ℕ, ◌+◌, ◌-◌, ◌<◌, ◌≤◌, ◌==◌, ◌&&◌, ◌||◌, nat_le, Bool, true, false, cond, List, [], ◌∷◌, ◌++◌, length, get_or, slice_get, position, Option, Some, None, Result, Ok, Err, is_some, option_map, option_and_then, refl, sym, ap, ◌∙◌, subst, inl, inr, arith}
+use Rattle.std.proofs.Common.{◌≡◌, ◌≢◌, ◌⊎◌, ℕ, zero, suc, ◌+◌, ◌-◌, ◌<◌, ◌≤◌, ◌==◌, ◌&&◌, ◌||◌, not, nat_le, Bool, true, false, cond, List, [], ◌∷◌, ◌++◌, length, get_or, slice_get, position, Option, Some, None, Result, Ok, Err, is_some, option_map, option_and_then, refl, sym, ap, ◌∙◌, subst, inl, inr, arith}
 use Rattle.std.specs.Prelude.{find, is_ok, option_to_list}
 use Rattle.std.specs.Bool.{Decides}
+use Rattle.std.specs.List.{list_any}
 use Rattle.std.specs.Option.{option_map_or}
 use Rattle.std.proofs.lemmas.Bool.{eqb-true, eq-eqb}
 use Rattle.std.proofs.lemmas.Bool.Decides.{nat_tests}
@@ -34,11 +35,9 @@ use Rattle.slot_choice.proofs.UpdateLemmas.{member_starts, none_starts, updated}
 use Rattle.boot_rules.specs.declared.decision.Decision.{Decision}
 use Rattle.boot_rules.specs.declared.decision.Decision.TheVariants.{Start, Bootsel}
 use Rattle.boot_rules.specs.declared.decision.Fall.TheVariants.{Requested, FlashOff, NoImage}
-use Rattle.boot_rules.specs.declared.tables.Found.{Found}
 use Rattle.boot_rules.specs.Choosing.{decision_in}
 use Rattle.boot_rules.specs.Chosen.{Chosen}
 use Rattle.boot_rules.specs.Tables.{slot_window}
-use Rattle.boot_rules.specs.TableRules.{IsTableIn}
 use Rattle.boot_rules.proofs.DecisionLemmas.{chosen-decision, decision-chosen}
 use Rattle.boot_rules.proofs.StartLemmas.{is-member}
 use Rattle.boot_reasons.specs.declared.slots.TableInForce.{TableInForce}
@@ -48,11 +47,11 @@ use Rattle.boot_reasons.specs.declared.looks.UnitReason.{UnitReason}
 use Rattle.boot_reasons.specs.declared.looks.UnitReason.TheVariants.{Updated, Only, Version, Tie as IsTied}
 use Rattle.boot_reasons.specs.SlotRules.{IsTableInForce}
 use Rattle.boot_caveats.specs.declared.caveat.Caveat.{Caveat}
-use Rattle.boot_caveats.specs.declared.caveat.Caveat.TheVariants.{OtherProcessor, Tie, UpdateOfSlot, UpdateMovesUnit}
+use Rattle.boot_caveats.specs.declared.caveat.Caveat.TheVariants.{OtherProcessor, Tie, UpdateOfSlot, UpdateMovesUnit, UpdateOfNothing}
 use Rattle.boot_caveats.specs.Listing.{caveat_if}
-use Rattle.boot_caveats.specs.ChoiceCaveats.{first_tie, has_normal_image, has_typed_first, is_slot_address, is_tie, lacks_image, lone_slot_images, moved_by, moved_part, other_cpu, other_processor, slot_images, started_window, takes_image, tie_of, tied_in, update_moves, update_of_slot}
-use Rattle.boot_caveats.specs.ChoiceRules.{AreSlotImages, HasTypedFirst, IsMovedPart, IsOtherProcessor, IsPassedOver, IsTableless, IsTie, IsTiedPair, IsUpdateMovesUnit, IsUpdateOfSlot, StartsIn}
-use Rattle.boot_caveats.proofs.ListingLemmas.{IsJust, both-just, first-found, found-first, never-just, one-just, where-just}
+use Rattle.boot_caveats.specs.ChoiceCaveats.{first_tie, has_normal_image, has_typed_first, is_slot_address, is_tie, lacks_image, lone_slot_images, moved_by, moved_part, other_cpu, other_processor, slot_images, started_window, takes_image, tie_of, tied_in, update_moves, update_of_nothing, update_of_slot, updates_one}
+use Rattle.boot_caveats.specs.ChoiceRules.{AreSlotImages, HasTypedFirst, IsMovedPart, IsOfNoMember, IsOfSlot, IsOtherProcessor, IsPassedOver, IsTableless, IsTie, IsTiedPair, IsUpdateMovesUnit, IsUpdateOfNothing, IsUpdateOfSlot, StartsIn}
+use Rattle.boot_caveats.proofs.ListingLemmas.{IsJust, and-decides, both-just, first-found, found-first, never-just, not-decides, one-just, or-decides, where-just}
 
 both : (a b : Bool) → a ≡ true → b ≡ true → (a && b) ≡ true
 both true true e f = refl
@@ -87,11 +86,11 @@ lacks-decides (Bootsel Requested) = (λ e. cc, λ e. cc)
 lacks-decides (Bootsel FlashOff) = (λ e. cc, λ e. cc)
 lacks-decides (Bootsel NoImage) = (λ e. refl, λ e. refl)
 
-starts-in : (d : Decision) (w : Window) → started_window d ≡ Some w → StartsIn d w
+pub starts-in : (d : Decision) (w : Window) → started_window d ≡ Some w → StartsIn d w
 starts-in (Start choice) w e = (choice, refl, same_Some choice.image.window w e)
 starts-in (Bootsel fall) w e = cc
 
-in-starts : (d : Decision) (w : Window) → StartsIn d w → started_window d ≡ Some w
+pub in-starts : (d : Decision) (w : Window) → StartsIn d w → started_window d ≡ Some w
 in-starts d w is = ap started_window is.1 ∙ ap Some is.2
 
 abbrev IsOther : Content → Cpu → BootKind → Decision → Window → Type 0
@@ -272,8 +271,7 @@ address-decides size base = (
 
 module _ (c : Content) (size : ℕ) (size_is : size ≡ slot_size c.otp (length c.flash)) where
   abbrev IsSlotUpdate : BootKind → ℕ → Type 0
-  IsSlotUpdate kind base = (kind ≡ Update base) × ((found : Found) × IsTableIn c found)
-      × ((base ≡ flash_base) ⊎ (base ≡ flash_base + slot_size c.otp (length c.flash)))
+  IsSlotUpdate kind base = (kind ≡ Update base) × IsOfSlot c base
 
   resized : (base : ℕ) → (base ≡ flash_base) ⊎ (base ≡ flash_base + size)
       → (base ≡ flash_base) ⊎ (base ≡ flash_base + slot_size c.otp (length c.flash))
@@ -294,7 +292,7 @@ module _ (c : Content) (size : ℕ) (size_is : size ≡ slot_size c.otp (length 
   slot-update-just Normal table is = no-update Normal (λ base e. cc)
   slot-update-just AskBootsel table is = no-update AskBootsel (λ base e. cc)
   slot-update-just (Update base) None is =
-      one-just (IsSlotUpdate (Update base)) UpdateOfSlot None (λ caveat e. cc) (λ b u. absurd (is u.1.0 u.1.1))
+      one-just (IsSlotUpdate (Update base)) UpdateOfSlot None (λ caveat e. cc) (λ b u. absurd (is u.1.0.0 u.1.0.1))
   slot-update-just (Update base) (Some taken) is =
       one-just (IsSlotUpdate (Update base)) UpdateOfSlot (caveat_if (is_slot_address size base) (UpdateOfSlot base))
       (to (is_slot_address size base) refl) (λ b u. from b u (is_slot_address size base) refl)
@@ -303,7 +301,7 @@ module _ (c : Content) (size : ℕ) (size_is : size ≡ slot_size c.otp (length 
           → caveat_if t (UpdateOfSlot base) ≡ Some caveat
           → (b : ℕ) × IsSlotUpdate (Update base) b × (caveat ≡ UpdateOfSlot b)
       to true e caveat same =
-          (base, (refl, (_, is.0.1), resized base ((address-decides size base).0 e)), sym (same_Some _ _ same))
+          (base, (refl, ((_, is.0.1), resized base ((address-decides size base).0 e))), sym (same_Some _ _ same))
       to false e caveat same = cc
 
       same-base : (a b : ℕ) → Update a ≡ Update b → a ≡ b
@@ -316,8 +314,22 @@ module _ (c : Content) (size : ℕ) (size_is : size ≡ slot_size c.otp (length 
           let yes : is_slot_address size base ≡ true =
           (address-decides size base).1 (unsized base (subst
           (λ x. (x ≡ flash_base) ⊎ (x ≡ flash_base + slot_size c.otp (length c.flash))) (sym (same-base base b u.0))
-          u.2)) in
+          u.1.1)) in
           cc
+
+  -- the caveat of an update of an address, by the condition on the address
+  pub slot-decides : (base : ℕ) (table : Option TableInForce) → IsTableInForce c table
+      → Decides (is_some (update_of_slot (Update base) size table)) (IsOfSlot c base)
+  slot-decides base None is = (λ e. cc, λ of. absurd (is of.0.0 of.0.1))
+  slot-decides base (Some taken) is = (to (is_slot_address size base) refl, from)
+    where
+      to : (t : Bool) → is_slot_address size base ≡ t → is_some (caveat_if t (UpdateOfSlot base)) ≡ true
+          → IsOfSlot c base
+      to true e some = ((_, is.0.1), resized base ((address-decides size base).0 e))
+      to false e some = cc
+
+      from : IsOfSlot c base → is_some (caveat_if (is_slot_address size base) (UpdateOfSlot base)) ≡ true
+      from of = ap (λ t. is_some (caveat_if t (UpdateOfSlot base))) ((address-decides size base).1 (unsized base of.1))
 
 -- ---- an update that moves a unit
 
@@ -510,3 +522,113 @@ module _ (us : List SlotUnit) where
       from part b same is =
           ap (λ o. option_map UpdateMovesUnit o)
           (by-moved us base part (subst (λ x. IsMovedPart us x part) (sym (same-base base b same)) is))
+
+-- ---- an update of nothing
+
+-- units of which one has a member at an offset
+module _ (start : ℕ) where
+  abbrev HasOneAt : List SlotUnit → Type 0
+  HasOneAt us = (k : ℕ) × (u : SlotUnit) × (w : Window) × (slice_get us k ≡ Some u) × IsMember u w × (w.start ≡ start)
+
+  one-there : (us : List SlotUnit) → list_any (has_member_at start) us ≡ true → HasOneAt us
+  one-there [] e = cc
+  one-there (u ∷ us) e =
+      go (member_at start u) refl (either (has_member_at start u) _ e) (λ h. one-there us h)
+    where
+      behind : HasOneAt us → HasOneAt (u ∷ us)
+      behind is = (suc is.0, is.1, is.2, is.3, is.4, is.5)
+
+      go : (o : Option Member) → member_at start u ≡ o
+          → (is_some (member_at start u) ≡ true) ⊎ (list_any (has_member_at start) us ≡ true)
+          → (list_any (has_member_at start) us ≡ true → HasOneAt us) → HasOneAt (u ∷ us)
+      go (Some m) at is later = let s = member_starts start u m at in (0, u, s.0, refl, is-member m u s.0 s.1, s.2)
+      go None at (inl some) later = let none : is_some (member_at start u) ≡ false = ap is_some at in cc
+      go None at (inr rest) later = behind (later rest)
+
+  there-one : (us : List SlotUnit) → HasOneAt us → list_any (has_member_at start) us ≡ true
+  there-one us is = found us is.0 is.3
+    where
+      has : has_member_at start is.1 ≡ true
+      has = go (has_member_at start is.1) refl
+        where
+          go : (b : Bool) → has_member_at start is.1 ≡ b → b ≡ true
+          go true e = refl
+          go false e = absurd (none_starts start is.1 e is.2 is.4 is.5)
+
+      found : (vs : List SlotUnit) (k : ℕ) → slice_get vs k ≡ Some is.1 → list_any (has_member_at start) vs ≡ true
+      found [] k at = cc
+      found (v ∷ vs) zero at =
+          left (has_member_at start v) _ (ap (has_member_at start) (same_Some v is.1 at) ∙ has)
+      found (v ∷ vs) (suc k) at = right-one (has_member_at start v) _ (found vs k at)
+
+-- no member starts at an address
+one-decides : (us : List SlotUnit) (base : ℕ)
+    → Decides (updates_one us base) ((flash_base ≤ base) × HasOneAt (base - flash_base) us)
+one-decides us base =
+    and-decides _ _ _ _ (at-least flash_base base)
+    (one-there (base - flash_base) us, there-one (base - flash_base) us)
+  where
+    at-least : (m n : ℕ) → Decides (nat_le m n) (m ≤ n)
+    at-least m n = (λ e. grind (arith, nat_tests), λ le. grind (arith, nat_tests))
+
+no-member : (us : List SlotUnit) (base : ℕ)
+    → (((flash_base ≤ base) × HasOneAt (base - flash_base) us) → ⊥) → IsOfNoMember us base
+no-member us base never = λ k u w at member same.
+    never (above w.start base same, (k, u, w, at, member, starts w.start base same))
+  where
+    above : (s b : ℕ) → flash_base + s ≡ b → flash_base ≤ b
+    above s b same = omega arith
+
+    starts : (s b : ℕ) → flash_base + s ≡ b → s ≡ b - flash_base
+    starts s b same = omega arith
+
+member-no : (us : List SlotUnit) (base : ℕ) → IsOfNoMember us base
+    → ((flash_base ≤ base) × HasOneAt (base - flash_base) us) → ⊥
+member-no us base never is =
+    never is.1.0 is.1.1 is.1.2 is.1.3 is.1.4 (pointing is.1.2.start base is.1.5 is.0)
+  where
+    pointing : (s b : ℕ) → s ≡ b - flash_base → flash_base ≤ b → flash_base + s ≡ b
+    pointing s b same above = omega arith
+
+module _ (c : Content) (us : List SlotUnit) (size : ℕ) (size_is : size ≡ slot_size c.otp (length c.flash)) where
+  abbrev IsNothing : BootKind → ℕ → Type 0
+  IsNothing kind base = (kind ≡ Update base) × IsOfNoMember us base × (IsOfSlot c base → ⊥)
+
+  no-nothing : (kind : BootKind) → ((base : ℕ) → kind ≡ Update base → ⊥) → IsJust (IsUpdateOfNothing c kind us) []
+  no-nothing kind never = one-just (IsNothing kind) UpdateOfNothing None (λ caveat e. cc)
+      (λ base is. absurd (never base is.0))
+
+  pub nothing-just : (kind : BootKind) (table : Option TableInForce) → IsTableInForce c table
+      → IsJust (IsUpdateOfNothing c kind us) (option_to_list (update_of_nothing kind size table us))
+  nothing-just Normal table is = no-nothing Normal (λ base e. cc)
+  nothing-just AskBootsel table is = no-nothing AskBootsel (λ base e. cc)
+  nothing-just (Update base) table is =
+      one-just (IsNothing (Update base)) UpdateOfNothing (update_of_nothing (Update base) size table us)
+      (to (not (updates_one us base || is_some (update_of_slot (Update base) size table))) refl)
+      (λ b u. from b u)
+    where
+      decides : Decides (not (updates_one us base || is_some (update_of_slot (Update base) size table)))
+          ((((flash_base ≤ base) × HasOneAt (base - flash_base) us) ⊎ IsOfSlot c base) → ⊥)
+      decides = not-decides _ _ (or-decides _ _ _ _ (one-decides us base) (slot-decides c size size_is base table is))
+
+      to : (t : Bool) → not (updates_one us base || is_some (update_of_slot (Update base) size table)) ≡ t
+          → (caveat : Caveat) → caveat_if t (UpdateOfNothing base) ≡ Some caveat
+          → (b : ℕ) × IsNothing (Update base) b × (caveat ≡ UpdateOfNothing b)
+      to true e caveat same = (
+        base,
+        (refl, no-member us base (λ one. decides.0 e (inl one)), λ of. decides.0 e (inr of)),
+        sym (same_Some _ _ same),
+      )
+      to false e caveat same = cc
+
+      same-base : (a b : ℕ) → Update a ≡ Update b → a ≡ b
+      same-base a b e = cc
+
+      from : (b : ℕ) → IsNothing (Update base) b
+          → update_of_nothing (Update base) size table us ≡ Some (UpdateOfNothing b)
+      from b u =
+          ap (λ t. caveat_if t (UpdateOfNothing base)) (decides.1 (λ either_is. elim either_is [
+            | inl one ↦ member-no us base
+                (subst (λ x. IsOfNoMember us x) (sym (same-base base b u.0)) u.1) one
+            | inr of ↦ u.2 (subst (IsOfSlot c) (same-base base b u.0) of)
+          ])) ∙ ap (λ x. Some (UpdateOfNothing x)) (same-base base b u.0)

@@ -28,7 +28,7 @@ use Rattle.boot_reasons.specs.Reasons.{does_report, order_where, reasons_in, rep
 use Rattle.boot_reasons.proofs.LookLemmas.{choice-of-unit, takes-choice}
 use Rattle.boot_reasons.proofs.ReasonLemmas.{reasons-right}
 use Rattle.boot_caveats.specs.declared.caveat.Caveat.{Caveat}
-use Rattle.boot_caveats.specs.Caveats.{board_caveats, caveats_by, caveats_in, choice_caveats, window_caveats}
+use Rattle.boot_caveats.specs.Caveats.{board_caveats, caveats_by, caveats_in, choice_caveats, last_caveats, window_caveats}
 use Rattle.boot_caveats.specs.ImageCaveats.{looked_windows, unit_windows}
 
 -- ---- what a list contains
@@ -42,16 +42,19 @@ pub in-choice : (c : Content) (cpu : Cpu) (kind : BootKind) (x : Caveat)
 unfolding caveats_by
 in-choice c cpu kind x is =
     let r = reasons_in c cpu kind in
-    Contains-append_right (board_caveats c r) (choice_caveats c cpu kind r ++ window_caveats c cpu r) x
-    (Contains-append_left (choice_caveats c cpu kind r) (window_caveats c cpu r) x is)
+    let later = window_caveats c cpu r ++ last_caveats c cpu kind r in
+    Contains-append_right (board_caveats c r) (choice_caveats c cpu kind r ++ later) x
+    (Contains-append_left (choice_caveats c cpu kind r) later x is)
 
 pub in-windows : (c : Content) (cpu : Cpu) (kind : BootKind) (x : Caveat)
     → Contains (window_caveats c cpu (reasons_in c cpu kind)) x → Contains (caveats_in c cpu kind) x
 unfolding caveats_by
 in-windows c cpu kind x is =
     let r = reasons_in c cpu kind in
-    Contains-append_right (board_caveats c r) (choice_caveats c cpu kind r ++ window_caveats c cpu r) x
-    (Contains-append_right (choice_caveats c cpu kind r) (window_caveats c cpu r) x is)
+    let later = window_caveats c cpu r ++ last_caveats c cpu kind r in
+    Contains-append_right (board_caveats c r) (choice_caveats c cpu kind r ++ later) x
+    (Contains-append_right (choice_caveats c cpu kind r) later x
+    (Contains-append_left (window_caveats c cpu r) (last_caveats c cpu kind r) x is))
 
 -- an element is one of a list
 abbrev pub IsIn : {X : Type 0} → X → List X → Type 0

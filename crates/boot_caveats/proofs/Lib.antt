@@ -7,6 +7,7 @@ pub mod ListingLemmas
 pub mod OtpLemmas
 pub mod TableCaveatLemmas
 pub mod ChoiceCaveatLemmas
+pub mod PartLemmas
 pub mod StartCaveatLemmas
 pub mod ImageCaveatLemmas
 pub mod CaveatLemmas

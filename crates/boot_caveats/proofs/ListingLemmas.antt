@@ -1,6 +1,6 @@
 -- Lists that are told by conditions, one for each list of conditions.
-use Rattle.std.proofs.Common.{◌≡◌, Bool, true, false, cond, List, [], ◌∷◌, ◌++◌, Option, Some, None, refl, sym, ap, ◌∙◌, inl, inr}
-use Rattle.std.specs.Prelude.{find, option_to_list}
+use Rattle.std.proofs.Common.{◌≡◌, ◌⊎◌, ◌&&◌, ◌||◌, not, Bool, true, false, cond, List, [], ◌∷◌, ◌++◌, Option, Some, None, Result, Ok, Err, refl, sym, ap, ◌∙◌, append_assoc, inl, inr}
+use Rattle.std.specs.Prelude.{OnOk, find, option_to_list}
 use Rattle.std.specs.Bool.{Decides}
 use Rattle.std.specs.List.{AllByRecursion, filter_map, flat_map}
 use Rattle.boot_caveats.specs.declared.caveat.Caveat.{Caveat}
@@ -21,6 +21,33 @@ both-just xs ys p q = record {
 
 true-false : (b : Bool) → b ≡ true → b ≡ false → ⊥
 true-false b e f = cc
+
+-- tests of two conditions, and of one that does not hold
+pub and-decides : (P Q : Type 0) (a b : Bool) → Decides a P → Decides b Q → Decides (a && b) (P × Q)
+and-decides P Q true b p q = (λ e. (p.0 refl, q.0 e), λ is. q.1 is.1)
+and-decides P Q false b p q = (λ e. cc, λ is. absurd (true-false false (p.1 is.0) refl))
+
+pub or-decides : (P Q : Type 0) (a b : Bool) → Decides a P → Decides b Q → Decides (a || b) (P ⊎ Q)
+or-decides P Q true b p q = (λ e. inl (p.0 refl), λ is. refl)
+or-decides P Q false b p q = (
+  λ e. inr (q.0 e),
+  λ is. elim is [
+    | inl one ↦ absurd (true-false false (p.1 one) refl)
+    | inr two ↦ q.1 two
+  ],
+)
+
+pub not-decides : (P : Type 0) (a : Bool) → Decides a P → Decides (not a) (P → ⊥)
+not-decides P true p = (λ e. absurd (true-false false e refl), λ never. absurd (never (p.0 refl)))
+not-decides P false p = (λ e is. true-false false (p.1 is) refl, λ never. refl)
+
+-- a test and its answer
+pub is-true : (a : Bool) → Decides a (a ≡ true)
+is-true a = (λ e. e, λ e. e)
+
+pub is-false : (a : Bool) → Decides (not a) (a ≡ false)
+is-false true = (λ e. cc, λ e. cc)
+is-false false = (λ e. refl, λ e. refl)
 
 -- a condition that a test decides
 pub where-just : (P : Type 0) (caveat : Caveat) (b : Bool) → Decides b P
@@ -130,3 +157,17 @@ module _ {X : Type 0} (p : X → Bool) where
           → find p (before ++ x ∷ is.behind) ≡ Some x
       go [] all = passing (p x) (find p is.behind) is.here
       go (y ∷ ys) all = failing (p y) y (find p (ys ++ x ∷ is.behind)) all.0 ∙ go ys all.1
+
+-- ---- lists that are added one behind the other
+
+pub on-ok : (T E : Type 0) (r : Result T E) (P Q : Type 0) → (P → Q) → OnOk r P → OnOk r Q
+on-ok T E (Ok x) P Q f is = f is
+on-ok T E (Err e) P Q f is = tt
+
+module _ (l a b d e f : List Caveat) where
+  pub five-lists : ((((l ++ a) ++ b) ++ d) ++ e) ++ f ≡ l ++ (a ++ (b ++ (d ++ (e ++ f))))
+  five-lists =
+      append_assoc (((l ++ a) ++ b) ++ d) e f
+      ∙ (append_assoc ((l ++ a) ++ b) d (e ++ f)
+      ∙ (append_assoc (l ++ a) b (d ++ (e ++ f))
+      ∙ append_assoc l a (b ++ (d ++ (e ++ f)))))

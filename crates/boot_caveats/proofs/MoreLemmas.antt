@@ -1,5 +1,5 @@
 -- Lists of caveats with those of one more element.
-use Rattle.std.proofs.Common.{◌≡◌, ℕ, zero, suc, ◌+◌, ◌-◌, ◌<◌, Bool, cond, List, [], ◌∷◌, ◌++◌, count_by, Option, Some, None, refl, sym, ap, ◌∙◌, append_assoc, arith}
+use Rattle.std.proofs.Common.{◌≡◌, ℕ, zero, suc, ◌+◌, ◌-◌, ◌*◌, ◌^◌, ◌<◌, Bool, cond, List, [], ◌∷◌, ◌++◌, count_by, sum_by, Option, Some, None, refl, sym, ap, ◌∙◌, append_assoc, arith, pow-suc}
 use Rattle.std.specs.Prelude.{option_to_list}
 use Rattle.std.specs.List.{cons_option, filter_map, range_with_len}
 use Rattle.std.proofs.lemmas.List.Sums.{sum_by-cons}
@@ -69,3 +69,21 @@ counted-more p a k n count after whole lt was now =
     joined : (count after whole one all rest : ℕ) → all ≡ one + rest → count + all ≡ whole → after ≡ count + one
         → after + rest ≡ whole
     joined count after whole one all rest split was now = omega arith
+
+-- a sum over numbers, of which one more is added
+pub summed-more : (f : ℕ → ℕ) (k end_ sum total : ℕ) → k < end_
+    → sum + sum_by f (range_with_len k (end_ - k)) ≡ total
+    → sum + f k + sum_by f (range_with_len (k + 1) (end_ - (k + 1))) ≡ total
+summed-more f k end_ sum total lt was =
+    let first : sum_by f (range_with_len k (end_ - k)) ≡ f k + sum_by f (range_with_len (k + 1) (end_ - k - 1)) =
+    ap (sum_by f) (range-first k (end_ - k) (omega (arith, lt))) ∙ sum_by-cons f k (range_with_len (k + 1) (end_ - k - 1)) in
+    let less : end_ - k - 1 ≡ end_ - (k + 1) = omega arith in
+    joined sum (f k) (sum_by f (range_with_len k (end_ - k))) (sum_by f (range_with_len (k + 1) (end_ - (k + 1)))) total
+    (first ∙ ap (λ n. f k + sum_by f (range_with_len (k + 1) n)) less) was
+  where
+    joined : (sum one all rest total : ℕ) → all ≡ one + rest → sum + all ≡ total → sum + one + rest ≡ total
+    joined sum one all rest total split was = omega arith
+
+-- the next power of two
+pub twice : (k : ℕ) → 2 ^ (k + 1) ≡ 2 * 2 ^ k
+twice k = let e : k + 1 ≡ suc k = omega arith in rw e (omega (arith, pow-suc 2 k))

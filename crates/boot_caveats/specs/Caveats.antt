@@ -8,19 +8,21 @@ use Rattle.boot_rules.specs.Choosing.{boot_units_in}
 use Rattle.boot_reasons.specs.declared.reasons.Reasons.{Reasons}
 use Rattle.boot_reasons.specs.Reasons.{reasons_in, table_of_reasons}
 use Rattle.boot_caveats.specs.declared.caveat.Caveat.{Caveat}
-use Rattle.boot_caveats.specs.OtpCaveats.{otp_caveats}
+use Rattle.boot_caveats.specs.OtpCaveats.{critical_caveats, otp_caveats, short_slots}
 use Rattle.boot_caveats.specs.TableCaveats.{short_flash, table_tie, unread_caveats}
-use Rattle.boot_caveats.specs.ChoiceCaveats.{first_tie, other_processor, slot_images, update_moves, update_of_slot}
+use Rattle.boot_caveats.specs.ChoiceCaveats.{first_tie, other_processor, slot_images, update_moves, update_of_nothing, update_of_slot}
+use Rattle.boot_caveats.specs.PartCaveats.{ignore_flags, no_read, of_parts}
 use Rattle.boot_caveats.specs.StartCaveats.{started_rows, table_in_image}
 use Rattle.boot_caveats.specs.ImageCaveats.{item_order, late_firsts, look_may_start, looked_windows, owned_images}
 
--- the OTP, the tables of the slots and of the image that starts
+-- the OTP, the tables of the slots, the slot size, and the table of the image that starts
 abbrev pub board_caveats : Content → Reasons → List Caveat
 board_caveats c r =
     otp_caveats c.otp
     ++ (option_to_list (short_flash (length c.flash) 0 r.first)
     ++ (option_to_list (short_flash (length c.flash) 1 r.second)
-    ++ option_to_list (table_in_image c r.decision)))
+    ++ (option_to_list (short_slots c.otp (length c.flash))
+    ++ option_to_list (table_in_image c r.decision))))
 
 -- the choice, and the rows of the image that starts
 abbrev pub choice_caveats : Content → Cpu → BootKind → Reasons → List Caveat
@@ -41,10 +43,19 @@ window_caveats c cpu r =
     ++ (owned_images c cpu (table_of_reasons r)
     ++ (unread_caveats (table_of_reasons r) ++ option_to_list (table_tie r.first r.second)))))
 
+-- critical flags, flags and rights of partitions, and an update of nothing
+abbrev pub last_caveats : Content → Cpu → BootKind → Reasons → List Caveat
+last_caveats c cpu kind r =
+    critical_caveats c.otp
+    ++ (of_parts ignore_flags (table_of_reasons r)
+    ++ (of_parts (no_read r.decision) (table_of_reasons r)
+    ++ option_to_list (update_of_nothing kind r.size r.table (boot_units_in c cpu))))
+
 -- the caveats of an answer with these reasons
 unfoldable pub caveats_by : Content → Cpu → BootKind → Reasons → List Caveat
 caveats_by c cpu kind r =
-    board_caveats c r ++ (choice_caveats c cpu kind r ++ window_caveats c cpu r)
+    board_caveats c r
+    ++ (choice_caveats c cpu kind r ++ (window_caveats c cpu r ++ last_caveats c cpu kind r))
 
 -- the caveats of the answer of a boot
 abbrev pub caveats_in : Content → Cpu → BootKind → List Caveat

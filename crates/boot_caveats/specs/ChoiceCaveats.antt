@@ -1,5 +1,6 @@
 -- Where the choice of a boot depends on a rule that the chip may have otherwise, as functions.
-use Rattle.std.specs.Prelude.{ℕ, ◌+◌, ◌-◌, ◌==◌, ◌&&◌, ◌||◌, nat_le, Bool, true, false, if◌then◌else◌, List, [], ◌++◌, find, is_some, position, slice_get, Option, Some, None, option_map, option_and_then, option_to_list, is_ok}
+use Rattle.std.specs.Prelude.{ℕ, ◌+◌, ◌-◌, ◌==◌, ◌&&◌, ◌||◌, nat_le, not, Bool, true, false, if◌then◌else◌, List, [], ◌++◌, find, is_some, position, slice_get, Option, Some, None, option_map, option_and_then, option_to_list, is_ok}
+use Rattle.std.specs.List.{list_any}
 use Rattle.std.specs.Option.{option_map_or}
 use Rattle.pico_board.specs.declared.boot.Cpu.{Cpu}
 use Rattle.pico_board.specs.declared.boot.Cpu.TheVariants.{Arm, Riscv}
@@ -24,7 +25,7 @@ use Rattle.boot_reasons.specs.declared.looks.TakenImage.{TakenImage}
 use Rattle.boot_reasons.specs.declared.looks.UnitReason.{UnitReason}
 use Rattle.boot_reasons.specs.declared.looks.UnitReason.TheVariants.{Updated, Only, Version, Tie as IsTied}
 use Rattle.boot_caveats.specs.declared.caveat.Caveat.{Caveat}
-use Rattle.boot_caveats.specs.declared.caveat.Caveat.TheVariants.{OtherProcessor, SlotImage, Tie, UpdateOfSlot, UpdateMovesUnit}
+use Rattle.boot_caveats.specs.declared.caveat.Caveat.TheVariants.{OtherProcessor, SlotImage, Tie, UpdateOfSlot, UpdateMovesUnit, UpdateOfNothing}
 use Rattle.boot_caveats.specs.Listing.{caveat_if}
 
 -- the other processor
@@ -130,3 +131,16 @@ abbrev pub update_moves : BootKind → List SlotUnit → Option Caveat
 update_moves Normal us = None
 update_moves AskBootsel us = None
 update_moves (Update base) us = option_map UpdateMovesUnit (moved_by us base)
+
+-- a member of a unit starts at an address; below the flash no member starts
+abbrev pub updates_one : List SlotUnit → ℕ → Bool
+updates_one us base =
+    nat_le flash_base base && list_any (has_member_at (base - flash_base)) us
+
+-- an update boot's address is that of no member, and it has no caveat of a table slot
+abbrev pub update_of_nothing : BootKind → ℕ → Option TableInForce → List SlotUnit → Option Caveat
+update_of_nothing Normal size table us = None
+update_of_nothing AskBootsel size table us = None
+update_of_nothing (Update base) size table us =
+    caveat_if (not (updates_one us base || is_some (update_of_slot (Update base) size table)))
+    (UpdateOfNothing base)

@@ -1,5 +1,5 @@
 -- Where the choice of a boot depends on a rule that the chip may have otherwise, as rules.
-use Rattle.std.specs.Prelude.{◌≡◌, ◌≢◌, ◌⊎◌, ℕ, ◌+◌, true, false, List, [], length, Some}
+use Rattle.std.specs.Prelude.{◌≡◌, ◌≢◌, ◌⊎◌, ℕ, ◌+◌, true, false, List, [], length, slice_get, Some}
 use Rattle.pico_board.specs.declared.boot.Cpu.{Cpu}
 use Rattle.pico_board.specs.declared.boot.BootKind.{BootKind}
 use Rattle.pico_board.specs.declared.boot.BootKind.TheVariants.{Update}
@@ -15,6 +15,7 @@ use Rattle.otp_roll.specs.Flags.{slot_size}
 use Rattle.slot_choice.specs.declared.unit.Member.{Member}
 use Rattle.slot_choice.specs.declared.unit.SlotUnit.{SlotUnit}
 use Rattle.slot_choice.specs.declared.choice.Choice.{Choice}
+use Rattle.slot_choice.specs.Units.{IsMember}
 use Rattle.slot_choice.specs.Updates.{IsUpdateOf}
 use Rattle.boot_rules.specs.declared.decision.Decision.{Decision}
 use Rattle.boot_rules.specs.declared.decision.Decision.TheVariants.{Start, Bootsel}
@@ -27,7 +28,7 @@ use Rattle.boot_reasons.specs.declared.looks.UnitReport.{UnitReport}
 use Rattle.boot_reasons.specs.declared.looks.TakenImage.{TakenImage}
 use Rattle.boot_reasons.specs.declared.looks.UnitReason.TheVariants.{Tie as IsTied}
 use Rattle.boot_caveats.specs.declared.caveat.Caveat.{Caveat}
-use Rattle.boot_caveats.specs.declared.caveat.Caveat.TheVariants.{OtherProcessor, SlotImage, Tie, UpdateOfSlot, UpdateMovesUnit}
+use Rattle.boot_caveats.specs.declared.caveat.Caveat.TheVariants.{OtherProcessor, SlotImage, Tie, UpdateOfSlot, UpdateMovesUnit, UpdateOfNothing}
 use Rattle.boot_caveats.specs.Listing.{AreBoth, IsFirstWith, IsOfOne, IsWhere}
 use Rattle.boot_caveats.specs.ChoiceCaveats.{other_cpu, takes_image}
 
@@ -90,13 +91,15 @@ IsTie looks =
     IsOfOne (λ (pair : Window × Window). IsTiedPair looks pair.0 pair.1)
     (λ pair. Tie pair.0 pair.1)
 
+-- an address is that of a table slot, and there is a table
+abbrev pub IsOfSlot : Content → ℕ → Type 0
+IsOfSlot c base =
+    ((found : Found) × IsTableIn c found)
+    × ((base ≡ flash_base) ⊎ (base ≡ flash_base + slot_size c.otp (length c.flash)))
+
 -- the kind is an update boot whose address is that of a table slot, and there is a table
 abbrev pub IsUpdateOfSlot : Content → BootKind → List Caveat → Type 0
-IsUpdateOfSlot c kind =
-    IsOfOne
-    (λ base. (kind ≡ Update base) × ((found : Found) × IsTableIn c found)
-    × ((base ≡ flash_base) ⊎ (base ≡ flash_base + slot_size c.otp (length c.flash))))
-    UpdateOfSlot
+IsUpdateOfSlot c kind = IsOfOne (λ base. (kind ≡ Update base) × IsOfSlot c base) UpdateOfSlot
 
 -- an update of an address moves the unit of a partition to the front: the unit is that of the
 -- updated member, and others stand before it
@@ -112,3 +115,16 @@ abbrev pub IsUpdateMovesUnit : BootKind → List SlotUnit → List Caveat → Ty
 IsUpdateMovesUnit kind us =
     IsOfOne (λ part. (base : ℕ) × (kind ≡ Update base) × IsMovedPart us base part)
     UpdateMovesUnit
+
+-- no member of a unit starts at an address
+abbrev pub IsOfNoMember : List SlotUnit → ℕ → Type 0
+IsOfNoMember us base =
+    (k : ℕ) (u : SlotUnit) (w : Window) → slice_get us k ≡ Some u → IsMember u w
+    → flash_base + w.start ≢ base
+
+-- the kind is an update boot at whose address no member of a boot unit starts, and the address is
+-- not that of a table slot with a table beside it
+abbrev pub IsUpdateOfNothing : Content → BootKind → List SlotUnit → List Caveat → Type 0
+IsUpdateOfNothing c kind us =
+    IsOfOne (λ base. (kind ≡ Update base) × IsOfNoMember us base × (IsOfSlot c base → ⊥))
+    UpdateOfNothing

@@ -1,5 +1,5 @@
 -- Rows, tables, units, reports and blocks of the worked examples.
-use Rattle.std.specs.Prelude.{ℕ, ◌+◌, Bool, true, false, List, [], ◌∷◌, ◌++◌, replicate, pos, Option, Some, None, Result, Ok, Err}
+use Rattle.std.specs.Prelude.{ℕ, ◌+◌, ◌-◌, Bool, true, false, List, [], ◌∷◌, ◌++◌, replicate, pos, Option, Some, None, Result, Ok, Err}
 use Rattle.pico_board.specs.declared.window.Window.{Window}
 use Rattle.pico_board.specs.Content.{Content}
 use Rattle.block_codec.specs.Blocks.{BlockView}
@@ -27,6 +27,10 @@ otp_from row values = replicate row 0 ++ values
 -- a partition of sectors 2 and 3 with these flags below its permissions
 abbrev pub part_with : ℕ → Partition
 part_with flags = plain_partition (sectors 2 3) (0xfc000000 + flags)
+
+-- a partition of the same sectors whose location word lacks secure read, bit 26
+abbrev pub part_without_read : Partition
+part_without_read = plain_partition (sectors 2 3 - 0x4000000) 0xfc000000
 
 -- a table of this version with this unpartitioned word and these partitions
 abbrev pub table_of_parts : Bool → ℕ → ℕ → List Partition → Table

@@ -6,6 +6,8 @@ pub mod TableCaveats
 pub mod TableRules
 pub mod ChoiceCaveats
 pub mod ChoiceRules
+pub mod PartCaveats
+pub mod PartRules
 pub mod StartCaveats
 pub mod StartRules
 pub mod ImageCaveats

@@ -9,18 +9,20 @@ use Rattle.boot_reasons.specs.Reasons.{table_of_reasons}
 use Rattle.boot_reasons.specs.Rules.{IsExplained}
 use Rattle.boot_caveats.specs.declared.caveat.Caveat.{Caveat}
 use Rattle.boot_caveats.specs.Listing.{AreBoth}
-use Rattle.boot_caveats.specs.OtpRules.{AreOtpCaveats}
+use Rattle.boot_caveats.specs.OtpRules.{AreCriticalCaveats, AreOtpCaveats, IsShortSlots}
 use Rattle.boot_caveats.specs.TableRules.{AreUnread, IsShortFlash, IsTableTie}
-use Rattle.boot_caveats.specs.ChoiceRules.{AreSlotImages, IsOtherProcessor, IsTie, IsUpdateMovesUnit, IsUpdateOfSlot}
+use Rattle.boot_caveats.specs.ChoiceRules.{AreSlotImages, IsOtherProcessor, IsTie, IsUpdateMovesUnit, IsUpdateOfNothing, IsUpdateOfSlot}
+use Rattle.boot_caveats.specs.PartRules.{AreIgnoreFlags, AreNoReads}
 use Rattle.boot_caveats.specs.StartRules.{AreRowCaveats, IsTableInImage}
 use Rattle.boot_caveats.specs.ImageRules.{AreItemOrders, AreLateFirsts, AreMayStarts, AreOwnedImages}
 
--- the OTP, the tables of the slots and of the image that starts
+-- the OTP, the tables of the slots, the slot size, and the table of the image that starts
 abbrev pub AreBoardCaveats : Content → Reasons → List Caveat → Type 0
 AreBoardCaveats c r =
     AreBoth (AreOtpCaveats c.otp)
     (AreBoth (IsShortFlash (length c.flash) 0 r.first)
-    (AreBoth (IsShortFlash (length c.flash) 1 r.second) (IsTableInImage c r.decision)))
+    (AreBoth (IsShortFlash (length c.flash) 1 r.second)
+    (AreBoth (IsShortSlots c.otp (length c.flash)) (IsTableInImage c r.decision))))
 
 -- the choice, and the rows of the image that starts
 abbrev pub AreChoiceCaveats : Content → Cpu → BootKind → Reasons → List Caveat → Type 0
@@ -40,6 +42,14 @@ AreWindowCaveats c cpu r =
     (AreBoth (AreOwnedImages c cpu (table_of_reasons r))
     (AreBoth (AreUnread (table_of_reasons r)) (IsTableTie r.first r.second)))))
 
+-- critical flags, flags and rights of partitions, and an update of nothing
+abbrev pub AreLastCaveats : Content → Cpu → BootKind → Reasons → List Caveat → Type 0
+AreLastCaveats c cpu kind r =
+    AreBoth (AreCriticalCaveats c.otp)
+    (AreBoth (AreIgnoreFlags (table_of_reasons r))
+    (AreBoth (AreNoReads r.decision (table_of_reasons r))
+    (IsUpdateOfNothing c kind (boot_units_in c cpu))))
+
 -- the caveats of the answer of a boot; its reasons are those that the rules name: decision, slots,
 -- table of the flash, and units that are looked at
 pub record AreCaveats (c : Content) (cpu : Cpu) (kind : BootKind)
@@ -47,4 +57,5 @@ pub record AreCaveats (c : Content) (cpu : Cpu) (kind : BootKind)
   pub reasons : Reasons
   pub explained : IsExplained c cpu kind reasons
   pub listed : AreBoth (AreBoardCaveats c reasons)
-      (AreBoth (AreChoiceCaveats c cpu kind reasons) (AreWindowCaveats c cpu reasons)) list
+      (AreBoth (AreChoiceCaveats c cpu kind reasons)
+      (AreBoth (AreWindowCaveats c cpu reasons) (AreLastCaveats c cpu kind reasons))) list

@@ -19,6 +19,8 @@ pub enum Caveat {
     /// The table of this slot is faulty, since this partition leaves the flash. The flash is
     /// shorter than 16 MiB.
     ShortFlash(u32, u32),
+    /// The OTP asks for this slot size, of which two do not fit into the flash.
+    ShortSlots(u32),
     /// The loop of the image that starts in this window has a PARTITION_TABLE item, in the block
     /// at this offset.
     TableInImage(Window, u32),
@@ -53,6 +55,14 @@ pub enum Caveat {
     UnreadSide(u32),
     /// The two slots have different tables of one version.
     TableTie,
+    /// At least three of the eight copies of this row have these bits, which are not read.
+    RawCritical(u16, u32),
+    /// This partition is the B of a pair, and its ignore flags differ from those of its A.
+    IgnoreFlags(u32),
+    /// The decision is a start in this partition, which lacks the right of secure read.
+    NoRead(u32),
+    /// The update boot's address is that of no member, nor of a table slot with a table beside it.
+    UpdateOfNothing(u32),
 }
 
 /// Adds a caveat to a list, where there is one.

@@ -1,11 +1,12 @@
 //! Where the choice of a boot depends on a rule that the chip may have otherwise.
 
 ghost use Rattle.std.specs.Prelude.{◌≡◌, ◌+◌, ◌-◌, ◌<◌, ◌≤◌, ◌++◌, IfSome, IsTrue, OnOk, length, position, slice_get, option_and_then};
+ghost use Rattle.std.specs.List.{list_any};
 ghost use Rattle.sector_pool.specs.Keeping.{KeepsOut};
 ghost use Rattle.sector_pool.specs.Pool.{HasFree};
 ghost use Rattle.slot_choice.specs.Updates.{has_member_at};
 ghost use Rattle.boot_rules.specs.Picking.{IsInside};
-ghost use Rattle.boot_caveats.specs.ChoiceCaveats.{first_slot_image, first_tie, has_normal_image, has_typed_first, is_slot_address, is_tie, lacks_image, lone_slot_images, moved_by, moved_part, other_cpu, other_processor, second_slot_image, slot_images, started_window, tie_of, tied_in, update_moves, update_of_slot};
+ghost use Rattle.boot_caveats.specs.ChoiceCaveats.{first_slot_image, first_tie, has_normal_image, has_typed_first, is_slot_address, is_tie, lacks_image, lone_slot_images, moved_by, moved_part, other_cpu, other_processor, second_slot_image, slot_images, started_window, tie_of, tied_in, update_moves, update_of_nothing, update_of_slot, updates_one};
 
 use crate::caveat::{Caveat, add};
 use crate::reading::first_block;
@@ -39,7 +40,7 @@ fn lacks_image(decision: &Decision) -> bool
 }
 
 /// The window whose image starts.
-fn started_window(decision: &Decision) -> Option<Window>
+pub(crate) fn started_window(decision: &Decision) -> Option<Window>
     ensures { result ≡ started_window decision.now }
 {
     match decision {
@@ -307,6 +308,41 @@ pub(crate) fn update_moves(kind: BootKind, units: &[SlotUnit]) -> Option<Caveat>
             Some(part) => Some(Caveat::UpdateMovesUnit(part)),
             None => None,
         },
+        BootKind::Normal | BootKind::Bootsel => None,
+    }
+}
+
+/// Whether a member of a unit starts at an address.
+fn updates_one(units: &[SlotUnit], base: u32) -> bool
+    ensures { result ≡ updates_one units.now base }
+{
+    base >= FLASH_BASE && has_member_from(units, base - FLASH_BASE)
+}
+
+/// Whether a member of a unit starts at this offset of the flash.
+fn has_member_from(units: &[SlotUnit], start: u32) -> bool
+    ensures { result ≡ list_any (has_member_at start) units.now }
+{
+    units.iter().any(|unit| has_member_at(start, unit))
+}
+
+/// An update boot's address is that of no member, and it has no caveat of a table slot.
+pub(crate) fn update_of_nothing(
+    kind: BootKind,
+    size: u32,
+    table: Option<TableInForce>,
+    units: &[SlotUnit],
+) -> Option<Caveat>
+    ensures { result ≡ update_of_nothing kind size table units.now }
+{
+    match kind {
+        BootKind::Update(base) => {
+            if updates_one(units, base) || update_of_slot(kind, size, table).is_some() {
+                None
+            } else {
+                Some(Caveat::UpdateOfNothing(base))
+            }
+        }
         BootKind::Normal | BootKind::Bootsel => None,
     }
 }

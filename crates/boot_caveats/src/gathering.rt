@@ -4,13 +4,16 @@ ghost use Rattle.std.specs.Prelude.{◌≡◌, ◌++◌, IfOk, IsTrue, OnOk};
 ghost use Rattle.sector_pool.specs.Keeping.{KeepsOut};
 ghost use Rattle.sector_pool.specs.Pool.{HasFree};
 ghost use Rattle.boot_reasons.specs.Reasons.{reasons_in};
-ghost use Rattle.boot_caveats.specs.Caveats.{board_caveats, caveats_by, caveats_in, choice_caveats, window_caveats};
+ghost use Rattle.boot_caveats.specs.Caveats.{board_caveats, caveats_by, caveats_in, choice_caveats, last_caveats, window_caveats};
 ghost use Rattle.boot_caveats.specs.Rules.{AreCaveats};
 
 use crate::caveat::{Caveat, add};
-use crate::choices::{add_slot_images, first_tie, other_processor, update_moves, update_of_slot};
+use crate::choices::{
+    add_slot_images, first_tie, other_processor, update_moves, update_of_nothing, update_of_slot,
+};
 use crate::images::{add_item_orders, add_late_firsts, add_may_starts, add_owned_images};
-use crate::otp::add_otp;
+use crate::otp::{add_critical, add_otp, short_slots};
+use crate::parts::{add_ignore_flags, add_no_reads};
 use crate::starts::{add_rows, table_in_image};
 use crate::tables::{add_unread, short_flash, table_tie};
 use boot_reasons::{Reasons, gather, taken_table};
@@ -19,7 +22,8 @@ use pico_board::{Board, BootKind, Cpu};
 use sector_pool::SectorPool;
 use std::alloc::{AllocError, Global};
 
-/// Adds the caveats of the OTP, of the tables of the slots and of that of the image that starts.
+/// Adds the caveats of the OTP, of the tables of the slots, of the slot size, and of the table of
+/// the image that starts.
 fn add_board<B: Board>(
     board: &B,
     reasons: &Reasons,
@@ -35,6 +39,7 @@ fn add_board<B: Board>(
     add_otp(board, list)?;
     add(list, short_flash(board.flash_len(), 0, &reasons.first))?;
     add(list, short_flash(board.flash_len(), 1, &reasons.second))?;
+    add(list, short_slots(board))?;
     add(list, table_in_image(board, &reasons.decision))
 }
 
@@ -99,6 +104,31 @@ fn add_windows<B: Board>(
     add(list, table_tie(&reasons.first, &reasons.second))
 }
 
+/// Adds the caveats of critical flags, of flags and rights of partitions, and of an update of
+/// nothing.
+fn add_last<B: Board>(
+    board: &B,
+    reasons: &Reasons,
+    cpu: Cpu,
+    kind: BootKind,
+    list: &mut Vec<Caveat>,
+) -> Result<(), AllocError>
+    requires power { IsTrue (B.state board.now).powered }
+    requires reasons { reasons.now ≡ reasons_in (B.state board.now).content cpu kind }
+    ensures { OnOk result (list.new.items ≡ list.old.items
+        ++ last_caveats (B.state board.now).content cpu kind reasons.now) }
+{
+    add_critical(board, list)?;
+    let table = taken_table(reasons.table, &reasons.first, &reasons.second);
+    add_ignore_flags(table, list)?;
+    add_no_reads(&reasons.decision, table, board.flash_len(), list)?;
+    let units = boot_units_in(board, cpu);
+    add(
+        list,
+        update_of_nothing(kind, reasons.size, reasons.table, units.as_slice()),
+    )
+}
+
 /// The caveats of an answer whose reasons are known.
 pub fn caveats_by<B: Board>(
     alloc: Global,
@@ -119,6 +149,7 @@ pub fn caveats_by<B: Board>(
     add_board(board, reasons, cpu, kind, &mut list)?;
     add_choice(board, pool, reasons, cpu, kind, &mut list)?;
     add_windows(board, pool, reasons, cpu, kind, &mut list)?;
+    add_last(board, reasons, cpu, kind, &mut list)?;
     Ok(list)
 }
 

@@ -3,10 +3,10 @@
 //!
 //! The definitions stand in `specs/`:
 //! - `Listing` says how conditions make lists of caveats.
-//! - `OtpCaveats`, `TableCaveats`, `ChoiceCaveats`, `StartCaveats` and `ImageCaveats` have the
-//!   caveats of one subject each, as functions.
-//! - `OtpRules`, `TableRules`, `ChoiceRules`, `StartRules` and `ImageRules` have the same
-//!   conditions as rules.
+//! - `OtpCaveats`, `TableCaveats`, `ChoiceCaveats`, `StartCaveats`, `ImageCaveats` and
+//!   `PartCaveats` have the caveats of one subject each, as functions.
+//! - `OtpRules`, `TableRules`, `ChoiceRules`, `StartRules`, `ImageRules` and `PartRules` have the
+//!   same conditions as rules.
 //! - `Caveats` has the whole list as a function, and `Rules` has it as rules.
 //! - `Alternatives` has six decisions by other rules.
 //!
@@ -21,6 +21,7 @@ mod gathering;
 mod images;
 pub mod laws;
 mod otp;
+mod parts;
 mod reading;
 mod starts;
 mod tables;

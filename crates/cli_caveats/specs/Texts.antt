@@ -4,7 +4,7 @@ use Rattle.std.specs.List.{flat_map}
 use Rattle.text_words.specs.Writing.{hex_digits, hex_row, hex_word, line}
 use Rattle.boot_rules.specs.declared.decision.Decision.{Decision}
 use Rattle.boot_caveats.specs.declared.caveat.Caveat.{Caveat}
-use Rattle.boot_caveats.specs.declared.caveat.Caveat.TheVariants.{SecureBoot, RawFlags, RawSlotSize, ShortFlash, TableInImage, OtherProcessor, SlotImage, Tie, UpdateOfSlot, UpdateMovesUnit, RollbackRows, RollbackFull, RollbackGap, FirstBlock, ItemOrder, MayStart, OwnedImage, UnreadTargets, UnreadSide, TableTie}
+use Rattle.boot_caveats.specs.declared.caveat.Caveat.TheVariants.{SecureBoot, RawFlags, RawSlotSize, ShortFlash, TableInImage, OtherProcessor, SlotImage, Tie, UpdateOfSlot, UpdateMovesUnit, RollbackRows, RollbackFull, RollbackGap, FirstBlock, ItemOrder, MayStart, OwnedImage, UnreadTargets, UnreadSide, TableTie, ShortSlots, RawCritical, IgnoreFlags, NoRead, UpdateOfNothing}
 use Rattle.text_lines.specs.Faults.{why_text}
 use Rattle.text_lines.specs.Texts.{decision_line, window_text}
 
@@ -19,6 +19,7 @@ caveat_text (RawFlags row bits) =
 caveat_text (RawSlotSize bits) = codes "caveat raw-slot-size bits=" ++ hex_bits bits
 caveat_text (ShortFlash slot part) =
     codes "caveat short-flash slot=" ++ (decimal slot ++ (codes " partition=" ++ decimal part))
+caveat_text (ShortSlots size) = codes "caveat short-flash slot-size=" ++ hex_word size
 caveat_text (TableInImage w at) =
     codes "caveat table-in-image " ++ (window_text w ++ (codes " at=" ++ hex_word at))
 caveat_text (OtherProcessor w) = codes "caveat other-processor " ++ window_text w
@@ -38,6 +39,11 @@ caveat_text (OwnedImage part) = codes "caveat owned-image partition=" ++ decimal
 caveat_text (UnreadTargets bits) = codes "caveat unread-bits unpartitioned=" ++ hex_word bits
 caveat_text (UnreadSide part) = codes "caveat unread-bits partition=" ++ decimal part
 caveat_text TableTie = codes "caveat table-tie"
+caveat_text (RawCritical row bits) =
+    codes "caveat raw-critical row=" ++ (hex_row row ++ (codes " bits=" ++ hex_bits bits))
+caveat_text (IgnoreFlags part) = codes "caveat ignore-flags partition=" ++ decimal part
+caveat_text (NoRead part) = codes "caveat no-read partition=" ++ decimal part
+caveat_text (UpdateOfNothing base) = codes "caveat update-of-nothing base=" ++ hex_word base
 
 abbrev pub caveat_line : Caveat → List ℕ
 caveat_line caveat = line (caveat_text caveat)

@@ -71,6 +71,7 @@ pub fn caveat_text(alloc: Global, caveat: Caveat) -> Result<String, AllocError>
         Caveat::ShortFlash(slot, part) => {
             format!(in alloc; "caveat short-flash slot={slot} partition={part}")
         }
+        Caveat::ShortSlots(size) => format!(in alloc; "caveat short-flash slot-size=0x{size:08x}"),
         Caveat::TableInImage(window, at) => table_text(alloc, window, at),
         Caveat::OtherProcessor(window) => window_text(alloc, "other-processor", window),
         Caveat::SlotImage(window) => window_text(alloc, "slot-1-image", window),
@@ -91,6 +92,14 @@ pub fn caveat_text(alloc: Global, caveat: Caveat) -> Result<String, AllocError>
         }
         Caveat::UnreadSide(part) => partition_text(alloc, "unread-bits", part),
         Caveat::TableTie => format!(in alloc; "caveat table-tie"),
+        Caveat::RawCritical(row, bits) => {
+            format!(in alloc; "caveat raw-critical row=0x{row:03x} bits=0x{bits:06x}")
+        }
+        Caveat::IgnoreFlags(part) => partition_text(alloc, "ignore-flags", part),
+        Caveat::NoRead(part) => partition_text(alloc, "no-read", part),
+        Caveat::UpdateOfNothing(base) => {
+            format!(in alloc; "caveat update-of-nothing base=0x{base:08x}")
+        }
     }
 }
 

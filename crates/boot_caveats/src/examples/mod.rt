@@ -2,6 +2,7 @@
 //! that does nothing.
 
 pub mod flashes;
+pub mod lines;
 
 ghost use Rattle.std.specs.Prelude.{◌≡◌, ℕ, [], ◌∷◌, ◌++◌, None, Some, Ok, Err, true, false};
 ghost use Rattle.pico_board.specs.declared.boot.BootKind.TheVariants.{Normal, Update};
