@@ -1,15 +1,17 @@
 -- Which caveats the rows of an OTP that a text describes give, and which they do not.
-use Rattle.std.proofs.Common.{◌≡◌, ◌≢◌, ℕ, zero, suc, ◌+◌, ◌*◌, ◌/◌, ◌%◌, ◌<◌, ◌≤◌, ◌==◌, Bool, true, false, cond, List, [], ◌∷◌, ◌++◌, All, count_by, refl, ap, subst, ◌∙◌, arith, inl, inr}
-use Rattle.std.specs.Prelude.{◌⊎◌, slice_index}
+use Rattle.std.proofs.Common.{◌≡◌, ℕ, zero, suc, ◌+◌, ◌*◌, ◌%◌, ◌<◌, ◌≤◌, ◌==◌, Bool, true, false, cond, List, [], ◌∷◌, ◌++◌, All, count_by, refl, ap, subst, ◌∙◌, arith, inl, inr}
+use Rattle.std.specs.Prelude.{◌⊎◌, ◌-◌, ◌^◌, nat_le, sum_by}
 use Rattle.std.specs.List.{range_with_len}
+use Rattle.std.proofs.Math.Nat.{zero-div}
 use Rattle.std.proofs.lemmas.List.Sums.{sum_by-cons}
+use Rattle.std.specs.Int.{bit_at}
 use Rattle.pico_board.specs.declared.boot.Cpu.{Cpu}
 use Rattle.pico_board.specs.declared.boot.BootKind.{BootKind}
 use Rattle.pico_board.specs.Content.{Content}
 use Rattle.boot_caveats.specs.declared.caveat.Caveat.{Caveat}
 use Rattle.boot_caveats.specs.declared.caveat.Caveat.TheVariants.{SecureBoot}
-use Rattle.boot_caveats.specs.OtpCaveats.{has_lowest_bit, raw_bits, raw_size_bits, secure_rows}
-use Rattle.boot_caveats.specs.OtpRules.{AreOtpCaveats, IsRawFlags, IsRawSlotSize, IsSecureBoot}
+use Rattle.boot_caveats.specs.OtpCaveats.{has_lowest_bit, has_row_bit, has_vote, raw_bits, raw_size_bits, secure_rows, voted_bit, voted_bits}
+use Rattle.boot_caveats.specs.OtpRules.{AreCriticalCaveats, AreOtpCaveats, IsRawCritical, IsRawFlags, IsRawSlotSize, IsSecureBoot}
 use Rattle.boot_caveats.specs.Rules.{AreCaveats}
 use Rattle.table_json.specs.declared.otps.OtpRow.{OtpRow}
 use Rattle.table_json.specs.Otps.{OtpView}
@@ -124,3 +126,44 @@ otp-none spec list sound secure high are =
     (flags-not otp 0x04a third.0
     (row-low spec 0x04a secure high (omega arith) (λ e. omega (arith, e)) (λ e. omega (arith, e))) third.2)
     (size-not otp third.1 (ap (λ q. 16 * q) (size-few spec sound)) third.3))))
+
+-- a sum of zeros
+sum-none : (f : ℕ → ℕ) (a n : ℕ) → ((k : ℕ) → f k ≡ 0) → sum_by f (range_with_len a n) ≡ 0
+sum-none f a zero none = refl
+sum-none f a (suc n) none =
+    let here = none a in
+    let rest = sum-none f (a + 1) n none in
+    sum_by-cons f a (range_with_len (a + 1) n) ∙ omega (arith, here, rest)
+
+-- 0 has no bit
+bit-none : (k : ℕ) → (bit_at 0 k == 1) ≡ false
+bit-none k = ap (λ q. q % 2 == 1) (zero-div (2 ^ k))
+
+critical-not : (otp : List ℕ) (row low : ℕ) (list : List Caveat) → voted_bits otp row low ≡ 0
+    → IsRawCritical otp row low list → list ≡ []
+critical-not otp row low list none (inl (some, is)) = absurd (some none)
+critical-not otp row low list none (inr (fails, is)) = is
+
+module _ (spec : OtpView) (secure : spec.secure_boot ≡ false)
+    (high : All (λ (pair : OtpRow). 0x0c0 ≤ pair.row) spec.rows) where
+  -- none of the eight copies of a critical row has a bit
+  no-vote : (row k : ℕ) → row + 8 ≤ 0x048 → has_vote (otp_words spec) row k ≡ false
+  no-vote row k low =
+      ap (λ n. nat_le 3 n)
+      (count-none (has_row_bit (otp_words spec) k) row 8
+      (λ copy least most. ap (λ w. bit_at w k == 1)
+      (row-low spec copy secure high (omega (arith, most, low)) (λ same. omega (arith, most, low, same))
+      (λ same. omega (arith, most, low, same))) ∙ bit-none k))
+
+  no-votes : (row low : ℕ) → row + 8 ≤ 0x048 → voted_bits (otp_words spec) row low ≡ 0
+  unfolding voted_bits
+  no-votes row low front =
+      sum-none (voted_bit (otp_words spec) row) low (24 - low)
+      (λ k. ap (λ b. cond b (2 ^ k) 0) (no-vote row k front))
+
+  -- no critical flag is set but those that are listed
+  pub critical-none : (list : List Caveat) → AreCriticalCaveats (otp_words spec) list → list ≡ []
+  critical-none list are =
+      both-none list are.0 are.1 are.4
+      (critical-not (otp_words spec) 0x038 0 are.0 (no-votes 0x038 0 (omega arith)) are.2)
+      (critical-not (otp_words spec) 0x040 1 are.1 (no-votes 0x040 1 (omega arith)) are.3)

@@ -8,7 +8,7 @@ ghost use Rattle.pico_board.specs.Content.{Content};
 ghost use Rattle.otp_roll.specs.Flags.{flash_off, rollback_required, slot_size};
 ghost use Rattle.boot_caveats.specs.declared.caveat.Caveat.{Caveat};
 ghost use Rattle.boot_caveats.specs.OtpCaveats.{has_lowest_bit, secure_rows};
-ghost use Rattle.boot_caveats.specs.OtpRules.{AreOtpCaveats, IsSecureBoot};
+ghost use Rattle.boot_caveats.specs.OtpRules.{AreCriticalCaveats, AreOtpCaveats, IsSecureBoot};
 ghost use Rattle.boot_caveats.specs.Rules.{AreCaveats};
 ghost use Rattle.boot_reasons.specs.declared.reasons.Reasons.{Reasons};
 ghost use Rattle.boot_reasons.specs.Rules.{IsExplained};
@@ -88,8 +88,8 @@ pub fn secure_boots_are_told()
 
 /// Where secure boot is off and no row below 0x0c0 is listed, no row that the caveat on secure boot
 /// counts has bit 0, and the rows of an OTP give no caveat at all: none on secure boot, none on raw
-/// flags, none on a raw slot size. Each row below 0x0c0 but those of the flags and of the slot size
-/// is 0.
+/// flags, none on a raw slot size, none on critical flags. Each row below 0x0c0 but those of the
+/// flags and of the slot size is 0.
 pub fn other_otps_give_no_caveat()
     ensures none { (spec : OtpView) → spec.secure_boot ≡ false
         → All (λ pair. 0x0c0 ≤ pair.row) spec.rows
@@ -97,6 +97,9 @@ pub fn other_otps_give_no_caveat()
     ensures caveats { (spec : OtpView) (list : List Caveat) → IsSound spec
         → spec.secure_boot ≡ false → All (λ pair. 0x0c0 ≤ pair.row) spec.rows
         → AreOtpCaveats (otp_words spec) list → list ≡ [] }
+    ensures critical { (spec : OtpView) (list : List Caveat) → spec.secure_boot ≡ false
+        → All (λ pair. 0x0c0 ≤ pair.row) spec.rows → AreCriticalCaveats (otp_words spec) list
+        → list ≡ [] }
     ensures rows { (spec : OtpView) (row : ℕ) → spec.secure_boot ≡ false
         → All (λ pair. 0x0c0 ≤ pair.row) spec.rows → row < 0x0c0 → row ≢ 0x048 → row ≢ 0x055
         → slice_index (otp_words spec) row ≡ 0 }
