@@ -14,7 +14,7 @@ use Rattle.pico_board.specs.declared.window.Window.{Window}
 use Rattle.pico_board.specs.declared.window.TheConstants.{SMALLEST_SLOT}
 use Rattle.pico_board.specs.Content.{Content, window_bytes}
 use Rattle.block_codec.specs.declared.items.Item.{Item}
-use Rattle.block_codec.specs.declared.kinds.TheConstants.{IMAGE_TYPE, HASH_DEF, HASH_VALUE}
+use Rattle.block_codec.specs.declared.kinds.TheConstants.{IMAGE_TYPE, HASH_DEF, HASH_VALUE, VERSION}
 use Rattle.block_codec.specs.Items.{items_of}
 use Rattle.block_codec.specs.Kinds.{is_of_kind}
 use Rattle.block_codec.specs.Blocks.{BlockView, block_size}
@@ -44,7 +44,7 @@ use Rattle.boot_caveats.specs.declared.caveat.Caveat.TheVariants.{FirstBlock, It
 use Rattle.boot_caveats.specs.Listing.{AreOfEach, IsWhere, caveat_if}
 use Rattle.boot_caveats.specs.ChoiceCaveats.{has_normal_image}
 use Rattle.boot_caveats.specs.ImageCaveats.{begins_otherwise, definition_in, ends_late, first_places, is_doubtful, item_order, late_first, late_firsts, look_may_start, looked_windows, may_start, owned_image, owned_images, read_windows, reads_blocks, second_may_start}
-use Rattle.boot_caveats.specs.ImageRules.{AreItemOrders, AreLateFirsts, AreMayStarts, AreOwnedImages, BeginsOtherwise, HasLateFirst, IsDoubtful, IsMayStart, IsOwnedImage, IsSecondMayStart, ReadsBlocks, bad_row, covers_block, runtime, bad_hash_def, bad_hash_value, entry, delta}
+use Rattle.boot_caveats.specs.ImageRules.{AreItemOrders, AreLateFirsts, AreMayStarts, AreOwnedImages, BeginsOtherwise, HasLateFirst, IsDoubtful, IsMayStart, IsOwnedImage, IsSecondMayStart, ReadsBlocks, bad_row, repeated_row, bad_version, covers_block, runtime, bad_hash_def, bad_hash_value, entry, delta}
 use Rattle.boot_caveats.proofs.WindowLemmas.{places-only, places-right}
 use Rattle.boot_caveats.proofs.ChoiceCaveatLemmas.{normal-decides}
 use Rattle.boot_caveats.proofs.TableCaveatLemmas.{no-parts, parts-just}
@@ -201,12 +201,16 @@ doubt-says (Loop fault) e = cc
 doubt-says NoDefinition e = cc
 doubt-says NotForProcessor e = cc
 doubt-says (Items (Repeated kind)) e = cc
-doubt-says (Items (BadItem kind)) e = elim (either (kind == HASH_DEF) (kind == HASH_VALUE) e) [
-  | inl one ↦ subst (λ k. IsDoubtful (Items (BadItem k))) (sym (eqb-true kind HASH_DEF one)) bad_hash_def
-  | inr two ↦ subst (λ k. IsDoubtful (Items (BadItem k))) (sym (eqb-true kind HASH_VALUE two)) bad_hash_value
-]
+doubt-says (Items (BadItem kind)) e =
+    elim (either (kind == HASH_DEF) (kind == HASH_VALUE || kind == VERSION) e) [
+      | inl one ↦ subst (λ k. IsDoubtful (Items (BadItem k))) (sym (eqb-true kind HASH_DEF one)) bad_hash_def
+      | inr later ↦ elim (either (kind == HASH_VALUE) (kind == VERSION) later) [
+        | inl two ↦ subst (λ k. IsDoubtful (Items (BadItem k))) (sym (eqb-true kind HASH_VALUE two)) bad_hash_value
+        | inr three ↦ subst (λ k. IsDoubtful (Items (BadItem k))) (sym (eqb-true kind VERSION three)) bad_version
+      ]
+    ]
 doubt-says (Items (BadRow row)) e = bad_row row
-doubt-says (Items (RepeatedRow row)) e = cc
+doubt-says (Items (RepeatedRow row)) e = repeated_row row
 doubt-says Trial e = cc
 doubt-says RollbackRequired e = cc
 doubt-says (Below version count) e = cc
@@ -219,6 +223,8 @@ doubt-says Delta e = delta
 
 pub says-doubt : (why : Why) → IsDoubtful why → is_doubtful why ≡ true
 says-doubt _ (bad_row row) = refl
+says-doubt _ (repeated_row row) = refl
+says-doubt _ bad_version = refl
 says-doubt _ (covers_block i) = refl
 says-doubt _ (runtime i) = refl
 says-doubt _ bad_hash_def = refl

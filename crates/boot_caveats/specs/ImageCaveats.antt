@@ -9,7 +9,7 @@ use Rattle.pico_board.specs.declared.window.Window.{Window}
 use Rattle.pico_board.specs.Windows.{is_same_window}
 use Rattle.pico_board.specs.declared.window.TheConstants.{SMALLEST_SLOT}
 use Rattle.pico_board.specs.Content.{Content, window_bytes}
-use Rattle.block_codec.specs.declared.kinds.TheConstants.{IMAGE_TYPE, HASH_DEF, HASH_VALUE}
+use Rattle.block_codec.specs.declared.kinds.TheConstants.{IMAGE_TYPE, HASH_DEF, HASH_VALUE, VERSION}
 use Rattle.block_codec.specs.Items.{items_of}
 use Rattle.block_codec.specs.Kinds.{is_of_kind}
 use Rattle.block_codec.specs.Blocks.{BlockView, block_size}
@@ -98,9 +98,9 @@ item_order c cpu w =
 -- the rules that the chip may not judge
 abbrev pub is_doubtful_item : DefFault → Bool
 is_doubtful_item (Repeated kind) = false
-is_doubtful_item (BadItem kind) = kind == HASH_DEF || kind == HASH_VALUE
+is_doubtful_item (BadItem kind) = kind == HASH_DEF || (kind == HASH_VALUE || kind == VERSION)
 is_doubtful_item (BadRow row) = true
-is_doubtful_item (RepeatedRow row) = false
+is_doubtful_item (RepeatedRow row) = true
 
 abbrev pub is_doubtful_map : MapFault → Bool
 is_doubtful_map (Storage i) = false

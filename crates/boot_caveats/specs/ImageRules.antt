@@ -5,13 +5,13 @@ use Rattle.pico_board.specs.declared.window.Window.{Window}
 use Rattle.pico_board.specs.declared.window.TheConstants.{SMALLEST_SLOT}
 use Rattle.pico_board.specs.Content.{Content, window_bytes}
 use Rattle.block_codec.specs.declared.items.Item.{Item}
-use Rattle.block_codec.specs.declared.kinds.TheConstants.{IMAGE_TYPE, HASH_DEF, HASH_VALUE}
+use Rattle.block_codec.specs.declared.kinds.TheConstants.{IMAGE_TYPE, HASH_DEF, HASH_VALUE, VERSION}
 use Rattle.block_codec.specs.Items.{items_of}
 use Rattle.block_codec.specs.Kinds.{is_of_kind}
 use Rattle.block_codec.specs.Blocks.{BlockView, block_size}
 use Rattle.block_loop.specs.Loop.{IsFirstBlock, IsLoop}
 use Rattle.image_def.specs.declared.started.Started.{Started}
-use Rattle.image_def.specs.declared.fault.DefFault.TheVariants.{BadItem, BadRow}
+use Rattle.image_def.specs.declared.fault.DefFault.TheVariants.{BadItem, BadRow, RepeatedRow}
 use Rattle.image_def.specs.Suits.{does_suit}
 use Rattle.load_map.specs.declared.load.MapFault.TheVariants.{Runtime, CoversBlock}
 use Rattle.image_check.specs.declared.why.EntryFault.{EntryFault}
@@ -78,6 +78,8 @@ AreItemOrders c cpu looks =
 -- the rules that the chip may not judge
 pub data IsDoubtful : Why → Type 0 where
   bad_row : (row : ℕ) → IsDoubtful (Items (BadRow row))
+  repeated_row : (row : ℕ) → IsDoubtful (Items (RepeatedRow row))
+  bad_version : IsDoubtful (Items (BadItem VERSION))
   covers_block : (i : ℕ) → IsDoubtful (Map (CoversBlock i))
   runtime : (i : ℕ) → IsDoubtful (Map (Runtime i))
   bad_hash_def : IsDoubtful (Items (BadItem HASH_DEF))

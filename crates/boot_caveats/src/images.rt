@@ -13,7 +13,7 @@ use crate::choices::has_normal_image;
 use crate::reading::{definition_in, first_block};
 use arrayvec::ArrayVec;
 use block_codec::Block;
-use block_codec::kinds::{HASH_DEF, HASH_VALUE, IMAGE_TYPE, kind_of};
+use block_codec::kinds::{HASH_DEF, HASH_VALUE, IMAGE_TYPE, VERSION, kind_of};
 use boot_reasons::UnitReport;
 use boot_rules::{Decision, Fall, Started};
 use image_check::Why;
@@ -204,9 +204,9 @@ fn is_doubtful_item(fault: DefFault) -> bool
     ensures { result ≡ is_doubtful_item fault }
 {
     match fault {
-        DefFault::BadRow(_) => true,
-        DefFault::BadItem(kind) => kind == HASH_DEF || kind == HASH_VALUE,
-        DefFault::Repeated(_) | DefFault::RepeatedRow(_) => false,
+        DefFault::BadRow(_) | DefFault::RepeatedRow(_) => true,
+        DefFault::BadItem(kind) => kind == HASH_DEF || (kind == HASH_VALUE || kind == VERSION),
+        DefFault::Repeated(_) => false,
     }
 }
 

@@ -205,10 +205,11 @@ pub fn blocks_of_windows()
 /// The rules that the chip may not judge, and those that it does.
 pub fn rules_that_are_in_doubt()
     ensures row { is_doubtful (Why.Items (DefFault.BadRow 0x04e)) ≡ true }
-    ensures twice { is_doubtful (Why.Items (DefFault.RepeatedRow 0x0c0)) ≡ false }
+    ensures twice { is_doubtful (Why.Items (DefFault.RepeatedRow 0x0c0)) ≡ true }
     ensures hash_def { is_doubtful (Why.Items (DefFault.BadItem 0x47)) ≡ true }
     ensures hash_value { is_doubtful (Why.Items (DefFault.BadItem 0x4b)) ≡ true }
-    ensures version { is_doubtful (Why.Items (DefFault.BadItem 0x48)) ≡ false }
+    ensures version { is_doubtful (Why.Items (DefFault.BadItem 0x48)) ≡ true }
+    ensures other_item { is_doubtful (Why.Items (DefFault.BadItem 0x44)) ≡ false }
     ensures repeated { is_doubtful (Why.Items (DefFault.Repeated 0x47)) ≡ false }
     ensures covers { is_doubtful (Why.Map (MapFault.CoversBlock 0)) ≡ true }
     ensures runtime { is_doubtful (Why.Map (MapFault.Runtime 3)) ≡ true }
