@@ -1,5 +1,5 @@
-//! Worked examples of the lines that look at the OTP, at partitions and at the kind of a boot, proved
-//! by computing: each is the `ensures` of a function that does nothing.
+//! Worked examples of the lines that look at the OTP, at partitions and at the kind of a boot,
+//! proved by computing: each is the `ensures` of a function that does nothing.
 
 ghost use Rattle.std.specs.Prelude.{◌≡◌, [], ◌∷◌, None, Some, false};
 ghost use Rattle.pico_board.specs.declared.boot.BootKind.TheVariants.{Normal, Update};

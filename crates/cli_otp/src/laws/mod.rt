@@ -70,8 +70,8 @@ pub fn otps_are_read_back()
 {}
 
 /// Where secure boot is on and no row of 0x040 to 0x047 is listed, all eight rows that the caveat
-/// on secure boot counts have bit 0. So the caveats of each answer begin with this one, whatever the
-/// flash, the processor and the boot type.
+/// on secure boot counts have bit 0. So the caveats of each answer begin with this one, whatever
+/// the flash, the processor and the boot type.
 pub fn secure_boots_are_told()
     ensures all { (spec : OtpView) → spec.secure_boot ≡ true
         → All (λ pair. (pair.row < 0x040) ⊎ (0x047 < pair.row)) spec.rows
