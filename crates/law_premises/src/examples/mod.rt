@@ -3,5 +3,6 @@
 
 pub mod boots;
 pub mod formats;
+pub mod otps;
 pub mod scripts;
 pub mod sessions;
