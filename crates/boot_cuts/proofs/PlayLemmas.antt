@@ -16,8 +16,10 @@ use Rattle.pico_board.specs.Steps.{IsStepIn, after, after_all}
 use Rattle.boot_script.specs.Events.{EventView}
 use Rattle.boot_machine.specs.declared.parts.Parts.{Parts}
 use Rattle.boot_machine.specs.Boots.{Effect}
+use Rattle.text_lines.specs.declared.outcome.EventOutcome.{EventOutcome}
+use Rattle.text_lines.specs.declared.outcome.EventOutcome.TheVariants as event_outcomes
 use Rattle.boot_machine.specs.Machines.{MachineView, Off}
-use Rattle.boot_machine.specs.Moves.{IsLost, Moves, MovesBy, armed_for, effect, lost_text}
+use Rattle.boot_machine.specs.Moves.{IsLost, Moves, MovesBy, armed_for, effect}
 use Rattle.boot_machine.specs.Standing.{IsStep, Stands, StandsAt}
 use Rattle.boot_plays.specs.Plays.{Moved, moved_as, moved_machine, played, powerless, told_cut}
 use Rattle.boot_plays.proofs.PlayLemmas.{moved-as}
@@ -363,26 +365,26 @@ told-none : (steps : List Step) (c : Content)
 told-none [] c = refl
 told-none (step ∷ steps) c = told-none steps (after c step)
 
-no-loss : (m : MachineView) (e : Effect) (n : MachineView) (line : List ℕ) → IsLost m (Some None) e n line → ⊥
-no-loss m e n line lost =
+no-loss : (m : MachineView) (e : Effect) (n : MachineView) (outcome : EventOutcome) → IsLost m (Some None) e n outcome → ⊥
+no-loss m e n outcome lost =
     let no : true ≡ false = sym (ap (λ (o : CutOutcome). o.answer) (told-none e.steps m.content))
     ∙ lost.armed_cut.answer in cc
 
 -- an event on a board of which no cut is armed does its steps whole
 pub stepped-by : (old : Parts (Tracer MemBoard)) (m : MachineView) (event : EventView) (new : Parts (Tracer MemBoard))
-    (line : List ℕ) → armed_for m.armed event ≡ Some None
-    → IsStep traced_state (HasTraced state_of) old m event new line
-    → ((n : MachineView) (text : List ℕ) → Moves m event n text → text ≡ lost_text
-    → IsLost m (armed_for m.armed event) (effect m event) n text)
+    (outcome : EventOutcome) → armed_for m.armed event ≡ Some None
+    → IsStep traced_state (HasTraced state_of) old m event new outcome
+    → ((n : MachineView) (came : EventOutcome) → Moves m event n came → came ≡ event_outcomes.PowerLost
+    → IsLost m (armed_for m.armed event) (effect m event) n came)
     → IsStepped old m (effect m event) new
-stepped-by old m event new line none is says =
-    go (subst (λ a. MovesBy m a (effect m event) is.next line) none is.moves)
-    (λ lost. no-loss m (effect m event) is.next line
-    (subst (λ a. IsLost m a (effect m event) is.next line) none (says is.next line is.moves lost)))
+stepped-by old m event new outcome none is says =
+    go (subst (λ a. MovesBy m a (effect m event) is.next outcome) none is.moves)
+    (λ lost. no-loss m (effect m event) is.next outcome
+    (subst (λ a. IsLost m a (effect m event) is.next outcome) none (says is.next outcome is.moves lost)))
   where
-    go : MovesBy m (Some None) (effect m event) is.next line → line ≢ lost_text
+    go : MovesBy m (Some None) (effect m event) is.next outcome → outcome ≢ event_outcomes.PowerLost
         → IsStepped old m (effect m event) new
-    go (inr lost) kept = absurd (no-loss m (effect m event) is.next line lost)
+    go (inr lost) kept = absurd (no-loss m (effect m event) is.next outcome lost)
     go (inl done) kept = record {
       stands = record {
         content = sym done.content ∙ is.stands.content;

@@ -10,8 +10,9 @@ use Rattle.pico_board.specs.Cuts.{Cut, CutOutcome, cut_by, cut_steps, cut_with}
 use Rattle.pico_board.specs.Steps.{after, after_all}
 use Rattle.boot_rules.specs.Choosing.{decision_in}
 use Rattle.boot_script.specs.Events.{EventView}
+use Rattle.text_lines.specs.declared.outcome.EventOutcome.TheVariants as event_outcomes
 use Rattle.boot_machine.specs.Machines.{MachineView, Off}
-use Rattle.boot_machine.specs.Moves.{armed_for, effect, lost_text, reset}
+use Rattle.boot_machine.specs.Moves.{armed_for, effect, reset}
 use Rattle.text_lines.specs.Texts.{decision_text}
 use Rattle.boot_plays.specs.Plays.{Moved, Played, moved_as, moved_machine, played, powerless, told_cut}
 use Rattle.boot_plays.proofs.PlayLemmas.{moved-as, moved-told}
@@ -26,11 +27,11 @@ use Rattle.boot_cuts.proofs.PlayLemmas.{moved-by}
 pub played-append : (m : MachineView) (xs ys : List EventView)
     → played m (xs ++ ys) ≡ (record {
       last = (played (played m xs).last ys).last;
-      texts = (played m xs).texts ++ (played (played m xs).last ys).texts;
+      outcomes = (played m xs).outcomes ++ (played (played m xs).last ys).outcomes;
     })
 played-append m [] ys = refl
 played-append m (x ∷ xs) ys =
-    ap (λ (p : Played). record { last = p.last; texts = (moved_machine m x).text ∷ p.texts })
+    ap (λ (p : Played). record { last = p.last; outcomes = (moved_machine m x).outcome ∷ p.outcomes })
     (played-append (moved_machine m x).next xs ys)
 
 -- a machine with another cut armed
@@ -49,7 +50,7 @@ effect-armed m cut EventView.Buy = refl
 -- a Cut event takes the place of a former cut
 arms : (m : MachineView) (former : Option Cut) (n : ℕ) (within : Bool) (pattern : List ℕ) → m.armed ≡ Some former
     → moved_machine m (EventView.Cut n within pattern)
-    ≡ (record { next = armed_with m (Some (cut_with n within pattern)); text = codes "cut armed" })
+    ≡ (record { next = armed_with m (Some (cut_with n within pattern)); outcome = event_outcomes.CutArmed })
 arms m former n within pattern told =
     moved-as m (EventView.Cut n within pattern) (Some (cut_with n within pattern))
     (ap (option_map (λ x. Some (cut_with n within pattern))) told)
@@ -111,20 +112,20 @@ told-none [] c = refl
 told-none (step ∷ steps) c = told-none steps (after c step)
 
 pub boots : (d : Content) (cpu : Cpu)
-    → (moved_machine (off_with d cpu) EventView.PowerOn).text
-    ≡ codes "boot " ++ decision_text (decision_in d cpu Normal)
+    → (moved_machine (off_with d cpu) EventView.PowerOn).outcome
+    ≡ event_outcomes.Booted (decision_in d cpu Normal)
 boots d cpu =
     let e = reset d cpu Normal in
-    ap (λ (x : Moved). x.text) (moved-as (off_with d cpu) EventView.PowerOn None refl)
-    ∙ ap (λ (o : CutOutcome). (moved_as (off_with d cpu) e o).text) (told-none e.steps d)
+    ap (λ (x : Moved). x.outcome) (moved-as (off_with d cpu) EventView.PowerOn None refl)
+    ∙ ap (λ (o : CutOutcome). (moved_as (off_with d cpu) e o).outcome) (told-none e.steps d)
 
 -- the event in which power is lost, and power that comes back
 pub replayed : (m : MachineView) (former : Option Cut) (event : EventView) (k : ℕ) (within : Bool) (pattern : List ℕ)
     (t : Traced) → m.armed ≡ Some former → cut_in event ≡ None
     → slice_get (traced_from m.content (event_steps m event)) k ≡ Some t
-    → (played m (EventView.Cut k within pattern ∷ event ∷ EventView.PowerOn ∷ [])).texts
-    ≡ (codes "cut armed" ∷ lost_text ∷ (codes "boot "
-    ++ decision_text (decision_in (cut_by (cut_with 0 within pattern) t.before t.step) m.cpu Normal)) ∷ [])
+    → (played m (EventView.Cut k within pattern ∷ event ∷ EventView.PowerOn ∷ [])).outcomes
+    ≡ (event_outcomes.CutArmed ∷ event_outcomes.PowerLost
+    ∷ event_outcomes.Booted (decision_in (cut_by (cut_with 0 within pattern) t.before t.step) m.cpu Normal) ∷ [])
 replayed m former event k within pattern t told uncut at =
     let cut = cut_with k within pattern in
     let d = cut_by (cut_with 0 within pattern) t.before t.step in
@@ -141,15 +142,15 @@ replayed m former event k within pattern t told uncut at =
       content = after_moves m.content (cut_moves (Some cut) x.steps).moves;
       armed = (cut_moves (Some cut) x.steps).armed;
     })) (effect-armed m (Some cut) event) in
-    let lost : moved_machine m1 event ≡ (record { next = off_with d m.cpu; text = lost_text }) =
+    let lost : moved_machine m1 event ≡ (record { next = off_with d m.cpu; outcome = event_outcomes.PowerLost }) =
     by
     ∙ (ap (λ b. moved_as m1 e (record { answer = b; content = after_moves m.content w.moves; armed = w.armed })) there.lost
     ∙ (ap (λ x. moved_as m1 e (record { answer = false; content = x; armed = w.armed })) there.left
     ∙ ap (λ x. moved_as m1 e (record { answer = false; content = d; armed = x })) there.none)) in
-    ap (λ (x : Moved). x.text ∷ (played x.next (event ∷ EventView.PowerOn ∷ [])).texts)
+    ap (λ (x : Moved). x.outcome ∷ (played x.next (event ∷ EventView.PowerOn ∷ [])).outcomes)
     (arms m former k within pattern told)
-    ∙ (ap (λ (x : Moved). codes "cut armed" ∷ x.text ∷ (played x.next (EventView.PowerOn ∷ [])).texts) lost
-    ∙ ap (λ line. codes "cut armed" ∷ lost_text ∷ line ∷ []) (boots d m.cpu))
+    ∙ (ap (λ (x : Moved). event_outcomes.CutArmed ∷ x.outcome ∷ (played x.next (EventView.PowerOn ∷ [])).outcomes) lost
+    ∙ ap (λ outcome. event_outcomes.CutArmed ∷ event_outcomes.PowerLost ∷ outcome ∷ []) (boots d m.cpu))
 
 -- a board that tells its cut tells it after events
 pub told-after : (m : MachineView) (cut : Option Cut) (events : List EventView) → m.armed ≡ Some cut
@@ -171,19 +172,19 @@ pub a-replay : (c : Content) (cpu : Cpu) (before : List EventView) (event : Even
     (pattern : List ℕ) (t : Traced) → cut_in event ≡ None
     → slice_get (traced_from (played (powerless c cpu) before).last.content
     (event_steps (played (powerless c cpu) before).last event)) k ≡ Some t
-    → (played (powerless c cpu) (replay_of before event k within pattern)).texts
-    ≡ (played (powerless c cpu) before).texts ++ (codes "cut armed" ∷ lost_text ∷ (codes "boot "
-    ++ decision_text (decision_in (cut_by (cut_with 0 within pattern) t.before t.step) cpu Normal)) ∷ [])
+    → (played (powerless c cpu) (replay_of before event k within pattern)).outcomes
+    ≡ (played (powerless c cpu) before).outcomes ++ (event_outcomes.CutArmed ∷ event_outcomes.PowerLost
+    ∷ event_outcomes.Booted (decision_in (cut_by (cut_with 0 within pattern) t.before t.step) cpu Normal) ∷ [])
 a-replay c cpu before event k within pattern t uncut at =
     let m = powerless c cpu in
     let mid = (played m before).last in
     let told = told-after m None before refl in
-    ap (λ (p : Played). p.texts) (played-append m before
+    ap (λ (p : Played). p.outcomes) (played-append m before
     (EventView.Cut k within pattern ∷ event ∷ EventView.PowerOn ∷ []))
-    ∙ ap (λ ts. (played m before).texts ++ ts)
+    ∙ ap (λ ts. (played m before).outcomes ++ ts)
     (replayed mid (told.0) event k within pattern t told.1 uncut at
-    ∙ ap (λ x. codes "cut armed" ∷ lost_text ∷ (codes "boot "
-    ++ decision_text (decision_in (cut_by (cut_with 0 within pattern) t.before t.step) x Normal)) ∷ [])
+    ∙ ap (λ x. event_outcomes.CutArmed ∷ event_outcomes.PowerLost
+    ∷ event_outcomes.Booted (decision_in (cut_by (cut_with 0 within pattern) t.before t.step) x Normal) ∷ [])
     (cpu-after m before))
 
 -- the events before and behind one make up the trace

@@ -14,7 +14,6 @@ ghost use Rattle.boot_cuts.specs.Playing.{HasFollowed, IsLong, IsPlay, IsReady, 
 use crate::copying::copy_of;
 use crate::trace::{ArmedCut, Trace};
 use crate::tracer::{TRACE_LIMIT, Tracer};
-use arrayvec::ArrayString;
 use boot_machine::Machine;
 use boot_machine::laws::run::only_lost_power_says_so;
 use boot_script::{Event, Script};
@@ -64,8 +63,7 @@ fn step(machine: &mut Machine<Tracer<MemBoard>>, event: &Event<'_>)
         → IsStepped machine.old m (effect m (event_from event.now)) machine.new }
 {
     only_lost_power_says_so();
-    let mut line = ArrayString::new();
-    machine.step(event, &mut line);
+    machine.advance(event);
 }
 
 /// Plays an event that arms no cut, and answers whether all its steps complete.

@@ -25,11 +25,12 @@ use Rattle.picoboot_cmd.specs.Commands.{command_in}
 use Rattle.ram_start.specs.Serving.{is_ram_command}
 use Rattle.boot_rules.specs.Targets.{target_of}
 use Rattle.boot_script.specs.Events.{EventView}
-use Rattle.text_lines.specs.Texts.{command_text, refused_text}
+use Rattle.text_lines.specs.declared.outcome.EventOutcome.{EventOutcome}
+use Rattle.text_lines.specs.Outcomes.{command_outcome, refused_outcome}
 use Rattle.boot_machine.specs.Machines.{Host, InBootsel, MachineView, Placing, StateView}
 use Rattle.boot_machine.specs.Moves.{Moves, MovesBy, Decides, effect_in}
 use Rattle.boot_machine.specs.Runs.{AnswersTarget, BeginsDownload, IsNewDownload, served_by}
-use Rattle.boot_machine.specs.Serving.{info_reply, ServedEvent, carried_on, uf2_served, command_served, serves_ram, serves_host, taken_in, block_served, followed, info_words, is_like, ruled_on, ruling_on, served_event, serves_info, info_line, table_of_found, line_only}
+use Rattle.boot_machine.specs.Serving.{info_reply, ServedEvent, carried_on, uf2_served, command_served, serves_ram, serves_host, taken_in, block_served, followed, info_words, is_like, ruled_on, ruling_on, served_event, serves_info, info_outcome, table_of_found, only_told}
 
 -- two flags are told apart by their number
 flags-apart : (a b c d : Bool) → bit a + 2 * bit b ≡ bit c + 2 * bit d → (a ≡ c) × (b ≡ d)
@@ -130,12 +131,12 @@ abbrev machine : Content → Option (Option Cut) → Cpu → StateView → Machi
 machine c armed cpu place = record { content = c; armed = armed; cpu = cpu; place = place }
 
 -- a move that does no step and leaves the place leaves the machine
-pub still-moves : (m n : MachineView) (place : StateView) (line text : List ℕ) → m.place ≡ place
-    → MovesBy m m.armed (record { steps = []; place = place; text = line }) n text → (n ≡ m) × (text ≡ line)
-still-moves m n place line text at (inr lost) = absurd lost.content
-still-moves m n place line text at (inl done) = (
+pub still-moves : (m n : MachineView) (place : StateView) (told outcome : EventOutcome) → m.place ≡ place
+    → MovesBy m m.armed (record { steps = []; place = place; outcome = told }) n outcome → (n ≡ m) × (outcome ≡ told)
+still-moves m n place told outcome at (inr lost) = absurd lost.content
+still-moves m n place told outcome at (inl done) = (
   same m n done.content (armed m.armed n.armed m.content n.content done.armed_cut) done.cpu (done.place ∙ sym at),
-  done.line,
+  done.told,
 )
   where
     armed : (a b : Option (Option Cut)) (c d : Content) → Decides a c [] true d b → b ≡ a
@@ -148,63 +149,63 @@ still-moves m n place line text at (inl done) = (
         ∙ ap (λ x. machine m.content m.armed x n.place) g ∙ ap (λ x. machine m.content m.armed m.cpu x) h
 
 -- what moves is what is served, in BOOTSEL
-pub hosted-moves : (m n : MachineView) (host : Host) (bytes text : List ℕ) (s : ServedEvent) → m.place ≡ InBootsel host
-    → served_event m.content m.cpu host (EventView.Uf2 bytes) ≡ s → Moves m (EventView.Uf2 bytes) n text
-    → MovesBy m m.armed (followed m.content m.cpu s) n text
-hosted-moves m n host bytes text s at is moves =
-    subst (λ (x : ServedEvent). MovesBy m m.armed (followed m.content m.cpu x) n text) is
-    (subst (λ (p : StateView). MovesBy m m.armed (effect_in m.content m.cpu p (EventView.Uf2 bytes)) n text) at moves)
+pub hosted-moves : (m n : MachineView) (host : Host) (bytes : List ℕ) (outcome : EventOutcome) (s : ServedEvent) → m.place ≡ InBootsel host
+    → served_event m.content m.cpu host (EventView.Uf2 bytes) ≡ s → Moves m (EventView.Uf2 bytes) n outcome
+    → MovesBy m m.armed (followed m.content m.cpu s) n outcome
+hosted-moves m n host bytes outcome s at is moves =
+    subst (λ (x : ServedEvent). MovesBy m m.armed (followed m.content m.cpu x) n outcome) is
+    (subst (λ (p : StateView). MovesBy m m.armed (effect_in m.content m.cpu p (EventView.Uf2 bytes)) n outcome) at moves)
 
-module _ (m n : MachineView) (host : Host) (command payload text : List ℕ) (family : ℕ) (answer : Option Target)
+module _ (m n : MachineView) (host : Host) (command payload : List ℕ) (outcome : EventOutcome) (family : ℕ) (answer : Option Target)
     (at : m.place ≡ InBootsel host) (is : AnswersTarget m.content m.cpu host command payload family answer)
-    (moves : Moves m (EventView.Command command payload) n text) where
+    (moves : Moves m (EventView.Command command payload) n outcome) where
   info-served : served_event m.content m.cpu host (EventView.Command command payload)
-      ≡ line_only host (command_text is.cmd 0 (bytes_of (target_words answer)))
+      ≡ only_told host (command_outcome is.cmd 0 (bytes_of (target_words answer)))
   unfolding info_reply
   info-served =
       ap (λ r. command_served m.content m.cpu host r payload) is.is
       ∙ if-true (is.cmd.id == INFO) (serves_info m.content m.cpu host is.cmd payload)
       (if is_ram_command is.cmd then serves_ram m.content m.cpu host is.cmd payload
       else serves_host m.content host is.cmd payload) (eq-eqb is.cmd.id INFO is.id)
-      ∙ ap (λ status. line_only host (info_line status m.content m.cpu host.found is.cmd)) is.status
-      ∙ ap (λ words. line_only host (command_text is.cmd 0 (bytes_of words))) is.words
+      ∙ ap (λ status. only_told host (info_outcome status m.content m.cpu host.found is.cmd)) is.status
+      ∙ ap (λ words. only_told host (command_outcome is.cmd 0 (bytes_of words))) is.words
 
   info-moves : MovesBy m m.armed (followed m.content m.cpu
-      (line_only host (command_text is.cmd 0 (bytes_of (target_words answer))))) n text
+      (only_told host (command_outcome is.cmd 0 (bytes_of (target_words answer))))) n outcome
   info-moves =
-      subst (λ (x : ServedEvent). MovesBy m m.armed (followed m.content m.cpu x) n text) info-served
+      subst (λ (x : ServedEvent). MovesBy m m.armed (followed m.content m.cpu x) n outcome) info-served
       (subst (λ (p : StateView). MovesBy m m.armed
-      (effect_in m.content m.cpu p (EventView.Command command payload)) n text) at moves)
+      (effect_in m.content m.cpu p (EventView.Command command payload)) n outcome) at moves)
 
-  info-still : (n ≡ m) × (text ≡ command_text is.cmd 0 (bytes_of (target_words answer)))
+  info-still : (n ≡ m) × (outcome ≡ command_outcome is.cmd 0 (bytes_of (target_words answer)))
   info-still =
-      still-moves m n (InBootsel host) (command_text is.cmd 0 (bytes_of (target_words answer))) text at info-moves
+      still-moves m n (InBootsel host) (command_outcome is.cmd 0 (bytes_of (target_words answer))) outcome at info-moves
 
   pub info-told : (n ≡ m) × ((cmd : Cmd) × (command_in command ≡ Ok cmd)
-      × (text ≡ command_text cmd 0 (bytes_of (target_words answer))))
+      × (outcome ≡ command_outcome cmd 0 (bytes_of (target_words answer))))
   info-told = (info-still.0, (is.cmd, is.is, info-still.1))
 
-  module _ (o : MachineView) (bytes line : List ℕ) (b : Uf2)
+  module _ (o : MachineView) (bytes : List ℕ) (told : EventOutcome) (b : Uf2)
       (begins : BeginsDownload (length m.content.flash) host family bytes b)
-      (next : Moves n (EventView.Uf2 bytes) o line) where
-    pub block-moves : MovesBy m m.armed (followed m.content m.cpu (served_by host answer b)) o line
+      (next : Moves n (EventView.Uf2 bytes) o told) where
+    pub block-moves : MovesBy m m.armed (followed m.content m.cpu (served_by host answer b)) o told
     block-moves =
-        hosted-moves m o host bytes line (served_by host answer b) at
+        hosted-moves m o host bytes told (served_by host answer b) at
         (served-answered m.content m.cpu host command payload family answer is bytes b begins)
-        (subst (λ (x : MachineView). Moves x (EventView.Uf2 bytes) o line) (info-still.0) next)
+        (subst (λ (x : MachineView). Moves x (EventView.Uf2 bytes) o told) (info-still.0) next)
 
-    -- where the ruling is a refusal, nothing is done but a line
+    -- where the ruling is a refusal, nothing is done but an answer
     pub block-refused : (fault : PlaceFault) → begun (table_of_found host.found) b answer ≡ Answered (Err fault)
-        → (o ≡ m) × (line ≡ refused_text fault)
+        → (o ≡ m) × (told ≡ refused_outcome fault)
     block-refused fault rules =
-        still-moves m o (InBootsel host) (refused_text fault) line at
-        (subst (λ (r : Ruling). MovesBy m m.armed (followed m.content m.cpu (block_served host b r)) o line) rules
+        still-moves m o (InBootsel host) (refused_outcome fault) told at
+        (subst (λ (r : Ruling). MovesBy m m.armed (followed m.content m.cpu (block_served host b r)) o told) rules
         block-moves)
 
     pub block-begins : (t : Target) → begun (table_of_found host.found) b answer ≡ Begins t
-        → MovesBy m m.armed (followed m.content m.cpu (taken_in host t (b ∷ []) b (grown t [] (b ∷ [])))) o line
+        → MovesBy m m.armed (followed m.content m.cpu (taken_in host t (b ∷ []) b (grown t [] (b ∷ [])))) o told
     block-begins t rules =
-        subst (λ (r : Ruling). MovesBy m m.armed (followed m.content m.cpu (block_served host b r)) o line) rules
+        subst (λ (r : Ruling). MovesBy m m.armed (followed m.content m.cpu (block_served host b r)) o told) rules
         block-moves
 
 -- the rulings on a block with a target

@@ -1,6 +1,6 @@
 -- An event as a move of the machine: what a board did in it, or a cut that is armed.
 use Rattle.std.proofs.Common.{Bor, ◌≡◌, ◌≢◌, ◌⊎◌, inl, inr, ℕ, ◌≤◌, ◌/◌, Bool, true, false, List, [], ◌++◌, Option, Some, None, length, arith, refl, sym, ap, ◌∙◌, subst}
-use Rattle.std.specs.Prelude.{IsTrue, codes, option_map}
+use Rattle.std.specs.Prelude.{IsTrue, option_map}
 use Rattle.std.proofs.lemmas.List.{append-nil}
 use Rattle.pico_board.specs.declared.Step.{Step}
 use Rattle.pico_board.specs.Content.{Content}
@@ -13,12 +13,14 @@ use Rattle.uf2_place.specs.Downloads.{IsTargetIn}
 use Rattle.boot_script.specs.declared.event.Event.{Event}
 use Rattle.boot_script.specs.declared.event.Event.TheVariants as events
 use Rattle.boot_script.specs.Events.{EventView, event_from}
+use Rattle.text_lines.specs.declared.outcome.EventOutcome.{EventOutcome}
+use Rattle.text_lines.specs.declared.outcome.EventOutcome.TheVariants as event_outcomes
 use Rattle.boot_machine.specs.declared.parts.Parts.{Parts}
 use Rattle.boot_machine.specs.Machines.{MachineView, Off, InBootsel, StateView, Running, FromFlash, FromRam}
 use Rattle.boot_machine.specs.Boots.{Effect}
 use Rattle.boot_machine.specs.Moves.{Decides, armed_for, effect, effect_in}
 use Rattle.boot_machine.specs.Standing.{Comes, IsBy, IsHeldChoice, IsIdle, IsStep, IsSteady, Stands, StandsAt}
-use Rattle.boot_machine.proofs.MoveTextLemmas.{not-lost}
+use Rattle.boot_machine.proofs.LostLemmas.{not-lost}
 use Rattle.boot_machine.proofs.SteadinessLemmas.{with_board}
 
 -- no step is decided by any cut
@@ -46,10 +48,10 @@ module _ {B : Type 0} (state : B → BoardState) (history : B → List Step → 
   no-steps board steps none = λ h done. subst (λ xs. history board (h ++ xs)) (sym none)
       (subst (history board) (sym (append-nil h)) done)
 
-  idle-step : (old new : Parts B) (m : MachineView) (event : EventView) (e : Effect) (line : List ℕ)
+  idle-step : (old new : Parts B) (m : MachineView) (event : EventView) (e : Effect) (outcome : EventOutcome)
       → effect m event ≡ e → armed_for m.armed event ≡ m.armed → Stands state old m
-      → IsIdle state history old e new line → IsStep state history old m event new line
-  idle-step old new m event e line is armed stands idle = record {
+      → IsIdle state history old e new outcome → IsStep state history old m event new outcome
+  idle-step old new m event e outcome is armed stands idle = record {
     next = record { content = m.content; armed = m.armed; cpu = m.cpu; place = e.place };
     moves = inl (record {
       content = ap (after_all m.content) (sym none);
@@ -58,7 +60,7 @@ module _ {B : Type 0} (state : B → BoardState) (history : B → List Step → 
           (none-decided m.armed m.content));
       cpu = refl;
       place = ap (λ (x : Effect). x.place) (sym is);
-      line = idle.text ∙ ap (λ (x : Effect). x.text) (sym is);
+      told = idle.told ∙ ap (λ (x : Effect). x.outcome) (sym is);
     });
     stands = record {
       content = stands.content ∙ ap (λ (p : Parts B). (state p.board).content) (sym idle.same);
@@ -69,16 +71,16 @@ module _ {B : Type 0} (state : B → BoardState) (history : B → List Step → 
     later = subst (λ (p : Parts B). (state old.board).cuts ≤ (state p.board).cuts) (sym idle.same) (omega arith);
     recorded = λ other. subst (λ (p : Parts B). Extends history old.board (effect m event).steps p.board)
         (sym idle.same) (no-steps old.board (effect m event).steps none);
-    lost = λ same. absurd (not-lost m event (ap (λ (x : Effect). x.text) is ∙ sym idle.text ∙ same));
+    lost = λ same. absurd (not-lost m event (ap (λ (x : Effect). x.outcome) is ∙ sym idle.told ∙ same));
   }
     where
       none : (effect m event).steps ≡ []
       none = ap (λ (x : Effect). x.steps) is ∙ idle.none
 
-  by-step : (old new : Parts B) (m : MachineView) (event : EventView) (line : List ℕ) (ok : Bool)
+  by-step : (old new : Parts B) (m : MachineView) (event : EventView) (outcome : EventOutcome) (ok : Bool)
       → armed_for m.armed event ≡ m.armed → Stands state old m
-      → IsBy state history old (effect m event) ok new line → IsStep state history old m event new line
-  by-step old new m event line true armed stands by = record {
+      → IsBy state history old (effect m event) ok new outcome → IsStep state history old m event new outcome
+  by-step old new m event outcome true armed stands by = record {
     next = machine_at new m (effect m event).place;
     moves = inl (record {
       content = by.board.done ∙ ap (λ c. after_all c (effect m event).steps) (sym stands.content);
@@ -90,14 +92,14 @@ module _ {B : Type 0} (state : B → BoardState) (history : B → List Step → 
           by.board.told));
       cpu = refl;
       place = refl;
-      line = by.text;
+      told = by.told;
     });
     stands = record { content = refl; armed = refl; cpu = stands.cpu ∙ sym by.cpu; place = by.place };
     later = by.board.later;
     recorded = λ other. by.board.recorded;
-    lost = λ same. absurd (not-lost m event (sym by.text ∙ same));
+    lost = λ same. absurd (not-lost m event (sym by.told ∙ same));
   }
-  by-step old new m event line false armed stands by = record {
+  by-step old new m event outcome false armed stands by = record {
     next = machine_at new m Off;
     moves = inr (record {
       content = subst (λ c. CutOf c (effect m event).steps (state new.board).content) (sym stands.content)
@@ -110,7 +112,7 @@ module _ {B : Type 0} (state : B → BoardState) (history : B → List Step → 
           by.board.told));
       cpu = refl;
       place = refl;
-      line = by.lost;
+      told = by.lost;
     });
     stands = record { content = refl; armed = refl; cpu = stands.cpu ∙ sym by.cpu; place = by.off };
     later = by.board.later;
@@ -119,25 +121,25 @@ module _ {B : Type 0} (state : B → BoardState) (history : B → List Step → 
   }
 
   -- what the parts did is the move of the event
-  pub step-of : (old new : Parts B) (m : MachineView) (event : EventView) (line : List ℕ)
+  pub step-of : (old new : Parts B) (m : MachineView) (event : EventView) (outcome : EventOutcome)
       → effect m event ≡ effect_in m.content m.cpu m.place event → armed_for m.armed event ≡ m.armed
       → Stands state old m
-      → IsIdle state history old (effect_in m.content m.cpu m.place event) new line
-      ⊎ Comes state history old (effect_in m.content m.cpu m.place event) new line
-      → IsStep state history old m event new line
-  step-of old new m event line is armed stands (inl idle) =
-      idle-step old new m event (effect_in m.content m.cpu m.place event) line is armed stands idle
-  step-of old new m event line is armed stands (inr comes) =
-      by-step old new m event line (comes.0) armed stands
-      (subst (λ e. IsBy state history old e (comes.0) new line) (sym is) (comes.1))
+      → IsIdle state history old (effect_in m.content m.cpu m.place event) new outcome
+      ⊎ Comes state history old (effect_in m.content m.cpu m.place event) new outcome
+      → IsStep state history old m event new outcome
+  step-of old new m event outcome is armed stands (inl idle) =
+      idle-step old new m event (effect_in m.content m.cpu m.place event) outcome is armed stands idle
+  step-of old new m event outcome is armed stands (inr comes) =
+      by-step old new m event outcome (comes.0) armed stands
+      (subst (λ e. IsBy state history old e (comes.0) new outcome) (sym is) (comes.1))
 
   -- an event that is told and does nothing
-  pub told-step : (old : Parts B) (m : MachineView) (event : EventView) (e : Effect) (line : List ℕ)
-      → effect m event ≡ e → armed_for m.armed event ≡ m.armed → e.steps ≡ [] → e.place ≡ m.place → line ≡ e.text
-      → Stands state old m → IsStep state history old m event old line
-  told-step old m event e line is armed none place text stands =
-      idle-step old old m event e line is armed stands
-      (record { same = refl; none = none; place = subst (StandsAt old) (sym place) stands.place; text = text })
+  pub told-step : (old : Parts B) (m : MachineView) (event : EventView) (e : Effect) (outcome : EventOutcome)
+      → effect m event ≡ e → armed_for m.armed event ≡ m.armed → e.steps ≡ [] → e.place ≡ m.place → outcome ≡ e.outcome
+      → Stands state old m → IsStep state history old m event old outcome
+  told-step old m event e outcome is armed none place told stands =
+      idle-step old old m event e outcome is armed stands
+      (record { same = refl; none = none; place = subst (StandsAt old) (sym place) stands.place; told = told })
 
   -- another board changes nothing of the place
   stands-board : (p : Parts B) (board : B) (place : StateView) → StandsAt p place → StandsAt (with_board p board) place
@@ -152,12 +154,13 @@ module _ {B : Type 0} (state : B → BoardState) (history : B → List Step → 
   armed-decides armed c cut = none-decided (option_map (λ former. Some cut) armed) c
 
   -- a cut is armed
-  pub arm-step : (old : Parts B) (board : B) (m : MachineView) (left : ℕ) (within : Bool) (pattern line : List ℕ)
+  pub arm-step : (old : Parts B) (board : B) (m : MachineView) (left : ℕ) (within : Bool) (pattern : List ℕ)
+      (outcome : EventOutcome)
       → Becomes state history old.board
       (with_cut (state old.board) (record { left = left; within = within; pattern = pattern })) board
-      → line ≡ codes "cut armed" → Stands state old m
-      → IsStep state history old m (EventView.Cut left within pattern) (with_board old board) line
-  arm-step old board m left within pattern line becomes text stands =
+      → outcome ≡ event_outcomes.CutArmed → Stands state old m
+      → IsStep state history old m (EventView.Cut left within pattern) (with_board old board) outcome
+  arm-step old board m left within pattern outcome becomes told stands =
       let cut : Cut = record { left = left; within = within; pattern = pattern } in record {
         next = record {
           content = m.content;
@@ -170,7 +173,7 @@ module _ {B : Type 0} (state : B → BoardState) (history : B → List Step → 
           armed_cut = armed-decides m.armed m.content cut;
           cpu = refl;
           place = refl;
-          line = text;
+          told = told;
         });
         stands = record {
           content = stands.content ∙ ap (λ (s : BoardState). s.content) (sym becomes.same);
@@ -181,7 +184,7 @@ module _ {B : Type 0} (state : B → BoardState) (history : B → List Step → 
         };
         later = subst (λ (s : BoardState). (state old.board).cuts ≤ s.cuts) (sym becomes.same) (omega arith);
         recorded = λ other h done. subst (history board) (sym (append-nil h)) (becomes.recorded h done);
-        lost = λ same. absurd (not-lost m (EventView.Cut left within pattern) (sym text ∙ same));
+        lost = λ same. absurd (not-lost m (EventView.Cut left within pattern) (sym told ∙ same));
       }
 
   -- the parts stay steady

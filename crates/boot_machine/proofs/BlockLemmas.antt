@@ -1,6 +1,6 @@
 -- What a block does to the download that the machine carries, by the blocks that came before it.
 use Rattle.std.proofs.Common.{◌≡◌, ◌≢◌, ℕ, Bool, true, false, Result, Ok, Err, Option, None, Some, List, [], ◌∷◌, ◌++◌, length, refl, sym, ap, ◌∙◌, subst, nat_eq}
-use Rattle.std.specs.Prelude.{⊤, IfOk, OnOk, ◌||◌, if◌then◌else◌}
+use Rattle.std.specs.Prelude.{⊤, IfOk, ◌||◌, if◌then◌else◌}
 use Rattle.std.specs.List.{AllByRecursion}
 use Rattle.std.specs.Option.{ForSome}
 use Rattle.std.specs.Prelude.{◌≤◌, ◌<◌, ◌^◌}
@@ -9,7 +9,6 @@ use Rattle.std.specs.Set.{is_member}
 use Rattle.pico_board.specs.declared.window.TheConstants.{MOST_FLASH_BYTES}
 use Rattle.pico_board.specs.declared.Step.{Step}
 use Rattle.pico_board.specs.declared.boot.Cpu.{Cpu}
-use Rattle.pico_board.specs.declared.boot.BootKind.{BootKind}
 use Rattle.pico_board.specs.declared.board.PowerLost.{PowerLost}
 use Rattle.pico_board.specs.Content.{Content}
 use Rattle.pico_board.specs.Board.{State, DoesAll}
@@ -35,7 +34,8 @@ use Rattle.uf2_place.specs.Downloads.{IsTargetIn}
 use Rattle.uf2_place.proofs.RuledLemmas.{rules-begins}
 use Rattle.boot_rules.specs.Targets.{target_of}
 use Rattle.boot_machine.specs.Machines.{Host, Placing}
-use Rattle.boot_machine.specs.Serving.{ServedEvent, block_text, boot_after_block, block_served, blocks_of, carried_on, is_like, ruled_on, ruling_on, taken_in, line_only, wanted_in}
+use Rattle.boot_machine.specs.declared.served.Served.{Served}
+use Rattle.boot_machine.specs.Serving.{ServedEvent, block_answer, block_outcome, block_served, blocks_of, carried_on, is_like, ruled_on, ruling_on, taken_in, only_told, wanted_in}
 use Rattle.boot_machine.specs.Standing.{Carries, IsDoneIn, IsServedBlock}
 
 -- the blocks that a download stands for are of its family and its count
@@ -172,10 +172,10 @@ module _ {B : Type 0} (state : B → State) (history : B → List Step → Type 
     (d e : DownloadView) (pool after : Pool) (answer : Result Accepted PlaceFault) where
   -- the block was served as s says
   abbrev IsThus : ServedEvent → Result Accepted PlaceFault → Type 0
-  IsThus s a = IsServedBlock state history s old (boot_after_block b.family a) new e after (block_text b.number a)
+  IsThus s a = IsServedBlock state history s old (block_answer b.number b.family a) new e after
 
   placed-lost : (s : ServedEvent) → DoesAll state history old s.steps false new → e.current ≡ None → IsThus s (Err Lost)
-  placed-lost s steps none = record { steps = steps; boot = tt; text = tt; carries = tt; lost = none }
+  placed-lost s steps none = record { steps = steps; boot = tt; told = tt; carries = tt; lost = none }
 
   -- a block that is taken
   came-placed : (t : Target) (former : List Uf2) → Places state history t former b old answer new e after
@@ -195,12 +195,12 @@ module _ {B : Type 0} (state : B → State) (history : B → List Step → Type 
           let steps = done power places.steps in
           let ended = places.ended (λ taken. let no : Ok (Done t) ≡ Ok Taken = sym is ∙ taken in cc no) in
           subst (λ a. IsThus (taken_in host t (former ++ b ∷ []) b (grown t former (former ++ b ∷ []))) a) (sym is)
-          (rw whole (record { steps = steps; boot = refl; text = refl; carries = ended; lost = tt }))
+          (rw whole (record { steps = steps; boot = refl; told = refl; carries = ended; lost = tt }))
       by true power false whole =
           let is : answer ≡ Ok Taken = places.answered ∙ rw (power, whole) refl in
           let steps = done power places.steps in
           subst (λ a. IsThus (taken_in host t (former ++ b ∷ []) b (grown t former (former ++ b ∷ []))) a) (sym is)
-          (rw whole (record { steps = steps; boot = refl; text = refl; carries = places.taken is; lost = tt }))
+          (rw whole (record { steps = steps; boot = refl; told = refl; carries = places.taken is; lost = tt }))
       by false power true whole =
           let is : answer ≡ Err Lost = places.answered ∙ rw power refl in
           let steps = done power places.steps in
@@ -217,7 +217,7 @@ module _ {B : Type 0} (state : B → State) (history : B → List Step → Type 
   -- a block that is answered at once
   came-answered : (a : Result Accepted PlaceFault) → IsQuiet a → (state old).powered ≡ true
       → Carries d pool host.placing → e ≡ d → after ≡ pool → new ≡ old
-      → IsThus (line_only host (block_text b.number a)) a
+      → IsThus (only_told host (block_outcome b.number a)) a
   came-answered a quiet power carries same_download same_pool same = by a quiet
     where
       steps : DoesAll state history old [] true new
@@ -227,14 +227,14 @@ module _ {B : Type 0} (state : B → State) (history : B → List Step → Type 
       kept = subst (λ x. Carries x after host.placing) (sym same_download)
           (subst (λ x. Carries d x host.placing) (sym same_pool) carries)
 
-      by : (a : Result Accepted PlaceFault) → IsQuiet a → IsThus (line_only host (block_text b.number a)) a
-      by (Ok Skipped) quiet = record { steps = steps; boot = refl; text = refl; carries = kept; lost = tt }
-      by (Ok Again) quiet = record { steps = steps; boot = refl; text = refl; carries = kept; lost = tt }
+      by : (a : Result Accepted PlaceFault) → IsQuiet a → IsThus (only_told host (block_outcome b.number a)) a
+      by (Ok Skipped) quiet = record { steps = steps; boot = refl; told = refl; carries = kept; lost = tt }
+      by (Ok Again) quiet = record { steps = steps; boot = refl; told = refl; carries = kept; lost = tt }
       by (Ok Taken) quiet = absurd quiet
       by (Ok (Done t)) quiet = absurd quiet
-      by (Err NoTarget) quiet = record { steps = steps; boot = refl; text = refl; carries = kept; lost = tt }
-      by (Err Outside) quiet = record { steps = steps; boot = refl; text = refl; carries = kept; lost = tt }
-      by (Err NotPermitted) quiet = record { steps = steps; boot = refl; text = refl; carries = kept; lost = tt }
+      by (Err NoTarget) quiet = record { steps = steps; boot = refl; told = refl; carries = kept; lost = tt }
+      by (Err Outside) quiet = record { steps = steps; boot = refl; told = refl; carries = kept; lost = tt }
+      by (Err NotPermitted) quiet = record { steps = steps; boot = refl; told = refl; carries = kept; lost = tt }
       by (Err Lost) quiet = absurd quiet
 
   -- what the call promises of a ruling
@@ -249,7 +249,7 @@ module _ {B : Type 0} (state : B → State) (history : B → List Step → Type 
       → Carries d pool host.placing → IsThus (block_served host b r) answer
   came (Answered a) quiet promised power carries =
       let at = promised.0 a refl in
-      subst (λ x. IsThus (line_only host (block_text b.number a)) x) (sym (at.0))
+      subst (λ x. IsThus (only_told host (block_outcome b.number a)) x) (sym (at.0))
       (came-answered a quiet power carries (at.1.0) (at.1.1) (at.1.2))
   came (Begins t) meant promised power carries = came-placed t [] (promised.1 t refl)
   came (Continues t) meant promised power carries = by meant
@@ -265,32 +265,14 @@ module _ {B : Type 0} (state : B → State) (history : B → List Step → Type 
           IsThus (taken_in host t (blocks ++ b ∷ []) b (grown t blocks (blocks ++ b ∷ []))) answer)
           (sym (ap blocks_of is)) done
 
-  -- a block is served as the machine says, with the line that was told where power was not lost
-  told-as : (s : ServedEvent) (line : List ℕ)
-      → OnOk (boot_after_block b.family answer) (line ≡ block_text b.number answer)
-      → IsThus s answer → IsServedBlock state history s old (boot_after_block b.family answer) new e after line
-  told-as s line same thus = record {
-    steps = thus.steps;
-    boot = thus.boot;
-    text = both (boot_after_block b.family answer) same thus.text;
-    carries = thus.carries;
-    lost = thus.lost;
-  }
-    where
-      both : (a : Result (Option BootKind) PowerLost) → OnOk a (line ≡ block_text b.number answer)
-          → OnOk a (block_text b.number answer ≡ s.text) → OnOk a (line ≡ s.text)
-      both (Ok boot) one two = one ∙ two
-      both (Err lost) one two = tt
-
-  -- a block is served as the machine says, with the answer and the line that were told
-  pub came-told : (r : Ruling) (result : Result (Option BootKind) PowerLost) (line : List ℕ)
+  -- a block is served as the machine says, with what is answered
+  pub came-told : (r : Ruling) (result : Result Served PowerLost)
       → IsMeant host.placing r → IsPromised r → (state old).powered ≡ true → Carries d pool host.placing
-      → result ≡ boot_after_block b.family answer → OnOk result (line ≡ block_text b.number answer)
-      → IsServedBlock state history (block_served host b r) old result new e after line
-  came-told r result line meant promised power carries is same =
-      subst (λ x. IsServedBlock state history (block_served host b r) old x new e after line) (sym is)
-      (told-as (block_served host b r) line (subst (λ x. OnOk x (line ≡ block_text b.number answer)) is same)
-      (came r meant promised power carries))
+      → result ≡ block_answer b.number b.family answer
+      → IsServedBlock state history (block_served host b r) old result new e after
+  came-told r result meant promised power carries is =
+      subst (λ x. IsServedBlock state history (block_served host b r) old x new e after) (sym is)
+      (came r meant promised power carries)
 
 -- the ruling of the call is that of the machine, and its promises are of that one
 pub promised-of : {B : Type 0} (state : B → State) (history : B → List Step → Type 0) (old new : B) (host : Host)

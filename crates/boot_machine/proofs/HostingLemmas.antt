@@ -10,9 +10,10 @@ use Rattle.sector_pool.specs.Keeping.{KeepsOut}
 use Rattle.sector_pool.specs.Pool.{Pool}
 use Rattle.picoboot_cmd.specs.declared.cmd.Cmd.{Cmd}
 use Rattle.ram_start.specs.Serving.{RamServed, ram_command}
+use Rattle.text_lines.specs.declared.outcome.EventOutcome.{EventOutcome}
 use Rattle.boot_machine.specs.declared.parts.Parts.{Parts}
 use Rattle.boot_machine.specs.Machines.{Host}
-use Rattle.boot_machine.specs.Serving.{ram_place, ram_result, ram_text, serves_ram, with_ram}
+use Rattle.boot_machine.specs.Serving.{ram_place, ram_outcome, ram_result, serves_ram, with_ram}
 use Rattle.boot_machine.specs.Standing.{IsHost, IsServed, StandsAt}
 use Rattle.boot_machine.proofs.SteadinessLemmas.{busy-as, host-with, with_host}
 
@@ -23,13 +24,13 @@ ram-as c ram sram cpu busy held cmd payload same is =
     ap (λ x. ram_command c x cpu busy cmd payload) (sym same) ∙ ap (λ x. ram_command c sram cpu x cmd payload) is
 
 module _ {B : Type 0} (state : B → BoardState) (history : B → List Step → Type 0) (old : Parts B) (host : Host)
-    (pool : Pool) (ram : List ℕ) (cmd : Cmd) (payload : List ℕ) (busy : Bool) (line : List ℕ)
+    (pool : Pool) (ram : List ℕ) (cmd : Cmd) (payload : List ℕ) (busy : Bool) (outcome : EventOutcome)
     (power : IsTrue (state old.board).powered) where
   -- a RAM command that starts no image
   by-result : (r : RamServed) → KeepsOut old.pool pool → ram ≡ r.ram → r.start ≡ None
-      → line ≡ ram_text cmd r.status r.reply r.start → IsHost old host
-      → IsServed state history old (ram_result host cmd r) None (with_host old pool ram) line
-  by-result r keeps same none text is = record {
+      → outcome ≡ ram_outcome cmd r.status r.reply r.start → IsHost old host
+      → IsServed state history old (ram_result host cmd r) None (with_host old pool ram) outcome
+  by-result r keeps same none told is = record {
     ok = true;
     by = record {
       board = DoesAll-none old.board power;
@@ -38,7 +39,7 @@ module _ {B : Type 0} (state : B → BoardState) (history : B → List Step → 
           (ram_place host o r.ram)) (sym none)
           (subst (λ x. IsHost (with_host old pool ram) (with_ram host x)) same
           (host-with old pool ram host keeps is));
-      text = text;
+      told = told;
       off = tt;
       lost = tt;
     };
@@ -49,14 +50,14 @@ module _ {B : Type 0} (state : B → BoardState) (history : B → List Step → 
   pub ram-served : busy ≡ is_some old.download.current → KeepsOut old.pool pool
       → ram ≡ (ram_command (state old.board).content old.ram old.cpu busy cmd payload).ram
       → (ram_command (state old.board).content old.ram old.cpu busy cmd payload).start ≡ None
-      → line ≡ ram_text cmd (ram_command (state old.board).content old.ram old.cpu busy cmd payload).status
+      → outcome ≡ ram_outcome cmd (ram_command (state old.board).content old.ram old.cpu busy cmd payload).status
       (ram_command (state old.board).content old.ram old.cpu busy cmd payload).reply
       (ram_command (state old.board).content old.ram old.cpu busy cmd payload).start
       → IsHost old host
       → IsServed state history old (serves_ram (state old.board).content old.cpu host cmd payload) None
-      (with_host old pool ram) line
-  ram-served is_busy keeps same none text is =
-      subst (λ r. IsServed state history old (ram_result host cmd r) None (with_host old pool ram) line)
+      (with_host old pool ram) outcome
+  ram-served is_busy keeps same none told is =
+      subst (λ r. IsServed state history old (ram_result host cmd r) None (with_host old pool ram) outcome)
       (ram-as (state old.board).content old.ram host.ram old.cpu busy (is_some host.placing) cmd payload is.ram
       (is_busy ∙ busy-as old.download old.pool host.placing is.placing))
-      (by-result (ram_command (state old.board).content old.ram old.cpu busy cmd payload) keeps same none text is)
+      (by-result (ram_command (state old.board).content old.ram old.cpu busy cmd payload) keeps same none told is)

@@ -14,12 +14,12 @@ mod AnsweredTargetLemmas
 mod RamRunLemmas
 mod RamStartLemmas
 mod MoveLemmas
-mod MoveTextLemmas
+mod LostLemmas
 pub mod MovePlaceLemmas
 mod ArmingLemmas
 mod MoveTableLemmas
 pub mod BeginningLemmas
 mod ShownImageLemmas
-mod EventTextLemmas
+mod OutcomeLemmas
 mod TrialRunLemmas
 mod WatchedLemmas

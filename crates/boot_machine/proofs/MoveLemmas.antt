@@ -1,5 +1,5 @@
 -- What a move is: by a told cut, without steps, without power.
-use Rattle.std.proofs.Common.{◌≡◌, ℕ, Bool, true, false, List, [], ◌∷◌, Option, Some, None, refl, sym, ap, ◌∙◌, subst, inl, inr, true≢false, length}
+use Rattle.std.proofs.Common.{◌≡◌, Bool, true, false, List, [], ◌∷◌, Option, Some, None, refl, sym, ap, ◌∙◌, subst, inl, inr, true≢false, length}
 use Rattle.std.specs.Prelude.{◌==◌, if◌then◌else◌}
 use Rattle.pico_board.specs.declared.Step.{Step}
 use Rattle.pico_board.specs.declared.boot.Cpu.{Cpu}
@@ -15,7 +15,9 @@ use Rattle.pico_board.proofs.CutListLemmas.{told_all-none}
 use Rattle.boot_script.specs.Events.{EventView}
 use Rattle.boot_machine.specs.Boots.{Effect}
 use Rattle.boot_machine.specs.Machines.{MachineView, StateView, Off}
-use Rattle.boot_machine.specs.Moves.{Decides, IsDoneWhole, Moves, MovesBy, armed_for, effect, lost_text}
+use Rattle.text_lines.specs.declared.outcome.EventOutcome.{EventOutcome}
+use Rattle.text_lines.specs.declared.outcome.EventOutcome.TheVariants as event_outcomes
+use Rattle.boot_machine.specs.Moves.{Decides, IsDoneWhole, Moves, MovesBy, armed_for, effect}
 
 abbrev machine : Content → Option (Option Cut) → Cpu → StateView → MachineView
 machine c armed cpu place = record { content = c; armed = armed; cpu = cpu; place = place }
@@ -31,27 +33,27 @@ module _ (m : MachineView) (cut : Option Cut) (e : Effect) where
   abbrev told : CutOutcome
   told = cut_steps e.steps cut m.content
 
-  one-move : (n o : MachineView) (text line : List ℕ) → MovesBy m (Some cut) e n text → MovesBy m (Some cut) e o line
-      → (n ≡ o) × (text ≡ line)
-  one-move n o text line (inl a) (inl b) = (
+  one-move : (n o : MachineView) (outcome other : EventOutcome) → MovesBy m (Some cut) e n outcome → MovesBy m (Some cut) e o other
+      → (n ≡ o) × (outcome ≡ other)
+  one-move n o outcome other (inl a) (inl b) = (
     same-machine n o (a.content ∙ sym b.content) (a.armed_cut.next ∙ sym b.armed_cut.next) (a.cpu ∙ sym b.cpu)
         (a.place ∙ sym b.place),
-    a.line ∙ sym b.line,
+    a.told ∙ sym b.told,
   )
-  one-move n o text line (inl a) (inr b) =
+  one-move n o outcome other (inl a) (inr b) =
       absurd (true≢false (sym a.armed_cut.answer ∙ b.armed_cut.answer))
-  one-move n o text line (inr a) (inl b) =
+  one-move n o outcome other (inr a) (inl b) =
       absurd (true≢false (sym b.armed_cut.answer ∙ a.armed_cut.answer))
-  one-move n o text line (inr a) (inr b) = (
+  one-move n o outcome other (inr a) (inr b) = (
     same-machine n o (a.armed_cut.left ∙ sym b.armed_cut.left) (a.armed_cut.next ∙ sym b.armed_cut.next)
         (a.cpu ∙ sym b.cpu) (a.place ∙ sym b.place),
-    a.line ∙ sym b.line,
+    a.told ∙ sym b.told,
   )
 
-  next-told : (n : MachineView) (text : List ℕ) → MovesBy m (Some cut) e n text
+  next-told : (n : MachineView) (outcome : EventOutcome) → MovesBy m (Some cut) e n outcome
       → ((next : Option Cut) × (n.armed ≡ Some next))
-  next-told n text (inl done) = (told.armed, done.armed_cut.next)
-  next-told n text (inr lost) = (told.armed, lost.armed_cut.next)
+  next-told n outcome (inl done) = (told.armed, done.armed_cut.next)
+  next-told n outcome (inr lost) = (told.armed, lost.armed_cut.next)
 
 -- a told cut stays told, whatever the event
 armed-told : (cut : Option Cut) (event : EventView)
@@ -74,28 +76,28 @@ armed-untold EventView.PowerOn = refl
 armed-untold (EventView.Reset kind) = refl
 armed-untold EventView.Buy = refl
 
-pub told-one : (m n o : MachineView) (cut : Option Cut) (event : EventView) (text line : List ℕ) → m.armed ≡ Some cut
-    → Moves m event n text → Moves m event o line → (n ≡ o) × (text ≡ line)
-told-one m n o cut event text line armed one two =
+pub told-one : (m n o : MachineView) (cut : Option Cut) (event : EventView) (outcome other : EventOutcome) → m.armed ≡ Some cut
+    → Moves m event n outcome → Moves m event o other → (n ≡ o) × (outcome ≡ other)
+told-one m n o cut event outcome other armed one two =
     let former = armed-told cut event in
     let is : armed_for m.armed event ≡ Some (former.0) = ap (λ a. armed_for a event) armed ∙ former.1 in
-    one-move m (former.0) (effect m event) n o text line
-    (subst (λ a. MovesBy m a (effect m event) n text) is one)
-    (subst (λ a. MovesBy m a (effect m event) o line) is two)
+    one-move m (former.0) (effect m event) n o outcome other
+    (subst (λ a. MovesBy m a (effect m event) n outcome) is one)
+    (subst (λ a. MovesBy m a (effect m event) o other) is two)
 
-pub told-next : (m n : MachineView) (cut : Option Cut) (event : EventView) (text : List ℕ) → m.armed ≡ Some cut
-    → Moves m event n text → ((next : Option Cut) × (n.armed ≡ Some next))
-told-next m n cut event text armed one =
+pub told-next : (m n : MachineView) (cut : Option Cut) (event : EventView) (outcome : EventOutcome) → m.armed ≡ Some cut
+    → Moves m event n outcome → ((next : Option Cut) × (n.armed ≡ Some next))
+told-next m n cut event outcome armed one =
     let former = armed-told cut event in
-    next-told m (former.0) (effect m event) n text
-    (subst (λ a. MovesBy m a (effect m event) n text) (ap (λ a. armed_for a event) armed ∙ former.1) one)
+    next-told m (former.0) (effect m event) n outcome
+    (subst (λ a. MovesBy m a (effect m event) n outcome) (ap (λ a. armed_for a event) armed ∙ former.1) one)
 
-pub untold-next : (m n : MachineView) (event : EventView) (text : List ℕ) → m.armed ≡ None → Moves m event n text
+pub untold-next : (m n : MachineView) (event : EventView) (outcome : EventOutcome) → m.armed ≡ None → Moves m event n outcome
     → n.armed ≡ None
-untold-next m n event text armed one =
-    by (subst (λ a. MovesBy m a (effect m event) n text) (ap (λ a. armed_for a event) armed ∙ armed-untold event) one)
+untold-next m n event outcome armed one =
+    by (subst (λ a. MovesBy m a (effect m event) n outcome) (ap (λ a. armed_for a event) armed ∙ armed-untold event) one)
   where
-    by : MovesBy m None (effect m event) n text → n.armed ≡ None
+    by : MovesBy m None (effect m event) n outcome → n.armed ≡ None
     by (inl done) = done.armed_cut
     by (inr lost) = lost.armed_cut
 
@@ -139,11 +141,11 @@ cut-content (step ∷ steps) (Some cut) c small right all is =
     by false rest is = inr (rest is)
 
 pub move-untold : (m : MachineView) (event : EventView) → m.armed ≡ None
-    → ((n : MachineView) × (text : List ℕ) × IsDoneWhole m (armed_for m.armed event) (effect m event) n text)
+    → ((n : MachineView) × (outcome : EventOutcome) × IsDoneWhole m (armed_for m.armed event) (effect m event) n outcome)
 move-untold m event armed =
     let e = effect m event in (
       machine (after_all m.content e.steps) None m.cpu e.place,
-      e.text,
+      e.outcome,
       record {
         content = refl;
         armed_cut =
@@ -151,7 +153,7 @@ move-untold m event armed =
             (sym (ap (λ a. armed_for a event) armed ∙ armed-untold event)) refl;
         cpu = refl;
         place = refl;
-        line = refl;
+        told = refl;
       },
     )
 
@@ -166,11 +168,11 @@ none-told m e =
     }
 
 pub move-unarmed : (m : MachineView) (event : EventView) → armed_for m.armed event ≡ Some None
-    → ((n : MachineView) × (text : List ℕ) × IsDoneWhole m (armed_for m.armed event) (effect m event) n text)
+    → ((n : MachineView) × (outcome : EventOutcome) × IsDoneWhole m (armed_for m.armed event) (effect m event) n outcome)
 move-unarmed m event armed =
     let e = effect m event in (
       machine (after_all m.content e.steps) (Some None) m.cpu e.place,
-      e.text,
+      e.outcome,
       record {
         content = refl;
         armed_cut =
@@ -178,14 +180,14 @@ move-unarmed m event armed =
             (none-told m e);
         cpu = refl;
         place = refl;
-        line = refl;
+        told = refl;
       },
     )
 
-pub move-alone : (m n : MachineView) (event : EventView) (text : List ℕ) → armed_for m.armed event ≡ Some None
-    → Moves m event n text → IsDoneWhole m (armed_for m.armed event) (effect m event) n text
-move-alone m n event text armed (inl done) = done
-move-alone m n event text armed (inr lost) =
+pub move-alone : (m n : MachineView) (event : EventView) (outcome : EventOutcome) → armed_for m.armed event ≡ Some None
+    → Moves m event n outcome → IsDoneWhole m (armed_for m.armed event) (effect m event) n outcome
+move-alone m n event outcome armed (inl done) = done
+move-alone m n event outcome armed (inr lost) =
     let told = subst (λ a. Decides a m.content (effect m event).steps false n.content n.armed) armed lost.armed_cut in
     absurd (true≢false
     (sym (ap (λ (o : CutOutcome). o.answer) (told_all-none (effect m event).steps m.content)) ∙ told.answer))
@@ -193,7 +195,7 @@ move-alone m n event text armed (inr lost) =
 pub move-armed : (m : MachineView) (event : EventView) (cut : Cut) → armed_for m.armed event ≡ Some (Some cut)
     → All (λ b. b < 256) cut.pattern → IsContent m.content
     → AllByRecursion (IsStepIn (length m.content.flash)) (effect m event).steps
-    → ((n : MachineView) × (text : List ℕ) × Moves m event n text)
+    → ((n : MachineView) × (outcome : EventOutcome) × Moves m event n outcome)
 move-armed m event cut armed small right all =
     let some = by (cut_steps e.steps (Some cut) m.content).answer refl in
     (some.0, some.1, subst (λ a. MovesBy m a e some.0 some.1) (sym armed) (some.2))
@@ -202,28 +204,28 @@ move-armed m event cut armed small right all =
     e = effect m event
 
     by : (ok : Bool) → (cut_steps e.steps (Some cut) m.content).answer ≡ ok
-        → ((n : MachineView) × (text : List ℕ) × MovesBy m (Some (Some cut)) e n text)
+        → ((n : MachineView) × (outcome : EventOutcome) × MovesBy m (Some (Some cut)) e n outcome)
     by true is =
         let o = cut_steps e.steps (Some cut) m.content in (
           machine o.content (Some o.armed) m.cpu e.place,
-          e.text,
+          e.outcome,
           inl (record {
             content = done-content e.steps (Some cut) m.content is;
             armed_cut = record { answer = is; left = refl; next = refl };
             cpu = refl;
             place = refl;
-            line = refl;
+            told = refl;
           }),
         )
     by false is =
         let o = cut_steps e.steps (Some cut) m.content in (
           machine o.content (Some o.armed) m.cpu Off,
-          lost_text,
+          event_outcomes.PowerLost,
           inr (record {
             content = cut-content e.steps (Some cut) m.content small right all is;
             armed_cut = record { answer = is; left = refl; next = refl };
             cpu = refl;
             place = refl;
-            line = refl;
+            told = refl;
           }),
         )

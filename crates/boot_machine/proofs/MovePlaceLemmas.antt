@@ -1,6 +1,6 @@
 -- Where a move leads: power is lost in a step alone, and without power nothing is done.
 use Rattle.std.proofs.Common.{◌≡◌, ◌≢◌, ℕ, Bool, true, List, [], ◌∷◌, ◌++◌, Option, Some, None, Result, Ok, Err, refl, sym, ◌∙◌, subst, inl, inr, length}
-use Rattle.std.specs.Prelude.{◌==◌, codes, ⊤}
+use Rattle.std.specs.Prelude.{◌==◌, ⊤}
 use Rattle.pico_board.specs.declared.boot.Cpu.{Cpu}
 use Rattle.pico_board.specs.declared.boot.BootKind.{BootKind}
 use Rattle.pico_board.specs.Content.{Content}
@@ -27,7 +27,9 @@ use Rattle.boot_rules.specs.declared.decision.Decision.TheVariants.{Start, Boots
 use Rattle.boot_script.specs.Events.{EventView}
 use Rattle.boot_machine.specs.Boots.{Effect, decided_place}
 use Rattle.boot_machine.specs.Machines.{Host, MachineView, StateView, Off, InBootsel, Running, FromFlash, FromRam}
-use Rattle.boot_machine.specs.Moves.{Decides, IsLost, Moves, MovesBy, armed_for, effect, effect_in, stays_with_line}
+use Rattle.text_lines.specs.declared.outcome.EventOutcome.{EventOutcome}
+use Rattle.text_lines.specs.declared.outcome.EventOutcome.TheVariants as event_outcomes
+use Rattle.boot_machine.specs.Moves.{Decides, IsLost, Moves, MovesBy, armed_for, effect, effect_in, stays_with}
 use Rattle.boot_machine.specs.Runs.{machine_with_cut}
 use Rattle.boot_machine.specs.Serving.{ServedEvent, block_served, blocks_of, command_served, followed_by, ram_place, ruling_on, serves, serves_ram, served_event, table_of_found, taken_in, uf2_served}
 use Rattle.boot_machine.proofs.AnsweredTargetLemmas.{still-moves}
@@ -124,62 +126,62 @@ is-on Off on = absurd (on refl)
 is-on (InBootsel host) on = tt
 is-on (Running program) on = tt
 
-pub off-lost : (m n : MachineView) (event : EventView) (text : List ℕ) → Moves m event n text → m.place ≢ Off
-    → n.place ≡ Off → IsLost m (armed_for m.armed event) (effect m event) n text
-off-lost m n event text (inl done) on off =
+pub off-lost : (m n : MachineView) (event : EventView) (outcome : EventOutcome) → Moves m event n outcome → m.place ≢ Off
+    → n.place ≡ Off → IsLost m (armed_for m.armed event) (effect m event) n outcome
+off-lost m n event outcome (inl done) on off =
     absurd (subst IsOn (sym done.place ∙ off) (effect-on m event (is-on m.place on)))
-off-lost m n event text (inr lost) on off = lost
+off-lost m n event outcome (inr lost) on off = lost
 
 -- without power
-module _ (m n : MachineView) (text : List ℕ) (at : m.place ≡ Off) where
+module _ (m n : MachineView) (outcome : EventOutcome) (at : m.place ≡ Off) where
   pub rests : (event : EventView) → armed_for m.armed event ≡ m.armed
-      → effect_in m.content m.cpu Off event ≡ stays_with_line Off (codes "off")
-      → MovesBy m (armed_for m.armed event) (effect_in m.content m.cpu m.place event) n text
-      → (n ≡ m) × (text ≡ codes "off")
+      → effect_in m.content m.cpu Off event ≡ stays_with Off event_outcomes.Off
+      → MovesBy m (armed_for m.armed event) (effect_in m.content m.cpu m.place event) n outcome
+      → (n ≡ m) × (outcome ≡ event_outcomes.Off)
   rests event armed is moves =
-      still-moves m n Off (codes "off") text at
-      (subst (λ (e : Effect). MovesBy m m.armed e n text) is
-      (subst (λ (p : StateView). MovesBy m m.armed (effect_in m.content m.cpu p event) n text) at
-      (subst (λ a. MovesBy m a (effect_in m.content m.cpu m.place event) n text) armed moves)))
+      still-moves m n Off event_outcomes.Off outcome at
+      (subst (λ (e : Effect). MovesBy m m.armed e n outcome) is
+      (subst (λ (p : StateView). MovesBy m m.armed (effect_in m.content m.cpu p event) n outcome) at
+      (subst (λ a. MovesBy m a (effect_in m.content m.cpu m.place event) n outcome) armed moves)))
 
   pub off-stays : (event : EventView) → event ≢ EventView.PowerOn
       → ((left : ℕ) (within : Bool) (pattern : List ℕ) → event ≢ EventView.Cut left within pattern)
-      → Moves m event n text → n ≡ m
+      → Moves m event n outcome → n ≡ m
   off-stays EventView.PowerOn power cut moves = absurd (power refl)
   off-stays (EventView.Cut left within pattern) power cut moves = absurd (cut left within pattern refl)
-  off-stays EventView.End power cut moves = (still-moves m n m.place (codes "end") text refl moves).0
+  off-stays EventView.End power cut moves = (still-moves m n m.place event_outcomes.Ended outcome refl moves).0
   off-stays (EventView.Command command payload) power cut moves =
       (rests (EventView.Command command payload) refl refl moves).0
   off-stays (EventView.Uf2 block) power cut moves = (rests (EventView.Uf2 block) refl refl moves).0
   off-stays (EventView.Reset kind) power cut moves = (rests (EventView.Reset kind) refl refl moves).0
   off-stays EventView.Buy power cut moves = (rests EventView.Buy refl refl moves).0
 
-  pub off-line : (event : EventView) → event ≢ EventView.PowerOn → event ≢ EventView.End
+  pub off-outcome : (event : EventView) → event ≢ EventView.PowerOn → event ≢ EventView.End
       → ((left : ℕ) (within : Bool) (pattern : List ℕ) → event ≢ EventView.Cut left within pattern)
-      → Moves m event n text → text ≡ codes "off"
-  off-line EventView.PowerOn power end cut moves = absurd (power refl)
-  off-line (EventView.Cut left within pattern) power end cut moves = absurd (cut left within pattern refl)
-  off-line EventView.End power end cut moves = absurd (end refl)
-  off-line (EventView.Command command payload) power end cut moves =
+      → Moves m event n outcome → outcome ≡ event_outcomes.Off
+  off-outcome EventView.PowerOn power end cut moves = absurd (power refl)
+  off-outcome (EventView.Cut left within pattern) power end cut moves = absurd (cut left within pattern refl)
+  off-outcome EventView.End power end cut moves = absurd (end refl)
+  off-outcome (EventView.Command command payload) power end cut moves =
       (rests (EventView.Command command payload) refl refl moves).1
-  off-line (EventView.Uf2 block) power end cut moves = (rests (EventView.Uf2 block) refl refl moves).1
-  off-line (EventView.Reset kind) power end cut moves = (rests (EventView.Reset kind) refl refl moves).1
-  off-line EventView.Buy power end cut moves = (rests EventView.Buy refl refl moves).1
+  off-outcome (EventView.Uf2 block) power end cut moves = (rests (EventView.Uf2 block) refl refl moves).1
+  off-outcome (EventView.Reset kind) power end cut moves = (rests (EventView.Reset kind) refl refl moves).1
+  off-outcome EventView.Buy power end cut moves = (rests EventView.Buy refl refl moves).1
 
-pub cut-moves : (m n : MachineView) (left : ℕ) (within : Bool) (pattern text : List ℕ)
-    → Moves m (EventView.Cut left within pattern) n text
-    → (n ≡ machine_with_cut m left within pattern) × (text ≡ codes "cut armed")
-cut-moves m n left within pattern text (inr lost) = absurd lost.content
-cut-moves m n left within pattern text (inl done) = (
+pub cut-moves : (m n : MachineView) (left : ℕ) (within : Bool) (pattern : List ℕ) (outcome : EventOutcome)
+    → Moves m (EventView.Cut left within pattern) n outcome
+    → (n ≡ machine_with_cut m left within pattern) × (outcome ≡ event_outcomes.CutArmed)
+cut-moves m n left within pattern outcome (inr lost) = absurd lost.content
+cut-moves m n left within pattern outcome (inl done) = (
   same-machine n (machine_with_cut m left within pattern) done.content
       (armed (armed_for m.armed (EventView.Cut left within pattern)) n.armed m.content n.content done.armed_cut)
       done.cpu done.place,
-  done.line,
+  done.told,
 )
   where
     armed : (a b : Option (Option Cut)) (c d : Content) → Decides a c [] true d b → b ≡ a
     armed None b c d is = is
     armed (Some cut) b c d is = is.next
 
-pub end-moves : (m n : MachineView) (text : List ℕ) → Moves m EventView.End n text → (n ≡ m) × (text ≡ codes "end")
-end-moves m n text moves = still-moves m n m.place (codes "end") text refl moves
+pub end-moves : (m n : MachineView) (outcome : EventOutcome) → Moves m EventView.End n outcome → (n ≡ m) × (outcome ≡ event_outcomes.Ended)
+end-moves m n outcome moves = still-moves m n m.place event_outcomes.Ended outcome refl moves

@@ -29,6 +29,7 @@ use Rattle.boot_rules.specs.declared.tables.Found.{Found}
 use Rattle.boot_script.specs.Events.{EventView}
 use Rattle.boot_machine.specs.Boots.{Effect, decided_place, decided_steps, entered}
 use Rattle.boot_machine.specs.Machines.{Host, MachineView, StateView, Off, InBootsel, Running}
+use Rattle.text_lines.specs.declared.outcome.EventOutcome.{EventOutcome}
 use Rattle.boot_machine.specs.Moves.{Moves, MovesBy, armed_for, effect, effect_in}
 use Rattle.boot_machine.specs.Serving.{ServedEvent, block_served, blocks_of, command_served, followed_by, ram_place, ruling_on, serves, serves_ram, served_event, table_of_found, taken_in, uf2_served}
 use Rattle.boot_machine.proofs.RamRunLemmas.{either}
@@ -140,27 +141,27 @@ at-entered c place other at is = subst (IsEntered c) at is
 not-off : {P : Type 0} (place : StateView) (other : Host) → place ≡ Off → place ≡ InBootsel other → P
 not-off place other off at = let no : Off ≡ InBootsel other = sym off ∙ at in cc no
 
-by-effect : (m n : MachineView) (e : Effect) (text : List ℕ) (armed : Option (Option Cut)) (host other : Host)
-    → HasTable (after_all m.content e.steps) host.found e.place → MovesBy m armed e n text → n.place ≡ InBootsel other
+by-effect : (m n : MachineView) (e : Effect) (outcome : EventOutcome) (armed : Option (Option Cut)) (host other : Host)
+    → HasTable (after_all m.content e.steps) host.found e.place → MovesBy m armed e n outcome → n.place ≡ InBootsel other
     → (other.found ≡ host.found) ⊎ (InBootsel other ≡ entered n.content)
-by-effect m n e text armed host other has (inr lost) at = not-off n.place other lost.place at
-by-effect m n e text armed host other has (inl done) at =
+by-effect m n e outcome armed host other has (inr lost) at = not-off n.place other lost.place at
+by-effect m n e outcome armed host other has (inl done) at =
     subst (λ (c : Content). (other.found ≡ host.found) ⊎ (InBootsel other ≡ entered c)) (sym done.content)
     (at-place (after_all m.content e.steps) host.found e.place other (sym done.place ∙ at) has)
 
-by-boot : (m n : MachineView) (e : Effect) (text : List ℕ) (armed : Option (Option Cut)) (other : Host)
-    → IsEntered (after_all m.content e.steps) e.place → MovesBy m armed e n text → n.place ≡ InBootsel other
+by-boot : (m n : MachineView) (e : Effect) (outcome : EventOutcome) (armed : Option (Option Cut)) (other : Host)
+    → IsEntered (after_all m.content e.steps) e.place → MovesBy m armed e n outcome → n.place ≡ InBootsel other
     → InBootsel other ≡ entered n.content
-by-boot m n e text armed other is (inr lost) at = not-off n.place other lost.place at
-by-boot m n e text armed other is (inl done) at =
+by-boot m n e outcome armed other is (inr lost) at = not-off n.place other lost.place at
+by-boot m n e outcome armed other is (inl done) at =
     subst (λ (c : Content). InBootsel other ≡ entered c) (sym done.content)
     (at-entered (after_all m.content e.steps) e.place other (sym done.place ∙ at) is)
 
-pub table-kept : (m n : MachineView) (host other : Host) (event : EventView) (text : List ℕ) → m.place ≡ InBootsel host
-    → Moves m event n text → n.place ≡ InBootsel other
+pub table-kept : (m n : MachineView) (host other : Host) (event : EventView) (outcome : EventOutcome) → m.place ≡ InBootsel host
+    → Moves m event n outcome → n.place ≡ InBootsel other
     → (other.found ≡ host.found) ⊎ (InBootsel other ≡ entered n.content)
-table-kept m n host other event text at moves there =
-    by-effect m n (effect m event) text (armed_for m.armed event) host other (has event) moves there
+table-kept m n host other event outcome at moves there =
+    by-effect m n (effect m event) outcome (armed_for m.armed event) host other (has event) moves there
   where
     in-bootsel : (event : EventView)
         → HasTable (after_all m.content (effect_in m.content m.cpu m.place event).steps) host.found
@@ -181,10 +182,10 @@ table-kept m n host other event text at moves there =
     has (EventView.Reset kind) = in-bootsel (EventView.Reset kind)
     has EventView.Buy = in-bootsel EventView.Buy
 
-pub table-reset : (m n : MachineView) (other : Host) (kind : BootKind) (text : List ℕ) → m.place ≢ Off
-    → Moves m (EventView.Reset kind) n text → n.place ≡ InBootsel other → InBootsel other ≡ entered n.content
-table-reset m n other kind text on moves there =
-    by-boot m n (effect m (EventView.Reset kind)) text (armed_for m.armed (EventView.Reset kind)) other
+pub table-reset : (m n : MachineView) (other : Host) (kind : BootKind) (outcome : EventOutcome) → m.place ≢ Off
+    → Moves m (EventView.Reset kind) n outcome → n.place ≡ InBootsel other → InBootsel other ≡ entered n.content
+table-reset m n other kind outcome on moves there =
+    by-boot m n (effect m (EventView.Reset kind)) outcome (armed_for m.armed (EventView.Reset kind)) other
     (boots m.place on) moves there
   where
     boots : (place : StateView) → place ≢ Off
@@ -194,10 +195,10 @@ table-reset m n other kind text on moves there =
     boots (InBootsel host) on = booted-entered m.content m.cpu (decision_in m.content m.cpu kind)
     boots (Running program) on = booted-entered m.content m.cpu (decision_in m.content m.cpu kind)
 
-pub table-power : (m n : MachineView) (other : Host) (text : List ℕ) → m.place ≡ Off
-    → Moves m EventView.PowerOn n text → n.place ≡ InBootsel other → InBootsel other ≡ entered n.content
-table-power m n other text off moves there =
-    by-boot m n (effect m EventView.PowerOn) text (armed_for m.armed EventView.PowerOn) other
+pub table-power : (m n : MachineView) (other : Host) (outcome : EventOutcome) → m.place ≡ Off
+    → Moves m EventView.PowerOn n outcome → n.place ≡ InBootsel other → InBootsel other ≡ entered n.content
+table-power m n other outcome off moves there =
+    by-boot m n (effect m EventView.PowerOn) outcome (armed_for m.armed EventView.PowerOn) other
     (subst (λ (p : StateView). IsEntered (after_all m.content (effect_in m.content m.cpu p EventView.PowerOn).steps)
     (effect_in m.content m.cpu p EventView.PowerOn).place) (sym off)
     (booted-entered m.content m.cpu (decision_in m.content m.cpu Normal))) moves there

@@ -1,5 +1,5 @@
 -- What a host's blocks are served with, and which case of the table serves an event.
-use Rattle.std.proofs.Common.{◌≡◌, ℕ, ◌/◌, Bool, true, false, List, [], ◌∷◌, ◌++◌, Ok, Err, Option, None, length, refl, sym, ap, subst}
+use Rattle.std.proofs.Common.{◌≡◌, ◌/◌, Bool, true, false, List, [], ◌∷◌, ◌++◌, Ok, Err, Option, None, length, refl, sym, ap, subst}
 use Rattle.std.specs.Option.{ForSome}
 use Rattle.pico_board.specs.declared.Step.{Step}
 use Rattle.pico_board.specs.declared.board.PowerLost.{PowerLost}
@@ -19,7 +19,9 @@ use Rattle.uf2_place.specs.Placement.{grown, is_whole_download}
 use Rattle.boot_machine.specs.declared.parts.Parts.{Parts}
 use Rattle.boot_machine.specs.declared.state.State.TheVariants.{Bootsel}
 use Rattle.boot_machine.specs.Machines.{Host, InBootsel}
-use Rattle.boot_machine.specs.Moves.{lost_text}
+use Rattle.text_lines.specs.declared.outcome.EventOutcome.{EventOutcome}
+use Rattle.text_lines.specs.declared.outcome.EventOutcome.TheVariants as event_outcomes
+use Rattle.boot_machine.specs.declared.served.Served.{Served}
 use Rattle.boot_machine.specs.Serving.{ServedEvent, block_served, blocks_of, taken_in, with_placing}
 use Rattle.boot_machine.specs.Standing.{Carries, HasRoom, IsHost, IsLeft, IsServed, IsServedBlock, IsSteady, Serves, StandsAt, is_bootsel, placing_at}
 use Rattle.boot_machine.proofs.SteadinessLemmas.{host-of, steady-bootsel}
@@ -59,17 +61,17 @@ module _ {B : Type 0} where
 
   module _ (state : B → BoardState) (history : B → List Step → Type 0) where
     pub block-ok : (old : Parts B) (host : Host) (s : ServedEvent) (board : B) (pool : Pool) (d : DownloadView)
-        (boot : Option BootKind) (line : List ℕ) → s.place ≡ InBootsel (with_placing host (placing_at s.place))
-        → IsHost old host → IsServedBlock state history s old.board (Ok boot) board d pool line
-        → IsServed state history old s boot (with_block old board pool d) line
-    block-ok old host s board pool d boot line place is served = record {
+        (served : Served) → s.place ≡ InBootsel (with_placing host (placing_at s.place))
+        → IsHost old host → IsServedBlock state history s old.board (Ok served) board d pool
+        → IsServed state history old s served.boot (with_block old board pool d) served.outcome
+    block-ok old host s board pool d answer place is served = record {
       ok = true;
       by = record {
         board = served.steps;
         cpu = refl;
         place = subst (StandsAt (with_block old board pool d)) (sym place)
             (record { state = is.state; found = is.found; placing = served.carries; ram = is.ram });
-        text = served.text;
+        told = served.told;
         off = tt;
         lost = tt;
       };
@@ -79,15 +81,16 @@ module _ {B : Type 0} where
 
     pub block-lost : (old new : Parts B) (s : ServedEvent) (board : B) (pool : Pool) (d : DownloadView)
         (lost : PowerLost)
-        (told line : List ℕ) → IsServedBlock state history s old.board (Err lost) board d pool told
-        → IsLeft (with_block old board pool d) new → line ≡ lost_text → IsServed state history old s None new line
-    block-lost old new s board pool d lost told line served left is = record {
+        (outcome : EventOutcome) → IsServedBlock state history s old.board (Err lost) board d pool
+        → IsLeft (with_block old board pool d) new → outcome ≡ event_outcomes.PowerLost
+        → IsServed state history old s None new outcome
+    block-lost old new s board pool d lost outcome served left is = record {
       ok = false;
       by = record {
         board = subst (DoesAll state history old.board s.steps false) (sym left.board) served.steps;
         cpu = left.cpu;
         place = tt;
-        text = tt;
+        told = tt;
         off = left.off;
         lost = is;
       };
@@ -96,13 +99,13 @@ module _ {B : Type 0} where
     }
 
     pub steady-block : (old : Parts B) (s : Host → ServedEvent) (board : B) (pool : Pool) (d : DownloadView)
-        (boot : Option BootKind) (line : List ℕ) → IsSteady state old → old.state ≡ Bootsel
+        (answer : Served) → IsSteady state old → old.state ≡ Bootsel
         → ((host : Host) → host.found ≡ old.found → Carries old.download old.pool host.placing
-        → IsServedBlock state history (s host) old.board (Ok boot) board d pool line)
+        → IsServedBlock state history (s host) old.board (Ok answer) board d pool)
         → HasRoom pool (lease_of d.current)
         → ForSome d.current (λ c. IsTargetIn (length (state board).content.flash) c.target)
         → IsSteady state (with_block old board pool d)
-    steady-block old s board pool d boot line steady is served room target =
+    steady-block old s board pool d answer steady is served room target =
         let at = host-of state old steady is in
         let one = served (at.0) at.1.found at.1.placing in
         steady-bootsel state (with_block old board pool d) is one.steps.power room target
@@ -112,8 +115,8 @@ module _ {B : Type 0} where
 
     -- what one case of the table serves another one serves that says the same
     pub serves-as : (old new : Parts B) (f h : Content → Cpu → Host → ServedEvent) (answer : Option BootKind)
-        (line : List ℕ) → ((c : Content) (cpu : Cpu) (host : Host) → f c cpu host ≡ h c cpu host)
-        → Serves state history old f answer new line → Serves state history old h answer new line
-    serves-as old new f h answer line same serves host is =
-        subst (λ s. IsServed state history old s answer new line) (same (state old.board).content old.cpu host)
+        (outcome : EventOutcome) → ((c : Content) (cpu : Cpu) (host : Host) → f c cpu host ≡ h c cpu host)
+        → Serves state history old f answer new outcome → Serves state history old h answer new outcome
+    serves-as old new f h answer outcome same serves host is =
+        subst (λ s. IsServed state history old s answer new outcome) (same (state old.board).content old.cpu host)
         (serves host is)

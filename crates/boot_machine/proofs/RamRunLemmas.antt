@@ -30,6 +30,7 @@ use Rattle.uf2_place.specs.Placement.{grown, is_whole_download}
 use Rattle.part_table.specs.declared.Target.{Target}
 use Rattle.pico_board.specs.declared.Step.{Step}
 use Rattle.boot_machine.specs.Boots.{Effect, decided_place}
+use Rattle.text_lines.specs.declared.outcome.EventOutcome.{EventOutcome}
 use Rattle.boot_machine.specs.Machines.{Host, MachineView, StateView, Off, InBootsel, Running, FromFlash, FromRam}
 use Rattle.boot_machine.specs.Moves.{Moves, Plays, effect, effect_in}
 use Rattle.boot_machine.specs.Runs.{IsFresh, PlaysWriting, command_writes, host_writes, place_writes, ram_writes, writes_behind}
@@ -225,32 +226,32 @@ effect-written m ws EventView.PowerOn has = place-written m.content m.cpu m.plac
 effect-written m ws (EventView.Reset kind) has = place-written m.content m.cpu m.place ws (EventView.Reset kind) has
 effect-written m ws EventView.Buy has = place-written m.content m.cpu m.place ws EventView.Buy has
 
-move-written : (m n : MachineView) (ws : List RamWrite) (event : EventView) (text : List ℕ)
-    → HasWritten m.place ws → Moves m event n text → HasWritten n.place (writes_behind m ws event)
-move-written m n ws event text has (inl done) =
+move-written : (m n : MachineView) (ws : List RamWrite) (event : EventView) (outcome : EventOutcome)
+    → HasWritten m.place ws → Moves m event n outcome → HasWritten n.place (writes_behind m ws event)
+move-written m n ws event outcome has (inl done) =
     subst (λ p. HasWritten p (writes_behind m ws event)) (sym done.place) (effect-written m ws event has)
-move-written m n ws event text has (inr lost) =
+move-written m n ws event outcome has (inr lost) =
     subst (λ p. HasWritten p (writes_behind m ws event)) (sym lost.place) tt
 
-plays-written : (m n : MachineView) (ws vs : List RamWrite) (events : List EventView) (texts : List (List ℕ))
-    → HasWritten m.place ws → PlaysWriting m ws events n texts vs → HasWritten n.place vs
-plays-written m n ws vs [] texts has plays =
+plays-written : (m n : MachineView) (ws vs : List RamWrite) (events : List EventView) (outcomes : List EventOutcome)
+    → HasWritten m.place ws → PlaysWriting m ws events n outcomes vs → HasWritten n.place vs
+plays-written m n ws vs [] outcomes has plays =
     subst (HasWritten n.place) (sym (plays.2)) (subst (λ (x : MachineView). HasWritten x.place ws) (sym (plays.0)) has)
-plays-written m n ws vs (event ∷ events) texts has plays =
+plays-written m n ws vs (event ∷ events) outcomes has plays =
     plays-written (plays.0) n (writes_behind m ws event) vs events (plays.2)
     (move-written m (plays.0) ws event (plays.1) has (plays.3)) (plays.4)
 
-pub runs : (m n : MachineView) (before : List RamWrite) (events : List EventView) (texts : List (List ℕ))
-    → Plays m events n texts → ((behind : List RamWrite) × PlaysWriting m before events n texts behind)
-runs m n before [] texts plays = (before, (plays.0, plays.1, refl))
-runs m n before (event ∷ events) texts plays =
+pub runs : (m n : MachineView) (before : List RamWrite) (events : List EventView) (outcomes : List EventOutcome)
+    → Plays m events n outcomes → ((behind : List RamWrite) × PlaysWriting m before events n outcomes behind)
+runs m n before [] outcomes plays = (before, (plays.0, plays.1, refl))
+runs m n before (event ∷ events) outcomes plays =
     let rest = runs (plays.0) n (writes_behind m before event) events (plays.2) (plays.4) in
     (rest.0, (plays.0, plays.1, plays.2, plays.3, rest.1, plays.5))
 
-pub plays : (m n : MachineView) (before behind : List RamWrite) (events : List EventView) (texts : List (List ℕ))
-    → PlaysWriting m before events n texts behind → Plays m events n texts
-plays m n before behind [] texts run = (run.0, run.1)
-plays m n before behind (event ∷ events) texts run = (
+pub plays : (m n : MachineView) (before behind : List RamWrite) (events : List EventView) (outcomes : List EventOutcome)
+    → PlaysWriting m before events n outcomes behind → Plays m events n outcomes
+plays m n before behind [] outcomes run = (run.0, run.1)
+plays m n before behind (event ∷ events) outcomes run = (
   run.0,
   run.1,
   run.2,
@@ -264,8 +265,8 @@ fresh-written Off fresh = tt
 fresh-written (InBootsel host) fresh = fresh.1
 fresh-written (Running program) fresh = absurd fresh
 
-pub run-written : (m n : MachineView) (behind : List RamWrite) (events : List EventView) (texts : List (List ℕ))
+pub run-written : (m n : MachineView) (behind : List RamWrite) (events : List EventView) (outcomes : List EventOutcome)
     (host : Host)
-    → IsFresh m.place → PlaysWriting m [] events n texts behind → n.place ≡ InBootsel host → host.ram ≡ ram_after behind
-run-written m n behind events texts host fresh run at =
-    subst (λ p. HasWritten p behind) at (plays-written m n [] behind events texts (fresh-written m.place fresh) run)
+    → IsFresh m.place → PlaysWriting m [] events n outcomes behind → n.place ≡ InBootsel host → host.ram ≡ ram_after behind
+run-written m n behind events outcomes host fresh run at =
+    subst (λ p. HasWritten p behind) at (plays-written m n [] behind events outcomes (fresh-written m.place fresh) run)

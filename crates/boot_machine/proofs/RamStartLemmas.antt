@@ -38,6 +38,7 @@ use Rattle.uf2_place.specs.declared.answer.Ruling.TheVariants.{Answered, Begins,
 use Rattle.uf2_place.specs.Blocks.{uf2_of}
 use Rattle.uf2_place.specs.Placement.{is_whole_download}
 use Rattle.boot_machine.specs.Boots.{Effect, decided_place}
+use Rattle.text_lines.specs.declared.outcome.EventOutcome.{EventOutcome}
 use Rattle.boot_machine.specs.Machines.{Host, MachineView, StateView, Off, InBootsel, Running, Program, FromFlash, FromRam}
 use Rattle.boot_machine.specs.Moves.{Decides, bought_choice, buy_effect, Moves, MovesBy, Plays, effect, effect_in}
 use Rattle.boot_machine.specs.Runs.{IsFresh, IsBootIntoRam, PlaysWriting, StartsRam}
@@ -73,21 +74,21 @@ module _ (cmd : Cmd) (ram : is_ram_command cmd ≡ true) where
           else serves_host c host cmd payload
 
 -- a RAM command does no step
-pub ram-moves : (m n : MachineView) (host : Host) (command payload text : List ℕ) (cmd : Cmd)
+pub ram-moves : (m n : MachineView) (host : Host) (command payload : List ℕ) (outcome : EventOutcome) (cmd : Cmd)
     → m.place ≡ InBootsel host → command_in command ≡ Ok cmd → is_ram_command cmd ≡ true
-    → Moves m (EventView.Command command payload) n text
+    → Moves m (EventView.Command command payload) n outcome
     → (n.content ≡ m.content) × (n.armed ≡ m.armed)
-ram-moves m n host command payload text cmd at is ram moves =
-    by (subst (λ (s : ServedEvent). MovesBy m m.armed (followed m.content m.cpu s) n text)
+ram-moves m n host command payload outcome cmd at is ram moves =
+    by (subst (λ (s : ServedEvent). MovesBy m m.armed (followed m.content m.cpu s) n outcome)
     (ap (λ r. command_served m.content m.cpu host r payload) is ∙ ram-kind cmd ram m.content m.cpu host payload)
     (subst (λ (p : StateView). MovesBy m m.armed
-    (effect_in m.content m.cpu p (EventView.Command command payload)) n text) at moves))
+    (effect_in m.content m.cpu p (EventView.Command command payload)) n outcome) at moves))
   where
     armed : (a b : Option (Option Cut)) (c d : Content) → Decides a c [] true d b → b ≡ a
     armed None b c d is = is
     armed (Some cut) b c d is = is.next
 
-    by : MovesBy m m.armed (followed m.content m.cpu (serves_ram m.content m.cpu host cmd payload)) n text
+    by : MovesBy m m.armed (followed m.content m.cpu (serves_ram m.content m.cpu host cmd payload)) n outcome
         → (n.content ≡ m.content) × (n.armed ≡ m.armed)
     by (inl done) = (done.content, armed m.armed n.armed m.content n.content done.armed_cut)
     by (inr lost) = absurd lost.content
@@ -299,24 +300,24 @@ event-of m (EventView.Reset kind) s former starts =
     place-event m.content m.cpu s (EventView.Reset kind) m.place former starts
 event-of m EventView.Buy s former starts = place-event m.content m.cpu s EventView.Buy m.place former starts
 
-event-moved : (m n : MachineView) (event : EventView) (text : List ℕ) (s : Started) → m.place ≢ Running (FromRam s)
-    → n.place ≡ Running (FromRam s) → Moves m event n text → IsRamEvent m.content m.cpu m.place event s
-event-moved m n event text s former running (inl done) = event-of m event s former (sym done.place ∙ running)
-event-moved m n event text s former running (inr lost) = absurd (off (sym lost.place ∙ running))
+event-moved : (m n : MachineView) (event : EventView) (outcome : EventOutcome) (s : Started) → m.place ≢ Running (FromRam s)
+    → n.place ≡ Running (FromRam s) → Moves m event n outcome → IsRamEvent m.content m.cpu m.place event s
+event-moved m n event outcome s former running (inl done) = event-of m event s former (sym done.place ∙ running)
+event-moved m n event outcome s former running (inr lost) = absurd (off (sym lost.place ∙ running))
   where
     off : Off ≡ Running (FromRam s) → ⊥
     off is = cc
 
-pub ram-started : (m n o : MachineView) (events : List EventView) (texts : List (List ℕ)) (event : EventView)
-    (text : List ℕ) (s : Started) (writes : List RamWrite)
-    → IsFresh m.place → PlaysWriting m [] events n texts writes → StartsRam n event o text s
+pub ram-started : (m n o : MachineView) (events : List EventView) (outcomes : List EventOutcome) (event : EventView)
+    (outcome : EventOutcome) (s : Started) (writes : List RamWrite)
+    → IsFresh m.place → PlaysWriting m [] events n outcomes writes → StartsRam n event o outcome s
     → IsBootIntoRam n.content n.cpu event writes s × (o.content ≡ n.content)
-ram-started m n o events texts event text s writes fresh run starts =
-    let e = event-moved n o event text s starts.former starts.running starts.moves in
+ram-started m n o events outcomes event outcome s writes fresh run starts =
+    let e = event-moved n o event outcome s starts.former starts.running starts.moves in
     let parts = start-parts n.content e.host.ram n.cpu (is_some e.host.placing) e.cmd e.payload s e.start in
     let valid = is-valid n.content e.host.ram n.cpu (is_some e.host.placing) e.cmd e.payload s (parts.2) in
-    let kept = ram-moves n o e.host e.command e.payload text e.cmd e.at e.is e.ram
-    (subst (λ (x : EventView). Moves n x o text) e.came starts.moves) in (
+    let kept = ram-moves n o e.host e.command e.payload outcome e.cmd e.at e.is e.ram
+    (subst (λ (x : EventView). Moves n x o outcome) e.came starts.moves) in (
       record {
         command = e.command;
         payload = e.payload;
@@ -328,18 +329,18 @@ ram-started m n o events texts event text s writes fresh run starts =
             is-range n.content e.host.ram n.cpu (is_some e.host.placing) e.cmd e.payload s (parts.0) (parts.1);
         valid =
             subst (λ (ram : List ℕ). ValidRam n.content (reboot_range ram e.cmd) (reboot_p0 e.cmd) n.cpu s)
-            (run-written m n writes events texts e.host fresh run e.at) valid;
+            (run-written m n writes events outcomes e.host fresh run e.at) valid;
         rows = is-below n.content e.host.ram n.cpu (is_some e.host.placing) e.cmd e.payload s valid;
       },
       kept.0,
     )
 
-pub ram-starts : (m n o : MachineView) (events : List EventView) (texts : List (List ℕ)) (event : EventView)
-    (text : List ℕ) (s : Started)
-    → IsFresh m.place → Plays m events n texts → StartsRam n event o text s
-    → ((writes : List RamWrite) × PlaysWriting m [] events n texts writes
+pub ram-starts : (m n o : MachineView) (events : List EventView) (outcomes : List EventOutcome) (event : EventView)
+    (outcome : EventOutcome) (s : Started)
+    → IsFresh m.place → Plays m events n outcomes → StartsRam n event o outcome s
+    → ((writes : List RamWrite) × PlaysWriting m [] events n outcomes writes
     × IsBootIntoRam n.content n.cpu event writes s × (o.content ≡ n.content))
-ram-starts m n o events texts event text s fresh plays starts =
-    let run = runs m n [] events texts plays in
-    let started = ram-started m n o events texts event text s (run.0) fresh (run.1) starts in
+ram-starts m n o events outcomes event outcome s fresh plays starts =
+    let run = runs m n [] events outcomes plays in
+    let started = ram-started m n o events outcomes event outcome s (run.0) fresh (run.1) starts in
     (run.0, run.1, started.0, started.1)

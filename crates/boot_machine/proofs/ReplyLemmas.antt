@@ -1,12 +1,11 @@
 -- Replies are short, and what is told of a command.
-use Rattle.std.proofs.Common.{◌≡◌, ℕ, zero, suc, ◌+◌, ◌-◌, ◌<◌, ◌≤◌, ◌^◌, ◌==◌, Bool, true, false, List, [], ◌∷◌, ◌++◌, arith, length, Option, None, Some, refl, sym, ap, ◌∙◌}
+use Rattle.std.proofs.Common.{◌≡◌, ℕ, zero, suc, ◌+◌, ◌-◌, ◌<◌, ◌≤◌, ◌^◌, ◌==◌, Bool, true, false, List, [], ◌∷◌, arith, length, Option, refl, ap, ◌∙◌}
 use Rattle.std.specs.Prelude.{if◌then◌else◌, slice_range, take, drop}
 use Rattle.block_codec.specs.Words.{bytes_of}
 use Rattle.block_codec.proofs.WordLemmas.{length-bytes_of}
 use Rattle.pico_board.specs.declared.boot.Cpu.{Cpu}
 use Rattle.pico_board.specs.Content.{Content, IsContent}
 use Rattle.part_table.specs.declared.Table.{Table}
-use Rattle.image_def.specs.declared.started.Started.{Started}
 use Rattle.picoboot_cmd.specs.declared.cmd.Cmd.{Cmd}
 use Rattle.picoboot_cmd.specs.declared.kinds.TheConstants.{OTP_READ, READ}
 use Rattle.picoboot_cmd.specs.Arguments.{address, first_row, offset, row_count, size}
@@ -17,8 +16,8 @@ use Rattle.picoboot_cmd.specs.Replies.{HasTakenBytes}
 use Rattle.picoboot_cmd.specs.Served.{served_on, done_of, reply_of}
 use Rattle.load_map.specs.declared.addresses.TheConstants.{SRAM_START}
 use Rattle.ram_start.specs.Serving.{ram_command, ram_reply, ram_status}
-use Rattle.text_lines.specs.Texts.{command_text, ram_start_text}
-use Rattle.boot_machine.specs.Serving.{ram_text}
+use Rattle.text_lines.specs.Outcomes.{command_outcome}
+use Rattle.text_lines.specs.declared.outcome.EventOutcome.{EventOutcome}
 
 take-most : {X : Type 0} (k : ℕ) (xs : List X) → length (take k xs) ≤ k
 take-most zero xs = omega arith
@@ -94,24 +93,14 @@ host-few c t busy cmd payload right = by (status_of (length c.flash) c.otp t bus
     by true is = rw is here
     by false is = rw is (omega arith)
 
--- the text of a RAM command that starts an image, and of another one
-pub ram-some : (cmd : Cmd) (s t : ℕ) (r : List ℕ) (o : Option Started) (image : Started) (l m : List ℕ) → s ≡ t
-    → o ≡ Some image → l ≡ command_text cmd s r → m ≡ l ++ ram_start_text image → m ≡ ram_text cmd t r o
-ram-some cmd s t r o image l m same is one two =
-    two ∙ ap (λ x. x ++ ram_start_text image) (one ∙ ap (λ x. command_text cmd x r) same)
-    ∙ sym (ap (ram_text cmd t r) is)
-
-pub ram-none : (cmd : Cmd) (s t : ℕ) (r : List ℕ) (o : Option Started) (l : List ℕ) → s ≡ t → o ≡ None
-    → l ≡ command_text cmd s r → l ≡ ram_text cmd t r o
-ram-none cmd s t r o l same is one = one ∙ ap (λ x. command_text cmd x r) same ∙ sym (ap (ram_text cmd t r) is)
-
--- the text of a command of the host
+-- what comes of a command of the host
 pub host-told : (r : HashReply) (c : Content) (t u : Option Table) (busy : Bool) (cmd : Cmd) (payload : List ℕ)
-    → IsContent c → t ≡ u → (line : List ℕ) (done : Done) → done ≡ done_of (served_on c t busy cmd payload)
-    → ((bytes : List ℕ) → HasTakenBytes r bytes → length bytes < 2 ^ 32 → line ≡ command_text cmd done.status bytes)
+    → IsContent c → t ≡ u → (outcome : EventOutcome) (done : Done) → done ≡ done_of (served_on c t busy cmd payload)
+    → ((bytes : List ℕ) → HasTakenBytes r bytes → length bytes < 2 ^ 32
+    → outcome ≡ command_outcome cmd done.status bytes)
     → HasTakenBytes r (served_on c t busy cmd payload).reply
-    → line ≡ command_text cmd (served_on c u busy cmd payload).status (served_on c u busy cmd payload).reply
-host-told r c t u busy cmd payload right same line done is text taken =
-    text (served_on c t busy cmd payload).reply taken (host-few c t busy cmd payload right)
-    ∙ ap (λ (d : Done). command_text cmd d.status (served_on c t busy cmd payload).reply) is
-    ∙ ap (λ x. command_text cmd (served_on c x busy cmd payload).status (served_on c x busy cmd payload).reply) same
+    → outcome ≡ command_outcome cmd (served_on c u busy cmd payload).status (served_on c u busy cmd payload).reply
+host-told r c t u busy cmd payload right same outcome done is told taken =
+    told (served_on c t busy cmd payload).reply taken (host-few c t busy cmd payload right)
+    ∙ ap (λ (d : Done). command_outcome cmd d.status (served_on c t busy cmd payload).reply) is
+    ∙ ap (λ x. command_outcome cmd (served_on c x busy cmd payload).status (served_on c x busy cmd payload).reply) same

@@ -11,10 +11,11 @@ use Rattle.part_table.specs.Sound.{IsSoundTable}
 use Rattle.image_def.specs.declared.started.Started.{Started}
 use Rattle.uf2_place.specs.Accepting.{DownloadView}
 use Rattle.uf2_place.specs.Downloads.{IsTargetIn, lease_of}
+use Rattle.text_lines.specs.declared.outcome.EventOutcome.{EventOutcome}
 use Rattle.boot_machine.specs.declared.parts.Parts.{Parts}
 use Rattle.boot_machine.specs.declared.state.State.TheVariants.{Off, Bootsel, Running}
 use Rattle.boot_machine.specs.Machines.{Host, Placing}
-use Rattle.boot_machine.specs.Serving.{line_only, with_ram}
+use Rattle.boot_machine.specs.Serving.{only_told, with_ram}
 use Rattle.boot_machine.specs.Standing.{Carries, HasRoom, IsHost, IsLeft, IsRamStart, IsServed, IsSteady, is_bootsel, is_on, membership_of}
 use Rattle.boot_machine.proofs.CarriedLemmas.{carried}
 use Rattle.boot_machine.proofs.RoomLemmas.{room-kept}
@@ -145,17 +146,17 @@ module _ {B : Type 0} where
     }
 
     module _ (history : B → List Step → Type 0) where
-      -- nothing is done but a line
-      pub told-served : (old new : Parts B) (host : Host) (text line : List ℕ) → IsTrue (state old.board).powered
-          → new.board ≡ old.board → new.cpu ≡ old.cpu → IsHost new host → line ≡ text
-          → IsServed state history old (line_only host text) None new line
-      told-served old new host text line power same cpu is one = record {
+      -- nothing is done but an answer
+      pub told-served : (old new : Parts B) (host : Host) (outcome told : EventOutcome) → IsTrue (state old.board).powered
+          → new.board ≡ old.board → new.cpu ≡ old.cpu → IsHost new host → told ≡ outcome
+          → IsServed state history old (only_told host outcome) None new told
+      told-served old new host outcome told power same cpu is one = record {
         ok = true;
         by = record {
           board = subst (DoesAll state history old.board [] true) (sym same) (DoesAll-none old.board power);
           cpu = cpu;
           place = is;
-          text = one;
+          told = one;
           off = tt;
           lost = tt;
         };

@@ -1,7 +1,7 @@
 -- A trial image that runs was chosen on the content as it is: its start wrote nothing, and nothing is written while it
 -- runs.
 use Rattle.std.proofs.Common.{◌≡◌, ℕ, true, List, [], ◌∷◌, ◌++◌, length, Option, Some, None, Result, Ok, Err, refl, sym, ap, subst, inl, inr, true≢false}
-use Rattle.std.specs.Prelude.{◌==◌, ⊤, codes}
+use Rattle.std.specs.Prelude.{◌==◌, ⊤}
 use Rattle.pico_board.specs.declared.Step.{Step}
 use Rattle.pico_board.specs.declared.boot.BootKind.{BootKind}
 use Rattle.pico_board.specs.declared.boot.BootKind.TheVariants.{Normal}
@@ -31,6 +31,7 @@ use Rattle.boot_rules.specs.declared.decision.Decision.TheVariants.{Start, Boots
 use Rattle.boot_rules.proofs.DecisionLemmas.{chosen-exactly}
 use Rattle.boot_script.specs.Events.{EventView}
 use Rattle.boot_machine.specs.Boots.{Effect, booted, decided_place, decided_steps}
+use Rattle.text_lines.specs.declared.outcome.EventOutcome.{EventOutcome}
 use Rattle.boot_machine.specs.Machines.{Host, MachineView, StateView, Off, InBootsel, Running, FromFlash, FromRam}
 use Rattle.boot_machine.specs.Moves.{Moves, Plays, effect, effect_in}
 use Rattle.boot_machine.specs.Runs.{IsFresh}
@@ -76,8 +77,8 @@ decided-chosen c cpu kind (Start choice) is = λ trial. (
 )
 decided-chosen c cpu kind (Bootsel fall) is = tt
 
-booted-chosen : (c : Content) (cpu : Cpu) (kind : BootKind) (text : List ℕ) → After c cpu (booted c cpu kind text)
-booted-chosen c cpu kind text = decided-chosen c cpu kind (decision_in c cpu kind) refl
+booted-chosen : (c : Content) (cpu : Cpu) (kind : BootKind) (before : Option EventOutcome) → After c cpu (booted c cpu kind before)
+booted-chosen c cpu kind before = decided-chosen c cpu kind (decision_in c cpu kind) refl
 
 -- what is served runs no image from flash
 abbrev ServesNone : ServedEvent → Type 0
@@ -130,7 +131,7 @@ buy-chosen c cpu choice was =
 
 place-chosen : (c : Content) (cpu : Cpu) (place : StateView) (event : EventView) → HasChosenTrial c cpu place
     → After c cpu (effect_in c cpu place event)
-place-chosen c cpu Off EventView.PowerOn was = booted-chosen c cpu Normal (codes "boot ")
+place-chosen c cpu Off EventView.PowerOn was = booted-chosen c cpu Normal None
 place-chosen c cpu Off EventView.End was = tt
 place-chosen c cpu Off (EventView.Command command payload) was = tt
 place-chosen c cpu Off (EventView.Uf2 block) was = tt
@@ -143,12 +144,12 @@ place-chosen c cpu (InBootsel host) (EventView.Command command payload) was =
 place-chosen c cpu (InBootsel host) (EventView.Uf2 block) was =
     let s = served_event c cpu host (EventView.Uf2 block) in
     followed-chosen c cpu host s s.boot (uf2-none c cpu host (uf2_of block))
-place-chosen c cpu (InBootsel host) (EventView.Reset kind) was = booted-chosen c cpu kind (codes "boot ")
+place-chosen c cpu (InBootsel host) (EventView.Reset kind) was = booted-chosen c cpu kind None
 place-chosen c cpu (InBootsel host) EventView.End was = tt
 place-chosen c cpu (InBootsel host) EventView.PowerOn was = tt
 place-chosen c cpu (InBootsel host) EventView.Buy was = tt
 place-chosen c cpu (InBootsel host) (EventView.Cut left within pattern) was = tt
-place-chosen c cpu (Running program) (EventView.Reset kind) was = booted-chosen c cpu kind (codes "boot ")
+place-chosen c cpu (Running program) (EventView.Reset kind) was = booted-chosen c cpu kind None
 place-chosen c cpu (Running (FromFlash choice)) EventView.Buy was = buy-chosen c cpu choice was
 place-chosen c cpu (Running (FromRam image)) EventView.Buy was = tt
 place-chosen c cpu (Running program) EventView.PowerOn was = was
@@ -169,30 +170,30 @@ effect-chosen m (EventView.Reset kind) was = place-chosen m.content m.cpu m.plac
 effect-chosen m EventView.Buy was = place-chosen m.content m.cpu m.place EventView.Buy was
 
 -- an event, and a run
-move-chosen : (m n : MachineView) (event : EventView) (text : List ℕ) → Moves m event n text
+move-chosen : (m n : MachineView) (event : EventView) (outcome : EventOutcome) → Moves m event n outcome
     → HasChosenTrial m.content m.cpu m.place → HasChosenTrial n.content n.cpu n.place
-move-chosen m n event text (inl done) was =
+move-chosen m n event outcome (inl done) was =
     subst (λ (c : Content). HasChosenTrial c n.cpu n.place) (sym done.content)
     (subst (λ (cpu : Cpu). HasChosenTrial (after_all m.content (effect m event).steps) cpu n.place) (sym done.cpu)
     (subst (HasChosenTrial (after_all m.content (effect m event).steps) m.cpu) (sym done.place)
     (effect-chosen m event was)))
-move-chosen m n event text (inr lost) was = subst (HasChosenTrial n.content n.cpu) (sym lost.place) tt
+move-chosen m n event outcome (inr lost) was = subst (HasChosenTrial n.content n.cpu) (sym lost.place) tt
 
-plays-chosen : (m n : MachineView) (events : List EventView) (texts : List (List ℕ)) → Plays m events n texts
+plays-chosen : (m n : MachineView) (events : List EventView) (outcomes : List EventOutcome) → Plays m events n outcomes
     → HasChosenTrial m.content m.cpu m.place → HasChosenTrial n.content n.cpu n.place
-plays-chosen m n [] texts plays was =
+plays-chosen m n [] outcomes plays was =
     subst (λ (x : MachineView). HasChosenTrial x.content x.cpu x.place) (sym plays.0) was
-plays-chosen m n (event ∷ events) texts (mid, text, others, moves, rest, all) was =
-    plays-chosen mid n events others rest (move-chosen m mid event text moves was)
+plays-chosen m n (event ∷ events) outcomes (mid, outcome, others, moves, rest, all) was =
+    plays-chosen mid n events others rest (move-chosen m mid event outcome moves was)
 
 fresh-chosen : (c : Content) (cpu : Cpu) (place : StateView) → IsFresh place → HasChosenTrial c cpu place
 fresh-chosen c cpu Off fresh = tt
 fresh-chosen c cpu (InBootsel host) fresh = tt
 fresh-chosen c cpu (Running program) fresh = absurd fresh
 
-pub running-trial : (m n : MachineView) (events : List EventView) (texts : List (List ℕ)) (choice : Choice)
-    → IsFresh m.place → Plays m events n texts → n.place ≡ Running (FromFlash choice) → choice.image.trial ≡ true
+pub running-trial : (m n : MachineView) (events : List EventView) (outcomes : List EventOutcome) (choice : Choice)
+    → IsFresh m.place → Plays m events n outcomes → n.place ≡ Running (FromFlash choice) → choice.image.trial ≡ true
     → WasChosen n.content n.cpu choice
-running-trial m n events texts choice fresh plays at trial =
+running-trial m n events outcomes choice fresh plays at trial =
     subst (HasChosenTrial n.content n.cpu) at
-    (plays-chosen m n events texts plays (fresh-chosen m.content m.cpu m.place fresh)) trial
+    (plays-chosen m n events outcomes plays (fresh-chosen m.content m.cpu m.place fresh)) trial

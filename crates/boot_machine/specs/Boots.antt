@@ -1,5 +1,5 @@
 -- What a boot of the machine does. Source: RP2350 Datasheet, chapter 5 (Bootrom).
-use Rattle.std.specs.Prelude.{ℕ, List, [], ◌++◌, Option, Some, None}
+use Rattle.std.specs.Prelude.{List, [], Option, Some, None}
 use Rattle.pico_board.specs.declared.Step.{Step}
 use Rattle.pico_board.specs.declared.boot.Cpu.{Cpu}
 use Rattle.pico_board.specs.declared.boot.BootKind.{BootKind}
@@ -12,14 +12,15 @@ use Rattle.boot_rules.specs.declared.decision.Decision.TheVariants.{Start, Boots
 use Rattle.boot_rules.specs.Choosing.{decision_in}
 use Rattle.boot_rules.specs.Tables.{table_in}
 use Rattle.boot_machine.specs.Machines.{StateView, InBootsel, Running, FromFlash}
-use Rattle.text_lines.specs.Texts.{decision_text}
+use Rattle.text_lines.specs.Outcomes.{boot_outcome}
+use Rattle.text_lines.specs.declared.outcome.EventOutcome.{EventOutcome}
 
--- what an event does where no power is lost: its steps, what the machine does afterwards, and the
--- text of its line
+-- what an event does where no power is lost: its steps, what the machine does afterwards, and its
+-- outcome
 pub record Effect : Type 0 where
   pub steps : List Step
   pub place : StateView
-  pub text : List ℕ
+  pub outcome : EventOutcome
 
 -- BOOTSEL as it is entered: with the content's table, without a download, and with an SRAM of zeros
 abbrev pub entered : Content → StateView
@@ -34,16 +35,16 @@ abbrev pub decided_place : Content → Decision → StateView
 decided_place c (Start choice) = Running (FromFlash choice)
 decided_place c (Bootsel fall) = entered c
 
--- a boot on a content, behind a text
-abbrev pub booted_by : Content → Cpu → Decision → List ℕ → Effect
-booted_by c cpu d text = record {
+-- a boot on a content, by itself or behind what a host's event came to
+abbrev pub booted_by : Content → Cpu → Decision → Option EventOutcome → Effect
+booted_by c cpu d before = record {
   steps = decided_steps c cpu d;
   place = decided_place c d;
-  text = text ++ decision_text d;
+  outcome = boot_outcome before d;
 }
 
-abbrev pub booted : Content → Cpu → BootKind → List ℕ → Effect
-booted c cpu kind text = booted_by c cpu (decision_in c cpu kind) text
+abbrev pub booted : Content → Cpu → BootKind → Option EventOutcome → Effect
+booted c cpu kind before = booted_by c cpu (decision_in c cpu kind) before
 
 -- the choice that a decision starts
 abbrev pub choice_in : Decision → Option Choice

@@ -19,6 +19,10 @@ use Rattle.pico_board.specs.Cuts.{Cut}
 use Rattle.slot_choice.specs.declared.unit.Member.TheVariants.{B}
 use Rattle.boot_rules.specs.declared.tables.Found.{Found}
 use Rattle.uf2_place.specs.declared.block.Uf2.{Uf2}
+use Rattle.text_lines.specs.declared.outcome.CommandAnswer.{CommandAnswer}
+use Rattle.text_lines.specs.declared.outcome.CommandAnswer.TheVariants.{Done, Refused}
+use Rattle.text_lines.specs.declared.outcome.EventOutcome.{EventOutcome}
+use Rattle.text_lines.specs.declared.outcome.EventOutcome.TheVariants.{Command}
 use Rattle.boot_machine.specs.Machines.{Host, InBootsel, MachineView, Off, StateView, Placing}
 use Rattle.boot_machine.specs.Serving.{with_ram}
 use Rattle.worked_flashes.specs.Flashes.{one_sector, bare_sector}
@@ -151,3 +155,13 @@ erase_both = EventView.Command (command_bytes (erase_command 0x10000000 0x2000))
 -- the start of the trial image in the whole flash, once it was bought
 abbrev pub bought_trial : Choice
 bought_trial = starts_alone false (bought running_trial.image)
+
+-- the outcome of a command with token 1: of this answer; done without a reply; refused with a status
+abbrev pub told_command : ℕ → CommandAnswer → EventOutcome
+told_command id answer = Command (record { id = id; token = 1; answer = answer })
+
+abbrev pub told_done : ℕ → EventOutcome
+told_done id = told_command id Done
+
+abbrev pub told_refused : ℕ → ℕ → EventOutcome
+told_refused id status = told_command id (Refused status)

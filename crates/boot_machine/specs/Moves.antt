@@ -1,6 +1,6 @@
 -- The table of the machine: what each event does in each state, and what lost power leaves.
 -- Source: RP2350 Datasheet, chapter 5 (Bootrom); the profile is this project's own.
-use Rattle.std.specs.Prelude.{ℕ, ◌≡◌, ◌⊎◌, Bool, true, false, if◌then◌else◌, List, [], ◌∷◌, Option, Some, None, codes, option_map}
+use Rattle.std.specs.Prelude.{◌≡◌, ◌⊎◌, Bool, true, false, if◌then◌else◌, List, [], ◌∷◌, Option, Some, None, option_map}
 use Rattle.pico_board.specs.declared.Step.{Step}
 use Rattle.pico_board.specs.declared.boot.Cpu.{Cpu}
 use Rattle.pico_board.specs.declared.boot.BootKind.{BootKind}
@@ -12,26 +12,24 @@ use Rattle.image_check.specs.Changes.{bought as bought_image}
 use Rattle.slot_choice.specs.declared.choice.Choice.{Choice}
 use Rattle.trial_buy.specs.Buying.{buy_steps}
 use Rattle.boot_script.specs.Events.{EventView}
+use Rattle.text_lines.specs.declared.outcome.EventOutcome.{EventOutcome}
+use Rattle.text_lines.specs.declared.outcome.EventOutcome.TheVariants as event_outcomes
 use Rattle.boot_machine.specs.Machines.{MachineView, Host, Program, StateView, Off, InBootsel, Running, FromFlash, FromRam}
 use Rattle.boot_machine.specs.Boots.{Effect, booted}
 use Rattle.boot_machine.specs.Serving.{followed, served_event}
 
--- the line where power was lost
-abbrev pub lost_text : List ℕ
-lost_text = codes "power lost"
-
--- nothing is done but a line
-abbrev pub stays_with_line : StateView → List ℕ → Effect
-stays_with_line place text = record { steps = []; place = place; text = text }
+-- nothing is done but an answer
+abbrev pub stays_with : StateView → EventOutcome → Effect
+stays_with place outcome = record { steps = []; place = place; outcome = outcome }
 
 -- a boot of this kind, from any state
 abbrev pub reset : Content → Cpu → BootKind → Effect
-reset c cpu kind = booted c cpu kind (codes "boot ")
+reset c cpu kind = booted c cpu kind None
 
 -- without power only power that comes back does something
 abbrev pub off_effect : Content → Cpu → EventView → Effect
 off_effect c cpu EventView.PowerOn = reset c cpu Normal
-off_effect c cpu event = stays_with_line Off (codes "off")
+off_effect c cpu event = stays_with Off event_outcomes.Off
 
 -- in BOOTSEL the host is served, and resets are made
 abbrev pub bootsel_effect : Content → Cpu → Host → EventView → Effect
@@ -40,7 +38,7 @@ bootsel_effect c cpu host (EventView.Command command payload) =
 bootsel_effect c cpu host (EventView.Uf2 block) =
     followed c cpu (served_event c cpu host (EventView.Uf2 block))
 bootsel_effect c cpu host (EventView.Reset kind) = reset c cpu kind
-bootsel_effect c cpu host event = stays_with_line (InBootsel host) (codes "ignored")
+bootsel_effect c cpu host event = stays_with (InBootsel host) event_outcomes.Ignored
 
 -- the choice of an image that is bought
 abbrev pub bought_choice : Choice → Choice
@@ -57,16 +55,16 @@ buy_effect c cpu (FromFlash choice) =
     if choice.image.trial then record {
       steps = buy_steps c cpu choice;
       place = Running (FromFlash (bought_choice choice));
-      text = codes "buy done";
+      outcome = event_outcomes.Bought;
     }
-    else stays_with_line (Running (FromFlash choice)) (codes "buy none")
-buy_effect c cpu (FromRam image) = stays_with_line (Running (FromRam image)) (codes "buy none")
+    else stays_with (Running (FromFlash choice)) event_outcomes.NothingToBuy
+buy_effect c cpu (FromRam image) = stays_with (Running (FromRam image)) event_outcomes.NothingToBuy
 
 -- while an image runs it may buy itself, and resets are made
 abbrev pub running_effect : Content → Cpu → Program → EventView → Effect
 running_effect c cpu program (EventView.Reset kind) = reset c cpu kind
 running_effect c cpu program EventView.Buy = buy_effect c cpu program
-running_effect c cpu program event = stays_with_line (Running program) (codes "ignored")
+running_effect c cpu program event = stays_with (Running program) event_outcomes.Ignored
 
 abbrev pub effect_in : Content → Cpu → StateView → EventView → Effect
 effect_in c cpu Off event = off_effect c cpu event
@@ -76,8 +74,8 @@ effect_in c cpu (Running program) event = running_effect c cpu program event
 -- what an event does where no power is lost: a cut is armed and the script's end does nothing in
 -- any state
 abbrev pub effect : MachineView → EventView → Effect
-effect m (EventView.Cut left within pattern) = stays_with_line m.place (codes "cut armed")
-effect m EventView.End = stays_with_line m.place (codes "end")
+effect m (EventView.Cut left within pattern) = stays_with m.place event_outcomes.CutArmed
+effect m EventView.End = stays_with m.place event_outcomes.Ended
 effect m event = effect_in m.content m.cpu m.place event
 
 -- the cut that is armed while the event's steps are done, where the board tells it. A Cut event
@@ -103,33 +101,33 @@ Decides (Some cut) c steps done d armed = LeavesCutOutcome (cut_steps steps cut 
 
 -- the steps are done whole
 pub record IsDoneWhole (m : MachineView) (armed : Option (Option Cut)) (e : Effect)
-    (n : MachineView)
-    (text : List ℕ) : Type 0 where
+    (n : MachineView) (outcome : EventOutcome) : Type 0 where
   pub content : n.content ≡ after_all m.content e.steps
   pub armed_cut : Decides armed m.content e.steps true n.content n.armed
   pub cpu : n.cpu ≡ m.cpu
   pub place : n.place ≡ e.place
-  pub line : text ≡ e.text
+  pub told : outcome ≡ e.outcome
 
 -- power is lost in one of the steps
 pub record IsLost (m : MachineView) (armed : Option (Option Cut)) (e : Effect) (n : MachineView)
-    (text : List ℕ) : Type 0 where
+    (outcome : EventOutcome) : Type 0 where
   pub content : CutOf m.content e.steps n.content
   pub armed_cut : Decides armed m.content e.steps false n.content n.armed
   pub cpu : n.cpu ≡ m.cpu
   pub place : n.place ≡ Off
-  pub line : text ≡ lost_text
+  pub told : outcome ≡ event_outcomes.PowerLost
 
-abbrev pub MovesBy : MachineView → Option (Option Cut) → Effect → MachineView → List ℕ → Type 0
-MovesBy m armed e n text = IsDoneWhole m armed e n text ⊎ IsLost m armed e n text
+abbrev pub MovesBy : MachineView → Option (Option Cut) → Effect → MachineView → EventOutcome
+    → Type 0
+MovesBy m armed e n outcome = IsDoneWhole m armed e n outcome ⊎ IsLost m armed e n outcome
 
--- Moves: an event takes the machine m to n, with the text of its line
-abbrev pub Moves : MachineView → EventView → MachineView → List ℕ → Type 0
-Moves m event n text = MovesBy m (armed_for m.armed event) (effect m event) n text
+-- Moves: an event takes the machine m to n, with this outcome
+abbrev pub Moves : MachineView → EventView → MachineView → EventOutcome → Type 0
+Moves m event n outcome = MovesBy m (armed_for m.armed event) (effect m event) n outcome
 
--- Plays: the events, one after another, take m to n, with the texts of their lines
-abbrev pub Plays : MachineView → List EventView → MachineView → List (List ℕ) → Type 0
-Plays m [] n texts = (n ≡ m) × (texts ≡ [])
-Plays m (event ∷ events) n texts =
-    (mid : MachineView) × (text : List ℕ) × (others : List (List ℕ))
-    × Moves m event mid text × Plays mid events n others × (texts ≡ (text ∷ others))
+-- Plays: the events, one after another, take m to n, with these outcomes
+abbrev pub Plays : MachineView → List EventView → MachineView → List EventOutcome → Type 0
+Plays m [] n outcomes = (n ≡ m) × (outcomes ≡ [])
+Plays m (event ∷ events) n outcomes =
+    (mid : MachineView) × (outcome : EventOutcome) × (others : List EventOutcome)
+    × Moves m event mid outcome × Plays mid events n others × (outcomes ≡ (outcome ∷ others))

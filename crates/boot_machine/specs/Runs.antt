@@ -26,6 +26,7 @@ use Rattle.ram_start.specs.Images.{ValidRam}
 use Rattle.ram_start.specs.Serving.{asks_reboot, is_ram_command, is_range, ram_status, reboot_range}
 use Rattle.ram_start.specs.Sram.{RamWrite, ram_after, zero_ram}
 use Rattle.boot_script.specs.Events.{EventView}
+use Rattle.text_lines.specs.declared.outcome.EventOutcome.{EventOutcome}
 use Rattle.boot_machine.specs.Machines.{Host, MachineView, Placing, StateView, Off, InBootsel, Running, FromRam}
 use Rattle.boot_machine.specs.Moves.{Moves}
 use Rattle.boot_machine.specs.Serving.{ServedEvent, block_served, info_status, info_words, is_like, served_event, table_of_found}
@@ -91,14 +92,14 @@ abbrev pub writes_behind : MachineView → List RamWrite → EventView → List 
 writes_behind m writes event = place_writes m.content m.cpu m.place writes event
 
 -- Plays, with the writes to the SRAM since BOOTSEL was entered, before the events and behind them
-abbrev pub PlaysWriting : MachineView → List RamWrite → List EventView → MachineView → List (List ℕ)
-    → List RamWrite → Type 0
-PlaysWriting m before [] n texts behind = (n ≡ m) × (texts ≡ []) × (behind ≡ before)
-PlaysWriting m before (event ∷ events) n texts behind =
-    (mid : MachineView) × (text : List ℕ) × (others : List (List ℕ))
-    × Moves m event mid text
+abbrev pub PlaysWriting : MachineView → List RamWrite → List EventView → MachineView
+    → List EventOutcome → List RamWrite → Type 0
+PlaysWriting m before [] n outcomes behind = (n ≡ m) × (outcomes ≡ []) × (behind ≡ before)
+PlaysWriting m before (event ∷ events) n outcomes behind =
+    (mid : MachineView) × (outcome : EventOutcome) × (others : List EventOutcome)
+    × Moves m event mid outcome
     × PlaysWriting mid (writes_behind m before event) events n others behind
-    × (texts ≡ (text ∷ others))
+    × (outcomes ≡ (outcome ∷ others))
 
 -- a run begins without power, or in BOOTSEL as it is entered: without a download, and with an SRAM
 -- of zeros
@@ -108,9 +109,9 @@ IsFresh (InBootsel host) = (host.placing ≡ None) × (host.ram ≡ zero_ram)
 IsFresh (Running program) = ⊥
 
 -- an event takes a machine that does not run this image in RAM to one that does
-pub record StartsRam (m : MachineView) (event : EventView) (n : MachineView) (text : List ℕ)
-    (s : Started) : Type 0 where
-  pub moves : Moves m event n text
+pub record StartsRam (m : MachineView) (event : EventView) (n : MachineView)
+    (outcome : EventOutcome) (s : Started) : Type 0 where
+  pub moves : Moves m event n outcome
   pub former : m.place ≢ Running (FromRam s)
   pub running : n.place ≡ Running (FromRam s)
 

@@ -1,7 +1,7 @@
 -- What BOOTSEL does for a host: the part of an event before the boot that it may ask for.
--- Source: RP2350 Datasheet, chapter 5 (Bootrom); the texts, the info replies, the RAM commands and
+-- Source: RP2350 Datasheet, chapter 5 (Bootrom); the info replies, the RAM commands and
 -- the rules on downloads are this project's own.
-use Rattle.std.specs.Prelude.{ℕ, ◌+◌, ◌==◌, ◌&&◌, Bool, true, false, nat_eq, if◌then◌else◌, is_some, List, [], ◌∷◌, ◌++◌, length, slice_index, Option, Some, None, Result, Ok, Err, codes, option_map}
+use Rattle.std.specs.Prelude.{ℕ, ◌+◌, ◌==◌, ◌&&◌, Bool, true, false, nat_eq, if◌then◌else◌, is_some, List, [], ◌∷◌, ◌++◌, length, slice_index, Option, Some, None, Result, Ok, Err, option_map}
 use Rattle.std.specs.Set.{is_member}
 use Rattle.pico_board.specs.declared.Step.{Step}
 use Rattle.pico_board.specs.declared.boot.Cpu.{Cpu}
@@ -43,20 +43,25 @@ use Rattle.image_def.specs.declared.started.Started.{Started}
 use Rattle.boot_rules.specs.declared.tables.Found.{Found}
 use Rattle.boot_rules.specs.Targets.{is_executable, target_of}
 use Rattle.boot_script.specs.Events.{EventView}
+use Rattle.boot_machine.specs.declared.served.Served.{Served}
 use Rattle.boot_machine.specs.Machines.{Host, Placing, StateView, InBootsel, Running, FromRam}
 use Rattle.boot_machine.specs.Boots.{Effect, booted}
-use Rattle.text_lines.specs.Texts.{accepted_text, command_text, form_text, ram_start_text, refused_text}
+use Rattle.text_lines.specs.Outcomes.{accepted_outcome, command_outcome, ram_start_outcome, refused_outcome}
+use Rattle.text_lines.specs.declared.outcome.BlockOutcome.TheVariants.{BadForm}
+use Rattle.text_lines.specs.declared.outcome.EventOutcome.{EventOutcome}
+use Rattle.text_lines.specs.declared.outcome.EventOutcome.TheVariants as event_outcomes
 
 -- what an event does before the boot that it asks for, if it asks for one
 pub record ServedEvent : Type 0 where
   pub steps : List Step
   pub place : StateView
-  pub text : List ℕ
+  pub outcome : EventOutcome
   pub boot : Option BootKind
 
--- nothing is done but a line
-abbrev pub line_only : Host → List ℕ → ServedEvent
-line_only host text = record { steps = []; place = InBootsel host; text = text; boot = None }
+-- nothing is done but an answer
+abbrev pub only_told : Host → EventOutcome → ServedEvent
+only_told host outcome =
+    record { steps = []; place = InBootsel host; outcome = outcome; boot = None }
 
 abbrev pub table_of_found : Option Found → Option Table
 table_of_found found = option_map (λ (f : Found). f.table) found
@@ -107,28 +112,28 @@ unfoldable pub info_reply : ℕ → Content → Cpu → Option Found → Cmd →
 info_reply status c cpu found cmd =
     if status == 0 then bytes_of (info_words c cpu found (ask_in cmd)) else []
 
-abbrev pub info_line : ℕ → Content → Cpu → Option Found → Cmd → List ℕ
-info_line status c cpu found cmd =
-    command_text cmd status (info_reply status c cpu found cmd)
+abbrev pub info_outcome : ℕ → Content → Cpu → Option Found → Cmd → EventOutcome
+info_outcome status c cpu found cmd =
+    command_outcome cmd status (info_reply status c cpu found cmd)
 
 abbrev pub serves_info : Content → Cpu → Host → Cmd → List ℕ → ServedEvent
 serves_info c cpu host cmd payload =
-    line_only host (info_line (info_status c cpu host.found cmd payload) c cpu host.found cmd)
+    only_told host (info_outcome (info_status c cpu host.found cmd payload) c cpu host.found cmd)
 
 -- a RAM command: it stores and reads, or starts an image, which drops the download
 abbrev pub ram_place : Host → Option Started → List ℕ → StateView
 ram_place host None ram = InBootsel (with_ram host ram)
 ram_place host (Some image) ram = Running (FromRam image)
 
-abbrev pub ram_text : Cmd → ℕ → List ℕ → Option Started → List ℕ
-ram_text cmd status reply None = command_text cmd status reply
-ram_text cmd status reply (Some image) = command_text cmd status reply ++ ram_start_text image
+abbrev pub ram_outcome : Cmd → ℕ → List ℕ → Option Started → EventOutcome
+ram_outcome cmd status reply None = command_outcome cmd status reply
+ram_outcome cmd status reply (Some image) = ram_start_outcome cmd image
 
 abbrev pub ram_result : Host → Cmd → RamServed → ServedEvent
 ram_result host cmd r = record {
   steps = [];
   place = ram_place host r.start r.ram;
-  text = ram_text cmd r.status r.reply r.start;
+  outcome = ram_outcome cmd r.status r.reply r.start;
   boot = None;
 }
 
@@ -141,7 +146,7 @@ abbrev pub host_result : Host → Cmd → Command → ServedEvent
 host_result host cmd r = record {
   steps = r.steps;
   place = InBootsel host;
-  text = command_text cmd r.status r.reply;
+  outcome = command_outcome cmd r.status r.reply;
   boot = r.boot;
 }
 
@@ -159,7 +164,7 @@ serves c cpu host cmd payload =
 -- 32 bytes that may be a command
 abbrev pub command_served : Content → Cpu → Host → Result Cmd CmdFault → List ℕ → ServedEvent
 command_served c cpu host (Ok cmd) payload = serves c cpu host cmd payload
-command_served c cpu host (Err fault) payload = line_only host (codes "cmd bad-magic")
+command_served c cpu host (Err fault) payload = only_told host event_outcomes.BadMagic
 
 -- a block is of the download's family and count
 abbrev pub is_like : List Uf2 → Uf2 → Bool
@@ -183,10 +188,10 @@ abbrev pub ruling_on : ℕ → Option Table → Option Target → Option Placing
 ruling_on n t given placing b =
     if is_skipped n b then Answered (Ok Skipped) else ruled_on t given placing b
 
--- the text of a block that is refused, or accepted
-abbrev pub block_text : ℕ → Result Accepted PlaceFault → List ℕ
-block_text number (Ok accepted) = accepted_text number accepted
-block_text number (Err fault) = refused_text fault
+-- the outcome of a block that is refused, or accepted
+abbrev pub block_outcome : ℕ → Result Accepted PlaceFault → EventOutcome
+block_outcome number (Ok accepted) = accepted_outcome number accepted
+block_outcome number (Err fault) = refused_outcome fault
 
 -- the boot that a done download asks for
 abbrev pub done_boot : ℕ → Target → Option BootKind
@@ -202,13 +207,19 @@ boot_of_accepted family Again = None
 boot_of_accepted family Taken = None
 boot_of_accepted family (Done target) = done_boot family target
 
--- what is answered of what came of a block: the boot that it asks for, where power was not lost
-abbrev pub boot_after_block : ℕ → Result Accepted PlaceFault → Result (Option BootKind) PowerLost
-boot_after_block family (Ok accepted) = Ok (boot_of_accepted family accepted)
-boot_after_block family (Err NoTarget) = Ok None
-boot_after_block family (Err Outside) = Ok None
-boot_after_block family (Err NotPermitted) = Ok None
-boot_after_block family (Err Lost) = Err (record {})
+-- what is answered of what came of a block of this number and family, where power was not lost
+abbrev pub block_answer : ℕ → ℕ → Result Accepted PlaceFault → Result Served PowerLost
+block_answer number family (Ok accepted) = Ok (record {
+  outcome = accepted_outcome number accepted;
+  boot = boot_of_accepted family accepted;
+})
+block_answer number family (Err NoTarget) =
+    Ok (record { outcome = refused_outcome NoTarget; boot = None })
+block_answer number family (Err Outside) =
+    Ok (record { outcome = refused_outcome Outside; boot = None })
+block_answer number family (Err NotPermitted) =
+    Ok (record { outcome = refused_outcome NotPermitted; boot = None })
+block_answer number family (Err Lost) = Err (record {})
 
 -- the target of a family that a block wants
 abbrev pub wanted_in : Content → Option Table → Cpu → Option ℕ → Option Target
@@ -221,13 +232,13 @@ taken_in host target blocks b steps =
     if is_whole_download blocks then record {
       steps = steps;
       place = InBootsel (with_placing host None);
-      text = accepted_text b.number (Done target);
+      outcome = accepted_outcome b.number (Done target);
       boot = done_boot b.family target;
     }
     else record {
       steps = steps;
       place = InBootsel (with_placing host (Some (record { target = target; blocks = blocks })));
-      text = accepted_text b.number Taken;
+      outcome = accepted_outcome b.number Taken;
       boot = None;
     }
 
@@ -238,7 +249,7 @@ blocks_of (Some placing) = placing.blocks
 -- a block with its ruling: a block that begins a download is its first, and one that continues it
 -- is added behind the others
 abbrev pub block_served : Host → Uf2 → Ruling → ServedEvent
-block_served host b (Answered answer) = line_only host (block_text b.number answer)
+block_served host b (Answered answer) = only_told host (block_outcome b.number answer)
 block_served host b (Begins target) =
     taken_in host target (b ∷ []) b (grown target [] (b ∷ []))
 block_served host b (Continues target) =
@@ -253,7 +264,7 @@ places c cpu host b =
 -- 512 bytes that may be a UF2 block
 abbrev pub uf2_served : Content → Cpu → Host → Result Uf2 Uf2Fault → ServedEvent
 uf2_served c cpu host (Ok b) = places c cpu host b
-uf2_served c cpu host (Err fault) = line_only host (form_text fault)
+uf2_served c cpu host (Err fault) = only_told host (event_outcomes.Block (BadForm fault))
 
 -- the events of a host
 abbrev pub is_hosted : EventView → Bool
@@ -266,18 +277,18 @@ abbrev pub served_event : Content → Cpu → Host → EventView → ServedEvent
 served_event c cpu host (EventView.Command command payload) =
     command_served c cpu host (command_in command) payload
 served_event c cpu host (EventView.Uf2 block) = uf2_served c cpu host (uf2_of block)
-served_event c cpu host event = line_only host []
+served_event c cpu host event = only_told host event_outcomes.Ignored
 
 -- what a served event does before the boot that it may ask for
 abbrev pub before_boot : ServedEvent → Effect
-before_boot s = record { steps = s.steps; place = s.place; text = s.text }
+before_boot s = record { steps = s.steps; place = s.place; outcome = s.outcome }
 
 -- what was served, and the boot that it asks for
 abbrev pub followed_by : Content → Cpu → ServedEvent → Option BootKind → Effect
 followed_by c cpu s None = before_boot s
 followed_by c cpu s (Some kind) =
-    let boot = booted (after_all c s.steps) cpu kind (s.text ++ codes " boot ") in
-    record { steps = s.steps ++ boot.steps; place = boot.place; text = boot.text }
+    let boot = booted (after_all c s.steps) cpu kind (Some s.outcome) in
+    record { steps = s.steps ++ boot.steps; place = boot.place; outcome = boot.outcome }
 
 abbrev pub followed : Content → Cpu → ServedEvent → Effect
 followed c cpu s = followed_by c cpu s s.boot

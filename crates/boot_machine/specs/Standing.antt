@@ -6,7 +6,7 @@ use Rattle.pico_board.specs.declared.Step.{Step}
 use Rattle.pico_board.specs.declared.boot.Cpu.{Cpu}
 use Rattle.pico_board.specs.declared.boot.BootKind.{BootKind}
 use Rattle.pico_board.specs.Content.{Content}
-use Rattle.pico_board.specs.declared.board.PowerLost.{PowerLost}
+use Rattle.pico_board.specs.declared.board.PowerLost.{PowerLost as Lost}
 use Rattle.uf2_place.specs.declared.answer.Accepted.{Accepted}
 use Rattle.uf2_place.specs.declared.answer.Accepted.TheVariants.{Skipped, Again, Taken, Done}
 use Rattle.pico_board.specs.Board.{State as BoardState, DoesAll, Rose}
@@ -22,6 +22,10 @@ use Rattle.slot_choice.specs.declared.choice.Choice.{Choice}
 use Rattle.trial_buy.specs.Windows.{IsPlacedChoice}
 use Rattle.boot_rules.specs.declared.tables.Found.{Found}
 use Rattle.boot_script.specs.Events.{EventView}
+use Rattle.text_lines.specs.Events.{outcome_text}
+use Rattle.text_lines.specs.declared.outcome.EventOutcome.{EventOutcome}
+use Rattle.text_lines.specs.declared.outcome.EventOutcome.TheVariants.{PowerLost}
+use Rattle.boot_machine.specs.declared.served.Served.{Served}
 use Rattle.boot_machine.specs.declared.state.State.{State}
 use Rattle.boot_machine.specs.declared.state.State.TheVariants as states
 use Rattle.boot_machine.specs.declared.state.Membership.{Membership}
@@ -29,7 +33,7 @@ use Rattle.boot_machine.specs.declared.parts.Parts.{Parts}
 use Rattle.boot_machine.specs.Machines.{MachineView, Host, Placing, StateView, Off, InBootsel, Running, FromFlash, FromRam}
 use Rattle.ram_start.specs.Sram.{zero_ram}
 use Rattle.boot_machine.specs.Boots.{Effect}
-use Rattle.boot_machine.specs.Moves.{Moves, effect, effect_in, lost_text}
+use Rattle.boot_machine.specs.Moves.{Moves, effect, effect_in}
 use Rattle.boot_machine.specs.Serving.{ServedEvent, before_boot}
 
 -- a choice that runs: its windows are placed, and a trial image is still valid in its window, so
@@ -192,49 +196,49 @@ module _ {B : Type 0} where
           → IsHeldChoice (state p.board).content p.cpu choice
 
     module _ (history : B → List Step → Type 0) where
-      -- the parts did what an effect says, or power was lost in its steps, with this line
-      pub record IsBy (old : Parts B) (e : Effect) (ok : Bool) (new : Parts B) (line : List ℕ)
-          : Type 0 where
+      -- the parts did what an effect says, or power was lost in its steps, with this outcome
+      pub record IsBy (old : Parts B) (e : Effect) (ok : Bool) (new : Parts B)
+          (outcome : EventOutcome) : Type 0 where
         pub board : DoesAll state history old.board e.steps ok new.board
         pub cpu : new.cpu ≡ old.cpu
         pub place : OnTrue ok (StandsAt new e.place)
-        pub text : OnTrue ok (line ≡ e.text)
+        pub told : OnTrue ok (outcome ≡ e.outcome)
         pub off : OnFalse ok (new.state ≡ states.Off)
-        pub lost : OnFalse ok (line ≡ lost_text)
+        pub lost : OnFalse ok (outcome ≡ PowerLost)
 
-      -- the parts did what an effect says, or power was lost in its steps, with this line,
+      -- the parts did what an effect says, or power was lost in its steps, with this outcome,
       -- whichever it was
-      abbrev pub Comes : Parts B → Effect → Parts B → List ℕ → Type 0
-      Comes old e new line = (ok : Bool) × IsBy old e ok new line
+      abbrev pub Comes : Parts B → Effect → Parts B → EventOutcome → Type 0
+      Comes old e new outcome = (ok : Bool) × IsBy old e ok new outcome
 
       -- what an event does before the boot that it asks for was done, and that boot is answered. Or
       -- power was lost, and no boot is asked for
       pub record IsServed (old : Parts B) (s : ServedEvent) (answer : Option BootKind)
-          (new : Parts B)
-          (line : List ℕ) : Type 0 where
+          (new : Parts B) (outcome : EventOutcome) : Type 0 where
         pub ok : Bool
-        pub by : IsBy old (before_boot s) ok new line
+        pub by : IsBy old (before_boot s) ok new outcome
         pub asked : OnTrue ok (answer ≡ s.boot)
         pub silent : OnFalse ok (answer ≡ None)
 
       -- what is served, for each machine that the parts stand for
       abbrev pub Serves : Parts B → (Content → Cpu → Host → ServedEvent) → Option BootKind → Parts B
-          → List ℕ → Type 0
-      Serves old s answer new line = (host : Host) → IsHost old host
-          → IsServed old (s (state old.board).content old.cpu host) answer new line
+          → EventOutcome → Type 0
+      Serves old s answer new outcome = (host : Host) → IsHost old host
+          → IsServed old (s (state old.board).content old.cpu host) answer new outcome
 
-      -- nothing is done, and the line is told
-      pub record IsIdle (old : Parts B) (e : Effect) (new : Parts B) (line : List ℕ) : Type 0 where
+      -- nothing is done, and the outcome is told
+      pub record IsIdle (old : Parts B) (e : Effect) (new : Parts B) (outcome : EventOutcome)
+          : Type 0 where
         pub same : new ≡ old
         pub none : e.steps ≡ []
         pub place : StandsAt new e.place
-        pub text : line ≡ e.text
+        pub told : outcome ≡ e.outcome
 
       -- an event in a state, for each machine that the parts stand for
-      abbrev pub Advances : Parts B → EventView → Parts B → List ℕ → Type 0
-      Advances old event new line = (m : MachineView) → Stands old m
-          → IsIdle old (effect_in m.content m.cpu m.place event) new line
-          ⊎ Comes old (effect_in m.content m.cpu m.place event) new line
+      abbrev pub Advances : Parts B → EventView → Parts B → EventOutcome → Type 0
+      Advances old event new outcome = (m : MachineView) → Stands old m
+          → IsIdle old (effect_in m.content m.cpu m.place event) new outcome
+          ⊎ Comes old (effect_in m.content m.cpu m.place event) new outcome
 
     -- power was lost: the board is not powered, and the count of cuts rose
     pub record IsLostIn (old new : Parts B) : Type 0 where
@@ -242,18 +246,33 @@ module _ {B : Type 0} where
       pub power : (state new.board).powered ≡ false
       pub rose : Rose (state old.board).cuts (state new.board).cuts
 
-    -- The event takes m to a machine that the parts then stand for, with the text of its line. The
-    -- count of cuts never falls. The event's steps are appended to the history, but where power was
-    -- lost; the line says so only where it was.
+    -- The event takes m to a machine that the parts then stand for, with this outcome. The count of
+    -- cuts never falls. The event's steps are appended to the history, but where power was lost; the
+    -- outcome says so only where it was.
     pub record IsStep (history : B → List Step → Type 0) (old : Parts B) (m : MachineView)
-        (event : EventView) (new : Parts B) (line : List ℕ) : Type 0 where
+        (event : EventView) (new : Parts B) (outcome : EventOutcome) : Type 0 where
       pub next : MachineView
-      pub moves : Moves m event next line
+      pub moves : Moves m event next outcome
       pub stands : Stands new next
       pub later : (state old.board).cuts ≤ (state new.board).cuts
-      pub recorded : line ≢ lost_text
+      pub recorded : outcome ≢ PowerLost
           → Extends history old.board (effect m event).steps new.board
-      pub lost : line ≡ lost_text → IsLostIn old new
+      pub lost : outcome ≡ PowerLost → IsLostIn old new
+
+    -- a step, with the line of its outcome
+    pub record IsToldStep (history : B → List Step → Type 0) (old : Parts B) (m : MachineView)
+        (event : EventView) (new : Parts B) (line : List ℕ) : Type 0 where
+      pub outcome : EventOutcome
+      pub step : IsStep history old m event new outcome
+      pub told : line ≡ outcome_text outcome
+
+    -- what is served, with the line of its outcome
+    pub record IsToldService (history : B → List Step → Type 0) (old : Parts B)
+        (s : Content → Cpu → Host → ServedEvent) (answer : Option BootKind) (new : Parts B)
+        (line : List ℕ) : Type 0 where
+      pub outcome : EventOutcome
+      pub serves : Serves history old s answer new outcome
+      pub told : line ≡ outcome_text outcome
 
 -- the download that a place has
 abbrev pub placing_at : StateView → Option Placing
@@ -268,15 +287,14 @@ IsDoneIn Again = ⊤
 IsDoneIn Taken = ⊤
 IsDoneIn (Done target) = target.window.start < 2 ^ 24
 
--- a block was served. The board did its steps, whole or until power was lost in them. Then the boot
--- that it asks for is answered, its text stands in the line, and the download stands for the new
--- list. No download is current where power was lost.
+-- A block was served. The board did its steps, whole or until power was lost in them. Then its
+-- outcome is answered with the boot that it asks for, and the download stands for the new list. No
+-- download is current where power was lost.
 pub record IsServedBlock {B : Type 0} (state : B → BoardState) (history : B → List Step → Type 0)
-    (s : ServedEvent) (old : B) (answer : Result (Option BootKind) PowerLost) (new : B)
-    (d : DownloadView)
-    (pool : Pool) (line : List ℕ) : Type 0 where
+    (s : ServedEvent) (old : B) (answer : Result Served Lost) (new : B) (d : DownloadView)
+    (pool : Pool) : Type 0 where
   pub steps : DoesAll state history old s.steps (is_ok answer) new
-  pub boot : IfOk answer (λ boot. boot ≡ s.boot)
-  pub text : OnOk answer (line ≡ s.text)
+  pub boot : IfOk answer (λ served. served.boot ≡ s.boot)
+  pub told : IfOk answer (λ served. served.outcome ≡ s.outcome)
   pub carries : OnOk answer (Carries d pool (placing_at s.place))
   pub lost : OnErr answer (d.current ≡ None)

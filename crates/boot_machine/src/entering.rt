@@ -1,19 +1,19 @@
 //! Where a boot leads: an image runs, or BOOTSEL is entered; and the loss of power.
 
-ghost use Rattle.std.specs.Prelude.{◌≡◌, ◌+◌, ◌≤◌, ◌++◌, Bool, IsTrue, Some, None, length, true};
+ghost use Rattle.std.specs.Prelude.{◌≡◌, Bool, IsTrue, Some, None, true};
 ghost use Rattle.uf2_place.specs.Downloads.{IsOut, lease_of};
 ghost use Rattle.boot_rules.specs.Tables.{table_in};
 ghost use Rattle.boot_machine.specs.Boots.{booted};
-ghost use Rattle.boot_machine.specs.Moves.{lost_text};
+ghost use Rattle.text_lines.specs.declared.outcome.EventOutcome.TheVariants.{PowerLost as LOST};
 ghost use Rattle.boot_machine.specs.Standing.{Comes, HasRoom, IsDropped, IsLeft, IsSteady, hosting, running};
 
 use crate::booting::boot;
+use crate::copying::copy_of_choice;
 use crate::parts::Parts;
 use crate::state::{Membership, State};
-use arrayvec::ArrayString;
-use boot_rules::{Choice, find_table};
+use boot_rules::{Choice, Decision, find_table};
 use pico_board::{Board, BootKind, PowerLost};
-use text_lines::set_text;
+use text_lines::{EventOutcome, boot_outcome};
 
 /// Runs the image of a choice.
 pub fn run<B: Board>(parts: &mut Parts<B>, choice: Choice)
@@ -48,30 +48,38 @@ pub fn drop_download<B: Board>(parts: &mut Parts<B>)
 }
 
 /// Goes to the state without power: the download is dropped.
-pub fn lose<B: Board>(parts: &mut Parts<B>, line: &mut ArrayString<320>)
+pub fn lose<B: Board>(parts: &mut Parts<B>) -> EventOutcome
     requires room { HasRoom parts.old.pool (lease_of parts.old.download.current) }
     ensures parts { IsLeft parts.old parts.new }
-    ensures line { line.new.bytes ≡ lost_text }
+    ensures lost { result ≡ LOST }
 {
-    set_text(line, "power lost");
     drop_download(parts);
     parts.state = State::Off;
+    EventOutcome::PowerLost
 }
 
-/// Boots, behind the text of the line.
-pub fn boot_into<B: Board>(parts: &mut Parts<B>, kind: BootKind, line: &mut ArrayString<320>)
+/// Boots, by itself or behind what a host's event came to.
+pub fn boot_into<B: Board>(
+    parts: &mut Parts<B>,
+    kind: BootKind,
+    before: Option<EventOutcome>,
+) -> EventOutcome
     requires power { IsTrue (B.state parts.old.board).powered }
     requires room { HasRoom parts.old.pool (lease_of parts.old.download.current) }
-    requires short { length line.old.bytes ≤ 179 }
     ensures comes { Comes B.state B.history parts.old
-        (booted (B.state parts.old.board).content parts.old.cpu kind line.old.bytes)
-        parts.new line.new.bytes }
+        (booted (B.state parts.old.board).content parts.old.cpu kind before) parts.new result }
     ensures steady { IsSteady B.state parts.new }
 {
     drop_download(parts);
-    match boot(&mut parts.board, &mut parts.pool, parts.cpu, kind, line) {
-        Ok(Some(choice)) => run(parts, choice),
-        Ok(None) => enter_bootsel(parts),
-        Err(PowerLost) => lose(parts, line),
+    match boot(&mut parts.board, &mut parts.pool, parts.cpu, kind) {
+        Ok(Decision::Start(choice)) => {
+            run(parts, copy_of_choice(&choice));
+            boot_outcome(before, Decision::Start(choice))
+        }
+        Ok(Decision::Bootsel(fall)) => {
+            enter_bootsel(parts);
+            boot_outcome(before, Decision::Bootsel(fall))
+        }
+        Err(PowerLost) => lose(parts),
     }
 }

@@ -11,11 +11,10 @@ ghost use Rattle.info_reply.specs.declared.kinds.TheConstants.{INFO as INFO_ID};
 ghost use Rattle.picoboot_cmd.specs.Checks.{first_failing};
 ghost use Rattle.block_codec.specs.Words.{bytes_of};
 ghost use Rattle.info_reply.specs.Asks.{reply_checks};
-ghost use Rattle.boot_machine.specs.Serving.{info_words, asked_target, device_of, info_reply, info_status, info_line, table_slot_of, table_of_found};
+ghost use Rattle.boot_machine.specs.Serving.{info_words, asked_target, device_of, info_outcome, info_reply, info_status, table_slot_of, table_of_found};
 
 use crate::found::{table_of_found, table_slot_of};
 use crate::watched::Watched;
-use arrayvec::ArrayString;
 use boot_rules::{Found, Target};
 use info_reply::{Ask, Device, info_ask, info_put};
 use otp_roll::{BOOT_FLAGS, slot_size};
@@ -23,7 +22,7 @@ use part_table::Table;
 use pico_board::{Board, Cpu};
 use picoboot_cmd::{Cmd, HashReply};
 use sector_pool::SectorPool;
-use text_lines::set_answer;
+use text_lines::{EventOutcome, command_outcome};
 
 /// What is told of the board.
 fn device_of<B: Board>(board: &B, cpu: Cpu) -> Device
@@ -139,14 +138,13 @@ pub fn serve_info<B: Board>(
     found: &Option<Found>,
     cmd: &Cmd,
     payload: &[u8],
-    line: &mut ArrayString<320>,
-)
+) -> EventOutcome
     requires power { IsTrue (B.state board.old).powered }
     requires lease { HasFree pool.old }
     requires sound { ForSome found.now (λ f. IsSoundTable f.table
         (length (B.state board.old).content.flash / 4096)) }
     requires info { cmd.now.id ≡ INFO_ID }
-    ensures text { line.new.bytes ≡ info_line
+    ensures outcome { result ≡ info_outcome
         (info_status (B.state board.old).content cpu found.now cmd.now payload.now)
         (B.state board.old).content cpu found.now cmd.now }
     ensures same { board.new ≡ board.old }
@@ -154,5 +152,5 @@ pub fn serve_info<B: Board>(
 {
     let mut reply = HashReply::new();
     let status = info_reply(board, pool, cpu, found, cmd, payload, &mut reply);
-    set_answer(line, cmd, status, reply);
+    command_outcome(cmd, status, reply)
 }

@@ -8,6 +8,7 @@
 
 mod booting;
 mod commands;
+mod copying;
 mod entering;
 pub mod examples;
 mod found;
@@ -17,11 +18,13 @@ mod lookup;
 mod machine;
 mod parts;
 mod placing;
+mod served;
 mod serving;
 mod state;
 mod stepping;
 mod watched;
 
 pub use machine::Machine;
+pub use served::Served;
 pub use state::State;
 pub use watched::Watched;

@@ -1,4 +1,5 @@
 //! The machine: a board that boots, serves a host in BOOTSEL, runs an image, and loses its power.
+//! What comes of an event is a value, of which `step` and `serve` write the line.
 
 ghost use Rattle.std.specs.Prelude.{◌≡◌, ◌≤◌, IsTrue, None, length, true};
 ghost use Rattle.sector_pool.specs.Pool.{free_count};
@@ -6,11 +7,12 @@ ghost use Rattle.boot_script.specs.Events.{IsWritableEvent, event_from};
 ghost use Rattle.boot_machine.specs.Boots.{entered};
 ghost use Rattle.boot_machine.specs.Machines.{MachineView as Model};
 ghost use Rattle.boot_machine.specs.Serving.{is_hosted, served_event};
-ghost use Rattle.boot_machine.specs.Standing.{IsStep, Serves, Stands, StandsAt};
+ghost use Rattle.boot_machine.specs.Standing.{IsStep, IsToldService, IsToldStep, Serves, Stands, StandsAt};
 ghost use Rattle.boot_machine.specs.declared.state.State.TheVariants.{Off as POWERLESS, Bootsel as SERVING};
 
 use crate::entering::enter_bootsel;
 use crate::parts::Parts;
+use crate::served::Served;
 use crate::serving::serve;
 use crate::state::State;
 use crate::stepping::step;
@@ -21,6 +23,7 @@ use pico_board::{Bench, BootKind, Cpu};
 use ram_start::Ram;
 use sector_pool::SectorPool;
 use std::marker::Model;
+use text_lines::{EventOutcome, set_outcome};
 use uf2_place::Download;
 
 /// A board with what it boots and serves a host with.
@@ -110,29 +113,54 @@ impl<B: Bench> Machine<B> {
     }
 
     /// Serves a command or a UF2 block in BOOTSEL, but for the boot that it may ask for, which is
-    /// answered. None comes exactly where it asks for no boot from flash, or power was lost; an
-    /// image in RAM is started here. The line becomes the text of what was done, without that of
-    /// the boot. (RP2350 Datasheet, chapter 5, Bootrom; the texts are this project's own.)
-    pub fn serve(&mut self, event: &Event<'_>, line: &mut ArrayString<320>) -> Option<BootKind>
+    /// answered with what came of the event. None comes exactly where it asks for no boot from
+    /// flash, or power was lost; an image in RAM is started here. (RP2350 Datasheet, chapter 5,
+    /// Bootrom; the outcomes are this project's own.)
+    pub fn answer(&mut self, event: &Event<'_>) -> Served
         requires bootsel { self.old.state ≡ SERVING }
         requires hosted { is_hosted (event_from event.now) ≡ true }
         requires writable { IsWritableEvent (event_from event.now) }
         ensures serves { Serves B.state B.history self.old
+            (λ c cpu host. served_event c cpu host (event_from event.now)) result.boot self.new
+            result.outcome }
+    {
+        serve(&mut self.parts, event)
+    }
+
+    /// What `answer` does. The line becomes that of its outcome, and the boot is answered.
+    pub fn serve(&mut self, event: &Event<'_>, line: &mut ArrayString<320>) -> Option<BootKind>
+        requires bootsel { self.old.state ≡ SERVING }
+        requires hosted { is_hosted (event_from event.now) ≡ true }
+        requires writable { IsWritableEvent (event_from event.now) }
+        ensures serves { IsToldService B.state B.history self.old
             (λ c cpu host. served_event c cpu host (event_from event.now)) result self.new
             line.new.bytes }
     {
-        serve(&mut self.parts, event, line)
+        let served = self.answer(event);
+        set_outcome(line, &served.outcome);
+        served.boot
     }
 
-    /// What an event does, by the table of the machine. For each machine m for which it stands, it
-    /// then stands for one to which the event takes m. The line becomes the text of the event. Lost
-    /// power is the only thing that stops a step; it takes no memory. (RP2350 Datasheet, chapter 5,
-    /// Bootrom; the profile and the texts are this project's own.)
+    /// What an event does, by the table of the machine, and its outcome. For each machine m for
+    /// which it stands, it then stands for one to which the event takes m. Lost power is the only
+    /// thing that stops a step; it takes no memory. (RP2350 Datasheet, chapter 5, Bootrom; the
+    /// profile and the outcomes are this project's own.)
+    pub fn advance(&mut self, event: &Event<'_>) -> EventOutcome
+        requires { IsWritableEvent (event_from event.now) }
+        ensures { (m : Model) → Stands B.state self.old m
+            → IsStep B.state B.history self.old m (event_from event.now) self.new result }
+    {
+        step(&mut self.parts, event)
+    }
+
+    /// What `advance` does. The line becomes that of its outcome.
     pub fn step(&mut self, event: &Event<'_>, line: &mut ArrayString<320>)
         requires { IsWritableEvent (event_from event.now) }
         ensures { (m : Model) → Stands B.state self.old m
-            → IsStep B.state B.history self.old m (event_from event.now) self.new line.new.bytes }
+            → IsToldStep B.state B.history self.old m (event_from event.now) self.new
+            line.new.bytes }
     {
-        step(&mut self.parts, event, line);
+        let outcome = self.advance(event);
+        set_outcome(line, &outcome);
     }
 }

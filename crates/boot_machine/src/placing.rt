@@ -10,17 +10,17 @@ ghost use Rattle.uf2_place.specs.Blocks.{IsUf2};
 ghost use Rattle.uf2_place.specs.Downloads.{IsTargetIn, lease_of};
 ghost use Rattle.uf2_place.specs.Rulings.{wanted};
 ghost use Rattle.boot_machine.specs.Machines.{Host, Placing};
-ghost use Rattle.boot_machine.specs.Serving.{boot_after_block, block_text, boot_of_accepted, done_boot, places, table_of_found, wanted_in};
+ghost use Rattle.boot_machine.specs.Serving.{block_answer, boot_of_accepted, done_boot, places, table_of_found, wanted_in};
 ghost use Rattle.boot_machine.specs.Standing.{Carries, HasRoom, IsDoneIn, IsServedBlock};
 
 use crate::found::table_of_found;
+use crate::served::Served;
 use crate::watched::Watched;
-use arrayvec::ArrayString;
 use boot_rules::{Found, Target, is_executable};
 use part_table::Table;
 use pico_board::{Board, BootKind, Cpu, FLASH_BASE, PowerLost};
 use sector_pool::SectorPool;
-use text_lines::{set_accepted, set_refusal};
+use text_lines::{accepted_outcome, refused_outcome};
 use uf2_place::{Accepted, Download, PlaceFault, Uf2};
 
 /// The boot that a download into this target asks for once it is done.
@@ -49,29 +49,27 @@ fn boot_of_accepted(family: u32, accepted: Accepted) -> Option<BootKind>
     }
 }
 
-/// Makes the line what came of a block. The answer is the boot that it asks for.
-fn tell(
-    line: &mut ArrayString<320>,
-    block: &Uf2,
-    answer: Result<Accepted, PlaceFault>,
-) -> Result<Option<BootKind>, PowerLost>
+/// What came of a block, and the boot that it asks for.
+fn block_answer(block: &Uf2, answer: Result<Accepted, PlaceFault>) -> Result<Served, PowerLost>
     requires { IfOk answer IsDoneIn }
-    ensures answer { result ≡ boot_after_block block.now.family answer }
-    ensures text { OnOk result (line.new.bytes ≡ block_text block.now.number answer) }
-    ensures short { OnOk result (length line.new.bytes ≤ 132) }
+    ensures { result ≡ block_answer block.now.number block.now.family answer }
 {
     let fault = match answer {
         Ok(accepted) => {
-            set_accepted(line, block.number, &accepted);
-            return Ok(boot_of_accepted(block.family, accepted));
+            return Ok(Served {
+                outcome: accepted_outcome(block.number, accepted),
+                boot: boot_of_accepted(block.family, accepted),
+            });
         }
         Err(fault) => fault,
     };
     match fault {
         PlaceFault::PowerLost => Err(PowerLost),
         PlaceFault::NoTarget | PlaceFault::Outside | PlaceFault::NotPermitted => {
-            set_refusal(line, fault);
-            Ok(None)
+            Ok(Served {
+                outcome: refused_outcome(fault),
+                boot: None,
+            })
         }
     }
 }
@@ -102,7 +100,7 @@ fn wanted_target<B: Board>(
     }
 }
 
-/// Places a block. The answer is the boot that a done download asks for.
+/// Places a block: what came of it, and the boot that a done download asks for.
 pub fn place_block<B: Board>(
     board: &mut Watched<B>,
     pool: &mut SectorPool,
@@ -110,8 +108,7 @@ pub fn place_block<B: Board>(
     found: &Option<Found>,
     cpu: Cpu,
     block: &Uf2,
-    line: &mut ArrayString<320>,
-) -> Result<Option<BootKind>, PowerLost>
+) -> Result<Served, PowerLost>
     requires power { IsTrue (B.state board.old).powered }
     requires block { IsUf2 block.now }
     requires sound { ForSome found.now (λ f. IsSoundTable f.table
@@ -123,8 +120,7 @@ pub fn place_block<B: Board>(
     ensures served { (host : Host) → host.found ≡ found.now
         → Carries download.old pool.old host.placing → IsServedBlock B.state B.history
         (places (B.state board.old).content cpu host block.now) board.old result board.new
-        download.new pool.new line.new.bytes }
-    ensures short { OnOk result (length line.new.bytes ≤ 132) }
+        download.new pool.new }
     ensures room { HasRoom pool.new (lease_of download.new.current) }
     ensures target { ForSome download.new.current
         (λ c. IsTargetIn (length (B.state board.new).content.flash) c.target) }
@@ -132,5 +128,5 @@ pub fn place_block<B: Board>(
     let table = table_of_found(found);
     let target = wanted_target(board, pool, download, table, cpu, block);
     let answer = download.accept(board, pool, table, target, block);
-    tell(line, block, answer)
+    block_answer(block, answer)
 }

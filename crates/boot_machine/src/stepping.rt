@@ -15,69 +15,68 @@ use crate::entering::{boot_into, lose, run};
 use crate::parts::Parts;
 use crate::serving::serve;
 use crate::state::State;
-use arrayvec::ArrayString;
 use boot_rules::Choice;
 use boot_script::Event;
 use pico_board::{Bench, Board, BootKind, PowerLost};
 use std::mem;
-use text_lines::{put_text, set_text};
+use text_lines::EventOutcome;
 
 /// A boot of this kind.
-fn reset<B: Board>(parts: &mut Parts<B>, kind: BootKind, line: &mut ArrayString<320>)
+fn reset<B: Board>(parts: &mut Parts<B>, kind: BootKind) -> EventOutcome
     requires power { IsTrue (B.state parts.old.board).powered }
     requires room { HasRoom parts.old.pool (lease_of parts.old.download.current) }
     ensures comes { Comes B.state B.history parts.old
-        (reset (B.state parts.old.board).content parts.old.cpu kind) parts.new line.new.bytes }
+        (reset (B.state parts.old.board).content parts.old.cpu kind) parts.new result }
     ensures steady { IsSteady B.state parts.new }
 {
-    set_text(line, "boot ");
-    boot_into(parts, kind, line);
+    boot_into(parts, kind, None)
 }
 
 /// An event without power: it comes back, and a normal boot is made.
-fn step_off<B: Bench>(parts: &mut Parts<B>, event: &Event<'_>, line: &mut ArrayString<320>)
+fn step_off<B: Bench>(parts: &mut Parts<B>, event: &Event<'_>) -> EventOutcome
     requires steady { IsSteady B.state parts.old }
     requires off { parts.old.state ≡ POWERLESS }
     ensures advances { Advances B.state B.history parts.old (event_from event.now) parts.new
-        line.new.bytes }
+        result }
     ensures steady { IsSteady B.state parts.new }
 {
     match event {
         Event::PowerOn => {
             parts.board.power_on();
-            reset(parts, BootKind::Normal, line);
+            reset(parts, BootKind::Normal)
         }
-        _ => set_text(line, "off"),
+        _ => EventOutcome::Off,
     }
 }
 
 /// Serves an event of a host, and makes the boot that it asks for.
-fn serve_and_boot<B: Board>(parts: &mut Parts<B>, event: &Event<'_>, line: &mut ArrayString<320>)
+fn serve_and_boot<B: Board>(parts: &mut Parts<B>, event: &Event<'_>) -> EventOutcome
     requires steady { IsSteady B.state parts.old }
     requires bootsel { parts.old.state ≡ SERVING }
     requires hosted { is_hosted (event_from event.now) ≡ true }
     ensures advances { Advances B.state B.history parts.old (event_from event.now) parts.new
-        line.new.bytes }
+        result }
     ensures steady { IsSteady B.state parts.new }
 {
-    if let Some(kind) = serve(parts, event, line) {
-        put_text(line, " boot ");
-        boot_into(parts, kind, line);
+    let served = serve(parts, event);
+    match served.boot {
+        Some(kind) => boot_into(parts, kind, Some(served.outcome)),
+        None => served.outcome,
     }
 }
 
 /// An event in BOOTSEL.
-fn step_bootsel<B: Board>(parts: &mut Parts<B>, event: &Event<'_>, line: &mut ArrayString<320>)
+fn step_bootsel<B: Board>(parts: &mut Parts<B>, event: &Event<'_>) -> EventOutcome
     requires steady { IsSteady B.state parts.old }
     requires bootsel { parts.old.state ≡ SERVING }
     ensures advances { Advances B.state B.history parts.old (event_from event.now) parts.new
-        line.new.bytes }
+        result }
     ensures steady { IsSteady B.state parts.new }
 {
     match event {
-        Event::Command(_, _) | Event::Uf2(_) => serve_and_boot(parts, event, line),
-        Event::Reset(kind) => reset(parts, *kind, line),
-        _ => set_text(line, "ignored"),
+        Event::Command(_, _) | Event::Uf2(_) => serve_and_boot(parts, event),
+        Event::Reset(kind) => reset(parts, *kind),
+        _ => EventOutcome::Ignored,
     }
 }
 
@@ -91,27 +90,26 @@ fn bought_choice(choice: Choice) -> Choice
 }
 
 /// The image of a choice buys itself, where it is a trial, and runs on.
-fn buy_choice<B: Board>(parts: &mut Parts<B>, choice: Choice, line: &mut ArrayString<320>)
+fn buy_choice<B: Board>(parts: &mut Parts<B>, choice: Choice) -> EventOutcome
     requires power { IsTrue (B.state parts.old.board).powered }
     requires room { HasRoom parts.old.pool None }
     requires none { parts.old.download.current ≡ None }
     requires held { IsHeldChoice (B.state parts.old.board).content parts.old.cpu choice }
     ensures comes { Comes B.state B.history parts.old
         (buy_effect (B.state parts.old.board).content parts.old.cpu (FromFlash choice))
-        parts.new line.new.bytes }
+        parts.new result }
     ensures steady { IsSteady B.state parts.new }
 {
     if !choice.image.trial {
-        set_text(line, "buy none");
         run(parts, choice);
-        return;
+        return EventOutcome::NothingToBuy;
     }
     match parts.board.buy(&mut parts.pool, parts.cpu, &choice) {
         Ok(()) => {
-            set_text(line, "buy done");
             run(parts, bought_choice(choice));
+            EventOutcome::Bought
         }
-        Err(PowerLost) => lose(parts, line),
+        Err(PowerLost) => lose(parts),
     }
 }
 
@@ -144,78 +142,72 @@ fn take_choice<B: Board>(parts: &mut Parts<B>) -> Option<Choice>
 }
 
 /// A buy of the running image.
-fn step_buy<B: Board>(parts: &mut Parts<B>, line: &mut ArrayString<320>)
+fn step_buy<B: Board>(parts: &mut Parts<B>) -> EventOutcome
     requires steady { IsSteady B.state parts.old }
     requires running { is_running parts.old.state ≡ true }
-    ensures advances { Advances B.state B.history parts.old EventView.Buy parts.new line.new.bytes }
+    ensures advances { Advances B.state B.history parts.old EventView.Buy parts.new result }
     ensures steady { IsSteady B.state parts.new }
 {
     match take_choice(parts) {
-        Some(choice) => buy_choice(parts, choice, line),
-        None => set_text(line, "buy none"),
+        Some(choice) => buy_choice(parts, choice),
+        None => EventOutcome::NothingToBuy,
     }
 }
 
 /// An event while an image runs.
-fn step_running<B: Board>(parts: &mut Parts<B>, event: &Event<'_>, line: &mut ArrayString<320>)
+fn step_running<B: Board>(parts: &mut Parts<B>, event: &Event<'_>) -> EventOutcome
     requires steady { IsSteady B.state parts.old }
     requires running { is_running parts.old.state ≡ true }
     ensures advances { Advances B.state B.history parts.old (event_from event.now) parts.new
-        line.new.bytes }
+        result }
     ensures steady { IsSteady B.state parts.new }
 {
     match event {
-        Event::Reset(kind) => reset(parts, *kind, line),
-        Event::Buy => step_buy(parts, line),
-        _ => set_text(line, "ignored"),
+        Event::Reset(kind) => reset(parts, *kind),
+        Event::Buy => step_buy(parts),
+        _ => EventOutcome::Ignored,
     }
 }
 
 /// An event by the state.
-fn advance<B: Bench>(parts: &mut Parts<B>, event: &Event<'_>, line: &mut ArrayString<320>)
+fn advance<B: Bench>(parts: &mut Parts<B>, event: &Event<'_>) -> EventOutcome
     requires steady { IsSteady B.state parts.old }
     ensures advances { Advances B.state B.history parts.old (event_from event.now) parts.new
-        line.new.bytes }
+        result }
     ensures steady { IsSteady B.state parts.new }
 {
     match &parts.state {
-        State::Off => step_off(parts, event, line),
-        State::Bootsel => step_bootsel(parts, event, line),
-        State::Running(_) => step_running(parts, event, line),
+        State::Off => step_off(parts, event),
+        State::Bootsel => step_bootsel(parts, event),
+        State::Running(_) => step_running(parts, event),
     }
 }
 
 /// Arms a cut.
-fn arm<B: Bench>(
-    parts: &mut Parts<B>,
-    left: u32,
-    within: bool,
-    pattern: &[u8],
-    line: &mut ArrayString<320>,
-)
+fn arm<B: Bench>(parts: &mut Parts<B>, left: u32, within: bool, pattern: &[u8]) -> EventOutcome
     requires steady { IsSteady B.state parts.old }
     requires pattern { IsPattern within pattern.now }
     ensures step { (m : MachineView) → Stands B.state parts.old m
         → IsStep B.state B.history parts.old m
-        (EventView.Cut left within pattern.now) parts.new line.new.bytes }
+        (EventView.Cut left within pattern.now) parts.new result }
     ensures steady { IsSteady B.state parts.new }
 {
     parts.board.arm_cut(left, within, pattern);
-    set_text(line, "cut armed");
+    EventOutcome::CutArmed
 }
 
 /// An event.
-pub fn step<B: Bench>(parts: &mut Parts<B>, event: &Event<'_>, line: &mut ArrayString<320>)
+pub fn step<B: Bench>(parts: &mut Parts<B>, event: &Event<'_>) -> EventOutcome
     requires steady { IsSteady B.state parts.old }
     requires writable { IsWritableEvent (event_from event.now) }
     ensures step { (m : MachineView) → Stands B.state parts.old m
         → IsStep B.state B.history parts.old m
-        (event_from event.now) parts.new line.new.bytes }
+        (event_from event.now) parts.new result }
     ensures steady { IsSteady B.state parts.new }
 {
     match event {
-        Event::Cut(left, within, pattern) => arm(parts, *left, *within, pattern, line),
-        Event::End => set_text(line, "end"),
-        _ => advance(parts, event, line),
+        Event::Cut(left, within, pattern) => arm(parts, *left, *within, pattern),
+        Event::End => EventOutcome::Ended,
+        _ => advance(parts, event),
     }
 }

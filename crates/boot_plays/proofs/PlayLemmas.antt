@@ -1,11 +1,13 @@
--- What events do to a machine whose board tells its armed cut: Moves and Plays name the one machine and the texts.
-use Rattle.std.proofs.Common.{◌≡◌, ℕ, true, false, cond, Option, Some, List, [], ◌∷◌, refl, sym, ◌∙◌, ap, subst, inl, inr}
+-- What events do to a machine whose board tells its armed cut: Moves and Plays name the one machine and the outcomes.
+use Rattle.std.proofs.Common.{◌≡◌, true, false, cond, Option, Some, List, [], ◌∷◌, refl, sym, ◌∙◌, ap, subst, inl, inr}
 use Rattle.pico_board.specs.Content.{Content}
 use Rattle.pico_board.specs.Cuts.{Cut, cut_steps}
 use Rattle.boot_script.specs.Events.{EventView, End, Command, Uf2, Cut as ArmsCut, PowerOn, Reset, Buy}
+use Rattle.text_lines.specs.declared.outcome.EventOutcome.{EventOutcome}
+use Rattle.text_lines.specs.declared.outcome.EventOutcome.TheVariants as event_outcomes
 use Rattle.boot_machine.specs.Machines.{MachineView, Off}
 use Rattle.boot_machine.specs.Boots.{Effect}
-use Rattle.boot_machine.specs.Moves.{Moves, MovesBy, Plays, armed_for, effect, lost_text}
+use Rattle.boot_machine.specs.Moves.{Moves, MovesBy, Plays, armed_for, effect}
 use Rattle.boot_plays.specs.Plays.{Moved, Played, moved_machine, moved_as, played, told_cut}
 
 -- a machine that is one of another's parts
@@ -18,27 +20,27 @@ same-machine n content armed m a b c place d =
     ∙ (ap (λ x. record { content = content; armed = armed; cpu = x; place = n.place }) c
     ∙ ap (λ x. record { content = content; armed = armed; cpu = m.cpu; place = x }) d))
 
--- the machine and the text are those
-pub record AreOf (w : Moved) (n : MachineView) (text : List ℕ) : Type 0 where
+-- the machine and the outcome are those
+pub record AreOf (w : Moved) (n : MachineView) (outcome : EventOutcome) : Type 0 where
   pub machine : n ≡ w.next
-  pub line : text ≡ w.text
+  pub told : outcome ≡ w.outcome
 
-moves-by : (m : MachineView) (cut : Option Cut) (e : Effect) (n : MachineView) (text : List ℕ)
-    → MovesBy m (Some cut) e n text
-    → AreOf (moved_as m e (cut_steps e.steps cut m.content)) n text
-moves-by m cut e n text (inl done) =
+moves-by : (m : MachineView) (cut : Option Cut) (e : Effect) (n : MachineView) (outcome : EventOutcome)
+    → MovesBy m (Some cut) e n outcome
+    → AreOf (moved_as m e (cut_steps e.steps cut m.content)) n outcome
+moves-by m cut e n outcome (inl done) =
     let o = cut_steps e.steps cut m.content in
     let yes : o.answer ≡ true = done.armed_cut.answer in record {
       machine = same-machine n o.content (Some o.armed) m done.armed_cut.left done.armed_cut.next done.cpu
           (cond o.answer e.place Off) (done.place ∙ sym (ap (λ b. cond b e.place Off) yes));
-      line = done.line ∙ sym (ap (λ b. cond b e.text lost_text) yes);
+      told = done.told ∙ sym (ap (λ b. cond b e.outcome event_outcomes.PowerLost) yes);
     }
-moves-by m cut e n text (inr lost) =
+moves-by m cut e n outcome (inr lost) =
     let o = cut_steps e.steps cut m.content in
     let no : o.answer ≡ false = lost.armed_cut.answer in record {
       machine = same-machine n o.content (Some o.armed) m lost.armed_cut.left lost.armed_cut.next lost.cpu
           (cond o.answer e.place Off) (lost.place ∙ sym (ap (λ b. cond b e.place Off) no));
-      line = lost.line ∙ sym (ap (λ b. cond b e.text lost_text) no);
+      told = lost.told ∙ sym (ap (λ b. cond b e.outcome event_outcomes.PowerLost) no);
     }
 
 -- the cut that is armed while the steps are done
@@ -72,16 +74,16 @@ unfolding moved_machine
 moved-as m event cut is =
     ap (λ a. moved_as m (effect m event) (cut_steps (effect m event).steps (told_cut a) m.content)) is
 
--- an event takes a machine to no other one, with no other text
-pub moves-only : (m : MachineView) (cut : Option Cut) (event : EventView) (n : MachineView) (text : List ℕ)
+-- an event takes a machine to no other one, with no other outcome
+pub moves-only : (m : MachineView) (cut : Option Cut) (event : EventView) (n : MachineView) (outcome : EventOutcome)
     → m.armed ≡ Some cut
-    → Moves m event n text → AreOf (moved_machine m event) n text
-moves-only m cut event n text told moves =
+    → Moves m event n outcome → AreOf (moved_machine m event) n outcome
+moves-only m cut event n outcome told moves =
     let a = armed-told m cut event told in
-    let by : MovesBy m (Some (armed_as cut event)) (effect m event) n text =
-    subst (λ armed. MovesBy m armed (effect m event) n text) a moves in
-    subst (λ w. AreOf w n text) (sym (moved-as m event (armed_as cut event) a))
-    (moves-by m (armed_as cut event) (effect m event) n text by)
+    let by : MovesBy m (Some (armed_as cut event)) (effect m event) n outcome =
+    subst (λ armed. MovesBy m armed (effect m event) n outcome) a moves in
+    subst (λ w. AreOf w n outcome) (sym (moved-as m event (armed_as cut event) a))
+    (moves-by m (armed_as cut event) (effect m event) n outcome by)
 
 -- afterwards the board tells its armed cut too
 pub moved-told : (m : MachineView) (event : EventView)
@@ -90,21 +92,21 @@ unfolding moved_machine
 moved-told m event =
     ((cut_steps (effect m event).steps (told_cut (armed_for m.armed event)) m.content).armed, refl)
 
--- the machine and the texts are those
-pub record ArePlayed (w : Played) (n : MachineView) (texts : List (List ℕ)) : Type 0 where
+-- the machine and the outcomes are those
+pub record ArePlayed (w : Played) (n : MachineView) (outcomes : List EventOutcome) : Type 0 where
   pub machine : n ≡ w.last
-  pub lines : texts ≡ w.texts
+  pub told : outcomes ≡ w.outcomes
 
--- events take a machine to no other one, with no other texts
+-- events take a machine to no other one, with no other outcomes
 pub plays-only : (m : MachineView) (cut : Option Cut) (events : List EventView) (n : MachineView)
-    (texts : List (List ℕ))
-    → m.armed ≡ Some cut → Plays m events n texts → ArePlayed (played m events) n texts
-plays-only m cut [] n texts told (same, none) = record { machine = same; lines = none }
-plays-only m cut (event ∷ events) n texts told (mid, text, others, moves, plays, is) =
-    let one = moves-only m cut event mid text told moves in
+    (outcomes : List EventOutcome)
+    → m.armed ≡ Some cut → Plays m events n outcomes → ArePlayed (played m events) n outcomes
+plays-only m cut [] n outcomes told (same, none) = record { machine = same; told = none }
+plays-only m cut (event ∷ events) n outcomes told (mid, outcome, others, moves, plays, is) =
+    let one = moves-only m cut event mid outcome told moves in
     let next = moved-told m event in
     let rest = plays-only (moved_machine m event).next next.0 events n others next.1
     (subst (λ x. Plays x events n others) one.machine plays) in record {
       machine = rest.machine;
-      lines = is ∙ (ap (λ t. t ∷ others) one.line ∙ ap (λ ts. (moved_machine m event).text ∷ ts) rest.lines);
+      told = is ∙ (ap (λ t. t ∷ others) one.told ∙ ap (λ ts. (moved_machine m event).outcome ∷ ts) rest.told);
     }

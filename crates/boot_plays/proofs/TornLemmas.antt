@@ -1,6 +1,6 @@
 -- What events do to a machine whose board tells its armed cut is by the table of the machine: a told cut leaves what
 -- the loss of power may leave, where the flash and the patterns are of bytes.
-use Rattle.std.proofs.Common.{◌≡◌, ◌⊎◌, All, ℕ, ◌-◌, ◌<◌, ◌==◌, Bool, true, false, cond, Ok, suc, Option, Some, None, List, [], ◌∷◌, ◌++◌, length, refl, sym, ap, subst, inl, inr, arith}
+use Rattle.std.proofs.Common.{◌≡◌, ◌⊎◌, All, ◌<◌, ◌==◌, Bool, true, false, cond, Option, Some, None, List, [], ◌∷◌, refl, sym, ap, subst, inl, inr}
 use Rattle.std.specs.List.{AllByRecursion}
 use Rattle.pico_board.specs.Content.{Content}
 use Rattle.pico_board.specs.declared.Step.{Step}
@@ -9,9 +9,10 @@ use Rattle.pico_board.specs.Cuts.{Cut, CutOutcome, cut_by, nearer, cut_steps, un
 use Rattle.pico_board.proofs.ContentLemmas.{flash_bytes-after, flash_bytes-cut_by}
 use Rattle.pico_board.proofs.TornStepLemmas.{Torn-cut_by}
 use Rattle.boot_script.specs.Events.{EventView, End, Command, Uf2, Cut as ArmsCut, PowerOn, Reset, Buy}
+use Rattle.text_lines.specs.declared.outcome.EventOutcome.TheVariants as event_outcomes
 use Rattle.boot_machine.specs.Machines.{MachineView, Off}
 use Rattle.boot_machine.specs.Boots.{Effect}
-use Rattle.boot_machine.specs.Moves.{Moves, MovesBy, Plays, effect, lost_text}
+use Rattle.boot_machine.specs.Moves.{Moves, MovesBy, Plays, effect}
 use Rattle.boot_plays.specs.Plays.{HasPatternBytes, IsOfBytes, IsTelling, Moved, moved_machine, moved_as, played}
 use Rattle.boot_plays.proofs.PlayLemmas.{armed_as, armed-told, moved-as}
 
@@ -78,27 +79,27 @@ armed-bytes cut Buy of bytes = of
 
 -- what the board told is by the table, and the machine tells afterwards too
 pub record IsMoved (m : MachineView) (event : EventView) (w : Moved) : Type 0 where
-  pub moves : Moves m event w.next w.text
+  pub moves : Moves m event w.next w.outcome
   pub telling : IsTelling w.next
 
 moves-told : (m : MachineView) (cut : Option Cut) (e : Effect)
     → IsToldOf m.content e.steps (cut_steps e.steps cut m.content)
     → MovesBy m (Some cut) e (moved_as m e (cut_steps e.steps cut m.content)).next
-    (moved_as m e (cut_steps e.steps cut m.content)).text
+    (moved_as m e (cut_steps e.steps cut m.content)).outcome
 moves-told m cut e is = elim is.ends [
   | inl done ↦ inl (record {
     content = done.1;
     armed_cut = record { answer = done.0; left = refl; next = refl };
     cpu = refl;
     place = ap (λ b. cond b e.place Off) done.0;
-    line = ap (λ b. cond b e.text lost_text) done.0;
+    told = ap (λ b. cond b e.outcome event_outcomes.PowerLost) done.0;
   })
   | inr lost ↦ inr (record {
     content = lost.1;
     armed_cut = record { answer = lost.0; left = refl; next = refl };
     cpu = refl;
     place = ap (λ b. cond b e.place Off) lost.0;
-    line = ap (λ b. cond b e.text lost_text) lost.0;
+    told = ap (λ b. cond b e.outcome event_outcomes.PowerLost) lost.0;
   })
 ]
 
@@ -111,7 +112,7 @@ moved-moves m event is of =
     let o = told-of e.steps cut m.content (armed-bytes is.cut event is.pattern of) is.flash in
     subst (IsMoved m event) (sym (moved-as m event cut a)) (record {
       moves = subst (λ armed. MovesBy m armed e (moved_as m e (cut_steps e.steps cut m.content)).next
-          (moved_as m e (cut_steps e.steps cut m.content)).text) (sym a) (moves-told m cut e o);
+          (moved_as m e (cut_steps e.steps cut m.content)).outcome) (sym a) (moves-told m cut e o);
       telling = record {
         cut = (cut_steps e.steps cut m.content).armed;
         told = refl;
@@ -122,13 +123,13 @@ moved-moves m event is of =
 
 -- the events, one after another, take the machine to the one that is played, with those texts
 pub played-plays : (m : MachineView) (events : List EventView) → IsTelling m → AllByRecursion IsOfBytes events
-    → Plays m events (played m events).last (played m events).texts
+    → Plays m events (played m events).last (played m events).outcomes
 played-plays m [] is of = (refl, refl)
 played-plays m (event ∷ events) is of =
     let one = moved-moves m event is of.0 in (
       (moved_machine m event).next,
-      (moved_machine m event).text,
-      (played (moved_machine m event).next events).texts,
+      (moved_machine m event).outcome,
+      (played (moved_machine m event).next events).outcomes,
       one.moves,
       played-plays (moved_machine m event).next events one.telling of.1,
       refl,

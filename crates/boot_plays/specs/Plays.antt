@@ -1,17 +1,19 @@
 -- What events do to a machine whose board tells its armed cut, as a function.
-use Rattle.std.specs.Prelude.{◌≡◌, ◌<◌, ⊤, ℕ, All, if◌then◌else◌, List, [], ◌∷◌, Option, Some, None}
+use Rattle.std.specs.Prelude.{◌≡◌, ◌<◌, ⊤, All, if◌then◌else◌, List, [], ◌∷◌, Option, Some, None}
 use Rattle.pico_board.specs.declared.boot.Cpu.{Cpu}
 use Rattle.pico_board.specs.Content.{Content}
 use Rattle.pico_board.specs.Cuts.{Cut, CutOutcome, cut_steps}
 use Rattle.boot_script.specs.Events.{EventView, Cut as ArmsCut}
+use Rattle.text_lines.specs.declared.outcome.EventOutcome.{EventOutcome}
+use Rattle.text_lines.specs.declared.outcome.EventOutcome.TheVariants.{PowerLost}
 use Rattle.boot_machine.specs.Machines.{MachineView, Off}
 use Rattle.boot_machine.specs.Boots.{Effect}
-use Rattle.boot_machine.specs.Moves.{effect, armed_for, lost_text}
+use Rattle.boot_machine.specs.Moves.{effect, armed_for}
 
--- what comes of an event: the machine afterwards, and the text of its line
+-- what comes of an event: the machine afterwards, and the outcome
 pub record Moved : Type 0 where
   pub next : MachineView
-  pub text : List ℕ
+  pub outcome : EventOutcome
 
 -- the steps of the event were done or cut, as the board told
 abbrev pub moved_as : MachineView → Effect → CutOutcome → Moved
@@ -22,7 +24,7 @@ moved_as m e o = record {
     cpu = m.cpu;
     place = if o.answer then e.place else Off;
   };
-  text = if o.answer then e.text else lost_text;
+  outcome = if o.answer then e.outcome else PowerLost;
 }
 
 -- the armed cut that a board tells; the default of one that tells none is that none is armed
@@ -36,20 +38,20 @@ moved_machine m event =
     moved_as m (effect m event)
     (cut_steps (effect m event).steps (told_cut (armed_for m.armed event)) m.content)
 
--- what comes of a list of events: the machine afterwards, and the texts of their lines
+-- what comes of a list of events: the machine afterwards, and their outcomes
 pub record Played : Type 0 where
   pub last : MachineView
-  pub texts : List (List ℕ)
+  pub outcomes : List EventOutcome
 
--- the text of an event before those of the others
-abbrev pub text_first : List ℕ → Played → Played
-text_first text others = record { last = others.last; texts = text ∷ others.texts }
+-- the outcome of an event before those of the others
+abbrev pub outcome_first : EventOutcome → Played → Played
+outcome_first outcome others = record { last = others.last; outcomes = outcome ∷ others.outcomes }
 
 -- the events, one after another, on a machine whose board tells its armed cut
 abbrev pub played : MachineView → List EventView → Played
-played m [] = record { last = m; texts = [] }
+played m [] = record { last = m; outcomes = [] }
 played m (event ∷ events) =
-    text_first (moved_machine m event).text (played (moved_machine m event).next events)
+    outcome_first (moved_machine m event).outcome (played (moved_machine m event).next events)
 
 -- a machine without power, on a board that tells that no cut is armed
 abbrev pub powerless : Content → Cpu → MachineView

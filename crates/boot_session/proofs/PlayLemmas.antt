@@ -1,5 +1,5 @@
 -- What a machine in BOOTSEL does of a script is its session, whole or until power is lost in it.
-use Rattle.std.proofs.Common.{◌≡◌, ◌≢◌, ◌⊎◌, inl, inr, ℕ, Bool, true, false, List, [], ◌∷◌, ◌++◌, append-nil, append_assoc, Option, Some, None, refl, sym, ap, ◌∙◌, subst, true≢false}
+use Rattle.std.proofs.Common.{◌≡◌, ◌≢◌, ◌⊎◌, inl, inr, Bool, true, false, List, [], ◌∷◌, ◌++◌, append-nil, append_assoc, Option, Some, None, refl, sym, ap, ◌∙◌, subst, true≢false}
 use Rattle.std.specs.Prelude.{MatchBool, if◌then◌else◌}
 use Rattle.std.specs.List.{AllByRecursion}
 use Rattle.pico_board.specs.declared.Step.{Step}
@@ -10,6 +10,7 @@ use Rattle.pico_board.specs.Steps.{CutOf, after_all}
 use Rattle.pico_board.proofs.StepLemmas.{CutOf-append_cases, CutOf-append_left, CutOf-append_right, after_all-append}
 use Rattle.boot_script.specs.Events.{EventView}
 use Rattle.boot_machine.specs.Boots.{Effect, booted}
+use Rattle.text_lines.specs.declared.outcome.EventOutcome.{EventOutcome}
 use Rattle.boot_machine.specs.Machines.{Host, MachineView, StateView, Off, InBootsel, Running}
 use Rattle.boot_machine.specs.Moves.{Moves, MovesBy, Plays, effect, effect_in}
 use Rattle.boot_machine.specs.Serving.{ServedEvent, followed_by, is_hosted, served_event}
@@ -45,30 +46,30 @@ none-made (event ∷ events) c cpu host stays = (
     go s false stays ih = ih c host stays
 
 -- without power nothing is done
-off-rest : (events : List EventView) (m n : MachineView) (texts : List (List ℕ)) → m.place ≡ Off → MakeNone events
-    → Plays m events n texts → (n.content ≡ m.content) × (n.place ≡ Off)
-off-rest [] m n texts off none plays =
+off-rest : (events : List EventView) (m n : MachineView) (outcomes : List EventOutcome) → m.place ≡ Off → MakeNone events
+    → Plays m events n outcomes → (n.content ≡ m.content) × (n.place ≡ Off)
+off-rest [] m n outcomes off none plays =
     (ap (λ (x : MachineView). x.content) plays.0, ap (λ (x : MachineView). x.place) plays.0 ∙ off)
-off-rest (event ∷ events) m n texts off none (mid, text, others, moves, rest, all) =
+off-rest (event ∷ events) m n outcomes off none (mid, outcome, others, moves, rest, all) =
     let stayed = still event none.0 moves in
     let end = off-rest events mid n others (stayed.1 ∙ off) none.1 rest in (end.0 ∙ stayed.0, end.1)
   where
     same : mid ≡ m → (mid.content ≡ m.content) × (mid.place ≡ m.place)
     same e = (ap (λ (x : MachineView). x.content) e, ap (λ (x : MachineView). x.place) e)
 
-    still : (e : EventView) → makes_boot e ≡ false → Moves m e mid text
+    still : (e : EventView) → makes_boot e ≡ false → Moves m e mid outcome
         → (mid.content ≡ m.content) × (mid.place ≡ m.place)
     still EventView.PowerOn makes moves = absurd (true≢false makes)
     still (EventView.Reset kind) makes moves = absurd (true≢false makes)
-    still EventView.End makes moves = same (end-moves m mid text moves).0
+    still EventView.End makes moves = same (end-moves m mid outcome moves).0
     still EventView.Buy makes moves =
-        same (off-stays m mid text off EventView.Buy (λ e. cc e) (λ l w p e. cc e) moves)
+        same (off-stays m mid outcome off EventView.Buy (λ e. cc e) (λ l w p e. cc e) moves)
     still (EventView.Command command payload) makes moves =
-        same (off-stays m mid text off (EventView.Command command payload) (λ e. cc e) (λ l w p e. cc e) moves)
+        same (off-stays m mid outcome off (EventView.Command command payload) (λ e. cc e) (λ l w p e. cc e) moves)
     still (EventView.Uf2 block) makes moves =
-        same (off-stays m mid text off (EventView.Uf2 block) (λ e. cc e) (λ l w p e. cc e) moves)
+        same (off-stays m mid outcome off (EventView.Uf2 block) (λ e. cc e) (λ l w p e. cc e) moves)
     still (EventView.Cut left within pattern) makes moves =
-        let e = (cut-moves m mid left within pattern text moves).0 in
+        let e = (cut-moves m mid left within pattern outcome moves).0 in
         (ap (λ (x : MachineView). x.content) e, ap (λ (x : MachineView). x.place) e)
 
 -- The machine n is in BOOTSEL behind the session of some events, or it has no power, and lost it in
@@ -122,11 +123,11 @@ stays-at m mid c host events content cpu stays =
 
 -- what is known of the events behind the first one
 abbrev Known : List EventView → MachineView → Type 0
-Known events n = (m : MachineView) (host : Host) (texts : List (List ℕ)) → m.place ≡ InBootsel host
-    → StaysIn m.content m.cpu host events → Plays m events n texts
+Known events n = (m : MachineView) (host : Host) (outcomes : List EventOutcome) → m.place ≡ InBootsel host
+    → StaysIn m.content m.cpu host events → Plays m events n outcomes
     → Ends m.content m.cpu (before m.content m.cpu host events) n
 
-module _ (events : List EventView) (m mid n : MachineView) (host : Host) (text : List ℕ) (others : List (List ℕ))
+module _ (events : List EventView) (m mid n : MachineView) (host : Host) (outcome : EventOutcome) (others : List EventOutcome)
     (known : Known events n) (rest : Plays mid events n others) where
   -- an event that leaves the machine where it is
   passed : mid.content ≡ m.content → mid.cpu ≡ m.cpu → mid.place ≡ InBootsel host
@@ -146,7 +147,7 @@ module _ (events : List EventView) (m mid n : MachineView) (host : Host) (text :
 
     hosted : (boot : Option BootKind) (place : StateView) → s.place ≡ place
         → stays_on (λ next. StaysIn z m.cpu next events) boot place
-        → MovesBy m m.armed (followed_by m.content m.cpu s boot) mid text → Ends m.content m.cpu (joined boot place) n
+        → MovesBy m m.armed (followed_by m.content m.cpu s boot) mid outcome → Ends m.content m.cpu (joined boot place) n
     hosted (Some kind) place at stays moves = absurd stays
     hosted None Off at stays moves = absurd stays
     hosted None (Running program) at stays moves = absurd stays
@@ -163,66 +164,66 @@ module _ (events : List EventView) (m mid n : MachineView) (host : Host) (text :
         })
 
 -- what BOOTSEL does by an event, at the place where it is
-at-host : (m mid : MachineView) (host : Host) (event : EventView) (text : List ℕ) → m.place ≡ InBootsel host
-    → MovesBy m m.armed (effect_in m.content m.cpu m.place event) mid text
-    → MovesBy m m.armed (effect_in m.content m.cpu (InBootsel host) event) mid text
-at-host m mid host event text at moves =
-    subst (λ (p : StateView). MovesBy m m.armed (effect_in m.content m.cpu p event) mid text) at moves
+at-host : (m mid : MachineView) (host : Host) (event : EventView) (outcome : EventOutcome) → m.place ≡ InBootsel host
+    → MovesBy m m.armed (effect_in m.content m.cpu m.place event) mid outcome
+    → MovesBy m m.armed (effect_in m.content m.cpu (InBootsel host) event) mid outcome
+at-host m mid host event outcome at moves =
+    subst (λ (p : StateView). MovesBy m m.armed (effect_in m.content m.cpu p event) mid outcome) at moves
 
 plays-end : (events : List EventView) (n : MachineView) → Known events n
-plays-end [] n m host texts at stays plays = inl (record {
+plays-end [] n m host outcomes at stays plays = inl (record {
   next = host;
   place = ap (λ (x : MachineView). x.place) plays.0 ∙ at;
   content = ap (λ (x : MachineView). x.content) plays.0;
   processor = ap (λ (x : MachineView). x.cpu) plays.0;
   more = λ rest. ap (λ x. session_from x m.cpu host rest) (sym (ap (λ (x : MachineView). x.content) plays.0));
 })
-plays-end (EventView.PowerOn ∷ events) n m host texts at stays plays = absurd (true≢false stays.0)
-plays-end (EventView.Reset kind ∷ events) n m host texts at stays plays = absurd (true≢false stays.0)
-plays-end (EventView.End ∷ events) n m host texts at stays (mid, text, others, moves, rest, all) =
-    let e = (end-moves m mid text moves).0 in
-    passed events m mid n host text others (plays-end events n) rest (ap (λ (x : MachineView). x.content) e)
+plays-end (EventView.PowerOn ∷ events) n m host outcomes at stays plays = absurd (true≢false stays.0)
+plays-end (EventView.Reset kind ∷ events) n m host outcomes at stays plays = absurd (true≢false stays.0)
+plays-end (EventView.End ∷ events) n m host outcomes at stays (mid, outcome, others, moves, rest, all) =
+    let e = (end-moves m mid outcome moves).0 in
+    passed events m mid n host outcome others (plays-end events n) rest (ap (λ (x : MachineView). x.content) e)
     (ap (λ (x : MachineView). x.cpu) e) (ap (λ (x : MachineView). x.place) e ∙ at) stays.1
-plays-end (EventView.Cut left within pattern ∷ events) n m host texts at stays (mid, text, others, moves, rest, all) =
-    let e = (cut-moves m mid left within pattern text moves).0 in
-    passed events m mid n host text others (plays-end events n) rest (ap (λ (x : MachineView). x.content) e)
+plays-end (EventView.Cut left within pattern ∷ events) n m host outcomes at stays (mid, outcome, others, moves, rest, all) =
+    let e = (cut-moves m mid left within pattern outcome moves).0 in
+    passed events m mid n host outcome others (plays-end events n) rest (ap (λ (x : MachineView). x.content) e)
     (ap (λ (x : MachineView). x.cpu) e) (ap (λ (x : MachineView). x.place) e ∙ at) stays.1
-plays-end (EventView.Buy ∷ events) n m host texts at stays (mid, text, others, moves, rest, all) =
-    go (at-host m mid host EventView.Buy text at moves) (plays-end events n)
+plays-end (EventView.Buy ∷ events) n m host outcomes at stays (mid, outcome, others, moves, rest, all) =
+    go (at-host m mid host EventView.Buy outcome at moves) (plays-end events n)
   where
-    go : MovesBy m m.armed (effect_in m.content m.cpu (InBootsel host) EventView.Buy) mid text → Known events n
+    go : MovesBy m m.armed (effect_in m.content m.cpu (InBootsel host) EventView.Buy) mid outcome → Known events n
         → Ends m.content m.cpu (before m.content m.cpu host (EventView.Buy ∷ events)) n
     go (inl done) known =
-        passed events m mid n host text others known rest done.content done.cpu done.place stays.1
+        passed events m mid n host outcome others known rest done.content done.cpu done.place stays.1
     go (inr lost) known = absurd lost.content
-plays-end (EventView.Command command payload ∷ events) n m host texts at stays (mid, text, others, moves, rest, all) =
+plays-end (EventView.Command command payload ∷ events) n m host outcomes at stays (mid, outcome, others, moves, rest, all) =
     let s = served_event m.content m.cpu host (EventView.Command command payload) in
-    hosted events m mid n host text others (plays-end events n) rest s s.boot s.place refl stays.1
-    (at-host m mid host (EventView.Command command payload) text at moves)
-plays-end (EventView.Uf2 block ∷ events) n m host texts at stays (mid, text, others, moves, rest, all) =
+    hosted events m mid n host outcome others (plays-end events n) rest s s.boot s.place refl stays.1
+    (at-host m mid host (EventView.Command command payload) outcome at moves)
+plays-end (EventView.Uf2 block ∷ events) n m host outcomes at stays (mid, outcome, others, moves, rest, all) =
     let s = served_event m.content m.cpu host (EventView.Uf2 block) in
-    hosted events m mid n host text others (plays-end events n) rest s s.boot s.place refl stays.1
-    (at-host m mid host (EventView.Uf2 block) text at moves)
+    hosted events m mid n host outcome others (plays-end events n) rest s s.boot s.place refl stays.1
+    (at-host m mid host (EventView.Uf2 block) outcome at moves)
 
 -- the session of the events alone
 alone : (c : Content) (cpu : Cpu) (host : Host) (events : List EventView)
     → before c cpu host events [] ≡ session_from c cpu host events
 alone c cpu host events = ap (session_from c cpu host) (append-nil events)
 
-pub plays-whole : (m n : MachineView) (host : Host) (events : List EventView) (texts : List (List ℕ))
-    → m.place ≡ InBootsel host → StaysIn m.content m.cpu host events → Plays m events n texts → n.place ≢ Off
+pub plays-whole : (m n : MachineView) (host : Host) (events : List EventView) (outcomes : List EventOutcome)
+    → m.place ≡ InBootsel host → StaysIn m.content m.cpu host events → Plays m events n outcomes → n.place ≢ Off
     → n.content ≡ after_all m.content (session_from m.content m.cpu host events)
-plays-whole m n host events texts at stays plays on = go (plays-end events n m host texts at stays plays)
+plays-whole m n host events outcomes at stays plays on = go (plays-end events n m host outcomes at stays plays)
   where
     go : Ends m.content m.cpu (before m.content m.cpu host events) n
         → n.content ≡ after_all m.content (session_from m.content m.cpu host events)
     go (inl b) = b.content ∙ ap (after_all m.content) (alone m.content m.cpu host events)
     go (inr lost) = absurd (on lost.off)
 
-pub plays-lost : (m n : MachineView) (host : Host) (events : List EventView) (texts : List (List ℕ))
-    → m.place ≡ InBootsel host → StaysIn m.content m.cpu host events → Plays m events n texts → n.place ≡ Off
+pub plays-lost : (m n : MachineView) (host : Host) (events : List EventView) (outcomes : List EventOutcome)
+    → m.place ≡ InBootsel host → StaysIn m.content m.cpu host events → Plays m events n outcomes → n.place ≡ Off
     → CutOf m.content (session_from m.content m.cpu host events) n.content
-plays-lost m n host events texts at stays plays off = go (plays-end events n m host texts at stays plays)
+plays-lost m n host events outcomes at stays plays off = go (plays-end events n m host outcomes at stays plays)
   where
     go : Ends m.content m.cpu (before m.content m.cpu host events) n
         → CutOf m.content (session_from m.content m.cpu host events) n.content
@@ -231,15 +232,15 @@ plays-lost m n host events texts at stays plays off = go (plays-end events n m h
         subst (λ xs. CutOf m.content xs n.content) (alone m.content m.cpu host events) (lost.content [])
 
 -- a play of one more event
-split : (events : List EventView) (m n : MachineView) (event : EventView) (texts : List (List ℕ))
-    → Plays m (events ++ event ∷ []) n texts
-    → (mid : MachineView) × (text : List ℕ) × (others : List (List ℕ)) × Plays m events mid others
-    × Moves mid event n text
-split [] m n event texts (mid, text, others, moves, rest, all) =
-    (m, text, [], (refl, refl), subst (λ (x : MachineView). Moves m event x text) (sym rest.0) moves)
-split (first ∷ events) m n event texts (mid, text, others, moves, rest, all) =
+split : (events : List EventView) (m n : MachineView) (event : EventView) (outcomes : List EventOutcome)
+    → Plays m (events ++ event ∷ []) n outcomes
+    → (mid : MachineView) × (outcome : EventOutcome) × (others : List EventOutcome) × Plays m events mid others
+    × Moves mid event n outcome
+split [] m n event outcomes (mid, outcome, others, moves, rest, all) =
+    (m, outcome, [], (refl, refl), subst (λ (x : MachineView). Moves m event x outcome) (sym rest.0) moves)
+split (first ∷ events) m n event outcomes (mid, outcome, others, moves, rest, all) =
     let behind = split events mid n event others rest in
-    (behind.0, behind.1, text ∷ behind.2, (mid, text, behind.2, moves, behind.3, refl), behind.4)
+    (behind.0, behind.1, outcome ∷ behind.2, (mid, outcome, behind.2, moves, behind.3, refl), behind.4)
 
 going-nothing : (boot : Option BootKind) (place : StateView) → going_on (λ next. []) boot place ≡ []
 going-nothing (Some kind) place = refl
@@ -252,7 +253,7 @@ cut-served : (c : Content) (cpu : Cpu) (s : ServedEvent) (boot : Option BootKind
     → CutOf c (followed_by c cpu s boot).steps d → CutOf c s.steps d ⊎ IsCutBoot (after_all c s.steps) cpu d
 cut-served c cpu s None d cut = inl cut
 cut-served c cpu s (Some kind) d cut =
-    elim (CutOf-append_cases c s.steps (booted (after_all c s.steps) cpu kind []).steps d cut) [
+    elim (CutOf-append_cases c s.steps (booted (after_all c s.steps) cpu kind None).steps d cut) [
       | inl here ↦ inl here
       | inr later ↦ inr (kind, later)
     ]
@@ -273,10 +274,10 @@ module _ (m n : MachineView) (host : Host) (events : List EventView) (event : Ev
       ap (λ b. if b then s.steps ++ going_on (λ later. []) s.boot s.place else []) hosted_event
       ∙ ap (λ xs. s.steps ++ xs) (going-nothing s.boot s.place) ∙ append-nil s.steps
 
-  behind-left : (mid : MachineView) (text : List ℕ) → Moves mid event n text → n.place ≡ Off
+  behind-left : (mid : MachineView) (outcome : EventOutcome) → Moves mid event n outcome → n.place ≡ Off
       → IsBehind m.content m.cpu (before m.content m.cpu host events) mid → Left
-  behind-left mid text moves off b =
-      let lost = off-lost mid n event text moves
+  behind-left mid outcome moves off b =
+      let lost = off-lost mid n event outcome moves
       (λ e. (let wrong : InBootsel b.next ≡ Off = sym b.place ∙ e in cc)) off in
       elim (cut-served mid.content mid.cpu s s.boot n.content
       (subst (λ (e : Effect). CutOf mid.content e.steps n.content) (is event hosted_event) lost.content)) [
@@ -285,9 +286,9 @@ module _ (m n : MachineView) (host : Host) (events : List EventView) (event : Ev
             (subst (λ x. CutOf x s.steps n.content) b.content here)))
         | inr later ↦ inr (
           later.0,
-          subst (λ x. CutOf x (booted x m.cpu later.0 []).steps n.content) end
+          subst (λ x. CutOf x (booted x m.cpu later.0 None).steps n.content) end
               (subst (λ p. CutOf (after_all mid.content s.steps)
-              (booted (after_all mid.content s.steps) p later.0 []).steps n.content) b.processor later.1),
+              (booted (after_all mid.content s.steps) p later.0 None).steps n.content) b.processor later.1),
         )
       ]
     where
@@ -321,12 +322,12 @@ module _ (m n : MachineView) (host : Host) (events : List EventView) (event : Ev
           ap (λ x. after_all x s.steps) b.content ∙ sym (after_all-append m.content first s.steps)
           ∙ ap (after_all m.content) (sym all)
 
-  lost-left : (mid : MachineView) (text : List ℕ) → Moves mid event n text
+  lost-left : (mid : MachineView) (outcome : EventOutcome) → Moves mid event n outcome
       → IsLostIn m.content (before m.content m.cpu host events) mid → Left
-  lost-left mid text moves lost =
+  lost-left mid outcome moves lost =
       inl (subst (CutOf m.content whole)
-      (sym (off-rest (event ∷ []) mid n (text ∷ []) lost.off (none event hosted_event, tt)
-      (n, text, [], moves, (refl, refl), refl)).0) (lost.content (event ∷ [])))
+      (sym (off-rest (event ∷ []) mid n (outcome ∷ []) lost.off (none event hosted_event, tt)
+      (n, outcome, [], moves, (refl, refl), refl)).0) (lost.content (event ∷ [])))
     where
       none : (e : EventView) → is_hosted e ≡ true → makes_boot e ≡ false
       none (EventView.Command command payload) h = refl
@@ -337,10 +338,10 @@ module _ (m n : MachineView) (host : Host) (events : List EventView) (event : Ev
       none EventView.Buy h = refl
       none (EventView.Cut left within pattern) h = refl
 
-  pub plays-last : (texts : List (List ℕ)) → m.place ≡ InBootsel host → StaysIn m.content m.cpu host events
-      → Plays m (events ++ event ∷ []) n texts → n.place ≡ Off → Left
-  plays-last texts at stays plays off =
-      let parts = split events m n event texts plays in
+  pub plays-last : (outcomes : List EventOutcome) → m.place ≡ InBootsel host → StaysIn m.content m.cpu host events
+      → Plays m (events ++ event ∷ []) n outcomes → n.place ≡ Off → Left
+  plays-last outcomes at stays plays off =
+      let parts = split events m n event outcomes plays in
       elim (plays-end events parts.0 m host parts.2 at stays parts.3) [
         | inl b ↦ behind-left parts.0 parts.1 parts.4 off b
         | inr lost ↦ lost-left parts.0 parts.1 parts.4 lost

@@ -1,5 +1,5 @@
 -- What serving a host does to a board of which no cut is armed.
-use Rattle.std.proofs.Common.{◌≡◌, ℕ, Bool, true, List, [], ◌∷◌, ◌++◌, Option, Some, None, refl, sym, ap, ◌∙◌, subst, append_assoc, append-nil}
+use Rattle.std.proofs.Common.{◌≡◌, Bool, true, List, [], ◌∷◌, ◌++◌, Option, Some, None, refl, sym, ap, ◌∙◌, subst, append_assoc, append-nil}
 use Rattle.std.specs.Prelude.{◌&&◌, IsTrue, is_none}
 use Rattle.std.specs.Bool.{OnTrue}
 use Rattle.pico_board.specs.declared.Step.{Step}
@@ -11,6 +11,7 @@ use Rattle.pico_board.specs.Steps.{after, after_all}
 use Rattle.pico_board.proofs.StepLemmas.{after_all-append}
 use Rattle.boot_script.specs.Events.{EventView}
 use Rattle.boot_machine.specs.declared.parts.Parts.{Parts}
+use Rattle.text_lines.specs.declared.outcome.EventOutcome.{EventOutcome}
 use Rattle.boot_machine.specs.Machines.{Host, StateView, Off, InBootsel, Running, FromFlash, FromRam}
 use Rattle.boot_machine.specs.Serving.{served_event}
 use Rattle.boot_machine.specs.Standing.{IsServed, StandsAt, is_bootsel}
@@ -80,11 +81,11 @@ goes-next new None (Running (FromRam image)) asked goes is g stands =
 
 -- an event that was served, where no cut is armed
 pub served-on : {B : Type 0} (state : B → BoardState) (history : B → List Step → Type 0) (old new : Parts B)
-    (host : Host) (event : EventView) (asked : Option BootKind) (goes : Bool) (line : List ℕ)
+    (host : Host) (event : EventView) (asked : Option BootKind) (goes : Bool) (outcome : EventOutcome)
     → (state old.board).armed ≡ Some None
-    → IsServed state history old (served_event (state old.board).content old.cpu host event) asked new line
+    → IsServed state history old (served_event (state old.board).content old.cpu host event) asked new outcome
     → goes ≡ (is_none asked && is_bootsel new.state) → IsServedOn state history old event goes new host
-served-on state history old new host event asked goes line none is g =
+served-on state history old new host event asked goes outcome none is g =
     let s = served_event (state old.board).content old.cpu host event in
     let whole = all-served state history old.board new.board s.steps is.ok none is.by.board in record {
       board = whole.1;

@@ -71,4 +71,4 @@ StaysIn c cpu host (event ∷ events) =
 
 -- power was lost in what a boot on the content writes
 abbrev pub IsCutBoot : Content → Cpu → Content → Type 0
-IsCutBoot c cpu d = (kind : BootKind) × CutOf c (booted c cpu kind []).steps d
+IsCutBoot c cpu d = (kind : BootKind) × CutOf c (booted c cpu kind None).steps d

@@ -15,7 +15,6 @@ ghost use Rattle.boot_session.specs.Sessions.{entered_host, session, session_fro
 ghost use Rattle.boot_session.specs.Standing.{IsUnarmed};
 
 use crate::recorder::Recorder;
-use arrayvec::ArrayString;
 use boot_machine::{Machine, State};
 use boot_rules::boot_units_in;
 use boot_script::{Event, Script};
@@ -55,8 +54,7 @@ fn serve<B: Bench>(machine: &mut Machine<B>, event: &Event<'_>) -> bool
     requires unarmed { (B.state machine.old.board).armed ≡ Some None }
     ensures { GoesOn B.state B.history machine.old (event_from event.now) result machine.new }
 {
-    let mut line = ArrayString::new();
-    let asked = machine.serve(event, &mut line);
+    let asked = machine.answer(event).boot;
     goes_on(&asked, machine.state())
 }
 

@@ -74,7 +74,7 @@ module _ (c : Content) (cpu : Cpu) (events : List EventView) (pattern : List ℕ
     former = decision-chosen c cpu Normal;
     finished = decision-chosen (trace c cpu events).last cpu Normal;
     end_class = (answer-is c (trace c cpu events).last cpu (trace c cpu events).last).class;
-    refused = refused-is (played (powerless c cpu) events).texts;
+    refused = refused-is (played (powerless c cpu) events).outcomes;
     hashed = refl;
     raised = refl;
     law_is = law-is c cpu events right;
@@ -92,14 +92,14 @@ module _ (c : Content) (cpu : Cpu) (events : List EventView) (pattern : List ℕ
       let found : are.found ≡ answers c cpu events pattern =
       one-answers c z cpu (cut_contents pattern (trace c cpu events).done) are.found are.answered in
       same-findings f (decision_in c cpu Normal) (decision_in z cpu Normal) (end_answer c cpu events).class
-      (refused_from 0 (played (powerless c cpu) events).texts) (hash_of z cpu (decision_in z cpu Normal))
+      (refused_from 0 (played (powerless c cpu) events).outcomes) (hash_of z cpu (decision_in z cpu Normal))
       (raise_count (trace_steps (trace c cpu events).done)) (law_of c cpu events)
       (counts_of (answers c cpu events pattern))
       (chosen-decision c cpu Normal f.former are.former) finished
       ((class-exactly c z z cpu f.end_class).0 are.end_class)
-      (one-refused (played (powerless c cpu) events).texts f.refused
-      (refused_from 0 (played (powerless c cpu) events).texts) are.refused
-      (refused-is (played (powerless c cpu) events).texts))
+      (one-refused (played (powerless c cpu) events).outcomes f.refused
+      (refused_from 0 (played (powerless c cpu) events).outcomes) are.refused
+      (refused-is (played (powerless c cpu) events).outcomes))
       (are.hashed ∙ ap (hash_of z cpu) finished) are.raised
       (one-law c cpu events right f.law (law_of c cpu events) are.law_is (law-is c cpu events right))
       (are.counted ∙ ap counts_of found)

@@ -79,7 +79,7 @@ module _ (c : Content) (cpu : Cpu) (events : List EventView) (pattern : List ℕ
   pub findings-are : (z : Content) (refused : Option ℕ) (one : Bool) (steps again : List Step) (runs : List Run)
       (hashed : Option Bool) (raised : ℕ) (law : SessionLaw) (cuts : CutCounts)
       → z ≡ (trace c cpu events).last
-      → refused ≡ refused_from 0 (played (powerless c cpu) events).texts
+      → refused ≡ refused_from 0 (played (powerless c cpu) events).outcomes
       → one ≡ is_one_session c cpu events
       → steps ≡ found.steps.items → again ≡ found.steps.items → runs ≡ found.runs.items
       → hashed ≡ hash_of z cpu found.finished → raised ≡ raise_count again
@@ -125,10 +125,10 @@ module _ (c : Content) (cpu : Cpu) (events : List EventView) (pattern : List ℕ
       ∙ ap (λ e. made (decision_in c cpu Normal) (decision_in t.last cpu Normal) (end_answer c cpu events).class
       e hashed raised law cuts) did
       ∙ ap (λ f. made (decision_in c cpu Normal) (decision_in t.last cpu Normal) (end_answer c cpu events).class
-      (refused_from 0 (played (powerless c cpu) events).texts) f raised law cuts) hash_is
+      (refused_from 0 (played (powerless c cpu) events).outcomes) f raised law cuts) hash_is
       ∙ ap (λ g. made (decision_in c cpu Normal) (decision_in t.last cpu Normal) (end_answer c cpu events).class
-      (refused_from 0 (played (powerless c cpu) events).texts) (hash_of t.last cpu (decision_in t.last cpu Normal)) g law cuts) raised_is
+      (refused_from 0 (played (powerless c cpu) events).outcomes) (hash_of t.last cpu (decision_in t.last cpu Normal)) g law cuts) raised_is
       ∙ ap (λ h. made (decision_in c cpu Normal) (decision_in t.last cpu Normal) (end_answer c cpu events).class
-      (refused_from 0 (played (powerless c cpu) events).texts) (hash_of t.last cpu (decision_in t.last cpu Normal)) (raise_count (trace_steps t.done)) h cuts) law_is
+      (refused_from 0 (played (powerless c cpu) events).outcomes) (hash_of t.last cpu (decision_in t.last cpu Normal)) (raise_count (trace_steps t.done)) h cuts) law_is
       ∙ ap (λ k. made (decision_in c cpu Normal) (decision_in t.last cpu Normal) (end_answer c cpu events).class
-      (refused_from 0 (played (powerless c cpu) events).texts) (hash_of t.last cpu (decision_in t.last cpu Normal)) (raise_count (trace_steps t.done)) (law_of c cpu events) k) cuts_are
+      (refused_from 0 (played (powerless c cpu) events).outcomes) (hash_of t.last cpu (decision_in t.last cpu Normal)) (raise_count (trace_steps t.done)) (law_of c cpu events) k) cuts_are

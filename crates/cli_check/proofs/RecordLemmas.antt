@@ -3,6 +3,7 @@ use Rattle.std.proofs.Common.{◌≡◌, ℕ, ◌+◌, Bool, true, false, cond, 
 use Rattle.pico_board.specs.declared.mem_board.MemBoard.{MemBoard}
 use Rattle.pico_board.specs.MemBoard.{state_of}
 use Rattle.boot_script.specs.Events.{EventView}
+use Rattle.text_lines.specs.declared.outcome.EventOutcome.{EventOutcome}
 use Rattle.boot_machine.specs.declared.parts.Parts.{Parts}
 use Rattle.boot_machine.specs.Machines.{MachineView}
 use Rattle.boot_machine.specs.Standing.{Stands}
@@ -14,46 +15,46 @@ use Rattle.cli_check.specs.Records.{does_nothing, refused_from}
 pub record LooksOn (parts : Parts MemBoard) (m : MachineView) (all left : List EventView) (number : ℕ) : Type 0 where
   pub mid : MachineView
   pub stands : Stands state_of parts mid
-  pub rest : refused_from number (played mid left).texts ≡ refused_from 0 (played m all).texts
+  pub rest : refused_from number (played mid left).outcomes ≡ refused_from 0 (played m all).outcomes
 
 pub looks-first : (parts : Parts MemBoard) (m : MachineView) (all : List EventView) → Stands state_of parts m
     → LooksOn parts m all all 0
 looks-first parts m all stands = record { mid = m; stands = stands; rest = refl }
 
 -- what the event does to every machine that the parts stand for
-abbrev pub Steps : Parts MemBoard → EventView → Parts MemBoard → List ℕ → Type 0
-Steps old e new line = (n : MachineView) → Stands state_of old n
-    → Stands state_of new (moved_machine n e).next × (line ≡ (moved_machine n e).text)
+abbrev pub Steps : Parts MemBoard → EventView → Parts MemBoard → EventOutcome → Type 0
+Steps old e new outcome = (n : MachineView) → Stands state_of old n
+    → Stands state_of new (moved_machine n e).next × (outcome ≡ (moved_machine n e).outcome)
 
 -- what is refused of an event and of others
-by-line : (n : MachineView) (e : EventView) (others : List EventView) (number : ℕ) (line : List ℕ) (t : Bool)
-    → line ≡ (moved_machine n e).text → does_nothing line ≡ t
-    → refused_from number (played n (e ∷ others)).texts
-    ≡ cond t (Some number) (refused_from (number + 1) (played (moved_machine n e).next others).texts)
-by-line n e others number line t same is =
-    ap (λ b. cond b (Some number) (refused_from (number + 1) (played (moved_machine n e).next others).texts))
-    (ap (λ (x : List ℕ). does_nothing x) (sym same) ∙ is)
+by-outcome : (n : MachineView) (e : EventView) (others : List EventView) (number : ℕ) (outcome : EventOutcome) (t : Bool)
+    → outcome ≡ (moved_machine n e).outcome → does_nothing outcome ≡ t
+    → refused_from number (played n (e ∷ others)).outcomes
+    ≡ cond t (Some number) (refused_from (number + 1) (played (moved_machine n e).next others).outcomes)
+by-outcome n e others number outcome t same is =
+    ap (λ b. cond b (Some number) (refused_from (number + 1) (played (moved_machine n e).next others).outcomes))
+    (ap (λ (x : EventOutcome). does_nothing x) (sym same) ∙ is)
 
 pub looks-more : (old new : Parts MemBoard) (m : MachineView) (all left others : List EventView) (e : EventView)
-    (number : ℕ) (line : List ℕ) → left ≡ e ∷ others → Steps old e new line → does_nothing line ≡ false
+    (number : ℕ) (outcome : EventOutcome) → left ≡ e ∷ others → Steps old e new outcome → does_nothing outcome ≡ false
     → LooksOn old m all left number → LooksOn new m all others (number + 1)
-looks-more old new m all left others e number line first steps does on =
+looks-more old new m all left others e number outcome first steps does on =
     let one = steps on.mid on.stands in record {
       mid = (moved_machine on.mid e).next;
       stands = one.0;
-      rest = sym (by-line on.mid e others number line false one.1 does)
-          ∙ (sym (ap (λ es. refused_from number (played on.mid es).texts) first) ∙ on.rest);
+      rest = sym (by-outcome on.mid e others number outcome false one.1 does)
+          ∙ (sym (ap (λ es. refused_from number (played on.mid es).outcomes) first) ∙ on.rest);
     }
 
 pub looks-here : (old new : Parts MemBoard) (m : MachineView) (all left others : List EventView) (e : EventView)
-    (number : ℕ) (line : List ℕ) → left ≡ e ∷ others → Steps old e new line → does_nothing line ≡ true
-    → LooksOn old m all left number → Some number ≡ refused_from 0 (played m all).texts
-looks-here old new m all left others e number line first steps does on =
+    (number : ℕ) (outcome : EventOutcome) → left ≡ e ∷ others → Steps old e new outcome → does_nothing outcome ≡ true
+    → LooksOn old m all left number → Some number ≡ refused_from 0 (played m all).outcomes
+looks-here old new m all left others e number outcome first steps does on =
     let one = steps on.mid on.stands in
-    sym (by-line on.mid e others number line true one.1 does)
-    ∙ (sym (ap (λ es. refused_from number (played on.mid es).texts) first) ∙ on.rest)
+    sym (by-outcome on.mid e others number outcome true one.1 does)
+    ∙ (sym (ap (λ es. refused_from number (played on.mid es).outcomes) first) ∙ on.rest)
 
 pub looks-end : (parts : Parts MemBoard) (m : MachineView) (all left : List EventView) (number : ℕ) → left ≡ []
-    → LooksOn parts m all left number → None ≡ refused_from 0 (played m all).texts
+    → LooksOn parts m all left number → None ≡ refused_from 0 (played m all).outcomes
 looks-end parts m all left number none on =
-    sym (ap (λ es. refused_from number (played on.mid es).texts) none) ∙ on.rest
+    sym (ap (λ es. refused_from number (played on.mid es).outcomes) none) ∙ on.rest

@@ -12,6 +12,7 @@ use Rattle.pico_board.specs.MemBoard.{history_of, state_of}
 use Rattle.boot_rules.specs.declared.decision.Decision.{Decision}
 use Rattle.boot_rules.specs.declared.decision.Decision.TheVariants.{Start, Bootsel}
 use Rattle.boot_script.specs.Events.{EventView}
+use Rattle.text_lines.specs.declared.outcome.EventOutcome.{EventOutcome}
 use Rattle.boot_machine.specs.declared.parts.Parts.{Parts}
 use Rattle.boot_machine.specs.declared.state.State.TheVariants as states
 use Rattle.boot_machine.specs.Boots.{decided_place, decided_steps, entered}
@@ -90,16 +91,16 @@ quiet-boot old mid new cpu kind at cut boot =
 
 -- what is served in BOOTSEL
 served-host : (old new : Parts MemBoard) (cpu : Cpu) (place : StateView) (event : EventView) (asked : Option BootKind)
-    (line : List ℕ) → old.state ≡ states.Bootsel → IsUnarmed (state_of old.board) → old.cpu ≡ cpu → StandsAt old place
-    → Serves state_of history_of old (λ c cpu host. served_event c cpu host event) asked new line
+    (outcome : EventOutcome) → old.state ≡ states.Bootsel → IsUnarmed (state_of old.board) → old.cpu ≡ cpu → StandsAt old place
+    → Serves state_of history_of old (λ c cpu host. served_event c cpu host event) asked new outcome
     → HasServedAll old cpu (served_at (state_of old.board).content cpu place event) asked new
-served-host old new cpu Off event asked line bootsel ready same stands serves =
+served-host old new cpu Off event asked outcome bootsel ready same stands serves =
     let wrong : states.Off ≡ states.Bootsel = sym stands ∙ bootsel in cc
-served-host old new cpu (Running (FromFlash choice)) event asked line bootsel ready same stands serves =
+served-host old new cpu (Running (FromFlash choice)) event asked outcome bootsel ready same stands serves =
     let wrong : states.Running choice.image ≡ states.Bootsel = sym stands.state ∙ bootsel in cc
-served-host old new cpu (Running (FromRam image)) event asked line bootsel ready same stands serves =
+served-host old new cpu (Running (FromRam image)) event asked outcome bootsel ready same stands serves =
     let wrong : states.Running image ≡ states.Bootsel = sym stands.state ∙ bootsel in cc
-served-host old new cpu (InBootsel host) event asked line bootsel ready same stands serves =
+served-host old new cpu (InBootsel host) event asked outcome bootsel ready same stands serves =
     let is = serves host stands in
     let s = served_event (state_of old.board).content old.cpu host event in
     let whole = all-served state_of history_of old.board new.board s.steps is.ok ready.unarmed is.by.board in
@@ -114,13 +115,13 @@ served-host old new cpu (InBootsel host) event asked line bootsel ready same sta
       asks = subst (λ b. OnTrue b (asked ≡ s.boot)) whole.0 is.asked;
     })
 
-pub served-here : (old new : Parts MemBoard) (event : EventView) (asked : Option BootKind) (line : List ℕ)
+pub served-here : (old new : Parts MemBoard) (event : EventView) (asked : Option BootKind) (outcome : EventOutcome)
     → old.state ≡ states.Bootsel
-    → Serves state_of history_of old (λ c cpu host. served_event c cpu host event) asked new line
+    → Serves state_of history_of old (λ c cpu host. served_event c cpu host event) asked new outcome
     → (cpu : Cpu) (place : StateView) → IsAt old cpu place
     → HasServedAll old cpu (served_at (state_of old.board).content cpu place event) asked new
-served-here old new event asked line bootsel serves cpu place at =
-    served-host old new cpu place event asked line bootsel at.ready at.cpu_is at.stands serves
+served-here old new event asked outcome bootsel serves cpu place at =
+    served-host old new cpu place event asked outcome bootsel at.ready at.cpu_is at.stands serves
 
 -- the events before those that are left were served, and none asked for a boot but perhaps the last
 pub record ClosesOn (old now : Parts MemBoard) (cpu : Cpu) (place : StateView) (asked : Option BootKind)

@@ -7,6 +7,7 @@ use Rattle.boot_cuts.specs.declared.answers.Class.{Class}
 use Rattle.boot_cuts.specs.declared.answers.Class.TheVariants.{Former, Finished, Neither}
 use Rattle.cli_course.specs.declared.status.Status.TheVariants.{Input}
 use Rattle.cli_course.specs.Outcomes.{Verdict, Passes, IsUnbootable, IsNeither, HasNoEffect, IsRefused, verdict_status}
+use Rattle.text_lines.specs.declared.outcome.EventOutcome.{EventOutcome}
 use Rattle.cli_check.specs.declared.findings.Findings.{Findings}
 use Rattle.cli_check.specs.CheckRules.{IsFirstRefused, IsLeftDead, IsPassing, IsVerdict}
 use Rattle.cli_check.specs.Findings.{has_effect, is_neither_class, is_safe, verdict_of}
@@ -15,48 +16,48 @@ use Rattle.cli_check.specs.Records.{does_nothing, refused_from}
 false-true : (b : Bool) → b ≡ false → b ≡ true → ⊥
 false-true b e f = let g : false ≡ true = sym e ∙ f in cc
 
--- the first of texts of which the first has the number n
-abbrev IsFirstFrom : ℕ → List (List ℕ) → Option ℕ → Type 0
-IsFirstFrom n texts None = IsFirstRefused texts None
-IsFirstFrom n texts (Some m) = (k : ℕ) × (m ≡ n + k) × IsFirstRefused texts (Some k)
+-- the first of outcomes of which the first has the number n
+abbrev IsFirstFrom : ℕ → List EventOutcome → Option ℕ → Type 0
+IsFirstFrom n outcomes None = IsFirstRefused outcomes None
+IsFirstFrom n outcomes (Some m) = (k : ℕ) × (m ≡ n + k) × IsFirstRefused outcomes (Some k)
 
-first-later : (n : ℕ) (text : List ℕ) (texts : List (List ℕ)) (o : Option ℕ) → does_nothing text ≡ false
-    → IsFirstFrom (n + 1) texts o → IsFirstFrom n (text ∷ texts) o
-first-later n text texts None does first = go
+first-later : (n : ℕ) (outcome : EventOutcome) (outcomes : List EventOutcome) (o : Option ℕ) → does_nothing outcome ≡ false
+    → IsFirstFrom (n + 1) outcomes o → IsFirstFrom n (outcome ∷ outcomes) o
+first-later n outcome outcomes None does first = go
   where
-    go : (k : ℕ) (other : List ℕ) → slice_get (text ∷ texts) k ≡ Some other → does_nothing other ≡ false
-    go zero other at = ap does_nothing (sym (same_Some text other at)) ∙ does
+    go : (k : ℕ) (other : EventOutcome) → slice_get (outcome ∷ outcomes) k ≡ Some other → does_nothing other ≡ false
+    go zero other at = ap does_nothing (sym (same_Some outcome other at)) ∙ does
     go (suc k) other at = first k other at
-first-later n text texts (Some m) does (k, is, first) = (suc k, omega (arith, is), (first.0, go))
+first-later n outcome outcomes (Some m) does (k, is, first) = (suc k, omega (arith, is), (first.0, go))
   where
-    go : (j : ℕ) (other : List ℕ) → j < suc k → slice_get (text ∷ texts) j ≡ Some other → does_nothing other ≡ false
-    go zero other lt at = ap does_nothing (sym (same_Some text other at)) ∙ does
+    go : (j : ℕ) (other : EventOutcome) → j < suc k → slice_get (outcome ∷ outcomes) j ≡ Some other → does_nothing other ≡ false
+    go zero other lt at = ap does_nothing (sym (same_Some outcome other at)) ∙ does
     go (suc j) other lt at = first.1 j other (omega (arith, lt)) at
 
-first-from : (n : ℕ) (texts : List (List ℕ)) → IsFirstFrom n texts (refused_from n texts)
-first-from n [] = λ k text at. cc
-first-from n (text ∷ texts) = go (does_nothing text) refl (first-from (n + 1) texts)
+first-from : (n : ℕ) (outcomes : List EventOutcome) → IsFirstFrom n outcomes (refused_from n outcomes)
+first-from n [] = λ k outcome at. cc
+first-from n (outcome ∷ outcomes) = go (does_nothing outcome) refl (first-from (n + 1) outcomes)
   where
-    go : (b : Bool) → does_nothing text ≡ b → IsFirstFrom (n + 1) texts (refused_from (n + 1) texts)
-        → IsFirstFrom n (text ∷ texts) (if b then Some n else refused_from (n + 1) texts)
-    go true does later = (0, omega arith, ((text, refl, does), λ k other lt at. absurd (omega (arith, lt))))
-    go false does later = first-later n text texts (refused_from (n + 1) texts) does later
+    go : (b : Bool) → does_nothing outcome ≡ b → IsFirstFrom (n + 1) outcomes (refused_from (n + 1) outcomes)
+        → IsFirstFrom n (outcome ∷ outcomes) (if b then Some n else refused_from (n + 1) outcomes)
+    go true does later = (0, omega arith, ((outcome, refl, does), λ k other lt at. absurd (omega (arith, lt))))
+    go false does later = first-later n outcome outcomes (refused_from (n + 1) outcomes) does later
 
-pub refused-is : (texts : List (List ℕ)) → IsFirstRefused texts (refused_from 0 texts)
-refused-is texts = go (refused_from 0 texts) (first-from 0 texts)
+pub refused-is : (outcomes : List EventOutcome) → IsFirstRefused outcomes (refused_from 0 outcomes)
+refused-is outcomes = go (refused_from 0 outcomes) (first-from 0 outcomes)
   where
-    go : (o : Option ℕ) → IsFirstFrom 0 texts o → IsFirstRefused texts o
+    go : (o : Option ℕ) → IsFirstFrom 0 outcomes o → IsFirstRefused outcomes o
     go None first = first
     go (Some m) (k, is, first) =
-        let same : k ≡ m = omega (arith, is) in subst (λ n. IsFirstRefused texts (Some n)) same first
+        let same : k ≡ m = omega (arith, is) in subst (λ n. IsFirstRefused outcomes (Some n)) same first
 
-pub one-refused : (texts : List (List ℕ)) (a b : Option ℕ) → IsFirstRefused texts a → IsFirstRefused texts b → a ≡ b
-one-refused texts None None first second = refl
-one-refused texts None (Some n) first second =
+pub one-refused : (outcomes : List EventOutcome) (a b : Option ℕ) → IsFirstRefused outcomes a → IsFirstRefused outcomes b → a ≡ b
+one-refused outcomes None None first second = refl
+one-refused outcomes None (Some n) first second =
     absurd (false-true (does_nothing second.0.0) (first n second.0.0 second.0.1) second.0.2)
-one-refused texts (Some m) None first second =
+one-refused outcomes (Some m) None first second =
     absurd (false-true (does_nothing first.0.0) (second m first.0.0 first.0.1) first.0.2)
-one-refused texts (Some m) (Some n) first second = go (cases_lt m n) (cases_lt n m)
+one-refused outcomes (Some m) (Some n) first second = go (cases_lt m n) (cases_lt n m)
   where
     go : (m < n) ⊎ (n ≤ m) → (n < m) ⊎ (m ≤ n) → Some m ≡ Some n
     go (inl lt) other =

@@ -6,6 +6,7 @@ use Rattle.pico_board.specs.Content.{Content, IsContent}
 use Rattle.boot_rules.specs.Chosen.{Chosen}
 use Rattle.boot_script.specs.Events.{EventView}
 use Rattle.boot_script.specs.Scripts.{script_events}
+use Rattle.text_lines.specs.declared.outcome.EventOutcome.{EventOutcome}
 use Rattle.boot_plays.specs.Plays.{played, powerless}
 use Rattle.boot_cuts.specs.declared.answers.Answer.{Answer}
 use Rattle.boot_cuts.specs.declared.answers.Class.TheVariants.{Neither}
@@ -21,14 +22,16 @@ use Rattle.cli_check.specs.Findings.{findings_text, has_effect}
 use Rattle.cli_check.specs.Records.{does_nothing}
 use Rattle.cli_check.specs.SessionLaws.{IsSessionLaw}
 
--- event number n is the first whose text tells that it did nothing, or none is
-abbrev pub IsFirstRefused : List (List ℕ) → Option ℕ → Type 0
-IsFirstRefused texts None =
-    (k : ℕ) (text : List ℕ) → slice_get texts k ≡ Some text → does_nothing text ≡ false
-IsFirstRefused texts (Some n) =
-    ((text : List ℕ) × (slice_get texts n ≡ Some text) × (does_nothing text ≡ true))
-    × ((k : ℕ) (text : List ℕ) → k < n → slice_get texts k ≡ Some text
-    → does_nothing text ≡ false)
+-- event number n is the first that did nothing, or none is
+abbrev pub IsFirstRefused : List EventOutcome → Option ℕ → Type 0
+IsFirstRefused outcomes None =
+    (k : ℕ) (outcome : EventOutcome) → slice_get outcomes k ≡ Some outcome
+    → does_nothing outcome ≡ false
+IsFirstRefused outcomes (Some n) =
+    ((outcome : EventOutcome) × (slice_get outcomes n ≡ Some outcome)
+    × (does_nothing outcome ≡ true))
+    × ((k : ℕ) (outcome : EventOutcome) → k < n → slice_get outcomes k ≡ Some outcome
+    → does_nothing outcome ≡ false)
 
 -- The verdict. An update passes where each record did something, there is an effect, and it is
 -- safe. It is safe where no loss of power leaves something else than the former or the finished
@@ -59,7 +62,7 @@ pub record AreFindings (c : Content) (cpu : Cpu) (events : List EventView) (patt
   pub former : Chosen c cpu Normal f.former
   pub finished : Chosen (trace c cpu events).last cpu Normal f.finished
   pub end_class : IsClass c (trace c cpu events).last (trace c cpu events).last cpu f.end_class
-  pub refused : IsFirstRefused (played (powerless c cpu) events).texts f.refused
+  pub refused : IsFirstRefused (played (powerless c cpu) events).outcomes f.refused
   pub hashed : f.hashed ≡ hash_of (trace c cpu events).last cpu f.finished
   pub raised : f.raised ≡ raise_count (trace_steps (trace c cpu events).done)
   pub law_is : IsSessionLaw c cpu events f.law

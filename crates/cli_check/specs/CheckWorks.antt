@@ -71,7 +71,7 @@ findings_of c cpu events pattern = record {
   former = decision_in c cpu Normal;
   finished = decision_in (trace c cpu events).last cpu Normal;
   end_class = (end_answer c cpu events).class;
-  refused = refused_from 0 (played (powerless c cpu) events).texts;
+  refused = refused_from 0 (played (powerless c cpu) events).outcomes;
   hashed = hash_of (trace c cpu events).last cpu
       (decision_in (trace c cpu events).last cpu Normal);
   raised = raise_count (trace_steps (trace c cpu events).done);

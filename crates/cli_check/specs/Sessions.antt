@@ -8,6 +8,7 @@ use Rattle.pico_board.specs.declared.boot.BootKind.TheVariants.{Normal, Bootsel}
 use Rattle.pico_board.specs.Content.{Content}
 use Rattle.pico_board.specs.Steps.{after_all}
 use Rattle.boot_script.specs.Events.{EventView, PowerOn, Reset}
+use Rattle.text_lines.specs.declared.outcome.EventOutcome.TheVariants as event_outcomes
 use Rattle.boot_machine.specs.Boots.{booted, entered}
 use Rattle.boot_machine.specs.Machines.{StateView, Off, InBootsel, Running}
 use Rattle.boot_machine.specs.Serving.{ServedEvent, is_hosted, served_event}
@@ -20,9 +21,9 @@ pub record Closing : Type 0 where
 -- what BOOTSEL does for a host's event, before a boot that it asks for; elsewhere nothing is done
 abbrev pub served_at : Content → Cpu → StateView → EventView → ServedEvent
 served_at c cpu (InBootsel host) event = served_event c cpu host event
-served_at c cpu Off event = record { steps = []; place = Off; text = []; boot = None }
+served_at c cpu Off event = record { steps = []; place = Off; outcome = event_outcomes.Off; boot = None }
 served_at c cpu (Running program) event =
-    record { steps = []; place = Running program; text = []; boot = None }
+    record { steps = []; place = Running program; outcome = event_outcomes.Ignored; boot = None }
 
 -- what events leave from this state on, where the event before them asked for this boot or for
 -- none. All are for a host, and none follows one that asks for a boot.
@@ -44,7 +45,7 @@ is_empty (step ∷ steps) = false
 
 -- the boot writes nothing
 abbrev pub is_quiet : Content → Cpu → BootKind → Bool
-is_quiet c cpu kind = is_empty (booted c cpu kind []).steps
+is_quiet c cpu kind = is_empty (booted c cpu kind None).steps
 
 -- the boot at the end, if one is asked for, writes nothing
 abbrev pub is_quiet_boot : Content → Cpu → Option BootKind → Bool

@@ -46,7 +46,7 @@ fn findings_by(
         → AreCutsOf (state_of start.now).content cpu events pattern found
         → (state_of end.now).content ≡ (trace (state_of start.now).content cpu events).last
         → refused ≡ refused_from 0
-        (played (powerless (state_of start.now).content cpu) events).texts
+        (played (powerless (state_of start.now).content cpu) events).outcomes
         → one ≡ is_one_session (state_of start.now).content cpu events
         → result ≡ findings_of (state_of start.now).content cpu events pattern }
 {

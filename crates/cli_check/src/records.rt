@@ -8,9 +8,8 @@ ghost use Rattle.boot_session.specs.Standing.{IsUnarmed};
 ghost use Rattle.boot_machine.specs.Machines.{MachineView as Model};
 ghost use Rattle.boot_machine.specs.Standing.{Stands};
 ghost use Rattle.boot_plays.specs.Plays.{moved_machine, played, powerless};
-ghost use Rattle.cli_check.specs.Records.{begins_with, does_nothing, refused_from, tells_status};
+ghost use Rattle.cli_check.specs.Records.{does_nothing, is_refused_answer, is_refused_block, refused_from};
 
-use arrayvec::ArrayString;
 use boot_cuts::copy_of;
 use boot_machine::Machine;
 use boot_script::{Event, Script};
@@ -18,35 +17,41 @@ use pico_board::{Cpu, MemBoard};
 use ram_start::Ram;
 use sector_pool::SectorPool;
 use std::alloc::{AllocError, Global};
+use text_lines::{BlockOutcome, CommandAnswer, EventOutcome};
 use uf2_place::Download;
 
-/// Whether a text begins with these words.
-fn begins_with(words: &str, text: &[u8]) -> bool
-    ensures { result ≡ begins_with words.now text.now }
+/// Whether a command was refused.
+fn is_refused_answer(answer: &CommandAnswer) -> bool
+    ensures { result ≡ is_refused_answer answer.now }
 {
-    text.len() >= words.len() && &text[..words.len()] == words.as_bytes()
+    matches!(answer, CommandAnswer::Refused(_))
 }
 
-/// Whether a text is that of a command with a status other than 0.
-fn tells_status(text: &[u8]) -> bool
-    ensures { result ≡ tells_status text.now }
+/// Whether a block breaks its form, or was not placed.
+fn is_refused_block(block: &BlockOutcome) -> bool
+    ensures { result ≡ is_refused_block block.now }
 {
-    begins_with("cmd 0x", text) && text.get(33).copied() != Some(b'0')
+    matches!(block, BlockOutcome::BadForm(_) | BlockOutcome::Refused(_))
 }
 
-/// Whether the text of an event tells that it did nothing.
+/// Whether an event did nothing.
 #[tactic(auto, unfolding(crate::specs::Records::does_nothing))]
-fn does_nothing(text: &str) -> bool
-    ensures { result ≡ does_nothing text.now }
+fn does_nothing(outcome: &EventOutcome) -> bool
+    ensures { result ≡ does_nothing outcome.now }
 {
-    let bytes = text.as_bytes();
-    text == "off"
-        || text == "ignored"
-        || text == "buy none"
-        || text == "cmd bad-magic"
-        || begins_with("uf2 bad ", bytes)
-        || begins_with("uf2 refused ", bytes)
-        || tells_status(bytes)
+    match outcome {
+        EventOutcome::Ignored
+        | EventOutcome::NothingToBuy
+        | EventOutcome::BadMagic
+        | EventOutcome::Off => true,
+        EventOutcome::Command(command) => is_refused_answer(&command.answer),
+        EventOutcome::Block(block) => is_refused_block(block),
+        EventOutcome::Ended
+        | EventOutcome::CutArmed
+        | EventOutcome::PowerLost
+        | EventOutcome::Booted(_)
+        | EventOutcome::Bought => false,
+    }
 }
 
 /// A machine without power, over a board on which no cut is armed.
@@ -62,26 +67,25 @@ fn machine_of(alloc: Global, board: MemBoard, cpu: Cpu) -> Result<Machine<MemBoa
     Ok(Machine::new(board, pool, download, ram, cpu))
 }
 
-/// What an event does to the machine, and the text of its line.
-pub(crate) fn step(machine: &mut Machine<MemBoard>, event: &Event<'_>, line: &mut ArrayString<320>)
+/// What an event does to the machine, and what comes of it.
+pub(crate) fn step(machine: &mut Machine<MemBoard>, event: &Event<'_>) -> EventOutcome
     requires writable { IsWritableEvent (event_from event.now) }
     ensures { (m : Model) → Stands state_of machine.old m
         → Stands state_of machine.new (moved_machine m (event_from event.now)).next
-        × (line.new.bytes ≡ (moved_machine m (event_from event.now)).text) }
+        × (result ≡ (moved_machine m (event_from event.now)).outcome) }
 {
-    machine.step(event, line);
+    machine.advance(event)
 }
 
 /// Plays the events of a script, up to the first one that does nothing, and answers its number.
 fn refused_on(machine: &mut Machine<MemBoard>, script: &Script<'_>) -> Option<usize>
     ensures { (m : Model) → Stands state_of machine.old m
-        → result ≡ refused_from 0 (played m (script_events script.now.bytes.now)).texts }
+        → result ≡ refused_from 0 (played m (script_events script.now.bytes.now)).outcomes }
 {
-    let mut line = ArrayString::new();
     let mut number = 0;
     for event in script.events() {
-        step(machine, &event, &mut line);
-        if does_nothing(line.as_str()) {
+        let outcome = step(machine, &event);
+        if does_nothing(&outcome) {
             return Some(number);
         }
         number += 1;
@@ -98,7 +102,8 @@ pub(crate) fn refused_in(
 ) -> Result<Option<usize>, AllocError>
     requires { IsTrue (state_of board.now).powered }
     ensures { IfOk result (λ refused. refused ≡ refused_from 0 (played
-        (powerless (state_of board.now).content cpu) (script_events script.now.bytes.now)).texts) }
+        (powerless (state_of board.now).content cpu)
+        (script_events script.now.bytes.now)).outcomes) }
 {
     let copy = copy_of(alloc, board)?;
     let mut machine = machine_of(alloc, copy, cpu)?;

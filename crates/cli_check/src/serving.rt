@@ -14,7 +14,6 @@ ghost use Rattle.cli_check.specs.Serving.{HasServedAll, IsAt};
 ghost use Rattle.cli_check.specs.Sessions.{closing, hosted_events, is_one_session, is_quiet, served_at};
 
 use crate::records::step;
-use arrayvec::ArrayString;
 use boot_cuts::copy_of;
 use boot_machine::{Machine, State};
 use boot_script::{Event, Events, Script};
@@ -56,9 +55,8 @@ fn boots_quietly(machine: &mut Machine<MemBoard>, kind: BootKind) -> bool
         → IsAt machine.old cpu (entered (state_of machine.old.board).content)
         → result ≡ is_quiet (state_of machine.old.board).content cpu kind }
 {
-    let mut line = ArrayString::new();
-    step(machine, &Event::Cut(0, false, &[]), &mut line);
-    step(machine, &Event::Reset(kind), &mut line);
+    step(machine, &Event::Cut(0, false, &[]));
+    step(machine, &Event::Reset(kind));
     is_on(machine.state())
 }
 
@@ -98,9 +96,8 @@ fn serve(machine: &mut Machine<MemBoard>, event: &Event<'_>) -> Option<BootKind>
         (served_at (state_of machine.old.board).content cpu place (event_from event.now)) result
         machine.new }
 {
-    let mut line = ArrayString::new();
     match machine.state() {
-        State::Bootsel => machine.serve(event, &mut line),
+        State::Bootsel => machine.answer(event).boot,
         State::Off | State::Running(_) => None,
     }
 }

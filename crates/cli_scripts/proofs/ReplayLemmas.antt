@@ -9,6 +9,7 @@ use Rattle.pico_board.specs.MemBoard.{state_of}
 use Rattle.sector_pool.specs.Pool.{Pool, IsNewPool, free_count}
 use Rattle.boot_script.specs.Events.{EventView}
 use Rattle.boot_machine.specs.declared.parts.Parts.{Parts}
+use Rattle.text_lines.specs.Events.{outcome_text}
 use Rattle.boot_machine.specs.Machines.{MachineView}
 use Rattle.boot_machine.specs.Standing.{Stands}
 use Rattle.cli_scripts.specs.ReplayWorks.{event_line, event_lines}
@@ -20,16 +21,16 @@ pub record PlaysOn (parts : Parts MemBoard) (m : MachineView) (all left : List E
   pub mid : MachineView
   pub stands : Stands state_of parts mid
   pub last : (played mid left).last ≡ (played m all).last
-  pub texts : text ++ event_lines number (played mid left).texts ≡ event_lines 0 (played m all).texts
+  pub lines : text ++ event_lines number (played mid left).outcomes ≡ event_lines 0 (played m all).outcomes
 
 pub plays-first : (parts : Parts MemBoard) (m : MachineView) (all : List EventView) → Stands state_of parts m
     → PlaysOn parts m all all 0 []
-plays-first parts m all stands = record { mid = m; stands = stands; last = refl; texts = refl }
+plays-first parts m all stands = record { mid = m; stands = stands; last = refl; lines = refl }
 
 -- what the event does to every machine that the parts stand for
 abbrev pub Steps : Parts MemBoard → EventView → Parts MemBoard → List ℕ → Type 0
 Steps old e new line = (n : MachineView) → Stands state_of old n
-    → Stands state_of new (moved_machine n e).next × (line ≡ (moved_machine n e).text)
+    → Stands state_of new (moved_machine n e).next × (line ≡ outcome_text (moved_machine n e).outcome)
 
 pub plays-more : (old new : Parts MemBoard) (m : MachineView) (all left others : List EventView) (e : EventView)
     (number : ℕ) (text line more : List ℕ) → left ≡ e ∷ others
@@ -40,24 +41,24 @@ plays-more old new m all left others e number text line more first steps is on =
       mid = (moved_machine on.mid e).next;
       stands = one.0;
       last = sym (ap (λ es. (played on.mid es).last) first) ∙ on.last;
-      texts = ap (λ t. t ++ event_lines (number + 1) (played (moved_machine on.mid e).next others).texts)
+      lines = ap (λ t. t ++ event_lines (number + 1) (played (moved_machine on.mid e).next others).outcomes)
           (is ∙ ap (λ t. text ++ event_line number t) one.1)
-          ∙ (append_assoc text (event_line number (moved_machine on.mid e).text)
-          (event_lines (number + 1) (played (moved_machine on.mid e).next others).texts)
-          ∙ (sym (ap (λ es. text ++ event_lines number (played on.mid es).texts) first) ∙ on.texts));
+          ∙ (append_assoc text (event_line number (outcome_text (moved_machine on.mid e).outcome))
+          (event_lines (number + 1) (played (moved_machine on.mid e).next others).outcomes)
+          ∙ (sym (ap (λ es. text ++ event_lines number (played on.mid es).outcomes) first) ∙ on.lines));
     }
 
 -- all was played
 pub record HasPlayed (parts : Parts MemBoard) (m : MachineView) (all : List EventView) (text : List ℕ) : Type 0 where
   pub stands : Stands state_of parts (played m all).last
-  pub texts : text ≡ event_lines 0 (played m all).texts
+  pub lines : text ≡ event_lines 0 (played m all).outcomes
 
 pub plays-end : (parts : Parts MemBoard) (m : MachineView) (all left : List EventView) (number : ℕ) (text : List ℕ)
     → left ≡ [] → PlaysOn parts m all left number text → HasPlayed parts m all text
 plays-end parts m all left number text none on = record {
   stands = subst (λ n. Stands state_of parts n) (sym (ap (λ es. (played on.mid es).last) none) ∙ on.last) on.stands;
-  texts = sym (append-nil text)
-      ∙ (sym (ap (λ es. text ++ event_lines number (played on.mid es).texts) none) ∙ on.texts);
+  lines = sym (append-nil text)
+      ∙ (sym (ap (λ es. text ++ event_lines number (played on.mid es).outcomes) none) ∙ on.lines);
 }
 
 abbrev one_if_free : Bool → ℕ

@@ -33,7 +33,7 @@ replay-right f g s out_flash out_otp cpu small of form =
       happened = script_events s;
       reads = reads;
       last = (played (powerless (content_of_files f g) cpu) (script_events s)).last;
-      texts = (played (powerless (content_of_files f g) cpu) (script_events s)).texts;
+      outcomes = (played (powerless (content_of_files f g) cpu) (script_events s)).outcomes;
       plays = played-plays (powerless (content_of_files f g) cpu) (script_events s)
           (record { cut = None; told = refl; pattern = tt; flash = filled-bytes f small })
           (script-bytes s (script_events s) of reads);
@@ -46,7 +46,7 @@ replay-right f g s out_flash out_otp cpu small of form =
 told-replay : Played → List ℕ → List ℕ → AnswerView
 told-replay p flash otp = record {
   status = Done;
-  text = event_lines 0 p.texts ++ end_line p.last.place;
+  text = event_lines 0 p.outcomes ++ end_line p.last.place;
   files = content_files flash otp p.last.content;
 }
 
@@ -54,12 +54,12 @@ replay-only : (c : Content) (cpu : Cpu) (s flash otp : List ℕ) (o : AnswerView
     → o ≡ worked (replay_work c cpu s flash otp)
 unfolding told-replay
 replay-only c cpu s flash otp o right =
-    let p = plays-only (powerless c cpu) None right.happened right.last right.texts refl right.plays in
+    let p = plays-only (powerless c cpu) None right.happened right.last right.outcomes refl right.plays in
     let same : right.happened ≡ script_events s = sym (ap events_read right.reads) in
     same-outcome o Done _ _ right.status right.text right.files
-    ∙ (ap (λ x. told-replay (record { last = x; texts = right.texts }) flash otp) p.machine
-    ∙ (ap (λ ts. told-replay (record { last = (played (powerless c cpu) right.happened).last; texts = ts }) flash otp)
-    p.lines
+    ∙ (ap (λ x. told-replay (record { last = x; outcomes = right.outcomes }) flash otp) p.machine
+    ∙ (ap (λ ts. told-replay (record { last = (played (powerless c cpu) right.happened).last; outcomes = ts }) flash otp)
+    p.told
     ∙ ap (λ es. told-replay (played (powerless c cpu) es) flash otp) same))
 
 -- `replay` is right by its rules, where its files are of bytes, since power that is lost in an erase leaves bytes

@@ -4,6 +4,7 @@ use Rattle.pico_board.specs.declared.boot.Cpu.{Cpu}
 use Rattle.pico_board.specs.Content.{Content}
 use Rattle.boot_script.specs.Events.{EventView}
 use Rattle.boot_script.specs.Scripts.{events}
+use Rattle.text_lines.specs.declared.outcome.EventOutcome.{EventOutcome}
 use Rattle.boot_machine.specs.Machines.{MachineView}
 use Rattle.boot_machine.specs.Moves.{Plays}
 use Rattle.cli_course.specs.declared.status.Status.TheVariants.{Done}
@@ -19,8 +20,8 @@ pub record IsReplayOf (c : Content) (cpu : Cpu) (script flash otp : List ℕ) (o
   pub happened : List EventView
   pub reads : events script ≡ Ok happened
   pub last : MachineView
-  pub texts : List (List ℕ)
-  pub plays : Plays (powerless c cpu) happened last texts
+  pub outcomes : List EventOutcome
+  pub plays : Plays (powerless c cpu) happened last outcomes
   pub status : o.status ≡ Done
-  pub text : o.text ≡ event_lines 0 texts ++ end_line last.place
+  pub text : o.text ≡ event_lines 0 outcomes ++ end_line last.place
   pub files : o.files ≡ content_files flash otp last.content

@@ -5,6 +5,8 @@ use Rattle.pico_board.specs.Content.{Content}
 use Rattle.pico_board.specs.Files.{File}
 use Rattle.block_codec.specs.Words.{bytes_of}
 use Rattle.boot_script.specs.Scripts.{script_events}
+use Rattle.text_lines.specs.Events.{outcome_text}
+use Rattle.text_lines.specs.declared.outcome.EventOutcome.{EventOutcome}
 use Rattle.boot_machine.specs.Machines.{StateView, Off, InBootsel, Running}
 use Rattle.cli_course.specs.Outcomes.{Work, Answers, line}
 use Rattle.boot_plays.specs.Plays.{Played, played, powerless}
@@ -14,9 +16,10 @@ abbrev pub event_line : ℕ → List ℕ → List ℕ
 event_line n text = decimal n ++ (codes " " ++ line text)
 
 -- the lines of events, which are numbered from a first number on
-abbrev pub event_lines : ℕ → List (List ℕ) → List ℕ
+abbrev pub event_lines : ℕ → List EventOutcome → List ℕ
 event_lines n [] = []
-event_lines n (text ∷ texts) = event_line n text ++ event_lines (n + 1) texts
+event_lines n (outcome ∷ outcomes) =
+    event_line n (outcome_text outcome) ++ event_lines (n + 1) outcomes
 
 -- what a machine is doing
 abbrev pub state_text : StateView → List ℕ
@@ -37,7 +40,7 @@ content_files flash otp c =
 -- the events of a script that were played: their lines, and the content that they leave
 abbrev pub played_work : Played → List ℕ → List ℕ → Work
 played_work p flash otp =
-    Answers false (event_lines 0 p.texts ++ end_line p.last.place)
+    Answers false (event_lines 0 p.outcomes ++ end_line p.last.place)
     (content_files flash otp p.last.content)
 
 -- a script on a machine without power

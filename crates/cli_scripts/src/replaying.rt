@@ -5,6 +5,7 @@ ghost use Rattle.pico_board.specs.MemBoard.{state_of};
 ghost use Rattle.block_codec.specs.Words.{bytes_of};
 ghost use Rattle.boot_script.specs.Events.{IsWritableEvent, event_from};
 ghost use Rattle.boot_script.specs.Scripts.{script_events};
+ghost use Rattle.text_lines.specs.Events.{outcome_text};
 ghost use Rattle.boot_machine.specs.Machines.{MachineView as Model};
 ghost use Rattle.boot_machine.specs.Standing.{Stands};
 ghost use Rattle.boot_plays.specs.Plays.{moved_machine, played, powerless};
@@ -35,12 +36,12 @@ fn machine_of(alloc: Global, board: MemBoard, cpu: Cpu) -> Result<Machine<MemBoa
     Ok(Machine::new(board, pool, download, ram, cpu))
 }
 
-/// What an event does to the machine, and the text of its line.
+/// What an event does to the machine, and its line.
 fn step(machine: &mut Machine<MemBoard>, event: &Event<'_>, line: &mut ArrayString<320>)
     requires writable { IsWritableEvent (event_from event.now) }
     ensures { (m : Model) → Stands state_of machine.old m
         → Stands state_of machine.new (moved_machine m (event_from event.now)).next
-        × (line.new.bytes ≡ (moved_machine m (event_from event.now)).text) }
+        × (line.new.bytes ≡ outcome_text (moved_machine m (event_from event.now)).outcome) }
 {
     machine.step(event, line);
 }
@@ -54,7 +55,7 @@ fn play(
     ensures { IfOk result (λ t. (m : Model) → Stands state_of machine.old m
         → Stands state_of machine.new (played m (script_events script.now.bytes.now)).last
         × (string_bytes t
-        ≡ event_lines 0 (played m (script_events script.now.bytes.now)).texts)) }
+        ≡ event_lines 0 (played m (script_events script.now.bytes.now)).outcomes)) }
 {
     let mut text = String::new(alloc);
     let mut line = ArrayString::new();

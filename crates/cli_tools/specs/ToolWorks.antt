@@ -1,6 +1,8 @@
 -- The work of the commands that make files of an image, and of `gen`, which makes a flash of a
 -- number, as a function.
 use Rattle.std.specs.Prelude.{ℕ, ◌==◌, nat_lt, if◌then◌else◌, false, List, [], ◌++◌, length, Option, Some, None, option_map, codes, decimal}
+use Rattle.std.specs.List.{flat_map}
+use Rattle.sha2.specs.Sha256.{sha256}
 use Rattle.pico_board.specs.declared.boot.Cpu.{Cpu}
 use Rattle.pico_board.specs.declared.boot.Cpu.TheVariants.{Arm, Riscv}
 use Rattle.pico_board.specs.declared.boot.BootKind.TheVariants.{Normal}
@@ -12,7 +14,8 @@ use Rattle.boot_rules.specs.declared.tables.Found.{Found}
 use Rattle.boot_rules.specs.Choosing.{decision_in}
 use Rattle.boot_rules.specs.Tables.{table_in}
 use Rattle.boot_rules.specs.Targets.{target_of}
-use Rattle.text_lines.specs.Texts.{digest_text, window_text, decision_line}
+use Rattle.text_words.specs.Writing.{hex_digits}
+use Rattle.text_lines.specs.Texts.{window_text, decision_line}
 use Rattle.uf2_place.specs.Files.{file_bytes, page_count}
 use Rattle.image_pack.specs.Faults.{zero_otp}
 use Rattle.script_plan.specs.declared.writing.WriteOrder.{WriteOrder}
@@ -75,6 +78,10 @@ script_work order c cpu name out image = target_work order (plan_target c cpu) n
 -- the flash of a number, and an OTP of zeros
 abbrev pub made_content : ℕ → Content
 made_content n = record { flash = generated n; otp = zero_otp }
+
+-- the SHA-256 of bytes, each of its bytes as two digits
+abbrev pub digest_text : List ℕ → List ℕ
+digest_text bytes = flat_map (hex_digits 2) (sha256 bytes)
 
 -- the line of the flash of a number
 abbrev pub gen_line : ℕ → List ℕ → List ℕ

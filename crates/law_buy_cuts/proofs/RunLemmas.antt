@@ -1,6 +1,6 @@
 -- Power that is lost in a buy or in a reset, and power that comes back.
-use Rattle.std.proofs.Common.{◌≡◌, ◌≢◌, ℕ, Bool, true, List, refl, sym, ap, ◌∙◌, subst, inl, inr}
-use Rattle.std.specs.Prelude.{codes, if◌then◌else◌}
+use Rattle.std.proofs.Common.{◌≡◌, ◌≢◌, ℕ, Bool, true, refl, sym, ap, ◌∙◌, subst, inl, inr}
+use Rattle.std.specs.Prelude.{if◌then◌else◌}
 use Rattle.pico_board.specs.declared.Step.{Step}
 use Rattle.pico_board.specs.declared.boot.BootKind.{BootKind}
 use Rattle.pico_board.specs.declared.boot.BootKind.TheVariants.{Normal}
@@ -16,8 +16,10 @@ use Rattle.boot_rules.specs.Chosen.{Chosen}
 use Rattle.boot_rules.proofs.DecisionLemmas.{chosen-exactly}
 use Rattle.boot_script.specs.Events.{EventView}
 use Rattle.boot_machine.specs.Boots.{Effect, decided_place, decided_steps}
+use Rattle.text_lines.specs.declared.outcome.EventOutcome.{EventOutcome}
+use Rattle.text_lines.specs.declared.outcome.EventOutcome.TheVariants as event_outcomes
 use Rattle.boot_machine.specs.Machines.{FromFlash, InBootsel, MachineView, Off, StateView, Running}
-use Rattle.boot_machine.specs.Moves.{IsDoneWhole, IsLost, Moves, armed_for, bought_choice, effect, effect_in, lost_text, stays_with_line}
+use Rattle.boot_machine.specs.Moves.{IsDoneWhole, IsLost, Moves, armed_for, bought_choice, effect, effect_in, stays_with}
 
 -- the steps of a buy
 buy-steps : (n : MachineView) (choice : Choice) → n.place ≡ Running (FromFlash choice) → choice.image.trial ≡ true
@@ -27,11 +29,11 @@ buy-steps n choice runs trial =
     ∙ ap (λ (b : Bool). (let e : Effect = if b then record {
       steps = buy_steps n.content n.cpu choice;
       place = Running (FromFlash (bought_choice choice));
-      text = codes "buy done";
-    } else stays_with_line (Running (FromFlash choice)) (codes "buy none") in e).steps) trial
+      outcome = event_outcomes.Bought;
+    } else stays_with (Running (FromFlash choice)) event_outcomes.NothingToBuy in e).steps) trial
 
 pub buy-cut : (n o : MachineView) (choice : Choice) → n.place ≡ Running (FromFlash choice) → choice.image.trial ≡ true
-    → IsLost n (armed_for n.armed EventView.Buy) (effect n EventView.Buy) o lost_text
+    → IsLost n (armed_for n.armed EventView.Buy) (effect n EventView.Buy) o event_outcomes.PowerLost
     → (k : ℕ) × (step : Step) × IsCutAt n.content (buy_steps n.content n.cpu choice) k step o.content
 buy-cut n o choice runs trial lost =
     IsCutAt-from n.content (buy_steps n.content n.cpu choice) o.content
@@ -47,7 +49,7 @@ reset-steps m kind (Running program) on = refl
 
 pub reset-cut : (m o : MachineView) (kind : BootKind) (choice : Choice) → m.place ≢ Off
     → Chosen m.content m.cpu kind (Start choice)
-    → IsLost m (armed_for m.armed (EventView.Reset kind)) (effect m (EventView.Reset kind)) o lost_text
+    → IsLost m (armed_for m.armed (EventView.Reset kind)) (effect m (EventView.Reset kind)) o event_outcomes.PowerLost
     → (k : ℕ) × (step : Step) × IsCutAt m.content (start_steps m.content m.cpu choice) k step o.content
 reset-cut m o kind choice on chosen lost =
     let steps : (effect m (EventView.Reset kind)).steps ≡ start_steps m.content m.cpu choice =
@@ -57,15 +59,15 @@ reset-cut m o kind choice on chosen lost =
     (subst (λ xs. CutOf m.content xs o.content) steps lost.content)
 
 -- power that comes back leads where a normal boot on what is left leads
-pub next-place : (o p : MachineView) (line : List ℕ) (e : Decision) → o.place ≡ Off → Chosen o.content o.cpu Normal e
-    → IsDoneWhole o (armed_for o.armed EventView.PowerOn) (effect o EventView.PowerOn) p line
+pub next-place : (o p : MachineView) (outcome : EventOutcome) (e : Decision) → o.place ≡ Off → Chosen o.content o.cpu Normal e
+    → IsDoneWhole o (armed_for o.armed EventView.PowerOn) (effect o EventView.PowerOn) p outcome
     → p.place ≡ decided_place o.content e
-next-place o p line e off chosen done =
+next-place o p outcome e off chosen done =
     done.place
     ∙ ap (λ (place : StateView). (effect_in o.content o.cpu place EventView.PowerOn).place) off
     ∙ sym (ap (decided_place o.content) ((chosen-exactly o.content o.cpu Normal e).0 chosen))
 
-pub is-done : (o p : MachineView) (event : EventView) (line : List ℕ) → Moves o event p line → line ≢ lost_text
-    → IsDoneWhole o (armed_for o.armed event) (effect o event) p line
-is-done o p event line (inl done) other = done
-is-done o p event line (inr lost) other = absurd (other lost.line)
+pub is-done : (o p : MachineView) (event : EventView) (outcome : EventOutcome) → Moves o event p outcome → outcome ≢ event_outcomes.PowerLost
+    → IsDoneWhole o (armed_for o.armed event) (effect o event) p outcome
+is-done o p event outcome (inl done) other = done
+is-done o p event outcome (inr lost) other = absurd (other lost.told)

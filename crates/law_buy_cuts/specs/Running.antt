@@ -13,8 +13,10 @@ use Rattle.trial_buy.specs.Buying.{buy_steps}
 use Rattle.boot_rules.specs.Starts.{IsOfUnit}
 use Rattle.boot_script.specs.Events.{EventView}
 use Rattle.law_boot_cuts.specs.Crashes.{LeavesNoAccidentalImage}
+use Rattle.text_lines.specs.declared.outcome.EventOutcome.{EventOutcome}
+use Rattle.text_lines.specs.declared.outcome.EventOutcome.TheVariants.{PowerLost}
 use Rattle.boot_machine.specs.Machines.{FromFlash, MachineView, Running}
-use Rattle.boot_machine.specs.Moves.{Moves, Plays, lost_text}
+use Rattle.boot_machine.specs.Moves.{Moves, Plays}
 use Rattle.boot_machine.specs.Runs.{IsFresh}
 
 -- what is known of an updated image where it stands: the image is valid in its window with a trial
@@ -29,9 +31,9 @@ pub record StandsValid (c : Content) (cpu : Cpu) (choice : Choice) (u : SlotUnit
 -- a run from a fresh machine m to n, in which a trial image runs
 pub record RunsTrial (m n : MachineView) (choice : Choice) : Type 0 where
   pub events : List EventView
-  pub texts : List (List ℕ)
+  pub outcomes : List EventOutcome
   pub fresh : IsFresh m.place
-  pub plays : Plays m events n texts
+  pub plays : Plays m events n outcomes
   pub runs : n.place ≡ Running (FromFlash choice)
   pub trial : choice.image.trial ≡ true
 
@@ -45,7 +47,7 @@ pub record LosesBuy (m n o : MachineView) (choice : Choice) (u : SlotUnit) (step
     : Type 0 where
   pub run : RunsTrial m n choice
   pub content : IsContent n.content
-  pub lost : Moves n EventView.Buy o lost_text
+  pub lost : Moves n EventView.Buy o PowerLost
   pub unit : IsOfUnit n.content n.cpu choice u
   pub place : ℕ
   pub cut : IsCutAt n.content (buys n choice) place step o.content

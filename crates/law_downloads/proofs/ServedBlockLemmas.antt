@@ -29,7 +29,7 @@ use Rattle.boot_rules.specs.Targets.{target_of}
 use Rattle.boot_script.specs.Events.{EventView}
 use Rattle.boot_machine.specs.Machines.{Host, StateView, Placing, InBootsel, Off, Running}
 use Rattle.boot_machine.specs.Serving.{ServedEvent, block_served, carried_on, done_boot, is_like, ruled_on, ruling_on, table_of_found, taken_in, uf2_served, with_placing}
-use Rattle.text_lines.specs.Texts.{accepted_text}
+use Rattle.text_lines.specs.Outcomes.{accepted_outcome}
 use Rattle.boot_rules.specs.declared.tables.Found.{Found}
 use Rattle.boot_session.specs.Sessions.{going_on, session_from}
 
@@ -118,7 +118,7 @@ module _ (cpu : Cpu) (found : Option Found) (ram : List ℕ) (target : Target) (
   done host b steps = record {
     steps = steps;
     place = InBootsel (with_placing host None);
-    text = accepted_text b.number (Done target);
+    outcome = accepted_outcome b.number (Done target);
     boot = done_boot b.family target;
   }
 
@@ -126,7 +126,7 @@ module _ (cpu : Cpu) (found : Option Found) (ram : List ℕ) (target : Target) (
   going host now b steps = record {
     steps = steps;
     place = InBootsel (with_placing host (Some (record { target = target; blocks = now })));
-    text = accepted_text b.number Taken;
+    outcome = accepted_outcome b.number Taken;
     boot = None;
   }
 

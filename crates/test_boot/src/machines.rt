@@ -6,13 +6,15 @@ ghost use Rattle.pico_board.specs.MemBoard.{state_of};
 
 use arrayvec::ArrayString;
 use boot_machine::{Machine, State};
+use boot_rules::{Decision, Fall};
 use boot_script::Event;
 use pico_board::{Board, BootKind, Cpu, MemBoard};
 use ram_start::Ram;
 use sector_pool::SectorPool;
 use std::alloc::{AllocError, Global};
 use std::test::Fail;
-use uf2_place::Download;
+use text_lines::{BlockOutcome, EventOutcome};
+use uf2_place::{Accepted, Download};
 
 /// A powered board of a flash of 16 sectors, all erased, and an OTP of zeros.
 fn erased_board(alloc: Global) -> Result<MemBoard, Fail>
@@ -65,6 +67,11 @@ fn power_is_lost_in_a_download(rt: HostRuntime) -> Result<(), Fail> {
     machine.step(&Event::Uf2(&block(1)), &mut line);
     assert_eq!(rt; line.as_str(), "power lost");
     assert!(rt; *machine.state() == State::Off);
+    assert!(rt; machine.advance(&Event::Buy) == EventOutcome::Off);
+    let fall = EventOutcome::Booted(Decision::Bootsel(Fall::NoImage));
+    assert!(rt; machine.advance(&Event::PowerOn) == fall);
+    let taken = EventOutcome::Block(BlockOutcome::Accepted(0, Accepted::Taken));
+    assert!(rt; machine.advance(&Event::Uf2(&block(0))) == taken);
     Ok(())
 }
 

@@ -6,7 +6,6 @@ ghost use Rattle.sector_pool.specs.Pool.{free_count};
 ghost use Rattle.boot_script.specs.Events.{IsWritableEvent, event_from};
 
 use crate::counted::Counted;
-use arrayvec::ArrayString;
 use boot_machine::{Machine, State};
 use boot_script::Event;
 use info_reply::kinds::INFO;
@@ -64,8 +63,7 @@ fn read_by(machine: &mut Machine<Counted<MemBoard>>, event: &Event<'_>) -> u64
     requires { IsWritableEvent (event_from event.now) }
 {
     let before = machine.board().bytes();
-    let mut line = ArrayString::new();
-    machine.step(event, &mut line);
+    machine.advance(event);
     machine.board().bytes().saturating_sub(before)
 }
 
@@ -83,9 +81,8 @@ fn write_page(machine: &mut Machine<Counted<MemBoard>>, at: u32)
         transfer: 256,
         args,
     };
-    let mut line = ArrayString::new();
-    machine.step(&Event::Reset(BootKind::Bootsel), &mut line);
-    machine.step(&Event::Command(&write_cmd(&cmd), &[0x5a; 256]), &mut line);
+    machine.advance(&Event::Reset(BootKind::Bootsel));
+    machine.advance(&Event::Command(&write_cmd(&cmd), &[0x5a; 256]));
 }
 
 /// An info command for the target of the family rp2350-arm-s.

@@ -2,29 +2,33 @@
 use Rattle.std.proofs.Common.{◌≡◌, ℕ, suc, ◌+◌, ◌*◌, ◌^◌, ◌<◌, ◌≤◌, Bool, true, false, List, [], ◌∷◌, ◌++◌, length, Option, Some, None, IfSome, codes, decimal, if◌then◌else◌, ◌&&◌, ◌==◌, refl, ap, ◌∙◌, arith, length-append}
 use Rattle.std.proofs.lemmas.Fmt.{decimal_digit}
 use Rattle.std.specs.List.{flat_map}
-use Rattle.sha2.specs.Sha256.{sha256}
-use Rattle.sha2.proofs.Facts256.{length-sha256}
 use Rattle.pico_board.specs.declared.window.Window.{Window}
 use Rattle.block_codec.specs.declared.versions.Version.{Version}
 use Rattle.block_codec.proofs.WordLemmas.{AreBytes}
-use Rattle.part_table.proofs.RoundTripLemmas.{sha256_is_bytes}
+use Rattle.pico_board.proofs.ContentLemmas.{byte_at}
 use Rattle.image_def.specs.declared.started.Started.{Started}
-use Rattle.picoboot_cmd.specs.declared.cmd.Cmd.{Cmd}
-use Rattle.picoboot_cmd.specs.Commands.{IsCommand}
 use Rattle.picoboot_cmd.specs.declared.kinds.TheConstants.{OK}
 use Rattle.uf2_place.specs.declared.block.Uf2Fault.{Uf2Fault}
 use Rattle.uf2_place.specs.declared.block.Uf2Fault.TheVariants.{Magic, Payload, Alignment, Number}
 use Rattle.uf2_place.specs.declared.answer.Accepted.{Accepted}
 use Rattle.uf2_place.specs.declared.answer.Accepted.TheVariants.{Skipped, Again, Taken, Done}
-use Rattle.uf2_place.specs.declared.answer.PlaceFault.{PlaceFault}
-use Rattle.uf2_place.specs.declared.answer.PlaceFault.TheVariants.{NoTarget, Outside, NotPermitted, PowerLost}
 use Rattle.boot_rules.specs.declared.decision.Decision.{Decision}
 use Rattle.boot_rules.specs.declared.decision.Decision.TheVariants.{Start, Bootsel}
 use Rattle.boot_rules.specs.declared.decision.Fall.{Fall}
 use Rattle.boot_rules.specs.declared.decision.Fall.TheVariants.{Requested, FlashOff, NoImage}
 use Rattle.text_words.specs.Writing.{hex_digits, hex_word, yes_or_no}
-use Rattle.text_lines.specs.Texts.{range_text, entry_text, version_text, rollback_text, standing_text, rest_text, start_text, fall_text, decision_text, digest_text, reply_text, status_text, ram_start_text, has_reply, command_text, booted_text, numbered_text, accepted_text, done_word, form_text, refused_text}
-use Rattle.text_lines.specs.Events.{Line, Off, Ignored, CutArmed, LostPower, Ended, Boots, BuyDone, BuyNone, BadMagic, Answered, Rebooted, RamStarted, BadForm, Refused, Placed, Downloaded, event_text, IsShown, IsDecided, IsReboot, IsLine}
+use Rattle.text_lines.specs.declared.outcome.ReplySum.{ReplySum}
+use Rattle.text_lines.specs.declared.outcome.CommandAnswer.{CommandAnswer}
+use Rattle.text_lines.specs.declared.outcome.CommandAnswer.TheVariants as answers
+use Rattle.text_lines.specs.declared.outcome.CommandOutcome.{CommandOutcome}
+use Rattle.text_lines.specs.declared.outcome.Refusal.{Refusal}
+use Rattle.text_lines.specs.declared.outcome.Refusal.TheVariants.{NoTarget, Outside, NotPermitted}
+use Rattle.text_lines.specs.declared.outcome.BlockOutcome.{BlockOutcome}
+use Rattle.text_lines.specs.declared.outcome.BlockOutcome.TheVariants as blocks
+use Rattle.text_lines.specs.declared.outcome.EventOutcome.{EventOutcome}
+use Rattle.text_lines.specs.declared.outcome.EventOutcome.TheVariants as events
+use Rattle.text_lines.specs.Texts.{range_text, entry_text, version_text, rollback_text, standing_text, rest_text, start_text, fall_text, decision_text}
+use Rattle.text_lines.specs.Events.{IsAnswered, IsAnswer, IsBlockOutcome, IsDecided, IsOutcome, IsShown, IsSum, accepted_text, answer_text, block_text, booted_text, command_text, done_word, form_text, numbered_text, outcome_text, ram_start_text, refusal_text, reply_text, status_in, status_text}
 use Rattle.text_words.proofs.HexLemmas.{length_eight, length_two}
 use Rattle.text_words.proofs.DecimalLemmas.{length_number, length_short}
 
@@ -124,61 +128,72 @@ length_pairs (b ∷ bytes) are =
       length-append (hex_digits 2 b) (flat_map (hex_digits 2) bytes),
     )
 
-length_digest : (bytes : List ℕ) → length (digest_text bytes) ≡ 64
-length_digest bytes =
-    omega (arith, length_pairs (sha256 bytes) (sha256_is_bytes bytes), length-sha256 bytes)
-
-length_reply : (reply : List ℕ) → length reply < 2 ^ 32 → length (reply_text reply) ≤ 89
-length_reply reply few =
+length_reply : (reply : ReplySum) → IsSum reply → length (reply_text reply) ≤ 89
+length_reply reply is =
+    let pairs = flat_map (hex_digits 2) reply.digest in
     omega (
       arith,
-      length_number (length reply) few,
-      length_digest reply,
-      length-append (decimal (length reply)) (codes " sha256=" ++ digest_text reply),
+      length_number reply.count is.count,
+      length_pairs reply.digest (byte_at reply.digest is.bytes),
+      is.long,
+      length-append (decimal reply.count) (codes " sha256=" ++ pairs),
     )
 
-length_status : (cmd : Cmd) (status : ℕ) → IsCommand cmd
-    → length (status_text cmd status) ≡ length (decimal status) + 33
-length_status cmd status is =
-    let after = codes " token=" ++ (hex_word cmd.token ++ (codes " status=" ++ decimal status)) in
+length_status : (id token status : ℕ) → id < 256 → token < 2 ^ 32
+    → length (status_text id token status) ≡ length (decimal status) + 33
+length_status id token status one two =
+    let after = codes " token=" ++ (hex_word token ++ (codes " status=" ++ decimal status)) in
     omega (
       arith,
-      length_two cmd.id is.id,
-      length_eight cmd.token is.token,
-      length-append (hex_digits 2 cmd.id) after,
-      length-append (hex_digits 8 cmd.token) (codes " status=" ++ decimal status),
+      length_two id one,
+      length_eight token two,
+      length-append (hex_digits 2 id) after,
+      length-append (hex_digits 8 token) (codes " status=" ++ decimal status),
     )
-
-length_choice : (shown : Bool) (text : List ℕ) (most : ℕ) → length text ≤ most
-    → length (if shown then text else []) ≤ most
-length_choice true text most few = few
-length_choice false text most few = omega arith
-
-length_command : (cmd : Cmd) (status : ℕ) (reply : List ℕ) → IsCommand cmd → status < 2 ^ 32
-    → length reply < 2 ^ 32 → length (command_text cmd status reply) ≤ 132
-length_command cmd status reply is small few =
-    let shown = has_reply cmd.id && status == OK in
-    let answer = if shown then reply_text reply else [] in
-    omega (
-      arith,
-      length_status cmd status is,
-      length_number status small,
-      length_choice shown (reply_text reply) 89 (length_reply reply few),
-      length-append (status_text cmd status) answer,
-    )
-
-length_done : (stay : Bool) → length (if stay then codes "done stay" else codes "done") ≤ 9
-length_done true = omega arith
-length_done false = omega arith
 
 length_digit : length (decimal OK) ≡ 1
 length_digit = ap length (decimal_digit OK (omega arith))
 
-length_reboot : (cmd : Cmd) → IsReboot cmd → length (command_text cmd OK []) ≤ 34
-length_reboot cmd is =
-    let answer = if has_reply cmd.id && OK == OK then reply_text [] else [] in
-    let none : length answer ≡ 0 = rw is.id refl in
-    omega (arith, none, length_status cmd OK is.command, length_digit, length-append (status_text cmd OK) answer)
+length_command : (c : CommandOutcome) → IsAnswered c → length (command_text c) ≤ 181
+length_command c is = by c.answer is.answer
+  where
+    front : (status : ℕ) → length (status_text c.id c.token status) ≡ length (decimal status) + 33
+    front status = length_status c.id c.token status is.id is.token
+
+    by : (a : CommandAnswer) → IsAnswer a
+        → length (status_text c.id c.token (status_in a) ++ answer_text a) ≤ 181
+    by (answers.Refused status) small =
+        omega (arith, front status, length_number status small, length-append (status_text c.id c.token status) [])
+    by answers.Done right =
+        omega (arith, front OK, length_digit, length-append (status_text c.id c.token OK) [])
+    by (answers.Replied reply) right =
+        omega (
+          arith,
+          front OK,
+          length_digit,
+          length_reply reply right,
+          length-append (status_text c.id c.token OK) (reply_text reply),
+        )
+    by (answers.Booted d) right =
+        omega (
+          arith,
+          front OK,
+          length_digit,
+          length_decision d right,
+          length-append (status_text c.id c.token OK) (booted_text d),
+        )
+    by (answers.RamStarted image) right =
+        omega (
+          arith,
+          front OK,
+          length_digit,
+          length_ram_start image right,
+          length-append (status_text c.id c.token OK) (ram_start_text image),
+        )
+
+length_done : (stay : Bool) → length (if stay then codes "done stay" else codes "done") ≤ 9
+length_done true = omega arith
+length_done false = omega arith
 
 length_numbered : (number : ℕ) (word : List ℕ) → number < 2 ^ 32
     → length (numbered_text number word) ≤ length word + 15
@@ -199,44 +214,32 @@ length_form Payload = omega arith
 length_form Alignment = omega arith
 length_form Number = omega arith
 
-length_refused : (fault : PlaceFault) → length (refused_text fault) ≤ 181
-length_refused NoTarget = omega arith
-length_refused Outside = omega arith
-length_refused NotPermitted = omega arith
-length_refused PowerLost = omega arith
+length_refusal : (refusal : Refusal) → length (refusal_text refusal) ≤ 181
+length_refusal NoTarget = omega arith
+length_refusal Outside = omega arith
+length_refusal NotPermitted = omega arith
 
-pub length_event : (told : Line) → IsLine told → length (event_text told) ≤ 181
-length_event Off is = omega arith
-length_event Ignored is = omega arith
-length_event CutArmed is = omega arith
-length_event LostPower is = omega arith
-length_event Ended is = omega arith
-length_event (Boots decision) is = omega (arith, length_decision decision is)
-length_event BuyDone is = omega arith
-length_event BuyNone is = omega arith
-length_event BadMagic is = omega arith
-length_event (Answered cmd status reply) is = omega (arith, length_command cmd status reply is.0 is.1 is.2)
-length_event (Rebooted cmd decision) is =
-    omega (
-      arith,
-      length_reboot cmd is.0,
-      length_decision decision is.1,
-      length-append (command_text cmd OK []) (booted_text decision),
-    )
-length_event (RamStarted cmd image) is =
-    omega (
-      arith,
-      length_reboot cmd is.0,
-      length_ram_start image is.1,
-      length-append (command_text cmd OK []) (ram_start_text image),
-    )
-length_event (BadForm fault) is = length_form fault
-length_event (Refused fault) is = length_refused fault
-length_event (Placed number accepted) is = omega (arith, length_accepted number accepted is)
-length_event (Downloaded number decision) is =
+length_block : (b : BlockOutcome) → IsBlockOutcome b → length (block_text b) ≤ 181
+length_block (blocks.BadForm fault) is = length_form fault
+length_block (blocks.Refused refusal) is = length_refusal refusal
+length_block (blocks.Accepted number accepted) is = omega (arith, length_accepted number accepted is)
+length_block (blocks.Downloaded number decision) is =
     omega (
       arith,
       length_numbered number (codes "done") is.0,
       length_decision decision is.1,
       length-append (numbered_text number (codes "done")) (booted_text decision),
     )
+
+pub length_outcome : (outcome : EventOutcome) → IsOutcome outcome → length (outcome_text outcome) ≤ 181
+length_outcome events.Off is = omega arith
+length_outcome events.Ignored is = omega arith
+length_outcome events.Ended is = omega arith
+length_outcome events.CutArmed is = omega arith
+length_outcome events.PowerLost is = omega arith
+length_outcome (events.Booted decision) is = omega (arith, length_decision decision is)
+length_outcome events.Bought is = omega arith
+length_outcome events.NothingToBuy is = omega arith
+length_outcome events.BadMagic is = omega arith
+length_outcome (events.Command c) is = length_command c is
+length_outcome (events.Block b) is = length_block b is

@@ -1,4 +1,4 @@
--- The texts of windows, images and tables, of a boot's decision and of a machine's events.
+-- The texts of windows, images and tables, and of a boot's decision.
 use Rattle.std.specs.Prelude.{ℕ, ◌==◌, ◌&&◌, ◌||◌, if◌then◌else◌, Bool, List, [], ◌++◌, length, Option, Some, None, Result, Ok, Err, codes, decimal}
 use Rattle.std.specs.List.{flat_map}
 use Rattle.sha2.specs.Sha256.{sha256}
@@ -105,69 +105,3 @@ decision_text (Bootsel fall) = fall_text fall
 -- the line of a decision
 abbrev pub decision_line : Decision → List ℕ
 decision_line d = line (decision_text d)
-
--- the text of an event that is a boot
-abbrev pub boot_text : Decision → List ℕ
-boot_text d = codes "boot " ++ decision_text d
-
--- a boot that an event asks for, behind the event's own text
-abbrev pub booted_text : Decision → List ℕ
-booted_text d = codes " " ++ boot_text d
-
--- an image that starts in RAM, behind the text of its command
-abbrev pub ram_start_text : Started → List ℕ
-ram_start_text s = codes " boot start ram=" ++ (range_text s.window ++ rest_text s)
-
--- the commands that are answered with bytes: a read, an info command and an OTP read
-abbrev pub has_reply : ℕ → Bool
-has_reply id = id == READ || (id == INFO || id == OTP_READ)
-
--- the SHA-256 of bytes, each of its bytes as two digits
-abbrev pub digest_text : List ℕ → List ℕ
-digest_text bytes = flat_map (hex_digits 2) (sha256 bytes)
-
--- the number of reply bytes and their digest
-abbrev pub reply_text : List ℕ → List ℕ
-reply_text reply =
-    codes " reply=" ++ (decimal (length reply) ++ (codes " sha256=" ++ digest_text reply))
-
--- a command's id, token and status
-abbrev pub status_text : Cmd → ℕ → List ℕ
-status_text cmd status =
-    codes "cmd "
-    ++ (hex_byte cmd.id
-    ++ (codes " token=" ++ (hex_word cmd.token ++ (codes " status=" ++ decimal status))))
-
--- a command, its status, and its reply where it has one
-abbrev pub command_text : Cmd → ℕ → List ℕ → List ℕ
-command_text cmd status reply =
-    status_text cmd status ++ (if has_reply cmd.id && status == OK then reply_text reply else [])
-
--- a UF2 block that breaks its form
-abbrev pub form_text : Uf2Fault → List ℕ
-form_text Magic = codes "uf2 bad magic"
-form_text Payload = codes "uf2 bad payload"
-form_text Alignment = codes "uf2 bad alignment"
-form_text Number = codes "uf2 bad number"
-
--- a UF2 block that is not placed, or power that was lost while it was
-abbrev pub refused_text : PlaceFault → List ℕ
-refused_text NoTarget = codes "uf2 refused no-target"
-refused_text Outside = codes "uf2 refused outside"
-refused_text NotPermitted = codes "uf2 refused not-permitted"
-refused_text PowerLost = codes "power lost"
-
--- a UF2 block by its number, and what comes of it
-abbrev pub numbered_text : ℕ → List ℕ → List ℕ
-numbered_text number word = codes "uf2 " ++ (decimal number ++ (codes " " ++ word))
-
--- a download that is done: where its target does not stay in BOOTSEL, a boot follows
-abbrev pub done_word : Target → List ℕ
-done_word target = if target.stay then codes "done stay" else codes "done"
-
--- a UF2 block that is accepted, by its number
-abbrev pub accepted_text : ℕ → Accepted → List ℕ
-accepted_text number Skipped = codes "uf2 skipped"
-accepted_text number Again = numbered_text number (codes "again")
-accepted_text number Taken = numbered_text number (codes "taken")
-accepted_text number (Done target) = numbered_text number (done_word target)

@@ -2,7 +2,8 @@
 
 ghost use Rattle.std.specs.Prelude.{◌≡◌, ◌+◌, ◌≤◌, ◌++◌, length};
 ghost use Rattle.text_words.specs.Writing.{hex_word};
-ghost use Rattle.text_lines.specs.Texts.{decision_text, entry_text, fall_text, ram_start_text, rest_text, standing_text, start_text};
+ghost use Rattle.text_lines.specs.Events.{ram_start_text};
+ghost use Rattle.text_lines.specs.Texts.{decision_text, entry_text, fall_text, rest_text, standing_text, start_text};
 
 use crate::windows::{put_range, put_rollback, put_version, put_window};
 use arrayvec::ArrayString;
@@ -93,7 +94,7 @@ pub fn put_decision(line: &mut ArrayString<320>, decision: &Decision)
 }
 
 /// Appends the start of an image in RAM, behind the text of its command, at most 144 bytes.
-pub fn put_ram_start(line: &mut ArrayString<320>, image: &Started)
+pub(crate) fn put_ram_start(line: &mut ArrayString<320>, image: &Started)
     requires room { length line.old.bytes + 144 ≤ 320 }
     ensures bytes { line.new.bytes ≡ line.old.bytes ++ ram_start_text image.now }
     ensures most { length line.new.bytes ≤ length line.old.bytes + 144 }

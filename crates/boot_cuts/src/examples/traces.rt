@@ -58,7 +58,7 @@ pub fn steps_that_complete()
 pub fn steps_of_events()
     ensures boot { (c : Content) (cpu : Cpu) → event_steps
         (record { content = c; armed = Some None; cpu = cpu; place = Off }) EventView.PowerOn
-        ≡ (booted c cpu Normal []).steps }
+        ≡ (booted c cpu Normal None).steps }
     ensures buy { (c : Content) (cpu : Cpu) → event_steps (record {
       content = c;
       armed = Some None;

@@ -8,7 +8,7 @@ ghost use Rattle.pico_board.specs.declared.boot.BootKind.TheVariants.{Normal};
 ghost use Rattle.boot_rules.specs.Choosing.{decision_in};
 ghost use Rattle.boot_script.specs.Events.{EventView};
 ghost use Rattle.boot_machine.specs.Machines.{MachineView};
-ghost use Rattle.boot_machine.specs.Moves.{lost_text};
+ghost use Rattle.text_lines.specs.declared.outcome.EventOutcome.TheVariants as event_outcomes;
 ghost use Rattle.boot_plays.specs.Plays.{played, powerless};
 ghost use Rattle.text_lines.specs.Texts.{decision_text};
 ghost use Rattle.boot_cuts.specs.declared.answers.Answer.{Answer};
@@ -50,7 +50,7 @@ pub fn runs_are_the_only_ones()
 {}
 
 /// A cut is a replay. Take the events before one, and a Cut event that is due in step k of that
-/// event. Then come that event, and power that comes back. This script tells a boot with the
+/// event. Then come that event, and power that comes back. This script comes to a boot with the
 /// decision of a normal boot on the content that the cut leaves. A cut that was armed there is
 /// replaced. The step stands in the trace behind those of the events before it. The cuts before
 /// and within step k of a trace have the numbers 2k and 2k + 1.
@@ -59,10 +59,10 @@ pub fn a_cut_is_a_replay()
         (within : Bool) (pattern : List ℕ) (t : Traced) → cut_in event ≡ None
         → slice_get (traced_from (played (powerless c cpu) before).last.content
         (event_steps (played (powerless c cpu) before).last event)) k ≡ Some t
-        → (played (powerless c cpu) (replay_of before event k within pattern)).texts
-        ≡ (played (powerless c cpu) before).texts ++ (codes "cut armed" ∷ lost_text
-        ∷ (codes "boot " ++ decision_text (decision_in
-        (cut_by (cut_with 0 within pattern) t.before t.step) cpu Normal)) ∷ []) }
+        → (played (powerless c cpu) (replay_of before event k within pattern)).outcomes
+        ≡ (played (powerless c cpu) before).outcomes ++ (event_outcomes.CutArmed
+        ∷ event_outcomes.PowerLost ∷ event_outcomes.Booted (decision_in
+        (cut_by (cut_with 0 within pattern) t.before t.step) cpu Normal) ∷ []) }
     ensures stands { (m : MachineView) (before others : List EventView) (event : EventView) (k : ℕ)
         (t : Traced)
         → slice_get (traced_from (played m before).last.content

@@ -3,12 +3,16 @@
 
 ghost use Rattle.std.specs.Prelude.{◌≡◌, ◌++◌, List, None, Some, [], ◌∷◌, codes, false, replicate, ℕ};
 ghost use Rattle.text_lines.specs.Examples.{ram_image};
+ghost use Rattle.text_lines.specs.declared.outcome.EventOutcome.TheVariants as event_outcomes;
+ghost use Rattle.text_lines.specs.declared.outcome.CommandAnswer.TheVariants as answers;
+ghost use Rattle.boot_rules.specs.declared.decision.Decision.TheVariants.{Bootsel as Falls};
+ghost use Rattle.boot_rules.specs.declared.decision.Fall.TheVariants.{Requested};
 ghost use Rattle.boot_machine.specs.Machines.{FromRam, Host, InBootsel, Off, Program, Running};
 ghost use Rattle.boot_machine.specs.Moves.{effect};
-ghost use Rattle.boot_machine.specs.Examples.{begun_download, busy, erased_flash, guarded, guarded_busy, idle, machine_at, no_command, uf2_block, with_image};
+ghost use Rattle.boot_machine.specs.Examples.{told_command, told_done, told_refused, begun_download, busy, erased_flash, guarded, guarded_busy, idle, machine_at, no_command, uf2_block, with_image};
 ghost use Rattle.worked_flashes.specs.Flashes.{table_and_bare};
 ghost use Rattle.boot_machine.specs.Runs.{host_writes, place_writes};
-ghost use Rattle.boot_machine.specs.Serving.{info_status, info_words, served_event, serves, line_only, with_ram};
+ghost use Rattle.boot_machine.specs.Serving.{info_status, info_words, served_event, serves, only_told, with_ram};
 ghost use Rattle.worked_flashes.specs.Flashes.{bare, pair_content, tables_content};
 ghost use Rattle.boot_rules.specs.Examples.{found_in_slot};
 ghost use Rattle.info_reply.specs.declared.ask.Ask.TheVariants as asks;
@@ -32,9 +36,9 @@ ghost use Rattle.uf2_place.specs.Blocks.{written_block as block_bytes};
 pub fn commands_of_a_form()
     ensures magic { (c : Content) (cpu : Cpu) (host : Host) (payload : List ℕ)
         → served_event c cpu host (EventView.Command no_command payload)
-        ≡ line_only host (codes "cmd bad-magic") }
+        ≡ only_told host event_outcomes.BadMagic }
     ensures unknown { serves erased_flash Arm idle (command 0x00 0 0 (padded_range_args 0 0)) []
-        ≡ line_only idle (codes "cmd 0x00 token=0x00000001 status=1") }
+        ≡ only_told idle (told_refused 0x00 1) }
 {}
 
 /// An info command is none for RAM, whatever its arguments are, and a busy download does not
@@ -42,31 +46,31 @@ pub fn commands_of_a_form()
 pub fn info_commands()
     ensures ram { serves erased_flash Arm busy
         (command 0x8b 8 4 (padded_range_args 0x20000000 4)) []
-        ≡ line_only busy (codes "cmd 0x8b token=0x00000001 status=2") }
+        ≡ only_told busy (told_refused 0x8b 2) }
     ensures busy { info_status erased_flash Arm None (info 16 3 0) [] ≡ 0 }
     ensures short { serves erased_flash Arm busy (info 12 3 0) []
-        ≡ line_only busy (codes "cmd 0x8b token=0x00000001 status=12") }
+        ≡ only_told busy (told_refused 0x8b 12) }
     ensures kind { serves erased_flash Arm idle (info 16 5 0) []
-        ≡ line_only idle (codes "cmd 0x8b token=0x00000001 status=11") }
+        ≡ only_told idle (told_refused 0x8b 11) }
     ensures partition { serves erased_flash Arm idle (info 16 4 0) []
-        ≡ line_only idle (codes "cmd 0x8b token=0x00000001 status=16") }
+        ≡ only_told idle (told_refused 0x8b 16) }
     ensures kept { serves erased_flash Arm guarded (info 4 4 2) []
-        ≡ line_only guarded (codes "cmd 0x8b token=0x00000001 status=16") }
+        ≡ only_told guarded (told_refused 0x8b 16) }
 {}
 
 /// The table that was found at entry serves, also where the content has none.
 pub fn the_kept_table_serves()
     ensures content { table_in erased_flash ≡ None }
     ensures guarded { serves erased_flash Arm guarded (erase_command 0x10000000 0x1000) []
-        ≡ line_only guarded (codes "cmd 0x03 token=0x00000001 status=10") }
+        ≡ only_told guarded (told_refused 0x03 10) }
     ensures bare { serves erased_flash Arm idle (erase_command 0x10000000 0x1000) [] ≡ record {
       steps = Erase 0 ∷ [];
       place = InBootsel idle;
-      text = codes "cmd 0x03 token=0x00000001 status=0";
+      outcome = told_done 0x03;
       boot = None;
     } }
     ensures busy { serves erased_flash Arm busy (erase_command 0x10000000 0x1000) []
-        ≡ line_only busy (codes "cmd 0x03 token=0x00000001 status=9") }
+        ≡ only_told busy (told_refused 0x03 9) }
 {}
 
 /// A RAM command stores its bytes and keeps the download; a write while one is busy is refused
@@ -76,21 +80,21 @@ pub fn commands_of_ram()
         ≡ record {
           steps = [];
           place = InBootsel (with_ram idle (1 ∷ 2 ∷ 9 ∷ 10 ∷ 5 ∷ 6 ∷ 7 ∷ 8 ∷ []));
-          text = codes "cmd 0x05 token=0x00000001 status=0";
+          outcome = told_done 0x05;
           boot = None;
         } }
     ensures busy { serves erased_flash Arm busy (write_command 0x20000002 2) (9 ∷ [])
-        ≡ line_only busy (codes "cmd 0x05 token=0x00000001 status=9") }
+        ≡ only_told busy (told_refused 0x05 9) }
     ensures transfer { serves erased_flash Arm idle (write_command 0x20082000 2) (9 ∷ [])
-        ≡ line_only idle (codes "cmd 0x05 token=0x00000001 status=3") }
+        ≡ only_told idle (told_refused 0x05 3) }
     ensures outside { serves erased_flash Arm idle (write_command 0x20081fff 2) (9 ∷ 10 ∷ [])
-        ≡ line_only idle (codes "cmd 0x05 token=0x00000001 status=4") }
+        ≡ only_told idle (told_refused 0x05 4) }
     ensures read_outside { serves erased_flash Arm busy (read_command 0x20081fff 2) []
-        ≡ line_only busy (codes "cmd 0x84 token=0x00000001 status=4") }
+        ≡ only_told busy (told_refused 0x84 4) }
     ensures range { serves erased_flash Arm busy (reboot_into 3 0x20000002 28) []
-        ≡ line_only busy (codes "cmd 0x0a token=0x00000001 status=11") }
+        ≡ only_told busy (told_refused 0x0a 11) }
     ensures no_image { serves erased_flash Arm busy (reboot_into 3 0x20000000 8) []
-        ≡ line_only busy (codes "cmd 0x0a token=0x00000001 status=13") }
+        ≡ only_told busy (told_refused 0x0a 13) }
 {}
 
 /// A RAM command leaves the table and the download as they are.
@@ -131,19 +135,17 @@ pub fn starts_in_ram()
         ≡ record {
           steps = [];
           place = Running (FromRam ram_image);
-          text = codes "cmd 0x0a token=0x00000001 status=0 boot start ram=0x20000000+0x0000001c "
-              ++ codes "block=0x00000008 pc=0x20000021 sp=0x20082000 limit=0x00000000 version=0.0 "
-              ++ codes "rollback=none trial=no";
+          outcome = told_command 0x0a (answers.RamStarted ram_image);
           boot = None;
         } }
     ensures busy { (serves erased_flash Arm (with_image busy)
         (reboot_into 0x103 0x20000000 28) []).place
         ≡ Running (FromRam ram_image) }
     ensures short { serves erased_flash Arm (with_image idle) (reboot_into 3 0x20000000 27) []
-        ≡ line_only (with_image idle) (codes "cmd 0x0a token=0x00000001 status=13") }
+        ≡ only_told (with_image idle) (told_refused 0x0a 13) }
 {}
 
-/// A reboot of another kind asks for that boot, which the event's line ends with; BOOTSEL is
+/// A reboot of another kind asks for that boot, which the event's outcome tells; BOOTSEL is
 /// entered anew.
 pub fn reboots()
     ensures normal { (serves erased_flash Arm busy (reboot_command 0x100 0) []).boot ≡ Some Normal }
@@ -154,7 +156,7 @@ pub fn reboots()
         (EventView.Command (written_command (reboot_command 2 0)) []) ≡ record {
           steps = [];
           place = InBootsel (record { found = None; placing = None; ram = zero_ram });
-          text = codes "cmd 0x0a token=0x00000001 status=0 boot bootsel requested";
+          outcome = told_command 0x0a (answers.Booted (Falls Requested));
         } }
 {}
 

@@ -2,9 +2,13 @@
 //! `ensures` of a function that does nothing.
 
 ghost use Rattle.std.specs.Prelude.{◌≡◌, Err, None, Ok, Some, [], ◌∷◌, codes, false, replicate, true};
+ghost use Rattle.text_lines.specs.declared.outcome.EventOutcome.TheVariants as event_outcomes;
+ghost use Rattle.text_lines.specs.declared.outcome.BlockOutcome.TheVariants.{BadForm};
+ghost use Rattle.text_lines.specs.Outcomes.{accepted_outcome, refused_outcome};
+ghost use Rattle.uf2_place.specs.declared.block.Uf2Fault.TheVariants.{Magic};
 ghost use Rattle.boot_machine.specs.Machines.{InBootsel};
 ghost use Rattle.boot_machine.specs.Examples.{arm_uf2_of_two, begun_download, busy, guarded_busy, host_with, idle, slot_one, slot_two, target_at, uf2_block};
-ghost use Rattle.boot_machine.specs.Serving.{block_served, done_boot, is_like, ruling_on, served_event, line_only};
+ghost use Rattle.boot_machine.specs.Serving.{block_served, done_boot, is_like, ruling_on, served_event, only_told};
 ghost use Rattle.boot_machine.specs.Standing.{IsDoneIn};
 ghost use Rattle.boot_rules.specs.Examples.{found_in_slot};
 ghost use Rattle.boot_script.specs.Events.{EventView};
@@ -13,7 +17,7 @@ ghost use Rattle.pico_board.specs.Content.{Content};
 ghost use Rattle.pico_board.specs.declared.Step.TheVariants.{Erase, Program};
 ghost use Rattle.pico_board.specs.declared.boot.BootKind.TheVariants.{Normal, Update};
 ghost use Rattle.pico_board.specs.declared.boot.Cpu.{Cpu};
-ghost use Rattle.uf2_place.specs.declared.answer.Accepted.TheVariants.{Again, Done, Skipped};
+ghost use Rattle.uf2_place.specs.declared.answer.Accepted.TheVariants.{Again, Done, Skipped, Taken};
 ghost use Rattle.uf2_place.specs.declared.answer.PlaceFault.TheVariants.{NoTarget, NotPermitted, Outside};
 ghost use Rattle.uf2_place.specs.declared.answer.Ruling.TheVariants.{Answered, Begins, Continues};
 ghost use Rattle.uf2_place.specs.declared.block.Uf2.{Uf2};
@@ -71,21 +75,21 @@ pub fn what_a_block_leaves()
         ≡ record {
           steps = Erase 32 ∷ Erase 33 ∷ Program 0x210 (replicate 256 0x55) ∷ [];
           place = InBootsel busy;
-          text = codes "uf2 0 taken";
+          outcome = accepted_outcome 0 Taken;
           boot = None;
         } }
     ensures last { block_served busy (arm_uf2_of_two 0x10000100 1) (Continues (slot_two false))
         ≡ record {
           steps = Program 0x201 (replicate 256 0x55) ∷ [];
           place = InBootsel idle;
-          text = codes "uf2 1 done";
+          outcome = accepted_outcome 1 (Done (slot_two false));
           boot = Some (Update 0x10020000);
         } }
     ensures stays { block_served busy (arm_uf2_of_two 0x10000100 1) (Continues (slot_two true))
         ≡ record {
           steps = Program 0x201 (replicate 256 0x55) ∷ [];
           place = InBootsel idle;
-          text = codes "uf2 1 done stay";
+          outcome = accepted_outcome 1 (Done (slot_two true));
           boot = None;
         } }
     ensures anew { block_served guarded_busy (uf2_block 0x2000 0x10000100 2 3 0xe48bff58)
@@ -95,18 +99,18 @@ pub fn what_a_block_leaves()
             target = slot_one;
             blocks = uf2_block 0x2000 0x10000100 2 3 0xe48bff58 ∷ [];
           })));
-          text = codes "uf2 2 taken";
+          outcome = accepted_outcome 2 Taken;
           boot = None;
         } }
     ensures data { (block_served idle (uf2_block 0x2000 0x10000000 0 1 0xe48bff58)
         (Begins slot_one)).boot ≡ Some Normal }
     ensures refused { block_served busy (arm_uf2_of_two 0x10000000 0) (Answered (Err Outside))
-        ≡ line_only busy (codes "uf2 refused outside") }
+        ≡ only_told busy (refused_outcome Outside) }
     ensures again { block_served busy (arm_uf2_of_two 0x10001000 0) (Answered (Ok Again))
-        ≡ line_only busy (codes "uf2 0 again") }
+        ≡ only_told busy (accepted_outcome 0 Again) }
     ensures form { (c : Content) (cpu : Cpu)
         → served_event c cpu busy (EventView.Uf2 (replicate 512 0))
-        ≡ line_only busy (codes "uf2 bad magic") }
+        ≡ only_told busy (event_outcomes.Block (BadForm Magic)) }
 {}
 
 /// The boot after a download. For the three families of executables it is an update of its window,

@@ -2,12 +2,19 @@
 
 ghost use Rattle.std.specs.Prelude.{◌≡◌, ◌++◌, List, None, Some, [], ◌∷◌, codes, false, replicate, true, ℕ};
 ghost use Rattle.text_lines.specs.Examples.{ram_image};
+ghost use Rattle.text_lines.specs.declared.outcome.EventOutcome.TheVariants as event_outcomes;
+ghost use Rattle.text_lines.specs.declared.outcome.CommandAnswer.TheVariants as answers;
+ghost use Rattle.text_lines.specs.declared.outcome.BlockOutcome.TheVariants.{Downloaded};
+ghost use Rattle.text_lines.specs.Outcomes.{command_outcome};
+ghost use Rattle.block_codec.specs.Words.{bytes_of};
+ghost use Rattle.boot_rules.specs.declared.decision.Decision.TheVariants.{Bootsel, Start};
+ghost use Rattle.boot_rules.specs.declared.decision.Fall.TheVariants.{NoImage};
 ghost use Rattle.boot_machine.specs.Boots.{decided_place, decided_steps, entered};
-ghost use Rattle.boot_machine.specs.Examples.{bought_trial, arm_uf2_of_two, armed_with, asks_target, busy, erase_both, erased_flash, fresh_host, idle, image_bytes, image_in_a, loaded_host, lost_with, machine_at, pair_host, uf2_block};
+ghost use Rattle.boot_machine.specs.Examples.{told_command, told_done, bought_trial, arm_uf2_of_two, armed_with, asks_target, busy, erase_both, erased_flash, fresh_host, idle, image_bytes, image_in_a, loaded_host, lost_with, machine_at, pair_host, uf2_block};
 ghost use Rattle.worked_flashes.specs.Flashes.{plain_sector, table_and_bare, whole_flash_of};
 ghost use Rattle.worked_flashes.specs.Choices.{running_trial, small_slot, to};
 ghost use Rattle.boot_machine.specs.Machines.{FromFlash, FromRam, InBootsel, MachineView, Off, Program as AnyProgram, Running};
-ghost use Rattle.boot_machine.specs.Moves.{Moves, Plays, effect, lost_text};
+ghost use Rattle.boot_machine.specs.Moves.{Moves, Plays, effect};
 ghost use Rattle.boot_machine.specs.Ranges.{AreInRange, HasHostBytes};
 ghost use Rattle.boot_machine.specs.Runs.{AnswersTarget, BeginsDownload, IsFresh, PlaysWriting, StartsRam};
 ghost use Rattle.boot_machine.specs.Serving.{ServedEvent, followed_by, ruling_on, serves, table_of_found, with_ram};
@@ -50,37 +57,29 @@ pub fn a_run_into_ram()
         (EventView.Command (written_command (write_command 0x20000000 28)) image_bytes
         ∷ EventView.Command (written_command (reboot_into 3 0x20000000 28)) [] ∷ [])
         (machine_at erased_flash (Running (FromRam ram_image)))
-        (codes "cmd 0x05 token=0x00000001 status=0"
-        ∷ (codes "cmd 0x0a token=0x00000001 status=0 boot start ram=0x20000000+0x0000001c "
-        ++ codes "block=0x00000008 pc=0x20000021 sp=0x20082000 limit=0x00000000 version=0.0 "
-        ++ codes "rollback=none trial=no") ∷ []) }
+        (told_done 0x05 ∷ told_command 0x0a (answers.RamStarted ram_image) ∷ []) }
     ensures writes { PlaysWriting (machine_at erased_flash (InBootsel fresh_host)) []
         (EventView.Command (written_command (write_command 0x20000000 28)) image_bytes ∷ [])
         (machine_at erased_flash (InBootsel loaded_host))
-        (codes "cmd 0x05 token=0x00000001 status=0" ∷ [])
+        (told_done 0x05 ∷ [])
         (record { address = 0x20000000; bytes = image_bytes } ∷ []) }
     ensures starts { StartsRam (machine_at erased_flash (InBootsel loaded_host))
         (EventView.Command (written_command (reboot_into 3 0x20000000 28)) [])
         (machine_at erased_flash (Running (FromRam ram_image)))
-        (codes "cmd 0x0a token=0x00000001 status=0 boot start ram=0x20000000+0x0000001c "
-        ++ codes "block=0x00000008 pc=0x20000021 sp=0x20082000 limit=0x00000000 version=0.0 "
-        ++ codes "rollback=none trial=no") ram_image }
+        (told_command 0x0a (answers.RamStarted ram_image)) ram_image }
 {}
 
 /// A host raises the row of the slot size, and the next info command answers the new size. The
 /// table is kept from the entry of BOOTSEL, and the slot size is not.
 pub fn a_slot_size_that_is_raised()
-    ensures before { (serves (tables_content 0 [] []) Arm idle (info 16 3 0) []).text
-        ≡ codes "cmd 0x8b token=0x00000001 status=0 reply=16 "
-        ++ codes "sha256=98f3f06fc64b698416670335e5b40644b3bc326e719269631514679d8cf7a85a" }
+    ensures before { (serves (tables_content 0 [] []) Arm idle (info 16 3 0) []).outcome
+        ≡ command_outcome (info 16 3 0) 0 (bytes_of (0x6000 ∷ 0 ∷ 0 ∷ 0x1000 ∷ [])) }
     ensures plays { Plays (machine_at (tables_content 0 [] []) (InBootsel idle))
         (EventView.Command (written_command (otp_write_command 0x055 1 0)) (1 ∷ 0 ∷ 0 ∷ 0 ∷ [])
         ∷ EventView.Command (written_command (info 16 3 0)) [] ∷ [])
         (machine_at (tables_content 1 [] []) (InBootsel idle))
-        (codes "cmd 0x0d token=0x00000001 status=0"
-        ∷ (codes "cmd 0x8b token=0x00000001 status=0 reply=16 "
-        ++ codes "sha256=20f598efbda7a04772b0207fbbf1b7a83a80d94b312c7517a8b53e7f23c85654")
-        ∷ []) }
+        (told_done 0x0d
+        ∷ command_outcome (info 16 3 0) 0 (bytes_of (0x6000 ∷ 0 ∷ 0 ∷ 0x2000 ∷ [])) ∷ []) }
 {}
 
 /// Where a run begins: without power, or in BOOTSEL as it is entered, with neither a download nor
@@ -131,17 +130,16 @@ pub fn numbers_in_range()
 pub fn cuts_that_are_told()
     ensures before { Moves (armed_with (Some (cut_with 0 false []))) erase_both
         (lost_with erased_flash)
-        lost_text }
+        event_outcomes.PowerLost }
     ensures second { Moves (armed_with (Some (cut_with 1 false []))) erase_both
-        (lost_with (after erased_flash (Erase 0))) lost_text }
+        (lost_with (after erased_flash (Erase 0))) event_outcomes.PowerLost }
     ensures behind { Moves (armed_with (Some (cut_with 3 false []))) erase_both
         (record {
           content = after (after erased_flash (Erase 0)) (Erase 1);
           armed = Some (Some (cut_with 1 false []));
           cpu = Arm;
           place = InBootsel idle;
-        }) (codes "cmd 0x03 token=0x00000001 status=0") }
-    ensures text { lost_text ≡ codes "power lost" }
+        }) (told_done 0x03) }
 {}
 
 /// Power that comes back: BOOTSEL is entered with the content's table, or an image is started.
@@ -153,14 +151,13 @@ pub fn power_that_comes_back()
         placing = None;
         ram = zero_ram;
       });
-      text = codes "boot bootsel no-image";
+      outcome = event_outcomes.Booted (Bootsel NoImage);
     } }
     ensures image { effect (machine_at (whole_flash_of (plain_sector 0)) Off) EventView.PowerOn
         ≡ record {
           steps = [];
           place = Running (FromFlash (bought_trial));
-          text = codes "boot start window=0x00000000+0x00002000 block=0x00000008 pc=0x20000001 "
-              ++ codes "sp=0x20082000 limit=0x00000000 version=0.0 rollback=none trial=no";
+          outcome = event_outcomes.Booted (Start bought_trial);
         } }
 {}
 
@@ -170,7 +167,7 @@ pub fn a_boot_after_a_download()
         (EventView.Uf2 (block_bytes (uf2_block 0x2000 0x10000000 0 1 0xe48bff58))) ≡ record {
           steps = Erase 0 ∷ Program 0 (replicate 256 0x55) ∷ [];
           place = InBootsel fresh_host;
-          text = codes "uf2 0 done boot bootsel no-image";
+          outcome = event_outcomes.Block (Downloaded 0 (Bootsel NoImage));
         } }
     ensures steps { (c : Content) (cpu : Cpu) (s : ServedEvent) (kind : BootKind)
         → (followed_by c cpu s (Some kind)).steps
@@ -181,5 +178,5 @@ pub fn a_boot_after_a_download()
         ≡ decided_place (after_all c s.steps) (decision_in (after_all c s.steps) cpu kind) }
     ensures none { (c : Content) (cpu : Cpu) (s : ServedEvent)
         → followed_by c cpu s None
-        ≡ record { steps = s.steps; place = s.place; text = s.text } }
+        ≡ record { steps = s.steps; place = s.place; outcome = s.outcome } }
 {}

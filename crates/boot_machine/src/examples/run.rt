@@ -2,10 +2,12 @@
 //! function that does nothing.
 
 ghost use Rattle.std.specs.Prelude.{◌≡◌, ◌++◌, ℕ, Bool, List, None, Option, Some, [], ◌∷◌, codes, false, map, true};
-ghost use Rattle.text_lines.specs.Texts.{decision_text};
+ghost use Rattle.text_lines.specs.Outcomes.{with_boot};
+ghost use Rattle.text_lines.specs.declared.outcome.EventOutcome.{EventOutcome};
+ghost use Rattle.text_lines.specs.declared.outcome.EventOutcome.TheVariants as event_outcomes;
 ghost use Rattle.boot_machine.specs.Boots.{booted, decided_place, decided_steps, entered};
 ghost use Rattle.boot_machine.specs.Machines.{FromFlash, FromRam, Host, InBootsel, MachineView, Off, Program, Running};
-ghost use Rattle.boot_machine.specs.Moves.{armed_for, effect, effect_in, stays_with_line};
+ghost use Rattle.boot_machine.specs.Moves.{armed_for, effect, effect_in, stays_with};
 ghost use Rattle.boot_machine.specs.Examples.{running};
 ghost use Rattle.boot_machine.specs.Serving.{is_hosted, table_slot_of};
 ghost use Rattle.boot_machine.specs.Standing.{is_bootsel, is_on, is_running};
@@ -31,29 +33,29 @@ ghost use Rattle.trial_buy.specs.Starting.{start_steps};
 /// Without power: power that comes back makes a normal boot, and nothing else does anything.
 pub fn rows_without_power()
     ensures power { (c : Content) (cpu : Cpu)
-        → effect_in c cpu Off EventView.PowerOn ≡ booted c cpu Normal (codes "boot ") }
+        → effect_in c cpu Off EventView.PowerOn ≡ booted c cpu Normal None }
     ensures reset { (c : Content) (cpu : Cpu) (kind : BootKind)
-        → effect_in c cpu Off (EventView.Reset kind) ≡ stays_with_line Off (codes "off") }
+        → effect_in c cpu Off (EventView.Reset kind) ≡ stays_with Off event_outcomes.Off }
     ensures command { (c : Content) (cpu : Cpu) (command payload : List ℕ)
         → effect_in c cpu Off (EventView.Command command payload)
-        ≡ stays_with_line Off (codes "off") }
+        ≡ stays_with Off event_outcomes.Off }
     ensures block { (c : Content) (cpu : Cpu) (block : List ℕ)
-        → effect_in c cpu Off (EventView.Uf2 block) ≡ stays_with_line Off (codes "off") }
+        → effect_in c cpu Off (EventView.Uf2 block) ≡ stays_with Off event_outcomes.Off }
     ensures buy { (c : Content) (cpu : Cpu)
-        → effect_in c cpu Off EventView.Buy ≡ stays_with_line Off (codes "off") }
+        → effect_in c cpu Off EventView.Buy ≡ stays_with Off event_outcomes.Off }
 {}
 
 /// In BOOTSEL power that comes back and a buy are ignored, and a reset boots.
 pub fn rows_in_bootsel()
     ensures power { (c : Content) (cpu : Cpu) (host : Host)
         → effect_in c cpu (InBootsel host) EventView.PowerOn
-        ≡ stays_with_line (InBootsel host) (codes "ignored") }
+        ≡ stays_with (InBootsel host) event_outcomes.Ignored }
     ensures buy { (c : Content) (cpu : Cpu) (host : Host)
         → effect_in c cpu (InBootsel host) EventView.Buy
-        ≡ stays_with_line (InBootsel host) (codes "ignored") }
+        ≡ stays_with (InBootsel host) event_outcomes.Ignored }
     ensures reset { (c : Content) (cpu : Cpu) (host : Host) (kind : BootKind)
         → effect_in c cpu (InBootsel host) (EventView.Reset kind)
-        ≡ booted c cpu kind (codes "boot ") }
+        ≡ booted c cpu kind None }
 {}
 
 /// While an image runs, power that comes back and a host are ignored, and a reset boots. A trial
@@ -61,29 +63,29 @@ pub fn rows_in_bootsel()
 pub fn rows_of_a_running_image()
     ensures power { (c : Content) (cpu : Cpu) (program : Program)
         → effect_in c cpu (Running program) EventView.PowerOn
-        ≡ stays_with_line (Running program) (codes "ignored") }
+        ≡ stays_with (Running program) event_outcomes.Ignored }
     ensures command { (c : Content) (cpu : Cpu) (program : Program) (command payload : List ℕ)
         → effect_in c cpu (Running program) (EventView.Command command payload)
-        ≡ stays_with_line (Running program) (codes "ignored") }
+        ≡ stays_with (Running program) event_outcomes.Ignored }
     ensures block { (c : Content) (cpu : Cpu) (program : Program) (block : List ℕ)
         → effect_in c cpu (Running program) (EventView.Uf2 block)
-        ≡ stays_with_line (Running program) (codes "ignored") }
+        ≡ stays_with (Running program) event_outcomes.Ignored }
     ensures reset { (c : Content) (cpu : Cpu) (program : Program) (kind : BootKind)
         → effect_in c cpu (Running program) (EventView.Reset kind)
-        ≡ booted c cpu kind (codes "boot ") }
+        ≡ booted c cpu kind None }
     ensures trial { (c : Content) (cpu : Cpu)
         → effect_in c cpu (Running (FromFlash (running true))) EventView.Buy
         ≡ record {
           steps = buy_steps c cpu (running true);
           place = Running (FromFlash (running false));
-          text = codes "buy done";
+          outcome = event_outcomes.Bought;
         } }
     ensures bought { (c : Content) (cpu : Cpu)
         → effect_in c cpu (Running (FromFlash (running false))) EventView.Buy
-        ≡ stays_with_line (Running (FromFlash (running false))) (codes "buy none") }
+        ≡ stays_with (Running (FromFlash (running false))) event_outcomes.NothingToBuy }
     ensures ram { (c : Content) (cpu : Cpu) (image : Started)
         → effect_in c cpu (Running (FromRam image)) EventView.Buy
-        ≡ stays_with_line (Running (FromRam image)) (codes "buy none") }
+        ≡ stays_with (Running (FromRam image)) event_outcomes.NothingToBuy }
 {}
 
 /// In each state a cut is armed, in place of a former one where the board tells it. The end of the
@@ -91,9 +93,9 @@ pub fn rows_of_a_running_image()
 pub fn rows_of_any_state()
     ensures cut { (m : MachineView) (left : ℕ) (within : Bool) (pattern : List ℕ)
         → effect m (EventView.Cut left within pattern)
-        ≡ stays_with_line m.place (codes "cut armed") }
+        ≡ stays_with m.place event_outcomes.CutArmed }
     ensures end { (m : MachineView) → effect m EventView.End
-        ≡ stays_with_line m.place (codes "end") }
+        ≡ stays_with m.place event_outcomes.Ended }
     ensures armed { (former : Option Cut) (left : ℕ) (within : Bool) (pattern : List ℕ)
         → armed_for (Some former) (EventView.Cut left within pattern)
         ≡ Some (Some (cut_with left within pattern)) }
@@ -115,9 +117,11 @@ pub fn what_a_boot_does()
         → decided_steps c cpu (Bootsel fall) ≡ [] }
     ensures serves { (c : Content) (fall : Fall) → decided_place c (Bootsel fall)
         ≡ InBootsel (record { found = table_in c; placing = None; ram = zero_ram }) }
-    ensures text { (c : Content) (cpu : Cpu) (kind : BootKind)
-        → (booted c cpu kind (codes "boot ")).text
-        ≡ codes "boot " ++ decision_text (decision_in c cpu kind) }
+    ensures told { (c : Content) (cpu : Cpu) (kind : BootKind)
+        → (booted c cpu kind None).outcome ≡ event_outcomes.Booted (decision_in c cpu kind) }
+    ensures behind { (c : Content) (cpu : Cpu) (kind : BootKind) (outcome : EventOutcome)
+        → (booted c cpu kind (Some outcome)).outcome
+        ≡ with_boot outcome (decision_in c cpu kind) }
 {}
 
 /// Of the states of the code all but one have power, one is BOOTSEL, and in one an image runs.

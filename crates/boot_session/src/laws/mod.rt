@@ -7,6 +7,7 @@ ghost use Rattle.boot_script.specs.Scripts.{events};
 ghost use Rattle.script_plan.specs.Plans.{plan_text};
 ghost use Rattle.boot_session.specs.Sessions.{IsCutBoot, IsSlotOf, StaysIn, entered_host, session};
 ghost use Rattle.boot_machine.specs.Boots.{entered};
+ghost use Rattle.text_lines.specs.declared.outcome.EventOutcome.{EventOutcome};
 ghost use Rattle.boot_machine.specs.Machines.{MachineView, Off};
 ghost use Rattle.boot_machine.specs.Moves.{Plays};
 ghost use Rattle.boot_machine.specs.Serving.{is_hosted};
@@ -130,18 +131,18 @@ pub fn targets_are_slots()
 /// for a boot. Then power that is lost was lost in the session, or in what that boot writes behind
 /// it.
 pub fn plays_do_sessions()
-    ensures whole { (m n : MachineView) (es : List EventView) (texts : List (List ℕ))
+    ensures whole { (m n : MachineView) (es : List EventView) (outcomes : List EventOutcome)
         → m.place ≡ entered m.content → StaysIn m.content m.cpu (entered_host m.content) es
-        → Plays m es n texts → n.place ≢ Off
+        → Plays m es n outcomes → n.place ≢ Off
         → n.content ≡ after_all m.content (session m.content m.cpu es) }
-    ensures lost { (m n : MachineView) (es : List EventView) (texts : List (List ℕ))
+    ensures lost { (m n : MachineView) (es : List EventView) (outcomes : List EventOutcome)
         → m.place ≡ entered m.content → StaysIn m.content m.cpu (entered_host m.content) es
-        → Plays m es n texts → n.place ≡ Off
+        → Plays m es n outcomes → n.place ≡ Off
         → CutOf m.content (session m.content m.cpu es) n.content }
     ensures last { (m n : MachineView) (es : List EventView) (last : EventView)
-        (texts : List (List ℕ))
+        (outcomes : List EventOutcome)
         → m.place ≡ entered m.content → StaysIn m.content m.cpu (entered_host m.content) es
-        → is_hosted last ≡ true → Plays m (es ++ last ∷ []) n texts → n.place ≡ Off
+        → is_hosted last ≡ true → Plays m (es ++ last ∷ []) n outcomes → n.place ≡ Off
         → CutOf m.content (session m.content m.cpu (es ++ last ∷ [])) n.content
         ⊎ IsCutBoot (after_all m.content (session m.content m.cpu (es ++ last ∷ []))) m.cpu
         n.content }

@@ -5,6 +5,7 @@ ghost use Rattle.std.specs.Prelude.{◌≡◌, [], ◌∷◌, codes, Some, None,
 ghost use Rattle.pico_board.specs.declared.boot.Cpu.TheVariants.{Arm};
 ghost use Rattle.pico_board.specs.declared.boot.BootKind.TheVariants.{Normal};
 ghost use Rattle.boot_script.specs.Events.{Buy, Reset, Cut};
+ghost use Rattle.text_lines.specs.declared.outcome.EventOutcome.TheVariants as event_outcomes;
 ghost use Rattle.boot_machine.specs.Machines.{Off, InBootsel, Running, FromRam};
 ghost use Rattle.cli_course.specs.declared.status.Status.TheVariants.{Done};
 ghost use Rattle.cli_course.specs.Outcomes.{worked};
@@ -16,9 +17,9 @@ ghost use Rattle.cli_scripts.specs.ReplayExamples.{example_content};
 /// The lines of events and the line after them.
 pub fn event_texts()
     ensures none { event_lines 0 [] ≡ [] }
-    ensures two { event_lines 0 (codes "off" ∷ codes "cut armed" ∷ [])
+    ensures two { event_lines 0 (event_outcomes.Off ∷ event_outcomes.CutArmed ∷ [])
         ≡ codes "0 off\n1 cut armed\n" }
-    ensures tenth { event_lines 9 (codes "off" ∷ codes "ignored" ∷ [])
+    ensures tenth { event_lines 9 (event_outcomes.Off ∷ event_outcomes.Ignored ∷ [])
         ≡ codes "9 off\n10 ignored\n" }
     ensures off { end_line Off ≡ codes "end state=off\n" }
     ensures bootsel { end_line (InBootsel (record { found = None; placing = None; ram = [] }))
@@ -40,7 +41,7 @@ pub fn events_without_power()
     ensures nothing { played (powerless example_content Arm) (Buy ∷ Reset Normal ∷ [])
         ≡ record {
           last = powerless example_content Arm;
-          texts = codes "off" ∷ codes "off" ∷ [];
+          outcomes = event_outcomes.Off ∷ event_outcomes.Off ∷ [];
         } }
     ensures cuts { played (powerless example_content Arm)
         (Cut 2 true (255 ∷ []) ∷ Cut 1 false [] ∷ [])
@@ -51,7 +52,7 @@ pub fn events_without_power()
             cpu = Arm;
             place = Off;
           };
-          texts = codes "cut armed" ∷ codes "cut armed" ∷ [];
+          outcomes = event_outcomes.CutArmed ∷ event_outcomes.CutArmed ∷ [];
         } }
 {}
 

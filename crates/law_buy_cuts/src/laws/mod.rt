@@ -22,7 +22,9 @@ ghost use Rattle.boot_script.specs.Events.{EventView};
 ghost use Rattle.boot_machine.specs.Boots.{decided_place};
 ghost use Rattle.law_boot_cuts.specs.Crashes.{AreOwnSteps, LeavesNoAccidentalImage, KeepsOtherRows, PicksBought, StartsBought, settled_choice};
 ghost use Rattle.boot_machine.specs.Machines.{FromFlash, MachineView, Off, Running};
-ghost use Rattle.boot_machine.specs.Moves.{Moves, lost_text};
+ghost use Rattle.boot_machine.specs.Moves.{Moves};
+ghost use Rattle.text_lines.specs.declared.outcome.EventOutcome.{EventOutcome};
+ghost use Rattle.text_lines.specs.declared.outcome.EventOutcome.TheVariants.{PowerLost};
 ghost use Rattle.law_buy_cuts.specs.Running.{LosesBuy, RunsTrial, StandsValid, buys};
 
 use boot_machine::laws::run::{a_running_trial_is_chosen, only_lost_power_says_so};
@@ -81,7 +83,7 @@ pub fn own_writes_of_a_valid_image()
 /// the bought image, as after a whole buy.
 pub fn a_buy_that_loses_power()
     ensures steps { (m n o : MachineView) (choice : Choice) → RunsTrial m n choice
-        → Moves n EventView.Buy o lost_text
+        → Moves n EventView.Buy o PowerLost
         → (u : SlotUnit) × IsOfUnit n.content n.cpu choice u
         × ((k : ℕ) × (step : Step) × IsCutAt n.content (buys n choice) k step o.content) }
     ensures pick { (m n o : MachineView) (choice : Choice) (u : SlotUnit) (step : Step)
@@ -89,10 +91,10 @@ pub fn a_buy_that_loses_power()
         → (pick o.content u n.cpu ≡ pick n.content u n.cpu)
         ⊎ PicksBought (after_all n.content (buys n choice)) o.content u n.cpu choice }
     ensures next { (m n o p : MachineView) (choice : Choice) (u : SlotUnit) (step : Step)
-        (found : Found) (e : Decision) (line : List ℕ) → LosesBuy m n o choice u step
+        (found : Found) (e : Decision) (outcome : EventOutcome) → LosesBuy m n o choice u step
         → table_in n.content ≡ Some found → KeepsOtherRows n.content n.cpu u (buys n choice)
         → Chosen n.content n.cpu Normal e
-        → Moves o EventView.PowerOn p line → line ≢ lost_text
+        → Moves o EventView.PowerOn p outcome → outcome ≢ PowerLost
         → (p.place ≡ decided_place o.content e)
         ⊎ ((p.place ≡ Running (FromFlash (settled_choice choice)))
         × StartsBought (after_all n.content (buys n choice)) o.content n.cpu choice) }
@@ -108,7 +110,7 @@ pub fn a_buy_that_loses_power()
 pub fn a_reset_that_loses_power()
     ensures { (m o : MachineView) (kind : BootKind) (choice : Choice) → m.place ≢ Off
         → Chosen m.content m.cpu kind (Start choice)
-        → Moves m (EventView.Reset kind) o lost_text
+        → Moves m (EventView.Reset kind) o PowerLost
         → (k : ℕ) × (step : Step)
         × IsCutAt m.content (start_steps m.content m.cpu choice) k step o.content }
 {

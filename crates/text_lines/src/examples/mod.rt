@@ -1,7 +1,8 @@
 //! Worked examples of the texts, proved by computing: each is the `ensures` of a function that does
 //! nothing.
 
-ghost use Rattle.std.specs.Prelude.{◌≡◌, ◌-◌, ◌^◌, ◌++◌, ℕ, List, [], ◌∷◌, length, codes, Some, None, Err, true, false};
+ghost use Rattle.std.specs.Prelude.{◌≡◌, ◌-◌, ◌^◌, ◌++◌, ℕ, List, [], ◌∷◌, length, codes, replicate, Some, None, Err, true, false};
+ghost use Rattle.sha2.specs.Sha256.{sha256};
 ghost use Rattle.pico_board.specs.declared.window.Window.{Window};
 ghost use Rattle.block_loop.specs.declared.fault.LoopFault.TheVariants.{Broken, TooMany, Overlap};
 ghost use Rattle.image_def.specs.declared.fault.DefFault.TheVariants.{Repeated, BadItem, BadRow, RepeatedRow};
@@ -13,13 +14,21 @@ ghost use Rattle.uf2_place.specs.declared.block.Uf2Fault.TheVariants.{Magic, Pay
 ghost use Rattle.uf2_place.specs.declared.answer.Accepted.{Accepted};
 ghost use Rattle.uf2_place.specs.declared.answer.Accepted.TheVariants.{Skipped, Again, Taken, Done};
 ghost use Rattle.uf2_place.specs.declared.answer.PlaceFault.{PlaceFault};
-ghost use Rattle.uf2_place.specs.declared.answer.PlaceFault.TheVariants.{NoTarget, Outside, NotPermitted, PowerLost};
+ghost use Rattle.uf2_place.specs.declared.answer.PlaceFault.TheVariants as faults;
 ghost use Rattle.boot_rules.specs.declared.decision.Decision.TheVariants.{Start, Bootsel};
 ghost use Rattle.boot_rules.specs.declared.decision.Fall.{Fall};
 ghost use Rattle.boot_rules.specs.declared.decision.Fall.TheVariants.{Requested, FlashOff, NoImage};
-ghost use Rattle.text_lines.specs.Texts.{boot_text, booted_text, command_text, form_text, accepted_text, ram_start_text, refused_text, decision_line, table_text, image_text, valid_text, data_text};
+ghost use Rattle.text_lines.specs.Texts.{decision_line, table_text, image_text, valid_text, data_text};
 ghost use Rattle.text_lines.specs.Faults.{why_text};
-ghost use Rattle.text_lines.specs.Events.{event_text, IsLine, Off, Ignored, CutArmed, LostPower, Ended, Boots, BuyDone, BuyNone, BadMagic, Answered, Rebooted, RamStarted, BadForm, Refused, Placed, Downloaded};
+ghost use Rattle.text_lines.specs.Events.{boot_text, booted_text, IsOutcome, outcome_text};
+ghost use Rattle.text_lines.specs.Outcomes.{accepted_outcome, answered, boot_outcome, command_outcome, ram_start_outcome, refused_outcome, with_boot};
+ghost use Rattle.text_lines.specs.declared.outcome.CommandAnswer.{CommandAnswer};
+ghost use Rattle.text_lines.specs.declared.outcome.CommandAnswer.TheVariants as answers;
+ghost use Rattle.text_lines.specs.declared.outcome.Refusal.{Refusal};
+ghost use Rattle.text_lines.specs.declared.outcome.Refusal.TheVariants as refusals;
+ghost use Rattle.text_lines.specs.declared.outcome.BlockOutcome.TheVariants as block_outcomes;
+ghost use Rattle.text_lines.specs.declared.outcome.EventOutcome.{EventOutcome};
+ghost use Rattle.text_lines.specs.declared.outcome.EventOutcome.TheVariants as events;
 ghost use Rattle.text_lines.specs.Examples.{image_in, ram_image, start_of, widest, command, small_window, example_image, example_choice, example_found};
 
 /// The texts of boots, and of boots that an event asks for.
@@ -39,29 +48,72 @@ pub fn boots()
 /// The texts of commands. A reply is shown for a read, an info command and an OTP read with status
 /// 0, and for no other.
 pub fn commands()
-    ensures xip { command_text (command 0x07 1) 0 [] ≡ codes "cmd 0x07 token=0x00000001 status=0" }
-    ensures refused { command_text (command 0x0d 4) 17 []
+    ensures xip { outcome_text (command_outcome (command 0x07 1) 0 [])
+        ≡ codes "cmd 0x07 token=0x00000001 status=0" }
+    ensures refused { outcome_text (command_outcome (command 0x0d 4) 17 [])
         ≡ codes "cmd 0x0d token=0x00000004 status=17" }
-    ensures read { command_text (command 0x84 1) 0 (0x61 ∷ 0x62 ∷ 0x63 ∷ [])
+    ensures read { outcome_text (command_outcome (command 0x84 1) 0 (0x61 ∷ 0x62 ∷ 0x63 ∷ []))
         ≡ codes "cmd 0x84 token=0x00000001 status=0 reply=3 sha256=ba7816bf8f01cfea"
         ++ codes "414140de5dae2223b00361a396177a9cb410ff61f20015ad" }
-    ensures info { command_text (command 0x8b 2) 0 []
+    ensures info { outcome_text (command_outcome (command 0x8b 2) 0 [])
         ≡ codes "cmd 0x8b token=0x00000002 status=0 reply=0 sha256=e3b0c44298fc1c14"
         ++ codes "9afbf4c8996fb92427ae41e4649b934ca495991b7852b855" }
-    ensures otp_read { command_text (command 0x8c 3) 0 []
+    ensures otp_read { outcome_text (command_outcome (command 0x8c 3) 0 [])
         ≡ codes "cmd 0x8c token=0x00000003 status=0 reply=0 sha256=e3b0c44298fc1c14"
         ++ codes "9afbf4c8996fb92427ae41e4649b934ca495991b7852b855" }
-    ensures not_served { command_text (command 0x8b 2) 12 []
+    ensures not_served { outcome_text (command_outcome (command 0x8b 2) 12 [])
         ≡ codes "cmd 0x8b token=0x00000002 status=12" }
-    ensures write { command_text (command 0x05 1) 0 []
+    ensures write { outcome_text (command_outcome (command 0x05 1) 0 [])
         ≡ codes "cmd 0x05 token=0x00000001 status=0" }
+{}
+
+/// What commands are answered, as values.
+pub fn answers_of_commands()
+    ensures done { command_outcome (command 0x07 1) 0 [] ≡ answered (command 0x07 1) answers.Done }
+    ensures no_reply { command_outcome (command 0x05 1) 0 (1 ∷ [])
+        ≡ answered (command 0x05 1) answers.Done }
+    ensures refused { command_outcome (command 0x84 1) 1 (1 ∷ [])
+        ≡ answered (command 0x84 1) (answers.Refused 1) }
+    ensures replied { (digest : List ℕ) → digest ≡ sha256 (7 ∷ 9 ∷ [])
+        → command_outcome (command 0x84 1) 0 (7 ∷ 9 ∷ [])
+        ≡ answered (command 0x84 1) (answers.Replied (record { count = 2; digest = digest })) }
+    ensures ram { ram_start_outcome (command 0x0a 2) ram_image
+        ≡ answered (command 0x0a 2) (answers.RamStarted ram_image) }
+{}
+
+/// A boot stands behind the event that asks for it, or by itself. No event but a command and a
+/// block that is accepted asks for one.
+pub fn boots_of_events()
+    ensures alone { boot_outcome None (Bootsel NoImage) ≡ events.Booted (Bootsel NoImage) }
+    ensures command { boot_outcome (Some (command_outcome (command 0x0a 2) 0 [])) (Bootsel NoImage)
+        ≡ answered (command 0x0a 2) (answers.Booted (Bootsel NoImage)) }
+    ensures block { (accepted : Accepted)
+        → boot_outcome (Some (accepted_outcome 3 accepted)) (Bootsel NoImage)
+        ≡ events.Block (block_outcomes.Downloaded 3 (Bootsel NoImage)) }
+    ensures form { (fault : Uf2Fault) → with_boot (events.Block (block_outcomes.BadForm fault))
+        (Bootsel NoImage) ≡ events.Block (block_outcomes.BadForm fault) }
+    ensures refused { (refusal : Refusal)
+        → with_boot (events.Block (block_outcomes.Refused refusal))
+        (Bootsel NoImage) ≡ events.Block (block_outcomes.Refused refusal) }
+    ensures once { with_boot (events.Block (block_outcomes.Downloaded 3 (Bootsel NoImage)))
+        (Bootsel Requested) ≡ events.Block (block_outcomes.Downloaded 3 (Bootsel NoImage)) }
+    ensures off { with_boot events.Off (Bootsel NoImage) ≡ events.Off }
+    ensures ignored { with_boot events.Ignored (Bootsel NoImage) ≡ events.Ignored }
+    ensures end { with_boot events.Ended (Bootsel NoImage) ≡ events.Ended }
+    ensures armed { with_boot events.CutArmed (Bootsel NoImage) ≡ events.CutArmed }
+    ensures lost { with_boot events.PowerLost (Bootsel NoImage) ≡ events.PowerLost }
+    ensures booted { with_boot (events.Booted (Bootsel NoImage)) (Bootsel Requested)
+        ≡ events.Booted (Bootsel NoImage) }
+    ensures bought { with_boot events.Bought (Bootsel NoImage) ≡ events.Bought }
+    ensures none { with_boot events.NothingToBuy (Bootsel NoImage) ≡ events.NothingToBuy }
+    ensures magic { with_boot events.BadMagic (Bootsel NoImage) ≡ events.BadMagic }
 {}
 
 /// Commands that reboot.
 pub fn reboots()
-    ensures boot { event_text (Rebooted (command 0x0a 2) (Bootsel NoImage))
+    ensures boot { outcome_text (answered (command 0x0a 2) (answers.Booted (Bootsel NoImage)))
         ≡ codes "cmd 0x0a token=0x00000002 status=0 boot bootsel no-image" }
-    ensures ram { event_text (RamStarted (command 0x0a 2) ram_image)
+    ensures ram { outcome_text (ram_start_outcome (command 0x0a 2) ram_image)
         ≡ codes "cmd 0x0a token=0x00000002 status=0 boot start ram=0x20000000+0x0000001c "
         ++ codes "block=0x00000008 pc=0x20000021 sp=0x20082000 limit=0x00000000 version=0.0 "
         ++ codes "rollback=none trial=no" }
@@ -69,67 +121,76 @@ pub fn reboots()
 
 /// The texts of UF2 blocks.
 pub fn blocks()
-    ensures magic { form_text Magic ≡ codes "uf2 bad magic" }
-    ensures payload { form_text Payload ≡ codes "uf2 bad payload" }
-    ensures alignment { form_text Alignment ≡ codes "uf2 bad alignment" }
-    ensures number { form_text Number ≡ codes "uf2 bad number" }
-    ensures no_target { refused_text NoTarget ≡ codes "uf2 refused no-target" }
-    ensures outside { refused_text Outside ≡ codes "uf2 refused outside" }
-    ensures not_permitted { refused_text NotPermitted ≡ codes "uf2 refused not-permitted" }
-    ensures power_lost { refused_text PowerLost ≡ codes "power lost" }
-    ensures skipped { accepted_text 7 Skipped ≡ codes "uf2 skipped" }
-    ensures again { accepted_text 1 Again ≡ codes "uf2 1 again" }
-    ensures taken { accepted_text 65535 Taken ≡ codes "uf2 65535 taken" }
-    ensures stay { (w : Window) → accepted_text 1
-        (Done (record { window = w; gated = true; stay = true })) ≡ codes "uf2 1 done stay" }
-    ensures done { (w : Window) → accepted_text 1
-        (Done (record { window = w; gated = true; stay = false })) ≡ codes "uf2 1 done" }
-    ensures booted { event_text (Downloaded 1 (start_of (image_in 0 0x100000 0x114 0 0 None false)))
+    ensures magic { outcome_text (events.Block (block_outcomes.BadForm Magic))
+        ≡ codes "uf2 bad magic" }
+    ensures payload { outcome_text (events.Block (block_outcomes.BadForm Payload))
+        ≡ codes "uf2 bad payload" }
+    ensures alignment { outcome_text (events.Block (block_outcomes.BadForm Alignment))
+        ≡ codes "uf2 bad alignment" }
+    ensures number { outcome_text (events.Block (block_outcomes.BadForm Number))
+        ≡ codes "uf2 bad number" }
+    ensures no_target { outcome_text (refused_outcome faults.NoTarget)
+        ≡ codes "uf2 refused no-target" }
+    ensures outside { outcome_text (refused_outcome faults.Outside) ≡ codes "uf2 refused outside" }
+    ensures not_permitted { outcome_text (refused_outcome faults.NotPermitted)
+        ≡ codes "uf2 refused not-permitted" }
+    ensures power_lost { refused_outcome faults.PowerLost ≡ events.PowerLost }
+    ensures skipped { outcome_text (accepted_outcome 7 Skipped) ≡ codes "uf2 skipped" }
+    ensures again { outcome_text (accepted_outcome 1 Again) ≡ codes "uf2 1 again" }
+    ensures taken { outcome_text (accepted_outcome 65535 Taken) ≡ codes "uf2 65535 taken" }
+    ensures stay { (w : Window) → outcome_text (accepted_outcome 1
+        (Done (record { window = w; gated = true; stay = true }))) ≡ codes "uf2 1 done stay" }
+    ensures done { (w : Window) → outcome_text (accepted_outcome 1
+        (Done (record { window = w; gated = true; stay = false }))) ≡ codes "uf2 1 done" }
+    ensures booted { outcome_text (events.Block
+        (block_outcomes.Downloaded 1 (start_of (image_in 0 0x100000 0x114 0 0 None false))))
         ≡ codes "uf2 1 done boot start window=0x00000000+0x00100000 block=0x00000114 pc=0x10000201 "
         ++ codes "sp=0x20082000 limit=0x00000000 version=0.0 rollback=none trial=no" }
 {}
 
 /// The texts of the other events.
 pub fn other_events()
-    ensures off { event_text Off ≡ codes "off" }
-    ensures ignored { event_text Ignored ≡ codes "ignored" }
-    ensures cut { event_text CutArmed ≡ codes "cut armed" }
-    ensures power { event_text LostPower ≡ codes "power lost" }
-    ensures end { event_text Ended ≡ codes "end" }
-    ensures bought { event_text BuyDone ≡ codes "buy done" }
-    ensures none { event_text BuyNone ≡ codes "buy none" }
-    ensures magic { event_text BadMagic ≡ codes "cmd bad-magic" }
-    ensures boots { event_text (Boots (Bootsel NoImage)) ≡ codes "boot bootsel no-image" }
-    ensures answered { event_text (Answered (command 0x0d 4) 17 [])
-        ≡ codes "cmd 0x0d token=0x00000004 status=17" }
-    ensures form { event_text (BadForm Alignment) ≡ codes "uf2 bad alignment" }
-    ensures refused { event_text (Refused Outside) ≡ codes "uf2 refused outside" }
-    ensures placed { event_text (Placed 65535 Taken) ≡ codes "uf2 65535 taken" }
+    ensures off { outcome_text events.Off ≡ codes "off" }
+    ensures ignored { outcome_text events.Ignored ≡ codes "ignored" }
+    ensures cut { outcome_text events.CutArmed ≡ codes "cut armed" }
+    ensures power { outcome_text events.PowerLost ≡ codes "power lost" }
+    ensures end { outcome_text events.Ended ≡ codes "end" }
+    ensures bought { outcome_text events.Bought ≡ codes "buy done" }
+    ensures none { outcome_text events.NothingToBuy ≡ codes "buy none" }
+    ensures magic { outcome_text events.BadMagic ≡ codes "cmd bad-magic" }
+    ensures boots { outcome_text (events.Booted (Bootsel NoImage)) ≡ codes "boot bootsel no-image" }
 {}
 
 /// The law on the longest text speaks of all numbers that the fields hold, the greatest ones too,
 /// and of all decisions, forms and refusals.
 pub fn the_greatest_numbers_are_told()
-    ensures boots { IsLine (Boots (start_of widest)) }
-    ensures falls { (fall : Fall) → IsLine (Boots (Bootsel fall)) }
-    ensures answered { (reply : List ℕ) → length reply ≡ 2 ^ 32 - 1
-        → IsLine (Answered (command 0xff 0xffffffff) (2 ^ 32 - 1) reply) }
-    ensures rebooted { IsLine (Rebooted (command 0x0a 0xffffffff) (start_of widest)) }
-    ensures ram { IsLine (RamStarted (command 0x0a 0xffffffff) widest) }
-    ensures without_rollback { IsLine (RamStarted (command 0x0a 0) ram_image) }
-    ensures placed { (accepted : Accepted) → IsLine (Placed (2 ^ 32 - 1) accepted) }
-    ensures downloaded { IsLine (Downloaded (2 ^ 32 - 1) (start_of widest)) }
-    ensures forms { (fault : Uf2Fault) → IsLine (BadForm fault) }
-    ensures refusals { (fault : PlaceFault) → IsLine (Refused fault) }
+    ensures boots { IsOutcome (events.Booted (start_of widest)) }
+    ensures falls { (fall : Fall) → IsOutcome (events.Booted (Bootsel fall)) }
+    ensures refused { IsOutcome
+        (answered (command 0xff 0xffffffff) (answers.Refused (2 ^ 32 - 1))) }
+    ensures done { IsOutcome (answered (command 0xff 0xffffffff) answers.Done) }
+    ensures replied { IsOutcome (answered (command 0xff 0xffffffff)
+        (answers.Replied (record { count = 2 ^ 32 - 1; digest = replicate 32 255 }))) }
+    ensures rebooted { IsOutcome
+        (answered (command 0x0a 0xffffffff) (answers.Booted (start_of widest))) }
+    ensures ram { IsOutcome (ram_start_outcome (command 0x0a 0xffffffff) widest) }
+    ensures without_rollback { IsOutcome (ram_start_outcome (command 0x0a 0) ram_image) }
+    ensures placed { (accepted : Accepted) → IsOutcome (accepted_outcome (2 ^ 32 - 1) accepted) }
+    ensures downloaded { IsOutcome
+        (events.Block (block_outcomes.Downloaded (2 ^ 32 - 1) (start_of widest))) }
+    ensures forms { (fault : Uf2Fault) → IsOutcome (events.Block (block_outcomes.BadForm fault)) }
+    ensures refusals { (fault : PlaceFault) → IsOutcome (refused_outcome fault) }
 {}
 
 /// A longest text: a reboot command that starts an image with the greatest numbers.
 pub fn a_longest_text()
-    ensures text { event_text (Rebooted (command 0x0a 0xffffffff) (start_of widest))
+    ensures text { outcome_text
+        (answered (command 0x0a 0xffffffff) (answers.Booted (start_of widest)))
         ≡ codes "cmd 0x0a token=0xffffffff status=0 boot start window=0xffffffff+0xffffffff "
         ++ codes "block=0xffffffff pc=0xffffffff sp=0xffffffff limit=0xffffffff "
         ++ codes "version=65535.65535 rollback=65535 trial=yes" }
-    ensures len { length (event_text (Rebooted (command 0x0a 0xffffffff) (start_of widest))) ≡ 181 }
+    ensures len { length (outcome_text
+        (answered (command 0x0a 0xffffffff) (answers.Booted (start_of widest)))) ≡ 181 }
 {}
 
 /// The lines of images that start, and those of the falls.

@@ -7,8 +7,8 @@ use Rattle.boot_machine.proofs.entering.boot_into.Goals as goal
 pub boot-requires-clause-lease : goal.boot-requires-clause-lease
 boot-requires-clause-lease g c = room-free _ None c.drop_download.ensures.room
 
-pub returns-in-Ok-None-clause-steady : goal.returns-in-Ok-None-clause-steady
-returns-in-Ok-None-clause-steady g c =
+pub returns-in-Ok-Bootsel-clause-steady : goal.returns-in-Ok-Bootsel-clause-steady
+returns-in-Ok-Bootsel-clause-steady g c =
     let mid = c.drop_download.new.parts in
     let parts : Parts _ = record {
       board = c.boot.new.board;
@@ -21,5 +21,5 @@ returns-in-Ok-None-clause-steady g c =
       found = mid.found;
     } in
     steady-entered g.B.Board.state parts c.enter_bootsel.new.parts c.enter_bootsel.ensures
-    c.in-Ok-None.ensures.steps.power c.drop_download.ensures.none
-    (room-kept _ _ None c.in-Ok-None.ensures.kept c.drop_download.ensures.room)
+    c.in-Ok-Bootsel.ensures.steps.power c.drop_download.ensures.none
+    (room-kept _ _ None c.in-Ok-Bootsel.ensures.kept c.drop_download.ensures.room)

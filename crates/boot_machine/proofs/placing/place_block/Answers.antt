@@ -34,8 +34,8 @@ accept-answer-requires-clause-target g c =
     subst (λ b. ForSome c.wanted_target-target.result (IsTargetIn (length (g.B.Board.state b).content.flash)))
     (sym c.wanted_target-target.ensures.same) c.wanted_target-target.ensures.placed
 
-pub tell-requires : goal.tell-requires
-tell-requires g c =
+pub block_answer-requires : goal.block_answer-requires
+block_answer-requires g c =
     let state = g.B.Board.state in
     let mid = c.wanted_target-target.new.board in
     let back = sym c.wanted_target-target.ensures.same in
@@ -78,18 +78,17 @@ returns-clause-served g c = λ host found carries.
     c.wanted_target-target.ensures.exact in
     let same = same-ruling s table (table_of_found host.found) given c.args.cpu d pool host.placing b
     (c.table_of_found-table.ensures ∙ ap table_of_found (sym found)) exact after in
-    subst (λ x. IsServedBlock state g.B.Board.history (places (state x).content c.args.cpu host b) x c.tell.result
-    c.accept-answer.new.board c.accept-answer.new.self c.accept-answer.new.pool c.tell.new.line.bytes)
+    subst (λ x. IsServedBlock state g.B.Board.history (places (state x).content c.args.cpu host b) x c.block_answer.result
+    c.accept-answer.new.board c.accept-answer.new.self c.accept-answer.new.pool)
     c.wanted_target-target.ensures.same
     (came-told state g.B.Board.history mid c.accept-answer.new.board host b d
-    c.accept-answer.new.self pool c.accept-answer.new.pool c.accept-answer.result _ c.tell.result
-    c.tell.new.line.bytes
+    c.accept-answer.new.self pool c.accept-answer.new.pool c.accept-answer.result _ c.block_answer.result
     (each-meant (length s.content.flash) (table_of_found host.found)
     (target_of s.content (table_of_found host.found) c.args.cpu b.family) host.placing b)
     (promised-of _ _ mid c.accept-answer.new.board host b d c.accept-answer.new.self pool pool
     c.accept-answer.new.pool c.accept-answer.result (rules s table given d b) _ same
     c.accept-answer.ensures.answered c.accept-answer.ensures.begins c.accept-answer.ensures.continues)
-    (subst (λ x. IsTrue (state x).powered) back c.requires.power) after c.tell.ensures.answer c.tell.ensures.text)
+    (subst (λ x. IsTrue (state x).powered) back c.requires.power) after c.block_answer.ensures)
 
 pub returns-clause-room : goal.returns-clause-room
 returns-clause-room g c =

@@ -7,6 +7,6 @@ returns-in_default g c = record {
   step = λ m stands.
       let plain = plain-event m c.args.event.now c.in_default.not-End c.in_default.not-Cut in
       step-of g.B.Board.state g.B.Board.history c.args.parts.now c.advance.new.parts m (event_from c.args.event.now)
-      c.advance.new.line.bytes (plain.0) (plain.1) stands (c.advance.ensures.advances m stands);
+      c.advance.result (plain.0) (plain.1) stands (c.advance.ensures.advances m stands);
   steady = c.advance.ensures.steady;
 }

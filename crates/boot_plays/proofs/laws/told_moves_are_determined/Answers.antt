@@ -3,8 +3,8 @@ use Rattle.boot_plays.proofs.TornLemmas.{moved-moves}
 use Rattle.boot_plays.proofs.laws.told_moves_are_determined.Goals as goal
 
 pub returns-clause-only : goal.returns-clause-only
-returns-clause-only c = λ m cut event n text told moves.
-    let one = moves-only m cut event n text told moves in (one.machine, one.line)
+returns-clause-only c = λ m cut event n outcome told moves.
+    let one = moves-only m cut event n outcome told moves in (one.machine, one.told)
 
 pub returns-clause-moves : goal.returns-clause-moves
 returns-clause-moves c = λ m event is of.

@@ -3,8 +3,8 @@ use Rattle.boot_plays.proofs.TornLemmas.{played-plays}
 use Rattle.boot_plays.proofs.laws.told_plays_are_determined.Goals as goal
 
 pub returns-clause-only : goal.returns-clause-only
-returns-clause-only c = λ m cut events n texts told plays.
-    let all = plays-only m cut events n texts told plays in (all.machine, all.lines)
+returns-clause-only c = λ m cut events n outcomes told plays.
+    let all = plays-only m cut events n outcomes told plays in (all.machine, all.told)
 
 pub returns-clause-plays : goal.returns-clause-plays
 returns-clause-plays c = played-plays

@@ -26,21 +26,37 @@ pub returns-clause-served : goal.returns-clause-served
 unfolding does_nothing
 returns-clause-served c = refl
 
+pub returns-clause-replied : goal.returns-clause-replied
+unfolding does_nothing
+returns-clause-replied c = refl
+
+pub returns-clause-ram : goal.returns-clause-ram
+unfolding does_nothing
+returns-clause-ram c = refl
+
+pub returns-clause-rebooted : goal.returns-clause-rebooted
+unfolding does_nothing
+returns-clause-rebooted c = λ d. refl
+
 pub returns-clause-bad_block : goal.returns-clause-bad_block
 unfolding does_nothing
-returns-clause-bad_block c = refl
+returns-clause-bad_block c = λ fault. refl
 
 pub returns-clause-refused_block : goal.returns-clause-refused_block
 unfolding does_nothing
-returns-clause-refused_block c = refl
+returns-clause-refused_block c = λ refusal. refl
 
-pub returns-clause-skipped : goal.returns-clause-skipped
+pub returns-clause-accepted : goal.returns-clause-accepted
 unfolding does_nothing
-returns-clause-skipped c = refl
+returns-clause-accepted c = λ number accepted. refl
 
-pub returns-clause-again : goal.returns-clause-again
+pub returns-clause-downloaded : goal.returns-clause-downloaded
 unfolding does_nothing
-returns-clause-again c = refl
+returns-clause-downloaded c = λ number d. refl
+
+pub returns-clause-ended : goal.returns-clause-ended
+unfolding does_nothing
+returns-clause-ended c = refl
 
 pub returns-clause-armed : goal.returns-clause-armed
 unfolding does_nothing
@@ -49,6 +65,10 @@ returns-clause-armed c = refl
 pub returns-clause-lost : goal.returns-clause-lost
 unfolding does_nothing
 returns-clause-lost c = refl
+
+pub returns-clause-booted : goal.returns-clause-booted
+unfolding does_nothing
+returns-clause-booted c = λ d. refl
 
 pub returns-clause-bought : goal.returns-clause-bought
 unfolding does_nothing

@@ -22,16 +22,15 @@ loop-event-init c =
 pub overflow_add-number : goal.overflow_add-number
 overflow_add-number c = let few = c.loop-event.invariant.few in omega (arith, few)
 
-pub step-requires : goal.step-requires
-step-requires c = record { writable = c.in-Some.ensures.steps.1 }
+pub step-outcome-requires : goal.step-outcome-requires
+step-outcome-requires c = record { writable = c.in-Some.ensures.steps.1 }
 
 pub returns-then-does_nothing : goal.returns-then-does_nothing
 returns-then-does_nothing c = λ m stands.
-    looks-here c.loop-event.machine c.step.new.machine m (script_events c.args.script.now.bytes.now)
-    c.loop-event.event-iterator c.next.new.self (event_from c.in-Some.event) c.loop-event.number c.step.new.line.bytes
-    c.in-Some.ensures.steps.0 c.step.ensures
-    (ap (λ (text : List ℕ). does_nothing text) (sym c.as_str.ensures.value)
-    ∙ (sym c.does_nothing.ensures ∙ c.if-does_nothing.true))
+    looks-here c.loop-event.machine c.step-outcome.new.machine m (script_events c.args.script.now.bytes.now)
+    c.loop-event.event-iterator c.next.new.self (event_from c.in-Some.event) c.loop-event.number c.step-outcome.result
+    c.in-Some.ensures.steps.0 c.step-outcome.ensures
+    (sym c.does_nothing.ensures ∙ c.if-does_nothing.true)
     (c.loop-event.invariant.looks m stands)
 
 pub loop-event-preserved : goal.loop-event-preserved
@@ -41,11 +40,10 @@ loop-event-preserved c =
     let few = c.loop-event.invariant.few in record {
       few = omega (arith, few, size);
       looks = λ m stands.
-          looks-more c.loop-event.machine c.step.new.machine m (script_events c.args.script.now.bytes.now)
+          looks-more c.loop-event.machine c.step-outcome.new.machine m (script_events c.args.script.now.bytes.now)
           c.loop-event.event-iterator c.next.new.self (event_from c.in-Some.event) c.loop-event.number
-          c.step.new.line.bytes first c.step.ensures
-          (ap (λ (text : List ℕ). does_nothing text) (sym c.as_str.ensures.value)
-          ∙ (sym c.does_nothing.ensures ∙ c.if-does_nothing.false))
+          c.step-outcome.result first c.step-outcome.ensures
+          (sym c.does_nothing.ensures ∙ c.if-does_nothing.false)
           (c.loop-event.invariant.looks m stands);
     }
 

@@ -8,7 +8,7 @@ use Rattle.cli_check.proofs.records.step.Goals as goal
 
 pub returns : goal.returns
 returns c = λ m stands.
-    let s = c.step.ensures m stands in
+    let s = c.advance.ensures m stands in
     let one = moves-only m (armed_of c.args.machine.now.board.supply) (event_from c.args.event.now) s.next
-    c.step.new.line.bytes stands.armed s.moves in
-    (subst (λ n. Stands state_of c.step.new.self n) one.machine s.stands, one.line)
+    c.advance.result stands.armed s.moves in
+    (subst (λ n. Stands state_of c.advance.new.self n) one.machine s.stands, one.told)

@@ -5,5 +5,5 @@ use Rattle.cli_check.proofs.serving.serve.Goals as goal
 
 pub returns-in-Bootsel : goal.returns-in-Bootsel
 returns-in-Bootsel c =
-    served-here c.args.machine.now c.serve.new.self (event_from c.args.event.now) c.serve.result c.serve.new.line.bytes
-    (sym c.state.ensures ∙ c.in-Bootsel.is) c.serve.ensures.serves
+    served-here c.args.machine.now c.answer.new.self (event_from c.args.event.now) c.answer.result.boot c.answer.result.outcome
+    (sym c.state.ensures ∙ c.in-Bootsel.is) c.answer.ensures.serves

@@ -43,4 +43,4 @@ pub returns : goal.returns
 returns c = λ m stands.
     let p = plays-end c.loop-event.machine m (script_events c.args.script.now.bytes.now) c.loop-event.event-iterator
     c.loop-event.number (string_bytes c.loop-event.text) c.in-None.ensures.steps.0
-    (c.loop-event.invariant.plays m stands) in (p.stands, p.texts)
+    (c.loop-event.invariant.plays m stands) in (p.stands, p.lines)

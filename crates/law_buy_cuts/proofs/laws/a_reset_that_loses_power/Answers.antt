@@ -1,10 +1,10 @@
 use Rattle.std.proofs.Common.{refl}
 use Rattle.boot_script.specs.Events.{EventView}
-use Rattle.boot_machine.specs.Moves.{lost_text}
+use Rattle.text_lines.specs.declared.outcome.EventOutcome.TheVariants.{PowerLost}
 use Rattle.law_buy_cuts.proofs.RunLemmas.{reset-cut}
 use Rattle.law_buy_cuts.proofs.laws.a_reset_that_loses_power.Goals as goal
 
 pub returns : goal.returns
 returns k = λ m o kind choice on chosen moves.
     reset-cut m o kind choice on chosen
-    ((k.only_lost_power_says_so.ensures.text m o (EventView.Reset kind) lost_text moves).0 refl)
+    ((k.only_lost_power_says_so.ensures.told m o (EventView.Reset kind) PowerLost moves).0 refl)

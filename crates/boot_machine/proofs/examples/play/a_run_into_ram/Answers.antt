@@ -1,6 +1,5 @@
 -- By computing.
-use Rattle.std.proofs.Common.{◌++◌, ℕ, List, [], ◌∷◌, refl, inl}
-use Rattle.std.specs.Prelude.{codes}
+use Rattle.std.proofs.Common.{[], ◌∷◌, refl, inl}
 use Rattle.std.specs.Fmt.{padded_integral, digits, char_count}
 use Rattle.image_check.specs.Image.{image_in}
 use Rattle.image_def.specs.Definition.{def_of}
@@ -14,19 +13,18 @@ use Rattle.picoboot_cmd.specs.Commands.{written_command}
 use Rattle.picoboot_cmd.specs.Examples.{write_command}
 use Rattle.ram_start.specs.Examples.{reboot_into}
 use Rattle.text_lines.specs.Examples.{ram_image}
+use Rattle.text_lines.specs.declared.outcome.CommandAnswer.TheVariants.{RamStarted}
+use Rattle.text_lines.specs.declared.outcome.EventOutcome.{EventOutcome}
 use Rattle.boot_machine.specs.Machines.{FromRam, InBootsel, Running}
 use Rattle.boot_machine.specs.Moves.{Moves}
-use Rattle.boot_machine.specs.Examples.{erased_flash, fresh_host, image_bytes, loaded_host, machine_at}
+use Rattle.boot_machine.specs.Examples.{erased_flash, fresh_host, image_bytes, loaded_host, machine_at, told_command, told_done}
 use Rattle.boot_machine.proofs.examples.play.a_run_into_ram.Goals as goal
 
-abbrev loaded : List ℕ
-loaded = codes "cmd 0x05 token=0x00000001 status=0"
+abbrev loaded : EventOutcome
+loaded = told_done 0x05
 
-abbrev started : List ℕ
-started =
-    codes "cmd 0x0a token=0x00000001 status=0 boot start ram=0x20000000+0x0000001c "
-    ++ codes "block=0x00000008 pc=0x20000021 sp=0x20082000 limit=0x00000000 version=0.0 "
-    ++ codes "rollback=none trial=no"
+abbrev started : EventOutcome
+started = told_command 0x0a (RamStarted ram_image)
 
 loads : Moves (machine_at erased_flash (InBootsel fresh_host))
     (EventView.Command (written_command (write_command 0x20000000 28)) image_bytes)
@@ -38,7 +36,7 @@ loads = inl (record {
   armed_cut = record { answer = refl; left = refl; next = refl };
   cpu = refl;
   place = refl;
-  line = refl;
+  told = refl;
 })
 
 starts : Moves (machine_at erased_flash (InBootsel loaded_host))
@@ -51,7 +49,7 @@ starts = inl (record {
   armed_cut = record { answer = refl; left = refl; next = refl };
   cpu = refl;
   place = refl;
-  line = refl;
+  told = refl;
 })
 
 pub returns-clause-plays : goal.returns-clause-plays

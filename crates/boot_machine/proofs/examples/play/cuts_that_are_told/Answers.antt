@@ -21,7 +21,7 @@ returns-clause-before c = inr (record {
   armed_cut = record { answer = refl; left = refl; next = refl };
   cpu = refl;
   place = refl;
-  line = refl;
+  told = refl;
 })
 
 pub returns-clause-second : goal.returns-clause-second
@@ -33,7 +33,7 @@ returns-clause-second c = inr (record {
   armed_cut = record { answer = refl; left = refl; next = refl };
   cpu = refl;
   place = refl;
-  line = refl;
+  told = refl;
 })
 
 pub returns-clause-behind : goal.returns-clause-behind
@@ -43,5 +43,5 @@ returns-clause-behind c = inl (record {
   armed_cut = record { answer = refl; left = refl; next = refl };
   cpu = refl;
   place = refl;
-  line = refl;
+  told = refl;
 })

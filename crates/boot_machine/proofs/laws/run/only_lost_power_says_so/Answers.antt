@@ -1,9 +1,9 @@
 use Rattle.boot_machine.proofs.MovePlaceLemmas.{off-lost}
-use Rattle.boot_machine.proofs.MoveTextLemmas.{lost-text, no-step}
+use Rattle.boot_machine.proofs.LostLemmas.{lost-told, no-step}
 use Rattle.boot_machine.proofs.laws.run.only_lost_power_says_so.Goals as goal
 
-pub returns-clause-text : goal.returns-clause-text
-returns-clause-text c = lost-text
+pub returns-clause-told : goal.returns-clause-told
+returns-clause-told c = lost-told
 
 pub returns-clause-off : goal.returns-clause-off
 returns-clause-off c = off-lost

@@ -1,12 +1,10 @@
-use Rattle.std.proofs.Common.{subst}
-use Rattle.boot_script.specs.Events.{event_from}
-use Rattle.boot_machine.specs.Serving.{served_event}
-use Rattle.boot_machine.specs.Standing.{Serves}
 use Rattle.boot_machine.proofs.machine.Machine.serve.Goals as goal
 
 pub returns : goal.returns
 returns g c = record {
-  serves = subst (λ parts. Serves g.B.Board.state g.B.Board.history parts
-      (λ content cpu host. served_event content cpu host (event_from c.args.event.now)) c.serve.result c.serve.new.parts
-      c.serve.new.line.bytes) c.self.view_is c.serve.ensures.serves;
+  serves = record {
+    outcome = c.answer-served.result.outcome;
+    serves = c.answer-served.ensures.serves;
+    told = c.set_outcome.ensures;
+  };
 }

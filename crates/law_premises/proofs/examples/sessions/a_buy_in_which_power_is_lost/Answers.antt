@@ -24,8 +24,10 @@ use Rattle.boot_rules.specs.Starts.{IsOfUnit}
 use Rattle.boot_rules.specs.Tables.{table_in}
 use Rattle.boot_rules.proofs.AccidentalImageLemmas.{empty-free}
 use Rattle.boot_script.specs.Events.{EventView}
+use Rattle.text_lines.specs.declared.outcome.EventOutcome.{EventOutcome}
+use Rattle.text_lines.specs.declared.outcome.EventOutcome.TheVariants.{PowerLost}
 use Rattle.boot_machine.specs.Machines.{MachineView}
-use Rattle.boot_machine.specs.Moves.{Moves, Plays, lost_text}
+use Rattle.boot_machine.specs.Moves.{Moves, Plays}
 use Rattle.boot_plays.specs.Plays.{IsTelling, moved_machine, played, powerless}
 use Rattle.law_boot_cuts.specs.Crashes.{IsUnitWindow}
 use Rattle.law_boot_cuts.specs.Examples.{whole_unit}
@@ -68,9 +70,9 @@ next : (moved_machine armed_machine EventView.Buy).next ≡ lost_machine
 unfolding moved_machine page_programs word_bytes
 next = refl
 
-text : (moved_machine armed_machine EventView.Buy).text ≡ lost_text
+told : (moved_machine armed_machine EventView.Buy).outcome ≡ PowerLost
 unfolding moved_machine page_programs word_bytes
-text = refl
+told = refl
 
 unit : IsOfUnit trial_flash Arm running_trial whole_unit
 unfolding table_in loop_of follow block_from block_at front_block item_words frame size_of word_of word_bytes
@@ -107,17 +109,17 @@ in-unit z v (inr other) = absurd (none-some v other)
 pub returns : goal.returns
 returns c =
     let moved = (c.told_moves_are_determined.ensures.moves armed_machine EventView.Buy telling-armed tt).0 in
-    let lost : Moves armed_machine EventView.Buy lost_machine lost_text =
-    subst (λ (n : MachineView). Moves armed_machine EventView.Buy n lost_text) next
-    (subst (λ (line : List ℕ). Moves armed_machine EventView.Buy (moved_machine armed_machine EventView.Buy).next line)
-    text moved) in
+    let lost : Moves armed_machine EventView.Buy lost_machine PowerLost =
+    subst (λ (n : MachineView). Moves armed_machine EventView.Buy n PowerLost) next
+    (subst (λ (outcome : EventOutcome). Moves armed_machine EventView.Buy (moved_machine armed_machine EventView.Buy).next
+    outcome) told moved) in
     record {
       run = record {
         events = events;
-        texts = (played start events).texts;
+        outcomes = (played start events).outcomes;
         fresh = tt;
         plays =
-            subst (λ (n : MachineView). Plays start events n (played start events).texts) last
+            subst (λ (n : MachineView). Plays start events n (played start events).outcomes) last
             (c.told_plays_are_determined.ensures.plays start events telling (tt, (tt, (no-bytes, tt))));
         runs = refl;
         trial = refl;

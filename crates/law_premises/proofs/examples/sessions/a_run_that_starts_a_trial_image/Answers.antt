@@ -38,10 +38,10 @@ last = refl
 pub returns : goal.returns
 returns c = record {
   events = events;
-  texts = (played start events).texts;
+  outcomes = (played start events).outcomes;
   fresh = tt;
   plays =
-      subst (λ (n : MachineView). Plays start events n (played start events).texts) last
+      subst (λ (n : MachineView). Plays start events n (played start events).outcomes) last
       (c.told_plays_are_determined.ensures.plays start events telling (tt, (tt, tt)));
   runs = refl;
   trial = refl;

@@ -1,9 +1,9 @@
--- The text of a move is that of an event, and what it tells is in the ranges of its fields.
-use Rattle.std.proofs.Common.{◌≡◌, ℕ, zero, suc, ◌+◌, ◌-◌, ◌*◌, ◌%◌, ◌^◌, ◌<◌, ◌≤◌, ◌==◌, Bool, true, false, List, [], ◌∷◌, ◌++◌, length, drop, Option, Some, None, Result, Ok, Err, refl, sym, ap, subst, ◌∙◌, inl, inr, arith, append_assoc, length-drop}
-use Rattle.std.specs.Prelude.{if◌then◌else◌, IfOk, All, codes, nat_le, not, is_some, slice_range}
+-- What the outcome of a move tells is in the ranges of its fields.
+use Rattle.std.proofs.Common.{◌≡◌, ℕ, zero, suc, ◌+◌, ◌-◌, ◌*◌, ◌%◌, ◌^◌, ◌<◌, ◌==◌, Bool, true, false, List, [], ◌∷◌, ◌++◌, length, drop, Option, Some, None, Result, Ok, Err, refl, sym, subst, inl, inr, arith, length-drop}
+use Rattle.std.specs.Prelude.{if◌then◌else◌, IfOk, All, nat_le, not, is_some, slice_range}
 use Rattle.std.specs.List.{AllByRecursion}
 use Rattle.std.specs.Result.{result_ok}
-use Rattle.std.proofs.lemmas.Bool.{eqb-true, leb-true}
+use Rattle.std.proofs.lemmas.Bool.{leb-true}
 use Rattle.pico_board.specs.declared.Step.{Step}
 use Rattle.pico_board.specs.declared.boot.BootKind.{BootKind}
 use Rattle.pico_board.specs.declared.boot.BootKind.TheVariants.{Normal}
@@ -21,7 +21,6 @@ use Rattle.image_check.specs.declared.why.Why.{Why}
 use Rattle.uf2_place.specs.declared.block.Uf2.{Uf2}
 use Rattle.uf2_place.specs.declared.block.Uf2Fault.{Uf2Fault}
 use Rattle.uf2_place.specs.declared.block.TheConstants.{PAYLOAD}
-use Rattle.uf2_place.specs.declared.answer.Accepted.TheVariants.{Done, Taken}
 use Rattle.uf2_place.specs.declared.answer.Ruling.{Ruling}
 use Rattle.uf2_place.specs.declared.answer.Ruling.TheVariants.{Answered, Begins, Continues}
 use Rattle.uf2_place.specs.Blocks.{has_magic, is_number, uf2_of, word_at}
@@ -29,10 +28,10 @@ use Rattle.uf2_place.specs.Placement.{grown, is_whole_download}
 use Rattle.picoboot_cmd.specs.declared.cmd.Cmd.{Cmd}
 use Rattle.picoboot_cmd.specs.declared.cmd.CmdFault.{CmdFault}
 use Rattle.picoboot_cmd.specs.declared.kinds.TheConstants.{MAGIC, OK, READ, REBOOT, OTP_READ}
-use Rattle.picoboot_cmd.specs.Arguments.{address, first_row, offset, reboot_flags, reboot_p0, reboot_p1, row_count, size}
+use Rattle.picoboot_cmd.specs.Arguments.{address, first_row, offset, reboot_p0, reboot_p1, row_count, size}
 use Rattle.picoboot_cmd.specs.Checks.{Check, check, checks, first_failing, status_of}
 use Rattle.picoboot_cmd.specs.Commands.{IsCommand, command_in, command_fields}
-use Rattle.picoboot_cmd.specs.Served.{ServedCommand as Command, boot_by, reply_of}
+use Rattle.picoboot_cmd.specs.Served.{ServedCommand as Command, reply_of}
 use Rattle.info_reply.specs.declared.ask.Ask.{Ask}
 use Rattle.info_reply.specs.declared.kinds.TheConstants.{BUFFER_TOO_SMALL, INFO, NOT_FOUND}
 use Rattle.info_reply.specs.Asks.{ask_in, asked_info, is_there, reply_checks}
@@ -48,35 +47,51 @@ use Rattle.boot_rules.specs.declared.decision.Decision.TheVariants.{Start, Boots
 use Rattle.boot_rules.specs.declared.tables.Found.{Found}
 use Rattle.boot_rules.specs.Choosing.{decision_in}
 use Rattle.boot_rules.specs.Chosen.{Chosen}
-use Rattle.boot_rules.specs.Targets.{is_executable, target_of}
+use Rattle.boot_rules.specs.Targets.{target_of}
 use Rattle.boot_rules.proofs.DecisionLemmas.{decision-chosen}
 use Rattle.boot_rules.proofs.StartLemmas.{start-placed, start-valid}
 use Rattle.boot_script.specs.Events.{EventView}
-use Rattle.text_lines.specs.Events.{IsDecided, IsReboot, IsShown, IsLine, Line, event_text}
-use Rattle.text_lines.specs.Texts.{accepted_text, command_text, decision_text, numbered_text, ram_start_text}
-use Rattle.text_lines.proofs.LengthLemmas.{length_event}
+use Rattle.sha2.specs.Sha256.{sha256}
+use Rattle.sha2.proofs.Facts256.{length-sha256}
+use Rattle.part_table.proofs.RoundTripLemmas.{sha256_is_bytes}
+use Rattle.text_lines.specs.Events.{IsAnswer, IsDecided, IsOutcome, IsShown, IsSum}
+use Rattle.text_lines.specs.Outcomes.{answer_of, answered, command_outcome, has_reply, reply_sum, with_boot}
+use Rattle.text_lines.specs.declared.outcome.CommandAnswer.{CommandAnswer}
+use Rattle.text_lines.specs.declared.outcome.CommandAnswer.TheVariants as answers
+use Rattle.text_lines.specs.declared.outcome.BlockOutcome.TheVariants as block_outcomes
+use Rattle.text_lines.specs.declared.outcome.EventOutcome.{EventOutcome}
+use Rattle.text_lines.specs.declared.outcome.EventOutcome.TheVariants as event_outcomes
+use Rattle.uf2_place.specs.declared.answer.PlaceFault.TheVariants.{NoTarget, NotPermitted, Outside, PowerLost as Lost}
 use Rattle.boot_machine.specs.Boots.{Effect}
 use Rattle.boot_machine.specs.Machines.{Host, MachineView, StateView, Off, InBootsel, Running, FromFlash, FromRam}
 use Rattle.boot_machine.specs.Moves.{Moves, effect, effect_in}
 use Rattle.boot_machine.specs.Ranges.{AreInRange, HasHostBytes, HasSram}
-use Rattle.boot_machine.specs.Serving.{ServedEvent, asked_target, block_served, blocks_of, command_served, device_of, followed_by, host_result, info_reply, info_status, info_words, ram_text, ruling_on, serves_host, serves_ram, served_event, table_slot_of, table_of_found, taken_in, uf2_served}
+use Rattle.boot_machine.specs.Serving.{ServedEvent, asked_target, block_served, blocks_of, command_served, device_of, followed_by, host_result, info_reply, info_status, info_words, ram_outcome, ruling_on, serves_host, serves_ram, served_event, table_slot_of, table_of_found, taken_in, uf2_served}
 use Rattle.boot_machine.proofs.InfoLemmas.{few-asked, few-refused, status-asked, status-refused}
 use Rattle.boot_machine.proofs.RamRunLemmas.{either}
 use Rattle.boot_machine.proofs.ReplyLemmas.{slice-few}
 use Rattle.boot_machine.proofs.ShownImageLemmas.{shown-flash, shown-valid}
 
--- a text is that of an event in range
-abbrev Tells : List ℕ → Type 0
-Tells text = (told : Line) × (text ≡ event_text told) × IsLine told
-
--- the text of what is served is that of an event in range, with the decision behind it of the boot that it asks for,
--- if it does
-abbrev Answers : Option BootKind → List ℕ → Type 0
-Answers None text = Tells text
-Answers (Some kind) text = (d : Decision) → IsDecided d → Tells ((text ++ codes " boot ") ++ decision_text d)
-
+-- what is served has an outcome in range, and so has the boot that it asks for
 abbrev Serves : ServedEvent → Type 0
-Serves s = Answers s.boot s.text
+Serves s = IsOutcome s.outcome
+
+-- a boot behind it too
+boot-told : (outcome : EventOutcome) (d : Decision) → IsOutcome outcome → IsDecided d → IsOutcome (with_boot outcome d)
+boot-told event_outcomes.Off d is shown = tt
+boot-told event_outcomes.Ignored d is shown = tt
+boot-told event_outcomes.Ended d is shown = tt
+boot-told event_outcomes.CutArmed d is shown = tt
+boot-told event_outcomes.PowerLost d is shown = tt
+boot-told (event_outcomes.Booted former) d is shown = is
+boot-told event_outcomes.Bought d is shown = tt
+boot-told event_outcomes.NothingToBuy d is shown = tt
+boot-told event_outcomes.BadMagic d is shown = tt
+boot-told (event_outcomes.Command c) d is shown = record { id = is.id; token = is.token; answer = shown }
+boot-told (event_outcomes.Block (block_outcomes.Accepted number accepted)) d is shown = (is, shown)
+boot-told (event_outcomes.Block (block_outcomes.BadForm fault)) d is shown = tt
+boot-told (event_outcomes.Block (block_outcomes.Refused refusal)) d is shown = tt
+boot-told (event_outcomes.Block (block_outcomes.Downloaded number former)) d is shown = is
 
 -- the decision of a content
 decided : (c : Content) (cpu : Cpu) (kind : BootKind) → IsContent c → IsDecided (decision_in c cpu kind)
@@ -87,9 +102,6 @@ decided c cpu kind right = by (decision_in c cpu kind) (decision-chosen c cpu ki
         shown-flash c choice.image.window cpu true choice.image right (start-placed c cpu kind choice right chosen)
         (start-valid c cpu kind choice chosen)
     by (Bootsel fall) chosen = tt
-
-boots : (d : Decision) → IsDecided d → Tells (codes "boot " ++ decision_text d)
-boots d shown = (Line.Boots d, refl, shown)
 
 -- statuses are small
 abbrev AreSmall : List Check → Type 0
@@ -164,23 +176,24 @@ block-read bytes all =
     (either IsNumbered (not (is_number (word_at bytes 20) (word_at bytes 24))) _ _ tt
     (number-lt bytes 20 (content-byte bytes all)))))
 
--- a command that is answered, and a reboot with the decision that follows
+-- the sum of a reply
+sum-told : (reply : List ℕ) → length reply < 2 ^ 32 → IsSum (reply_sum reply)
+sum-told reply short = record {
+  count = short;
+  long = length-sha256 reply;
+  bytes = all-from (sha256 reply) (sha256_is_bytes reply);
+}
+
+-- a command that is answered
 module _ (cmd : Cmd) (right : IsCommand cmd) where
-  answered : (status : ℕ) (reply : List ℕ) → status < 2 ^ 32 → length reply < 2 ^ 32
-      → Tells (command_text cmd status reply)
-  answered status reply few short = (Line.Answered cmd status reply, refl, (right, few, short))
+  told : (answer : CommandAnswer) → IsAnswer answer → IsOutcome (answered cmd answer)
+  told answer is = record { id = right.id; token = right.token; answer = is }
 
-  reboot : cmd.id ≡ REBOOT → IsReboot cmd
-  reboot id = record { command = right; id = id }
-
-  rebooted : (reply : List ℕ) → cmd.id ≡ REBOOT → reply ≡ [] → (d : Decision) → IsDecided d
-      → Tells ((command_text cmd OK reply ++ codes " boot ") ++ decision_text d)
-  rebooted reply id none d shown = (
-    Line.Rebooted cmd d,
-    ap (λ r. (command_text cmd OK r ++ codes " boot ") ++ decision_text d) none
-        ∙ append_assoc (command_text cmd OK []) (codes " boot ") (decision_text d),
-    (reboot id, shown),
-  )
+  told-answer : (status : ℕ) (reply : List ℕ) → status < 2 ^ 32 → length reply < 2 ^ 32
+      → IsOutcome (command_outcome cmd status reply)
+  told-answer status reply few short =
+      told (answer_of cmd.id status reply) (either IsAnswer (status == OK) _ _
+      (either IsAnswer (has_reply cmd.id) _ _ (sum-told reply short) tt) few)
 
 -- a command of the host
 module _ (c : Content) (host : Host) (cmd : Cmd) (payload : List ℕ) (content : IsContent c)
@@ -194,9 +207,6 @@ module _ (c : Content) (host : Host) (cmd : Cmd) (payload : List ℕ) (content :
   abbrev read_rows : List ℕ
   read_rows = bytes_of (slice_range c.otp (first_row cmd) (first_row cmd + row_count cmd))
 
-  no-reply : cmd.id ≡ REBOOT → reply_of c cmd ≡ []
-  no-reply id = ap (λ x. if x == READ then read_bytes else (if x == OTP_READ then read_rows else [])) id
-
   reply-few : length (reply_of c cmd) < 2 ^ 32
   reply-few =
       let flash = slice-few c.flash (offset cmd) (offset cmd + size cmd) in
@@ -208,21 +218,12 @@ module _ (c : Content) (host : Host) (cmd : Cmd) (payload : List ℕ) (content :
       (either (λ (r : List ℕ). length r < 2 ^ 32) (cmd.id == OTP_READ) _ _ (omega (arith, rows, long, count))
       (omega arith))
 
-  booting : (b : Bool) → (cmd.id == REBOOT) ≡ b
-      → Answers (if b then Some (boot_by (reboot_flags cmd) (reboot_p0 cmd)) else None)
-      (command_text cmd OK (reply_of c cmd))
-  booting true is =
-      let id : cmd.id ≡ REBOOT = eqb-true cmd.id REBOOT is in
-      λ d shown. rebooted cmd right (reply_of c cmd) id (no-reply id) d shown
-  booting false is = answered cmd right OK (reply_of c cmd) (omega arith) reply-few
-
   host-serves : Serves (serves_host c host cmd payload)
   host-serves =
       either (λ (r : Command). Serves (host_result host cmd r)) (status == 0) _ _
-      (booting (cmd.id == REBOOT) refl)
-      (answered cmd right status [] (host-small (length c.flash) c.otp (table_of_found host.found)
-      (is_some host.placing) cmd
-      payload) (omega arith))
+      (told-answer cmd right OK (reply_of c cmd) (omega arith) reply-few)
+      (told-answer cmd right status [] (host-small (length c.flash) c.otp (table_of_found host.found)
+      (is_some host.placing) cmd payload) (omega arith))
 
 -- a RAM command
 module _ (c : Content) (cpu : Cpu) (host : Host) (cmd : Cmd) (payload : List ℕ) (sram : IsSram host.ram)
@@ -242,9 +243,6 @@ module _ (c : Content) (cpu : Cpu) (host : Host) (cmd : Cmd) (payload : List ℕ
   abbrev ram_bytes : List ℕ
   ram_bytes = slice_range ram (address cmd - SRAM_START) (address cmd - SRAM_START + size cmd)
 
-  no-ram_reply : cmd.id ≡ REBOOT → ram_reply ram cmd ≡ []
-  no-ram_reply id = ap (λ x. if x == READ then ram_bytes else []) id
-
   ram_reply-few : length (ram_reply ram cmd) < 2 ^ 32
   ram_reply-few =
       let few = slice-few ram (address cmd - SRAM_START) (address cmd - SRAM_START + size cmd) in
@@ -262,26 +260,21 @@ module _ (c : Content) (cpu : Cpu) (host : Host) (cmd : Cmd) (payload : List ℕ
       (AreBytes-drop from ram (content-byte ram sram.bytes))) short base base short
       (answered-valid (in_ram (reboot_p0 cmd)) (ram_window (reboot_p0 cmd) range) cpu false c.otp range s is)
 
-  started : (o : Result Started Why) → ((s : Started) → o ≡ Ok s → IsShown s) → cmd.id ≡ REBOOT
-      → Tells (ram_text cmd 0 (ram_reply ram cmd) (result_ok o))
-  started (Ok s) shown id = (
-    Line.RamStarted cmd s,
-    ap (λ r. command_text cmd OK r ++ ram_start_text s) (no-ram_reply id),
-    (reboot cmd right id, shown s refl),
-  )
-  started (Err why) shown id = answered cmd right 0 (ram_reply ram cmd) (omega arith) ram_reply-few
+  started : (o : Result Started Why) → ((s : Started) → o ≡ Ok s → IsShown s)
+      → IsOutcome (ram_outcome cmd 0 (ram_reply ram cmd) (result_ok o))
+  started (Ok s) shown = told cmd right (answers.RamStarted s) (shown s refl)
+  started (Err why) shown = told-answer cmd right 0 (ram_reply ram cmd) (omega arith) ram_reply-few
 
-  starting : (b : Bool) → (cmd.id == REBOOT) ≡ b
-      → Tells (ram_text cmd 0 (ram_reply ram cmd) (if b then reboot_image c ram cpu cmd else None))
-  starting true is =
-      started (ram_image c range (reboot_p0 cmd) cpu) started-shown (eqb-true cmd.id REBOOT is)
-  starting false is = answered cmd right 0 (ram_reply ram cmd) (omega arith) ram_reply-few
+  starting : (b : Bool)
+      → IsOutcome (ram_outcome cmd 0 (ram_reply ram cmd) (if b then reboot_image c ram cpu cmd else None))
+  starting true = started (ram_image c range (reboot_p0 cmd) cpu) started-shown
+  starting false = told-answer cmd right 0 (ram_reply ram cmd) (omega arith) ram_reply-few
 
   ram-serves : Serves (serves_ram c cpu host cmd payload)
   ram-serves =
-      either (λ (r : RamServed). Tells (ram_text cmd r.status r.reply r.start)) (ram_answer == 0) _ _
-      (starting (cmd.id == REBOOT) refl)
-      (answered cmd right ram_answer [] (ram-small c ram cpu (is_some host.placing) cmd payload) (omega arith))
+      either (λ (r : RamServed). IsOutcome (ram_outcome cmd r.status r.reply r.start)) (ram_answer == 0) _ _
+      (starting (cmd.id == REBOOT))
+      (told-answer cmd right ram_answer [] (ram-small c ram cpu (is_some host.placing) cmd payload) (omega arith))
 
 -- an info command
 module _ (c : Content) (cpu : Cpu) (found : Option Found) (cmd : Cmd) (payload : List ℕ)
@@ -325,39 +318,24 @@ module _ (c : Content) (cpu : Cpu) (found : Option Found) (cmd : Cmd) (payload :
       subst (λ s. length (info_reply s c cpu found cmd) < 2 ^ 32) (status-refused c cpu found cmd payload status is)
       (few-refused c cpu found cmd payload status is)
 
-  info-tells : Tells (command_text cmd (info_status c cpu found cmd payload)
+  info-tells : IsOutcome (command_outcome cmd (info_status c cpu found cmd payload)
       (info_reply (info_status c cpu found cmd payload) c cpu found cmd))
   info-tells =
-      answered cmd right (info_status c cpu found cmd payload)
+      told-answer cmd right (info_status c cpu found cmd payload)
       (info_reply (info_status c cpu found cmd payload) c cpu found cmd) info-small
       (info-few (asked_info cmd payload) refl)
 
 -- a UF2 block
 module _ (host : Host) (b : Uf2) (number : b.number < 2 ^ 32) where
-  follow : (t : Target) → t.stay ≡ false → (d : Decision) → IsDecided d
-      → Tells ((accepted_text b.number (Done t) ++ codes " boot ") ++ decision_text d)
-  follow t is d shown = (
-    Line.Downloaded b.number d,
-    ap (λ (s : Bool). (numbered_text b.number (if s then codes "done stay" else codes "done") ++ codes " boot ")
-        ++ decision_text d) is
-        ∙ append_assoc (numbered_text b.number (codes "done")) (codes " boot ") (decision_text d),
-    (number, shown),
-  )
-
-  done-by : (t : Target) (stay executable : Bool) (one two : BootKind) → t.stay ≡ stay
-      → Answers (if stay then None else (if executable then Some one else Some two)) (accepted_text b.number (Done t))
-  done-by t true executable one two is = (Line.Placed b.number (Done t), refl, number)
-  done-by t false true one two is = follow t is
-  done-by t false false one two is = follow t is
-
   taken-serves : (t : Target) (blocks : List Uf2) (steps : List Step) → Serves (taken_in host t blocks b steps)
-  taken-serves t blocks steps =
-      either Serves (is_whole_download blocks) _ _ (done-by t t.stay (is_executable b.family) _ _ refl)
-      (Line.Placed b.number Taken, refl, number)
+  taken-serves t blocks steps = either Serves (is_whole_download blocks) _ _ number number
 
   block-serves : (r : Ruling) → Serves (block_served host b r)
-  block-serves (Answered (Ok accepted)) = (Line.Placed b.number accepted, refl, number)
-  block-serves (Answered (Err fault)) = (Line.Refused fault, refl, tt)
+  block-serves (Answered (Ok accepted)) = number
+  block-serves (Answered (Err NoTarget)) = tt
+  block-serves (Answered (Err Outside)) = tt
+  block-serves (Answered (Err NotPermitted)) = tt
+  block-serves (Answered (Err Lost)) = tt
   block-serves (Begins t) = taken-serves t (b ∷ []) (grown t [] (b ∷ []))
   block-serves (Continues t) =
       taken-serves t (blocks_of host.placing ++ b ∷ [])
@@ -378,32 +356,32 @@ module _ (c : Content) (cpu : Cpu) (host : Host) (content : IsContent c) (sram :
       either Serves (cmd.id == INFO) _ _ (info-tells c cpu host.found cmd payload right)
       (either Serves (is_ram_command cmd) _ _ (ram-serves c cpu host cmd payload sram right)
       (host-serves c host cmd payload content right))
-  command-serves (Err fault) payload right = (Line.BadMagic, refl, tt)
+  command-serves (Err fault) payload right = tt
 
   uf2-serves : (r : Result Uf2 Uf2Fault) → IsNumbered r → Serves (uf2_served c cpu host r)
   uf2-serves (Ok b) number =
       block-serves host b number (ruling_on (length c.flash) (table_of_found host.found)
       (target_of c (table_of_found host.found) cpu b.family) host.placing b)
-  uf2-serves (Err fault) number = (Line.BadForm fault, refl, tt)
+  uf2-serves (Err fault) number = tt
 
-  followed-tells : (s : ServedEvent) (boot : Option BootKind) → Answers boot s.text
-      → AreIn c (followed_by c cpu s boot).steps → Tells (followed_by c cpu s boot).text
+  followed-tells : (s : ServedEvent) (boot : Option BootKind) → Serves s
+      → AreIn c (followed_by c cpu s boot).steps → IsOutcome (followed_by c cpu s boot).outcome
   followed-tells s None tells all = tells
   followed-tells s (Some kind) tells all =
-      tells (decision_in (after_all c s.steps) cpu kind)
+      boot-told s.outcome (decision_in (after_all c s.steps) cpu kind) tells
       (decided (after_all c s.steps) cpu kind (IsContent-after_all c s.steps content
       (front (IsStepIn (length c.flash)) s.steps _ all)))
 
 place-tells : (c : Content) (cpu : Cpu) (place : StateView) (event : EventView) → IsContent c → HasSram place
-    → HasHostBytes event → AreIn c (effect_in c cpu place event).steps → Tells (effect_in c cpu place event).text
+    → HasHostBytes event → AreIn c (effect_in c cpu place event).steps → IsOutcome (effect_in c cpu place event).outcome
 place-tells c cpu Off EventView.PowerOn content sram bytes all =
-    boots (decision_in c cpu Normal) (decided c cpu Normal content)
-place-tells c cpu Off EventView.End content sram bytes all = (Line.Off, refl, tt)
-place-tells c cpu Off EventView.Buy content sram bytes all = (Line.Off, refl, tt)
-place-tells c cpu Off (EventView.Command command payload) content sram bytes all = (Line.Off, refl, tt)
-place-tells c cpu Off (EventView.Uf2 block) content sram bytes all = (Line.Off, refl, tt)
-place-tells c cpu Off (EventView.Cut left within pattern) content sram bytes all = (Line.Off, refl, tt)
-place-tells c cpu Off (EventView.Reset kind) content sram bytes all = (Line.Off, refl, tt)
+    decided c cpu Normal content
+place-tells c cpu Off EventView.End content sram bytes all = tt
+place-tells c cpu Off EventView.Buy content sram bytes all = tt
+place-tells c cpu Off (EventView.Command command payload) content sram bytes all = tt
+place-tells c cpu Off (EventView.Uf2 block) content sram bytes all = tt
+place-tells c cpu Off (EventView.Cut left within pattern) content sram bytes all = tt
+place-tells c cpu Off (EventView.Reset kind) content sram bytes all = tt
 place-tells c cpu (InBootsel host) (EventView.Command command payload) content sram bytes all =
     let s = served_event c cpu host (EventView.Command command payload) in
     followed-tells c cpu host content sram s s.boot
@@ -413,28 +391,28 @@ place-tells c cpu (InBootsel host) (EventView.Uf2 block) content sram bytes all 
     followed-tells c cpu host content sram s s.boot
     (uf2-serves c cpu host content sram (uf2_of block) (block-read block bytes)) all
 place-tells c cpu (InBootsel host) (EventView.Reset kind) content sram bytes all =
-    boots (decision_in c cpu kind) (decided c cpu kind content)
-place-tells c cpu (InBootsel host) EventView.End content sram bytes all = (Line.Ignored, refl, tt)
-place-tells c cpu (InBootsel host) EventView.PowerOn content sram bytes all = (Line.Ignored, refl, tt)
-place-tells c cpu (InBootsel host) EventView.Buy content sram bytes all = (Line.Ignored, refl, tt)
+    decided c cpu kind content
+place-tells c cpu (InBootsel host) EventView.End content sram bytes all = tt
+place-tells c cpu (InBootsel host) EventView.PowerOn content sram bytes all = tt
+place-tells c cpu (InBootsel host) EventView.Buy content sram bytes all = tt
 place-tells c cpu (InBootsel host) (EventView.Cut left within pattern) content sram bytes all =
-    (Line.Ignored, refl, tt)
+    tt
 place-tells c cpu (Running program) (EventView.Reset kind) content sram bytes all =
-    boots (decision_in c cpu kind) (decided c cpu kind content)
+    decided c cpu kind content
 place-tells c cpu (Running (FromFlash choice)) EventView.Buy content sram bytes all =
-    either (λ (e : Effect). Tells e.text) choice.image.trial _ _ (Line.BuyDone, refl, tt) (Line.BuyNone, refl, tt)
-place-tells c cpu (Running (FromRam image)) EventView.Buy content sram bytes all = (Line.BuyNone, refl, tt)
-place-tells c cpu (Running program) EventView.PowerOn content sram bytes all = (Line.Ignored, refl, tt)
-place-tells c cpu (Running program) EventView.End content sram bytes all = (Line.Ignored, refl, tt)
+    either (λ (e : Effect). IsOutcome e.outcome) choice.image.trial _ _ tt tt
+place-tells c cpu (Running (FromRam image)) EventView.Buy content sram bytes all = tt
+place-tells c cpu (Running program) EventView.PowerOn content sram bytes all = tt
+place-tells c cpu (Running program) EventView.End content sram bytes all = tt
 place-tells c cpu (Running program) (EventView.Command command payload) content sram bytes all =
-    (Line.Ignored, refl, tt)
-place-tells c cpu (Running program) (EventView.Uf2 block) content sram bytes all = (Line.Ignored, refl, tt)
+    tt
+place-tells c cpu (Running program) (EventView.Uf2 block) content sram bytes all = tt
 place-tells c cpu (Running program) (EventView.Cut left within pattern) content sram bytes all =
-    (Line.Ignored, refl, tt)
+    tt
 
-effect-tells : (m : MachineView) (event : EventView) → AreInRange m event → Tells (effect m event).text
-effect-tells m (EventView.Cut left within pattern) is = (Line.CutArmed, refl, tt)
-effect-tells m EventView.End is = (Line.Ended, refl, tt)
+effect-tells : (m : MachineView) (event : EventView) → AreInRange m event → IsOutcome (effect m event).outcome
+effect-tells m (EventView.Cut left within pattern) is = tt
+effect-tells m EventView.End is = tt
 effect-tells m (EventView.Command command payload) is =
     place-tells m.content m.cpu m.place (EventView.Command command payload) is.content is.sram is.bytes is.steps
 effect-tells m (EventView.Uf2 block) is =
@@ -446,15 +424,7 @@ effect-tells m (EventView.Reset kind) is =
 effect-tells m EventView.Buy is =
     place-tells m.content m.cpu m.place EventView.Buy is.content is.sram is.bytes is.steps
 
-pub move-tells : (m n : MachineView) (event : EventView) (text : List ℕ) → AreInRange m event → Moves m event n text
-    → (told : Line) × (text ≡ event_text told) × IsLine told
-move-tells m n event text is (inl done) = subst Tells (sym done.line) (effect-tells m event is)
-move-tells m n event text is (inr lost) = (Line.LostPower, lost.line, tt)
-
-pub move-fits : (m n : MachineView) (event : EventView) (text : List ℕ) → AreInRange m event → Moves m event n text
-    → length text ≤ 181
-move-fits m n event text is moves =
-    let tells = move-tells m n event text is moves in
-    let most = length_event tells.0 tells.2 in
-    let same : length text ≡ length (event_text tells.0) = ap length tells.1 in
-    omega (arith, most, same)
+pub move-tells : (m n : MachineView) (event : EventView) (outcome : EventOutcome) → AreInRange m event
+    → Moves m event n outcome → IsOutcome outcome
+move-tells m n event outcome is (inl done) = subst IsOutcome (sym done.told) (effect-tells m event is)
+move-tells m n event outcome is (inr lost) = subst IsOutcome (sym lost.told) tt
