@@ -9,3 +9,5 @@ mod OwnPickLemmas
 pub mod OwnDecisionLemmas
 pub mod OwnLaws
 pub mod ExampleLemmas
+pub mod ChosenLemmas
+pub mod RunLemmas

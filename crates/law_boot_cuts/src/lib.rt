@@ -1,6 +1,6 @@
 //! What a boot and a buy write, and what power that is lost in it leaves. This crate has no code
-//! of its own. The laws are on the steps of `trial_buy` and the decision of `boot_rules`. The
-//! machine and its sessions stand above.
+//! of its own. The laws are on the steps of `trial_buy` and the decision of `boot_rules`, and, of
+//! an image that runs, on the runs of `boot_machine`.
 #![tactic(auto)]
 
 pub mod examples;

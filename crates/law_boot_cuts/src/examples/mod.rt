@@ -1,6 +1,8 @@
 //! Worked contents on which power is lost in a boot's own writes. Each is the `ensures` of a
 //! function that does nothing.
 
+pub mod running;
+
 ghost use Rattle.std.specs.Prelude.{◌≡◌, false, true, None, IsSome};
 ghost use Rattle.law_boot_cuts.specs.Examples.{BothPick, BothStart, SectorHasNoAccidentalImage, hidden_table, last_unit, mapped_sector, rows_image, second_page, table_sector, three_images, three_raises, torn_sector, trial_sector, two_trials, whole_image};
 ghost use Rattle.worked_flashes.specs.Flashes.{bare_sector, one_sector, plain_sector, table_and_bare};

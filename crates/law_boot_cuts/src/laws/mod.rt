@@ -1,6 +1,8 @@
 //! Laws on power that is lost in what a boot or a buy writes. Each is a function that does
 //! nothing, whose contract is the law.
 
+pub mod running;
+
 ghost use Rattle.std.specs.Prelude.{◌≡◌, ◌≢◌, ◌⊎◌, ◌↔◌, ℕ, Contains, List, None, Some, false, true, slice_get};
 ghost use Rattle.block_codec.specs.Erased.{IsErasedFrom};
 ghost use Rattle.boot_rules.specs.Choosing.{boot_units_in};

@@ -8,7 +8,7 @@ ghost use Rattle.boot_sweep.specs.Verdicts.{IsBeside};
 ghost use Rattle.boot_plays.specs.Plays.{powerless};
 ghost use Rattle.boot_sweep.specs.Firms.{HasOwnDigests, covered_by};
 ghost use Rattle.image_check.specs.SameImage.{HoldsImage};
-ghost use Rattle.law_buy_cuts.specs.Running.{LosesBuy, RunsTrial};
+ghost use Rattle.law_boot_cuts.specs.Running.{LosesBuy, RunsTrial};
 ghost use Rattle.law_boot_cuts.specs.Examples.{whole_unit};
 ghost use Rattle.worked_flashes.specs.Choices.{running_trial};
 ghost use Rattle.boot_session.specs.Examples.{update_block};

@@ -31,7 +31,7 @@ use Rattle.boot_machine.specs.Moves.{Moves, Plays}
 use Rattle.boot_plays.specs.Plays.{IsTelling, moved_machine, played, powerless}
 use Rattle.law_boot_cuts.specs.Crashes.{IsUnitWindow}
 use Rattle.law_boot_cuts.specs.Examples.{whole_unit}
-use Rattle.law_buy_cuts.specs.Running.{buys}
+use Rattle.law_boot_cuts.specs.Running.{buys}
 use Rattle.worked_flashes.specs.Choices.{running_trial}
 use Rattle.worked_flashes.proofs.ContentLemmas.{all_below, content-by, torn-before}
 use Rattle.law_premises.specs.Examples.{armed_machine, first_program, lost_machine, trial_flash}

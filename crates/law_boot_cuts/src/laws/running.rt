@@ -1,5 +1,5 @@
-//! Laws on the own writes of an image that runs. Each is a function that does nothing, whose
-//! contract is the law.
+//! What the machine knows of an image that runs is enough for the laws on a boot's own writes. In
+//! every run these laws hold of each buy.
 
 ghost use Rattle.std.specs.Prelude.{◌≡◌, ◌≢◌, ◌⊎◌, ◌+◌, ℕ, List, Some, true};
 ghost use Rattle.pico_board.specs.Content.{Content, IsContent, flash_base};
@@ -25,10 +25,10 @@ ghost use Rattle.boot_machine.specs.Machines.{FromFlash, MachineView, Off, Runni
 ghost use Rattle.boot_machine.specs.Moves.{Moves};
 ghost use Rattle.text_lines.specs.declared.outcome.EventOutcome.{EventOutcome};
 ghost use Rattle.text_lines.specs.declared.outcome.EventOutcome.TheVariants.{PowerLost};
-ghost use Rattle.law_buy_cuts.specs.Running.{LosesBuy, RunsTrial, StandsValid, buys};
+ghost use Rattle.law_boot_cuts.specs.Running.{LosesBuy, RunsTrial, StandsValid, buys};
 
+use crate::laws::boots_own_writes;
 use boot_machine::laws::run::{a_running_trial_is_chosen, only_lost_power_says_so};
-use law_boot_cuts::laws::boots_own_writes;
 
 /// A boot chooses an updated image exactly where it is valid in a member of a boot unit, with a
 /// trial allowed, and flash boot is not off. The update boot of its window chooses it then. So the

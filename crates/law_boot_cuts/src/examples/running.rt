@@ -11,8 +11,8 @@ ghost use Rattle.boot_rules.specs.Chosen.{Chosen};
 ghost use Rattle.worked_flashes.specs.Images.{in_b};
 ghost use Rattle.worked_flashes.specs.Choices.{starts_b};
 ghost use Rattle.boot_rules.specs.declared.decision.Decision.TheVariants.{Start};
-ghost use Rattle.law_buy_cuts.specs.Examples.{trial_content};
-ghost use Rattle.law_buy_cuts.specs.Running.{StandsValid};
+ghost use Rattle.law_boot_cuts.specs.RunningExamples.{trial_content};
+ghost use Rattle.law_boot_cuts.specs.Running.{StandsValid};
 
 /// A trial of version 1.1 in B, next to version 1.0 in A. The trial is valid in its window, and
 /// the update boot of that window chooses it as updated. No boot chooses it as not updated. No

@@ -1,5 +1,5 @@
-use Rattle.law_buy_cuts.proofs.ChosenLemmas.{chosen-valid, valid-chosen}
-use Rattle.law_buy_cuts.proofs.laws.a_valid_updated_image_is_chosen.Goals as goal
+use Rattle.law_boot_cuts.proofs.ChosenLemmas.{chosen-valid, valid-chosen}
+use Rattle.law_boot_cuts.proofs.laws.running.a_valid_updated_image_is_chosen.Goals as goal
 
 pub returns-clause-valid : goal.returns-clause-valid
 returns-clause-valid k = valid-chosen

@@ -6,9 +6,9 @@ use Rattle.boot_rules.proofs.StartLemmas.{of-unit, start}
 use Rattle.boot_script.specs.Events.{EventView}
 use Rattle.law_boot_cuts.specs.Crashes.{settled_choice}
 use Rattle.text_lines.specs.declared.outcome.EventOutcome.TheVariants.{PowerLost}
-use Rattle.law_buy_cuts.specs.Running.{buys}
-use Rattle.law_buy_cuts.proofs.RunLemmas.{buy-cut, is-done, next-place}
-use Rattle.law_buy_cuts.proofs.laws.a_buy_that_loses_power.Goals as goal
+use Rattle.law_boot_cuts.specs.Running.{buys}
+use Rattle.law_boot_cuts.proofs.RunLemmas.{buy-cut, is-done, next-place}
+use Rattle.law_boot_cuts.proofs.laws.running.a_buy_that_loses_power.Goals as goal
 
 pub returns-clause-steps : goal.returns-clause-steps
 returns-clause-steps k = λ m n o choice run moves.

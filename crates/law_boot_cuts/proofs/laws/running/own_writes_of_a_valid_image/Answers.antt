@@ -1,8 +1,8 @@
 use Rattle.std.proofs.Common.{◌+◌}
 use Rattle.pico_board.specs.Content.{flash_base}
 use Rattle.pico_board.specs.declared.boot.BootKind.TheVariants.{Update}
-use Rattle.law_buy_cuts.proofs.ChosenLemmas.{valid-chosen}
-use Rattle.law_buy_cuts.proofs.laws.own_writes_of_a_valid_image.Goals as goal
+use Rattle.law_boot_cuts.proofs.ChosenLemmas.{valid-chosen}
+use Rattle.law_boot_cuts.proofs.laws.running.own_writes_of_a_valid_image.Goals as goal
 
 pub returns-clause-pick : goal.returns-clause-pick
 returns-clause-pick k = λ c cpu choice u steps place step d right is are at no_accident.

@@ -17,9 +17,9 @@ use Rattle.block_codec.specs.Blocks.{frame}
 use Rattle.block_codec.specs.Reading.{block_at, front_block, item_words}
 use Rattle.block_codec.specs.Items.{size_of}
 use Rattle.block_codec.specs.Words.{word_of, word_bytes}
-use Rattle.law_buy_cuts.specs.Examples.{trial_content}
-use Rattle.law_buy_cuts.proofs.ChosenLemmas.{start-on}
-use Rattle.law_buy_cuts.proofs.examples.valid_and_chosen.Goals as goal
+use Rattle.law_boot_cuts.specs.RunningExamples.{trial_content}
+use Rattle.law_boot_cuts.proofs.ChosenLemmas.{start-on}
+use Rattle.law_boot_cuts.proofs.examples.running.valid_and_chosen.Goals as goal
 
 pub returns-clause-valid : goal.returns-clause-valid
 unfolding table_in decision_in image_in def_of loop_of follow block_from block_at front_block item_words frame size_of

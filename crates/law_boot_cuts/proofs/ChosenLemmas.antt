@@ -25,7 +25,7 @@ use Rattle.boot_rules.specs.Tables.{table_in}
 use Rattle.boot_rules.proofs.PlaceLemmas.{boot-unit-members, table-sound}
 use Rattle.boot_rules.proofs.StartLemmas.{boot-pair-apart, is-member, of-unit, start, start-valid}
 use Rattle.slot_choice.proofs.PlaceLemmas.{units-apart}
-use Rattle.law_buy_cuts.specs.Running.{StandsValid}
+use Rattle.law_boot_cuts.specs.Running.{StandsValid}
 
 -- windows that start at one place are not apart
 one-start : (v w : Window) → 4096 ≤ v.len → 4096 ≤ w.len → v.start ≡ w.start → AreApart v w → ⊥

@@ -1,8 +1,8 @@
 use Rattle.std.proofs.Common.{refl}
 use Rattle.boot_script.specs.Events.{EventView}
 use Rattle.text_lines.specs.declared.outcome.EventOutcome.TheVariants.{PowerLost}
-use Rattle.law_buy_cuts.proofs.RunLemmas.{reset-cut}
-use Rattle.law_buy_cuts.proofs.laws.a_reset_that_loses_power.Goals as goal
+use Rattle.law_boot_cuts.proofs.RunLemmas.{reset-cut}
+use Rattle.law_boot_cuts.proofs.laws.running.a_reset_that_loses_power.Goals as goal
 
 pub returns : goal.returns
 returns k = λ m o kind choice on chosen moves.

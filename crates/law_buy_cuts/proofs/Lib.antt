@@ -1,2 +1,0 @@
-pub mod ChosenLemmas
-pub mod RunLemmas

@@ -1,3 +1,0 @@
--- These definitions are this project's own, except where a comment names a public source.
-pub mod Running
-pub mod Examples
