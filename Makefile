@@ -63,7 +63,7 @@ test:
 	@python3 tools/rows.py run
 
 prove:
-	@echo 'With nothing kept this takes $(PROVE_TIME). What passes is a kept proof: it is kept on'
+	@echo 'With nothing kept this takes $(PROVE_TIME). With the kit 13f what passes is kept on'
 	@echo 'this machine by the checksums of all that was read, so that the next run proves only what'
 	@echo 'changed and the crates above it. Each test and each program is run every time.'
 	rt ci

@@ -14,10 +14,10 @@ calls one that is not, is tried once more, alone, and only that says that it is 
 of definitions, of several functions, and of what is no function are tried alone at once.
 
 The crates are checked as they stand first, side by side, in copies of the checkout (rooms), one a
-processor; rt gives each what the others have kept, and the rooms stay, so that the next run checks
-only what changed. Then the edits are tried side by side, over what was kept: each check sees its
-crate's room at the room's own path through an overlay that is thrown away. Where no overlay may be
-mounted, a room has one check at a time, and its files are put back.
+processor. Each room takes the libraries that the others have built, and the rooms stay, so that the
+next run checks only what changed. Then the edits are tried side by side, over what was kept: each
+check sees its crate's room at the room's own path through an overlay that is thrown away. Where no
+overlay may be mounted, a room has one check at a time, and its files are put back.
 
 The last line is `N refused, M let through, K not applied`; the status is 1 where one is let through
 or does not apply. An edit that is refused in a lemma alone, or since a proof names what it takes
@@ -222,6 +222,16 @@ class Room:
             for path in (it for it in paths if os.path.relpath(it, self.root) not in wanted):
                 os.remove(path)
 
+    def take(self, name, home):
+        """Shares the library of a crate that another room has built, by links."""
+        built, mine = (os.path.join(it.crate(name), "out", "rlib") for it in (home, self))
+        stamps = [os.path.join(it, "stamp") for it in (built, mine)]
+        if home is self or not os.path.isfile(stamps[0]):
+            return
+        if not os.path.isfile(stamps[1]) or read(stamps[0]) != read(stamps[1]):
+            shutil.rmtree(mine, ignore_errors=True)
+            shutil.copytree(built, mine, copy_function=os.link)
+
 
 def copy_changed(one, other):
     if os.path.isfile(other) and filecmp.cmp(one, other, shallow=False):
@@ -267,7 +277,11 @@ class Checks:
         return lines_of(crate) + max(map(self.weight, users), default=0)
 
     def check(self, crate, room):
+        for low in below([crate], self.listed) - {crate}:
+            room.take(low, self.homes[low])
         status, said = run(["rt", "check", "--jobs", "1"], room.crate(crate))
+        if status == 0 and os.path.isfile(os.path.join(room.crate(crate), "src", "lib.rt")):
+            status, said = run(["rt", "lib"], room.crate(crate))
         return crate, room, status, said
 
     def note(self, crate, room, status, said):

@@ -1,0 +1,3 @@
+mod ValueLemmas
+pub mod RuleLemmas
+pub mod VerdictLemmas

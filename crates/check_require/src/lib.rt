@@ -1,0 +1,28 @@
+//! What a team asks of an update: a JSON text, and which of its members an update does not meet.
+//! The texts and the conditions are this project's own.
+#![tactic(auto)]
+
+mod caveats;
+pub mod examples;
+mod forms;
+pub mod laws;
+mod meeting;
+mod members;
+mod reading;
+mod report;
+mod requirement;
+
+pub use caveats::{CAVEAT_NAMES, CaveatName};
+pub use meeting::{Verdict, is_met, unmet, verdict_on};
+pub use members::{MEMBERS, Member};
+pub use reading::require_of;
+pub use report::{
+    CaveatFound, ClassCounts, CutClass, DataFound, DataOwner, DataWritten, ImageEffect,
+    LawOfWrites, Report, SessionLaw, StartFound, Writer, WrittenFound,
+};
+pub use requirement::{
+    Allowance, AllowedCaveat, Require, RequireFault, SessionAsk, VersionAsk, WantedEffect,
+};
+
+#[cfg(test)]
+mod tests;
