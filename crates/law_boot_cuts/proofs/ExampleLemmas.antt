@@ -1,13 +1,7 @@
 -- For the worked flash of three images: its raises, and the members of its units.
-use Rattle.std.proofs.Common.{◌≡◌, ℕ, zero, suc, ◌%◌, ◌*◌, ◌^◌, ◌<◌, Bool, true, false, ◌&&◌, List, [], ◌∷◌, length, refl, sym, subst, ap, ◌∙◌, Some, None, arith, inl}
-use Rattle.std.specs.Prelude.{All, Contains, nat_lt, nat_le, slice_index_or}
-use Rattle.std.specs.List.{AllByRecursion}
-use Rattle.std.proofs.lemmas.Bool.{ltb-true, leb-true}
-use Rattle.std.proofs.lemmas.List.Elements.{All-from_recursion}
-use Rattle.pico_board.specs.declared.Step.TheVariants.{Program, Raise}
-use Rattle.pico_board.specs.Content.{Content, IsContent, IsFlashLength}
-use Rattle.pico_board.specs.Steps.{Torn}
-use Rattle.pico_board.proofs.TornStepLemmas.{SameOutside-refl}
+use Rattle.std.proofs.Common.{◌≡◌, ℕ, zero, suc, ◌<◌, ap, ◌∙◌, Some, None, arith}
+use Rattle.std.specs.Prelude.{Contains, slice_index_or}
+use Rattle.pico_board.specs.declared.Step.TheVariants.{Raise}
 use Rattle.slot_choice.specs.declared.unit.Member.{Member}
 use Rattle.slot_choice.specs.declared.unit.Member.TheVariants.{A, B}
 use Rattle.slot_choice.specs.declared.unit.SlotUnit.{SlotUnit}

@@ -1,21 +1,15 @@
 -- Which images stay where rows rise.
-use Rattle.std.proofs.Common.{◌≡◌, ℕ, ◌*◌, ◌/◌, Bool, length, Option, refl, sym, ap, ◌∙◌, subst, option_map}
+use Rattle.std.proofs.Common.{◌≡◌, Bool, sym, subst}
 use Rattle.pico_board.specs.declared.boot.Cpu.{Cpu}
 use Rattle.pico_board.specs.declared.window.Window.{Window}
 use Rattle.pico_board.specs.Content.{Content, window_bytes}
 use Rattle.image_def.specs.declared.started.Started.{Started}
-use Rattle.otp_roll.specs.Flags.{slot_size}
 use Rattle.otp_roll.specs.Rows.{Rises}
 use Rattle.image_check.specs.Addressing.{in_flash}
 use Rattle.image_check.specs.NotBelow.{NotBelow}
 use Rattle.image_check.specs.Valid.{IsValidImage, Valid}
 use Rattle.image_check.proofs.LawLemmas.{not-below}
 use Rattle.image_check.proofs.RollbackLemmas.{raised-below, valid-elsewhere}
-use Rattle.slot_choice.specs.Units.{units}
-use Rattle.boot_rules.specs.declared.tables.Found.{Found}
-use Rattle.boot_rules.specs.Choosing.{boot_units_in}
-use Rattle.boot_rules.specs.Tables.{found_of, slot_window, table_in}
-use Rattle.boot_rules.proofs.TableLemmas.{slot_table}
 
 -- an image stays where the bytes of its window do and it is not below the rows
 pub image-kept : (c d : Content) (w : Window) (cpu : Cpu) (trial : Bool) (s : Started)

@@ -1,5 +1,5 @@
 -- What a normal boot decides where power is lost in a start's or a buy's writes.
-use Rattle.std.proofs.Common.{◌≡◌, ◌≢◌, ◌⊎◌, ℕ, zero, suc, ◌/◌, ◌≤◌, Bool, true, false, List, [], ◌∷◌, ◌++◌, length, slice_get, Option, Some, None, refl, sym, ap, ◌∙◌, subst, arith, inl, inr, option_and_then}
+use Rattle.std.proofs.Common.{◌≡◌, ◌≢◌, ◌⊎◌, ℕ, zero, suc, ◌≤◌, Bool, true, false, List, [], ◌∷◌, ◌++◌, length, slice_get, Option, Some, None, refl, sym, ap, ◌∙◌, subst, arith, inl, inr, option_and_then}
 use Rattle.std.specs.Prelude.{IfSome, if◌then◌else◌}
 use Rattle.std.specs.Option.{option_or}
 use Rattle.std.proofs.lemmas.Bool.{cases_eq}
@@ -14,7 +14,6 @@ use Rattle.pico_board.specs.Content.{AreApart, Content, IsContent, window_bytes}
 use Rattle.image_def.specs.declared.started.Started.{Started}
 use Rattle.otp_roll.specs.Flags.{flash_off, slot_size}
 use Rattle.otp_roll.specs.Rows.{AreRollbackRows, count}
-use Rattle.part_table.specs.declared.table.Table.{Table}
 use Rattle.image_check.specs.Addressing.{in_flash}
 use Rattle.image_check.specs.NotBelow.{NotBelow}
 use Rattle.image_check.specs.Valid.{Valid}
@@ -23,8 +22,7 @@ use Rattle.slot_choice.specs.declared.unit.Member.{Member}
 use Rattle.slot_choice.specs.declared.unit.Member.TheVariants.{A, B}
 use Rattle.slot_choice.specs.declared.unit.SlotUnit.{SlotUnit}
 use Rattle.slot_choice.specs.declared.choice.Choice.{Choice}
-use Rattle.slot_choice.specs.Units.{IsMember, IsSoundFor, member_window, tableless_unit, units}
-use Rattle.slot_choice.proofs.PlaceLemmas.{boot_units_apart}
+use Rattle.slot_choice.specs.Units.{IsMember, member_window}
 use Rattle.trial_buy.specs.Starting.{image_raises, other_erase}
 use Rattle.boot_rules.specs.declared.decision.Decision.{Decision}
 use Rattle.boot_rules.specs.declared.decision.Decision.TheVariants.{Start, Bootsel}

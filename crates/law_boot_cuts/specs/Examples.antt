@@ -1,6 +1,6 @@
 -- Worked contents on which power is lost in a boot's own writes, worked out by hand from the
 -- rules.
-use Rattle.std.specs.Prelude.{ℕ, ◌+◌, ◌*◌, Bool, true, false, List, [], ◌∷◌, ◌++◌, replicate, take, Some, None}
+use Rattle.std.specs.Prelude.{ℕ, ◌+◌, ◌*◌, Bool, false, List, [], ◌∷◌, ◌++◌, replicate, take, Some, None}
 use Rattle.block_codec.specs.Words.{bytes_of}
 use Rattle.worked_flashes.specs.Images.{plain_image}
 use Rattle.image_def.specs.declared.started.Started.{Started}
@@ -14,9 +14,7 @@ use Rattle.worked_flashes.specs.Tables.{sectors, three_parts}
 use Rattle.slot_choice.specs.Examples.{window_at}
 use Rattle.trial_buy.specs.Buying.{cleared_sector, page_program}
 use Rattle.worked_flashes.specs.Flashes.{framed, region, rows_with}
-use Rattle.worked_flashes.specs.Choices.{starts_alone}
 use Rattle.law_boot_cuts.specs.Crashes.{PicksBought, StartsBought}
-use Rattle.slot_choice.specs.declared.choice.Choice.{Choice}
 use Rattle.slot_choice.specs.Units.{whole_flash}
 use Rattle.boot_rules.specs.AccidentalImages.{HasNoAccidentalImage}
 use Rattle.pico_board.specs.declared.boot.Cpu.TheVariants.{Arm}
