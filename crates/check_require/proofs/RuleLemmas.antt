@@ -11,7 +11,7 @@ use Rattle.check_require.specs.declared.requirement.RequireFault.{RequireFault}
 use Rattle.check_require.specs.declared.requirement.RequireFault.TheVariants.{NotJson, Memory, Unknown, Value}
 use Rattle.check_require.specs.Forms.{allowances_form, allowed_caveats_form, effect_form, session_form, version_form}
 use Rattle.check_require.specs.Members.{has_unknown, member_name}
-use Rattle.check_require.specs.Requires.{RequireView, asked, asked_in, default_require, object_judged, object_judged_as, require_of_value, require_with}
+use Rattle.check_require.specs.Requires.{asked, asked_in, object_judged_as, require_of_value}
 use Rattle.check_require.specs.Rules.{Rule, first_broken, member_rule, require_rules, rule}
 use Rattle.check_require.specs.Steps.{◌>>=◌}
 

@@ -1,5 +1,5 @@
 -- When each member of what is asked is met, and the verdict.
-use Rattle.std.specs.Prelude.{ℕ, Bool, true, false, not, ◌&&◌, ◌||◌, ◌==◌, if◌then◌else◌, List, [], ◌∷◌, Option, None, Some, filter}
+use Rattle.std.specs.Prelude.{Bool, true, false, not, ◌&&◌, ◌||◌, ◌==◌, if◌then◌else◌, List, Option, None, Some, filter}
 use Rattle.std.specs.List.{list_all, list_any}
 use Rattle.check_require.specs.declared.meeting.Verdict.{Verdict}
 use Rattle.check_require.specs.declared.meeting.Verdict.TheVariants.{Passed, Mixed as StartsMixed, Unbootable, Refused, NoEffect, Unmet}
@@ -7,14 +7,14 @@ use Rattle.check_require.specs.declared.members.Member.{Member}
 use Rattle.check_require.specs.declared.members.Member.TheVariants.{Effect, Records, Written, Keep, Data, Cuts, Version, Fallback, Again, Covered, Hash, NoRows, Session, Boot, Buy, Caveats}
 use Rattle.check_require.specs.declared.report.CaveatFound.{CaveatFound}
 use Rattle.check_require.specs.declared.report.CutClass.{CutClass}
-use Rattle.check_require.specs.declared.report.CutClass.TheVariants.{Former as OfFormer, Finished as OfFinished, Whole as OfWhole, Tail as OfTail, Mixed as OfMixed, Bootsel as OfBootsel}
+use Rattle.check_require.specs.declared.report.CutClass.TheVariants.{Whole as OfWhole, Tail as OfTail, Mixed as OfMixed, Bootsel as OfBootsel}
 use Rattle.check_require.specs.declared.report.DataFound.{DataFound}
 use Rattle.check_require.specs.declared.report.DataOwner.{DataOwner}
 use Rattle.check_require.specs.declared.report.DataOwner.TheVariants.{Both, Former, End}
 use Rattle.check_require.specs.declared.report.DataWritten.{DataWritten}
 use Rattle.check_require.specs.declared.report.DataWritten.TheVariants.{Yes, No, Torn}
 use Rattle.check_require.specs.declared.report.ImageEffect.{ImageEffect}
-use Rattle.check_require.specs.declared.report.ImageEffect.TheVariants.{Unchanged, New, Up as GoesUp, Same as StaysSame, Down}
+use Rattle.check_require.specs.declared.report.ImageEffect.TheVariants.{Unchanged, New, Up as GoesUp, Same as StaysSame}
 use Rattle.check_require.specs.declared.report.LawOfWrites.{LawOfWrites}
 use Rattle.check_require.specs.declared.report.LawOfWrites.TheVariants.{Silent as NoWrites, Kept, Open as OpenWrites}
 use Rattle.check_require.specs.declared.report.SessionLaw.{SessionLaw}
@@ -27,7 +27,7 @@ use Rattle.check_require.specs.declared.requirement.AllowedCaveat.{AllowedCaveat
 use Rattle.check_require.specs.declared.requirement.Allowance.{Allowance}
 use Rattle.check_require.specs.declared.requirement.Allowance.TheVariants.{Whole, Tail, Mixed, Bootsel, Raising}
 use Rattle.check_require.specs.declared.requirement.SessionAsk.{SessionAsk}
-use Rattle.check_require.specs.declared.requirement.SessionAsk.TheVariants.{Staged, Gated, Confined, Any as AnyLaw}
+use Rattle.check_require.specs.declared.requirement.SessionAsk.TheVariants.{Staged, Confined, Any as AnyLaw}
 use Rattle.check_require.specs.declared.requirement.VersionAsk.{VersionAsk}
 use Rattle.check_require.specs.declared.requirement.VersionAsk.TheVariants.{Up, Same, Any}
 use Rattle.check_require.specs.declared.requirement.WantedEffect.{WantedEffect}

@@ -1,5 +1,5 @@
 -- The members of a text that says what is asked of an update, in their order.
-use Rattle.std.specs.Prelude.{ℕ, Bool, false, ◌||◌, not, List, [], ◌∷◌, map, codes, bytes_eq}
+use Rattle.std.specs.Prelude.{ℕ, Bool, false, ◌||◌, not, List, [], ◌∷◌, codes, bytes_eq}
 use Rattle.std.specs.List.{list_any}
 use Rattle.serde_json.specs.Data.{Members, no_members, member}
 use Rattle.check_require.specs.declared.members.Member.{Member}
