@@ -23,6 +23,3 @@ pub use report::{
 pub use requirement::{
     Allowance, AllowedCaveat, Require, RequireFault, SessionAsk, VersionAsk, WantedEffect,
 };
-
-#[cfg(test)]
-mod tests;

@@ -1,7 +1,7 @@
 //! Tests of the call that can want memory, with enough of it. The texts and what they ask were
 //! worked out by hand.
 
-use crate::{
+use check_require::{
     Allowance, AllowedCaveat, CaveatName, Member, Require, RequireFault, SessionAsk, VersionAsk,
     WantedEffect, require_of,
 };
