@@ -49,7 +49,7 @@ slot|slot {} fault={}|slots|table {} partitions={} singleton={}|table slot={} be
 unit {} not-reached|unit {} takes|updated|version|w|whole
 {} {} to {}|{} to {}|chart steps={} former={} finished={} chance={}|steps|steps 0 to {}|within
 {} starts|free|map windows={}|partition {} name={} families={}
-caveat {name} {}|caveat {name} partition={}|{} {} bytes={}|{} {}{}|{} rows={}|cmd 0x|load|plan|neither|s
+caveat {name} {}|caveat {name} partition={}|caveat {name} {} at={}|{} {} bytes={}|{} {}{}|{} rows={}|cmd 0x|load|plan|neither|s
 {}{}{}|cuts former={} finished={} bootsel={} other={}|former {}end {}effect {}|image hash={}|image none
 law confined|law gated|records ok|rows raised={}{}{}
 """
@@ -88,6 +88,7 @@ def code_texts(files):
         if file == CAVEATS:
             code = re.sub(r'window_text\(alloc, "', '("caveat ', code)
             code = re.sub(r'partition_text\(alloc, "([^"]*)"', r'("caveat \1 partition={}"', code)
+            code = re.sub(r'block_text\(alloc, "([^"]*)"', r'("caveat \1 {} at={}"', code)
         if file == JSON:
             faults = re.findall(r'TableFault::\w+.*?"([^"]*)"', code)
             code += "".join(f'"table {it}"\n' for it in faults)

@@ -8,6 +8,7 @@ pub mod OtpLemmas
 pub mod TableCaveatLemmas
 pub mod ChoiceCaveatLemmas
 pub mod PartLemmas
+pub mod SlotLemmas
 pub mod StartCaveatLemmas
 pub mod ImageCaveatLemmas
 pub mod CaveatLemmas

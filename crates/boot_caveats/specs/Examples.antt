@@ -107,3 +107,17 @@ arm_word = 0x10210142
 
 abbrev pub riscv_word : ℕ
 riscv_word = 0x11010142
+
+-- a sector that begins with a block of these item words, a loop of its own
+abbrev pub table_sector : List ℕ → List ℕ
+table_sector items = region 0x1000 (framed items 0)
+
+-- flashes of 24 KiB: the loop of an image begins at 0x100, and its second block stands at 0x2100;
+-- the first one's link leads this far
+abbrev pub across : ℕ → List ℕ
+across link =
+    region 0x100 [] ++ (region 0x2000 (framed (0x10210142 ∷ []) link)
+    ++ region 0x3f00 (framed (0x00000101 ∷ []) 0xffffe000))
+
+abbrev pub six_sectors : List ℕ → Content
+six_sectors bytes = record { flash = bytes; otp = rows_with 0 1 }

@@ -8,11 +8,14 @@ pub mod ChoiceCaveats
 pub mod ChoiceRules
 pub mod PartCaveats
 pub mod PartRules
+pub mod SlotCaveats
+pub mod SlotRules
 pub mod StartCaveats
 pub mod StartRules
 pub mod ImageCaveats
 pub mod ImageRules
 pub mod Reads
+pub mod Sought
 pub mod Caveats
 pub mod Rules
 pub mod Alternatives

@@ -13,6 +13,7 @@ use Rattle.boot_caveats.specs.OtpRules.{AreCriticalCaveats, AreOtpCaveats, IsSho
 use Rattle.boot_caveats.specs.TableRules.{AreUnread, IsShortFlash, IsTableTie}
 use Rattle.boot_caveats.specs.ChoiceRules.{AreSlotImages, IsOtherProcessor, IsTie, IsUpdateMovesUnit, IsUpdateOfNothing, IsUpdateOfSlot}
 use Rattle.boot_caveats.specs.PartRules.{AreIgnoreFlags, AreNoReads}
+use Rattle.boot_caveats.specs.SlotRules.{AreSlotCaveats}
 use Rattle.boot_caveats.specs.StartRules.{AreRowCaveats, IsTableInImage}
 use Rattle.boot_caveats.specs.ImageRules.{AreItemOrders, AreLateFirsts, AreMayStarts, AreOwnedImages}
 
@@ -42,13 +43,14 @@ AreWindowCaveats c cpu r =
     (AreBoth (AreOwnedImages c cpu (table_of_reasons r))
     (AreBoth (AreUnread (table_of_reasons r)) (IsTableTie r.first r.second)))))
 
--- critical flags, flags and rights of partitions, and an update of nothing
+-- what stands in the slots, critical flags, flags and rights of partitions, and an update of nothing
 abbrev pub AreLastCaveats : Content → Cpu → BootKind → Reasons → List Caveat → Type 0
 AreLastCaveats c cpu kind r =
-    AreBoth (AreCriticalCaveats c.otp)
+    AreBoth (AreSlotCaveats c r.size r.first r.second)
+    (AreBoth (AreCriticalCaveats c.otp)
     (AreBoth (AreIgnoreFlags (table_of_reasons r))
     (AreBoth (AreNoReads r.decision (table_of_reasons r))
-    (IsUpdateOfNothing c kind (boot_units_in c cpu))))
+    (IsUpdateOfNothing c kind (boot_units_in c cpu)))))
 
 -- the caveats of the answer of a boot; its reasons are those that the rules name: decision, slots,
 -- table of the flash, and units that are looked at

@@ -3,6 +3,7 @@
 ghost use Rattle.std.specs.Prelude.{◌≡◌, ◌++◌, OnOk, option_to_list};
 
 use image_check::Why;
+use part_table::TableFault;
 use pico_board::Window;
 use std::alloc::{AllocError, Global};
 
@@ -55,6 +56,15 @@ pub enum Caveat {
     UnreadSide(u32),
     /// The two slots have different tables of one version.
     TableTie,
+    /// There is a table, and this slot has an image.
+    ImageInSlot(u32),
+    /// The loop of this slot is broken at the block at this offset, whose link leads to a block
+    /// behind the slot.
+    SlotEnd(Window, u32),
+    /// The table of this slot has this fault, by which the chip may not judge.
+    FaultyTable(u32, TableFault),
+    /// The block of this slot's table does not begin with its PARTITION_TABLE item.
+    TableOrder(u32),
     /// At least three of the eight copies of this row have these bits, which are not read.
     RawCritical(u16, u32),
     /// This partition is the B of a pair, and its ignore flags differ from those of its A.

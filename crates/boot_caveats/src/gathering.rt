@@ -14,6 +14,7 @@ use crate::choices::{
 use crate::images::{add_item_orders, add_late_firsts, add_may_starts, add_owned_images};
 use crate::otp::{add_critical, add_otp, short_slots};
 use crate::parts::{add_ignore_flags, add_no_reads};
+use crate::slots::add_slots;
 use crate::starts::{add_rows, table_in_image};
 use crate::tables::{add_unread, short_flash, table_tie};
 use boot_reasons::{Reasons, gather, taken_table};
@@ -104,8 +105,8 @@ fn add_windows<B: Board>(
     add(list, table_tie(&reasons.first, &reasons.second))
 }
 
-/// Adds the caveats of critical flags, of flags and rights of partitions, and of an update of
-/// nothing.
+/// Adds the caveats of what stands in the slots, of critical flags, of flags and rights of
+/// partitions, and of an update of nothing.
 fn add_last<B: Board>(
     board: &B,
     reasons: &Reasons,
@@ -118,6 +119,14 @@ fn add_last<B: Board>(
     ensures { OnOk result (list.new.items ≡ list.old.items
         ++ last_caveats (B.state board.now).content cpu kind reasons.now) }
 {
+    add_slots(
+        board,
+        reasons.size,
+        reasons.table,
+        &reasons.first,
+        &reasons.second,
+        list,
+    )?;
     add_critical(board, list)?;
     let table = taken_table(reasons.table, &reasons.first, &reasons.second);
     add_ignore_flags(table, list)?;

@@ -3,10 +3,10 @@
 //!
 //! The definitions stand in `specs/`:
 //! - `Listing` says how conditions make lists of caveats.
-//! - `OtpCaveats`, `TableCaveats`, `ChoiceCaveats`, `StartCaveats`, `ImageCaveats` and
-//!   `PartCaveats` have the caveats of one subject each, as functions.
-//! - `OtpRules`, `TableRules`, `ChoiceRules`, `StartRules`, `ImageRules` and `PartRules` have the
-//!   same conditions as rules.
+//! - `OtpCaveats`, `TableCaveats`, `SlotCaveats`, `ChoiceCaveats`, `StartCaveats`, `ImageCaveats`
+//!   and `PartCaveats` have the caveats of one subject each, as functions.
+//! - `OtpRules`, `TableRules`, `SlotRules`, `ChoiceRules`, `StartRules`, `ImageRules` and
+//!   `PartRules` have the same conditions as rules.
 //! - `Caveats` has the whole list as a function, and `Rules` has it as rules.
 //! - `Alternatives` has six decisions by other rules.
 //!
@@ -23,6 +23,7 @@ pub mod laws;
 mod otp;
 mod parts;
 mod reading;
+mod slots;
 mod starts;
 mod tables;
 

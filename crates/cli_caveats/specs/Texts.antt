@@ -4,8 +4,9 @@ use Rattle.std.specs.List.{flat_map}
 use Rattle.text_words.specs.Writing.{hex_digits, hex_row, hex_word, line}
 use Rattle.boot_rules.specs.declared.decision.Decision.{Decision}
 use Rattle.boot_caveats.specs.declared.caveat.Caveat.{Caveat}
-use Rattle.boot_caveats.specs.declared.caveat.Caveat.TheVariants.{SecureBoot, RawFlags, RawSlotSize, ShortFlash, TableInImage, OtherProcessor, SlotImage, Tie, UpdateOfSlot, UpdateMovesUnit, RollbackRows, RollbackFull, RollbackGap, FirstBlock, ItemOrder, MayStart, OwnedImage, UnreadTargets, UnreadSide, TableTie, ShortSlots, RawCritical, IgnoreFlags, NoRead, UpdateOfNothing}
+use Rattle.boot_caveats.specs.declared.caveat.Caveat.TheVariants.{SecureBoot, RawFlags, RawSlotSize, ShortFlash, TableInImage, OtherProcessor, SlotImage, Tie, UpdateOfSlot, UpdateMovesUnit, RollbackRows, RollbackFull, RollbackGap, FirstBlock, ItemOrder, MayStart, OwnedImage, UnreadTargets, UnreadSide, TableTie, ShortSlots, ImageInSlot, SlotEnd, FaultyTable, TableOrder, RawCritical, IgnoreFlags, NoRead, UpdateOfNothing}
 use Rattle.text_lines.specs.Faults.{why_text}
+use Rattle.cli_inputs.specs.JsonTexts.{table_fault_text}
 use Rattle.text_lines.specs.Texts.{decision_line, window_text}
 
 -- bits of an OTP row as 0x and six digits
@@ -39,6 +40,13 @@ caveat_text (OwnedImage part) = codes "caveat owned-image partition=" ++ decimal
 caveat_text (UnreadTargets bits) = codes "caveat unread-bits unpartitioned=" ++ hex_word bits
 caveat_text (UnreadSide part) = codes "caveat unread-bits partition=" ++ decimal part
 caveat_text TableTie = codes "caveat table-tie"
+caveat_text (ImageInSlot slot) = codes "caveat image-in-slot " ++ decimal slot
+caveat_text (SlotEnd w at) =
+    codes "caveat slot-end " ++ (window_text w ++ (codes " at=" ++ hex_word at))
+caveat_text (FaultyTable slot fault) =
+    codes "caveat table-fault slot="
+    ++ (decimal slot ++ (codes " fault=" ++ table_fault_text fault))
+caveat_text (TableOrder slot) = codes "caveat table-order slot=" ++ decimal slot
 caveat_text (RawCritical row bits) =
     codes "caveat raw-critical row=" ++ (hex_row row ++ (codes " bits=" ++ hex_bits bits))
 caveat_text (IgnoreFlags part) = codes "caveat ignore-flags partition=" ++ decimal part

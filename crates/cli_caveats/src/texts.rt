@@ -4,11 +4,13 @@ ghost use Rattle.std.specs.Prelude.{◌≡◌, ◌++◌, IfOk, codes, decimal, s
 ghost use Rattle.std.specs.List.{flat_map};
 ghost use Rattle.text_words.specs.Writing.{hex_row, hex_word};
 ghost use Rattle.text_lines.specs.Texts.{window_text};
-ghost use Rattle.boot_caveats.specs.declared.caveat.Caveat.TheVariants.{MayStart};
+ghost use Rattle.boot_caveats.specs.declared.caveat.Caveat.TheVariants.{FaultyTable, MayStart};
 ghost use Rattle.cli_caveats.specs.Texts.{caveat_line, caveat_text, hex_bits};
 
 use boot_caveats::Caveat;
+use cli_inputs::table_fault_text;
 use image_check::Why;
+use part_table::TableFault;
 use pico_board::Window;
 use std::alloc::{AllocError, Global};
 use text_lines::{place_text, why_text};
@@ -30,13 +32,13 @@ fn partition_text(alloc: Global, name: &str, part: u32) -> Result<String, AllocE
     format!(in alloc; "caveat {name} partition={part}")
 }
 
-/// A table in the loop of an image.
-fn table_text(alloc: Global, window: Window, at: u32) -> Result<String, AllocError>
-    ensures { IfOk result (λ t. string_bytes t
-        ≡ codes "caveat table-in-image " ++ (window_text window ++ (codes " at=" ++ hex_word at))) }
+/// A caveat of a block of a window, by its name.
+fn block_text(alloc: Global, name: &str, window: Window, at: u32) -> Result<String, AllocError>
+    ensures { IfOk result (λ t. string_bytes t ≡ codes "caveat "
+        ++ (name.now ++ (codes " " ++ (window_text window ++ (codes " at=" ++ hex_word at))))) }
 {
     let window = place_text(alloc, window)?;
-    format!(in alloc; "caveat table-in-image {window} at=0x{at:08x}")
+    format!(in alloc; "caveat {name} {window} at=0x{at:08x}")
 }
 
 /// Two images of one version.
@@ -58,6 +60,14 @@ fn may_start_text(alloc: Global, window: Window, why: Why) -> Result<String, All
     format!(in alloc; "caveat may-start {window} fault={why}")
 }
 
+/// A table of a slot with a fault.
+fn faulty_table_text(alloc: Global, slot: u32, fault: TableFault) -> Result<String, AllocError>
+    ensures { IfOk result (λ t. string_bytes t ≡ caveat_text (FaultyTable slot fault)) }
+{
+    let fault = table_fault_text(alloc, fault)?;
+    format!(in alloc; "caveat table-fault slot={slot} fault={fault}")
+}
+
 /// A caveat, as a text.
 pub fn caveat_text(alloc: Global, caveat: Caveat) -> Result<String, AllocError>
     ensures { IfOk result (λ t. string_bytes t ≡ caveat_text caveat) }
@@ -72,7 +82,7 @@ pub fn caveat_text(alloc: Global, caveat: Caveat) -> Result<String, AllocError>
             format!(in alloc; "caveat short-flash slot={slot} partition={part}")
         }
         Caveat::ShortSlots(size) => format!(in alloc; "caveat short-flash slot-size=0x{size:08x}"),
-        Caveat::TableInImage(window, at) => table_text(alloc, window, at),
+        Caveat::TableInImage(window, at) => block_text(alloc, "table-in-image", window, at),
         Caveat::OtherProcessor(window) => window_text(alloc, "other-processor", window),
         Caveat::SlotImage(window) => window_text(alloc, "slot-1-image", window),
         Caveat::Tie(window, other) => tie_text(alloc, window, other),
@@ -92,6 +102,10 @@ pub fn caveat_text(alloc: Global, caveat: Caveat) -> Result<String, AllocError>
         }
         Caveat::UnreadSide(part) => partition_text(alloc, "unread-bits", part),
         Caveat::TableTie => format!(in alloc; "caveat table-tie"),
+        Caveat::ImageInSlot(slot) => format!(in alloc; "caveat image-in-slot {slot}"),
+        Caveat::SlotEnd(window, at) => block_text(alloc, "slot-end", window, at),
+        Caveat::FaultyTable(slot, fault) => faulty_table_text(alloc, slot, fault),
+        Caveat::TableOrder(slot) => format!(in alloc; "caveat table-order slot={slot}"),
         Caveat::RawCritical(row, bits) => {
             format!(in alloc; "caveat raw-critical row=0x{row:03x} bits=0x{bits:06x}")
         }

@@ -1,22 +1,22 @@
 use Rattle.std.proofs.Common.{◌≤◌, Bool, cond, Some, length, arith, ap, sym, ◌∙◌}
-use Rattle.image_def.specs.Suits.{does_suit}
+use Rattle.boot_caveats.specs.Sought.{is_sought}
 use Rattle.block_loop.proofs.PlaceLemmas.{as-many}
 use Rattle.boot_caveats.proofs.SeenLemmas.{last-all, last-more}
-use Rattle.boot_caveats.proofs.reading.last_suiting.Goals.{then-suits, else-suits}
-use Rattle.boot_caveats.proofs.reading.last_suiting.Goals as goal
+use Rattle.boot_caveats.proofs.reading.last_of.Goals.{then-is_sought, else-is_sought}
+use Rattle.boot_caveats.proofs.reading.last_of.Goals as goal
 
 pub loop-i-preserved : goal.loop-i-preserved
 loop-i-preserved g c = λ loop is.
-    last-more (does_suit c.args.cpu) loop c.loop-i.i c.block_of-block.result (c.block_of-block.ensures.exact loop is)
-    c.loop-i.last c.if-suits.last
+    last-more (is_sought c.args.what) loop c.loop-i.i c.block_of-block.result (c.block_of-block.ensures.exact loop is)
+    c.loop-i.last c.if-is_sought.last
     (c.loop-i.invariant loop is)
-    (elim c.if-suits.branch [
-      | then-suits w ↦ w.last-is
+    (elim c.if-is_sought.branch [
+      | then-is_sought w ↦ w.last-is
           ∙ sym (ap (λ (t : Bool). cond t (Some c.block_of-block.result) c.loop-i.last)
-          (sym c.suits.ensures ∙ w.if-suits.true))
-      | else-suits w ↦ w.last-is
+          (sym c.is_sought.ensures ∙ w.if-is_sought.true))
+      | else-is_sought w ↦ w.last-is
           ∙ sym (ap (λ (t : Bool). cond t (Some c.block_of-block.result) c.loop-i.last)
-          (sym c.suits.ensures ∙ w.if-suits.false))
+          (sym c.is_sought.ensures ∙ w.if-is_sought.false))
     ])
 
 pub returns : goal.returns
@@ -28,4 +28,4 @@ returns g c = λ loop is.
       c.loop-i-test.false,
       c.count-i-end.ensures.value,
     ) in
-    last-all (does_suit c.args.cpu) loop c.loop-i.i few c.loop-i.last (c.loop-i.invariant loop is)
+    last-all (is_sought c.args.what) loop c.loop-i.i few c.loop-i.last (c.loop-i.invariant loop is)
