@@ -10,16 +10,16 @@ use Rattle.boot_reasons.specs.declared.reasons.Reasons.{Reasons}
 use Rattle.boot_reasons.specs.Reasons.{reasons_in, table_of_reasons}
 use Rattle.boot_reasons.specs.Rules.{IsExplained}
 use Rattle.boot_reasons.proofs.ReasonLemmas.{reasons-only, reasons-right}
-use Rattle.boot_caveats.specs.declared.caveat.Caveat.{Caveat}
-use Rattle.boot_caveats.specs.Listing.{AreBoth}
+use Rattle.slot_caveats.specs.declared.caveat.Caveat.{Caveat}
+use Rattle.slot_caveats.specs.Listing.{AreBoth}
 use Rattle.boot_caveats.specs.Caveats.{board_caveats, caveats_by, caveats_in, choice_caveats, last_caveats, window_caveats}
 use Rattle.boot_caveats.specs.Rules.{AreBoardCaveats, AreCaveats, AreChoiceCaveats, AreLastCaveats, AreWindowCaveats}
-use Rattle.boot_caveats.proofs.ListingLemmas.{IsJust, both-just}
-use Rattle.boot_caveats.proofs.OtpLemmas.{critical-just, otp-just, slots-short-just}
-use Rattle.boot_caveats.proofs.TableCaveatLemmas.{short-just, tie-just as table-tie-just, unread-just}
+use Rattle.slot_caveats.proofs.ListingLemmas.{IsJust, both-just}
+use Rattle.slot_caveats.proofs.OtpLemmas.{critical-just, otp-just, slots-short-just}
+use Rattle.slot_caveats.proofs.TableCaveatLemmas.{short-just, tie-just as table-tie-just, unread-just}
 use Rattle.boot_caveats.proofs.ChoiceCaveatLemmas.{moves-just, nothing-just, other-just, slot-update-just, slots-just, tie-just}
 use Rattle.boot_caveats.proofs.PartLemmas.{ignores-just, reads-just}
-use Rattle.boot_caveats.proofs.SlotLemmas.{in-slots-just}
+use Rattle.slot_caveats.proofs.SlotLemmas.{in-slots-just}
 use Rattle.boot_caveats.proofs.StartCaveatLemmas.{rows-just, table-just}
 use Rattle.boot_caveats.proofs.ImageCaveatLemmas.{late-just, orders-just, owned-just, starts-just}
 

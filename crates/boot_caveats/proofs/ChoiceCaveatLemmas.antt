@@ -46,12 +46,12 @@ use Rattle.boot_reasons.specs.declared.looks.TakenImage.{TakenImage}
 use Rattle.boot_reasons.specs.declared.looks.UnitReason.{UnitReason}
 use Rattle.boot_reasons.specs.declared.looks.UnitReason.TheVariants.{Updated, Only, Version, Tie as IsTied}
 use Rattle.boot_reasons.specs.SlotRules.{IsTableInForce}
-use Rattle.boot_caveats.specs.declared.caveat.Caveat.{Caveat}
-use Rattle.boot_caveats.specs.declared.caveat.Caveat.TheVariants.{OtherProcessor, Tie, UpdateOfSlot, UpdateMovesUnit, UpdateOfNothing}
-use Rattle.boot_caveats.specs.Listing.{caveat_if}
+use Rattle.slot_caveats.specs.declared.caveat.Caveat.{Caveat}
+use Rattle.slot_caveats.specs.declared.caveat.Caveat.TheVariants.{OtherProcessor, Tie, UpdateOfSlot, UpdateMovesUnit, UpdateOfNothing}
+use Rattle.slot_caveats.specs.Listing.{caveat_if}
 use Rattle.boot_caveats.specs.ChoiceCaveats.{first_tie, has_normal_image, has_typed_first, is_slot_address, is_tie, lacks_image, lone_slot_images, moved_by, moved_part, other_cpu, other_processor, slot_images, started_window, takes_image, tie_of, tied_in, update_moves, update_of_nothing, update_of_slot, updates_one}
 use Rattle.boot_caveats.specs.ChoiceRules.{AreSlotImages, HasTypedFirst, IsMovedPart, IsOfNoMember, IsOfSlot, IsOtherProcessor, IsPassedOver, IsTableless, IsTie, IsTiedPair, IsUpdateMovesUnit, IsUpdateOfNothing, IsUpdateOfSlot, StartsIn}
-use Rattle.boot_caveats.proofs.ListingLemmas.{IsJust, and-decides, both-just, first-found, found-first, never-just, not-decides, one-just, or-decides, where-just}
+use Rattle.slot_caveats.proofs.ListingLemmas.{IsJust, and-decides, both-just, first-found, found-first, never-just, not-decides, one-just, or-decides, where-just}
 
 both : (a b : Bool) → a ≡ true → b ≡ true → (a && b) ≡ true
 both true true e f = refl

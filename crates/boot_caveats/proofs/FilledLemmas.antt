@@ -5,7 +5,7 @@ use Rattle.std.specs.List.{list_any, range_with_len}
 use Rattle.std.proofs.lemmas.Bool.{eqb-true, eq-eqb}
 use Rattle.std.proofs.Math.Pow.{pow_mono}
 use Rattle.boot_caveats.specs.StartCaveats.{is_filled_from}
-use Rattle.boot_caveats.proofs.MoreLemmas.{range-first}
+use Rattle.slot_caveats.proofs.MoreLemmas.{range-first}
 
 step : (p : ℕ → Bool) (k n : ℕ) → 0 < n → list_any p (range_with_len k n)
     ≡ (p k || list_any p (range_with_len (k + 1) (n - 1)))
@@ -51,16 +51,6 @@ filled-end value k le = ap (λ n. list_any (λ j. value + 1 == 2 ^ j) (range_wit
     none : (k : ℕ) → 25 ≤ k → 25 - k ≡ 0
     none k le = omega arith
 
--- the powers that are compared are not cut
-pub shift-whole : (k : ℕ) → k < 25 → 1 * 2 ^ k % 4294967296 ≡ 2 ^ k
-shift-whole k lt =
-    let small : 2 ^ k ≤ 2 ^ 24 = pow_mono {i = k} {j = 24} (omega arith) in
-    go (2 ^ k) small
-  where
-    go : (p : ℕ) → p ≤ 2 ^ 24 → 1 * p % 4294967296 ≡ p
-    go p small = omega arith
-
--- it is exactly where it is filled by one of the numbers
 by-search : (value : ℕ) (n k : ℕ) → k + n ≡ 25 → is_filled_from value k ≡ true
     → (j : ℕ) × (j ≤ 24) × (value + 1 ≡ 2 ^ j)
 by-search value zero k e is = absurd (apart (is_filled_from value k) is (filled-end value k (omega arith)))

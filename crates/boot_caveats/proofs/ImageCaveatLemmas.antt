@@ -39,16 +39,16 @@ use Rattle.boot_rules.specs.declared.decision.Decision.{Decision}
 use Rattle.boot_rules.specs.declared.decision.Decision.TheVariants.{Start, Bootsel}
 use Rattle.boot_rules.specs.declared.decision.Fall.TheVariants.{Requested, FlashOff, NoImage}
 use Rattle.boot_reasons.specs.declared.looks.UnitReport.{UnitReport}
-use Rattle.boot_caveats.specs.declared.caveat.Caveat.{Caveat}
-use Rattle.boot_caveats.specs.declared.caveat.Caveat.TheVariants.{FirstBlock, ItemOrder, MayStart}
-use Rattle.boot_caveats.specs.Listing.{AreOfEach, IsWhere, caveat_if}
+use Rattle.slot_caveats.specs.declared.caveat.Caveat.{Caveat}
+use Rattle.slot_caveats.specs.declared.caveat.Caveat.TheVariants.{FirstBlock, ItemOrder, MayStart}
+use Rattle.slot_caveats.specs.Listing.{AreOfEach, IsWhere, caveat_if}
 use Rattle.boot_caveats.specs.ChoiceCaveats.{has_normal_image}
 use Rattle.boot_caveats.specs.ImageCaveats.{begins_otherwise, definition_in, ends_late, first_places, is_doubtful, item_order, late_first, late_firsts, look_may_start, looked_windows, may_start, owned_image, owned_images, read_windows, reads_blocks, second_may_start}
 use Rattle.boot_caveats.specs.ImageRules.{AreItemOrders, AreLateFirsts, AreMayStarts, AreOwnedImages, BeginsOtherwise, HasLateFirst, IsDoubtful, IsMayStart, IsOwnedImage, IsSecondMayStart, ReadsBlocks, bad_row, repeated_row, bad_version, covers_block, runtime, bad_hash_def, bad_hash_value, entry, delta}
 use Rattle.boot_caveats.proofs.WindowLemmas.{places-only, places-right}
 use Rattle.boot_caveats.proofs.ChoiceCaveatLemmas.{normal-decides}
-use Rattle.boot_caveats.proofs.TableCaveatLemmas.{no-parts, parts-just}
-use Rattle.boot_caveats.proofs.ListingLemmas.{IsJust, both-just, each-just, each-one-just, one-just, where-just}
+use Rattle.slot_caveats.proofs.TableCaveatLemmas.{no-parts, parts-just}
+use Rattle.slot_caveats.proofs.ListingLemmas.{IsJust, both-just, each-just, each-one-just, one-just, where-just}
 
 -- ---- first blocks that end late
 

@@ -12,17 +12,17 @@ use Rattle.part_table.specs.Links.{is_owned, is_second}
 use Rattle.part_table.specs.Partitions.{part_at}
 use Rattle.part_table.specs.Windows.{part_window}
 use Rattle.boot_rules.specs.declared.decision.Decision.{Decision}
-use Rattle.boot_caveats.specs.declared.caveat.Caveat.TheVariants.{IgnoreFlags}
-use Rattle.boot_caveats.specs.Listing.{caveat_if}
+use Rattle.slot_caveats.specs.declared.caveat.Caveat.TheVariants.{IgnoreFlags}
+use Rattle.slot_caveats.specs.Listing.{caveat_if}
 use Rattle.boot_caveats.specs.ChoiceCaveats.{started_window}
 use Rattle.boot_caveats.specs.ChoiceRules.{StartsIn}
 use Rattle.boot_caveats.specs.ImageCaveats.{is_window}
 use Rattle.boot_caveats.specs.PartCaveats.{has_other_ignores, ignore_flags, is_readable, no_read, of_parts, starts_at}
 use Rattle.boot_caveats.specs.PartRules.{AreIgnoreFlags, AreNoReads, HasOtherIgnores, IsIgnoreFlags, IsNoRead}
-use Rattle.boot_caveats.specs.TableCaveats.{is_same_flag}
-use Rattle.boot_caveats.proofs.ListingLemmas.{IsJust, and-decides, is-false, is-true, or-decides, where-just}
+use Rattle.slot_caveats.specs.TableCaveats.{is_same_flag}
+use Rattle.slot_caveats.proofs.ListingLemmas.{IsJust, and-decides, is-false, is-true, or-decides, where-just}
 use Rattle.boot_caveats.proofs.ChoiceCaveatLemmas.{in-starts, starts-in}
-use Rattle.boot_caveats.proofs.TableCaveatLemmas.{no-parts, parts-just}
+use Rattle.slot_caveats.proofs.TableCaveatLemmas.{no-parts, parts-just}
 use Rattle.boot_caveats.proofs.WindowLemmas.{window-decides}
 
 -- ---- ignore flags

@@ -20,14 +20,14 @@ use Rattle.slot_choice.specs.declared.choice.Choice.{Choice}
 use Rattle.boot_rules.specs.declared.decision.Decision.{Decision}
 use Rattle.boot_rules.specs.declared.decision.Decision.TheVariants.{Start, Bootsel}
 use Rattle.boot_rules.specs.declared.decision.Fall.{Fall}
-use Rattle.boot_caveats.specs.declared.caveat.Caveat.{Caveat}
-use Rattle.boot_caveats.specs.declared.caveat.Caveat.TheVariants.{TableInImage, RollbackRows, RollbackFull, RollbackGap}
-use Rattle.boot_caveats.specs.Listing.{caveat_if}
+use Rattle.slot_caveats.specs.declared.caveat.Caveat.{Caveat}
+use Rattle.slot_caveats.specs.declared.caveat.Caveat.TheVariants.{TableInImage, RollbackRows, RollbackFull, RollbackGap}
+use Rattle.slot_caveats.specs.Listing.{caveat_if}
 use Rattle.boot_caveats.specs.StartCaveats.{has_gap, is_filled, is_full, row_caveats, started_rows, table_in_image, table_place}
 use Rattle.boot_caveats.specs.ChoiceRules.{StartsIn}
 use Rattle.boot_caveats.specs.StartRules.{AreRowCaveats, HasTableAt, IsFilled, IsFirstGap, IsRollbackFull, IsRollbackGap, IsRollbackRows, IsTableInImage, StartsWithRows}
 use Rattle.boot_caveats.proofs.FilledLemmas.{filled-decides}
-use Rattle.boot_caveats.proofs.ListingLemmas.{IsJust, both-just, first-found, found-first, one-just}
+use Rattle.slot_caveats.proofs.ListingLemmas.{IsJust, both-just, first-found, found-first, one-just}
 
 start-same : (a b : Choice) → Start a ≡ Start b → a ≡ b
 start-same a b e = cc

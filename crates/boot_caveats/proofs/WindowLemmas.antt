@@ -12,7 +12,7 @@ use Rattle.slot_choice.specs.declared.unit.SlotUnit.{SlotUnit}
 use Rattle.boot_rules.specs.Picking.{AreInside, IsInside}
 use Rattle.boot_reasons.specs.declared.looks.UnitReport.{UnitReport}
 use Rattle.boot_rules.specs.Tables.{slot_window}
-use Rattle.boot_caveats.specs.declared.caveat.Caveat.{Caveat}
+use Rattle.slot_caveats.specs.declared.caveat.Caveat.{Caveat}
 use Rattle.boot_caveats.specs.Reads.{AreLooksInside}
 use Rattle.boot_caveats.specs.ImageCaveats.{first_places, is_window, looked_windows, read_windows, unit_windows}
 use Rattle.boot_caveats.specs.ImageRules.{AreFirstPlaces}

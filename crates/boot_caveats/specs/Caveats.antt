@@ -7,12 +7,12 @@ use Rattle.pico_board.specs.Content.{Content}
 use Rattle.boot_rules.specs.Choosing.{boot_units_in}
 use Rattle.boot_reasons.specs.declared.reasons.Reasons.{Reasons}
 use Rattle.boot_reasons.specs.Reasons.{reasons_in, table_of_reasons}
-use Rattle.boot_caveats.specs.declared.caveat.Caveat.{Caveat}
-use Rattle.boot_caveats.specs.OtpCaveats.{critical_caveats, otp_caveats, short_slots}
-use Rattle.boot_caveats.specs.TableCaveats.{short_flash, table_tie, unread_caveats}
+use Rattle.slot_caveats.specs.declared.caveat.Caveat.{Caveat}
+use Rattle.slot_caveats.specs.OtpCaveats.{critical_caveats, otp_caveats, short_slots}
+use Rattle.slot_caveats.specs.TableCaveats.{short_flash, table_tie, unread_caveats}
 use Rattle.boot_caveats.specs.ChoiceCaveats.{first_tie, other_processor, slot_images, update_moves, update_of_nothing, update_of_slot}
 use Rattle.boot_caveats.specs.PartCaveats.{ignore_flags, no_read, of_parts}
-use Rattle.boot_caveats.specs.SlotCaveats.{slot_caveats}
+use Rattle.slot_caveats.specs.SlotCaveats.{slot_caveats}
 use Rattle.boot_caveats.specs.StartCaveats.{started_rows, table_in_image}
 use Rattle.boot_caveats.specs.ImageCaveats.{item_order, late_firsts, look_may_start, looked_windows, owned_images}
 

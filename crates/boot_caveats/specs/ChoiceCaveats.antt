@@ -24,9 +24,9 @@ use Rattle.boot_reasons.specs.declared.looks.UnitReport.{UnitReport}
 use Rattle.boot_reasons.specs.declared.looks.TakenImage.{TakenImage}
 use Rattle.boot_reasons.specs.declared.looks.UnitReason.{UnitReason}
 use Rattle.boot_reasons.specs.declared.looks.UnitReason.TheVariants.{Updated, Only, Version, Tie as IsTied}
-use Rattle.boot_caveats.specs.declared.caveat.Caveat.{Caveat}
-use Rattle.boot_caveats.specs.declared.caveat.Caveat.TheVariants.{OtherProcessor, SlotImage, Tie, UpdateOfSlot, UpdateMovesUnit, UpdateOfNothing}
-use Rattle.boot_caveats.specs.Listing.{caveat_if}
+use Rattle.slot_caveats.specs.declared.caveat.Caveat.{Caveat}
+use Rattle.slot_caveats.specs.declared.caveat.Caveat.TheVariants.{OtherProcessor, SlotImage, Tie, UpdateOfSlot, UpdateMovesUnit, UpdateOfNothing}
+use Rattle.slot_caveats.specs.Listing.{caveat_if}
 
 -- the other processor
 abbrev pub other_cpu : Cpu → Cpu

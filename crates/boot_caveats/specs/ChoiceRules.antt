@@ -27,9 +27,9 @@ use Rattle.boot_rules.specs.TableRules.{IsTableIn}
 use Rattle.boot_reasons.specs.declared.looks.UnitReport.{UnitReport}
 use Rattle.boot_reasons.specs.declared.looks.TakenImage.{TakenImage}
 use Rattle.boot_reasons.specs.declared.looks.UnitReason.TheVariants.{Tie as IsTied}
-use Rattle.boot_caveats.specs.declared.caveat.Caveat.{Caveat}
-use Rattle.boot_caveats.specs.declared.caveat.Caveat.TheVariants.{OtherProcessor, SlotImage, Tie, UpdateOfSlot, UpdateMovesUnit, UpdateOfNothing}
-use Rattle.boot_caveats.specs.Listing.{AreBoth, IsFirstWith, IsOfOne, IsWhere}
+use Rattle.slot_caveats.specs.declared.caveat.Caveat.{Caveat}
+use Rattle.slot_caveats.specs.declared.caveat.Caveat.TheVariants.{OtherProcessor, SlotImage, Tie, UpdateOfSlot, UpdateMovesUnit, UpdateOfNothing}
+use Rattle.slot_caveats.specs.Listing.{AreBoth, IsFirstWith, IsOfOne, IsWhere}
 use Rattle.boot_caveats.specs.ChoiceCaveats.{other_cpu, takes_image}
 
 -- the decision is a start of the image of a window

@@ -33,9 +33,9 @@ use Rattle.boot_rules.specs.declared.decision.Decision.TheVariants.{Start, Boots
 use Rattle.boot_rules.specs.declared.decision.Fall.TheVariants.{Requested, FlashOff, NoImage}
 use Rattle.boot_rules.specs.Tables.{slot_window}
 use Rattle.boot_reasons.specs.declared.looks.UnitReport.{UnitReport}
-use Rattle.boot_caveats.specs.declared.caveat.Caveat.{Caveat}
-use Rattle.boot_caveats.specs.declared.caveat.Caveat.TheVariants.{FirstBlock, ItemOrder, MayStart, OwnedImage}
-use Rattle.boot_caveats.specs.Listing.{caveat_if}
+use Rattle.slot_caveats.specs.declared.caveat.Caveat.{Caveat}
+use Rattle.slot_caveats.specs.declared.caveat.Caveat.TheVariants.{FirstBlock, ItemOrder, MayStart, OwnedImage}
+use Rattle.slot_caveats.specs.Listing.{caveat_if}
 use Rattle.boot_caveats.specs.ChoiceCaveats.{has_normal_image}
 
 -- the windows of a unit's members, A first

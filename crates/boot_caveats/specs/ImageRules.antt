@@ -28,11 +28,11 @@ use Rattle.boot_rules.specs.declared.decision.Decision.{Decision}
 use Rattle.boot_rules.specs.declared.decision.Decision.TheVariants.{Start, Bootsel}
 use Rattle.boot_rules.specs.declared.decision.Fall.TheVariants.{NoImage}
 use Rattle.boot_reasons.specs.declared.looks.UnitReport.{UnitReport}
-use Rattle.boot_caveats.specs.declared.caveat.Caveat.{Caveat}
-use Rattle.boot_caveats.specs.declared.caveat.Caveat.TheVariants.{FirstBlock, ItemOrder, MayStart, OwnedImage}
-use Rattle.boot_caveats.specs.Listing.{AreBoth, AreOfEach, IsOfOne, IsWhere}
+use Rattle.slot_caveats.specs.declared.caveat.Caveat.{Caveat}
+use Rattle.slot_caveats.specs.declared.caveat.Caveat.TheVariants.{FirstBlock, ItemOrder, MayStart, OwnedImage}
+use Rattle.slot_caveats.specs.Listing.{AreBoth, AreOfEach, IsOfOne, IsWhere}
 use Rattle.boot_caveats.specs.ImageCaveats.{looked_windows, read_windows}
-use Rattle.boot_caveats.specs.TableRules.{AreOfParts}
+use Rattle.slot_caveats.specs.TableRules.{AreOfParts}
 
 -- the second list has the elements of the first, each where it first stands, but for those that
 -- stand before

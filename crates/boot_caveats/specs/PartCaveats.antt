@@ -11,12 +11,12 @@ use Rattle.part_table.specs.Links.{is_owned, is_second}
 use Rattle.part_table.specs.Partitions.{part_at}
 use Rattle.part_table.specs.Windows.{part_window}
 use Rattle.boot_rules.specs.declared.decision.Decision.{Decision}
-use Rattle.boot_caveats.specs.declared.caveat.Caveat.{Caveat}
-use Rattle.boot_caveats.specs.declared.caveat.Caveat.TheVariants.{IgnoreFlags, NoRead}
-use Rattle.boot_caveats.specs.Listing.{caveat_if}
+use Rattle.slot_caveats.specs.declared.caveat.Caveat.{Caveat}
+use Rattle.slot_caveats.specs.declared.caveat.Caveat.TheVariants.{IgnoreFlags, NoRead}
+use Rattle.slot_caveats.specs.Listing.{caveat_if}
 use Rattle.boot_caveats.specs.ChoiceCaveats.{started_window}
 use Rattle.boot_caveats.specs.ImageCaveats.{is_window}
-use Rattle.boot_caveats.specs.TableCaveats.{is_same_flag}
+use Rattle.slot_caveats.specs.TableCaveats.{is_same_flag}
 
 -- one of the two ignore flags of a partition, for Arm and for RISC-V, differs from the other
 -- partition's

@@ -8,12 +8,12 @@ use Rattle.part_table.specs.Links.{is_owned, is_second}
 use Rattle.part_table.specs.Partitions.{part_at}
 use Rattle.part_table.specs.Windows.{part_window}
 use Rattle.boot_rules.specs.declared.decision.Decision.{Decision}
-use Rattle.boot_caveats.specs.declared.caveat.Caveat.{Caveat}
-use Rattle.boot_caveats.specs.declared.caveat.Caveat.TheVariants.{IgnoreFlags, NoRead}
-use Rattle.boot_caveats.specs.Listing.{IsWhere}
+use Rattle.slot_caveats.specs.declared.caveat.Caveat.{Caveat}
+use Rattle.slot_caveats.specs.declared.caveat.Caveat.TheVariants.{IgnoreFlags, NoRead}
+use Rattle.slot_caveats.specs.Listing.{IsWhere}
 use Rattle.boot_caveats.specs.ChoiceRules.{StartsIn}
 use Rattle.boot_caveats.specs.PartCaveats.{is_readable}
-use Rattle.boot_caveats.specs.TableRules.{AreOfParts}
+use Rattle.slot_caveats.specs.TableRules.{AreOfParts}
 
 -- a partition is the B of a pair whose A has no owner, and one of its two ignore flags differs
 -- from that of its A

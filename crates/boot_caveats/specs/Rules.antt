@@ -7,13 +7,13 @@ use Rattle.boot_rules.specs.Choosing.{boot_units_in}
 use Rattle.boot_reasons.specs.declared.reasons.Reasons.{Reasons}
 use Rattle.boot_reasons.specs.Reasons.{table_of_reasons}
 use Rattle.boot_reasons.specs.Rules.{IsExplained}
-use Rattle.boot_caveats.specs.declared.caveat.Caveat.{Caveat}
-use Rattle.boot_caveats.specs.Listing.{AreBoth}
-use Rattle.boot_caveats.specs.OtpRules.{AreCriticalCaveats, AreOtpCaveats, IsShortSlots}
-use Rattle.boot_caveats.specs.TableRules.{AreUnread, IsShortFlash, IsTableTie}
+use Rattle.slot_caveats.specs.declared.caveat.Caveat.{Caveat}
+use Rattle.slot_caveats.specs.Listing.{AreBoth}
+use Rattle.slot_caveats.specs.OtpRules.{AreCriticalCaveats, AreOtpCaveats, IsShortSlots}
+use Rattle.slot_caveats.specs.TableRules.{AreUnread, IsShortFlash, IsTableTie}
 use Rattle.boot_caveats.specs.ChoiceRules.{AreSlotImages, IsOtherProcessor, IsTie, IsUpdateMovesUnit, IsUpdateOfNothing, IsUpdateOfSlot}
 use Rattle.boot_caveats.specs.PartRules.{AreIgnoreFlags, AreNoReads}
-use Rattle.boot_caveats.specs.SlotRules.{AreSlotCaveats}
+use Rattle.slot_caveats.specs.SlotRules.{AreSlotCaveats}
 use Rattle.boot_caveats.specs.StartRules.{AreRowCaveats, IsTableInImage}
 use Rattle.boot_caveats.specs.ImageRules.{AreItemOrders, AreLateFirsts, AreMayStarts, AreOwnedImages}
 

@@ -10,9 +10,9 @@ use Rattle.otp_roll.specs.Rows.{majority}
 use Rattle.part_table.specs.TableOf.{has_table}
 use Rattle.boot_rules.specs.declared.decision.Decision.{Decision}
 use Rattle.boot_rules.specs.declared.decision.Decision.TheVariants.{Start, Bootsel}
-use Rattle.boot_caveats.specs.declared.caveat.Caveat.{Caveat}
-use Rattle.boot_caveats.specs.declared.caveat.Caveat.TheVariants.{TableInImage, RollbackRows, RollbackFull, RollbackGap}
-use Rattle.boot_caveats.specs.Listing.{caveat_if}
+use Rattle.slot_caveats.specs.declared.caveat.Caveat.{Caveat}
+use Rattle.slot_caveats.specs.declared.caveat.Caveat.TheVariants.{TableInImage, RollbackRows, RollbackFull, RollbackGap}
+use Rattle.slot_caveats.specs.Listing.{caveat_if}
 
 -- the offset of the first block with a PARTITION_TABLE item of a window's loop
 abbrev pub table_place : List ℕ → Option ℕ

@@ -11,9 +11,9 @@ use Rattle.part_table.specs.TableOf.{has_table}
 use Rattle.slot_choice.specs.declared.choice.Choice.{Choice}
 use Rattle.boot_rules.specs.declared.decision.Decision.{Decision}
 use Rattle.boot_rules.specs.declared.decision.Decision.TheVariants.{Start}
-use Rattle.boot_caveats.specs.declared.caveat.Caveat.{Caveat}
-use Rattle.boot_caveats.specs.declared.caveat.Caveat.TheVariants.{TableInImage, RollbackRows, RollbackFull, RollbackGap}
-use Rattle.boot_caveats.specs.Listing.{AreBoth, IsFirstWith, IsOfOne}
+use Rattle.slot_caveats.specs.declared.caveat.Caveat.{Caveat}
+use Rattle.slot_caveats.specs.declared.caveat.Caveat.TheVariants.{TableInImage, RollbackRows, RollbackFull, RollbackGap}
+use Rattle.slot_caveats.specs.Listing.{AreBoth, IsFirstWith, IsOfOne}
 use Rattle.boot_caveats.specs.ChoiceRules.{StartsIn}
 
 -- a block of the loop of a window has a PARTITION_TABLE item; the first such block in loop order

@@ -8,7 +8,6 @@ ghost use Rattle.slot_choice.specs.Updates.{has_member_at};
 ghost use Rattle.boot_rules.specs.Picking.{IsInside};
 ghost use Rattle.boot_caveats.specs.ChoiceCaveats.{first_slot_image, first_tie, has_normal_image, has_typed_first, is_slot_address, is_tie, lacks_image, lone_slot_images, moved_by, moved_part, other_cpu, other_processor, second_slot_image, slot_images, started_window, tie_of, tied_in, update_moves, update_of_nothing, update_of_slot, updates_one};
 
-use crate::caveat::{Caveat, add};
 use crate::reading::first_block;
 use boot_reasons::{TableInForce, TakenImage, UnitReason, UnitReport};
 use boot_rules::{Decision, Fall, decide};
@@ -16,6 +15,7 @@ use image_check::check;
 use image_def::image_flags;
 use pico_board::{Board, BootKind, Cpu, FLASH_BASE, FlashView, SMALLEST_SLOT, Window};
 use sector_pool::SectorPool;
+use slot_caveats::{Caveat, add};
 use slot_choice::SlotUnit;
 use std::alloc::AllocError;
 

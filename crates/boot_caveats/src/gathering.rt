@@ -7,20 +7,17 @@ ghost use Rattle.boot_reasons.specs.Reasons.{reasons_in};
 ghost use Rattle.boot_caveats.specs.Caveats.{board_caveats, caveats_by, caveats_in, choice_caveats, last_caveats, window_caveats};
 ghost use Rattle.boot_caveats.specs.Rules.{AreCaveats};
 
-use crate::caveat::{Caveat, add};
 use crate::choices::{
     add_slot_images, first_tie, other_processor, update_moves, update_of_nothing, update_of_slot,
 };
 use crate::images::{add_item_orders, add_late_firsts, add_may_starts, add_owned_images};
-use crate::otp::{add_critical, add_otp, short_slots};
 use crate::parts::{add_ignore_flags, add_no_reads};
-use crate::slots::add_slots;
 use crate::starts::{add_rows, table_in_image};
-use crate::tables::{add_unread, short_flash, table_tie};
 use boot_reasons::{Reasons, gather, taken_table};
 use boot_rules::boot_units_in;
 use pico_board::{Board, BootKind, Cpu};
 use sector_pool::SectorPool;
+use slot_caveats::{Caveat, add, add_critical, add_otp, add_slots, add_unread, short_flash, short_slots, table_tie};
 use std::alloc::{AllocError, Global};
 
 /// Adds the caveats of the OTP, of the tables of the slots, of the slot size, and of the table of

@@ -8,7 +8,6 @@ ghost use Rattle.boot_rules.specs.Picking.{AreInside, IsInside};
 ghost use Rattle.boot_caveats.specs.Reads.{AreLooksInside, ArePartsInside};
 ghost use Rattle.boot_caveats.specs.ImageCaveats.{begins_otherwise, ends_late, first_places, is_doubtful, is_doubtful_item, is_doubtful_map, is_window, item_order, late_first, late_firsts, look_may_start, looked_windows, may_start, owned_image, owned_images, read_windows, reads_blocks, second_may_start, unit_windows};
 
-use crate::caveat::{Caveat, add};
 use crate::choices::has_normal_image;
 use crate::reading::{definition_in, first_block};
 use arrayvec::ArrayVec;
@@ -22,6 +21,7 @@ use load_map::MapFault;
 use part_table::{Partition, Table};
 use pico_board::{Board, Cpu, FlashView, SMALLEST_SLOT, Window};
 use sector_pool::SectorPool;
+use slot_caveats::{Caveat, add};
 use slot_choice::SlotUnit;
 use std::alloc::AllocError;
 

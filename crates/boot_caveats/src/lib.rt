@@ -8,24 +8,18 @@
 //! - `OtpRules`, `TableRules`, `SlotRules`, `ChoiceRules`, `StartRules`, `ImageRules` and
 //!   `PartRules` have the same conditions as rules.
 //! - `Caveats` has the whole list as a function, and `Rules` has it as rules.
-//! - `Alternatives` has six decisions by other rules.
 //!
-//! The laws say that the lists are the same. They also say that a decision by one of these other
-//! rules is the model's wherever its caveat is not listed.
+//! The laws say that the lists are the same.
 #![tactic(auto)]
 
-mod caveat;
 mod choices;
 pub mod examples;
 mod gathering;
 mod images;
 pub mod laws;
-mod otp;
 mod parts;
 mod reading;
-mod slots;
 mod starts;
-mod tables;
 
-pub use caveat::Caveat;
 pub use gathering::{caveats_by, caveats_of};
+pub use slot_caveats::Caveat;

@@ -5,11 +5,11 @@ ghost use Rattle.std.specs.List.{filter_map, range_with_len};
 ghost use Rattle.boot_caveats.specs.PartCaveats.{differs_in_ignores, has_other_ignores, ignore_flags, is_readable, no_read, of_parts, starts_at};
 ghost use Rattle.boot_caveats.specs.Reads.{ArePartsInside};
 
-use crate::caveat::{Caveat, add};
 use crate::choices::started_window;
 use boot_rules::Decision;
 use part_table::{Partition, Table};
 use pico_board::{Cpu, Window};
+use slot_caveats::{Caveat, add};
 use std::alloc::AllocError;
 
 /// Whether one of the two ignore flags of a partition differs from the other partition's.

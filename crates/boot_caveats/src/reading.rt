@@ -1,22 +1,18 @@
 //! What is read of a window: its first block, its loop's first block with a table, its definition.
 
-ghost use Rattle.std.specs.Prelude.{◌≡◌, ◌+◌, ◌≤◌, List, IfSome, IsTrue, Ok, Some, find, length, option_and_then, option_map, reverse, slice_get, take};
-ghost use Rattle.std.specs.Result.{result_ok};
-ghost use Rattle.pico_board.specs.Content.{window_bytes};
+ghost use Rattle.std.specs.Prelude.{◌≡◌, List, IfSome, Ok, find};
 ghost use Rattle.block_codec.specs.Blocks.{BlockView, IsWholeBlock};
 ghost use Rattle.block_loop.specs.Loop.{first_block, loop_of};
 ghost use Rattle.block_loop.specs.Offsets.{AreLoop};
 ghost use Rattle.part_table.specs.TableOf.{has_table};
-ghost use Rattle.boot_caveats.specs.StartCaveats.{table_place};
 ghost use Rattle.boot_caveats.specs.ImageCaveats.{definition_in};
-ghost use Rattle.boot_caveats.specs.SlotCaveats.{is_executable, last_where};
-ghost use Rattle.boot_caveats.specs.Sought.{is_sought};
+ghost use Rattle.boot_caveats.specs.StartCaveats.{table_place};
 
 use block_codec::Block;
 use block_loop::{BlockLoop, block_at, block_of, walk};
-use image_def::{image_flags, suits};
 use part_table::has_table;
 use pico_board::{Cpu, View};
+use slot_caveats::{Sought, last_where};
 
 /// The first block of a view: the one at the lowest multiple of 4 below 4096.
 pub(crate) fn first_block<V: View>(view: &V) -> Option<Block>
@@ -57,64 +53,6 @@ pub(crate) fn table_place<V: View>(view: &V) -> Option<u32>
     match first_table(view, &found) {
         Some(block) => Some(block.at()),
         None => None,
-    }
-}
-
-/// What is sought among the blocks of a loop.
-#[derive(Clone, Copy)]
-pub(crate) enum Sought {
-    /// A definition for a processor.
-    Definition(Cpu),
-    /// A block with a PARTITION_TABLE item.
-    Table,
-    /// A block whose first IMAGE_TYPE item is that of an executable.
-    Executable,
-}
-
-/// Whether a block's first IMAGE_TYPE item is that of an executable, whatever else it says.
-fn is_executable(block: &Block) -> bool
-    ensures { result ≡ is_executable block.now }
-{
-    match image_flags(block) {
-        Some(flags) => flags % 16 == 1,
-        None => false,
-    }
-}
-
-/// Whether a block is what is sought.
-fn is_sought(block: &Block, what: Sought) -> bool
-    ensures { result ≡ is_sought what block.now }
-{
-    match what {
-        Sought::Definition(cpu) => suits(block, cpu),
-        Sought::Table => has_table(block),
-        Sought::Executable => is_executable(block),
-    }
-}
-
-/// The last block of a loop that is what is sought.
-fn last_of<V: View>(view: &V, found: &BlockLoop, what: Sought) -> Option<Block>
-    requires loop_ { AreLoop (V.bytes view.now) found.now }
-    ensures { (loop : List BlockView) → loop_of (V.bytes view.now) ≡ Ok loop
-        → result ≡ find (is_sought what) (reverse loop) }
-{
-    let mut last = None;
-    for i in 0..found.count() {
-        let block = block_of(view, found, i);
-        if is_sought(&block, what) {
-            last = Some(block);
-        }
-    }
-    last
-}
-
-/// The last block of a view's loop that is what is sought, where the loop closes.
-pub(crate) fn last_where<V: View>(view: &V, what: Sought) -> Option<Block>
-    ensures { result ≡ last_where (is_sought what) (V.bytes view.now) }
-{
-    match walk(view) {
-        Ok(found) => last_of(view, &found, what),
-        Err(_) => None,
     }
 }
 

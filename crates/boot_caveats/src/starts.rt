@@ -4,14 +4,14 @@ ghost use Rattle.std.specs.Prelude.{◌≡◌, ◌+◌, ◌*◌, ◌<◌, ◌≤
 ghost use Rattle.otp_roll.specs.Rows.{AreRollbackRows, majority};
 ghost use Rattle.boot_rules.specs.Picking.{IsInside};
 ghost use Rattle.boot_caveats.specs.StartCaveats.{has_gap, is_filled, is_full, row_caveats, started_rows, table_in_image};
-ghost use Rattle.boot_caveats.specs.Listing.{caveat_if};
-ghost use Rattle.boot_caveats.specs.declared.caveat.Caveat.TheVariants.{RollbackFull, RollbackGap};
+ghost use Rattle.slot_caveats.specs.Listing.{caveat_if};
+ghost use Rattle.slot_caveats.specs.declared.caveat.Caveat.TheVariants.{RollbackFull, RollbackGap};
 ghost use Rattle.boot_caveats.specs.Reads.{HasReadableStart};
 
-use crate::caveat::{Caveat, add};
 use crate::reading::table_place;
 use boot_rules::{Decision, Started};
 use pico_board::{Board, FlashView, Window};
+use slot_caveats::{Caveat, add};
 use std::alloc::AllocError;
 
 /// The loop of the image that starts has a table.

@@ -12,7 +12,7 @@ use Rattle.pico_board.specs.Content.{Content}
 use Rattle.boot_rules.specs.declared.decision.Decision.{Decision}
 use Rattle.boot_rules.specs.Choosing.{decision_in}
 use Rattle.boot_rules.proofs.DecisionLemmas.{chosen-decision, decision-chosen}
-use Rattle.boot_caveats.specs.declared.caveat.Caveat.{Caveat}
+use Rattle.slot_caveats.specs.declared.caveat.Caveat.{Caveat}
 use Rattle.boot_caveats.specs.Caveats.{caveats_in}
 use Rattle.boot_caveats.proofs.CaveatLemmas.{caveats-only, caveats-right}
 use Rattle.cli_course.specs.Outcomes.{AnswerView, answered_status, worked}

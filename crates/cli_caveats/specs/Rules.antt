@@ -5,7 +5,7 @@ use Rattle.pico_board.specs.declared.boot.BootKind.{BootKind}
 use Rattle.pico_board.specs.Content.{Content}
 use Rattle.boot_rules.specs.declared.decision.Decision.{Decision}
 use Rattle.boot_rules.specs.Chosen.{Chosen}
-use Rattle.boot_caveats.specs.declared.caveat.Caveat.{Caveat}
+use Rattle.slot_caveats.specs.declared.caveat.Caveat.{Caveat}
 use Rattle.boot_caveats.specs.Rules.{AreCaveats}
 use Rattle.cli_course.specs.Outcomes.{AnswerView}
 use Rattle.cli_boot.specs.Rules.{decided_status}

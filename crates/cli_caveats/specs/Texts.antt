@@ -3,8 +3,8 @@ use Rattle.std.specs.Prelude.{ℕ, List, ◌++◌, codes, decimal}
 use Rattle.std.specs.List.{flat_map}
 use Rattle.text_words.specs.Writing.{hex_digits, hex_row, hex_word, line}
 use Rattle.boot_rules.specs.declared.decision.Decision.{Decision}
-use Rattle.boot_caveats.specs.declared.caveat.Caveat.{Caveat}
-use Rattle.boot_caveats.specs.declared.caveat.Caveat.TheVariants.{SecureBoot, RawFlags, RawSlotSize, ShortFlash, TableInImage, OtherProcessor, SlotImage, Tie, UpdateOfSlot, UpdateMovesUnit, RollbackRows, RollbackFull, RollbackGap, FirstBlock, ItemOrder, MayStart, OwnedImage, UnreadTargets, UnreadSide, TableTie, ShortSlots, ImageInSlot, SlotEnd, FaultyTable, TableOrder, RawCritical, IgnoreFlags, NoRead, UpdateOfNothing}
+use Rattle.slot_caveats.specs.declared.caveat.Caveat.{Caveat}
+use Rattle.slot_caveats.specs.declared.caveat.Caveat.TheVariants.{SecureBoot, RawFlags, RawSlotSize, ShortFlash, TableInImage, OtherProcessor, SlotImage, Tie, UpdateOfSlot, UpdateMovesUnit, RollbackRows, RollbackFull, RollbackGap, FirstBlock, ItemOrder, MayStart, OwnedImage, UnreadTargets, UnreadSide, TableTie, ShortSlots, ImageInSlot, SlotEnd, FaultyTable, TableOrder, RawCritical, IgnoreFlags, NoRead, UpdateOfNothing}
 use Rattle.text_lines.specs.Faults.{why_text}
 use Rattle.cli_inputs.specs.JsonTexts.{table_fault_text}
 use Rattle.text_lines.specs.Texts.{decision_line, window_text}

@@ -4,7 +4,7 @@ ghost use Rattle.std.specs.Prelude.{◌≡◌, ◌++◌, IfOk, codes, decimal, s
 ghost use Rattle.std.specs.List.{flat_map};
 ghost use Rattle.text_words.specs.Writing.{hex_row, hex_word};
 ghost use Rattle.text_lines.specs.Texts.{window_text};
-ghost use Rattle.boot_caveats.specs.declared.caveat.Caveat.TheVariants.{FaultyTable, MayStart};
+ghost use Rattle.slot_caveats.specs.declared.caveat.Caveat.TheVariants.{FaultyTable, MayStart};
 ghost use Rattle.cli_caveats.specs.Texts.{caveat_line, caveat_text, hex_bits};
 
 use boot_caveats::Caveat;

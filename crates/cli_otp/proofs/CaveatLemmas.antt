@@ -8,10 +8,10 @@ use Rattle.std.specs.Int.{bit_at}
 use Rattle.pico_board.specs.declared.boot.Cpu.{Cpu}
 use Rattle.pico_board.specs.declared.boot.BootKind.{BootKind}
 use Rattle.pico_board.specs.Content.{Content}
-use Rattle.boot_caveats.specs.declared.caveat.Caveat.{Caveat}
-use Rattle.boot_caveats.specs.declared.caveat.Caveat.TheVariants.{SecureBoot}
-use Rattle.boot_caveats.specs.OtpCaveats.{has_lowest_bit, has_row_bit, has_vote, raw_bits, raw_size_bits, secure_rows, voted_bit, voted_bits}
-use Rattle.boot_caveats.specs.OtpRules.{AreCriticalCaveats, AreOtpCaveats, IsRawCritical, IsRawFlags, IsRawSlotSize, IsSecureBoot}
+use Rattle.slot_caveats.specs.declared.caveat.Caveat.{Caveat}
+use Rattle.slot_caveats.specs.declared.caveat.Caveat.TheVariants.{SecureBoot}
+use Rattle.slot_caveats.specs.OtpCaveats.{has_lowest_bit, has_row_bit, has_vote, raw_bits, raw_size_bits, secure_rows, voted_bit, voted_bits}
+use Rattle.slot_caveats.specs.OtpRules.{AreCriticalCaveats, AreOtpCaveats, IsRawCritical, IsRawFlags, IsRawSlotSize, IsSecureBoot}
 use Rattle.boot_caveats.specs.Rules.{AreCaveats}
 use Rattle.table_json.specs.declared.otps.OtpRow.{OtpRow}
 use Rattle.table_json.specs.Otps.{OtpView}

@@ -5,9 +5,9 @@ ghost use Rattle.std.specs.Prelude.{◌≡◌, [], ◌∷◌, ◌++◌, None, So
 ghost use Rattle.pico_board.specs.declared.boot.BootKind.TheVariants.{Normal, Bootsel as AskBootsel};
 ghost use Rattle.pico_board.specs.declared.boot.Cpu.TheVariants.{Arm, Riscv};
 ghost use Rattle.worked_flashes.specs.Tables.{window_at};
-ghost use Rattle.boot_caveats.specs.declared.caveat.Caveat.{Caveat};
+ghost use Rattle.slot_caveats.specs.declared.caveat.Caveat.{Caveat};
 ghost use Rattle.boot_caveats.specs.Caveats.{caveats_in};
-ghost use Rattle.boot_caveats.specs.Examples.{arm_word, bare, riscv_word, sector_with, three_sectors};
+ghost use Rattle.slot_caveats.specs.Examples.{arm_word, bare, riscv_word, sector_with, three_sectors};
 
 /// Flashes of 12 KiB without a table: an image in the whole flash, one for the other processor,
 /// one in slot 1, and one with a definition that begins with its version.

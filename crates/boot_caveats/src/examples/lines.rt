@@ -5,45 +5,11 @@ ghost use Rattle.std.specs.Prelude.{◌≡◌, [], ◌∷◌, None, Some, false}
 ghost use Rattle.pico_board.specs.declared.boot.BootKind.TheVariants.{Normal, Update};
 ghost use Rattle.boot_rules.specs.declared.decision.Decision.TheVariants.{Bootsel, Start};
 ghost use Rattle.boot_rules.specs.declared.decision.Fall.{Fall};
-ghost use Rattle.boot_caveats.specs.declared.caveat.Caveat.{Caveat};
-ghost use Rattle.boot_caveats.specs.OtpCaveats.{critical_caveats, raw_critical, short_slots};
+ghost use Rattle.slot_caveats.specs.declared.caveat.Caveat.{Caveat};
+ghost use Rattle.slot_caveats.specs.OtpCaveats.{critical_caveats, raw_critical, short_slots};
 ghost use Rattle.boot_caveats.specs.ChoiceCaveats.{update_of_nothing};
 ghost use Rattle.boot_caveats.specs.PartCaveats.{ignore_flags, no_read, of_parts};
-ghost use Rattle.boot_caveats.specs.Examples.{first, first_pair, in_slot, lone_third, otp_from, part_with, part_without_read, second, start_of, table_of_parts};
-
-/// Critical flags count bit by bit where three of the eight copies have them; bit 0 of the second
-/// row is that of secure boot.
-pub fn copies_of_critical_flags()
-    ensures two { raw_critical (otp_from 0x038 (2 ∷ 2 ∷ [])) 0x038 0 ≡ None }
-    ensures three { raw_critical (otp_from 0x038 (2 ∷ 3 ∷ 0x800002 ∷ [])) 0x038 0
-        ≡ Some (Caveat.RawCritical 0x038 2) }
-    ensures bits { raw_critical (otp_from 0x038 (1 ∷ 3 ∷ 7 ∷ 6 ∷ 4 ∷ 8 ∷ 8 ∷ [])) 0x038 0
-        ≡ Some (Caveat.RawCritical 0x038 7) }
-    ensures highest { raw_critical (otp_from 0x03d (0x800000 ∷ 0x800000 ∷ 0x800000 ∷ [])) 0x038 0
-        ≡ Some (Caveat.RawCritical 0x038 0x800000) }
-    ensures behind { raw_critical (otp_from 0x03e (2 ∷ 2 ∷ 2 ∷ [])) 0x038 0 ≡ None }
-    ensures before { raw_critical (otp_from 0x03f (2 ∷ 2 ∷ 2 ∷ [])) 0x040 1 ≡ None }
-    ensures secure { raw_critical (otp_from 0x040 (1 ∷ 1 ∷ 1 ∷ [])) 0x040 1 ≡ None }
-    ensures beside { raw_critical (otp_from 0x040 (9 ∷ 9 ∷ 9 ∷ [])) 0x040 1
-        ≡ Some (Caveat.RawCritical 0x040 8) }
-    ensures order { critical_caveats
-        (otp_from 0x038 (1 ∷ 1 ∷ 1 ∷ 0 ∷ 0 ∷ 0 ∷ 0 ∷ 0 ∷ 9 ∷ 9 ∷ 9 ∷ []))
-        ≡ Caveat.RawCritical 0x038 1 ∷ Caveat.RawCritical 0x040 8 ∷ [] }
-{}
-
-/// A slot size of which two do not fit into the flash, by bits 0 to 3 of its row.
-pub fn slot_sizes_that_do_not_fit()
-    ensures fits { short_slots (otp_from 0x055 (1 ∷ [])) 0x4000 ≡ None }
-    ensures short { short_slots (otp_from 0x055 (1 ∷ [])) 0x3000
-        ≡ Some (Caveat.ShortSlots 0x2000) }
-    ensures least { short_slots (otp_from 0x055 (0 ∷ [])) 0x2000 ≡ None }
-    ensures greatest { short_slots (otp_from 0x055 (11 ∷ [])) 0xfff000
-        ≡ Some (Caveat.ShortSlots 0x800000) }
-    ensures whole { short_slots (otp_from 0x055 (11 ∷ [])) 0x1000000 ≡ None }
-    ensures past { short_slots (otp_from 0x055 (12 ∷ [])) 0x2000 ≡ None }
-    ensures low_bits { short_slots (otp_from 0x055 (0x11 ∷ [])) 0x3000
-        ≡ Some (Caveat.ShortSlots 0x2000) }
-{}
+ghost use Rattle.slot_caveats.specs.Examples.{first, first_pair, in_slot, lone_third, otp_from, part_with, part_without_read, second, start_of, table_of_parts};
 
 /// The ignore flags of a pair, bits 9 and 10, are compared in the B; the A has no owner.
 pub fn flags_of_pairs()

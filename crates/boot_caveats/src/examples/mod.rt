@@ -3,7 +3,6 @@
 
 pub mod flashes;
 pub mod lines;
-pub mod slots;
 
 ghost use Rattle.std.specs.Prelude.{◌≡◌, ℕ, [], ◌∷◌, ◌++◌, None, Some, Ok, Err, true, false};
 ghost use Rattle.pico_board.specs.declared.boot.BootKind.TheVariants.{Normal, Update};
@@ -22,91 +21,13 @@ ghost use Rattle.boot_rules.specs.declared.decision.Fall.{Fall};
 ghost use Rattle.boot_rules.specs.Tables.{slot_window};
 ghost use Rattle.boot_reasons.specs.declared.looks.UnitReason.{UnitReason};
 ghost use Rattle.worked_flashes.specs.Images.{image_of_version};
-ghost use Rattle.boot_caveats.specs.declared.caveat.Caveat.{Caveat};
-ghost use Rattle.boot_caveats.specs.OtpCaveats.{otp_caveats, raw_flags, raw_slot_size, secure_boot};
-ghost use Rattle.boot_caveats.specs.TableCaveats.{short_flash, table_tie, unread_caveats, unread_families};
+ghost use Rattle.slot_caveats.specs.declared.caveat.Caveat.{Caveat};
+ghost use Rattle.slot_caveats.specs.OtpCaveats.{otp_caveats, raw_flags, raw_slot_size, secure_boot};
+ghost use Rattle.slot_caveats.specs.TableCaveats.{short_flash, table_tie, unread_caveats, unread_families};
 ghost use Rattle.boot_caveats.specs.ChoiceCaveats.{first_tie, lacks_image, moved_by, other_cpu, slot_images, update_of_slot};
 ghost use Rattle.boot_caveats.specs.StartCaveats.{is_filled, row_caveats};
 ghost use Rattle.boot_caveats.specs.ImageCaveats.{begins_otherwise, ends_late, first_places, is_doubtful, look_may_start, read_windows, reads_blocks};
-ghost use Rattle.boot_caveats.specs.Alternatives.{better_last, suits_first};
-ghost use Rattle.boot_caveats.specs.Examples.{block_with, first, first_pair, in_slot, lone_report, lone_third, otp_from, pair_report, part_with, second, start_of, table_of_parts, taken_by, third};
-
-/// Secure boot is asked for by three of the rows 0x040 to 0x047, by bit 0 alone.
-pub fn rows_of_secure_boot()
-    ensures two { secure_boot (otp_from 0x040 (1 ∷ 1 ∷ [])) ≡ None }
-    ensures three { secure_boot (otp_from 0x040 (1 ∷ 0xffffff ∷ 3 ∷ [])) ≡ Some Caveat.SecureBoot }
-    ensures last { secure_boot (otp_from 0x045 (1 ∷ 1 ∷ 1 ∷ [])) ≡ Some Caveat.SecureBoot }
-    ensures apart { secure_boot (otp_from 0x040 (1 ∷ 0 ∷ 0 ∷ 1 ∷ 0 ∷ 0 ∷ 0 ∷ 1 ∷ []))
-        ≡ Some Caveat.SecureBoot }
-    ensures before { secure_boot (otp_from 0x03f (1 ∷ 1 ∷ 1 ∷ [])) ≡ None }
-    ensures behind { secure_boot (otp_from 0x046 (1 ∷ 1 ∷ 1 ∷ [])) ≡ None }
-    ensures other_bits { secure_boot (otp_from 0x040 (2 ∷ 4 ∷ 0xfffffe ∷ 8 ∷ [])) ≡ None }
-{}
-
-/// The bits of the boot flags and of the slot size that are not read.
-pub fn rows_that_are_not_read()
-    ensures read { raw_flags (otp_from 0x048 (3 ∷ [])) 0x048 ≡ None }
-    ensures unread { raw_flags (otp_from 0x048 (4 ∷ [])) 0x048 ≡ Some (Caveat.RawFlags 0x048 4) }
-    ensures all { raw_flags (otp_from 0x048 (0xffffff ∷ [])) 0x048
-        ≡ Some (Caveat.RawFlags 0x048 0xfffffc) }
-    ensures copy { raw_flags (otp_from 0x049 (3 ∷ [])) 0x049 ≡ Some (Caveat.RawFlags 0x049 3) }
-    ensures no_copy { raw_flags (otp_from 0x049 (0 ∷ [])) 0x049 ≡ None }
-    ensures size { raw_slot_size (otp_from 0x055 (15 ∷ [])) ≡ None }
-    ensures unread_size { raw_slot_size (otp_from 0x055 (16 ∷ [])) ≡ Some (Caveat.RawSlotSize 16) }
-    ensures whole_size { raw_slot_size (otp_from 0x055 (0x512345 ∷ []))
-        ≡ Some (Caveat.RawSlotSize 0x512340) }
-    ensures order { otp_caveats (otp_from 0x040
-        (1 ∷ 1 ∷ 1 ∷ 0 ∷ 0 ∷ 0 ∷ 0 ∷ 0 ∷ 5 ∷ 6 ∷ 7 ∷ 0 ∷ 0 ∷ 0 ∷ 0 ∷ 0 ∷ 0 ∷ 0 ∷ 0 ∷ 0 ∷ 0
-        ∷ 0x11 ∷ []))
-        ≡ Caveat.SecureBoot ∷ Caveat.RawFlags 0x048 4 ∷ Caveat.RawFlags 0x049 6
-        ∷ Caveat.RawFlags 0x04a 7 ∷ Caveat.RawSlotSize 16 ∷ [] }
-{}
-
-/// A table's range fault is a caveat in a flash that is shorter than 16 MiB.
-pub fn tables_for_a_longer_flash()
-    ensures shorter { short_flash 0xfff000 1 (Err (SlotFault.Table (TableFault.Range 2)))
-        ≡ Some (Caveat.ShortFlash 1 2) }
-    ensures whole { short_flash 0x1000000 1 (Err (SlotFault.Table (TableFault.Range 2))) ≡ None }
-    ensures other { short_flash 0x2000 1 (Err (SlotFault.Table (TableFault.Overlap 0 2))) ≡ None }
-    ensures no_table { short_flash 0x2000 1 (Err SlotFault.NoTable) ≡ None }
-    ensures table { short_flash 0x2000 0 (Ok (table_of_parts false 0 0 [])) ≡ None }
-{}
-
-/// What is not read of a table: family bits of its unpartitioned word, and flag bit 11.
-pub fn bits_of_tables()
-    ensures absolute { unread_families 0xfc008000 ≡ 0 }
-    ensures families { unread_families 0xfc0fc000 ≡ 0xf4000 }
-    ensures lowest { unread_families 0x4000 ≡ 0x4000 }
-    ensures below { unread_families 0x2000 ≡ 0 }
-    ensures highest { unread_families 0x80000 ≡ 0x80000 }
-    ensures above { unread_families 0x100000 ≡ 0 }
-    ensures sides { unread_caveats (Some (table_of_parts false 0 0xfc018000
-        (part_with 0x800 ∷ part_with 0x1400 ∷ part_with 0xfff ∷ [])))
-        ≡ Caveat.UnreadTargets 0x10000 ∷ Caveat.UnreadSide 0 ∷ Caveat.UnreadSide 2 ∷ [] }
-    ensures none { unread_caveats (Some (table_of_parts false 0 0xfc008000 (part_with 0 ∷ [])))
-        ≡ [] }
-    ensures no_table { unread_caveats None ≡ [] }
-{}
-
-/// Two tables of one version that differ in some field; the first is no singleton.
-pub fn tables_of_one_version()
-    ensures words { table_tie (Ok (table_of_parts false 9 1 [])) (Ok (table_of_parts false 9 2 []))
-        ≡ Some Caveat.TableTie }
-    ensures same { table_tie (Ok (table_of_parts false 9 1 [])) (Ok (table_of_parts false 9 1 []))
-        ≡ None }
-    ensures alone { table_tie (Ok (table_of_parts true 9 1 [])) (Ok (table_of_parts false 9 2 []))
-        ≡ None }
-    ensures other_alone { table_tie (Ok (table_of_parts false 9 1 []))
-        (Ok (table_of_parts true 9 1 [])) ≡ Some Caveat.TableTie }
-    ensures versions { table_tie (Ok (table_of_parts false 9 1 []))
-        (Ok (table_of_parts false 10 2 [])) ≡ None }
-    ensures parts { table_tie (Ok (table_of_parts false 9 1 (part_with 0 ∷ [])))
-        (Ok (table_of_parts false 9 1 (part_with 1 ∷ []))) ≡ Some Caveat.TableTie }
-    ensures more { table_tie (Ok (table_of_parts false 9 1 (part_with 0 ∷ [])))
-        (Ok (table_of_parts false 9 1 [])) ≡ Some Caveat.TableTie }
-    ensures one { table_tie (Ok (table_of_parts false 9 1 [])) (Err SlotFault.NoTable) ≡ None }
-    ensures other { table_tie (Err SlotFault.NoTable) (Ok (table_of_parts false 9 1 [])) ≡ None }
-{}
+ghost use Rattle.slot_caveats.specs.Examples.{block_with, first, first_pair, in_slot, lone_report, lone_third, otp_from, pair_report, part_with, second, start_of, table_of_parts, taken_by, third};
 
 /// A tie of the first unit that takes an image. The window that is taken comes first.
 pub fn ties_of_units()
@@ -197,10 +118,6 @@ pub fn blocks_of_windows()
     ensures longer { ends_late (block_with 4076 (0x10210142 ∷ 0x10210142 ∷ [])) ≡ true }
     ensures first { begins_otherwise (block_with 0 (0x10210142 ∷ 0x00000248 ∷ 0 ∷ [])) ≡ false }
     ensures later { begins_otherwise (block_with 0 (0x00000248 ∷ 0 ∷ 0x10210142 ∷ [])) ≡ true }
-    ensures suits { suits_first Arm (block_with 0 (0x10210142 ∷ 0x00000248 ∷ 0 ∷ [])) ≡ true }
-    ensures suits_not { suits_first Arm (block_with 0 (0x00000248 ∷ 0 ∷ 0x10210142 ∷ []))
-        ≡ false }
-    ensures other { suits_first Riscv (block_with 0 (0x10210142 ∷ 0x00000248 ∷ 0 ∷ [])) ≡ false }
 {}
 
 /// The rules that the chip may not judge, and those that it does.
@@ -224,15 +141,4 @@ pub fn rules_that_are_in_doubt()
     ensures broken { is_doubtful (Why.Loop (LoopFault.Broken 0)) ≡ false }
     ensures members { look_may_start (pair_report None) ≡ Caveat.MayStart second Why.Delta ∷ [] }
     ensures lone { look_may_start (lone_report None) ≡ [] }
-{}
-
-/// On a tie B is better by another rule. The greater version is better by both rules.
-pub fn versions_by_another_rule()
-    ensures tie { better_last (Some (image_of_version first 1 9 false).version)
-        (Some (image_of_version second 1 9 false).version) ≡ Some B }
-    ensures first { better_last (Some (image_of_version first 1 10 false).version)
-        (Some (image_of_version second 1 9 false).version) ≡ Some A }
-    ensures second { better_last (Some (image_of_version first 1 9 false).version)
-        (Some (image_of_version second 2 0 false).version) ≡ Some B }
-    ensures only { better_last (Some (image_of_version first 1 9 false).version) None ≡ Some A }
 {}

@@ -1,12 +1,10 @@
 //! Laws of the definitions, proved: each is the `ensures` of a function that does nothing.
 
-pub mod doubts;
-
 ghost use Rattle.std.specs.Prelude.{◌≡◌, List};
 ghost use Rattle.pico_board.specs.declared.boot.Cpu.{Cpu};
 ghost use Rattle.pico_board.specs.declared.boot.BootKind.{BootKind};
 ghost use Rattle.pico_board.specs.Content.{Content};
-ghost use Rattle.boot_caveats.specs.declared.caveat.Caveat.{Caveat};
+ghost use Rattle.slot_caveats.specs.declared.caveat.Caveat.{Caveat};
 ghost use Rattle.boot_caveats.specs.Caveats.{caveats_in};
 ghost use Rattle.boot_caveats.specs.Rules.{AreCaveats};
 

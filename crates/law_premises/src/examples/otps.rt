@@ -1,8 +1,8 @@
 //! Premises on what the rows of an OTP say.
 
 ghost use Rattle.std.specs.Prelude.{[], ◌∷◌, ◌++◌, replicate};
-ghost use Rattle.boot_caveats.specs.declared.caveat.Caveat.{Caveat};
-ghost use Rattle.boot_caveats.specs.OtpRules.{AreCriticalCaveats, AreOtpCaveats, IsSecureBoot};
+ghost use Rattle.slot_caveats.specs.declared.caveat.Caveat.{Caveat};
+ghost use Rattle.slot_caveats.specs.OtpRules.{AreCriticalCaveats, AreOtpCaveats, IsSecureBoot};
 
 /// Three of the rows 0x040 to 0x047 ask for secure boot, and two do not.
 pub fn rows_of_secure_boot()

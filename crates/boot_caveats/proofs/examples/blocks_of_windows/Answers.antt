@@ -22,15 +22,3 @@ returns-clause-first c = refl
 pub returns-clause-later : goal.returns-clause-later
 unfolding size_of
 returns-clause-later c = refl
-
-pub returns-clause-suits : goal.returns-clause-suits
-unfolding size_of
-returns-clause-suits c = refl
-
-pub returns-clause-suits_not : goal.returns-clause-suits_not
-unfolding size_of
-returns-clause-suits_not c = refl
-
-pub returns-clause-other : goal.returns-clause-other
-unfolding size_of
-returns-clause-other c = refl

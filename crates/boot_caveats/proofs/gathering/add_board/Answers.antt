@@ -1,8 +1,8 @@
 use Rattle.std.proofs.Common.{◌++◌, length, ap, ◌∙◌}
 use Rattle.std.specs.Prelude.{option_to_list}
-use Rattle.boot_caveats.specs.OtpCaveats.{otp_caveats, short_slots}
-use Rattle.boot_caveats.specs.TableCaveats.{short_flash}
-use Rattle.boot_caveats.proofs.ListingLemmas.{five-lists, on-ok}
+use Rattle.slot_caveats.specs.OtpCaveats.{otp_caveats, short_slots}
+use Rattle.slot_caveats.specs.TableCaveats.{short_flash}
+use Rattle.slot_caveats.proofs.ListingLemmas.{five-lists, on-ok}
 use Rattle.boot_caveats.proofs.ReadLemmas.{readable-reasons}
 use Rattle.boot_caveats.proofs.gathering.add_board.Goals as goal
 

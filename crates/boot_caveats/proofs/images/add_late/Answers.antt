@@ -3,7 +3,7 @@ use Rattle.std.specs.Prelude.{option_to_list}
 use Rattle.std.proofs.lemmas.List.{take_more}
 use Rattle.pico_board.specs.declared.window.Window.{Window}
 use Rattle.boot_caveats.specs.ImageCaveats.{late_first}
-use Rattle.boot_caveats.proofs.MoreLemmas.{listed-more}
+use Rattle.slot_caveats.proofs.MoreLemmas.{listed-more}
 use Rattle.boot_caveats.proofs.images.add_late.Goals as goal
 
 pub loop-window-preserved : goal.loop-window-preserved

@@ -2,7 +2,7 @@ use Rattle.std.proofs.Common.{◌++◌, ap, ◌∙◌}
 use Rattle.std.specs.Prelude.{option_to_list}
 use Rattle.std.specs.List.{range_with_len}
 use Rattle.boot_caveats.specs.PartCaveats.{ignore_flags}
-use Rattle.boot_caveats.proofs.MoreLemmas.{listed-more, range-next}
+use Rattle.slot_caveats.proofs.MoreLemmas.{listed-more, range-next}
 use Rattle.boot_caveats.proofs.parts.add_each_ignore.Goals as goal
 
 pub loop-i-preserved : goal.loop-i-preserved

@@ -1,7 +1,7 @@
 use Rattle.std.proofs.Common.{◌≤◌, length, arith, sym, ◌∙◌}
 use Rattle.part_table.specs.TableOf.{has_table}
 use Rattle.block_loop.proofs.PlaceLemmas.{as-many}
-use Rattle.boot_caveats.proofs.SeenLemmas.{first-here, first-more, first-none}
+use Rattle.slot_caveats.proofs.SeenLemmas.{first-here, first-more, first-none}
 use Rattle.boot_caveats.proofs.reading.first_table.Goals as goal
 
 pub returns-then-has_table : goal.returns-then-has_table

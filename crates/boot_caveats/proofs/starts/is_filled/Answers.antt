@@ -1,5 +1,6 @@
 use Rattle.std.proofs.Common.{sym, ◌∙◌}
-use Rattle.boot_caveats.proofs.FilledLemmas.{filled-end, filled-here, filled-more, shift-whole}
+use Rattle.boot_caveats.proofs.FilledLemmas.{filled-end, filled-here, filled-more}
+use Rattle.slot_caveats.proofs.MoreLemmas.{shift-whole}
 use Rattle.boot_caveats.proofs.starts.is_filled.Goals as goal
 
 pub returns-then-value-place : goal.returns-then-value-place

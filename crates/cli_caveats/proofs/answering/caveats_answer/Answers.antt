@@ -1,6 +1,6 @@
 use Rattle.std.proofs.Common.{List, [], ◌∙◌, ◌++◌, ap, refl, string_bytes}
 use Rattle.std.specs.List.{flat_map}
-use Rattle.boot_caveats.specs.declared.caveat.Caveat.{Caveat}
+use Rattle.slot_caveats.specs.declared.caveat.Caveat.{Caveat}
 use Rattle.text_lines.specs.Texts.{decision_line}
 use Rattle.cli_caveats.specs.Texts.{caveat_line}
 use Rattle.cli_caveats.proofs.CaveatWorkLemmas.{answered}

@@ -11,7 +11,7 @@ use Rattle.block_codec.specs.Reading.{block_at, front_block, item_words}
 use Rattle.block_codec.specs.Items.{size_of}
 use Rattle.block_codec.specs.Words.{word_of, word_bytes}
 use Rattle.boot_caveats.specs.Caveats.{caveats_by}
-use Rattle.boot_caveats.specs.OtpCaveats.{voted_bits}
+use Rattle.slot_caveats.specs.OtpCaveats.{voted_bits}
 use Rattle.boot_caveats.specs.StartCaveats.{is_filled_from}
 use Rattle.boot_caveats.proofs.examples.flashes.caveats_of_flashes.Goals as goal
 

@@ -1,5 +1,5 @@
 use Rattle.std.proofs.Common.{◌≡◌, ◌≤◌, [], refl, arith, inr}
-use Rattle.boot_caveats.specs.OtpCaveats.{voted_bits}
+use Rattle.slot_caveats.specs.OtpCaveats.{voted_bits}
 use Rattle.law_premises.proofs.examples.otps.rows_of_zeros.Goals as goal
 
 few : 3 ≤ 0 → ⊥

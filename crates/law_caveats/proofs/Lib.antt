@@ -1,0 +1,4 @@
+mod DoubtLemmas
+mod ProcessorLaws
+mod ChoiceLaws
+mod WindowLaws

@@ -1,0 +1,2 @@
+-- These definitions are this project's own: what the chip may do otherwise is from memory.
+pub mod Alternatives

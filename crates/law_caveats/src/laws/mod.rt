@@ -1,0 +1,61 @@
+//! Laws of the other rules, proved: each is the `ensures` of a function that does nothing.
+
+ghost use Rattle.std.specs.Prelude.{◌≡◌, ◌↔◌, ℕ, Contains, List};
+ghost use Rattle.pico_board.specs.declared.boot.Cpu.{Cpu};
+ghost use Rattle.pico_board.specs.declared.boot.BootKind.{BootKind};
+ghost use Rattle.pico_board.specs.declared.window.Window.{Window};
+ghost use Rattle.pico_board.specs.Content.{Content};
+ghost use Rattle.boot_rules.specs.declared.decision.Decision.{Decision};
+ghost use Rattle.boot_rules.specs.Chosen.{Chosen};
+ghost use Rattle.slot_caveats.specs.declared.caveat.Caveat.{Caveat};
+ghost use Rattle.slot_caveats.specs.declared.caveat.Caveat.TheVariants.{OtherProcessor, SlotImage, Tie, UpdateMovesUnit, FirstBlock, ItemOrder};
+ghost use Rattle.boot_caveats.specs.Rules.{AreCaveats};
+ghost use Rattle.law_caveats.specs.Alternatives.{ChosenOfBoth, ChosenWithSlots, decision_early, decision_last, decision_typed, decision_unmoved};
+
+/// The chip may try the other processor where no image starts. Without its caveat such a boot
+/// decides as the model does.
+pub fn no_doubt_of_the_processor()
+    ensures { (c : Content) (cpu : Cpu) (kind : BootKind) (list : List Caveat)
+        → AreCaveats c cpu kind list → ((w : Window) → Contains list (OtherProcessor w) → ⊥)
+        → (d : Decision) → ChosenOfBoth c cpu kind d ↔ Chosen c cpu kind d }
+{}
+
+/// The chip may try the two slots of a flash without a table where no image starts. Without their
+/// caveat such a boot decides as the model does.
+pub fn no_doubt_of_the_slots()
+    ensures { (c : Content) (cpu : Cpu) (kind : BootKind) (list : List Caveat)
+        → AreCaveats c cpu kind list → ((w : Window) → Contains list (SlotImage w) → ⊥)
+        → (d : Decision) → ChosenWithSlots c cpu kind d ↔ Chosen c cpu kind d }
+{}
+
+/// On a tie the chip may take B. Without the caveat of a tie such a boot decides as the model
+/// does.
+pub fn no_doubt_of_a_tie()
+    ensures { (c : Content) (cpu : Cpu) (kind : BootKind) (list : List Caveat)
+        → AreCaveats c cpu kind list → ((w v : Window) → Contains list (Tie w v) → ⊥)
+        → Chosen c cpu kind (decision_last c cpu kind) }
+{}
+
+/// An update boot of the chip may leave the order of the units. Without the caveat of a moved unit
+/// such a boot decides as the model does.
+pub fn no_doubt_of_an_update()
+    ensures { (c : Content) (cpu : Cpu) (kind : BootKind) (list : List Caveat)
+        → AreCaveats c cpu kind list → ((part : ℕ) → Contains list (UpdateMovesUnit part) → ⊥)
+        → Chosen c cpu kind (decision_unmoved c cpu kind) }
+{}
+
+/// For the chip a definition may have to begin with its IMAGE_TYPE item. Without the caveat of the
+/// order of items such a boot decides as the model does.
+pub fn no_doubt_of_the_item_order()
+    ensures { (c : Content) (cpu : Cpu) (kind : BootKind) (list : List Caveat)
+        → AreCaveats c cpu kind list → ((w : Window) → Contains list (ItemOrder w) → ⊥)
+        → Chosen c cpu kind (decision_typed c cpu kind) }
+{}
+
+/// For the chip a first block may have to end within 4096 bytes. Without the caveat of a first
+/// block such a boot decides as the model does.
+pub fn no_doubt_of_first_blocks()
+    ensures { (c : Content) (cpu : Cpu) (kind : BootKind) (list : List Caveat)
+        → AreCaveats c cpu kind list → ((w : Window) → Contains list (FirstBlock w) → ⊥)
+        → Chosen c cpu kind (decision_early c cpu kind) }
+{}

@@ -1,0 +1,24 @@
+-- By computing.
+use Rattle.std.proofs.Common.{refl}
+use Rattle.block_loop.specs.Loop.{loop_of, follow, block_from}
+use Rattle.block_codec.specs.Blocks.{frame}
+use Rattle.block_codec.specs.Reading.{block_at, front_block, item_words}
+use Rattle.block_codec.specs.Items.{size_of}
+use Rattle.block_codec.specs.Words.{word_of, word_bytes}
+use Rattle.slot_caveats.proofs.examples.slots.orders_of_tables.Goals as goal
+
+pub returns-clause-first : goal.returns-clause-first
+unfolding loop_of follow block_from block_at front_block item_words frame size_of word_of word_bytes
+returns-clause-first c = refl
+
+pub returns-clause-later : goal.returns-clause-later
+unfolding loop_of follow block_from block_at front_block item_words frame size_of word_of word_bytes
+returns-clause-later c = refl
+
+pub returns-clause-long : goal.returns-clause-long
+unfolding loop_of follow block_from block_at front_block item_words frame size_of word_of word_bytes
+returns-clause-long c = refl
+
+pub returns-clause-none : goal.returns-clause-none
+unfolding loop_of follow block_from block_at front_block item_words frame size_of word_of word_bytes
+returns-clause-none c = refl
