@@ -18,6 +18,7 @@ use Rattle.slot_caveats.proofs.ListingLemmas.{IsJust, both-just}
 use Rattle.slot_caveats.proofs.OtpLemmas.{critical-just, otp-just, slots-short-just}
 use Rattle.slot_caveats.proofs.TableCaveatLemmas.{short-just, tie-just as table-tie-just, unread-just}
 use Rattle.boot_caveats.proofs.ChoiceCaveatLemmas.{moves-just, nothing-just, other-just, slot-update-just, slots-just, tie-just}
+use Rattle.boot_caveats.proofs.MemberLemmas.{members-just}
 use Rattle.boot_caveats.proofs.PartLemmas.{ignores-just, reads-just}
 use Rattle.slot_caveats.proofs.SlotLemmas.{in-slots-just}
 use Rattle.boot_caveats.proofs.StartCaveatLemmas.{rows-just, table-just}
@@ -48,9 +49,10 @@ all-just c cpu kind r is =
     (both-just _ _ (unread-just (table_of_reasons r)) (table-tie-just r.first r.second))))))
     (both-just _ _ (in-slots-just c r.size r.table r.first r.second is.table)
     (both-just _ _ (critical-just c.otp)
+    (both-just _ _ (members-just c cpu r.looks.items)
     (both-just _ _ (ignores-just (table_of_reasons r))
     (both-just _ _ (reads-just r.decision (table_of_reasons r))
-    (nothing-just c (boot_units_in c cpu) r.size is.size kind r.table is.table)))))))
+    (nothing-just c (boot_units_in c cpu) r.size is.size kind r.table is.table))))))))
 
 pub caveats-right : (c : Content) (cpu : Cpu) (kind : BootKind) → AreCaveats c cpu kind (caveats_in c cpu kind)
 caveats-right c cpu kind = record {

@@ -3,6 +3,7 @@ pub mod WindowLemmas
 mod ReadLemmas
 pub mod ChoiceCaveatLemmas
 pub mod PartLemmas
+pub mod MemberLemmas
 pub mod StartCaveatLemmas
 pub mod ImageCaveatLemmas
 pub mod CaveatLemmas

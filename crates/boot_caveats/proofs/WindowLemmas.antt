@@ -51,7 +51,7 @@ unit-inside n u inside = All-cons (IsInside n) u.a (option_to_list u.b) inside.f
     second (Some w) is = All-cons (IsInside n) w [] is (All-nil (IsInside n))
 
 -- those of the members of the units that are looked at
-looked-inside : (n : ℕ) (looks : List UnitReport) → AreLooksInside n looks → All (IsInside n) (looked_windows looks)
+pub looked-inside : (n : ℕ) (looks : List UnitReport) → AreLooksInside n looks → All (IsInside n) (looked_windows looks)
 looked-inside n [] all = All-nil (IsInside n)
 looked-inside n (look ∷ looks) all =
     All-append (IsInside n) (unit_windows look.unit) (looked_windows looks)

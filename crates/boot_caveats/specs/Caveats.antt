@@ -11,6 +11,7 @@ use Rattle.slot_caveats.specs.declared.caveat.Caveat.{Caveat}
 use Rattle.slot_caveats.specs.OtpCaveats.{critical_caveats, otp_caveats, short_slots}
 use Rattle.slot_caveats.specs.TableCaveats.{short_flash, table_tie, unread_caveats}
 use Rattle.boot_caveats.specs.ChoiceCaveats.{first_tie, other_processor, slot_images, update_moves, update_of_nothing, update_of_slot}
+use Rattle.boot_caveats.specs.MemberCaveats.{member_caveats}
 use Rattle.boot_caveats.specs.PartCaveats.{ignore_flags, no_read, of_parts}
 use Rattle.slot_caveats.specs.SlotCaveats.{slot_caveats}
 use Rattle.boot_caveats.specs.StartCaveats.{started_rows, table_in_image}
@@ -44,14 +45,16 @@ window_caveats c cpu r =
     ++ (owned_images c cpu (table_of_reasons r)
     ++ (unread_caveats (table_of_reasons r) ++ option_to_list (table_tie r.first r.second)))))
 
--- what stands in the slots, critical flags, flags and rights of partitions, and an update of nothing
+-- what stands in the slots, critical flags, the definitions that are looked at, flags and rights
+-- of partitions, and an update of nothing
 abbrev pub last_caveats : Content → Cpu → BootKind → Reasons → List Caveat
 last_caveats c cpu kind r =
     slot_caveats c r.size r.table r.first r.second
     ++ (critical_caveats c.otp
+    ++ (member_caveats c cpu r.looks.items
     ++ (of_parts ignore_flags (table_of_reasons r)
     ++ (of_parts (no_read r.decision) (table_of_reasons r)
-    ++ option_to_list (update_of_nothing kind r.size r.table (boot_units_in c cpu)))))
+    ++ option_to_list (update_of_nothing kind r.size r.table (boot_units_in c cpu))))))
 
 -- the caveats of an answer with these reasons
 unfoldable pub caveats_by : Content → Cpu → BootKind → Reasons → List Caveat

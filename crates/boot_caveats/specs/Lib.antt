@@ -3,6 +3,9 @@ pub mod ChoiceCaveats
 pub mod ChoiceRules
 pub mod PartCaveats
 pub mod PartRules
+pub mod MemberCaveats
+pub mod MemberRules
+pub mod Doubts
 pub mod StartCaveats
 pub mod StartRules
 pub mod ImageCaveats

@@ -12,6 +12,7 @@ use Rattle.slot_caveats.specs.Listing.{AreBoth}
 use Rattle.slot_caveats.specs.OtpRules.{AreCriticalCaveats, AreOtpCaveats, IsShortSlots}
 use Rattle.slot_caveats.specs.TableRules.{AreUnread, IsShortFlash, IsTableTie}
 use Rattle.boot_caveats.specs.ChoiceRules.{AreSlotImages, IsOtherProcessor, IsTie, IsUpdateMovesUnit, IsUpdateOfNothing, IsUpdateOfSlot}
+use Rattle.boot_caveats.specs.MemberRules.{AreMemberCaveats}
 use Rattle.boot_caveats.specs.PartRules.{AreIgnoreFlags, AreNoReads}
 use Rattle.slot_caveats.specs.SlotRules.{AreSlotCaveats}
 use Rattle.boot_caveats.specs.StartRules.{AreRowCaveats, IsTableInImage}
@@ -43,14 +44,16 @@ AreWindowCaveats c cpu r =
     (AreBoth (AreOwnedImages c cpu (table_of_reasons r))
     (AreBoth (AreUnread (table_of_reasons r)) (IsTableTie r.first r.second)))))
 
--- what stands in the slots, critical flags, flags and rights of partitions, and an update of nothing
+-- what stands in the slots, critical flags, the definitions that are looked at, flags and rights
+-- of partitions, and an update of nothing
 abbrev pub AreLastCaveats : Content → Cpu → BootKind → Reasons → List Caveat → Type 0
 AreLastCaveats c cpu kind r =
     AreBoth (AreSlotCaveats c r.size r.first r.second)
     (AreBoth (AreCriticalCaveats c.otp)
+    (AreBoth (AreMemberCaveats c cpu r.looks.items)
     (AreBoth (AreIgnoreFlags (table_of_reasons r))
     (AreBoth (AreNoReads r.decision (table_of_reasons r))
-    (IsUpdateOfNothing c kind (boot_units_in c cpu)))))
+    (IsUpdateOfNothing c kind (boot_units_in c cpu))))))
 
 -- the caveats of the answer of a boot; its reasons are those that the rules name: decision, slots,
 -- table of the flash, and units that are looked at

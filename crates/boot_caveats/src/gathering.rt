@@ -11,6 +11,7 @@ use crate::choices::{
     add_slot_images, first_tie, other_processor, update_moves, update_of_nothing, update_of_slot,
 };
 use crate::images::{add_item_orders, add_late_firsts, add_may_starts, add_owned_images};
+use crate::members::add_members;
 use crate::parts::{add_ignore_flags, add_no_reads};
 use crate::starts::{add_rows, table_in_image};
 use boot_reasons::{Reasons, gather, taken_table};
@@ -102,8 +103,8 @@ fn add_windows<B: Board>(
     add(list, table_tie(&reasons.first, &reasons.second))
 }
 
-/// Adds the caveats of what stands in the slots, of critical flags, of flags and rights of
-/// partitions, and of an update of nothing.
+/// Adds the caveats of what stands in the slots, of critical flags, of the definitions that
+/// are looked at, of flags and rights of partitions, and of an update of nothing.
 fn add_last<B: Board>(
     board: &B,
     reasons: &Reasons,
@@ -125,6 +126,7 @@ fn add_last<B: Board>(
         list,
     )?;
     add_critical(board, list)?;
+    add_members(board, cpu, reasons.looks.as_slice(), list)?;
     let table = taken_table(reasons.table, &reasons.first, &reasons.second);
     add_ignore_flags(table, list)?;
     add_no_reads(&reasons.decision, table, board.flash_len(), list)?;

@@ -3,10 +3,10 @@
 //!
 //! The definitions stand in `specs/`:
 //! - `Listing` says how conditions make lists of caveats.
-//! - `OtpCaveats`, `TableCaveats`, `SlotCaveats`, `ChoiceCaveats`, `StartCaveats`, `ImageCaveats`
-//!   and `PartCaveats` have the caveats of one subject each, as functions.
-//! - `OtpRules`, `TableRules`, `SlotRules`, `ChoiceRules`, `StartRules`, `ImageRules` and
-//!   `PartRules` have the same conditions as rules.
+//! - `OtpCaveats`, `TableCaveats`, `SlotCaveats`, `ChoiceCaveats`, `StartCaveats`, `ImageCaveats`,
+//!   `MemberCaveats` and `PartCaveats` have the caveats of one subject each, as functions.
+//! - `OtpRules`, `TableRules`, `SlotRules`, `ChoiceRules`, `StartRules`, `ImageRules`,
+//!   `MemberRules` and `PartRules` have the same conditions as rules.
 //! - `Caveats` has the whole list as a function, and `Rules` has it as rules.
 //!
 //! The laws say that the lists are the same.
@@ -17,6 +17,7 @@ pub mod examples;
 mod gathering;
 mod images;
 pub mod laws;
+mod members;
 mod parts;
 mod reading;
 mod starts;

@@ -4,7 +4,7 @@ use Rattle.std.specs.List.{flat_map}
 use Rattle.text_words.specs.Writing.{hex_digits, hex_row, hex_word, line}
 use Rattle.boot_rules.specs.declared.decision.Decision.{Decision}
 use Rattle.slot_caveats.specs.declared.caveat.Caveat.{Caveat}
-use Rattle.slot_caveats.specs.declared.caveat.Caveat.TheVariants.{SecureBoot, RawFlags, RawSlotSize, ShortFlash, TableInImage, OtherProcessor, SlotImage, Tie, UpdateOfSlot, UpdateMovesUnit, RollbackRows, RollbackFull, RollbackGap, FirstBlock, ItemOrder, MayStart, OwnedImage, UnreadTargets, UnreadSide, TableTie, ShortSlots, ImageInSlot, SlotEnd, FaultyTable, TableOrder, RawCritical, IgnoreFlags, NoRead, UpdateOfNothing}
+use Rattle.slot_caveats.specs.declared.caveat.Caveat.TheVariants.{SecureBoot, RawFlags, RawSlotSize, ShortFlash, TableInImage, OtherProcessor, SlotImage, Tie, UpdateOfSlot, UpdateMovesUnit, RollbackRows, RollbackFull, RollbackGap, FirstBlock, ItemOrder, MayStart, OwnedImage, UnreadTargets, UnreadSide, TableTie, ShortSlots, ImageInSlot, SlotEnd, FaultyTable, TableOrder, LongDefinition, AbsoluteMap, BareHash, RawCritical, IgnoreFlags, NoRead, UpdateOfNothing}
 use Rattle.text_lines.specs.Faults.{why_text}
 use Rattle.cli_inputs.specs.JsonTexts.{table_fault_text}
 use Rattle.text_lines.specs.Texts.{decision_line, window_text}
@@ -49,6 +49,10 @@ caveat_text (FaultyTable slot fault) =
 caveat_text (TableOrder slot) = codes "caveat table-order slot=" ++ decimal slot
 caveat_text (RawCritical row bits) =
     codes "caveat raw-critical row=" ++ (hex_row row ++ (codes " bits=" ++ hex_bits bits))
+caveat_text (LongDefinition w at) =
+    codes "caveat long-definition " ++ (window_text w ++ (codes " at=" ++ hex_word at))
+caveat_text (AbsoluteMap w) = codes "caveat absolute-map " ++ window_text w
+caveat_text (BareHash w) = codes "caveat bare-hash " ++ window_text w
 caveat_text (IgnoreFlags part) = codes "caveat ignore-flags partition=" ++ decimal part
 caveat_text (NoRead part) = codes "caveat no-read partition=" ++ decimal part
 caveat_text (UpdateOfNothing base) = codes "caveat update-of-nothing base=" ++ hex_word base

@@ -109,6 +109,9 @@ pub fn caveat_text(alloc: Global, caveat: Caveat) -> Result<String, AllocError>
         Caveat::RawCritical(row, bits) => {
             format!(in alloc; "caveat raw-critical row=0x{row:03x} bits=0x{bits:06x}")
         }
+        Caveat::LongDefinition(window, at) => block_text(alloc, "long-definition", window, at),
+        Caveat::AbsoluteMap(window) => window_text(alloc, "absolute-map", window),
+        Caveat::BareHash(window) => window_text(alloc, "bare-hash", window),
         Caveat::IgnoreFlags(part) => partition_text(alloc, "ignore-flags", part),
         Caveat::NoRead(part) => partition_text(alloc, "no-read", part),
         Caveat::UpdateOfNothing(base) => {

@@ -2,6 +2,7 @@
 use Rattle.std.specs.Prelude.{ℕ, ◌+◌, ◌-◌, Bool, true, false, List, [], ◌∷◌, ◌++◌, replicate, pos, Option, Some, None, Result, Ok, Err}
 use Rattle.pico_board.specs.declared.window.Window.{Window}
 use Rattle.pico_board.specs.Content.{Content}
+use Rattle.block_codec.specs.declared.items.Item.{Item}
 use Rattle.block_codec.specs.Blocks.{BlockView}
 use Rattle.image_def.specs.declared.started.Started.{Started}
 use Rattle.image_check.specs.declared.why.Why.{Why}
@@ -121,3 +122,11 @@ across link =
 
 abbrev pub six_sectors : List ℕ → Content
 six_sectors bytes = record { flash = bytes; otp = rows_with 0 1 }
+
+-- the words of an absolute LOAD_MAP item with one entry of these first two words
+abbrev pub map_words : ℕ → ℕ → List ℕ
+map_words place runtime = 0x81000406 ∷ place ∷ runtime ∷ 0x10001000 ∷ []
+
+-- such an item as the first one of its block, with this last header byte
+abbrev pub map_item : ℕ → Item
+map_item high = record { first = 1; words = 4; kind = 0x06; low = 0; high = high }

@@ -67,6 +67,14 @@ pub enum Caveat {
     TableOrder(u32),
     /// At least three of the eight copies of this row have these bits, which are not read.
     RawCritical(u16, u32),
+    /// The block at this offset of this window is longer than a definition may be, and would be one
+    /// otherwise.
+    LongDefinition(Window, u32),
+    /// The definition of this window has an absolute LOAD_MAP with an entry that moves what it
+    /// stores.
+    AbsoluteMap(Window),
+    /// The definition of this window has a HASH_VALUE and no LOAD_MAP.
+    BareHash(Window),
     /// This partition is the B of a pair, and its ignore flags differ from those of its A.
     IgnoreFlags(u32),
     /// The decision is a start in this partition, which lacks the right of secure read.

@@ -4,12 +4,13 @@ ghost use Rattle.std.specs.Prelude.{◌≡◌, List, Ok, find, reverse};
 ghost use Rattle.block_codec.specs.Blocks.{BlockView};
 ghost use Rattle.block_loop.specs.Loop.{loop_of};
 ghost use Rattle.block_loop.specs.Offsets.{AreLoop};
+ghost use Rattle.image_def.specs.Suits.{suits_flags};
 ghost use Rattle.slot_caveats.specs.SlotCaveats.{is_executable, last_where};
-ghost use Rattle.slot_caveats.specs.Sought.{is_sought};
+ghost use Rattle.slot_caveats.specs.Sought.{is_long_definition, is_sought};
 
 use block_codec::Block;
 use block_loop::{BlockLoop, block_of, walk};
-use image_def::{image_flags, suits};
+use image_def::{MOST_BLOCK_BYTES, image_flags, suits};
 use part_table::has_table;
 use pico_board::{Cpu, View};
 
@@ -18,6 +19,8 @@ use pico_board::{Cpu, View};
 pub enum Sought {
     /// A definition for a processor.
     Definition(Cpu),
+    /// A block that would be a definition for a processor if it were shorter.
+    LongDefinition(Cpu),
     /// A block with a PARTITION_TABLE item.
     Table,
     /// A block whose first IMAGE_TYPE item is that of an executable.
@@ -34,12 +37,38 @@ fn is_executable(block: &Block) -> bool
     }
 }
 
+/// Whether the flags of an IMAGE_TYPE item are those of a definition for the processor.
+fn suits_flags(cpu: Cpu, flags: u16) -> bool
+    ensures { result ≡ suits_flags cpu flags }
+{
+    let runs = flags % 16 == 1 && flags / 4096 % 8 == 1;
+    let processor = flags / 256 % 8;
+    match cpu {
+        Cpu::Arm => runs && processor == 0 && flags / 16 % 4 == 2,
+        Cpu::Riscv => runs && processor == 1,
+    }
+}
+
+/// Whether a block is longer than a definition may be, and would suit the processor otherwise.
+fn is_long_definition(block: &Block, cpu: Cpu) -> bool
+    ensures { result ≡ is_long_definition cpu block.now }
+{
+    if block.size() <= MOST_BLOCK_BYTES {
+        return false;
+    }
+    match image_flags(block) {
+        Some(flags) => suits_flags(cpu, flags),
+        None => false,
+    }
+}
+
 /// Whether a block is what is sought.
 fn is_sought(block: &Block, what: Sought) -> bool
     ensures { result ≡ is_sought what block.now }
 {
     match what {
         Sought::Definition(cpu) => suits(block, cpu),
+        Sought::LongDefinition(cpu) => is_long_definition(block, cpu),
         Sought::Table => has_table(block),
         Sought::Executable => is_executable(block),
     }

@@ -3,6 +3,7 @@
 
 pub mod flashes;
 pub mod lines;
+pub mod members;
 
 ghost use Rattle.std.specs.Prelude.{◌≡◌, ℕ, [], ◌∷◌, ◌++◌, None, Some, Ok, Err, true, false};
 ghost use Rattle.pico_board.specs.declared.boot.BootKind.TheVariants.{Normal, Update};
