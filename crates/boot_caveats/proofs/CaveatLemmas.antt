@@ -17,16 +17,18 @@ use Rattle.boot_caveats.specs.Rules.{AreBoardCaveats, AreCaveats, AreChoiceCavea
 use Rattle.slot_caveats.proofs.ListingLemmas.{IsJust, both-just}
 use Rattle.slot_caveats.proofs.OtpLemmas.{critical-just, otp-just, slots-short-just}
 use Rattle.slot_caveats.proofs.TableCaveatLemmas.{short-just, tie-just as table-tie-just, unread-just}
-use Rattle.boot_caveats.proofs.ChoiceCaveatLemmas.{moves-just, nothing-just, other-just, slot-update-just, slots-just, tie-just}
+use Rattle.boot_caveats.proofs.ChoiceCaveatLemmas.{moves-just, nothing-just, slot-update-just, slots-just, tie-just}
 use Rattle.boot_caveats.proofs.MemberLemmas.{members-just}
 use Rattle.boot_caveats.proofs.PartLemmas.{ignores-just, reads-just}
+use Rattle.boot_caveats.specs.ProcessorCaveats.{looked_members, updated_in}
+use Rattle.boot_caveats.proofs.ProcessorLemmas.{processors-just}
 use Rattle.slot_caveats.proofs.SlotLemmas.{in-slots-just}
 use Rattle.boot_caveats.proofs.StartCaveatLemmas.{rows-just, table-just}
 use Rattle.boot_caveats.proofs.ImageCaveatLemmas.{late-just, orders-just, owned-just, starts-just}
 
 pub all-just : (c : Content) (cpu : Cpu) (kind : BootKind) (r : Reasons) → IsExplained c cpu kind r
     → IsJust (AreBoth (AreBoardCaveats c r) (AreBoth (AreChoiceCaveats c cpu kind r)
-    (AreBoth (AreWindowCaveats c cpu r) (AreLastCaveats c cpu kind r))))
+    (AreBoth (AreWindowCaveats c cpu kind r) (AreLastCaveats c cpu kind r))))
     (caveats_by c cpu kind r)
 unfolding caveats_by
 all-just c cpu kind r is =
@@ -36,7 +38,7 @@ all-just c cpu kind r is =
     (both-just _ _ (short-just (length c.flash) 1 r.second)
     (both-just _ _ (slots-short-just c.otp (length c.flash)) (table-just c r.decision)))))
     (both-just _ _
-    (both-just _ _ (other-just c cpu kind r.decision)
+    (both-just _ _ (processors-just c cpu kind r.decision (looked_members r.looks.items (updated_in c cpu kind)))
     (both-just _ _ (slots-just c cpu r.decision r.size r.table is.table is.size)
     (both-just _ _ (tie-just r.looks.items)
     (both-just _ _ (slot-update-just c r.size is.size kind r.table is.table)
@@ -44,7 +46,7 @@ all-just c cpu kind r is =
     (both-just _ _
     (both-just _ _ (late-just c r.decision r.size r.looks.items)
     (both-just _ _ (orders-just c cpu r.looks.items)
-    (both-just _ _ (starts-just r.looks.items)
+    (both-just _ _ (starts-just c cpu kind r.looks.items)
     (both-just _ _ (owned-just c cpu (table_of_reasons r))
     (both-just _ _ (unread-just (table_of_reasons r)) (table-tie-just r.first r.second))))))
     (both-just _ _ (in-slots-just c r.size r.table r.first r.second is.table)
@@ -70,16 +72,16 @@ caveats-only c cpu kind list is =
 -- the four lists, one behind the other
 pub gathered : (c : Content) (cpu : Cpu) (kind : BootKind) (r : Reasons) (none one two three four : List Caveat)
     → r ≡ reasons_in c cpu kind → none ≡ [] → one ≡ none ++ board_caveats c r → two ≡ one ++ choice_caveats c cpu kind r
-    → three ≡ two ++ window_caveats c cpu r → four ≡ three ++ last_caveats c cpu kind r
+    → three ≡ two ++ window_caveats c cpu kind r → four ≡ three ++ last_caveats c cpu kind r
     → four ≡ caveats_in c cpu kind
 unfolding caveats_by
 gathered c cpu kind r none one two three four is e0 e1 e2 e3 e4 =
-    e4 ∙ (ap (λ l. l ++ last_caveats c cpu kind r) (e3 ∙ ap (λ l. l ++ window_caveats c cpu r)
+    e4 ∙ (ap (λ l. l ++ last_caveats c cpu kind r) (e3 ∙ ap (λ l. l ++ window_caveats c cpu kind r)
     (e2 ∙ ap (λ l. l ++ choice_caveats c cpu kind r) (e1 ∙ ap (λ l. l ++ board_caveats c r) e0)))
-    ∙ (append_assoc (board_caveats c r ++ choice_caveats c cpu kind r) (window_caveats c cpu r)
+    ∙ (append_assoc (board_caveats c r ++ choice_caveats c cpu kind r) (window_caveats c cpu kind r)
     (last_caveats c cpu kind r)
     ∙ (append_assoc (board_caveats c r) (choice_caveats c cpu kind r)
-    (window_caveats c cpu r ++ last_caveats c cpu kind r)
+    (window_caveats c cpu kind r ++ last_caveats c cpu kind r)
     ∙ ap (caveats_by c cpu kind) is)))
 
 -- what was gathered is right by the rules

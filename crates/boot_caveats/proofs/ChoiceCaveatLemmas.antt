@@ -16,11 +16,7 @@ use Rattle.pico_board.specs.declared.boot.BootKind.TheVariants.{Normal, Update, 
 use Rattle.pico_board.specs.declared.window.Window.{Window}
 use Rattle.pico_board.specs.declared.window.TheConstants.{SMALLEST_SLOT}
 use Rattle.pico_board.specs.Content.{Content, flash_base, window_bytes}
-use Rattle.block_codec.specs.Blocks.{BlockView}
-use Rattle.block_loop.specs.Loop.{first_block}
-use Rattle.block_loop.proofs.ChainLemmas.{first_block-found, first_block-stands}
 use Rattle.image_def.specs.declared.started.Started.{Started}
-use Rattle.image_def.specs.Suits.{has_image_type}
 use Rattle.image_check.specs.declared.why.Why.{Why}
 use Rattle.image_check.specs.Image.{image_at}
 use Rattle.image_check.specs.Valid.{Valid}
@@ -35,10 +31,7 @@ use Rattle.slot_choice.proofs.UpdateLemmas.{member_starts, none_starts, updated}
 use Rattle.boot_rules.specs.declared.decision.Decision.{Decision}
 use Rattle.boot_rules.specs.declared.decision.Decision.TheVariants.{Start, Bootsel}
 use Rattle.boot_rules.specs.declared.decision.Fall.TheVariants.{Requested, FlashOff, NoImage}
-use Rattle.boot_rules.specs.Choosing.{decision_in}
-use Rattle.boot_rules.specs.Chosen.{Chosen}
 use Rattle.boot_rules.specs.Tables.{slot_window}
-use Rattle.boot_rules.proofs.DecisionLemmas.{chosen-decision, decision-chosen}
 use Rattle.boot_rules.proofs.StartLemmas.{is-member}
 use Rattle.boot_reasons.specs.declared.slots.TableInForce.{TableInForce}
 use Rattle.boot_reasons.specs.declared.looks.UnitReport.{UnitReport}
@@ -47,10 +40,13 @@ use Rattle.boot_reasons.specs.declared.looks.UnitReason.{UnitReason}
 use Rattle.boot_reasons.specs.declared.looks.UnitReason.TheVariants.{Updated, Only, Version, Tie as IsTied}
 use Rattle.boot_reasons.specs.SlotRules.{IsTableInForce}
 use Rattle.slot_caveats.specs.declared.caveat.Caveat.{Caveat}
-use Rattle.slot_caveats.specs.declared.caveat.Caveat.TheVariants.{OtherProcessor, Tie, UpdateOfSlot, UpdateMovesUnit, UpdateOfNothing}
+use Rattle.slot_caveats.specs.declared.caveat.Caveat.TheVariants.{Tie, UpdateOfSlot, UpdateMovesUnit, UpdateOfNothing}
 use Rattle.slot_caveats.specs.Listing.{caveat_if}
-use Rattle.boot_caveats.specs.ChoiceCaveats.{first_tie, has_normal_image, has_typed_first, is_slot_address, is_tie, lacks_image, lone_slot_images, moved_by, moved_part, other_cpu, other_processor, slot_images, started_window, takes_image, tie_of, tied_in, update_moves, update_of_nothing, update_of_slot, updates_one}
-use Rattle.boot_caveats.specs.ChoiceRules.{AreSlotImages, HasTypedFirst, IsMovedPart, IsOfNoMember, IsOfSlot, IsOtherProcessor, IsPassedOver, IsTableless, IsTie, IsTiedPair, IsUpdateMovesUnit, IsUpdateOfNothing, IsUpdateOfSlot, StartsIn}
+use Rattle.boot_caveats.specs.ChoiceCaveats.{first_tie, has_normal_image, has_second_image, is_slot_address, is_tie, lacks_image, lone_slot_images, moved_by, moved_part, slot_images, started_window, takes_image, tie_of, tied_in, update_moves, update_of_nothing, update_of_slot, updates_one}
+use Rattle.boot_caveats.specs.ChoiceRules.{AreSlotImages, IsMovedPart, IsOfNoMember, IsOfSlot, IsPassedOver, IsTableless, IsTie, IsTiedPair, IsUpdateMovesUnit, IsUpdateOfNothing, IsUpdateOfSlot, StartsIn}
+use Rattle.slot_caveats.specs.SlotCaveats.{flash_from}
+use Rattle.slot_caveats.specs.SlotRules.{HasExecutable}
+use Rattle.slot_caveats.proofs.SlotLemmas.{runs-decides}
 use Rattle.slot_caveats.proofs.ListingLemmas.{IsJust, and-decides, both-just, first-found, found-first, never-just, not-decides, one-just, or-decides, where-just}
 
 both : (a b : Bool) → a ≡ true → b ≡ true → (a && b) ≡ true
@@ -93,43 +89,6 @@ starts-in (Bootsel fall) w e = cc
 pub in-starts : (d : Decision) (w : Window) → StartsIn d w → started_window d ≡ Some w
 in-starts d w is = ap started_window is.1 ∙ ap Some is.2
 
-abbrev IsOther : Content → Cpu → BootKind → Decision → Window → Type 0
-IsOther c cpu kind d w = (d ≡ Bootsel NoImage)
-    × ((e : Decision) × Chosen c (other_cpu cpu) kind e × StartsIn e w)
-
-pub other-just : (c : Content) (cpu : Cpu) (kind : BootKind) (d : Decision)
-    → IsJust (IsOtherProcessor c cpu kind d) (option_to_list (other_processor c cpu kind d))
-other-just c cpu kind d = one-just (IsOther c cpu kind d) OtherProcessor (other_processor c cpu kind d)
-    (to (lacks_image d) refl (started_window (decision_in c (other_cpu cpu) kind)) refl)
-    (λ w is. from w is (lacks_image d) ((lacks-decides d).1 is.0))
-  where
-    to : (b : Bool) → lacks_image d ≡ b → (o : Option Window)
-        → started_window (decision_in c (other_cpu cpu) kind) ≡ o → (caveat : Caveat)
-        → cond b (option_map OtherProcessor o) None ≡ Some caveat
-        → (w : Window) × IsOther c cpu kind d w × (caveat ≡ OtherProcessor w)
-    to true is (Some w) starts caveat e = (
-      w,
-      (
-        (lacks-decides d).0 is,
-        (
-          decision_in c (other_cpu cpu) kind,
-          decision-chosen c (other_cpu cpu) kind,
-          starts-in (decision_in c (other_cpu cpu) kind) w starts,
-        ),
-      ),
-      cc,
-    )
-    to true is None starts caveat e = cc
-    to false is o starts caveat e = cc
-
-    from : (w : Window) → IsOther c cpu kind d w → (b : Bool) → b ≡ true
-        → cond b (option_map OtherProcessor (started_window (decision_in c (other_cpu cpu) kind))) None
-        ≡ Some (OtherProcessor w)
-    from w is false e = cc
-    from w is true e =
-        ap (λ o. option_map OtherProcessor o)
-        (ap started_window (sym (chosen-decision c (other_cpu cpu) kind is.1.0 is.1.1)) ∙ in-starts is.1.0 w is.1.2)
-
 -- ---- images in the slots of a flash without a table
 
 pub normal-decides : (c : Content) (cpu : Cpu) (w : Window)
@@ -140,17 +99,6 @@ normal-decides c cpu w = (to (image_at c w cpu false) refl, λ is. ap is_ok (at-
     to (Ok s) is e = (s, valid-at c w cpu false s is)
     to (Err y) is e = cc
 
-typed-decides : (c : Content) (w : Window) → Decides (has_typed_first c w) (HasTypedFirst c w)
-typed-decides c w = (to (first_block (window_bytes c w)) refl, from)
-  where
-    to : (o : Option BlockView) → first_block (window_bytes c w) ≡ o → option_map_or has_image_type o false ≡ true
-        → HasTypedFirst c w
-    to (Some b) is e = (b, first_block-found (window_bytes c w) b is, e)
-    to None is e = cc
-
-    from : HasTypedFirst c w → has_typed_first c w ≡ true
-    from is = ap (λ o. option_map_or has_image_type o false) (first_block-stands (window_bytes c w) is.0 is.1) ∙ is.2
-
 passed-decides : (c : Content) (cpu : Cpu) (d : Decision) (w : Window)
     → Decides (lacks_image d && has_normal_image c cpu w) (IsPassedOver c cpu d w)
 passed-decides c cpu d w = (
@@ -159,15 +107,15 @@ passed-decides c cpu d w = (
 )
 
 seen-decides : (c : Content) (cpu : Cpu) (d : Decision) (w : Window)
-    → Decides (has_typed_first c w || (lacks_image d && has_normal_image c cpu w))
-    (HasTypedFirst c w ⊎ IsPassedOver c cpu d w)
+    → Decides (has_second_image c || (lacks_image d && has_normal_image c cpu w))
+    (HasExecutable (window_bytes c (flash_from c SMALLEST_SLOT)) ⊎ IsPassedOver c cpu d w)
 seen-decides c cpu d w = (
   λ e. elim (either _ _ e) [
-    | inl typed ↦ inl ((typed-decides c w).0 typed)
+    | inl typed ↦ inl ((runs-decides (window_bytes c (flash_from c SMALLEST_SLOT))).0 typed)
     | inr passed ↦ inr ((passed-decides c cpu d w).0 passed)
   ],
   λ is. elim is [
-    | inl typed ↦ left _ _ ((typed-decides c w).1 typed)
+    | inl typed ↦ left _ _ ((runs-decides (window_bytes c (flash_from c SMALLEST_SLOT))).1 typed)
     | inr passed ↦ right-one _ _ ((passed-decides c cpu d w).1 passed)
   ],
 )

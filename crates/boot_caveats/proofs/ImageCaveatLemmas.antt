@@ -10,6 +10,7 @@ use Rattle.std.proofs.lemmas.Bool.{eqb-true}
 use Rattle.std.proofs.lemmas.Bool.Decides.{nat_tests}
 use Rattle.std.proofs.lemmas.Option.{same_Some}
 use Rattle.pico_board.specs.declared.boot.Cpu.{Cpu}
+use Rattle.pico_board.specs.declared.boot.BootKind.{BootKind}
 use Rattle.pico_board.specs.declared.window.Window.{Window}
 use Rattle.pico_board.specs.declared.window.TheConstants.{SMALLEST_SLOT}
 use Rattle.pico_board.specs.Content.{Content, window_bytes}
@@ -43,12 +44,14 @@ use Rattle.slot_caveats.specs.declared.caveat.Caveat.{Caveat}
 use Rattle.slot_caveats.specs.declared.caveat.Caveat.TheVariants.{FirstBlock, ItemOrder, MayStart}
 use Rattle.slot_caveats.specs.Listing.{AreOfEach, IsWhere, caveat_if}
 use Rattle.boot_caveats.specs.ChoiceCaveats.{has_normal_image}
-use Rattle.boot_caveats.specs.ImageCaveats.{begins_otherwise, definition_in, ends_late, first_places, is_doubtful, item_order, late_first, late_firsts, look_may_start, looked_windows, may_start, owned_image, owned_images, read_windows, reads_blocks, second_may_start}
-use Rattle.boot_caveats.specs.ImageRules.{AreItemOrders, AreLateFirsts, AreMayStarts, AreOwnedImages, BeginsOtherwise, HasLateFirst, IsDoubtful, IsMayStart, IsOwnedImage, IsSecondMayStart, ReadsBlocks, bad_row, repeated_row, bad_version, covers_block, runtime, bad_hash_def, bad_hash_value, entry, delta}
+use Rattle.boot_caveats.specs.ImageCaveats.{begins_otherwise, definition_in, ends_late, first_places, is_at, is_doubtful, item_order, late_first, late_firsts, look_may_start, looked_windows, may_start, owned_image, owned_images, read_windows, reads_blocks, second_may_start}
+use Rattle.boot_caveats.specs.ImageRules.{AreItemOrders, AreLateFirsts, AreMayStarts, AreOwnedImages, BeginsOtherwise, HasLateFirst, IsDoubtful, IsMayStart, IsOwnedImage, IsRollback, IsSecondMayStart, StartsUnread, ReadsBlocks, bad_row, repeated_row, bad_version, covers_block, runtime, bad_hash_def, bad_hash_value, entry, delta}
 use Rattle.boot_caveats.proofs.WindowLemmas.{places-only, places-right}
 use Rattle.boot_caveats.proofs.ChoiceCaveatLemmas.{normal-decides}
 use Rattle.slot_caveats.proofs.TableCaveatLemmas.{no-parts, parts-just}
-use Rattle.slot_caveats.proofs.ListingLemmas.{IsJust, both-just, each-just, each-one-just, one-just, where-just}
+use Rattle.slot_caveats.proofs.ListingLemmas.{IsJust, and-decides, both-just, each-just, each-one-just, one-just, or-decides, where-just}
+use Rattle.boot_caveats.specs.Unread.{is_rollback, unread_window}
+use Rattle.boot_caveats.proofs.UnreadLemmas.{rolled-decides, unread-decides}
 
 -- ---- first blocks that end late
 
@@ -232,43 +235,59 @@ says-doubt _ bad_hash_value = refl
 says-doubt _ (entry fault) = refl
 says-doubt _ delta = refl
 
-pub may-just : (w : Window) (image : Result Started Why)
-    → IsJust (IsMayStart w image) (option_to_list (may_start w image))
-may-just w (Ok s) =
-    one-just (λ why. (Ok s ≡ Err why) × IsDoubtful why) (MayStart w) None (λ caveat e. cc)
-    (λ why is. absurd (apart s why is.0))
-  where
-    apart : (s : Started) (why : Why) → (let r : Result Started Why = Ok s in r ≡ Err why) → ⊥
-    apart s why e = cc
-may-just w (Err y) =
-    one-just (λ why. (Err y ≡ Err why) × IsDoubtful why) (MayStart w) (caveat_if (is_doubtful y) (MayStart w y))
-    (to (is_doubtful y) refl)
-    (λ why is. from why is.0 (is_doubtful y) (says-doubt y (subst IsDoubtful (sym (same-why y why is.0)) is.1)))
-  where
-    same-why : (a b : Why) → (let r : Result Started Why = Err a in r ≡ Err b) → a ≡ b
-    same-why a b e = cc
+module _ (c : Content) (cpu : Cpu) (kind : BootKind) where
+  abbrev MayStartBy : Window → Why → Type 0
+  MayStartBy w why = IsDoubtful why ⊎ (IsRollback why × StartsUnread c cpu kind w)
 
-    to : (b : Bool) → is_doubtful y ≡ b → (caveat : Caveat) → caveat_if b (MayStart w y) ≡ Some caveat
-        → (why : Why) × ((let r : Result Started Why = Err y in r ≡ Err why) × IsDoubtful why)
-        × (caveat ≡ MayStart w why)
-    to true is caveat e = (y, (refl, doubt-says y is), sym (same_Some _ _ e))
-    to false is caveat e = cc
+  abbrev may_by : Window → Why → Bool
+  may_by w why = is_doubtful why || (is_rollback why && is_at (unread_window c cpu kind) w)
 
-    from : (why : Why) → (let r : Result Started Why = Err y in r ≡ Err why) → (b : Bool) → b ≡ true
-        → caveat_if b (MayStart w y) ≡ Some (MayStart w why)
-    from why same true e = ap (λ x. Some (MayStart w x)) (same-why y why same)
-    from why same false e = cc
+  by-decides : (w : Window) (why : Why) → Decides (may_by w why) (MayStartBy w why)
+  by-decides w why =
+      or-decides _ _ _ _ (doubt-says why, says-doubt why)
+      (and-decides _ _ _ _ (rolled-decides why) (unread-decides c cpu kind w))
 
-second-just : (o : Option Window) (image : Option (Result Started Why))
-    → IsJust (IsSecondMayStart o image) (option_to_list (second_may_start o image))
-second-just None image = record { right = refl; only = λ other is. is }
-second-just (Some w) None = record { right = refl; only = λ other is. is }
-second-just (Some w) (Some image) = may-just w image
+  may-just : (w : Window) (image : Result Started Why)
+      → IsJust (IsMayStart c cpu kind w image) (option_to_list (may_start (unread_window c cpu kind) w image))
+  may-just w (Ok s) =
+      one-just (λ why. (Ok s ≡ Err why) × MayStartBy w why) (MayStart w) None (λ caveat e. cc)
+      (λ why is. absurd (apart s why is.0))
+    where
+      apart : (s : Started) (why : Why) → (let r : Result Started Why = Ok s in r ≡ Err why) → ⊥
+      apart s why e = cc
+  may-just w (Err y) =
+      one-just (λ why. (Err y ≡ Err why) × MayStartBy w why) (MayStart w) (caveat_if (may_by w y) (MayStart w y))
+      (to (may_by w y) refl)
+      (λ why is. from why is.0 (may_by w y)
+      ((by-decides w y).1 (subst (MayStartBy w) (sym (same-why y why is.0)) is.1)))
+    where
+      same-why : (a b : Why) → (let r : Result Started Why = Err a in r ≡ Err b) → a ≡ b
+      same-why a b e = cc
 
-pub starts-just : (looks : List UnitReport) → IsJust (AreMayStarts looks) (flat_map look_may_start looks)
-starts-just looks =
-    each-just _ look_may_start
-    (λ (look : UnitReport). both-just _ _ (may-just look.unit.a look.first) (second-just look.unit.b look.second)) looks
+      to : (b : Bool) → may_by w y ≡ b → (caveat : Caveat) → caveat_if b (MayStart w y) ≡ Some caveat
+          → (why : Why) × ((let r : Result Started Why = Err y in r ≡ Err why) × MayStartBy w why)
+          × (caveat ≡ MayStart w why)
+      to true is caveat e = (y, (refl, (by-decides w y).0 is), sym (same_Some _ _ e))
+      to false is caveat e = cc
+
+      from : (why : Why) → (let r : Result Started Why = Err y in r ≡ Err why) → (b : Bool) → b ≡ true
+          → caveat_if b (MayStart w y) ≡ Some (MayStart w why)
+      from why same true e = ap (λ x. Some (MayStart w x)) (same-why y why same)
+      from why same false e = cc
+
+  second-just : (o : Option Window) (image : Option (Result Started Why))
+      → IsJust (IsSecondMayStart c cpu kind o image)
+      (option_to_list (second_may_start (unread_window c cpu kind) o image))
+  second-just None image = record { right = refl; only = λ other is. is }
+  second-just (Some w) None = record { right = refl; only = λ other is. is }
+  second-just (Some w) (Some image) = may-just w image
+
+  pub starts-just : (looks : List UnitReport)
+      → IsJust (AreMayStarts c cpu kind looks) (flat_map (look_may_start (unread_window c cpu kind)) looks)
+  starts-just looks =
+      each-just _ (look_may_start (unread_window c cpu kind))
+      (λ (look : UnitReport). both-just _ _ (may-just look.unit.a look.first)
+      (second-just look.unit.b look.second)) looks
 
 -- ---- owned partitions
 

@@ -263,10 +263,21 @@ absolute-decides cpu bytes = (
         stored = moves.0;
         moved = moves.1;
       }),
-  λ has. (passes-decides cpu bytes has_moving_map HasMovingMap map-decides).1
-      (has.image, has.loop, has.defined,
-      (has.place, has.item, has.entry, has.map, has.at, has.absolute, has.among,
-      (moving-decides has.image.block has.item has.entry).1 (has.stored, has.moved))),
+  λ has. (passes-decides cpu bytes has_moving_map HasMovingMap map-decides).1 (
+    has.image,
+    has.loop,
+    has.defined,
+    (
+      has.place,
+      has.item,
+      has.entry,
+      has.map,
+      has.at,
+      has.absolute,
+      has.among,
+      (moving-decides has.image.block has.item has.entry).1 (has.stored, has.moved),
+    ),
+  ),
 )
 
 -- ---- a digest without a map

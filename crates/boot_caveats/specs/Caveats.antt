@@ -10,10 +10,12 @@ use Rattle.boot_reasons.specs.Reasons.{reasons_in, table_of_reasons}
 use Rattle.slot_caveats.specs.declared.caveat.Caveat.{Caveat}
 use Rattle.slot_caveats.specs.OtpCaveats.{critical_caveats, otp_caveats, short_slots}
 use Rattle.slot_caveats.specs.TableCaveats.{short_flash, table_tie, unread_caveats}
-use Rattle.boot_caveats.specs.ChoiceCaveats.{first_tie, other_processor, slot_images, update_moves, update_of_nothing, update_of_slot}
+use Rattle.boot_caveats.specs.ChoiceCaveats.{first_tie, slot_images, update_moves, update_of_nothing, update_of_slot}
 use Rattle.boot_caveats.specs.MemberCaveats.{member_caveats}
 use Rattle.boot_caveats.specs.PartCaveats.{ignore_flags, no_read, of_parts}
+use Rattle.boot_caveats.specs.ProcessorCaveats.{looked_members, other_processors, updated_in}
 use Rattle.slot_caveats.specs.SlotCaveats.{slot_caveats}
+use Rattle.boot_caveats.specs.Unread.{unread_window}
 use Rattle.boot_caveats.specs.StartCaveats.{started_rows, table_in_image}
 use Rattle.boot_caveats.specs.ImageCaveats.{item_order, late_firsts, look_may_start, looked_windows, owned_images}
 
@@ -29,7 +31,7 @@ board_caveats c r =
 -- the choice, and the rows of the image that starts
 abbrev pub choice_caveats : Content → Cpu → BootKind → Reasons → List Caveat
 choice_caveats c cpu kind r =
-    option_to_list (other_processor c cpu kind r.decision)
+    other_processors c cpu kind r.decision (looked_members r.looks.items (updated_in c cpu kind))
     ++ (slot_images c cpu r.decision r.size r.table
     ++ (option_to_list (first_tie r.looks.items)
     ++ (option_to_list (update_of_slot kind r.size r.table)
@@ -37,11 +39,11 @@ choice_caveats c cpu kind r =
     ++ started_rows c.otp r.decision))))
 
 -- the windows that are looked at, owned partitions, and what is not read of tables
-abbrev pub window_caveats : Content → Cpu → Reasons → List Caveat
-window_caveats c cpu r =
+abbrev pub window_caveats : Content → Cpu → BootKind → Reasons → List Caveat
+window_caveats c cpu kind r =
     late_firsts c r.decision r.size r.looks.items
     ++ (filter_map (item_order c cpu) (looked_windows r.looks.items)
-    ++ (flat_map look_may_start r.looks.items
+    ++ (flat_map (look_may_start (unread_window c cpu kind)) r.looks.items
     ++ (owned_images c cpu (table_of_reasons r)
     ++ (unread_caveats (table_of_reasons r) ++ option_to_list (table_tie r.first r.second)))))
 
@@ -60,7 +62,7 @@ last_caveats c cpu kind r =
 unfoldable pub caveats_by : Content → Cpu → BootKind → Reasons → List Caveat
 caveats_by c cpu kind r =
     board_caveats c r
-    ++ (choice_caveats c cpu kind r ++ (window_caveats c cpu r ++ last_caveats c cpu kind r))
+    ++ (choice_caveats c cpu kind r ++ (window_caveats c cpu kind r ++ last_caveats c cpu kind r))
 
 -- the caveats of the answer of a boot
 abbrev pub caveats_in : Content → Cpu → BootKind → List Caveat

@@ -9,15 +9,12 @@ use Rattle.pico_board.specs.declared.boot.BootKind.TheVariants.{Normal, Update, 
 use Rattle.pico_board.specs.declared.window.Window.{Window}
 use Rattle.pico_board.specs.declared.window.TheConstants.{SMALLEST_SLOT}
 use Rattle.pico_board.specs.Content.{Content, flash_base, window_bytes}
-use Rattle.block_loop.specs.Loop.{first_block}
-use Rattle.image_def.specs.Suits.{has_image_type}
 use Rattle.image_check.specs.Image.{image_at}
 use Rattle.slot_choice.specs.declared.unit.SlotUnit.{SlotUnit}
 use Rattle.slot_choice.specs.Updates.{has_member_at}
 use Rattle.boot_rules.specs.declared.decision.Decision.{Decision}
 use Rattle.boot_rules.specs.declared.decision.Decision.TheVariants.{Start, Bootsel}
 use Rattle.boot_rules.specs.declared.decision.Fall.TheVariants.{Requested, FlashOff, NoImage}
-use Rattle.boot_rules.specs.Choosing.{decision_in}
 use Rattle.boot_rules.specs.Tables.{slot_window}
 use Rattle.boot_reasons.specs.declared.slots.TableInForce.{TableInForce}
 use Rattle.boot_reasons.specs.declared.looks.UnitReport.{UnitReport}
@@ -25,8 +22,9 @@ use Rattle.boot_reasons.specs.declared.looks.TakenImage.{TakenImage}
 use Rattle.boot_reasons.specs.declared.looks.UnitReason.{UnitReason}
 use Rattle.boot_reasons.specs.declared.looks.UnitReason.TheVariants.{Updated, Only, Version, Tie as IsTied}
 use Rattle.slot_caveats.specs.declared.caveat.Caveat.{Caveat}
-use Rattle.slot_caveats.specs.declared.caveat.Caveat.TheVariants.{OtherProcessor, SlotImage, Tie, UpdateOfSlot, UpdateMovesUnit, UpdateOfNothing}
+use Rattle.slot_caveats.specs.declared.caveat.Caveat.TheVariants.{SlotImage, Tie, UpdateOfSlot, UpdateMovesUnit, UpdateOfNothing}
 use Rattle.slot_caveats.specs.Listing.{caveat_if}
+use Rattle.slot_caveats.specs.SlotCaveats.{flash_from, has_executable}
 
 -- the other processor
 abbrev pub other_cpu : Cpu → Cpu
@@ -45,23 +43,17 @@ abbrev pub started_window : Decision → Option Window
 started_window (Start choice) = Some choice.image.window
 started_window (Bootsel fall) = None
 
--- no image starts, and one would for the other processor
-abbrev pub other_processor : Content → Cpu → BootKind → Decision → Option Caveat
-other_processor c cpu kind d =
-    if lacks_image d
-    then option_map OtherProcessor (started_window (decision_in c (other_cpu cpu) kind))
-    else None
-
 -- a window has an image, trial not allowed
 abbrev pub has_normal_image : Content → Cpu → Window → Bool
 has_normal_image c cpu w = is_ok (image_at c w cpu false)
 
--- the first block of a window has an IMAGE_TYPE item
-abbrev pub has_typed_first : Content → Window → Bool
-has_typed_first c w = option_map_or has_image_type (first_block (window_bytes c w)) false
+-- the loop of the flash's bytes from slot 1 on, of the smallest size, closes and has an executable
+-- block
+abbrev pub has_second_image : Content → Bool
+has_second_image c = has_executable (window_bytes c (flash_from c SMALLEST_SLOT))
 
 -- without a table, and with slots of the smallest size: no image starts, and slot 0 has an image;
--- no image starts, and slot 1 has one, or its first block has an IMAGE_TYPE item
+-- no image starts, and slot 1 has one, or the flash has an image from slot 1 on
 abbrev pub first_slot_image : Content → Cpu → Decision → Option Caveat
 first_slot_image c cpu d =
     let w = slot_window SMALLEST_SLOT 0 in
@@ -70,7 +62,7 @@ first_slot_image c cpu d =
 abbrev pub second_slot_image : Content → Cpu → Decision → Option Caveat
 second_slot_image c cpu d =
     let w = slot_window SMALLEST_SLOT 1 in
-    caveat_if (has_typed_first c w || (lacks_image d && has_normal_image c cpu w)) (SlotImage w)
+    caveat_if (has_second_image c || (lacks_image d && has_normal_image c cpu w)) (SlotImage w)
 
 abbrev pub lone_slot_images : Content → Cpu → Decision → List Caveat
 lone_slot_images c cpu d =

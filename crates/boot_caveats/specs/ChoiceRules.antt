@@ -6,10 +6,7 @@ use Rattle.pico_board.specs.declared.boot.BootKind.TheVariants.{Update}
 use Rattle.pico_board.specs.declared.window.Window.{Window}
 use Rattle.pico_board.specs.declared.window.TheConstants.{SMALLEST_SLOT}
 use Rattle.pico_board.specs.Content.{Content, flash_base, window_bytes}
-use Rattle.block_codec.specs.Blocks.{BlockView}
-use Rattle.block_loop.specs.Loop.{IsFirstBlock}
 use Rattle.image_def.specs.declared.started.Started.{Started}
-use Rattle.image_def.specs.Suits.{has_image_type}
 use Rattle.image_check.specs.Valid.{Valid}
 use Rattle.otp_roll.specs.Flags.{slot_size}
 use Rattle.slot_choice.specs.declared.unit.Member.{Member}
@@ -21,29 +18,21 @@ use Rattle.boot_rules.specs.declared.decision.Decision.{Decision}
 use Rattle.boot_rules.specs.declared.decision.Decision.TheVariants.{Start, Bootsel}
 use Rattle.boot_rules.specs.declared.decision.Fall.TheVariants.{NoImage}
 use Rattle.boot_rules.specs.declared.tables.Found.{Found}
-use Rattle.boot_rules.specs.Chosen.{Chosen}
 use Rattle.boot_rules.specs.Tables.{slot_window}
 use Rattle.boot_rules.specs.TableRules.{IsTableIn}
 use Rattle.boot_reasons.specs.declared.looks.UnitReport.{UnitReport}
 use Rattle.boot_reasons.specs.declared.looks.TakenImage.{TakenImage}
 use Rattle.boot_reasons.specs.declared.looks.UnitReason.TheVariants.{Tie as IsTied}
 use Rattle.slot_caveats.specs.declared.caveat.Caveat.{Caveat}
-use Rattle.slot_caveats.specs.declared.caveat.Caveat.TheVariants.{OtherProcessor, SlotImage, Tie, UpdateOfSlot, UpdateMovesUnit, UpdateOfNothing}
+use Rattle.slot_caveats.specs.declared.caveat.Caveat.TheVariants.{SlotImage, Tie, UpdateOfSlot, UpdateMovesUnit, UpdateOfNothing}
 use Rattle.slot_caveats.specs.Listing.{AreBoth, IsFirstWith, IsOfOne, IsWhere}
-use Rattle.boot_caveats.specs.ChoiceCaveats.{other_cpu, takes_image}
+use Rattle.boot_caveats.specs.ChoiceCaveats.{takes_image}
+use Rattle.slot_caveats.specs.SlotCaveats.{flash_from}
+use Rattle.slot_caveats.specs.SlotRules.{HasExecutable}
 
 -- the decision is a start of the image of a window
 abbrev pub StartsIn : Decision → Window → Type 0
 StartsIn d w = (choice : Choice) × (d ≡ Start choice) × (choice.image.window ≡ w)
-
--- the decision is that no image starts; the decision of the same kind for the other processor is a
--- start of the image of a window
-abbrev pub IsOtherProcessor : Content → Cpu → BootKind → Decision → List Caveat → Type 0
-IsOtherProcessor c cpu kind d =
-    IsOfOne
-    (λ w. (d ≡ Bootsel NoImage)
-    × ((other : Decision) × Chosen c (other_cpu cpu) kind other × StartsIn other w))
-    OtherProcessor
 
 -- there is no table, and the slot size is the smallest
 abbrev pub IsTableless : Content → Type 0
@@ -55,13 +44,9 @@ IsTableless c =
 abbrev pub IsPassedOver : Content → Cpu → Decision → Window → Type 0
 IsPassedOver c cpu d w = (d ≡ Bootsel NoImage) × ((s : Started) × Valid c w cpu false s)
 
--- the window's first block has an IMAGE_TYPE item
-abbrev pub HasTypedFirst : Content → Window → Type 0
-HasTypedFirst c w =
-    (b : BlockView) × IsFirstBlock (window_bytes c w) b × (has_image_type b ≡ true)
-
 -- without a table and with slots of the smallest size: slot 0 has an image that is passed over;
--- slot 1 has one, or its first block has an IMAGE_TYPE item
+-- slot 1 has one, or the loop of the flash's bytes from slot 1 on closes and has an executable
+-- block
 abbrev pub IsFirstSlotImage : Content → Cpu → Decision → List Caveat → Type 0
 IsFirstSlotImage c cpu d =
     let w = slot_window SMALLEST_SLOT 0 in
@@ -70,7 +55,10 @@ IsFirstSlotImage c cpu d =
 abbrev pub IsSecondSlotImage : Content → Cpu → Decision → List Caveat → Type 0
 IsSecondSlotImage c cpu d =
     let w = slot_window SMALLEST_SLOT 1 in
-    IsWhere (IsTableless c × (HasTypedFirst c w ⊎ IsPassedOver c cpu d w)) (SlotImage w)
+    IsWhere
+    (IsTableless c × (HasExecutable (window_bytes c (flash_from c SMALLEST_SLOT))
+    ⊎ IsPassedOver c cpu d w))
+    (SlotImage w)
 
 abbrev pub AreSlotImages : Content → Cpu → Decision → List Caveat → Type 0
 AreSlotImages c cpu d = AreBoth (IsFirstSlotImage c cpu d) (IsSecondSlotImage c cpu d)

@@ -37,6 +37,7 @@ use Rattle.slot_caveats.specs.declared.caveat.Caveat.{Caveat}
 use Rattle.slot_caveats.specs.declared.caveat.Caveat.TheVariants.{FirstBlock, ItemOrder, MayStart, OwnedImage}
 use Rattle.slot_caveats.specs.Listing.{caveat_if}
 use Rattle.boot_caveats.specs.ChoiceCaveats.{has_normal_image}
+use Rattle.boot_caveats.specs.Unread.{is_rollback}
 
 -- the windows of a unit's members, A first
 abbrev pub unit_windows : SlotUnit → List Window
@@ -121,21 +122,28 @@ is_doubtful (Entry fault) = true
 is_doubtful Digest = false
 is_doubtful Delta = true
 
--- a member's image fails such a rule
-abbrev pub may_start : Window → Result Started Why → Option Caveat
-may_start w (Ok s) = None
-may_start w (Err why) = caveat_if (is_doubtful why) (MayStart w why)
+-- a boot that does not apply the rule on rollback rows starts in this window, if it starts
+abbrev pub is_at : Option Window → Window → Bool
+is_at unread w = option_map_or (is_window w) unread false
 
--- the second member's image fails such a rule, where there is a second member
-abbrev pub second_may_start : Option Window → Option (Result Started Why) → Option Caveat
-second_may_start None image = None
-second_may_start (Some w) None = None
-second_may_start (Some w) (Some image) = may_start w image
+-- a member's image fails such a rule; or it fails the rule on rollback rows, and a boot that does
+-- not apply that rule starts in its window
+abbrev pub may_start : Option Window → Window → Result Started Why → Option Caveat
+may_start unread w (Ok s) = None
+may_start unread w (Err why) =
+    caveat_if (is_doubtful why || (is_rollback why && is_at unread w)) (MayStart w why)
 
-abbrev pub look_may_start : UnitReport → List Caveat
-look_may_start look =
-    option_to_list (may_start look.unit.a look.first)
-    ++ option_to_list (second_may_start look.unit.b look.second)
+-- the same of the second member's image, where there is a second member
+abbrev pub second_may_start : Option Window → Option Window → Option (Result Started Why)
+    → Option Caveat
+second_may_start unread None image = None
+second_may_start unread (Some w) None = None
+second_may_start unread (Some w) (Some image) = may_start unread w image
+
+abbrev pub look_may_start : Option Window → UnitReport → List Caveat
+look_may_start unread look =
+    option_to_list (may_start unread look.unit.a look.first)
+    ++ option_to_list (second_may_start unread look.unit.b look.second)
 
 -- a partition has an owner, and its window an image
 abbrev pub owned_image : Content → Cpu → List Partition → ℕ → Option Caveat

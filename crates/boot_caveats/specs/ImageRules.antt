@@ -1,6 +1,7 @@
 -- What is to be looked up of the windows that a boot looks at, and of owned partitions, as rules.
 use Rattle.std.specs.Prelude.{◌≡◌, ◌⊎◌, ℕ, ◌+◌, ◌<◌, false, true, List, [], ◌∷◌, ◌++◌, Contains, slice_get, Option, Some, None, Result, Err}
 use Rattle.pico_board.specs.declared.boot.Cpu.{Cpu}
+use Rattle.pico_board.specs.declared.boot.BootKind.{BootKind}
 use Rattle.pico_board.specs.declared.window.Window.{Window}
 use Rattle.pico_board.specs.declared.window.TheConstants.{SMALLEST_SLOT}
 use Rattle.pico_board.specs.Content.{Content, window_bytes}
@@ -16,7 +17,7 @@ use Rattle.image_def.specs.Suits.{does_suit}
 use Rattle.load_map.specs.declared.load.MapFault.TheVariants.{Runtime, CoversBlock}
 use Rattle.image_check.specs.declared.why.EntryFault.{EntryFault}
 use Rattle.image_check.specs.declared.why.Why.{Why}
-use Rattle.image_check.specs.declared.why.Why.TheVariants.{Items, Map, Entry, Delta}
+use Rattle.image_check.specs.declared.why.Why.TheVariants.{Items, RollbackRequired, Below, Map, Entry, Delta}
 use Rattle.image_check.specs.Valid.{IsLastWith, Valid}
 use Rattle.part_table.specs.declared.partition.Partition.{Partition}
 use Rattle.part_table.specs.declared.table.Table.{Table}
@@ -27,12 +28,15 @@ use Rattle.slot_choice.specs.declared.choice.Choice.{Choice}
 use Rattle.boot_rules.specs.declared.decision.Decision.{Decision}
 use Rattle.boot_rules.specs.declared.decision.Decision.TheVariants.{Start, Bootsel}
 use Rattle.boot_rules.specs.declared.decision.Fall.TheVariants.{NoImage}
+use Rattle.boot_rules.specs.Chosen.{Chosen}
 use Rattle.boot_reasons.specs.declared.looks.UnitReport.{UnitReport}
 use Rattle.slot_caveats.specs.declared.caveat.Caveat.{Caveat}
 use Rattle.slot_caveats.specs.declared.caveat.Caveat.TheVariants.{FirstBlock, ItemOrder, MayStart, OwnedImage}
 use Rattle.slot_caveats.specs.Listing.{AreBoth, AreOfEach, IsOfOne, IsWhere}
+use Rattle.boot_caveats.specs.ChoiceRules.{StartsIn}
 use Rattle.boot_caveats.specs.ImageCaveats.{looked_windows, read_windows}
 use Rattle.slot_caveats.specs.TableRules.{AreOfParts}
+use Rattle.boot_caveats.specs.Unread.{unread_content}
 
 -- the second list has the elements of the first, each where it first stands, but for those that
 -- stand before
@@ -87,21 +91,38 @@ pub data IsDoubtful : Why → Type 0 where
   entry : (fault : EntryFault) → IsDoubtful (Entry fault)
   delta : IsDoubtful Delta
 
--- by such a rule a member has no image that counts
-abbrev pub IsMayStart : Window → Result Started Why → List Caveat → Type 0
-IsMayStart w image = IsOfOne (λ why. (image ≡ Err why) × IsDoubtful why) (MayStart w)
+-- the rule on rollback rows, which the chip may not apply
+pub data IsRollback : Why → Type 0 where
+  required : IsRollback RollbackRequired
+  below : (version count : ℕ) → IsRollback (Below version count)
+
+-- a boot that does not apply this rule starts in a window
+abbrev pub StartsUnread : Content → Cpu → BootKind → Window → Type 0
+StartsUnread c cpu kind w =
+    (d : Decision) × Chosen (unread_content c) cpu kind d × StartsIn d w
+
+-- a member has no image that counts by a rule that the chip may not judge, or by the rule on
+-- rollback rows, where a boot that does not apply it starts in its window
+abbrev pub IsMayStart : Content → Cpu → BootKind → Window → Result Started Why → List Caveat
+    → Type 0
+IsMayStart c cpu kind w image =
+    IsOfOne
+    (λ why. (image ≡ Err why)
+    × (IsDoubtful why ⊎ (IsRollback why × StartsUnread c cpu kind w)))
+    (MayStart w)
 
 -- the second member, where there is one
-abbrev pub IsSecondMayStart : Option Window → Option (Result Started Why) → List Caveat → Type 0
-IsSecondMayStart None image list = list ≡ []
-IsSecondMayStart (Some w) None list = list ≡ []
-IsSecondMayStart (Some w) (Some image) list = IsMayStart w image list
+abbrev pub IsSecondMayStart : Content → Cpu → BootKind → Option Window
+    → Option (Result Started Why) → List Caveat → Type 0
+IsSecondMayStart c cpu kind None image list = list ≡ []
+IsSecondMayStart c cpu kind (Some w) None list = list ≡ []
+IsSecondMayStart c cpu kind (Some w) (Some image) list = IsMayStart c cpu kind w image list
 
-abbrev pub AreMayStarts : List UnitReport → List Caveat → Type 0
-AreMayStarts looks =
+abbrev pub AreMayStarts : Content → Cpu → BootKind → List UnitReport → List Caveat → Type 0
+AreMayStarts c cpu kind looks =
     AreOfEach
-    (λ (look : UnitReport). AreBoth (IsMayStart look.unit.a look.first)
-    (IsSecondMayStart look.unit.b look.second)) looks
+    (λ (look : UnitReport). AreBoth (IsMayStart c cpu kind look.unit.a look.first)
+    (IsSecondMayStart c cpu kind look.unit.b look.second)) looks
 
 -- a partition has an owner, and its window is valid for the processor with trial not allowed
 abbrev pub IsOwnedImage : Content → Cpu → List Partition → ℕ → List Caveat → Type 0

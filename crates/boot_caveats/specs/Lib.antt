@@ -6,10 +6,13 @@ pub mod PartRules
 pub mod MemberCaveats
 pub mod MemberRules
 pub mod Doubts
+pub mod ProcessorCaveats
+pub mod ProcessorRules
 pub mod StartCaveats
 pub mod StartRules
 pub mod ImageCaveats
 pub mod ImageRules
+pub mod Unread
 pub mod Reads
 pub mod Caveats
 pub mod Rules

@@ -11,9 +11,11 @@ use Rattle.slot_caveats.specs.declared.caveat.Caveat.{Caveat}
 use Rattle.slot_caveats.specs.Listing.{AreBoth}
 use Rattle.slot_caveats.specs.OtpRules.{AreCriticalCaveats, AreOtpCaveats, IsShortSlots}
 use Rattle.slot_caveats.specs.TableRules.{AreUnread, IsShortFlash, IsTableTie}
-use Rattle.boot_caveats.specs.ChoiceRules.{AreSlotImages, IsOtherProcessor, IsTie, IsUpdateMovesUnit, IsUpdateOfNothing, IsUpdateOfSlot}
+use Rattle.boot_caveats.specs.ChoiceRules.{AreSlotImages, IsTie, IsUpdateMovesUnit, IsUpdateOfNothing, IsUpdateOfSlot}
 use Rattle.boot_caveats.specs.MemberRules.{AreMemberCaveats}
 use Rattle.boot_caveats.specs.PartRules.{AreIgnoreFlags, AreNoReads}
+use Rattle.boot_caveats.specs.ProcessorCaveats.{looked_members, updated_in}
+use Rattle.boot_caveats.specs.ProcessorRules.{AreOtherProcessors}
 use Rattle.slot_caveats.specs.SlotRules.{AreSlotCaveats}
 use Rattle.boot_caveats.specs.StartRules.{AreRowCaveats, IsTableInImage}
 use Rattle.boot_caveats.specs.ImageRules.{AreItemOrders, AreLateFirsts, AreMayStarts, AreOwnedImages}
@@ -29,18 +31,20 @@ AreBoardCaveats c r =
 -- the choice, and the rows of the image that starts
 abbrev pub AreChoiceCaveats : Content → Cpu → BootKind → Reasons → List Caveat → Type 0
 AreChoiceCaveats c cpu kind r =
-    AreBoth (IsOtherProcessor c cpu kind r.decision)
+    AreBoth
+    (AreOtherProcessors c cpu kind r.decision
+    (looked_members r.looks.items (updated_in c cpu kind)))
     (AreBoth (AreSlotImages c cpu r.decision)
     (AreBoth (IsTie r.looks.items)
     (AreBoth (IsUpdateOfSlot c kind)
     (AreBoth (IsUpdateMovesUnit kind (boot_units_in c cpu)) (AreRowCaveats c.otp r.decision)))))
 
 -- the windows that are looked at, owned partitions, and what is not read of tables
-abbrev pub AreWindowCaveats : Content → Cpu → Reasons → List Caveat → Type 0
-AreWindowCaveats c cpu r =
+abbrev pub AreWindowCaveats : Content → Cpu → BootKind → Reasons → List Caveat → Type 0
+AreWindowCaveats c cpu kind r =
     AreBoth (AreLateFirsts c r.decision r.size r.looks.items)
     (AreBoth (AreItemOrders c cpu r.looks.items)
-    (AreBoth (AreMayStarts r.looks.items)
+    (AreBoth (AreMayStarts c cpu kind r.looks.items)
     (AreBoth (AreOwnedImages c cpu (table_of_reasons r))
     (AreBoth (AreUnread (table_of_reasons r)) (IsTableTie r.first r.second)))))
 
@@ -63,4 +67,4 @@ pub record AreCaveats (c : Content) (cpu : Cpu) (kind : BootKind)
   pub explained : IsExplained c cpu kind reasons
   pub listed : AreBoth (AreBoardCaveats c reasons)
       (AreBoth (AreChoiceCaveats c cpu kind reasons)
-      (AreBoth (AreWindowCaveats c cpu reasons) (AreLastCaveats c cpu kind reasons))) list
+      (AreBoth (AreWindowCaveats c cpu kind reasons) (AreLastCaveats c cpu kind reasons))) list

@@ -6,21 +6,19 @@ ghost use Rattle.sector_pool.specs.Keeping.{KeepsOut};
 ghost use Rattle.sector_pool.specs.Pool.{HasFree};
 ghost use Rattle.slot_choice.specs.Updates.{has_member_at};
 ghost use Rattle.boot_rules.specs.Picking.{IsInside};
-ghost use Rattle.boot_caveats.specs.ChoiceCaveats.{first_slot_image, first_tie, has_normal_image, has_typed_first, is_slot_address, is_tie, lacks_image, lone_slot_images, moved_by, moved_part, other_cpu, other_processor, second_slot_image, slot_images, started_window, tie_of, tied_in, update_moves, update_of_nothing, update_of_slot, updates_one};
+ghost use Rattle.boot_caveats.specs.ChoiceCaveats.{first_slot_image, first_tie, has_normal_image, has_second_image, is_slot_address, is_tie, lacks_image, lone_slot_images, moved_by, moved_part, other_cpu, second_slot_image, slot_images, started_window, tie_of, tied_in, update_moves, update_of_nothing, update_of_slot, updates_one};
 
-use crate::reading::first_block;
 use boot_reasons::{TableInForce, TakenImage, UnitReason, UnitReport};
-use boot_rules::{Decision, Fall, decide};
+use boot_rules::{Decision, Fall};
 use image_check::check;
-use image_def::image_flags;
 use pico_board::{Board, BootKind, Cpu, FLASH_BASE, FlashView, SMALLEST_SLOT, Window};
 use sector_pool::SectorPool;
-use slot_caveats::{Caveat, add};
+use slot_caveats::{Caveat, add, flash_from, has_executable};
 use slot_choice::SlotUnit;
 use std::alloc::AllocError;
 
 /// The other processor.
-fn other_cpu(cpu: Cpu) -> Cpu
+pub(crate) fn other_cpu(cpu: Cpu) -> Cpu
     ensures { result ≡ other_cpu cpu }
 {
     match cpu {
@@ -30,7 +28,7 @@ fn other_cpu(cpu: Cpu) -> Cpu
 }
 
 /// Whether no image starts.
-fn lacks_image(decision: &Decision) -> bool
+pub(crate) fn lacks_image(decision: &Decision) -> bool
     ensures { result ≡ lacks_image decision.now }
 {
     match decision {
@@ -46,30 +44,6 @@ pub(crate) fn started_window(decision: &Decision) -> Option<Window>
     match decision {
         Decision::Start(choice) => Some(choice.image.window),
         Decision::Bootsel(_) => None,
-    }
-}
-
-/// No image starts, and one would for the other processor.
-pub(crate) fn other_processor<B: Board>(
-    board: &B,
-    pool: &mut SectorPool,
-    cpu: Cpu,
-    kind: BootKind,
-    decision: &Decision,
-) -> Option<Caveat>
-    requires power { IsTrue (B.state board.now).powered }
-    requires free { HasFree pool.old }
-    ensures exact { result
-        ≡ other_processor (B.state board.now).content cpu kind decision.now }
-    ensures kept { KeepsOut pool.old pool.new }
-{
-    if !lacks_image(decision) {
-        return None;
-    }
-    let other = decide(board, pool, other_cpu(cpu), kind);
-    match started_window(&other) {
-        Some(window) => Some(Caveat::OtherProcessor(window)),
-        None => None,
     }
 }
 
@@ -89,16 +63,14 @@ pub(crate) fn has_normal_image<B: Board>(
     check(board, pool, window, cpu, false).is_ok()
 }
 
-/// Whether the first block of a window has an IMAGE_TYPE item.
-fn has_typed_first<B: Board>(board: &B, window: Window) -> bool
+/// Whether the loop of the flash from slot 1 on, of the smallest size, closes and has an executable
+/// block.
+fn has_second_image<B: Board>(board: &B) -> bool
     requires power { IsTrue (B.state board.now).powered }
-    requires inside { IsInside (length (B.state board.now).content.flash) window }
-    ensures { result ≡ has_typed_first (B.state board.now).content window }
+    ensures { result ≡ has_second_image (B.state board.now).content }
 {
-    match first_block(&FlashView { board, window }) {
-        Some(block) => image_flags(&block).is_some(),
-        None => false,
-    }
+    let window = flash_from(board, SMALLEST_SLOT);
+    has_executable(&FlashView { board, window })
 }
 
 /// No image starts, and slot 0 of the smallest size has one.
@@ -124,8 +96,7 @@ fn first_slot_image<B: Board>(
     }
 }
 
-/// No image starts, and slot 1 of the smallest size has one; or its first block has an IMAGE_TYPE
-/// item.
+/// No image starts, and slot 1 of the smallest size has one; or the flash has one from slot 1 on.
 fn second_slot_image<B: Board>(
     board: &B,
     pool: &mut SectorPool,
@@ -141,7 +112,7 @@ fn second_slot_image<B: Board>(
         start: SMALLEST_SLOT,
         len: SMALLEST_SLOT,
     };
-    if has_typed_first(board, window)
+    if has_second_image(board)
         || (lacks_image(decision) && has_normal_image(board, pool, cpu, window))
     {
         Some(Caveat::SlotImage(window))

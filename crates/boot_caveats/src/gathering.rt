@@ -7,18 +7,20 @@ ghost use Rattle.boot_reasons.specs.Reasons.{reasons_in};
 ghost use Rattle.boot_caveats.specs.Caveats.{board_caveats, caveats_by, caveats_in, choice_caveats, last_caveats, window_caveats};
 ghost use Rattle.boot_caveats.specs.Rules.{AreCaveats};
 
-use crate::choices::{
-    add_slot_images, first_tie, other_processor, update_moves, update_of_nothing, update_of_slot,
-};
+use crate::choices::{add_slot_images, first_tie, update_moves, update_of_nothing, update_of_slot};
 use crate::images::{add_item_orders, add_late_firsts, add_may_starts, add_owned_images};
 use crate::members::add_members;
 use crate::parts::{add_ignore_flags, add_no_reads};
+use crate::processors::add_other_processors;
 use crate::starts::{add_rows, table_in_image};
+use crate::unread::unread_start;
 use boot_reasons::{Reasons, gather, taken_table};
 use boot_rules::boot_units_in;
 use pico_board::{Board, BootKind, Cpu};
 use sector_pool::SectorPool;
-use slot_caveats::{Caveat, add, add_critical, add_otp, add_slots, add_unread, short_flash, short_slots, table_tie};
+use slot_caveats::{
+    Caveat, add, add_critical, add_otp, add_slots, add_unread, short_flash, short_slots, table_tie,
+};
 use std::alloc::{AllocError, Global};
 
 /// Adds the caveats of the OTP, of the tables of the slots, of the slot size, and of the table of
@@ -59,7 +61,8 @@ fn add_choice<B: Board>(
     ensures kept { KeepsOut pool.old pool.new }
 {
     let decision = &reasons.decision;
-    add(list, other_processor(board, pool, cpu, kind, decision))?;
+    let looks = reasons.looks.as_slice();
+    add_other_processors(board, pool, cpu, kind, decision, looks, list)?;
     add_slot_images(
         board,
         pool,
@@ -69,7 +72,7 @@ fn add_choice<B: Board>(
         reasons.table,
         list,
     )?;
-    add(list, first_tie(reasons.looks.as_slice()))?;
+    add(list, first_tie(looks))?;
     add(list, update_of_slot(kind, reasons.size, reasons.table))?;
     let units = boot_units_in(board, cpu);
     add(list, update_moves(kind, units.as_slice()))?;
@@ -79,6 +82,7 @@ fn add_choice<B: Board>(
 /// Adds the caveats of the windows that are looked at, of owned partitions, and of what is not
 /// read of tables.
 fn add_windows<B: Board>(
+    alloc: Global,
     board: &B,
     pool: &mut SectorPool,
     reasons: &Reasons,
@@ -90,13 +94,14 @@ fn add_windows<B: Board>(
     requires free { HasFree pool.old }
     requires reasons { reasons.now ≡ reasons_in (B.state board.now).content cpu kind }
     ensures exact { OnOk result (list.new.items ≡ list.old.items
-        ++ window_caveats (B.state board.now).content cpu reasons.now) }
+        ++ window_caveats (B.state board.now).content cpu kind reasons.now) }
     ensures kept { KeepsOut pool.old pool.new }
 {
     let looks = reasons.looks.as_slice();
     add_late_firsts(board, &reasons.decision, reasons.size, looks, list)?;
     add_item_orders(board, cpu, looks, list)?;
-    add_may_starts(looks, list)?;
+    let unread = unread_start(alloc, board, pool, looks, cpu, kind)?;
+    add_may_starts(unread, looks, list)?;
     let table = taken_table(reasons.table, &reasons.first, &reasons.second);
     add_owned_images(board, pool, cpu, table, list)?;
     add_unread(table, list)?;
@@ -156,7 +161,7 @@ pub fn caveats_by<B: Board>(
     let mut list = Vec::new(alloc);
     add_board(board, reasons, cpu, kind, &mut list)?;
     add_choice(board, pool, reasons, cpu, kind, &mut list)?;
-    add_windows(board, pool, reasons, cpu, kind, &mut list)?;
+    add_windows(alloc, board, pool, reasons, cpu, kind, &mut list)?;
     add_last(board, reasons, cpu, kind, &mut list)?;
     Ok(list)
 }

@@ -6,10 +6,11 @@ ghost use Rattle.sector_pool.specs.Keeping.{KeepsOut};
 ghost use Rattle.sector_pool.specs.Pool.{HasFree};
 ghost use Rattle.boot_rules.specs.Picking.{AreInside, IsInside};
 ghost use Rattle.boot_caveats.specs.Reads.{AreLooksInside, ArePartsInside};
-ghost use Rattle.boot_caveats.specs.ImageCaveats.{begins_otherwise, ends_late, first_places, is_doubtful, is_doubtful_item, is_doubtful_map, is_window, item_order, late_first, late_firsts, look_may_start, looked_windows, may_start, owned_image, owned_images, read_windows, reads_blocks, second_may_start, unit_windows};
+ghost use Rattle.boot_caveats.specs.ImageCaveats.{begins_otherwise, ends_late, first_places, is_at, is_doubtful, is_doubtful_item, is_doubtful_map, is_window, item_order, late_first, late_firsts, look_may_start, looked_windows, may_start, owned_image, owned_images, read_windows, reads_blocks, second_may_start, unit_windows};
 
 use crate::choices::has_normal_image;
 use crate::reading::{definition_in, first_block};
+use crate::unread::is_rollback;
 use arrayvec::ArrayVec;
 use block_codec::Block;
 use block_codec::kinds::{HASH_DEF, HASH_VALUE, IMAGE_TYPE, VERSION, kind_of};
@@ -51,7 +52,7 @@ fn read_windows(size: u32, looks: &[UnitReport]) -> ArrayVec<Window, 32>
 }
 
 /// Whether a window is among these.
-fn has_window(windows: &[Window], window: Window) -> bool
+pub(crate) fn has_window(windows: &[Window], window: Window) -> bool
     ensures { result ≡ list_any (is_window window) windows.now }
 {
     windows.iter().any(|other| other.is_same(window))
@@ -233,13 +234,24 @@ fn is_doubtful(why: Why) -> bool
     }
 }
 
-/// A member's image fails a rule by which the chip may not judge.
-fn may_start(window: Window, image: &Result<Started, Why>) -> Option<Caveat>
-    ensures { result ≡ may_start window image.now }
+/// Whether a boot that does not apply the rule on rollback rows starts in this window.
+fn is_at(unread: Option<Window>, window: Window) -> bool
+    ensures { result ≡ is_at unread window }
+{
+    match unread {
+        Some(started) => started.is_same(window),
+        None => false,
+    }
+}
+
+/// A member's image fails a rule by which the chip may not judge; or it fails the rule on rollback
+/// rows, and a boot that does not apply that rule starts in its window.
+fn may_start(unread: Option<Window>, window: Window, image: &Result<Started, Why>) -> Option<Caveat>
+    ensures { result ≡ may_start unread window image.now }
 {
     match image {
         Err(why) => {
-            if is_doubtful(*why) {
+            if is_doubtful(*why) || is_rollback(*why) && is_at(unread, window) {
                 Some(Caveat::MayStart(window, *why))
             } else {
                 None
@@ -249,27 +261,35 @@ fn may_start(window: Window, image: &Result<Started, Why>) -> Option<Caveat>
     }
 }
 
-/// The second member's image fails such a rule, where there is a second member.
-fn second_may_start(window: Option<Window>, image: &Option<Result<Started, Why>>) -> Option<Caveat>
-    ensures { result ≡ second_may_start window image.now }
+/// The same of the second member's image, where there is a second member.
+fn second_may_start(
+    unread: Option<Window>,
+    window: Option<Window>,
+    image: &Option<Result<Started, Why>>,
+) -> Option<Caveat>
+    ensures { result ≡ second_may_start unread window image.now }
 {
     match window {
         Some(window) => match image {
-            Some(image) => may_start(window, image),
+            Some(image) => may_start(unread, window, image),
             None => None,
         },
         None => None,
     }
 }
 
-/// Adds each member with an image that fails a rule by which the chip may not judge, of the units
-/// that are looked at.
-pub(crate) fn add_may_starts(looks: &[UnitReport], list: &mut Vec<Caveat>) -> Result<(), AllocError>
-    ensures { OnOk result (list.new.items ≡ list.old.items ++ flat_map look_may_start looks.now) }
+/// Adds each member with an image that fails such a rule, of the units that are looked at.
+pub(crate) fn add_may_starts(
+    unread: Option<Window>,
+    looks: &[UnitReport],
+    list: &mut Vec<Caveat>,
+) -> Result<(), AllocError>
+    ensures { OnOk result
+        (list.new.items ≡ list.old.items ++ flat_map (look_may_start unread) looks.now) }
 {
     for look in looks {
-        add(list, may_start(look.unit.a, &look.first))?;
-        add(list, second_may_start(look.unit.b, &look.second))?;
+        add(list, may_start(unread, look.unit.a, &look.first))?;
+        add(list, second_may_start(unread, look.unit.b, &look.second))?;
     }
     Ok(())
 }

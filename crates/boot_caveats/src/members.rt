@@ -41,10 +41,7 @@ fn long_definition<B: Board>(board: &B, cpu: Cpu, window: Window) -> Option<Cave
     requires inside { IsInside (length (B.state board.now).content.flash) window }
     ensures { result ≡ long_definition (B.state board.now).content cpu window }
 {
-    match last_where(
-        &FlashView { board, window },
-        Sought::LongDefinition(cpu),
-    ) {
+    match last_where(&FlashView { board, window }, Sought::LongDefinition(cpu)) {
         Some(block) => Some(Caveat::LongDefinition(window, block.at())),
         None => None,
     }

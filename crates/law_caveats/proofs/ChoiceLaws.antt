@@ -36,7 +36,8 @@ use Rattle.slot_caveats.specs.declared.caveat.Caveat.{Caveat}
 use Rattle.slot_caveats.specs.declared.caveat.Caveat.TheVariants.{Tie, UpdateMovesUnit}
 use Rattle.boot_caveats.specs.Caveats.{choice_caveats}
 use Rattle.boot_caveats.specs.Rules.{AreCaveats}
-use Rattle.boot_caveats.specs.ChoiceCaveats.{first_tie, moved_by, moved_part, other_processor, slot_images, takes_image, tie_of, tied_in, update_moves, update_of_slot}
+use Rattle.boot_caveats.specs.ChoiceCaveats.{first_tie, moved_by, moved_part, slot_images, takes_image, tie_of, tied_in, update_moves, update_of_slot}
+use Rattle.boot_caveats.specs.ProcessorCaveats.{looked_members, other_processors, updated_in}
 use Rattle.law_caveats.specs.Alternatives.{better_last, choose_last, choose_unmoved, decision_last, decision_unmoved, ordered_choice_last, unit_choice_last, unmoved_from}
 use Rattle.boot_caveats.proofs.CaveatLemmas.{caveats-only}
 use Rattle.boot_caveats.proofs.ChoiceCaveatLemmas.{says-moved, tied-says}
@@ -291,7 +292,8 @@ module _ (c : Content) (cpu : Cpu) (kind : BootKind) (list : List Caveat) (are :
               let t = tied-says look.unit.b look.taken x same in
               never t.1.window t.0 (subst (λ (y : Caveat). Contains list y) t.5
               (listed x (Contains-append_right
-              (option_to_list (other_processor c cpu kind (reasons_in c cpu kind).decision)) _ x
+              (other_processors c cpu kind (reasons_in c cpu kind).decision
+              (looked_members (reasons_in c cpu kind).looks.items (updated_in c cpu kind))) _ x
               (Contains-append_right (slot_images c cpu (reasons_in c cpu kind).decision
               (reasons_in c cpu kind).size (reasons_in c cpu kind).table) _ x
               (Contains-append_left _ _ x (contains-one _ x e))))))
@@ -306,7 +308,8 @@ module _ (c : Content) (cpu : Cpu) (kind : BootKind) (list : List Caveat) (are :
           → Contains (choice_caveats c cpu kind (reasons_in c cpu kind)) (UpdateMovesUnit part)
       there part e =
           Contains-append_right
-          (option_to_list (other_processor c cpu kind (reasons_in c cpu kind).decision)) _ _
+          (other_processors c cpu kind (reasons_in c cpu kind).decision
+          (looked_members (reasons_in c cpu kind).looks.items (updated_in c cpu kind))) _ _
           (Contains-append_right (slot_images c cpu (reasons_in c cpu kind).decision
           (reasons_in c cpu kind).size (reasons_in c cpu kind).table) _ _
           (Contains-append_right (option_to_list (first_tie (reasons_in c cpu kind).looks.items)) _ _

@@ -42,19 +42,29 @@ pub in-choice : (c : Content) (cpu : Cpu) (kind : BootKind) (x : Caveat)
 unfolding caveats_by
 in-choice c cpu kind x is =
     let r = reasons_in c cpu kind in
-    let later = window_caveats c cpu r ++ last_caveats c cpu kind r in
+    let later = window_caveats c cpu kind r ++ last_caveats c cpu kind r in
     Contains-append_right (board_caveats c r) (choice_caveats c cpu kind r ++ later) x
     (Contains-append_left (choice_caveats c cpu kind r) later x is)
 
 pub in-windows : (c : Content) (cpu : Cpu) (kind : BootKind) (x : Caveat)
-    → Contains (window_caveats c cpu (reasons_in c cpu kind)) x → Contains (caveats_in c cpu kind) x
+    → Contains (window_caveats c cpu kind (reasons_in c cpu kind)) x → Contains (caveats_in c cpu kind) x
 unfolding caveats_by
 in-windows c cpu kind x is =
     let r = reasons_in c cpu kind in
-    let later = window_caveats c cpu r ++ last_caveats c cpu kind r in
+    let later = window_caveats c cpu kind r ++ last_caveats c cpu kind r in
     Contains-append_right (board_caveats c r) (choice_caveats c cpu kind r ++ later) x
     (Contains-append_right (choice_caveats c cpu kind r) later x
-    (Contains-append_left (window_caveats c cpu r) (last_caveats c cpu kind r) x is))
+    (Contains-append_left (window_caveats c cpu kind r) (last_caveats c cpu kind r) x is))
+
+pub in-last : (c : Content) (cpu : Cpu) (kind : BootKind) (x : Caveat)
+    → Contains (last_caveats c cpu kind (reasons_in c cpu kind)) x → Contains (caveats_in c cpu kind) x
+unfolding caveats_by
+in-last c cpu kind x is =
+    let r = reasons_in c cpu kind in
+    let later = window_caveats c cpu kind r ++ last_caveats c cpu kind r in
+    Contains-append_right (board_caveats c r) (choice_caveats c cpu kind r ++ later) x
+    (Contains-append_right (choice_caveats c cpu kind r) later x
+    (Contains-append_right (window_caveats c cpu kind r) (last_caveats c cpu kind r) x is))
 
 -- an element is one of a list
 abbrev pub IsIn : {X : Type 0} → X → List X → Type 0

@@ -34,9 +34,11 @@ use Rattle.slot_caveats.specs.declared.caveat.Caveat.TheVariants.{OtherProcessor
 use Rattle.slot_caveats.specs.Listing.{caveat_if}
 use Rattle.boot_caveats.specs.Caveats.{choice_caveats}
 use Rattle.boot_caveats.specs.Rules.{AreCaveats}
-use Rattle.boot_caveats.specs.ChoiceCaveats.{first_slot_image, has_normal_image, has_typed_first, lacks_image, lone_slot_images, other_cpu, other_processor, slot_images, started_window}
+use Rattle.boot_caveats.specs.ChoiceCaveats.{first_slot_image, has_normal_image, has_second_image, lacks_image, lone_slot_images, other_cpu, slot_images, started_window}
 use Rattle.boot_caveats.specs.ChoiceRules.{IsTableless}
 use Rattle.law_caveats.specs.Alternatives.{ChosenOfBoth, ChosenWithSlots, slots_alone}
+use Rattle.boot_caveats.specs.ProcessorCaveats.{looked_members, other_processors, updated_in}
+use Rattle.boot_caveats.proofs.ProcessorLemmas.{start-listed}
 use Rattle.boot_caveats.proofs.CaveatLemmas.{caveats-only}
 use Rattle.boot_caveats.proofs.ChoiceCaveatLemmas.{lacks-decides, normal-decides}
 use Rattle.law_caveats.proofs.DoubtLemmas.{by-choice, contains-one, decided, in-choice, reasons-decide}
@@ -78,20 +80,16 @@ module _ (c : Content) (cpu : Cpu) (kind : BootKind) (list : List Caveat) (are :
             ∙ by-choice kind (flash_off c.otp) (choose (images_in c cpu) (order_of kind (boot_units_in c cpu))) _
             (sym (decided c cpu kind) ∙ none)
 
-        told : (choice : Choice) → decision_in c (other_cpu cpu) kind ≡ Start choice
-            → other_processor c cpu kind (reasons_in c cpu kind).decision ≡ Some (OtherProcessor choice.image.window)
-        told choice starts =
-            ap (λ b. cond b (option_map OtherProcessor (started_window (decision_in c (other_cpu cpu) kind))) None)
-            ((lacks-decides (reasons_in c cpu kind).decision).1 (reasons-decide c cpu kind ∙ none))
-            ∙ ap (λ d. option_map OtherProcessor (started_window d)) starts
-
         go : (o : Option Choice)
             → choose (images_in c (other_cpu cpu)) (order_of kind (boot_units_in c (other_cpu cpu))) ≡ o
             → decision_in c (other_cpu cpu) kind ≡ Bootsel NoImage
         go None e = by ∙ ap decision_of e
         go (Some choice) e =
             absurd (never choice.image.window (listed (OtherProcessor choice.image.window)
-            (Contains-append_left _ _ _ (contains-one _ _ (told choice (by ∙ ap decision_of e))))))
+            (Contains-append_left _ _ _ (start-listed c cpu kind (reasons_in c cpu kind).decision
+            (looked_members (reasons_in c cpu kind).looks.items (updated_in c cpu kind)) choice.image.window
+            ((lacks-decides (reasons_in c cpu kind).decision).1 (reasons-decide c cpu kind ∙ none))
+            (ap started_window (by ∙ ap decision_of e))))))
 
     pub processor-doubt : (d : Decision) → ChosenOfBoth c cpu kind d ↔ Chosen c cpu kind d
     processor-doubt d = (to, from (none-else d))
@@ -153,7 +151,8 @@ module _ (c : Content) (cpu : Cpu) (kind : BootKind) (list : List Caveat) (are :
         → Contains (lone_slot_images c cpu (reasons_in c cpu kind).decision) x → Contains list x
     slot-listed x none is =
         listed x (Contains-append_right
-        (option_to_list (other_processor c cpu kind (reasons_in c cpu kind).decision)) _ x
+        (other_processors c cpu kind (reasons_in c cpu kind).decision
+        (looked_members (reasons_in c cpu kind).looks.items (updated_in c cpu kind))) _ x
         (Contains-append_left _ _ x (subst (λ (xs : List Caveat). Contains xs x) (sym (lone none)) is)))
 
     -- where no image starts, no slot has one
@@ -171,7 +170,7 @@ module _ (c : Content) (cpu : Cpu) (kind : BootKind) (list : List Caveat) (are :
         never (slot_window SMALLEST_SLOT 1) (slot-listed (SlotImage (slot_window SMALLEST_SLOT 1)) none
         (Contains-append_right (option_to_list (first_slot_image c cpu (reasons_in c cpu kind).decision)) _ _
         (contains-one _ _ (ap (λ b. caveat_if b (SlotImage (slot_window SMALLEST_SLOT 1)))
-        (right-one (has_typed_first c (slot_window SMALLEST_SLOT 1)) _
+        (right-one (has_second_image c) _
         (both (lacks_image (reasons_in c cpu kind).decision) (has_normal_image c cpu (slot_window SMALLEST_SLOT 1))
         ((lacks-decides (reasons_in c cpu kind).decision).1 (reasons-decide c cpu kind ∙ lacks))
         ((normal-decides c cpu (slot_window SMALLEST_SLOT 1)).1

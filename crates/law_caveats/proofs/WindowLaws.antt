@@ -58,7 +58,7 @@ image-same loops suits c cpu w trial e =
 -- ---- the order of items
 
 module _ {X : Type 0} (p q : X → Bool) (weaker : (x : X) → p x ≡ false → q x ≡ false) where
-  find-none : (xs : List X) → find p xs ≡ None → find q xs ≡ None
+  pub find-none : (xs : List X) → find p xs ≡ None → find q xs ≡ None
   find-none [] e = refl
   find-none (x ∷ xs) e = go (p x) refl e (find-none xs)
     where
@@ -67,7 +67,7 @@ module _ {X : Type 0} (p q : X → Bool) (weaker : (x : X) → p x ≡ false →
       go true is none rest = cc
       go false is none rest = ap (λ b. cond b (Some x) (find q xs)) (weaker x is) ∙ rest none
 
-  find-same : (xs : List X) (y : X) → find p xs ≡ Some y → q y ≡ true → find q xs ≡ Some y
+  pub find-same : (xs : List X) (y : X) → find p xs ≡ Some y → q y ≡ true → find q xs ≡ Some y
   find-same [] y e is = cc
   find-same (x ∷ xs) y e is = go (p x) refl e (λ h. find-same xs y h is)
     where
@@ -230,7 +230,7 @@ reads-when (Update base) false None e = refl
 reads-when (Update base) false (Some choice) e = refl
 
 module _ (c : Content) (cpu : Cpu) (kind : BootKind) (list : List Caveat) (are : AreCaveats c cpu kind list) where
-  listed : (x : Caveat) → Contains (window_caveats c cpu (reasons_in c cpu kind)) x → Contains list x
+  listed : (x : Caveat) → Contains (window_caveats c cpu kind (reasons_in c cpu kind)) x → Contains list x
   listed x is =
       subst (λ (xs : List Caveat). Contains xs x) (sym (caveats-only c cpu kind list are)) (in-windows c cpu kind x is)
 
@@ -249,7 +249,7 @@ module _ (c : Content) (cpu : Cpu) (kind : BootKind) (list : List Caveat) (are :
     where
       there : (w : Window) → option_map_or begins_otherwise (definition_in cpu (window_bytes c w)) false ≡ true
           → IsIn w (looked_windows (reports_in c cpu kind))
-          → Contains (window_caveats c cpu (reasons_in c cpu kind)) (ItemOrder w)
+          → Contains (window_caveats c cpu kind (reasons_in c cpu kind)) (ItemOrder w)
       there w e is =
           Contains-append_right (late_firsts c (reasons_in c cpu kind).decision (reasons_in c cpu kind).size
           (reasons_in c cpu kind).looks.items) _ _

@@ -1,6 +1,6 @@
--- Six decisions by other rules than those of Chosen. The chip may have each of these rules
+-- Decisions by other rules than those of Chosen. The chip may have each of these rules
 -- instead.
-use Rattle.std.specs.Prelude.{◌≢◌, ◌⊎◌, ℕ, zero, suc, ◌+◌, ◌-◌, ◌/◌, ◌*◌, ◌&&◌, nat_le, Bool, false, if◌then◌else◌, List, [], ◌∷◌, length, drop, find, reverse, slice_get, Option, Some, None, option_map, Result, Ok, Err}
+use Rattle.std.specs.Prelude.{◌≡◌, ◌≢◌, ◌⊎◌, Contains, ℕ, zero, suc, ◌+◌, ◌-◌, ◌/◌, ◌*◌, ◌&&◌, nat_le, Bool, false, if◌then◌else◌, List, [], ◌∷◌, length, drop, find, reverse, slice_get, Option, Some, None, option_map, Result, Ok, Err}
 use Rattle.std.specs.List.{list_any}
 use Rattle.std.specs.Option.{option_map_or, option_or}
 use Rattle.std.specs.Result.{result_ok}
@@ -42,13 +42,20 @@ use Rattle.boot_rules.specs.declared.decision.Decision.TheVariants.{Bootsel}
 use Rattle.boot_rules.specs.declared.decision.Fall.TheVariants.{NoImage}
 use Rattle.boot_rules.specs.declared.slots.SlotFault.{SlotFault}
 use Rattle.boot_rules.specs.declared.tables.Found.{Found}
-use Rattle.boot_rules.specs.Choosing.{Order, boot_units_in, choose, images_in, member_image, of_better, order_of, ordered_choice, unit_choice, version_of_image}
+use Rattle.boot_rules.specs.Choosing.{Order, boot_units_in, choose, decision_in, images_in, member_image, of_better, order_of, ordered_choice, unit_choice, version_of_image}
 use Rattle.boot_rules.specs.Chosen.{Chosen, ChosenFrom}
-use Rattle.boot_rules.specs.Tables.{answer_in_loop, found_of, slot_window}
+use Rattle.boot_rules.specs.declared.slots.SlotFault.TheVariants.{Loop}
+use Rattle.boot_rules.specs.Tables.{answer_in_block, answer_in_loop, found_of, slot_window, table_of_content}
+use Rattle.boot_reasons.specs.declared.looks.UnitReport.{UnitReport}
+use Rattle.boot_reasons.specs.declared.reasons.Reasons.{Reasons}
 use Rattle.boot_reasons.specs.Reasons.{reported_decision}
+use Rattle.boot_reasons.specs.Rules.{IsExplained}
 use Rattle.boot_caveats.specs.ChoiceCaveats.{other_cpu}
 use Rattle.boot_caveats.specs.ChoiceRules.{IsTableless}
 use Rattle.boot_caveats.specs.ImageCaveats.{ends_late}
+use Rattle.boot_caveats.specs.ImageRules.{IsRollback, StartsUnread}
+use Rattle.slot_caveats.specs.SlotCaveats.{begins_table}
+use Rattle.boot_caveats.specs.Unread.{unread_content}
 
 -- ---- other-processor: where no image starts, the boot decides again for the other processor,
 -- with the same kind and that processor's units
@@ -207,3 +214,83 @@ abbrev pub decision_early : Content → Cpu → BootKind → Decision
 decision_early c cpu kind =
     reported_decision kind (flash_off c.otp)
     (choose (images_by early_loop (does_suit cpu) c cpu) (order_of kind (early_units c cpu)))
+
+-- ---- slot-image: where there is a table, slot 0 and then slot 1, as windows of one slot size, are
+-- units alone before all others, with trial not allowed
+
+abbrev pub slot_unit : ℕ → ℕ → SlotUnit
+slot_unit size number =
+    record { a = slot_window size number; b = None; a_part = None; b_part = None }
+
+abbrev pub slots_before : Option Table → (Window → Bool → Option Started) → ℕ → Order → Option Choice
+slots_before None images size order = choose images order
+slots_before (Some t) images size order =
+    option_or (unit_choice images (slot_unit size 0) None)
+    (option_or (unit_choice images (slot_unit size 1) None) (choose images order))
+
+abbrev pub decision_slots : Content → Cpu → BootKind → Decision
+decision_slots c cpu kind =
+    reported_decision kind (flash_off c.otp)
+    (slots_before (table_of_content c) (images_in c cpu) (slot_size c.otp (length c.flash))
+    (order_of kind (boot_units_in c cpu)))
+
+-- ---- table-order: a block is a table's only where PARTITION_TABLE is its first item, so that an
+-- earlier one of the loop may be it
+
+abbrev pub ordered_answer_in_loop : ℕ → ℕ → Result (List BlockView) LoopFault
+    → Result Table SlotFault
+ordered_answer_in_loop sectors first (Ok blocks) =
+    answer_in_block sectors first (find begins_table (reverse blocks))
+ordered_answer_in_loop sectors first (Err fault) = Err (Loop fault)
+
+abbrev pub ordered_slot_answer : Content → ℕ → Result Table SlotFault
+ordered_slot_answer c number =
+    let size = slot_size c.otp (length c.flash) in
+    ordered_answer_in_loop (length c.flash / 4096) (2 * size / 4096)
+    (loop_of (window_bytes c (slot_window size number)))
+
+abbrev pub ordered_table : Content → Option Table
+ordered_table c =
+    option_map (λ (found : Found). found.table)
+    (found_of (result_ok (ordered_slot_answer c 0)) (result_ok (ordered_slot_answer c 1)))
+
+abbrev pub ordered_units : Content → Cpu → List SlotUnit
+ordered_units c cpu =
+    units (ordered_table c) (length c.flash) (slot_size c.otp (length c.flash)) cpu
+
+abbrev pub decision_ordered : Content → Cpu → BootKind → Decision
+decision_ordered c cpu kind =
+    reported_decision kind (flash_off c.otp)
+    (choose (images_in c cpu) (order_of kind (ordered_units c cpu)))
+
+-- ---- other-processor-first: each member that has no image that counts is judged for the other
+-- processor too, before the next unit is looked at
+
+abbrev pub images_of_both : Content → Cpu → Window → Bool → Option Started
+images_of_both c cpu w trial =
+    option_or (images_in c cpu w trial) (images_in c (other_cpu cpu) w trial)
+
+abbrev pub decision_of_both : Content → Cpu → BootKind → Decision
+decision_of_both c cpu kind =
+    reported_decision kind (flash_off c.otp)
+    (choose (images_of_both c cpu) (order_of kind (boot_units_in c cpu)))
+
+-- ---- rollback-unread: the rule on rollback rows is not applied at all, which is the decision with
+-- an OTP that has 0 in every row but row 0x055 and bit 1 of row 0x048
+
+abbrev pub decision_unread : Content → Cpu → BootKind → Decision
+decision_unread c cpu kind = decision_in (unread_content c) cpu kind
+
+-- the condition of the line `may-start` with such a fault: an image that is looked at fails the
+-- rule on rollback rows, and a boot that does not apply it starts in its window
+pub record HasUnreadStart (c : Content) (cpu : Cpu) (kind : BootKind) : Type 0 where
+  pub reasons : Reasons
+  pub look : UnitReport
+  pub window : Window
+  pub why : Why
+  pub explained : IsExplained c cpu kind reasons
+  pub looked : Contains reasons.looks.items look
+  pub fails : ((look.unit.a ≡ window) × (look.first ≡ Err why))
+      ⊎ ((look.unit.b ≡ Some window) × (look.second ≡ Some (Err why)))
+  pub rule : IsRollback why
+  pub starts : StartsUnread c cpu kind window

@@ -1,9 +1,10 @@
 -- Lists of caveats with those of one more element.
-use Rattle.std.proofs.Common.{◌≡◌, ℕ, zero, suc, ◌+◌, ◌-◌, ◌*◌, ◌^◌, ◌<◌, Bool, cond, List, [], ◌∷◌, ◌++◌, count_by, sum_by, Option, Some, None, refl, sym, ap, ◌∙◌, append_assoc, arith, pow-suc}
+use Rattle.std.proofs.Common.{◌≡◌, ℕ, zero, suc, ◌+◌, ◌-◌, ◌*◌, ◌%◌, ◌^◌, ◌<◌, ◌≤◌, Bool, cond, List, [], ◌∷◌, ◌++◌, count_by, sum_by, Option, Some, None, refl, sym, ap, ◌∙◌, append_assoc, arith, pow-suc}
 use Rattle.std.specs.Prelude.{option_to_list}
 use Rattle.std.specs.List.{cons_option, filter_map, range_with_len}
 use Rattle.std.proofs.lemmas.List.Sums.{sum_by-cons}
 use Rattle.std.proofs.lemmas.List.Elements.{filter_map-append}
+use Rattle.std.proofs.Math.Pow.{pow_mono}
 
 -- an element in front, where there is one
 pub cons-list : {Y : Type 0} (o : Option Y) (ys : List Y) → cons_option o ys ≡ option_to_list o ++ ys

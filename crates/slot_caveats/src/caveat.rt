@@ -25,7 +25,8 @@ pub enum Caveat {
     /// The loop of the image that starts in this window has a PARTITION_TABLE item, in the block
     /// at this offset.
     TableInImage(Window, u32),
-    /// No image starts; for the other processor one in this window would start.
+    /// A member that is looked at has no image that counts in this window, and one for the other
+    /// processor; or no image starts, and for the other processor one in this window would.
     OtherProcessor(Window),
     /// This slot of a flash without a table may have an image.
     SlotImage(Window),

@@ -21,5 +21,5 @@ mod tables;
 pub use caveat::{Caveat, add};
 pub use otp::{add_critical, add_otp, short_slots};
 pub use seeking::{Sought, last_where};
-pub use slots::add_slots;
+pub use slots::{add_slots, flash_from, has_executable};
 pub use tables::{add_unread, short_flash, table_tie};

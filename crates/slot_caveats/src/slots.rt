@@ -19,7 +19,7 @@ use pico_board::{Board, FlashView, SMALLEST_SLOT, View, Window};
 use std::alloc::AllocError;
 
 /// The window of the flash's bytes from an offset on.
-fn flash_from<B: Board>(board: &B, at: u32) -> Window
+pub fn flash_from<B: Board>(board: &B, at: u32) -> Window
     requires { at ≤ length (B.state board.now).content.flash }
     ensures { result ≡ flash_from (B.state board.now).content at }
 {
@@ -30,7 +30,7 @@ fn flash_from<B: Board>(board: &B, at: u32) -> Window
 }
 
 /// Whether the loop of a view closes and has an executable block.
-fn has_executable<V: View>(view: &V) -> bool
+pub fn has_executable<V: View>(view: &V) -> bool
     ensures { result ≡ has_executable (V.bytes view.now) }
 {
     last_where(view, Sought::Executable).is_some()

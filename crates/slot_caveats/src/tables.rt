@@ -21,11 +21,7 @@ fn range_of(answer: &Result<Table, SlotFault>) -> Option<u32>
 }
 
 /// A slot's table has a partition that leaves a flash which is shorter than 16 MiB.
-pub fn short_flash(
-    flash_len: u32,
-    number: u32,
-    answer: &Result<Table, SlotFault>,
-) -> Option<Caveat>
+pub fn short_flash(flash_len: u32, number: u32, answer: &Result<Table, SlotFault>) -> Option<Caveat>
     ensures { result ≡ short_flash flash_len number answer.now }
 {
     if flash_len as usize >= MOST_FLASH_BYTES {

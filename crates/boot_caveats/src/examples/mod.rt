@@ -27,7 +27,7 @@ ghost use Rattle.slot_caveats.specs.OtpCaveats.{otp_caveats, raw_flags, raw_slot
 ghost use Rattle.slot_caveats.specs.TableCaveats.{short_flash, table_tie, unread_caveats, unread_families};
 ghost use Rattle.boot_caveats.specs.ChoiceCaveats.{first_tie, lacks_image, moved_by, other_cpu, slot_images, update_of_slot};
 ghost use Rattle.boot_caveats.specs.StartCaveats.{is_filled, row_caveats};
-ghost use Rattle.boot_caveats.specs.ImageCaveats.{begins_otherwise, ends_late, first_places, is_doubtful, look_may_start, read_windows, reads_blocks};
+ghost use Rattle.boot_caveats.specs.ImageCaveats.{begins_otherwise, ends_late, first_places, is_doubtful, look_may_start, may_start, read_windows, reads_blocks};
 ghost use Rattle.slot_caveats.specs.Examples.{block_with, first, first_pair, in_slot, lone_report, lone_third, otp_from, pair_report, part_with, second, start_of, table_of_parts, taken_by, third};
 
 /// A tie of the first unit that takes an image. The window that is taken comes first.
@@ -140,6 +140,22 @@ pub fn rules_that_are_in_doubt()
     ensures required { is_doubtful Why.RollbackRequired ≡ false }
     ensures below { is_doubtful (Below 1 2) ≡ false }
     ensures broken { is_doubtful (Why.Loop (LoopFault.Broken 0)) ≡ false }
-    ensures members { look_may_start (pair_report None) ≡ Caveat.MayStart second Why.Delta ∷ [] }
-    ensures lone { look_may_start (lone_report None) ≡ [] }
+    ensures members { look_may_start None (pair_report None)
+        ≡ Caveat.MayStart second Why.Delta ∷ [] }
+    ensures lone { look_may_start None (lone_report None) ≡ [] }
+{}
+
+/// An image that fails the rule on rollback rows is told where a boot without this rule starts in
+/// its window, and nowhere else.
+pub fn images_below_their_rows()
+    ensures below { may_start (Some second) second (Err (Below 1 2))
+        ≡ Some (Caveat.MayStart second (Below 1 2)) }
+    ensures required { may_start (Some second) second (Err Why.RollbackRequired)
+        ≡ Some (Caveat.MayStart second Why.RollbackRequired) }
+    ensures elsewhere { may_start (Some first) second (Err (Below 1 2)) ≡ None }
+    ensures nowhere { may_start None second (Err (Below 1 2)) ≡ None }
+    ensures other_rule { may_start (Some second) second (Err Why.Digest) ≡ None }
+    ensures doubtful { may_start None second (Err Why.Delta)
+        ≡ Some (Caveat.MayStart second Why.Delta) }
+    ensures image { may_start (Some second) second (Ok (image_of_version second 1 0 false)) ≡ None }
 {}
