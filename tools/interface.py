@@ -143,11 +143,16 @@ def names_of(commands):
     return list(dict.fromkeys(it.name for it in commands))
 
 
+def is_longest(command, commands):
+    """Whether no command of this name has more arguments; those of a shorter one are its first."""
+    return all(len(it.arguments) <= len(command.arguments) for it in commands if it.name == command.name)
+
+
 def cases(commands, line):
     """A line for each form of arguments, with the commands that have it."""
     by_form = {}
     for it in commands:
-        if it.arguments:
+        if it.arguments and is_longest(it, commands):
             by_form.setdefault(tuple(it.forms()), []).append(it.name)
     return "\n".join(line(names, " ".join(forms)) for forms, names in by_form.items())
 
@@ -236,7 +241,7 @@ def tries(commands, families):
     names = names_of(commands)
     yield ["dugnatsew", ""], names
     for it in commands:
-        if not it.arguments and any(other.arguments for other in commands if other.name == it.name):
+        if not is_longest(it, commands):
             continue
         typed = ["dugnatsew", it.name]
         for word in it.arguments:
