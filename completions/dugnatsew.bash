@@ -32,9 +32,9 @@ _dugnatsew_form() {
         map) forms+=(FILE FILE CPU FILE) ;;
         replay | chart) forms+=(FILE FILE CPU FILE FILE FILE) ;;
         sweep | cuts | check | plan | load) forms+=(FILE FILE CPU FILE FILE) ;;
-        seal | elf) forms+=(FILE FILE FILE) ;;
+        seal | elf | script) forms+=(FILE FILE FILE) ;;
         firm) forms+=(FILE CPU) ;;
-        table | otp | copy | script) forms+=(FILE FILE) ;;
+        table | otp | copy) forms+=(FILE FILE) ;;
         uf2) forms+=(FILE FAMILY FILE) ;;
         list) forms+=(FILE) ;;
         gen) forms+=(N) ;;

@@ -15,6 +15,7 @@ is made by the program. The files:
     sealed.uf2   its UF2 file
     update.script   the script of a host that writes sealed.img into B of pair.bin, by `plan`
     update.text  its text
+    ota.text     the text of an update that an application makes itself, with bytes of an image
     table.json, spec.json, otp.json   the texts of the table, of the sealed image and of the OTP
     pattern      the one byte that a torn step leaves here
 """
@@ -45,6 +46,17 @@ TABLE = """{"version": [1, 0],
 """
 FORMER_SPEC = '{"processor": "arm", "version": [1, 0]}\n'
 SPEC = '{"processor": "arm", "version": [1, 1]}\n'
+OTA = """\
+# The application runs from A, writes B at 0x10020000, and asks for the update.
+power
+reset bootsel                        # from here on each line is a call of the application's
+erase 0x10020000+0x3000              # the sectors that the image takes
+write 0x10021000 image 0x1000+       # all of it but its first sector,
+write 0x10020000 image 0x0+0x1000    # and then the first sector
+reboot update=0x10020000             # the flash-update boot, which may start a trial image
+buy                                  # the new image's self test has passed
+reset normal
+"""
 OTP = '{"rollback_required": false, "flash_off": false, "slot_size": 4096}\n'
 
 
@@ -154,6 +166,7 @@ def main():
     folder.write("pair.bin", flash((0, folder.read("table.bin")), (A, folder.read("former.sealed"))))
     folder.run("plan", "pair.bin", "otp.bin", "arm", "sealed.img", "update.script")
     folder.write("update.text", folder.run("list", "update.script"))
+    folder.write("ota.text", OTA)
     folder.remove("former.img", "former.json", "former.sealed", "table.bin")
 
 

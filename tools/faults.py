@@ -28,6 +28,8 @@ IN_PARTS = "crates/text_lines/src/faults.rt"
 CAVEATS = "crates/cli_caveats/src/texts.rt"
 # It puts the fault of a table behind a word.
 JSON = "crates/cli_inputs/src/json.rt"
+# It puts the fault of a line of a text behind the line's number.
+TEXTS = "crates/cli_scripts/src/texts.rt"
 
 # Texts that tell no fault.
 OTHERS = """
@@ -92,6 +94,9 @@ def code_texts(files):
         if file == JSON:
             faults = re.findall(r'TableFault::\w+.*?"([^"]*)"', code)
             code += "".join(f'"table {it}"\n' for it in faults)
+        if file == TEXTS:
+            code = re.sub(r'(Fault::.*format!\(in alloc; ")', r"\1text {n} ", code)
+            code = code.replace('"text {n} {fault}"', '""')
         texts = re.findall(r'"((?:[^"\\]|\\.)*)"', code)
         for text in joined(texts) if file == IN_PARTS else texts:
             # what begins or ends with a blank or a sign is a part of a line

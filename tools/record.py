@@ -4,8 +4,8 @@
     record.py CAPTURE OUT [DEVICE ..]
 
 CAPTURE is a capture of USB by Wireshark, from usbmon on Linux or USBPcap on Windows. It is read by
-tshark (Debian's package tshark). OUT is the text of a script: `dugnatsew script OUT SCRIPT` makes
-the script of it.
+tshark (Debian's package tshark). OUT is the text of a script, in words where a line in words gives
+the record: `dugnatsew script OUT SCRIPT` makes the script of it.
 
 The devices that count are those that are sent a command of PICOBOOT, 32 bytes that begin with
 0x431fd10b, or a UF2 block by SCSI's WRITE(10). Each command becomes a record with the payload that
@@ -33,6 +33,10 @@ RESETS = {0: "normal", 2: "bootsel", 4: "update"}  # kinds of a reboot that a re
 KIND_BITS, SERVED_BITS = 0x0F, 0x10F  # of its flags; the program serves no other ones
 WRAPPER, WRAPPER_SIZE, WRITE_10 = b"USBC", 31, 0x2A
 SECTOR = 512
+FAMILIES = {
+    0xE48BFF56: "rp2040", 0xE48BFF57: "absolute", 0xE48BFF58: "data", 0xE48BFF59: "rp2350-arm-s",
+    0xE48BFF5A: "rp2350-riscv", 0xE48BFF5B: "rp2350-arm-ns",
+}
 UF2 = (  # the fixed words of a UF2 block
     (0, bytes.fromhex("5546320a")), (4, bytes.fromhex("57515d9e")), (508, bytes.fromhex("306fb10a")),
 )
@@ -52,12 +56,87 @@ def reset_line(kind, base=0):
     return f"reset update=0x{base:08x}" if kind == "update" else f"reset {kind}"
 
 
-def command_line(command, payload):
+def word(data, at):
+    return int.from_bytes(data[at:at + 4], "little")
+
+
+def range_word(start, size):
+    return f"0x{start:08x}+0x{size:08x}"
+
+
+def reboot_words(flags, p0, p1):
+    """The words of a reboot, and the argument words that they stand for; None for other flags."""
+    kinds = {
+        0: ("normal", (0, 0, 0, 0)), 2: ("bootsel", (2, 0, 0, 0)),
+        4: (f"update=0x{p0:08x}", (4, 0, p0, 0)), 3: (f"ram={range_word(p0, p1)}", (3, 0, p0, p1)),
+    }
+    return kinds.get(flags)
+
+
+def info_words(kind, argument, length):
+    """The same of an info command."""
+    kinds = {
+        1: ("table", (1, 0, 0, 0)), 2: (f"target=0x{argument:08x}", (2, argument, 0, 0)),
+        3: ("device", (3, 0, 0, 0)), 4: (f"partition={argument}", (4, argument, 0, 0)),
+    }
+    return kinds[kind] and (f"{kinds[kind][0]} {length}", kinds[kind][1]) if kind in kinds else None
+
+
+def said(command, payload):
+    """The words of a command without its token, what they are for: its argument size, its argument
+    words, its transfer length and its payload. None where no words are."""
+    number, length = command[8], word(command, 12)
+    first, second, third, fourth = (word(command, 16 + 4 * at) for at in range(4))
+    row, count = first & 0xFFFF, first >> 16
+    if number == 0x01 and first < 0x100:
+        return f"exclusive {first}", 1, (first, 0, 0, 0), 0, b""
+    if number == 0x03:
+        return f"erase {range_word(first, second)}", 8, (first, second, 0, 0), 0, b""
+    if number == 0x84:
+        return f"read {range_word(first, second)}", 8, (first, second, 0, 0), second, b""
+    if number == 0x05 and payload:
+        size = len(payload)
+        return f"write 0x{first:08x} {payload.hex()}", 8, (first, size, 0, 0), size, payload
+    if number in (0x06, 0x07):
+        return "exit-xip" if number == 0x06 else "enter-xip", 0, (0, 0, 0, 0), 0, b""
+    if number == REBOOT and reboot_words(first, third, fourth):
+        words, arguments = reboot_words(first, third, fourth)
+        return f"reboot {words}", 16, arguments, 0, b""
+    if number == 0x8C and row < 0x1000:
+        return f"otp-read 0x{row:03x} {count}", 5, (row | count << 16, 0, 0, 0), 4 * count, b""
+    if number == 0x0D and row < 0x1000 and 0 < len(payload) <= 4 * 4096 and len(payload) % 4 == 0:
+        rows = [word(payload, at) for at in range(0, len(payload), 4)]
+        words = " ".join(f"0x{it:08x}" for it in rows)
+        return f"otp-write 0x{row:03x} {words}", 5, (row | len(rows) << 16, 0, 0, 0), len(payload), payload
+    if number == 0x8B and info_words(first, second, length):
+        words, arguments = info_words(first, second, length)
+        return f"info {words}", 16, arguments, length, b""
+    return None
+
+
+def command_line(command, payload, next_token):
+    """The line of a command: in words where these give its bytes, and otherwise by its bytes. The
+    token is left out where it is the one that comes next."""
+    token = word(command, 4)
+    found = said(command, payload)
+    if found:
+        words, size, arguments, length, sent = found
+        made = MAGIC + token.to_bytes(4, "little") + bytes((command[8], size, 0, 0))
+        made += b"".join(it.to_bytes(4, "little") for it in (length, *arguments))
+        if made == command and sent == payload:
+            return words if token == next_token else f"{words} token=0x{token:08x}"
     return f"command {command.hex()} {payload.hex()}" if payload else f"command {command.hex()}"
 
 
 def uf2_line(block):
-    return f"uf2 {block.hex()}"
+    """The line of a UF2 block: in words where these give its bytes."""
+    at, number, count, family = (word(block, it) for it in (12, 20, 24, 28))
+    page = block[32:288]
+    fixed = (word(block, 8), word(block, 16), block[288:508]) == (0x2000, 256, bytes(220))
+    if not fixed or any(block[it:it + 4] != magic for it, magic in UF2):
+        return f"uf2 {block.hex()}"
+    name = FAMILIES.get(family, f"0x{family:08x}")
+    return f"uf2 {number} of {count} at 0x{at:08x} family={name} {page.hex()}"
 
 
 def end_line():
@@ -180,6 +259,7 @@ class Session:
         self.drives = {}
         self.former = set()  # addresses that the board had before
         self.commands = self.blocks = self.devices = 0
+        self.next_token = 1  # of a command in words without a token
 
     def take(self, sent):
         """Takes what was sent, where it belongs to the session."""
@@ -245,7 +325,8 @@ class Session:
             self.finish()
 
     def finish(self):
-        self.lines.append(command_line(self.command, self.payload))
+        self.lines.append(command_line(self.command, self.payload, self.next_token))
+        self.next_token = (word(self.command, 4) + 1) % 2**32
         self.commands += 1
         self.rebooted = self.command if self.command[8] == REBOOT else None
         self.command = None

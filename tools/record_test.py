@@ -57,15 +57,25 @@ BLOCKS = [block(at, 3) for at in range(3)]
 SECTORS = b"".join(BLOCKS)
 
 
-def line(*parts):
-    return " ".join(("command", *(it.hex() for it in parts)))
-
-
-def uf2(part):
-    return f"uf2 {part.hex()}"
-
-
 ANEW = "reset bootsel"
+
+# The lines of those records. The recorded reboots have a delay, which no words have.
+ERASES = "erase 0x10000000+0x00001000"
+WRITES = "write 0x10000000 " + DATA.hex()
+READS = "read 0x10000000+0x00000100"
+LASTS = "write 0x10001000 " + DATA.hex()
+PART = ("command 0bd11f4302000000050800000010000000000010001000000000000000000000 "
+        + DATA[:4000].hex())
+NORMALS, TO_BOOTSELS, UPDATES, TO_ARMS = (
+    "command 0bd11f43030000000a10000000000000" + it + "0a000000" + base + "00000000"
+    for it, base in (("00010000", "00000000"), ("02010000", "00000000"), ("04000000", "00000210"),
+                     ("14000000", "00000010"))
+)
+
+
+def uf2(number):
+    return f"uf2 {number} of 3 at 0x10000{number}00 family=rp2350-arm-s " + f"{number:02x}" * 256
+
 
 # What is sent and received: device, endpoint, bytes.
 SESSION = (
@@ -77,7 +87,7 @@ SESSION = (
     (6, PICOBOOT, DATA),
 )
 WANTED = (
-    ANEW, line(ERASE), line(WRITE, DATA), line(TO_BOOTSEL), ANEW, line(READ), line(LAST, DATA),
+    ANEW, ERASES, WRITES, TO_BOOTSELS, ANEW, READS + " token=0x00000001", LASTS,
 )
 
 # Each capture: its name, the transfers, the devices that are named, the lines between `power` and
@@ -87,24 +97,24 @@ CAPTURES = (
     (
         "payload lost",
         ((5, PICOBOOT, WRITE), (5, PICOBOOT, DATA[:4000]), (5, PICOBOOT, ERASE)), (),
-        (ANEW, line(WRITE, DATA[:4000]), line(ERASE)), "96 bytes of a payload were lost",
+        (ANEW, PART, ERASES + " token=0x00000001"), "96 bytes of a payload were lost",
     ),
     (
         "reboots, one address",
         ((5, PICOBOOT, NORMAL), (5, PICOBOOT, ERASE), (5, PICOBOOT, UPDATE), (5, PICOBOOT, ERASE),
          (5, PICOBOOT, TO_BOOTSEL), (5, PICOBOOT, ERASE), (5, PICOBOOT, UPDATE)), (),
-        (ANEW, line(NORMAL), "reset normal", ANEW, line(ERASE), line(UPDATE), "reset update=0x10020000",
-         ANEW, line(ERASE), line(TO_BOOTSEL), ANEW, line(ERASE), line(UPDATE)), "",
+        (ANEW, NORMALS, "reset normal", ANEW, ERASES + " token=0x00000001", UPDATES, "reset update=0x10020000",
+         ANEW, ERASES + " token=0x00000001", TO_BOOTSELS, ANEW, ERASES + " token=0x00000001", UPDATES), "",
     ),
     (
         "reboots, other addresses",
         ((5, PICOBOOT, NORMAL), (6, PICOBOOT, ERASE), (6, PICOBOOT, TO_ARM)), (),
-        (ANEW, line(NORMAL), "reset normal", ANEW, line(ERASE), line(TO_ARM), "reset update=0x10000000"), "",
+        (ANEW, NORMALS, "reset normal", ANEW, ERASES + " token=0x00000001", TO_ARMS, "reset update=0x10000000"), "",
     ),
     (
         "no reboot seen",
         ((5, PICOBOOT, ERASE), (6, PICOBOOT, ERASE)), (),
-        (ANEW, line(ERASE), ANEW, line(ERASE)), "no reboot is seen before 1.6",
+        (ANEW, ERASES, ANEW, ERASES + " token=0x00000001"), "no reboot is seen before 1.6",
     ),
     (
         "two boards",
@@ -114,20 +124,20 @@ CAPTURES = (
     (
         "two boards, one named",
         ((5, PICOBOOT, ERASE), (6, PICOBOOT, ERASE), (5, PICOBOOT, READ)), ("1.5",),
-        (ANEW, line(ERASE), line(READ)), "",
+        (ANEW, ERASES, READS + " token=0x00000001"), "",
     ),
     (
         "drag",
         ((5, DRIVE, wrapper(1, 512)), (5, DRIVE, bytes(512)), (5, 0x81, b"USBS" + bytes(9)),
          (5, DRIVE, wrapper(200, 1024)), (5, DRIVE, SECTORS[:1024]), (5, 0x81, b"USBS" + bytes(9)),
          (5, DRIVE, wrapper(202, 512)), (5, DRIVE, SECTORS[1024:1324]), (5, DRIVE, SECTORS[1324:])), (),
-        (ANEW, *map(uf2, BLOCKS)), "",
+        (ANEW, *map(uf2, range(3))), "",
     ),
     (
         "drag, and another drive",
         ((9, DRIVE, wrapper(7, 512)), (5, DRIVE, wrapper(200, 512)), (9, DRIVE, bytes(512)),
          (5, DRIVE, BLOCKS[0]), (6, PICOBOOT, ERASE)), (),
-        (ANEW, uf2(BLOCKS[0]), ANEW, line(ERASE)), "",
+        (ANEW, uf2(0), ANEW, ERASES), "",
     ),
     ("no board", ((9, DRIVE, b"another device"),), (), None, "no command of PICOBOOT and no UF2 block"),
 )
@@ -228,7 +238,7 @@ def main():
         short = capture(link, SESSION)[:-CUT]
         tally.look(f"{link_name}, cut short", short, (), WANTED[:-1], "cut short")
     part = ((5, DRIVE, wrapper(200, 1536)), (5, DRIVE, SECTORS, 1024))
-    tally.look("usbmon, transfer in part", capture(USBMON, part), (), (ANEW, *map(uf2, BLOCKS[:2])),
+    tally.look("usbmon, transfer in part", capture(USBMON, part), (), (ANEW, *map(uf2, range(2))),
                "512 bytes of a transfer are not in the capture")
     print(f"{tally.right} captures as wanted, {tally.wrong} not")
     sys.exit(1 if tally.wrong else 0)

@@ -118,7 +118,10 @@ row-works verbs.Load v =
     of-three (IsRowRuled verbs.Load v) (λ f g i all. script-works Ascending v.file v.out i (content_of_files f g) v.cpu)
 row-works verbs.Copy v = of-one (IsRowRuled verbs.Copy v) (λ u all. copy-works v.out u all.0)
 row-works verbs.ListScript v = of-one (IsRowRuled verbs.ListScript v) (λ s all. list-works s all.0)
-row-works verbs.WriteScript v = of-one (IsRowRuled verbs.WriteScript v) (λ t all. write-works v.file v.out t all.0)
+row-works verbs.WriteScript v =
+    of-one (IsRowRuled verbs.WriteScript v) (λ t all. write-works v.file v.out [] t all.0)
+row-works verbs.WriteImageScript v =
+    of-two (IsRowRuled verbs.WriteImageScript v) (λ t i all. write-works v.file v.out i t all.0)
 row-works verbs.Gen v = λ read long all. gen-works v.number
 row-works verbs.Usage v = λ read long all. told-works usage_text
 row-works verbs.ShortUsage v = λ read long all. told-works usage_text
@@ -238,6 +241,9 @@ row-plain verbs.ListScript v h = of-one (IsRowPlain verbs.ListScript v) (λ s. t
 row-plain verbs.WriteScript v h =
     of-one (IsRowPlain verbs.WriteScript v)
     (λ t. by-result (read_work v.file v.out) (λ es. tt) (λ e. tt) _)
+row-plain verbs.WriteImageScript v h =
+    of-two (IsRowPlain verbs.WriteImageScript v)
+    (λ t i. by-result (read_work v.file v.out) (λ es. tt) (λ e. tt) _)
 row-plain verbs.Gen v h = λ read long. tt
 row-plain verbs.Usage v h = λ read long. tt
 row-plain verbs.ShortUsage v h = λ read long. tt

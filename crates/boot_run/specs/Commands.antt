@@ -87,7 +87,8 @@ row_work verbs.Load v (f ∷ g ∷ i ∷ []) =
     script_work Ascending (content_of_files f g) v.cpu v.file v.out i
 row_work verbs.Copy v (u ∷ []) = copy_work v.out u
 row_work verbs.ListScript v (s ∷ []) = list_work s
-row_work verbs.WriteScript v (t ∷ []) = write_work v.file v.out t
+row_work verbs.WriteScript v (t ∷ []) = write_work v.file v.out [] t
+row_work verbs.WriteImageScript v (t ∷ i ∷ []) = write_work v.file v.out i t
 row_work verbs.Gen v read = gen_work v.number
 row_work verbs.Usage v read = Answers false usage_text []
 row_work verbs.ShortUsage v read = Answers false usage_text []
@@ -141,7 +142,8 @@ IsRowRefused verbs.Seal v (b ∷ s ∷ []) name fault = IsUnsealed v.file v.spec
 IsRowRefused verbs.Elf v (e ∷ s ∷ []) name fault = IsElfRefused v.file v.spec e s name fault
 IsRowRefused verbs.Firm v (i ∷ []) name fault = IsFirmRefused v.file i v.cpu name fault
 IsRowRefused verbs.Uf2 v (i ∷ []) name fault = IsUf2Refused v.file i name fault
-IsRowRefused verbs.WriteScript v (t ∷ []) name fault = IsTextRefused v.file t name fault
+IsRowRefused verbs.WriteScript v (t ∷ []) name fault = IsTextRefused v.file [] t name fault
+IsRowRefused verbs.WriteImageScript v (t ∷ i ∷ []) name fault = IsTextRefused v.file i t name fault
 IsRowRefused verbs.Plan v (f ∷ g ∷ i ∷ []) name fault =
     IsTargetRefused (content_of_files f g) v.cpu v.file i name fault
 IsRowRefused verbs.Load v (f ∷ g ∷ i ∷ []) name fault =
@@ -188,7 +190,8 @@ IsRowRight verbs.Load v (f ∷ g ∷ i ∷ []) o =
     IsScriptOf Ascending (content_of_files f g) v.cpu i v.out o
 IsRowRight verbs.Copy v (u ∷ []) o = IsCopyOf u v.out o
 IsRowRight verbs.ListScript v (s ∷ []) o = IsListOf s o
-IsRowRight verbs.WriteScript v (t ∷ []) o = IsWrittenOf t v.out o
+IsRowRight verbs.WriteScript v (t ∷ []) o = IsWrittenOf [] t v.out o
+IsRowRight verbs.WriteImageScript v (t ∷ i ∷ []) o = IsWrittenOf i t v.out o
 IsRowRight verbs.Gen v read o = IsGenOf v.number o
 IsRowRight verbs.Usage v read o = Tells usage_text o
 IsRowRight verbs.ShortUsage v read o = Tells usage_text o

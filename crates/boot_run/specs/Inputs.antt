@@ -19,6 +19,7 @@ word_input kinds.Spec v = Some (record { name = v.spec; form = forms.Spec })
 word_input kinds.Json v = Some (record { name = v.file; form = forms.Json })
 word_input kinds.OtpJson v = Some (record { name = v.file; form = forms.OtpText })
 word_input kinds.Image v = Some (record { name = v.file; form = forms.Image })
+word_input kinds.SourceImage v = Some (record { name = v.image; form = forms.SourceImage })
 word_input kinds.Uf2 v = Some (record { name = v.file; form = forms.Uf2 })
 word_input kinds.Text v = Some (record { name = v.file; form = forms.Text })
 word_input _ v = None

@@ -25,6 +25,7 @@ fn word_input<'a>(word: Word, values: &Values<'a>) -> Option<FormInput<'a>>
         Word::Json => (values.file, Form::Json),
         Word::OtpJson => (values.file, Form::OtpText),
         Word::Image => (values.file, Form::Image),
+        Word::SourceImage => (values.image, Form::SourceImage),
         Word::Uf2 => (values.file, Form::Uf2),
         Word::Text => (values.file, Form::Text),
         Word::Cpu

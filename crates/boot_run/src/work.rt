@@ -21,7 +21,7 @@ use cli_cuts::cuts;
 use cli_explain::explain;
 use cli_inputs::{
     InputFail, four, one, read_binary, read_board, read_elf, read_image, read_otp, read_pattern,
-    read_script, read_spec, read_table, read_text, read_uf2, three, two,
+    read_script, read_source, read_spec, read_table, read_text, read_uf2, three, two,
 };
 use cli_map::map_flash;
 use cli_otp::otp;
@@ -138,6 +138,17 @@ fn elf_on<'a>(alloc: Global, files: Vec<Vec<u8>>, values: &Values<'a>) -> Done<'
     Ok(pack_elf(alloc, values.file, values.spec, values.out, bytes, &asked)?)
 }
 
+/// The script of a text that takes bytes of an image.
+fn image_script_on<'a>(alloc: Global, files: Vec<Vec<u8>>, values: &Values<'a>) -> Done<'a>
+    requires { length files.items ≡ 2 }
+    ensures { IsDone verbs.WriteImageScript values.now (bytes_of_files files.items) result }
+{
+    let (text, image) = two(files);
+    let lines = read_text(alloc, values.file, &text)?;
+    let source = read_source(alloc, values.image, &image)?;
+    Ok(write_script(alloc, values.file, lines, source.bytes, values.out)?)
+}
+
 /// The script that writes an image to where a download goes.
 fn plan_on<'a>(alloc: Global, files: Vec<Vec<u8>>, values: &Values<'a>) -> Done<'a>
     requires { length files.items ≡ 3 }
@@ -198,8 +209,9 @@ fn perform<'a>(alloc: Global, command: &CommandLine<'a>, files: Vec<Vec<u8>>) ->
         Verb::ListScript => Ok(list_script(alloc, read_script(alloc, file, &one(files))?)?),
         Verb::WriteScript => {
             let text = one(files);
-            Ok(write_script(alloc, file, read_text(alloc, file, &text)?, out)?)
+            Ok(write_script(alloc, file, read_text(alloc, file, &text)?, &[], out)?)
         }
+        Verb::WriteImageScript => image_script_on(alloc, files, args),
         Verb::Gen => Ok(made_flash(alloc, args.number)?),
         Verb::Usage | Verb::ShortUsage | Verb::WordUsage => Ok(told(alloc, usage_text(alloc)?)),
         Verb::Help => Ok(told(alloc, help_text(alloc, args.command)?)),

@@ -4,7 +4,7 @@ use Rattle.std.proofs.lemmas.Bool.{ltb-true, ltb-false, lt-ltb, le-ltb, eqb-true
 use Rattle.std.proofs.lemmas.List.Elements.{All-cons, All-head, All-tail}
 use Rattle.pico_board.specs.Rows.{IsFirstWide}
 use Rattle.cli_inputs.specs.declared.forms.Form.{Form}
-use Rattle.cli_inputs.specs.declared.forms.Form.TheVariants.{Flash, Otp, Script, Pattern, Binary, Spec, Json, OtpText, Image, Elf, Uf2, Text}
+use Rattle.cli_inputs.specs.declared.forms.Form.TheVariants.{Flash, Otp, Script, Pattern, Binary, Spec, Json, OtpText, Image, SourceImage, Elf, Uf2, Text}
 use Rattle.text_words.specs.Writing.{hex_row}
 use Rattle.cli_inputs.specs.Forms.{limit_of, rows_of, HasForm, AreWholeUf2Blocks, uf2_fault, IsOwnFault, IsFormFault, wide_from, otp_fault, own_fault, form_fault}
 use Rattle.cli_inputs.proofs.JsonLemmas.{spec-formed, spec-faulty, spec-exact, spec-apart, table-formed, table-faulty, table-exact, table-apart, otp-formed as otp-text_formed, otp-text_faulty, otp-text_exact, otp-text_apart}
@@ -147,6 +147,8 @@ own-formed Otp bytes few h = let o = otp-formed bytes h in (few, o.0, o.1)
 own-formed Script bytes few h = script-none bytes h
 own-formed Pattern [] few h = cc
 own-formed Pattern (b ∷ bytes) few h = (λ (e : (b ∷ bytes) ≡ []). cc, few)
+own-formed SourceImage [] few h = cc
+own-formed SourceImage (b ∷ bytes) few h = (λ (e : (b ∷ bytes) ≡ []). cc, few)
 own-formed Binary bytes few h = few
 own-formed Spec bytes few h = (few, spec-formed bytes h)
 own-formed Json bytes few h = (few, table-formed bytes h)
@@ -163,6 +165,8 @@ own-faulty Otp bytes fault h = otp-faulty bytes fault h
 own-faulty Script bytes fault h = script-faulty bytes fault h
 own-faulty Pattern [] fault h = let text : fault ≡ codes "pattern-length" = cc in (refl, text)
 own-faulty Pattern (b ∷ bytes) fault h = cc
+own-faulty SourceImage [] fault h = let text : fault ≡ codes "empty" = cc in (refl, text)
+own-faulty SourceImage (b ∷ bytes) fault h = cc
 own-faulty Binary bytes fault h = cc
 own-faulty Spec bytes fault h = spec-faulty bytes fault h
 own-faulty Json bytes fault h = table-faulty bytes fault h
@@ -202,6 +206,8 @@ form-apart Script bytes fault form (inl large) = let few = form.short in let man
 form-apart Script bytes fault form (inr (few, own)) = script-apart bytes fault form own
 form-apart Pattern bytes fault form (inl large) = let few = form.1 in let many = large.0 in omega arith
 form-apart Pattern bytes fault form (inr (few, own)) = form.0 own.0
+form-apart SourceImage bytes fault form (inl large) = let few = form.1 in let many = large.0 in omega arith
+form-apart SourceImage bytes fault form (inr (few, own)) = form.0 own.0
 form-apart Binary bytes fault form (inl large) = let many = large.0 in omega (arith, form)
 form-apart Binary bytes fault form (inr (few, own)) = own
 form-apart Spec bytes fault form (inl large) = let few = form.0 in let many = large.0 in omega arith
@@ -239,6 +245,8 @@ own-exact Otp bytes fault own = otp-exact bytes fault own
 own-exact Script bytes fault own = script-exact bytes fault own
 own-exact Pattern [] fault own = ap Some (sym own.1)
 own-exact Pattern (b ∷ bytes) fault own = let e : (b ∷ bytes) ≡ [] = own.0 in cc
+own-exact SourceImage [] fault own = ap Some (sym own.1)
+own-exact SourceImage (b ∷ bytes) fault own = let e : (b ∷ bytes) ≡ [] = own.0 in cc
 own-exact Binary bytes fault own = absurd own
 own-exact Spec bytes fault own = spec-exact bytes fault own
 own-exact Json bytes fault own = table-exact bytes fault own

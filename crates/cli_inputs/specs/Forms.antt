@@ -9,7 +9,7 @@ use Rattle.boot_script.specs.declared.event.ScriptError.TheVariants.{TooLarge, R
 use Rattle.boot_script.specs.declared.limits.TheConstants.{SCRIPT_LIMIT}
 use Rattle.boot_script.specs.Judging.{IsScript, IsScriptError, script_error}
 use Rattle.cli_inputs.specs.declared.forms.Form.{Form}
-use Rattle.cli_inputs.specs.declared.forms.Form.TheVariants.{Flash, Otp, Script, Pattern, Binary, Spec, Json, OtpText, Image, Elf, Uf2, Text}
+use Rattle.cli_inputs.specs.declared.forms.Form.TheVariants.{Flash, Otp, Script, Pattern, Binary, Spec, Json, OtpText, Image, SourceImage, Elf, Uf2, Text}
 use Rattle.cli_inputs.specs.declared.limits.TheConstants.{FLASH_LIMIT, OTP_LIMIT, PATTERN_LIMIT, BINARY_LIMIT, JSON_LIMIT, IMAGE_LIMIT, ELF_LIMIT, UF2_LIMIT, TEXT_LIMIT}
 use Rattle.image_pack.specs.declared.spec.SealSpec.{SealSpec}
 use Rattle.part_table.specs.declared.table.Table.{Table}
@@ -36,6 +36,7 @@ limit_of Spec = JSON_LIMIT
 limit_of Json = JSON_LIMIT
 limit_of OtpText = JSON_LIMIT
 limit_of Image = IMAGE_LIMIT
+limit_of SourceImage = IMAGE_LIMIT
 limit_of Elf = ELF_LIMIT
 limit_of Uf2 = UF2_LIMIT
 limit_of Text = TEXT_LIMIT
@@ -49,7 +50,7 @@ abbrev pub AreWholeUf2Blocks : List ℕ → Type 0
 AreWholeUf2Blocks bytes = (bytes ≢ []) × (length bytes % 512 ≡ 0)
 
 -- a file has its form:
--- - a flash file is not empty
+-- - a flash file, and an image of which a script takes bytes, is not empty
 -- - an OTP file is of whole rows of 24 bits
 -- - a script has an end among its first records, with no fault before the end
 -- - a pattern is not empty
@@ -63,6 +64,7 @@ HasForm Otp bytes =
     (length bytes ≤ OTP_LIMIT) × (length bytes % 4 ≡ 0) × All (λ row. row < 2 ^ 24) (rows_of bytes)
 HasForm Script bytes = IsScript bytes
 HasForm Pattern bytes = (bytes ≢ []) × (length bytes ≤ PATTERN_LIMIT)
+HasForm SourceImage bytes = (bytes ≢ []) × (length bytes ≤ IMAGE_LIMIT)
 HasForm Spec bytes = (length bytes ≤ JSON_LIMIT) × ((spec : SealSpec) × IsSpecText bytes spec)
 HasForm Json bytes = (length bytes ≤ JSON_LIMIT) × ((table : Table) × IsTableText bytes table)
 HasForm OtpText bytes = (length bytes ≤ JSON_LIMIT) × ((spec : OtpView) × IsOtpText bytes spec)
@@ -74,7 +76,7 @@ abbrev pub IsTooLarge : Form → List ℕ → List ℕ → Type 0
 IsTooLarge form bytes fault = (limit_of form < length bytes) × (fault ≡ codes "too-large")
 
 -- the fault of a file that is not too long:
--- - a flash file is empty
+-- - a flash file, or an image of which a script takes bytes, is empty
 -- - an OTP file has a part of a row at its end, or a row of more than 24 bits; the lowest such row
 --   is named
 -- - a script has a fault among its first records, or these have neither a fault nor an end
@@ -91,6 +93,7 @@ IsOwnFault Otp bytes fault =
 IsOwnFault Script bytes text =
     (error : ScriptError) × IsScriptError bytes error × (text ≡ script_text error)
 IsOwnFault Pattern bytes fault = (bytes ≡ []) × (fault ≡ codes "pattern-length")
+IsOwnFault SourceImage bytes fault = (bytes ≡ []) × (fault ≡ codes "empty")
 IsOwnFault Spec bytes fault = IsTextFault IsSpecFault bytes fault
 IsOwnFault Json bytes fault = IsTextFault IsTableFault bytes fault
 IsOwnFault OtpText bytes fault = IsTextFault IsOtpFault bytes fault
@@ -128,6 +131,8 @@ own_fault Otp bytes = otp_fault bytes
 own_fault Script bytes = option_map script_text (script_error bytes)
 own_fault Pattern [] = Some (codes "pattern-length")
 own_fault Pattern (b ∷ bytes) = None
+own_fault SourceImage [] = Some (codes "empty")
+own_fault SourceImage (b ∷ bytes) = None
 own_fault Spec bytes = read_fault (spec_read bytes)
 own_fault Json bytes = read_fault (table_read bytes)
 own_fault OtpText bytes = read_fault (otp_read bytes)

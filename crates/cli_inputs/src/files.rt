@@ -6,7 +6,7 @@ ghost use Rattle.cli_inputs.specs.Inputs.{IsJudged};
 
 use crate::fail::{InputFail, judge_length, refuse};
 use crate::forms::Form;
-use crate::values::{Binary, Elf, Image, Pattern, Text, Uf2};
+use crate::values::{Binary, Elf, Image, Pattern, SourceImage, Text, Uf2};
 use boot_script::{Script, ScriptError, ScriptFault};
 use std::alloc::{AllocError, Global};
 
@@ -77,6 +77,23 @@ pub fn read_image(alloc: Global, name: &str, file: Vec<u8>) -> Result<Image, Inp
 {
     judge_length(alloc, Form::Image, name, &file)?;
     Ok(Image { bytes: file })
+}
+
+/// The image of a file, of which a script takes bytes.
+pub fn read_source<'a>(
+    alloc: Global,
+    name: &str,
+    file: &'a [u8],
+) -> Result<SourceImage<'a>, InputFail>
+    ensures value { IfOk result (λ image. image.bytes.now ≡ file.now) }
+    ensures judged { IsJudged result
+        (record { name = name.now; form = Form.SourceImage }) file.now }
+{
+    judge_length(alloc, Form::SourceImage, name, file)?;
+    if file.is_empty() {
+        return Err(refuse(alloc, name, "empty"));
+    }
+    Ok(SourceImage { bytes: file })
 }
 
 /// The blocks of a UF2 file. The blocks themselves are not judged.

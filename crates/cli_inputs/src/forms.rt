@@ -30,6 +30,8 @@ pub enum Form {
     OtpText,
     /// The bytes of an image.
     Image,
+    /// The bytes of an image of which a script takes some.
+    SourceImage,
     /// An ELF file; an image is made of it.
     Elf,
     /// The blocks of a UF2 file.
@@ -50,7 +52,7 @@ impl Form {
             Form::Pattern => PATTERN_LIMIT,
             Form::Binary => BINARY_LIMIT,
             Form::Spec | Form::Json | Form::OtpText => JSON_LIMIT,
-            Form::Image => IMAGE_LIMIT,
+            Form::Image | Form::SourceImage => IMAGE_LIMIT,
             Form::Elf => ELF_LIMIT,
             Form::Uf2 => UF2_LIMIT,
             Form::Text => TEXT_LIMIT,

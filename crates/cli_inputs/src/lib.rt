@@ -20,7 +20,7 @@ pub use boards::{lone_board, read_board};
 pub use boot_script::{RECORD_LIMIT, SCRIPT_LIMIT};
 pub use fail::InputFail;
 pub use files::{
-    read_binary, read_elf, read_image, read_pattern, read_script, read_text, read_uf2,
+    read_binary, read_elf, read_image, read_pattern, read_script, read_source, read_text, read_uf2,
 };
 pub use forms::Form;
 pub use inputs::{FormInput, four, one, readings, three, two};
@@ -30,4 +30,6 @@ pub use limits::{
     TEXT_LIMIT, UF2_LIMIT,
 };
 pub use pool::new_pool;
-pub use values::{Binary, Elf, Image, JsonOtp, JsonTable, OtpRows, Pattern, Text, Uf2, WholeFlash};
+pub use values::{
+    Binary, Elf, Image, JsonOtp, JsonTable, OtpRows, Pattern, SourceImage, Text, Uf2, WholeFlash,
+};

@@ -27,4 +27,4 @@ pub const ELF_LIMIT: u32 = 67_108_864;
 pub const UF2_LIMIT: u32 = 33_554_944;
 
 /// The greatest text of a script, in bytes. No listed script passes it.
-pub const TEXT_LIMIT: u32 = 201_326_592;
+pub const TEXT_LIMIT: u32 = 209_715_200;

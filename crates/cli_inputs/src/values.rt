@@ -61,6 +61,15 @@ pub struct Image {
     pub ghost short: { length bytes.items ≤ IMAGE_LIMIT },
 }
 
+/// An image of which a script takes bytes: at least one byte, and not too long.
+#[derive(Clone, Copy)]
+pub struct SourceImage<'a> {
+    /// The bytes.
+    pub bytes: &'a [u8],
+    pub ghost some: { 1 ≤ length bytes.now },
+    pub ghost short: { length bytes.now ≤ IMAGE_LIMIT },
+}
+
 /// A UF2 file of whole blocks of 512 bytes, and at least one.
 #[derive(Clone, Copy)]
 pub struct Uf2<'a> {

@@ -15,8 +15,7 @@ use Rattle.script_text.specs.declared.script.TextScript.{TextScript}
 use Rattle.script_text.specs.Listing.{listed}
 use Rattle.script_text.specs.Meaning.{IsScriptTextFault, IsScriptOf}
 use Rattle.script_text.specs.Reading.{script_of, text_events}
-use Rattle.script_text.proofs.BackLemmas.{fault-comes, text-read}
-use Rattle.script_text.proofs.MeaningLemmas.{text-fails, text-means}
+use Rattle.script_text.proofs.MeaningLemmas.{fault-comes, text-fails, text-means, text-read}
 use Rattle.cli_scripts.specs.TextRules.{IsListOf, IsTextRefused, IsWrittenOf}
 use Rattle.cli_scripts.specs.TextWorks.{list_work, read_work, script_line, text_fault, write_work}
 
@@ -44,7 +43,7 @@ pub list-works : (script : List ℕ) → HasForm Script script
 list-works script form =
     never-refuses ⊤ (list_work script) (IsListOf script) (λ need. list-right script form) (list-only script) (λ h. cc)
 
-module _ (name out : List ℕ) where
+module _ (name out image : List ℕ) where
   read-outcome : Result (List EventView) TextError → AnswerView
   read-outcome r = worked (read_work name out r)
 
@@ -55,31 +54,28 @@ module _ (name out : List ℕ) where
     files = one_file out (script_of es);
   }
 
-  read-ok : (text : List ℕ) (es : List EventView) → text_events text ≡ Ok es
-      → worked (write_work name out text) ≡ told-script es
+  read-ok : (text : List ℕ) (es : List EventView) → text_events image text ≡ Ok es
+      → worked (write_work name out image text) ≡ told-script es
   unfolding read-outcome told-script
   read-ok text es is = ap read-outcome is
 
-  read-err : (text : List ℕ) (fault : TextError) → text_events text ≡ Err fault
-      → worked (write_work name out text) ≡ refused name (text_fault fault)
+  read-err : (text : List ℕ) (fault : TextError) → text_events image text ≡ Err fault
+      → worked (write_work name out image text) ≡ refused name (text_fault fault)
   unfolding read-outcome
   read-err text fault is = ap read-outcome is
 
-  small : (text : List ℕ) → HasForm Text text → length text < 2 ^ 32
-  small text form = omega (arith, form)
-
   write-right : (text : List ℕ) → HasForm Text text
-      → IsRefusedOrRight (IsTextRefused name text) (IsWrittenOf text out) (worked (write_work name out text))
+      → IsRefusedOrRight (IsTextRefused name image text) (IsWrittenOf image text out) (worked (write_work name out image text))
   unfolding told-script
-  write-right text form = go (text_events text) refl
+  write-right text form = go (text_events image text) refl
     where
-      go : (r : Result (List EventView) TextError) → text_events text ≡ r
-          → IsRefusedOrRight (IsTextRefused name text) (IsWrittenOf text out) (worked (write_work name out text))
+      go : (r : Result (List EventView) TextError) → text_events image text ≡ r
+          → IsRefusedOrRight (IsTextRefused name image text) (IsWrittenOf image text out) (worked (write_work name out image text))
       go (Ok es) is =
           let told = read-ok text es is in
           inr (record {
             happened = es;
-            spelled = text-means text es (small text form) is;
+            spelled = text-means image text es is;
             status = ap (λ (o : AnswerView). o.status) told;
             told = ap (λ (o : AnswerView). o.text) told;
             files = ap (λ (o : AnswerView). o.files) told;
@@ -90,54 +86,54 @@ module _ (name out : List ℕ) where
             text_fault fault,
             record {
               error = fault;
-              wrong = text-fails text fault (small text form) is;
+              wrong = text-fails image text fault is;
               blames = refl;
               tells = refl;
             },
             read-err text fault is,
           )
 
-  write-only : (text : List ℕ) (o : AnswerView) → HasForm Text text → IsWrittenOf text out o
-      → o ≡ worked (write_work name out text)
+  write-only : (text : List ℕ) (o : AnswerView) → HasForm Text text → IsWrittenOf image text out o
+      → o ≡ worked (write_work name out image text)
   unfolding told-script
   write-only text o form is =
       same-outcome o Done _ _ is.status is.told is.files
-      ∙ sym (read-ok text is.happened (text-read text is.happened is.spelled))
+      ∙ sym (read-ok text is.happened (text-read image text is.happened is.spelled))
 
-  write-exact : (text blamed fault : List ℕ) → HasForm Text text → IsTextRefused name text blamed fault
-      → worked (write_work name out text) ≡ refused blamed fault
+  write-exact : (text blamed fault : List ℕ) → HasForm Text text → IsTextRefused name image text blamed fault
+      → worked (write_work name out image text) ≡ refused blamed fault
   write-exact text blamed fault form is =
-      read-err text is.error (fault-comes text is.error (small text form) is.wrong)
+      read-err text is.error (fault-comes image text is.error is.wrong)
       ∙ (ap (λ n. refused n (text_fault is.error)) (sym is.blames) ∙ ap (λ f. refused blamed f) (sym is.tells))
 
-  write-refuses : (text : List ℕ) → HasForm Text text → (worked (write_work name out text)).status ≡ Refused
-      → (blamed : List ℕ) × (fault : List ℕ) × IsTextRefused name text blamed fault
+  write-refuses : (text : List ℕ) → HasForm Text text → (worked (write_work name out image text)).status ≡ Refused
+      → (blamed : List ℕ) × (fault : List ℕ) × IsTextRefused name image text blamed fault
   write-refuses text form h = go (write-right text form)
     where
-      go : IsRefusedOrRight (IsTextRefused name text) (IsWrittenOf text out) (worked (write_work name out text))
-          → (blamed : List ℕ) × (fault : List ℕ) × IsTextRefused name text blamed fault
+      go : IsRefusedOrRight (IsTextRefused name image text) (IsWrittenOf image text out) (worked (write_work name out image text))
+          → (blamed : List ℕ) × (fault : List ℕ) × IsTextRefused name image text blamed fault
       go (inl (blamed, fault, is, same)) = (blamed, fault, is)
       go (inr right) = let e : Done ≡ Refused = sym right.status ∙ h in cc
 
   -- what is answered with the script of a text
-  pub written-told : (text line : List ℕ) (s : TextScript) → IsScriptOf text s → line ≡ script_line s.records
-      → worked (Answers false line (one_file out s.bytes.items)) ≡ worked (write_work name out text)
+  pub written-told : (text line : List ℕ) (s : TextScript) → IsScriptOf image text s → line ≡ script_line s.records
+      → worked (Answers false line (one_file out s.bytes.items)) ≡ worked (write_work name out image text)
   unfolding told-script
   written-told text line s is told =
       ap (λ t. worked (Answers false t (one_file out s.bytes.items))) (told ∙ ap script_line is.records)
       ∙ (ap (λ bytes. worked (Answers false (script_line (length is.es + 1)) (one_file out bytes))) is.bytes
-      ∙ sym (read-ok text is.es (text-read text is.es is.text_is)))
+      ∙ sym (read-ok text is.es (text-read image text is.es is.text_is)))
 
-  pub fault-refused : (text : List ℕ) (fault : TextError) → HasForm Text text → IsScriptTextFault text fault
-      → worked (write_work name out text) ≡ refused name (text_fault fault)
-  fault-refused text fault form is = read-err text fault (fault-comes text fault (small text form) is)
+  pub fault-refused : (text : List ℕ) (fault : TextError) → HasForm Text text → IsScriptTextFault image text fault
+      → worked (write_work name out image text) ≡ refused name (text_fault fault)
+  fault-refused text fault form is = read-err text fault (fault-comes image text fault is)
 
 -- `script` is right by its rules
-pub write-works : (text out t : List ℕ) → HasForm Text t
-    → IsByRules ⊤ (write_work text out t) (IsTextRefused text t) (IsWrittenOf t out)
-write-works text out t form = record {
-  done = λ need. write-right text out t form;
-  only = λ o. write-only text out t o form;
-  refuses = write-refuses text out t form;
-  exact = λ name fault. write-exact text out t name fault form;
+pub write-works : (text out image t : List ℕ) → HasForm Text t
+    → IsByRules ⊤ (write_work text out image t) (IsTextRefused text image t) (IsWrittenOf image t out)
+write-works text out image t form = record {
+  done = λ need. write-right text out image t form;
+  only = λ o. write-only text out image t o form;
+  refuses = write-refuses text out image t form;
+  exact = λ name fault. write-exact text out image t name fault form;
 }

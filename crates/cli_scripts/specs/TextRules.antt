@@ -21,19 +21,19 @@ pub record IsListOf (script : List ℕ) (o : AnswerView) : Type 0 where
   pub text : o.text ≡ listed happened
   pub files : o.files ≡ []
 
--- `script`: the text is one of events; the outcome prints how many records their script has with
--- its end, and writes the script
-pub record IsWrittenOf (text out : List ℕ) (o : AnswerView) : Type 0 where
+-- `script`: the text, whose lines may take bytes of an image, is one of events; the outcome prints
+-- how many records their script has with its end, and writes the script
+pub record IsWrittenOf (image text out : List ℕ) (o : AnswerView) : Type 0 where
   pub happened : List EventView
-  pub spelled : IsScriptText text happened
+  pub spelled : IsScriptText image text happened
   pub status : o.status ≡ Done
   pub told : o.text ≡ script_line (length happened + 1)
   pub files : o.files ≡ one_file out (script_of happened)
 
 -- a text has a fault, and is refused for it
-pub record IsTextRefused (name text blamed fault : List ℕ) : Type 0 where
+pub record IsTextRefused (name image text blamed fault : List ℕ) : Type 0 where
   pub error : TextError
-  pub wrong : IsScriptTextFault text error
+  pub wrong : IsScriptTextFault image text error
   pub blames : blamed ≡ name
   pub tells : fault ≡ text_fault error
 

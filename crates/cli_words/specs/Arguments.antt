@@ -1,7 +1,7 @@
 -- The kinds of arguments: what the usage calls each, and its lines on it.
 use Rattle.std.specs.Prelude.{ℕ, List, codes}
 use Rattle.cli_words.specs.declared.arguments.Word.{Word}
-use Rattle.cli_words.specs.declared.arguments.Word.TheVariants.{Binary, Command, Cpu, Elf, Family, Flash, Image, Json, Kind, Number, Otp, OtpJson, Out, OutFlash, OutOtp, Pattern, Script, Spec, Text, Uf2}
+use Rattle.cli_words.specs.declared.arguments.Word.TheVariants.{Binary, Command, Cpu, Elf, Family, Flash, Image, Json, Kind, Number, Otp, OtpJson, Out, OutFlash, OutOtp, Pattern, Script, SourceImage, Spec, Text, Uf2}
 
 -- what the usage calls an argument
 abbrev pub word_name : Word → List ℕ
@@ -19,6 +19,7 @@ word_name Spec = codes "SPEC"
 word_name Json = codes "JSON"
 word_name OtpJson = codes "JSON"
 word_name Image = codes "IMAGE"
+word_name SourceImage = codes "IMAGE"
 word_name Uf2 = codes "UF2"
 word_name Text = codes "TEXT"
 word_name Family = codes "FAMILY"
@@ -30,6 +31,11 @@ word_name Command = codes "COMMAND"
 abbrev pub json_note : List ℕ
 json_note =
     codes "JSON    a JSON text of at most 65536 bytes: for table version, singleton, unpartitioned and\n        partitions; for otp rollback_required, flash_off, slot_size, rows and secure_boot\n"
+
+-- the line of the usage on an image
+abbrev pub image_note : List ℕ
+image_note =
+    codes "IMAGE   a file of 1 to 16777216 bytes; for plan and load at most as many as there is room for\n"
 
 -- the lines of the usage on an argument
 abbrev pub word_note : Word → List ℕ
@@ -54,12 +60,12 @@ word_note Spec =
     codes "SPEC    a JSON text of at most 65536 bytes: processor, version, rollback, rows and trial\n        of the image; those of the binary, and its window delta, are lost, also if left out\n"
 word_note Json = json_note
 word_note OtpJson = json_note
-word_note Image =
-    codes "IMAGE   a file of 1 to 16777216 bytes; for plan and load at most as many as there is room for\n"
+word_note Image = image_note
+word_note SourceImage = image_note
 word_note Uf2 =
     codes "UF2     a file of 512 to 33554944 bytes, in blocks of 512; the board judges them, not this command\n"
 word_note Text =
-    codes "TEXT    a file of at most 201326592 bytes: one record a line, as list writes them\n"
+    codes "TEXT    a file of at most 209715200 bytes: one record a line, in words, as list writes them\n"
 word_note Family =
     codes "FAMILY  rp2040, absolute, data, rp2350-arm-s, rp2350-riscv or rp2350-arm-ns\n"
 word_note Number = codes "N       a number below 4294967296, of 1 to 10 decimal digits\n"

@@ -14,7 +14,7 @@ use Rattle.cli_words.specs.declared.rows.TheConstants.{VERBS}
 use Rattle.cli_words.specs.declared.rows.Verb.{Verb}
 use Rattle.cli_words.specs.declared.rows.Verb.TheVariants as verbs
 use Rattle.cli_words.specs.declared.arguments.Word.{Word}
-use Rattle.cli_words.specs.declared.arguments.Word.TheVariants.{Binary, Command, Cpu, Elf, Family, Flash, Image, Json, Kind, Number, Otp, OtpJson, Out, OutFlash, OutOtp, Pattern, Script, Spec, Text, Uf2}
+use Rattle.cli_words.specs.declared.arguments.Word.TheVariants.{Binary, Command, Cpu, Elf, Family, Flash, Image, Json, Kind, Number, Otp, OtpJson, Out, OutFlash, OutOtp, Pattern, Script, SourceImage, Spec, Text, Uf2}
 use Rattle.cli_words.specs.declared.rows.CommandLine.{CommandLine}
 use Rattle.cli_words.specs.declared.rows.Row.{Row}
 
@@ -76,6 +76,8 @@ row_of verbs.ListScript = row (codes "list") (Script ∷ [])
     (codes "a script as text, with comments that say what its records are")
 row_of verbs.WriteScript = row (codes "script") (Text ∷ Out ∷ [])
     (codes "the script of such a text")
+row_of verbs.WriteImageScript = row (codes "script") (Text ∷ SourceImage ∷ Out ∷ [])
+    (codes "the same, with bytes of an image where the text says so")
 row_of verbs.Gen = row (codes "gen") (Number ∷ [])
     (codes "the digest of a flash that is made of a number, and what boots on it")
 row_of verbs.Usage = row (codes "--help") [] (codes "this text")
@@ -98,6 +100,7 @@ with_word Flash word v = Some (record v { flash = word })
 with_word Otp word v = Some (record v { otp = word })
 with_word Pattern word v = Some (record v { pattern = word })
 with_word Spec word v = Some (record v { spec = word })
+with_word SourceImage word v = Some (record v { image = word })
 with_word OutFlash word v = Some (record v { out_flash = word })
 with_word OutOtp word v = Some (record v { out_otp = word })
 with_word Out word v = Some (record v { out = word })

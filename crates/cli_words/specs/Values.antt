@@ -16,6 +16,7 @@ pub record ValuesView : Type 0 where
   pub file : List ℕ
   pub pattern : List ℕ
   pub spec : List ℕ
+  pub image : List ℕ
   pub out_flash : List ℕ
   pub out_otp : List ℕ
   pub out : List ℕ
@@ -33,6 +34,7 @@ no_values = record {
   file = [];
   pattern = [];
   spec = [];
+  image = [];
   out_flash = [];
   out_otp = [];
   out = [];
@@ -51,6 +53,7 @@ values_from v = record {
   file = v.file.now;
   pattern = v.pattern.now;
   spec = v.spec.now;
+  image = v.image.now;
   out_flash = v.out_flash.now;
   out_otp = v.out_otp.now;
   out = v.out.now;

@@ -34,6 +34,8 @@ pub enum Word {
     OtpJson,
     /// An image.
     Image,
+    /// An image of which a script takes bytes.
+    SourceImage,
     /// A UF2 file.
     Uf2,
     /// A script as text.
@@ -66,7 +68,7 @@ impl Word {
             Word::Elf => "ELF",
             Word::Spec => "SPEC",
             Word::Json | Word::OtpJson => "JSON",
-            Word::Image => "IMAGE",
+            Word::Image | Word::SourceImage => "IMAGE",
             Word::Uf2 => "UF2",
             Word::Text => "TEXT",
             Word::Family => "FAMILY",
@@ -104,12 +106,12 @@ impl Word {
             Word::Json | Word::OtpJson =>
                 "JSON    a JSON text of at most 65536 bytes: for table version, singleton, unpartitioned and
         partitions; for otp rollback_required, flash_off, slot_size, rows and secure_boot\n",
-            Word::Image =>
+            Word::Image | Word::SourceImage =>
                 "IMAGE   a file of 1 to 16777216 bytes; for plan and load at most as many as there is room for\n",
             Word::Uf2 =>
                 "UF2     a file of 512 to 33554944 bytes, in blocks of 512; the board judges them, not this command\n",
             Word::Text =>
-                "TEXT    a file of at most 201326592 bytes: one record a line, as list writes them\n",
+                "TEXT    a file of at most 209715200 bytes: one record a line, in words, as list writes them\n",
             Word::Family =>
                 "FAMILY  rp2040, absolute, data, rp2350-arm-s, rp2350-riscv or rp2350-arm-ns\n",
             Word::Number => "N       a number below 4294967296, of 1 to 10 decimal digits\n",

@@ -6,7 +6,7 @@ ghost use Rattle.cli_words.specs.Rows.{command_from, command_of, first_command, 
 
 use crate::arguments::Word::{
     self, Binary, Command, Cpu, Elf, Family, Flash, Image, Json, Kind, Number, Otp, OtpJson, Out,
-    OutFlash, OutOtp, Pattern, Script, Spec, Text, Uf2,
+    OutFlash, OutOtp, Pattern, Script, SourceImage, Spec, Text, Uf2,
 };
 use crate::values::{Values, row_values};
 
@@ -57,6 +57,8 @@ pub enum Verb {
     ListScript,
     /// The script of a text.
     WriteScript,
+    /// The script of a text that takes bytes of an image.
+    WriteImageScript,
     /// The flash of a number.
     Gen,
     /// How the program is used.
@@ -198,6 +200,11 @@ impl Verb {
                 words: &[Text, Out],
                 does: "the script of such a text",
             },
+            Verb::WriteImageScript => Row {
+                name: "script",
+                words: &[Text, SourceImage, Out],
+                does: "the same, with bytes of an image where the text says so",
+            },
             Verb::Gen => Row {
                 name: "gen",
                 words: &[Number],
@@ -233,7 +240,7 @@ impl Verb {
 }
 
 /// The rows, in the order of the usage.
-pub const VERBS: [Verb; 28] = [
+pub const VERBS: [Verb; 29] = [
     Verb::Boot,
     Verb::Info,
     Verb::OwnedData,
@@ -256,6 +263,7 @@ pub const VERBS: [Verb; 28] = [
     Verb::Copy,
     Verb::ListScript,
     Verb::WriteScript,
+    Verb::WriteImageScript,
     Verb::Gen,
     Verb::Usage,
     Verb::ShortUsage,

@@ -30,6 +30,8 @@ pub struct Values<'a> {
     pub pattern: &'a str,
     /// The name of the text that says what an image is asked to be.
     pub spec: &'a str,
+    /// The name of the image of which a script takes bytes.
+    pub image: &'a str,
     /// The name of the flash that is left.
     pub out_flash: &'a str,
     /// The name of the OTP that is left.
@@ -57,6 +59,7 @@ impl<'a> Values<'a> {
             file: "",
             pattern: "",
             spec: "",
+            image: "",
             out_flash: "",
             out_otp: "",
             out: "",
@@ -117,6 +120,7 @@ fn with_word<'a>(kind: Word, word: &'a str, values: Values<'a>) -> Option<Values
         Word::Otp => values.otp = word,
         Word::Pattern => values.pattern = word,
         Word::Spec => values.spec = word,
+        Word::SourceImage => values.image = word,
         Word::OutFlash => values.out_flash = word,
         Word::OutOtp => values.out_otp = word,
         Word::Out => values.out = word,

@@ -1,11 +1,6 @@
-pub mod BackLemmas
-pub mod FreeLemmas
-pub mod ListLemmas
-pub mod ListedLemmas
-pub mod MarkLemmas
+mod ReadLemmas
+mod LineLemmas
+mod ProgressLemmas
 pub mod MeaningLemmas
-pub mod ProgressLemmas
-pub mod ReadLemmas
-pub mod RecordLemmas
-pub mod SizeLemmas
-pub mod TextLemmas
+mod TextLemmas
+mod ListLemmas

@@ -1,5 +1,5 @@
 -- What the comment above a record says of it.
-use Rattle.std.specs.Prelude.{ℕ, ◌==◌, ◌&&◌, ◌||◌, if◌then◌else◌, List, ◌++◌, Option, Some, None, Result, Ok, Err, drop, slice_index, codes, decimal}
+use Rattle.std.specs.Prelude.{ℕ, ◌==◌, ◌&&◌, ◌||◌, if◌then◌else◌, List, [], ◌++◌, Result, Ok, Err, drop, slice_index, codes, decimal}
 use Rattle.byteorder.specs.Endian.{little_number}
 use Rattle.text_words.specs.Writing.{hex_byte, hex_row, hex_word}
 use Rattle.picoboot_cmd.specs.declared.cmd.Cmd.{Cmd}
@@ -13,7 +13,7 @@ use Rattle.uf2_place.specs.declared.block.Uf2.{Uf2 as Block}
 use Rattle.uf2_place.specs.declared.block.Uf2Fault.{Uf2Fault}
 use Rattle.uf2_place.specs.declared.block.Uf2Fault.TheVariants.{Magic, Payload, Alignment, Number}
 use Rattle.uf2_place.specs.Blocks.{uf2_of}
-use Rattle.boot_script.specs.Events.{EventView, Command, Uf2}
+use Rattle.boot_script.specs.Events.{EventView, Command, Uf2, Cut}
 
 -- a start and a size
 abbrev pub start_and_size_text : ℕ → ℕ → List ℕ
@@ -101,9 +101,10 @@ read_uf2_text (Err Number) = codes "uf2 bad number"
 unfoldable pub uf2_text : List ℕ → List ℕ
 uf2_text block = read_uf2_text (uf2_of block)
 
--- commands and UF2 blocks have a comment; a comment says nothing of a transfer length, of a
--- payload, or of what stands where an address points
-abbrev pub note_of : EventView → Option (List ℕ)
-note_of (Command command payload) = Some (command_text command)
-note_of (Uf2 block) = Some (uf2_text block)
-note_of _ = None
+-- what the comment above a line with hexadecimal bytes says of its record; it says nothing of a
+-- transfer length, of a payload, or of what stands where an address points
+abbrev pub note_of : EventView → List ℕ
+note_of (Command command payload) = command_text command
+note_of (Uf2 block) = uf2_text block
+note_of (Cut left within pattern) = codes "cut"
+note_of _ = []

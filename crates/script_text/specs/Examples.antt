@@ -1,14 +1,14 @@
 -- What the worked examples name.
-use Rattle.std.specs.Prelude.{ℕ, List, [], ◌∷◌, ◌++◌, replicate, Result, Ok}
+use Rattle.std.specs.Prelude.{ℕ, ◌==◌, Bool, true, false, List, [], ◌∷◌, ◌++◌, replicate, Result}
 use Rattle.byteorder.specs.Endian.{little_bytes}
 use Rattle.picoboot_cmd.specs.Commands as commands
 use Rattle.picoboot_cmd.specs.Examples.{command}
 use Rattle.info_reply.specs.declared.kinds.TheConstants.{INFO}
 use Rattle.uf2_place.specs.declared.block.TheConstants.{SECOND, END}
-use Rattle.boot_script.specs.Events.{EventView, Buy}
-use Rattle.script_text.specs.declared.script.TextError.{TextError}
+use Rattle.script_words.specs.Splitting.{words_in}
+use Rattle.script_text.specs.declared.script.TextFault.{TextFault}
 use Rattle.script_text.specs.Comments.{command_text, uf2_text}
-use Rattle.script_text.specs.Reading.{add_event}
+use Rattle.script_text.specs.Reading.{Before, Step, line_step}
 
 -- the comment of a command with token 1
 abbrev pub note : ℕ → ℕ → List ℕ → List ℕ
@@ -38,7 +38,10 @@ block_note magic payload address number count = uf2_text (
     ++ (little_bytes 4 0xe48bff59 ++ (replicate 476 0 ++ little_bytes 4 END))))))))
     )
 
--- what is read of a buy, which has one byte, after so many records with so many bytes; no line
--- follows
-abbrev pub buy_behind : ℕ → ℕ → Result (List EventView) TextError
-buy_behind count size = add_event count size Buy (Ok [])
+-- so many records with so many bytes came before; no `end` line or one
+abbrev pub before : ℕ → ℕ → Bool → Before
+before count size ended = record { next = 1; ended = ended; count = count; size = size }
+
+-- what a line adds, without an image
+abbrev pub step : Before → List ℕ → Result Step TextFault
+step s line = line_step [] s (words_in line)

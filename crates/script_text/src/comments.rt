@@ -1,9 +1,11 @@
 //! What the comment above a record says of it.
 
 ghost use Rattle.std.specs.Prelude.{◌≡◌, IfOk, string_bytes};
+ghost use Rattle.boot_script.specs.Events.{event_from};
 ghost use Rattle.text_words.specs.Writing.{hex_word};
-ghost use Rattle.script_text.specs.Comments.{action_text, command_text, info_text, range_text, reboot_text, rows_text, start_and_size_text, uf2_counts, uf2_target, uf2_text};
+ghost use Rattle.script_text.specs.Comments.{action_text, command_text, info_text, range_text, reboot_text, rows_text, start_and_size_text, note_of, uf2_counts, uf2_target, uf2_text};
 
+use boot_script::Event;
 use byteorder::{ByteOrder, LittleEndian};
 use info_reply::kinds::{DEVICE, INFO, INFO_SIZE, PARTITION, TABLE, TARGET};
 use picoboot_cmd::kinds::{
@@ -15,7 +17,7 @@ use text_words::hex_text;
 use uf2_place::{Uf2Fault, read_uf2};
 
 /// A number as 0x and eight digits.
-pub fn word_text(alloc: Global, n: u32) -> Result<String, AllocError>
+fn word_text(alloc: Global, n: u32) -> Result<String, AllocError>
     ensures { IfOk result (λ t. string_bytes t ≡ hex_word n) }
 {
     hex_text(alloc, u64::from(n))
@@ -130,7 +132,7 @@ fn action_text(alloc: Global, cmd: &Cmd) -> Result<String, AllocError>
 
 /// What the 32 bytes of a command are.
 #[tactic(auto, unfolding(crate::specs::Comments::command_text))]
-pub fn command_text(alloc: Global, command: &[u8; 32]) -> Result<String, AllocError>
+fn command_text(alloc: Global, command: &[u8; 32]) -> Result<String, AllocError>
     ensures { IfOk result (λ t. string_bytes t ≡ command_text command.now) }
 {
     match read_cmd(command) {
@@ -163,7 +165,7 @@ fn uf2_target(alloc: Global, address: u32, family: u32) -> Result<String, AllocE
 
 /// What the 512 bytes of a UF2 block are.
 #[tactic(auto, unfolding(crate::specs::Comments::uf2_text))]
-pub fn uf2_text(alloc: Global, block: &[u8; 512]) -> Result<String, AllocError>
+fn uf2_text(alloc: Global, block: &[u8; 512]) -> Result<String, AllocError>
     ensures { IfOk result (λ t. string_bytes t ≡ uf2_text block.now) }
 {
     match read_uf2(block) {
@@ -176,5 +178,17 @@ pub fn uf2_text(alloc: Global, block: &[u8; 512]) -> Result<String, AllocError>
         Err(Uf2Fault::Payload) => format!(in alloc; "uf2 bad payload"),
         Err(Uf2Fault::Alignment) => format!(in alloc; "uf2 bad alignment"),
         Err(Uf2Fault::Number) => format!(in alloc; "uf2 bad number"),
+    }
+}
+
+/// What the comment above an event's line says of it.
+pub fn note_of(alloc: Global, event: &Event<'_>) -> Result<String, AllocError>
+    ensures { IfOk result (λ t. string_bytes t ≡ note_of (event_from event.now)) }
+{
+    match event {
+        Event::Command(command, _) => command_text(alloc, command),
+        Event::Uf2(block) => uf2_text(alloc, block),
+        Event::Cut(..) => format!(in alloc; "cut"),
+        _ => Ok(String::new(alloc)),
     }
 }

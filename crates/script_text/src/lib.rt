@@ -1,18 +1,16 @@
-//! The text form of scripts: one record a line, in one spelling. A comment above each command and
-//! each UF2 block says what it is. A script is listed as a text, and a text is read as a script.
-//! The form is this project's own.
+//! The text form of scripts: one record a line, in words. A script is listed as a text, in one
+//! spelling, and a text is read as a script, in any spelling. Where a line has hexadecimal bytes, a
+//! comment above it says what it is; behind each other line its number stands. The form is this
+//! project's own.
 #![tactic(auto)]
 
 mod comments;
 pub mod examples;
 pub mod laws;
-mod lines;
 mod listing;
 mod reading;
-mod record;
 mod script;
-mod words;
 
 pub use listing::list_text;
 pub use reading::read_text;
-pub use script::{TEXT_LIMIT, TextError, TextScript};
+pub use script::{TEXT_LIMIT, TextError, TextFault, TextScript};

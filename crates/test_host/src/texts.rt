@@ -1,42 +1,31 @@
 //! Scripts as texts, and texts as scripts, with values that another program worked out.
 
 use boot_script::Script;
-use script_text::{TEXT_LIMIT, TextError, list_text, read_text};
+use script_text::{TEXT_LIMIT, TextError, TextFault, list_text, read_text};
 use std::alloc::Global;
 use std::test::Fail;
 
 /// One command of each kind, and one that is none.
 const COMMANDS: &str = "\
-# 0 exclusive 2 token=0x00000001
-command 0bd11f4301000000010100000000000002000000000000000000000000000000
-# 1 read 0x20000000+0x0000001c token=0x00000002
-command 0bd11f4302000000840800001c000000000000201c0000000000000000000000
-# 2 exit-xip token=0x00000003
-command 0bd11f4303000000060000000000000000000000000000000000000000000000
-# 3 enter-xip token=0x00000004
-command 0bd11f4304000000070000000000000000000000000000000000000000000000
-# 4 reboot normal token=0x00000005
-command 0bd11f43050000000a1000000000000000000000000000000000000000000000
+exclusive 2 # 0
+read 0x20000000+0x0000001c # 1
+exit-xip # 2
+enter-xip # 3
+reboot normal # 4
 # 5 reboot bootsel token=0x00000006
 command 0bd11f43060000000a1000000000000002010000000000000000000000000000
 # 6 reboot update=0x10004000 token=0x00000007
 command 0bd11f43070000000a1000000000000004010000000000000040001000000000
-# 7 reboot ram=0x20000000+0x0000001c token=0x00000008
-command 0bd11f43080000000a100000000000000300000000000000000000201c000000
+reboot ram=0x20000000+0x0000001c # 7
 # 8 reboot flags=0x00000204 token=0x00000009
 command 0bd11f43090000000a1000000000000004020000000000000040001000000000
-# 9 otp-read row=0x0c0 count=3 ecc=0 token=0x0000000a
-command 0bd11f430a0000008c0500000c000000c0000300000000000000000000000000
+otp-read 0x0c0 3 # 9
 # 10 otp-write row=0xffff count=0 ecc=1 token=0x0000000b
 command 0bd11f430b0000000d05000000000000ffff0000010000000000000000000000
-# 11 info table token=0x0000000c
-command 0bd11f430c0000008b1000000001000001000000000000000000000000000000
-# 12 info target=0xe48bff59 token=0x0000000d
-command 0bd11f430d0000008b100000000100000200000059ff8be40000000000000000
-# 13 info device token=0x0000000e
-command 0bd11f430e0000008b1000000001000003000000000000000000000000000000
-# 14 info partition=4294967295 token=0x0000000f
-command 0bd11f430f0000008b1000000001000004000000ffffffff0000000000000000
+info table 256 # 11
+info target=0xe48bff59 256 # 12
+info device 256 # 13
+info partition=4294967295 256 # 14
 # 15 info kind=5 token=0x00000010
 command 0bd11f43100000008b1000000001000005000000000000000000000000000000
 # 16 command 0x55 token=0x00000011
@@ -72,9 +61,9 @@ fn read(alloc: Global, text: &[u8]) -> Result<(String, u32, String), TextError> 
     if text.len() > TEXT_LIMIT as usize {
         return Err(TextError::Memory);
     }
-    let script = read_text(alloc, text)?;
+    let script = read_text(alloc, text, &[])?;
     let Ok(judged) = Script::read(&script.bytes) else {
-        return Err(TextError::TooLong);
+        return Err(TextError::Line(0, TextFault::TooLong));
     };
     let Ok(listed) = list_text(alloc, &judged) else {
         return Err(TextError::Memory);
@@ -85,12 +74,19 @@ fn read(alloc: Global, text: &[u8]) -> Result<(String, u32, String), TextError> 
     }
 }
 
-/// The last 480 bytes of a UF2 block, in hexadecimal: a page of 0 to 255, zeros, and the last word.
-fn block_end(alloc: Global) -> Result<String, Fail> {
-    let mut rest = String::new(alloc);
+/// A page of the bytes 0 to 255, in hexadecimal.
+fn page(alloc: Global) -> Result<String, Fail> {
+    let mut page = String::new(alloc);
     for byte in 0..=255_u8 {
-        rest.push_str(&format!(in alloc; "{byte:02x}")?)?;
+        page.push_str(&format!(in alloc; "{byte:02x}")?)?;
     }
+    Ok(page)
+}
+
+/// The last 480 bytes of a UF2 block, in hexadecimal: its page, zeros, and the last word.
+fn block_end(alloc: Global, page: &str) -> Result<String, Fail> {
+    let mut rest = String::new(alloc);
+    rest.push_str(page)?;
     for _ in 0..220 {
         rest.push_str("00")?;
     }
@@ -110,23 +106,24 @@ fn each_command_is_read_and_listed(rt: HostRuntime) -> Result<(), Fail> {
 #[test]
 fn each_record_is_read_and_listed(rt: HostRuntime) -> Result<(), Fail> {
     let alloc = rt.alloc();
-    let rest = block_end(alloc)?;
+    let page = page(alloc)?;
+    let rest = block_end(alloc, &page)?;
     let text = format!(in alloc;
-        "power\n\
-reset normal\n\
-reset bootsel\n\
-# 3 erase 0x10020000+0x00001000 token=0x00000001\n\
-command 0bd11f4301000000030800000000000000000210001000000000000000000000\n\
+        "power # 0\n\
+reset normal # 1\n\
+reset bootsel # 2\n\
+erase 0x10020000+0x00001000 # 3\n\
 # 4 write 0x10004000+0x00000003 token=0x00000002\n\
-command 0bd11f4302000000050800000300000000400010030000000000000000000000 01abff\n\
+write 0x10004000 01abff\n\
 # 5 uf2 number=1 count=2 address=0x10000100 family=0xe48bff59\n\
-uf2 5546320a57515d9e002000000001001000010000010000000200000059ff8be4{rest}\n\
+uf2 1 of 2 at 0x10000100 family=rp2350-arm-s {page}\n\
 # 6 uf2 bad payload\n\
 uf2 5546320a57515d9e002000000001001080000000010000000200000059ff8be4{rest}\n\
-cut 0 before\n\
+cut 0 before # 7\n\
+# 8 cut\n\
 cut 4294967295 within a50f\n\
-reset update=0x1002abcd\n\
-buy\n\
+reset update=0x1002abcd # 9\n\
+buy # 10\n\
 end\n"
     )?;
     let wanted = format!(in alloc;

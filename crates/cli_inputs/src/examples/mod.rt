@@ -3,7 +3,7 @@
 
 ghost use Rattle.std.specs.Prelude.{◌≡◌, ◌*◌, [], ◌∷◌, codes, replicate, slice_get, Some, None};
 ghost use Rattle.part_table.specs.declared.table.TableFault.TheVariants.{Overlap, BadItem, Permissions, Range, Link, Hash};
-ghost use Rattle.cli_inputs.specs.declared.forms.Form.TheVariants.{Flash, Otp, Script, Pattern, Binary, Spec, Json, Image, Elf, Uf2, Text, OtpText};
+ghost use Rattle.cli_inputs.specs.declared.forms.Form.TheVariants.{Flash, Otp, Script, Pattern, Binary, Spec, Json, Image, SourceImage, Elf, Uf2, Text, OtpText};
 ghost use Rattle.boot_script.specs.declared.event.ScriptError.TheVariants.{TooMany};
 ghost use Rattle.cli_inputs.specs.Forms.{limit_of, form_fault, script_text, filled_flash, filled_length, rows_of, otp_of};
 ghost use Rattle.table_json.specs.declared.fault.JsonFault.TheVariants.{NotJson, Unknown, Missing, Value, TooLong, Table as Faulty};
@@ -43,7 +43,11 @@ pub fn forms_of_scripts()
 /// A UF2 file has whole blocks, and at least one. The text of a script has a bound alone.
 pub fn forms_of_bridges()
     ensures uf2_limit { limit_of Uf2 ≡ 65537 * 512 }
-    ensures text_limit { limit_of Text ≡ 201326592 }
+    ensures text_limit { limit_of Text ≡ 209715200 }
+    ensures source_limit { limit_of SourceImage ≡ 16777216 }
+    ensures source_of_no_byte { form_fault SourceImage [] ≡ Some (codes "empty") }
+    ensures source_of_one { form_fault SourceImage (0 ∷ []) ≡ None }
+    ensures image_of_no_byte { form_fault Image [] ≡ None }
     ensures no_block { form_fault Uf2 [] ≡ Some (codes "uf2-length") }
     ensures part { form_fault Uf2 (replicate 511 0) ≡ Some (codes "uf2-length") }
     ensures block { form_fault Uf2 (replicate 512 0) ≡ None }

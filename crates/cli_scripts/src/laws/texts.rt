@@ -12,8 +12,9 @@ ghost use Rattle.cli_scripts.specs.TextWorks.{list_work, write_work};
 pub fn works_are_right()
     ensures list { (s : List ℕ) → HasForm Script s
         → IsByRules ⊤ (list_work s) (λ name fault. ⊥) (IsListOf s) }
-    ensures write { (text out t : List ℕ) → HasForm Text t
-        → IsByRules ⊤ (write_work text out t) (IsTextRefused text t) (IsWrittenOf t out) }
+    ensures write { (text out image t : List ℕ) → HasForm Text t
+        → IsByRules ⊤ (write_work text out image t) (IsTextRefused text image t)
+        (IsWrittenOf image t out) }
     ensures copy { (out u : List ℕ) → HasForm Uf2 u
         → IsByRules ⊤ (copy_work out u) (λ name fault. ⊥) (IsCopyOf u out) }
 {}

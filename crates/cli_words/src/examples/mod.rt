@@ -142,6 +142,9 @@ pub fn words_of_tools()
     ensures script { command_by (codes "script t a")
         ≡ Some (command_line verbs.WriteScript
         (record no_values { file = codes "t"; out = codes "a" })) }
+    ensures script_image { command_by (codes "script t i a")
+        ≡ Some (command_line verbs.WriteImageScript
+        (record no_values { file = codes "t"; image = codes "i"; out = codes "a" })) }
     ensures made { command_by (codes "gen 007")
         ≡ Some (command_line verbs.Gen (record no_values { number = 7 })) }
 {}
@@ -161,6 +164,7 @@ pub fn other_words_of_tools()
     ensures copy_alone { command_by (codes "copy u") ≡ None }
     ensures list_of_two { command_by (codes "list s a") ≡ None }
     ensures script_alone { command_by (codes "script t") ≡ None }
+    ensures script_of_four { command_by (codes "script t i a b") ≡ None }
     ensures number { command_by (codes "gen x") ≡ None }
     ensures two { command_by (codes "uf2 7") ≡ None }
 {}
@@ -201,6 +205,8 @@ pub fn synopses_of_rows()
     ensures copy { synopsis (row_of verbs.Copy) ≡ codes "copy UF2 OUT" }
     ensures list { synopsis (row_of verbs.ListScript) ≡ codes "list SCRIPT" }
     ensures script { synopsis (row_of verbs.WriteScript) ≡ codes "script TEXT OUT" }
+    ensures script_image { synopsis (row_of verbs.WriteImageScript)
+        ≡ codes "script TEXT IMAGE OUT" }
 {}
 
 /// No row names two files that a command works on.

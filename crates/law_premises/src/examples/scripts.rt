@@ -2,9 +2,8 @@
 
 ghost use Rattle.std.specs.Prelude.{◌∷◌, [], true, false, Some, codes};
 ghost use Rattle.boot_script.specs.Events.{EventView};
-ghost use Rattle.script_text.specs.Lines.{HasEventBytes, IsEvent};
+ghost use Rattle.script_words.specs.Saying.{HasEventBytes, IsEvent};
 ghost use Rattle.script_text.specs.Meaning.{IsWithinLimits};
-ghost use Rattle.script_text.specs.Putting.{IsRecordLine};
 ghost use Rattle.boot_plays.specs.Plays.{IsOfBytes};
 ghost use Rattle.boot_machine.specs.Standing.{Carries};
 ghost use Rattle.law_downloads.specs.Copied.{AreLostUpdates, IsCutDownload};
@@ -31,10 +30,9 @@ pub fn an_event_of_a_script()
     ensures no_byte { HasEventBytes (EventView.Cut 1 true (256 ∷ [])) → ⊥ }
 {}
 
-/// A script of one event, and the line of that event; the line of the end is no record's.
+/// A script of one event.
 pub fn a_script_within_the_limits()
     ensures within { IsWithinLimits (EventView.PowerOn ∷ []) }
-    ensures line { IsRecordLine (codes "power") }
 {}
 
 /// A download of two blocks into a slot, and the second block, which may come after the first.

@@ -1,38 +1,18 @@
-//! Worked examples of the text form, proved by computing: the line and the comment of each record;
-//! both sides of each bound of what is read; and lines with two faults.
+//! Worked examples of the text form, proved by computing: what the comment of each record says; and
+//! texts with two faults.
 
-ghost use Rattle.std.specs.Prelude.{◌≡◌, [], ◌∷◌, ◌++◌, Err, None, Ok, Some, codes, false, replicate, true};
-ghost use Rattle.pico_board.specs.declared.BootKind.TheVariants.{Bootsel, Normal, Update};
+ghost use Rattle.std.specs.Prelude.{◌≡◌, [], ◌∷◌, ◌++◌, Err, Ok, codes, false, replicate, true};
+ghost use Rattle.pico_board.specs.declared.BootKind.TheVariants.{Bootsel, Update};
 ghost use Rattle.picoboot_cmd.specs.Examples.{padded_range_args, row_args};
 ghost use Rattle.uf2_place.specs.declared.block.TheConstants.{START};
-ghost use Rattle.boot_script.specs.Events.{Buy, Command, Cut, End, PowerOn, Reset};
-ghost use Rattle.script_text.specs.declared.script.TextError.TheVariants.{Line, TooLong, TooMany};
-ghost use Rattle.script_text.specs.Lines.{record_line};
+ghost use Rattle.boot_script.specs.Events.{Buy, Command, PowerOn, Reset};
+ghost use Rattle.script_words.specs.declared.fault.LineFault.TheVariants as faults;
+ghost use Rattle.script_text.specs.declared.script.TextError.TheVariants.{Line};
+ghost use Rattle.script_text.specs.declared.script.TextFault.TheVariants.{BehindEnd, Image, TooLong, TooMany, Words};
 ghost use Rattle.script_text.specs.Comments.{command_text};
 ghost use Rattle.script_text.specs.Listing.{listed};
-ghost use Rattle.script_text.specs.Records.{record_in};
-ghost use Rattle.script_text.specs.Reading.{lines_of, read_lines, text_events};
-ghost use Rattle.script_text.specs.Examples.{block_note, buy_behind, info_note, note, reboot_note};
-
-/// The line of each record.
-pub fn lines_of_records()
-    ensures power { record_line PowerOn ≡ codes "power" }
-    ensures normal { record_line (Reset Normal) ≡ codes "reset normal" }
-    ensures bootsel { record_line (Reset Bootsel) ≡ codes "reset bootsel" }
-    ensures update { record_line (Reset (Update 0x1002abcd)) ≡ codes "reset update=0x1002abcd" }
-    ensures zero { record_line (Reset (Update 0)) ≡ codes "reset update=0x00000000" }
-    ensures before { record_line (Cut 0 false []) ≡ codes "cut 0 before" }
-    ensures within { record_line (Cut 4294967295 true (0xa5 ∷ 0x0f ∷ []))
-        ≡ codes "cut 4294967295 within a50f" }
-    ensures buy { record_line Buy ≡ codes "buy" }
-    ensures end { record_line End ≡ codes "end" }
-    ensures command { record_line (Command (replicate 32 0xab) [])
-        ≡ codes "command abababababababababababababababab"
-        ++ codes "abababababababababababababababab" }
-    ensures payload { record_line (Command (replicate 32 0xab) (1 ∷ 0xff ∷ []))
-        ≡ codes "command abababababababababababababababab"
-        ++ codes "abababababababababababababababab 01ff" }
-{}
+ghost use Rattle.script_text.specs.Reading.{Adds_event, Ends, Passed, lines_of, text_events, token_behind};
+ghost use Rattle.script_text.specs.Examples.{before, block_note, info_note, note, reboot_note, step};
 
 /// What the comment of each command says. A command with another argument size than its own is
 /// just a command. So is one with an id that is none of theirs.
@@ -93,105 +73,62 @@ pub fn comments_of_blocks()
     ensures number { block_note START 256 0x10000100 2 2 ≡ codes "uf2 bad number" }
 {}
 
-/// Events are numbered from 0, and all count.
+/// Events are numbered from 0, behind a line without hexadecimal bytes and above each other one.
 pub fn listed_scripts()
     ensures none { listed [] ≡ codes "end\n" }
-    ensures two { listed (PowerOn ∷ Reset Bootsel ∷ []) ≡ codes "power\nreset bootsel\nend\n" }
+    ensures two { listed (PowerOn ∷ Reset Bootsel ∷ []) ≡ codes "power # 0\nreset bootsel # 1\nend\n" }
     ensures second { listed (PowerOn ∷ Command (replicate 32 0) [] ∷ Buy ∷ [])
-        ≡ codes "power\n# 1 command bad-magic\ncommand 00000000000000000000000000000000"
-        ++ codes "00000000000000000000000000000000\nbuy\nend\n" }
+        ≡ codes "power # 0\n# 1 command bad-magic\ncommand 00000000000000000000000000000000"
+        ++ codes "00000000000000000000000000000000\nbuy # 2\nend\n" }
 {}
 
-/// Lines are the pieces between line feeds, and a carriage return is a byte of its line.
+/// Lines are the pieces between line feeds.
 pub fn lines_of_texts()
     ensures none { lines_of [] ≡ [] ∷ [] }
     ensures one { lines_of (codes "buy") ≡ codes "buy" ∷ [] }
     ensures fed { lines_of (codes "buy\n") ≡ codes "buy" ∷ [] ∷ [] }
     ensures two { lines_of (codes "a\n\nb") ≡ codes "a" ∷ [] ∷ codes "b" ∷ [] }
-    ensures carriage { lines_of (codes "a\r\nb") ≡ codes "a\r" ∷ codes "b" ∷ [] }
 {}
 
-/// A number is below 2^32, and has no leading zero.
-pub fn numbers_of_cuts()
-    ensures zero { record_in (codes "cut 0 before") ≡ Some (Cut 0 false []) }
-    ensures most { record_in (codes "cut 4294967295 before") ≡ Some (Cut 4294967295 false []) }
-    ensures more { record_in (codes "cut 4294967296 before") ≡ None }
-    ensures longer { record_in (codes "cut 10000000000 before") ≡ None }
-    ensures leading { record_in (codes "cut 01 before") ≡ None }
-    ensures two_zeros { record_in (codes "cut 00 before") ≡ None }
-    ensures none { record_in (codes "cut  before") ≡ None }
-    ensures sign { record_in (codes "cut +1 before") ≡ None }
+/// The token behind a command is one more than its own, whatever its magic word.
+pub fn tokens()
+    ensures other { token_behind 7 PowerOn ≡ 7 }
+    ensures command { token_behind 7 (Command (0 ∷ 0 ∷ 0 ∷ 0 ∷ 0x41 ∷ 0 ∷ 0 ∷ 0 ∷ replicate 24 0) [])
+        ≡ 0x42 }
+    ensures last { token_behind 7
+        (Command (0 ∷ 0 ∷ 0 ∷ 0 ∷ 255 ∷ 255 ∷ 255 ∷ 255 ∷ replicate 24 0) []) ≡ 0 }
 {}
 
-/// A cut before its step has no pattern, and one within it has one.
-pub fn parts_of_cuts()
-    ensures within { record_in (codes "cut 1 within a5") ≡ Some (Cut 1 true (0xa5 ∷ [])) }
-    ensures no_byte { record_in (codes "cut 1 within ") ≡ None }
-    ensures no_pattern { record_in (codes "cut 1 within") ≡ None }
-    ensures odd { record_in (codes "cut 1 within a50") ≡ None }
-    ensures before_with_one { record_in (codes "cut 1 before a5") ≡ None }
-    ensures neither { record_in (codes "cut 1") ≡ None }
-    ensures two_blanks { record_in (codes "cut 1  before") ≡ None }
-{}
-
-/// Each record has one spelling.
-pub fn one_spelling()
-    ensures upper_case { record_in (codes "reset update=0x1002ABCD") ≡ None }
-    ensures lower_case { record_in (codes "reset update=0x1002abcd")
-        ≡ Some (Reset (Update 0x1002abcd)) }
-    ensures seven_digits { record_in (codes "reset update=0x1002abc") ≡ None }
-    ensures nine_digits { record_in (codes "reset update=0x1002abcd0") ≡ None }
-    ensures other_letter { record_in (codes "reset update=0x1002abcg") ≡ None }
-    ensures no_prefix { record_in (codes "reset update=1002abcd") ≡ None }
-    ensures kind { record_in (codes "reset") ≡ None }
-    ensures blank_behind { record_in (codes "end ") ≡ None }
-    ensures blank_before { record_in (codes " end") ≡ None }
-    ensures capitals { record_in (codes "END") ≡ None }
-    ensures carriage { record_in (codes "power\r") ≡ None }
-    ensures longer { record_in (codes "powers") ≡ None }
-{}
-
-/// A payload is written exactly where it has a byte.
-pub fn payloads()
-    ensures none { record_in (codes "command 00000000000000000000000000000000"
-        ++ codes "00000000000000000000000000000000") ≡ Some (Command (replicate 32 0) []) }
-    ensures one { record_in (codes "command 00000000000000000000000000000000"
-        ++ codes "00000000000000000000000000000000 5a")
-        ≡ Some (Command (replicate 32 0) (0x5a ∷ [])) }
-    ensures dash { record_in (codes "command 00000000000000000000000000000000"
-        ++ codes "00000000000000000000000000000000 -") ≡ None }
-    ensures odd { record_in (codes "command 00000000000000000000000000000000"
-        ++ codes "00000000000000000000000000000000 5a5") ≡ None }
-    ensures blank { record_in (codes "command 00000000000000000000000000000000"
-        ++ codes "00000000000000000000000000000000 ") ≡ None }
-    ensures no_blank { record_in (codes "command 00000000000000000000000000000000"
-        ++ codes "000000000000000000000000000000005a") ≡ None }
-    ensures short { record_in (codes "command 00000000000000000000000000000000"
-        ++ codes "000000000000000000000000000000") ≡ None }
-{}
-
-/// Empty lines and comments are passed over, and what follows the end is not read.
+/// Lines without words are passed over, and a text needs no end.
 pub fn texts()
-    ensures none { text_events [] ≡ Ok [] }
-    ensures comments { text_events (codes "#\r\n\n# power\n#end") ≡ Ok [] }
-    ensures no_end { text_events (codes "\n# power\n\npower") ≡ Ok (PowerOn ∷ []) }
-    ensures behind_the_end { text_events (codes "buy\nend\nEND\nbuy\n") ≡ Ok (Buy ∷ []) }
-    ensures blank_line { text_events (codes "power\n \n") ≡ Err (Line 2) }
-    ensures carriage_line { text_events (codes "power\n\r\n") ≡ Err (Line 2) }
-    ensures carriage { text_events (codes "# a\r\npower\r\nend\r\n") ≡ Err (Line 2) }
-    ensures blank_comment { text_events (codes " # a\n") ≡ Err (Line 1) }
-    ensures end_with_a_blank { text_events (codes "power\nbuy\nend \n") ≡ Err (Line 3) }
-    ensures first_of_two { text_events (codes "power\nno\nneither\n") ≡ Err (Line 2) }
+    ensures none { text_events [] [] ≡ Ok [] }
+    ensures comments { text_events [] (codes "#\r\n\n # power\n#end") ≡ Ok [] }
+    ensures no_end { text_events [] (codes "\n# power\n\npower") ≡ Ok (PowerOn ∷ []) }
+    ensures behind_the_end { text_events [] (codes "buy\nend # 1\n \n# no more\n") ≡ Ok (Buy ∷ []) }
+    ensures spaced { text_events [] (codes " reset\tupdate=0x1\r\n") ≡ Ok (Reset (Update 1) ∷ []) }
+    ensures first_of_two { text_events [] (codes "power\nno\nneither\n")
+        ≡ Err (Line 2 (Words faults.Word)) }
+    ensures of_image { text_events [] (codes "buy\nwrite 0x0 image 0x0+\n")
+        ≡ Err (Line 2 Image) }
+    ensures second_end { text_events [] (codes "end\nend\n") ≡ Err (Line 2 BehindEnd) }
 {}
 
-/// Both sides of each limit of a script: of its records and of its bytes; and a record that passes
-/// both. A line that is no record has that fault at any place.
-pub fn limits()
-    ensures last_record { buy_behind 524286 0 ≡ Ok (Buy ∷ []) }
-    ensures too_many { buy_behind 524287 0 ≡ Err TooMany }
-    ensures last_byte { buy_behind 0 67108862 ≡ Ok (Buy ∷ []) }
-    ensures too_long { buy_behind 0 67108863 ≡ Err TooLong }
-    ensures both { buy_behind 524287 67108863 ≡ Err TooMany }
-    ensures end { read_lines 1 524287 67108863 (codes "end" ∷ []) ≡ Ok [] }
-    ensures no_record { read_lines 7 524287 67108863 (codes "no" ∷ []) ≡ Err (Line 7) }
+/// Both sides of each limit, and lines with two faults of each neighbouring pair.
+pub fn faults_of_lines()
+    ensures passed { step (before 524287 67108863 true) (codes " # end") ≡ Ok Passed }
+    ensures end { step (before 524287 67108863 false) (codes "end") ≡ Ok Ends }
+    ensures last_record { step (before 524286 0 false) (codes "buy") ≡ Ok (Adds_event Buy) }
+    ensures too_many { step (before 524287 0 false) (codes "buy") ≡ Err TooMany }
+    ensures last_byte { step (before 0 67108862 false) (codes "buy") ≡ Ok (Adds_event Buy) }
+    ensures too_long { step (before 0 67108863 false) (codes "buy") ≡ Err TooLong }
+    ensures behind_before_word { step (before 0 0 true) (codes "Buy") ≡ Err BehindEnd }
+    ensures word_before_words { step (before 0 0 false) (codes "Buy now")
+        ≡ Err (Words faults.Word) }
+    ensures words_before_value { step (before 0 0 false) (codes "exclusive 256 256")
+        ≡ Err (Words faults.Words) }
+    ensures value_before_image { step (before 0 0 false) (codes "write 0 image 0x0+")
+        ≡ Err (Words (faults.Value 2)) }
+    ensures image_before_many { step (before 524287 0 false) (codes "write 0x0 image 0x0+")
+        ≡ Err Image }
+    ensures many_before_long { step (before 524287 67108863 false) (codes "buy") ≡ Err TooMany }
 {}

@@ -10,7 +10,7 @@ use Rattle.script_text.proofs.listing.list_text.Goals as goal
 pub loop-event-init : goal.loop-event-init
 loop-event-init c =
     let bytes = c.args.script.now.bytes.now in
-    subst (λ left. IsListed (script_events bytes) left 0 (string_bytes c.new-text.result))
+    subst (λ left. IsListed (script_events bytes) left 0 1 (string_bytes c.new-text.result))
     (sym (c.into_iter-event-iterator.ensures.into_iter_gives ∙ c.events-event-items.ensures))
     (listed-first (script_events bytes) (string_bytes c.new-text.result)
     (few-records bytes (script-formed bytes c.args.script.now.whole)) c.new-text.ensures.bytes)
@@ -21,12 +21,13 @@ overflow_add-number c = let few = c.loop-event.invariant.few in omega (arith, fe
 pub loop-event-preserved : goal.loop-event-preserved
 loop-event-preserved c =
     listed-more (script_events c.args.script.now.bytes.now) c.loop-event.event-iterator c.next.new.self
-    (event_from c.in-Some.event) c.loop-event.number (string_bytes c.loop-event.text)
+    (event_from c.in-Some.event) c.loop-event.number c.loop-event.next c.token_behind-next.result
+    (string_bytes c.loop-event.text)
     (string_bytes c.push_event.new.text) c.in-Some.ensures.steps.0 c.in_ok-push_event.ensures
-    c.loop-event.invariant
+    c.token_behind-next.ensures c.loop-event.invariant
 
 pub returns : goal.returns
 returns c =
     listed-end (script_events c.args.script.now.bytes.now) c.loop-event.event-iterator c.loop-event.number
-    (string_bytes c.loop-event.text) (string_bytes c.push_str.new.self) c.in-None.ensures.steps.0
-    c.in_ok-push_str.ensures.bytes c.loop-event.invariant
+    c.loop-event.next (string_bytes c.loop-event.text) (string_bytes c.push_str.new.self)
+    c.in-None.ensures.steps.0 c.in_ok-push_str.ensures.bytes c.loop-event.invariant

@@ -5,4 +5,4 @@ use Rattle.script_text.proofs.listing.list_text.Given as goal
 
 abbrev pub invariant-loop-event : goal.invariant-loop-event
 invariant-loop-event l =
-    IsListed (script_events l.script.bytes.now) l.event-iterator l.number (string_bytes l.text)
+    IsListed (script_events l.script.bytes.now) l.event-iterator l.number l.next (string_bytes l.text)

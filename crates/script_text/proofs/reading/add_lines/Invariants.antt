@@ -1,14 +1,14 @@
 use Rattle.std.proofs.Common.{◌+◌, ◌≤◌, length}
-use Rattle.script_text.specs.Reading.{HasRoomForEnd}
+use Rattle.script_text.specs.Reading.{HasRoom}
 use Rattle.script_text.proofs.ProgressLemmas.{IsSoFar}
 use Rattle.script_text.proofs.reading.add_lines.Given as goal
 
 -- the events so far were added, and the others are those of the lines that are left
 abbrev pub invariant-lines : goal.invariant-lines
 invariant-lines l = record {
-  room : HasRoomForEnd l.script;
+  room : HasRoom l.begun;
   few : l.number + length l.rest ≤ length l.text;
-  so_far : IsSoFar l.fn.script l.text (l.number + 1) l.script l.rest;
+  so_far : IsSoFar l.image l.fn.begun l.text (l.number + 1) l.begun l.rest;
 }
 
 abbrev pub decreases-lines : goal.decreases-lines

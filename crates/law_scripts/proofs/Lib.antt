@@ -1,0 +1,14 @@
+mod WordBackLemmas
+mod LineBackLemmas
+mod TokenBackLemmas
+mod NamedBackLemmas
+mod CleanLemmas
+mod LineOfLemmas
+mod LineTextLemmas
+mod NoteLemmas
+mod BackLemmas
+mod BytesLemmas
+mod TableLemmas
+mod FaultLemmas
+mod SizeLemmas
+mod NamedLineLemmas

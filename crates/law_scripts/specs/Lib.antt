@@ -1,0 +1,3 @@
+-- These definitions are this project's own.
+pub mod Listed
+pub mod Faults

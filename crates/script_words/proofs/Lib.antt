@@ -1,0 +1,6 @@
+pub mod MarkLemmas
+mod SplitLemmas
+mod FindLemmas
+pub mod PatternLemmas
+mod ListLemmas
+mod SaidLemmas
