@@ -1,0 +1,3 @@
+-- These definitions are this project's own, except where a comment names a public source.
+pub mod Stages
+pub mod Written
