@@ -1,5 +1,5 @@
 -- The events of a stage.
-use Rattle.std.proofs.Common.{◌≡◌, ℕ, ◌+◌, ◌-◌, ◌*◌, ◌<◌, ◌≤◌, ◌^◌, Bool, true, false, cond, List, [], ◌∷◌, ◌++◌, length, drop, Ok, refl, arith, length-append, length-take, length-drop}
+use Rattle.std.proofs.Common.{◌≡◌, ℕ, ◌+◌, ◌-◌, ◌*◌, ◌≤◌, Bool, true, false, cond, List, [], ◌∷◌, ◌++◌, length, drop, Ok, refl, arith, length-take, length-drop}
 use Rattle.std.specs.Prelude.{slice_range, ◌==◌}
 use Rattle.std.specs.List.{AllByRecursion}
 use Rattle.pico_board.specs.declared.window.TheConstants.{MOST_FLASH_BYTES}
@@ -8,7 +8,7 @@ use Rattle.boot_script.specs.Scripts.{IsBeforeEnd, events}
 use Rattle.boot_script.proofs.FollowingLemmas.{whole-script}
 use Rattle.script_plan.specs.Commands.{erase_cmd, update_cmd, write_cmd}
 use Rattle.script_plan.specs.Plans.{in_sectors}
-use Rattle.script_stage.specs.Stages.{Call, buy_events, erase_call, last_calls, part_calls, rest_calls, stage_calls, stage_events, stage_text, update_call, with_tokens, write_call}
+use Rattle.script_stage.specs.Stages.{Call, buy_events, erase_call, part_calls, rest_calls, stage_calls, stage_events, stage_text, update_call, with_tokens, write_call}
 use Rattle.script_plan.proofs.PlanLaws.{Insides, inside}
 
 -- the command is an event of its own, whatever its token

@@ -1,4 +1,4 @@
-use Rattle.std.proofs.Common.{◌≡◌, ◌∙◌, ◌++◌, [], ap, subst, OnOk}
+use Rattle.std.proofs.Common.{◌∙◌, ◌++◌, ap}
 use Rattle.boot_script.specs.Written.{written_event}
 use Rattle.script_plan.specs.Commands.{sent}
 use Rattle.script_stage.proofs.StageLemmas.{two-sent}

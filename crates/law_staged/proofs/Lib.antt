@@ -1,0 +1,7 @@
+mod LoneLoopLemmas
+mod SlotTableLemmas
+mod KeptLemmas
+mod ByteLemmas
+mod WindowLemmas
+mod StagedLemmas
+mod ExampleLemmas
