@@ -5,7 +5,7 @@ _dugnatsew() {
     local word=${COMP_WORDS[COMP_CWORD]} words=""
     COMPREPLY=()
     case $(_dugnatsew_form "${COMP_WORDS[1]}" "$COMP_CWORD") in
-        COMMAND) words="boot info data explain caveats map replay sweep chart cuts check seal elf firm table otp uf2 plan load copy list script gen --help -h help --version" ;;
+        COMMAND) words="boot info data explain caveats map replay sweep chart cuts check seal elf firm table otp uf2 plan load stage copy list script gen --help -h help --version" ;;
         CPU) words="arm riscv" ;;
         KIND) words="normal bootsel update=0x" ;;
         FAMILY) words="rp2040 absolute data rp2350-arm-s rp2350-riscv rp2350-arm-ns" ;;
@@ -31,7 +31,7 @@ _dugnatsew_form() {
         info) forms+=(FILE FILE CPU) ;;
         map) forms+=(FILE FILE CPU FILE) ;;
         replay | chart) forms+=(FILE FILE CPU FILE FILE FILE) ;;
-        sweep | cuts | check | plan | load) forms+=(FILE FILE CPU FILE FILE) ;;
+        sweep | cuts | check | plan | load | stage) forms+=(FILE FILE CPU FILE FILE) ;;
         seal | elf | script) forms+=(FILE FILE FILE) ;;
         firm) forms+=(FILE CPU) ;;
         table | otp | copy) forms+=(FILE FILE) ;;

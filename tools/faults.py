@@ -54,6 +54,7 @@ unit {} not-reached|unit {} takes|updated|version|w|whole
 caveat {name} {}|caveat {name} partition={}|caveat {name} {} at={}|{} {} bytes={}|{} {}{}|{} rows={}|cmd 0x|load|plan|neither|s
 {}{}{}|cuts former={} finished={} bootsel={} other={}|former {}end {}effect {}|image hash={}|image none
 law confined|law gated|records ok|rows raised={}{}{}
+gated|stage {} bytes={} order={}|staged
 """
 
 

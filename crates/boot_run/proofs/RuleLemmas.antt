@@ -3,6 +3,7 @@ use Rattle.std.proofs.Common.{◌≡◌, ◌↔◌, ℕ, ◌==◌, Bool, true, f
 use Rattle.std.specs.Prelude.{⊤, nat_lt}
 use Rattle.pico_board.specs.declared.boot.Cpu.{Cpu}
 use Rattle.pico_board.specs.declared.boot.BootKind.{BootKind}
+use Rattle.pico_board.specs.Content.{Content}
 use Rattle.pico_board.specs.Files.{File}
 use Rattle.boot_rules.specs.declared.decision.Decision.{Decision}
 use Rattle.boot_rules.specs.declared.decision.Decision.TheVariants.{Start, Bootsel as FallsToBootsel}
@@ -43,6 +44,7 @@ use Rattle.cli_scripts.proofs.TextRuleLemmas.{list-works, write-works}
 use Rattle.cli_tools.proofs.ElfLemmas.{elf-works}
 use Rattle.cli_tools.proofs.SealCaseLemmas.{seal-works, table-works}
 use Rattle.cli_tools.proofs.ToolLemmas.{uf2-works, script-works, gen-works}
+use Rattle.cli_stage.proofs.StageRuleLemmas.{stage-works}
 use Rattle.boot_run.specs.Inputs.{inputs_of}
 use Rattle.boot_run.specs.Commands.{row_work, work_of, command_outcome, outcome_on, IsRefusedCommand, Asks, needs_bytes, NeedsBytes, judges, is_verdict, IsRefusedWork, IsRowRefused, IsRight, IsRowRight, Tells, Obeys, FallsOn}
 use Rattle.part_table.specs.declared.target.Target.{Target}
@@ -56,6 +58,7 @@ use Rattle.cli_sweep.specs.SweepWorks.{swept_work}
 use Rattle.cli_tools.specs.Elfs.{elf_work, packed_work}
 use Rattle.cli_tools.specs.Tools.{seal_work, table_work, judged_work as seal_judged}
 use Rattle.cli_tools.specs.ToolWorks.{target_work}
+use Rattle.cli_stage.specs.StageWorks.{file_work, judged_work as stage_judged, stage_work, target_work as stage_target}
 
 -- a told text is right
 told-works : (text : List ℕ) → IsByRules ⊤ (Answers false text []) (λ name fault. ⊥) (Tells text)
@@ -116,6 +119,8 @@ row-works verbs.Plan v =
     of-three (IsRowRuled verbs.Plan v) (λ f g i all. script-works FirstLast v.file v.out i (content_of_files f g) v.cpu)
 row-works verbs.Load v =
     of-three (IsRowRuled verbs.Load v) (λ f g i all. script-works Ascending v.file v.out i (content_of_files f g) v.cpu)
+row-works verbs.Stage v =
+    of-three (IsRowRuled verbs.Stage v) (λ f g i all. stage-works v.file v.out i (content_of_files f g) v.cpu)
 row-works verbs.Copy v = of-one (IsRowRuled verbs.Copy v) (λ u all. copy-works v.out u all.0)
 row-works verbs.ListScript v = of-one (IsRowRuled verbs.ListScript v) (λ s all. list-works s all.0)
 row-works verbs.WriteScript v =
@@ -201,6 +206,13 @@ target-plain order name out image None = tt
 target-plain order name out image (Some target) =
     by-test (length image == 0) _ _ tt (by-test (nat_lt target.window.len (length image)) _ _ tt tt)
 
+stage-plain : (name out image : List ℕ) (c : Content) (cpu : Cpu) → IsPlain (stage_work c cpu name out image)
+stage-plain name out image c cpu =
+    by-option (stage_target c cpu name out image) tt (λ (target : Target).
+    by-test (length image == 0) _ _ tt (by-test (nat_lt target.window.len (length image)) _ _ tt
+    (by-option (file_work c cpu target.window name out image)
+    (by-result (stage_judged c cpu target.window name out image _) (λ started. tt) (λ why. tt) _) (λ fault. tt) _))) _
+
 -- a command that judges nothing has such a work
 abbrev IsRowPlain : Verb → ValuesView → List (List ℕ) → Type 0
 IsRowPlain verb v read = IsPlain (row_work verb v read)
@@ -236,6 +248,8 @@ row-plain verbs.Plan v h =
     of-three (IsRowPlain verbs.Plan v) (λ f g i. target-plain FirstLast v.file v.out i _)
 row-plain verbs.Load v h =
     of-three (IsRowPlain verbs.Load v) (λ f g i. target-plain Ascending v.file v.out i _)
+row-plain verbs.Stage v h =
+    of-three (IsRowPlain verbs.Stage v) (λ f g i. stage-plain v.file v.out i (content_of_files f g) v.cpu)
 row-plain verbs.Copy v h = of-one (IsRowPlain verbs.Copy v) (λ u. tt)
 row-plain verbs.ListScript v h = of-one (IsRowPlain verbs.ListScript v) (λ s. tt)
 row-plain verbs.WriteScript v h =

@@ -36,6 +36,7 @@ use Rattle.cli_tools.specs.Elfs.{elf_work, IsElfOf, IsElfRefused}
 use Rattle.cli_tools.specs.Tools.{seal_work, table_work}
 use Rattle.script_plan.specs.declared.writing.WriteOrder.TheVariants.{FirstLast, Ascending}
 use Rattle.cli_tools.specs.ToolWorks.{uf2_work, script_work, gen_work}
+use Rattle.cli_stage.specs.StageWorks.{stage_work}
 use Rattle.pico_board.specs.declared.boot.Cpu.{Cpu}
 use Rattle.pico_board.specs.declared.boot.BootKind.{BootKind}
 use Rattle.pico_board.specs.Puts.{IsPut, SinkState}
@@ -59,6 +60,7 @@ use Rattle.cli_sweep.specs.SweepRules.{IsFirmOf, IsFirmRefused, IsSweepOf, IsSwe
 use Rattle.cli_tools.specs.Seals.{IsUnsealed}
 use Rattle.cli_tools.specs.SealRules.{IsSealedOf, IsTableOf}
 use Rattle.cli_tools.specs.ToolRules.{IsUf2Refused, IsUf2Of, IsTargetRefused, IsScriptOf, IsGenOf}
+use Rattle.cli_stage.specs.StageRules.{IsStageRefused, IsStageOf}
 
 -- the work of a row's command, by the values of its arguments, on the bytes of its inputs
 abbrev pub row_work : Verb → ValuesView → List (List ℕ) → Work
@@ -85,6 +87,7 @@ row_work verbs.Plan v (f ∷ g ∷ i ∷ []) =
     script_work FirstLast (content_of_files f g) v.cpu v.file v.out i
 row_work verbs.Load v (f ∷ g ∷ i ∷ []) =
     script_work Ascending (content_of_files f g) v.cpu v.file v.out i
+row_work verbs.Stage v (f ∷ g ∷ i ∷ []) = stage_work (content_of_files f g) v.cpu v.file v.out i
 row_work verbs.Copy v (u ∷ []) = copy_work v.out u
 row_work verbs.ListScript v (s ∷ []) = list_work s
 row_work verbs.WriteScript v (t ∷ []) = write_work v.file v.out [] t
@@ -148,6 +151,8 @@ IsRowRefused verbs.Plan v (f ∷ g ∷ i ∷ []) name fault =
     IsTargetRefused (content_of_files f g) v.cpu v.file i name fault
 IsRowRefused verbs.Load v (f ∷ g ∷ i ∷ []) name fault =
     IsTargetRefused (content_of_files f g) v.cpu v.file i name fault
+IsRowRefused verbs.Stage v (f ∷ g ∷ i ∷ []) name fault =
+    IsStageRefused (content_of_files f g) v.cpu v.file i name fault
 IsRowRefused _ v read name fault = ⊥
 
 -- the work of a command refuses the input of this name with this fault
@@ -188,6 +193,7 @@ IsRowRight verbs.Plan v (f ∷ g ∷ i ∷ []) o =
     IsScriptOf FirstLast (content_of_files f g) v.cpu i v.out o
 IsRowRight verbs.Load v (f ∷ g ∷ i ∷ []) o =
     IsScriptOf Ascending (content_of_files f g) v.cpu i v.out o
+IsRowRight verbs.Stage v (f ∷ g ∷ i ∷ []) o = IsStageOf (content_of_files f g) v.cpu i v.out o
 IsRowRight verbs.Copy v (u ∷ []) o = IsCopyOf u v.out o
 IsRowRight verbs.ListScript v (s ∷ []) o = IsListOf s o
 IsRowRight verbs.WriteScript v (t ∷ []) o = IsWrittenOf [] t v.out o

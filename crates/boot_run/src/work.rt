@@ -26,6 +26,7 @@ use cli_inputs::{
 use cli_map::map_flash;
 use cli_otp::otp;
 use cli_scripts::{copy_uf2, list_script, replay, write_script};
+use cli_stage::stage_image;
 use cli_sweep::{chart_script, firm_image, sweep_script};
 use cli_tools::{load, made_flash, pack_elf, plan_image, seal_binary, table, uf2};
 use cli_words::{CommandLine, Values, Verb, help_text, release_line, usage_text};
@@ -171,6 +172,17 @@ fn load_on<'a>(alloc: Global, files: Vec<Vec<u8>>, values: &Values<'a>) -> Done<
     Ok(load(alloc, board, values.cpu, values.file, values.out, &bytes)?)
 }
 
+/// The script that writes an image with the page of its first block last.
+fn stage_on<'a>(alloc: Global, files: Vec<Vec<u8>>, values: &Values<'a>) -> Done<'a>
+    requires { length files.items ≡ 3 }
+    ensures { IsDone verbs.Stage values.now (bytes_of_files files.items) result }
+{
+    let (flash, otp, image) = three(files);
+    let board = read_board(alloc, values.flash, flash, values.otp, &otp)?;
+    let bytes = read_image(alloc, values.file, image)?;
+    Ok(stage_image(alloc, board, values.cpu, values.file, values.out, &bytes)?)
+}
+
 /// What a command does on the files of its inputs: it reads each into what its form gives, in the
 /// order of the arguments, and works on these. The first file that breaks its form is refused.
 fn perform<'a>(alloc: Global, command: &CommandLine<'a>, files: Vec<Vec<u8>>) -> Done<'a>
@@ -205,6 +217,7 @@ fn perform<'a>(alloc: Global, command: &CommandLine<'a>, files: Vec<Vec<u8>>) ->
         }
         Verb::Plan => plan_on(alloc, files, args),
         Verb::Load => load_on(alloc, files, args),
+        Verb::Stage => stage_on(alloc, files, args),
         Verb::Copy => Ok(copy_uf2(alloc, read_uf2(alloc, file, &one(files))?, out)?),
         Verb::ListScript => Ok(list_script(alloc, read_script(alloc, file, &one(files))?)?),
         Verb::WriteScript => {

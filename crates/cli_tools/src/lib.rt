@@ -12,6 +12,6 @@ mod uf2_files;
 
 pub use elfs::pack_elf;
 pub use generating::made_flash;
-pub use planning::{load, plan_image};
+pub use planning::{load, plan_image, plan_target};
 pub use tools::{seal_binary, table};
 pub use uf2_files::uf2;

@@ -29,8 +29,9 @@ fn executable_family(cpu: Cpu) -> u32
     }
 }
 
-/// Where a download of the processor's executables goes.
-fn plan_target<B: Board>(board: &B, pool: &mut SectorPool, cpu: Cpu) -> Option<Target>
+/// Where a download of the processor's executables goes: the window, inside the flash. None exactly
+/// where the flash takes none of them. It takes no memory.
+pub fn plan_target<B: Board>(board: &B, pool: &mut SectorPool, cpu: Cpu) -> Option<Target>
     requires power { IsTrue (B.state board.now).powered }
     requires free { HasFree pool.old }
     ensures value { result ≡ plan_target (B.state board.now).content cpu }

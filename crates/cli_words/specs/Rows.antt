@@ -70,6 +70,8 @@ row_of verbs.Plan = row (codes "plan") (Flash ∷ Otp ∷ Cpu ∷ Image ∷ Out 
     (codes "a script that writes an image to where a download of it goes")
 row_of verbs.Load = row (codes "load") (Flash ∷ Otp ∷ Cpu ∷ Image ∷ Out ∷ [])
     (codes "a script that writes an image there in ascending order, as a host does")
+row_of verbs.Stage = row (codes "stage") (Flash ∷ Otp ∷ Cpu ∷ Image ∷ Out ∷ [])
+    (codes "a script that writes an image there with the page of its first block last")
 row_of verbs.Copy = row (codes "copy") (Uf2 ∷ Out ∷ [])
     (codes "a script of a host that copies a UF2 file to the board's drive")
 row_of verbs.ListScript = row (codes "list") (Script ∷ [])

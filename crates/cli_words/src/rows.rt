@@ -51,6 +51,8 @@ pub enum Verb {
     Plan,
     /// The script that writes an image in ascending order.
     Load,
+    /// The script that writes an image with the page of its first block last.
+    Stage,
     /// The script of a host that copies a UF2 file to the board's drive.
     Copy,
     /// A script as text.
@@ -185,6 +187,11 @@ impl Verb {
                 words: &[Flash, Otp, Cpu, Image, Out],
                 does: "a script that writes an image there in ascending order, as a host does",
             },
+            Verb::Stage => Row {
+                name: "stage",
+                words: &[Flash, Otp, Cpu, Image, Out],
+                does: "a script that writes an image there with the page of its first block last",
+            },
             Verb::Copy => Row {
                 name: "copy",
                 words: &[Uf2, Out],
@@ -240,7 +247,7 @@ impl Verb {
 }
 
 /// The rows, in the order of the usage.
-pub const VERBS: [Verb; 29] = [
+pub const VERBS: [Verb; 30] = [
     Verb::Boot,
     Verb::Info,
     Verb::OwnedData,
@@ -260,6 +267,7 @@ pub const VERBS: [Verb; 29] = [
     Verb::Uf2,
     Verb::Plan,
     Verb::Load,
+    Verb::Stage,
     Verb::Copy,
     Verb::ListScript,
     Verb::WriteScript,

@@ -131,6 +131,8 @@ pub fn words_of_tools()
         (record board { cpu = Riscv; file = codes "i"; out = codes "a" })) }
     ensures load { command_by (codes "load f o arm i a")
         ≡ Some (command_line verbs.Load (record board { file = codes "i"; out = codes "a" })) }
+    ensures stage { command_by (codes "stage f o arm i a")
+        ≡ Some (command_line verbs.Stage (record board { file = codes "i"; out = codes "a" })) }
     ensures sweep { command_by (codes "sweep f o arm s p")
         ≡ Some (command_line verbs.Sweep (record board { file = codes "s"; pattern = codes "p" })) }
     ensures firm { command_by (codes "firm i riscv")
@@ -202,6 +204,7 @@ pub fn synopses_of_rows()
     ensures uf2 { synopsis (row_of verbs.Uf2) ≡ codes "uf2 IMAGE FAMILY OUT" }
     ensures plan { synopsis (row_of verbs.Plan) ≡ codes "plan FLASH OTP CPU IMAGE OUT" }
     ensures load { synopsis (row_of verbs.Load) ≡ codes "load FLASH OTP CPU IMAGE OUT" }
+    ensures stage { synopsis (row_of verbs.Stage) ≡ codes "stage FLASH OTP CPU IMAGE OUT" }
     ensures copy { synopsis (row_of verbs.Copy) ≡ codes "copy UF2 OUT" }
     ensures list { synopsis (row_of verbs.ListScript) ≡ codes "list SCRIPT" }
     ensures script { synopsis (row_of verbs.WriteScript) ≡ codes "script TEXT OUT" }

@@ -1,0 +1,3 @@
+mod ImageLemmas
+mod UnitLemmas
+pub mod StageRuleLemmas
