@@ -475,11 +475,21 @@ same-block a b c d f g h i p q e1 e2 e3 e4 e5 = cc
 fields-back : (address_is number count family : ℕ) (page : List ℕ) → address_is < 2 ^ 32 → number < 2 ^ 32
     → count < 2 ^ 32 → family < 2 ^ 32 → length page ≡ 256
     → block_fields (written_block (record {
-      flags = HAS_FAMILY; address = address_is; number = number; count = count; family = family; page = page;
+      flags = HAS_FAMILY;
+      address = address_is;
+      number = number;
+      count = count;
+      family = family;
+      page = page;
     })) ≡ record { flags = HAS_FAMILY; address = address_is; number = number; count = count; family = family; page = page }
 fields-back address_is number count family page one two three four_is long =
     let b : Block = record {
-      flags = HAS_FAMILY; address = address_is; number = number; count = count; family = family; page = page;
+      flags = HAS_FAMILY;
+      address = address_is;
+      number = number;
+      count = count;
+      family = family;
+      page = page;
     } in
     same-block _ _ _ _ _ _ _ _ _ _ (address-back b one) (number-back b two) (count-back b three) (family-back b four_is)
     (page-back b long)
@@ -576,10 +586,20 @@ back-numbers : (next number count address_is family : ℕ) (page : List ℕ) →
     ∷ (Number family ∷ (Bytes page ∷ [])))))))
 back-numbers next number count address_is family page one two three four_is long =
     let b : Block = record {
-      flags = HAS_FAMILY; address = address_is; number = number; count = count; family = family; page = page;
+      flags = HAS_FAMILY;
+      address = address_is;
+      number = number;
+      count = count;
+      family = family;
+      page = page;
     } in
     ap (λ p. block_line (written_block (record {
-      flags = HAS_FAMILY; address = address_is; number = number; count = count; family = family; page = p;
+      flags = HAS_FAMILY;
+      address = address_is;
+      number = number;
+      count = count;
+      family = family;
+      page = p;
     }))) (page-whole page long)
     ∙ block-back b (fields-back address_is number count family page three one two four_is long)
 
