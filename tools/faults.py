@@ -19,7 +19,7 @@ CODE = "crates/*/src/**/*.rt"
 # The names of JSON members, which the texts of their faults have.
 FIELDS = "crates/table_json/src/fault.rt"
 # Crates and files that put no text by themselves: what they have in quotes is read, or is tested.
-NO_CRATE = re.compile(r"crates/(boot_cli|table_json|svg_marks|test_\w+)/")
+NO_CRATE = re.compile(r"crates/(boot_cli|table_json|check_require|svg_marks|test_\w+)/")
 NO_FILE = re.compile(r"(^|[/_])(tests?|examples|laws|usage|words|values)(/|\.rt$)")
 
 # A file whose faults are put in parts: what begins with a blank goes on with the part before it.
