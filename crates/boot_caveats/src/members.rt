@@ -47,8 +47,8 @@ fn long_definition<B: Board>(board: &B, cpu: Cpu, window: Window) -> Option<Cave
     }
 }
 
-/// Whether the first word of an entry of a LOAD_MAP item, the place of its storage, is neither 0 nor
-/// its second word, the address at which the image finds it.
+/// Whether the first word of an entry of a LOAD_MAP item, the place of its storage, is neither 0
+/// nor its second word, the address at which the image finds it.
 fn moves(place: u32, runtime: u32) -> bool
     ensures { result ≡ moves place runtime }
 {

@@ -131,7 +131,8 @@ pub(crate) fn unread_start<B: Board>(
     requires power { IsTrue (B.state board.now).powered }
     requires free { HasFree pool.old }
     ensures exact { IfOk result (λ unread. flat_map (look_may_start unread) looks.now
-        ≡ flat_map (look_may_start (unread_window (B.state board.now).content cpu kind)) looks.now) }
+        ≡ flat_map (look_may_start (unread_window (B.state board.now).content cpu kind))
+        looks.now) }
     ensures kept { KeepsOut pool.old pool.new }
 {
     if !fails_any(looks) {

@@ -222,7 +222,8 @@ abbrev pub slot_unit : ℕ → ℕ → SlotUnit
 slot_unit size number =
     record { a = slot_window size number; b = None; a_part = None; b_part = None }
 
-abbrev pub slots_before : Option Table → (Window → Bool → Option Started) → ℕ → Order → Option Choice
+abbrev pub slots_before : Option Table → (Window → Bool → Option Started) → ℕ → Order
+    → Option Choice
 slots_before None images size order = choose images order
 slots_before (Some t) images size order =
     option_or (unit_choice images (slot_unit size 0) None)

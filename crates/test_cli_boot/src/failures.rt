@@ -7,7 +7,7 @@ use std::test::Fail;
 use test_fixtures::{ARM_1_0, PAIR, VECTORS, elf_file, flash, words};
 
 /// The words of each command that reads a file or writes one, its reads, and its writes.
-const COMMANDS: [(&[&str], u64, u64); 22] = [
+const COMMANDS: [(&[&str], u64, u64); 24] = [
     (&["boot", "f", "o", "arm", "normal"], 2, 0),
     (&["info", "f", "o", "arm"], 2, 0),
     (&["data", "f", "o", "arm", "normal"], 2, 0),
@@ -30,6 +30,7 @@ const COMMANDS: [(&[&str], u64, u64); 22] = [
     (&["copy", "u", "a"], 1, 1),
     (&["list", "s"], 1, 0),
     (&["script", "x", "a"], 1, 1),
+    (&["script", "x", "i", "a"], 2, 1),
     (&["gen", "7"], 0, 0),
 ];
 

@@ -45,7 +45,8 @@ pub fn maps_that_move()
 /// A digest without a load map, and one beside it; what is hashed alone is no digest.
 pub fn digests_without_a_map()
     ensures bare { bare_hash
-        (three_sectors 0 0 (sector_with (arm_word ∷ 0x01000247 ∷ 2 ∷ 0x0000094b ∷ replicate 8 7)) bare)
+        (three_sectors 0 0
+        (sector_with (arm_word ∷ 0x01000247 ∷ 2 ∷ 0x0000094b ∷ replicate 8 7)) bare)
         Arm (slot_window 0x1000 0) ≡ Some (Caveat.BareHash (slot_window 0x1000 0)) }
     ensures no_value { bare_hash
         (three_sectors 0 0 (sector_with (arm_word ∷ 0x01000247 ∷ 2 ∷ [])) bare) Arm
