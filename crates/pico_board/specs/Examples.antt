@@ -1,12 +1,13 @@
 -- Worked examples of the lists of steps that a session does: two sectors are written, the first of
 -- them last, and power is lost within the last step; and of the files of a store.
-use Rattle.std.specs.Prelude.{⊤, ℕ, Bool, List, [], ◌∷◌, Result, Some, false, true}
+use Rattle.std.specs.Prelude.{⊤, ℕ, Bool, List, [], ◌∷◌, Result, Ok, Err, Some, false, true}
 use Rattle.pico_board.specs.declared.window.Window.{Window}
 use Rattle.pico_board.specs.Content.{Content}
 use Rattle.pico_board.specs.Steps.{Step, Erase, Program, after_all}
 use Rattle.pico_board.specs.Cuts.{cut_by, cut_with}
 use Rattle.pico_board.specs.declared.sink.SinkFail.{SinkFail}
-use Rattle.pico_board.specs.Files.{File, StoreState}
+use Rattle.pico_board.specs.declared.store.StoreFail.{StoreFail}
+use Rattle.pico_board.specs.Files.{Access, File, Reads, StoreState, Writes}
 use Rattle.pico_board.specs.Puts.{SinkState, Takes}
 
 -- the window of this start and length
@@ -76,3 +77,8 @@ TakesNothing old answer new =
 -- a store that tells these files, had no faults, and is not steady
 abbrev pub telling : List File → StoreState
 telling files = record { files = Some files; read_faults = 0; write_faults = 0; steady = false }
+
+-- a read of file a, a write of it that fails, and a read of file b that fails
+abbrev pub two_reads_and_a_write : List Access
+two_reads_and_a_write = Reads name_a 0 (Ok []) ∷ Writes name_a [] (Err StoreFail.Fault)
+    ∷ Reads name_b 0 (Err StoreFail.Fault) ∷ []

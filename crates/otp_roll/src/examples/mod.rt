@@ -7,6 +7,15 @@ ghost use Rattle.otp_roll.specs.Raises.{raises};
 ghost use Rattle.otp_roll.specs.Flags.{flash_off, rollback_required, slot_size};
 ghost use Rattle.pico_board.specs.declared.Step.TheVariants.{Raise};
 
+/// A triple holds three values where its rows have them in this order, from its first row on.
+pub fn rows_of_a_triple()
+    ensures held { HoldsTriple (9 ∷ 1 ∷ 2 ∷ 3 ∷ []) 1 1 2 3 }
+    ensures row_before { ¬ (HoldsTriple (9 ∷ 1 ∷ 2 ∷ 3 ∷ []) 0 1 2 3) }
+    ensures first_differs { ¬ (HoldsTriple (9 ∷ 1 ∷ 2 ∷ 3 ∷ []) 1 9 2 3) }
+    ensures second_differs { ¬ (HoldsTriple (9 ∷ 1 ∷ 2 ∷ 3 ∷ []) 1 1 9 3) }
+    ensures third_differs { ¬ (HoldsTriple (9 ∷ 1 ∷ 2 ∷ 3 ∷ []) 1 1 2 9) }
+{}
+
 /// The three rows from 0x0c0 on hold 0x000003. Then two bits count, and a version of 3 raises bit
 /// 2 in each row.
 pub fn three_equal_rows()

@@ -2,7 +2,7 @@
 //! leaves unfinished; the patterns of cuts and what they leave; and what counts, reads, writes and
 //! puts tell.
 
-ghost use Rattle.std.specs.Prelude.{◌≡◌, ◌≢◌, ℕ, ◌<◌, ◌≤◌, All, List, None, Some, Ok, Err, [], ◌∷◌, ◌⊎◌, false, length, slice_index, true};
+ghost use Rattle.std.specs.Prelude.{◌≡◌, ◌≢◌, ℕ, ◌-◌, ◌^◌, ◌<◌, ◌≤◌, All, List, None, Some, Ok, Err, [], ◌∷◌, ◌⊎◌, false, length, slice_index, true};
 ghost use Rattle.pico_board.specs.declared.window.Window.{Window};
 ghost use Rattle.pico_board.specs.declared.window.TheConstants.{FLASH_BASE, MOST_FLASH_BYTES};
 ghost use Rattle.pico_board.specs.declared.sink.SinkFail.{SinkFail};
@@ -12,10 +12,12 @@ ghost use Rattle.pico_board.specs.Steps.{CutOf, Erase, IsStepIn, Program, Raise}
 ghost use Rattle.pico_board.specs.Board.{Rose};
 ghost use Rattle.pico_board.specs.Cuts.{IsPattern, torn_by};
 ghost use Rattle.pico_board.specs.Files.{GoesOn, IsReadOf, KeepsOthers, ShowsRead, ShowsWrite};
+ghost use Rattle.pico_board.specs.declared.mem_store.MemStore.{MemStore};
+ghost use Rattle.pico_board.specs.MemFiles.{HasAnswered, counted_to, reads_of, writes_of};
 ghost use Rattle.pico_board.specs.Puts.{IsPutBy, PutsOn};
 ghost use Rattle.pico_board.specs.Sessions.{Confined, Gated, IsBlankPage, IsElsewhere, IsGated, IsPageOf, IsPartial, IsProgramIn, IsSamePage, SameButSector, Unfinished};
 ghost use Rattle.pico_board.specs.Views.{IsViewed};
-ghost use Rattle.pico_board.specs.Examples.{TakesNothing, counting_store, first_sector_steps, half_done, holding, name_a, name_b, of_a, of_b, putting, second_sector, telling, two_pages, two_sectors, window_at};
+ghost use Rattle.pico_board.specs.Examples.{TakesNothing, counting_store, first_sector_steps, half_done, holding, name_a, name_b, of_a, of_b, putting, second_sector, telling, two_pages, two_reads_and_a_write, two_sectors, window_at};
 
 /// The window has sectors 2 and 3. Steps on its first and its last sector and page are confined to
 /// it. Steps on the sectors and pages next to it are not, and a raise is not.
@@ -259,4 +261,15 @@ pub fn bytes_after_a_put()
         → ¬ (IsPutBy (Some (1 ∷ [])) (7 ∷ 8 ∷ []) (Err fail) (Some [])) }
     ensures failed_more { (fail : SinkFail)
         → ¬ (IsPutBy (Some (1 ∷ [])) (7 ∷ []) (Err fail) (Some (1 ∷ 7 ∷ 1 ∷ []))) }
+{}
+
+/// A store in memory counts its reads and its writes apart, each call once, also one that fails.
+pub fn calls_are_counted_by_kind()
+    ensures reads { (store : MemStore) → HasAnswered store two_reads_and_a_write
+        → reads_of store ≡ 2 }
+    ensures writes { (store : MemStore) → HasAnswered store two_reads_and_a_write
+        → writes_of store ≡ 1 }
+    ensures answered { (store : MemStore) → reads_of store ≡ 2 → writes_of store ≡ 1
+        → HasAnswered store two_reads_and_a_write }
+    ensures full { counted_to (2 ^ 64) ≡ 2 ^ 64 - 1 }
 {}

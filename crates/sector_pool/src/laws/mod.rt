@@ -1,8 +1,8 @@
 //! Laws of the definitions in which a call that borrows from a pool says what it leaves as it was.
 
-ghost use Rattle.std.specs.Prelude.{◌≡◌, ◌≢◌, ℕ, All, List, None, Option, Some, true, false, slice_get};
+ghost use Rattle.std.specs.Prelude.{◌≡◌, ◌≢◌, ℕ, ◌<◌, ◌≤◌, All, IsSomeAnd, List, None, Option, Some, true, false, length, slice_get};
 ghost use Rattle.sector_pool.specs.Keeping.{HandsOver, KeepsOut, KeepsOutBut};
-ghost use Rattle.sector_pool.specs.Pool.{HasFree, Pool, leased, returned, pool_with_sector};
+ghost use Rattle.sector_pool.specs.Pool.{HasFree, IsNewPool, Pool, free_count, leased, returned, pool_with_sector};
 
 /// A pool that is left alone keeps what is out, and two calls that do keep it one after the other.
 pub fn keeping_composes()
@@ -41,6 +41,18 @@ pub fn handing_over_composes()
     ensures none { (old new : Pool) → KeepsOut old new → HandsOver None None old new }
     ensures two { (a b c : Option ℕ) (p q r : Pool) → HandsOver a b p q → HandsOver b c q r
         → HandsOver a c p r }
+{}
+
+/// A new pool has as many sectors as it was made with and no more. Each is free and has 4096 bytes.
+pub fn new_pools_are_free()
+    ensures numbers { (n k : ℕ) (pool : Pool) → IsNewPool n pool → k < n
+        → slice_get pool.out k ≡ Some false }
+    ensures no_more { (n k : ℕ) (pool : Pool) → IsNewPool n pool → n ≤ k
+        → slice_get pool.out k ≡ None }
+    ensures sectors { (n k : ℕ) (pool : Pool) → IsNewPool n pool → k < n
+        → IsSomeAnd (slice_get pool.sectors k) (λ bytes. length bytes ≡ 4096) }
+    ensures no_more_sectors { (n k : ℕ) (pool : Pool) → IsNewPool n pool → n ≤ k
+        → slice_get pool.sectors k ≡ None }
 {}
 
 /// A pool has a free sector exactly where some number is not out; one is enough.
