@@ -1,6 +1,6 @@
 -- No caveat, no doubt: each member without an image is judged for the other processor too.
-use Rattle.std.proofs.Common.{◌≡◌, ◌⊎◌, ◌&&◌, not, Bool, true, false, cond, List, [], ◌∷◌, ◌++◌, Option, Some, None, Result, Ok, Err, is_some, option_map, option_and_then, refl, sym, ap, ◌∙◌, subst, inl, inr}
-use Rattle.std.specs.Prelude.{Contains, is_ok, option_to_list}
+use Rattle.std.proofs.Common.{◌≡◌, ◌&&◌, not, Bool, true, false, cond, List, [], ◌∷◌, ◌++◌, Option, Some, None, Result, Ok, Err, is_some, option_map, option_and_then, refl, sym, ap, ◌∙◌, subst, inl, inr}
+use Rattle.std.specs.Prelude.{Contains, is_ok}
 use Rattle.std.specs.Option.{option_or}
 use Rattle.std.specs.Result.{result_ok}
 use Rattle.std.proofs.lemmas.List.Elements.{Contains-append_left}
@@ -12,7 +12,6 @@ use Rattle.pico_board.specs.Content.{Content}
 use Rattle.image_def.specs.declared.started.Started.{Started}
 use Rattle.image_check.specs.declared.why.Why.{Why}
 use Rattle.image_check.specs.Image.{image_at}
-use Rattle.otp_roll.specs.Flags.{flash_off}
 use Rattle.slot_choice.specs.declared.unit.Member.{Member}
 use Rattle.slot_choice.specs.declared.unit.Member.TheVariants.{A, B}
 use Rattle.slot_choice.specs.declared.unit.SlotUnit.{SlotUnit}
@@ -22,16 +21,16 @@ use Rattle.boot_rules.specs.Choosing.{boot_units_in, choice_of, choose, images_i
 use Rattle.boot_rules.specs.Chosen.{Chosen, is_member}
 use Rattle.boot_reasons.specs.declared.looks.UnitReport.{UnitReport}
 use Rattle.boot_reasons.specs.Looks.{report_on, reports_of, second_image}
-use Rattle.boot_reasons.specs.Reasons.{does_report, reasons_in, reports_in, results_in}
+use Rattle.boot_reasons.specs.Reasons.{reasons_in, reports_in, results_in}
 use Rattle.boot_reasons.proofs.LookLemmas.{choice-of-unit, takes-choice}
 use Rattle.slot_caveats.specs.declared.caveat.Caveat.{Caveat}
 use Rattle.slot_caveats.specs.declared.caveat.Caveat.TheVariants.{OtherProcessor}
 use Rattle.boot_caveats.specs.Rules.{AreCaveats}
 use Rattle.boot_caveats.specs.ChoiceCaveats.{other_cpu}
-use Rattle.boot_caveats.specs.ProcessorCaveats.{LookedMember, looked_members, members_of, other_window, other_windows, second_looked, updated_in}
+use Rattle.boot_caveats.specs.ProcessorCaveats.{LookedMember, looked_members, members_of, other_window, second_looked, updated_in}
 use Rattle.law_caveats.specs.Alternatives.{decision_of_both, images_of_both}
 use Rattle.boot_caveats.proofs.CaveatLemmas.{caveats-only}
-use Rattle.law_caveats.proofs.DoubtLemmas.{IsIn, in-choice, in-filtered, in-left, in-right, reports-when, same-chosen}
+use Rattle.law_caveats.proofs.DoubtLemmas.{IsIn, in-choice, in-filtered, in-right, reports-when, same-chosen}
 use Rattle.boot_caveats.proofs.ProcessorLemmas.{member-listed}
 
 -- ---- images that agree with a trial image allowed as it is

@@ -1,10 +1,9 @@
 -- No caveat, no doubt: images in the slots beside a table, and the order of a table's items.
-use Rattle.std.proofs.Common.{◌≡◌, ◌⊎◌, arith, ℕ, ◌*◌, ◌/◌, ◌==◌, ◌&&◌, ◌||◌, not, Bool, true, false, cond, List, [], ◌∷◌, ◌++◌, length, slice_get, Option, Some, None, Result, Ok, Err, is_some, option_map, option_and_then, refl, sym, ap, ◌∙◌, subst, inl, inr}
+use Rattle.std.proofs.Common.{◌≡◌, ◌⊎◌, arith, ℕ, ◌*◌, ◌/◌, ◌==◌, ◌&&◌, ◌||◌, not, Bool, true, false, cond, List, [], ◌∷◌, length, slice_get, Option, Some, None, Result, Ok, Err, is_some, option_map, option_and_then, refl, sym, ap, ◌∙◌, subst, inl, inr}
 use Rattle.std.specs.Prelude.{Contains, find, reverse, option_to_list}
 use Rattle.std.specs.Option.{option_map_or, option_or}
 use Rattle.std.specs.Result.{result_ok}
 use Rattle.std.proofs.lemmas.List.Elements.{Contains-append_left, Contains-append_right}
-use Rattle.std.proofs.lemmas.Option.{same_Some}
 use Rattle.pico_board.specs.declared.boot.Cpu.{Cpu}
 use Rattle.pico_board.specs.declared.boot.Cpu.TheVariants.{Arm, Riscv}
 use Rattle.pico_board.specs.declared.boot.BootKind.{BootKind}
@@ -24,11 +23,9 @@ use Rattle.image_check.specs.declared.why.Why.{Why}
 use Rattle.image_check.specs.Image.{image_at}
 use Rattle.image_check.specs.Valid.{Valid}
 use Rattle.image_check.proofs.LawLemmas.{valid-at}
-use Rattle.otp_roll.specs.Flags.{flash_off, slot_size}
+use Rattle.otp_roll.specs.Flags.{slot_size}
 use Rattle.part_table.specs.declared.table.Table.{Table}
 use Rattle.part_table.specs.TableOf.{has_table}
-use Rattle.slot_choice.specs.declared.choice.Choice.{Choice}
-use Rattle.slot_choice.specs.declared.unit.SlotUnit.{SlotUnit}
 use Rattle.slot_choice.specs.Units.{units}
 use Rattle.slot_choice.specs.Versions.{better}
 use Rattle.boot_rules.specs.declared.slots.SlotFault.{SlotFault}
@@ -46,9 +43,8 @@ use Rattle.boot_reasons.proofs.ReasonLemmas.{reasons-right}
 use Rattle.slot_caveats.specs.declared.caveat.Caveat.{Caveat}
 use Rattle.slot_caveats.specs.declared.caveat.Caveat.TheVariants.{ImageInSlot, TableOrder}
 use Rattle.slot_caveats.specs.Listing.{caveat_if}
-use Rattle.boot_caveats.specs.Caveats.{last_caveats}
 use Rattle.boot_caveats.specs.Rules.{AreCaveats}
-use Rattle.slot_caveats.specs.SlotCaveats.{begins_table, flash_from, has_executable, has_other_order, has_slot_image, image_in_slot, is_executable, last_where, of_slots, slot_caveats, slot_end, table_fault, table_order}
+use Rattle.slot_caveats.specs.SlotCaveats.{begins_table, has_executable, has_other_order, has_slot_image, image_in_slot, is_executable, of_slots, slot_caveats, slot_end, table_fault, table_order}
 use Rattle.law_caveats.specs.Alternatives.{decision_ordered, decision_slots, ordered_answer_in_loop, ordered_slot_answer, ordered_table, ordered_units, slot_unit, slots_before}
 use Rattle.boot_caveats.proofs.CaveatLemmas.{caveats-only}
 use Rattle.law_caveats.proofs.DoubtLemmas.{contains-one, in-last, same-chosen}

@@ -22,7 +22,6 @@ use Rattle.slot_choice.specs.declared.unit.SlotUnit.{SlotUnit}
 use Rattle.slot_choice.specs.declared.choice.Choice.{Choice}
 use Rattle.slot_choice.specs.Versions.{better, is_below}
 use Rattle.boot_rules.specs.declared.decision.Decision.{Decision}
-use Rattle.boot_rules.specs.declared.decision.Decision.TheVariants.{Start}
 use Rattle.boot_rules.specs.Choosing.{Order, boot_units_in, choice_of, choose, decision_in, decision_of, images_in, of_better, order_of, ordered_choice, unit_choice, version_of_image}
 use Rattle.boot_rules.specs.Chosen.{Chosen, is_member, is_updated}
 use Rattle.boot_rules.proofs.DecisionLemmas.{chosen-decision, decision-chosen}
@@ -36,7 +35,6 @@ use Rattle.boot_reasons.proofs.LookLemmas.{choice-of-unit, takes-choice}
 use Rattle.slot_caveats.specs.declared.caveat.Caveat.{Caveat}
 use Rattle.slot_caveats.specs.declared.caveat.Caveat.TheVariants.{MayStart}
 use Rattle.slot_caveats.specs.Listing.{caveat_if}
-use Rattle.boot_caveats.specs.Caveats.{window_caveats}
 use Rattle.boot_caveats.specs.ChoiceCaveats.{started_window}
 use Rattle.boot_caveats.specs.Rules.{AreCaveats}
 use Rattle.boot_caveats.specs.ImageCaveats.{is_at, is_doubtful, item_order, late_firsts, look_may_start, looked_windows, may_start, second_may_start}
@@ -46,7 +44,7 @@ use Rattle.boot_caveats.specs.Unread.{is_rollback, unread_content, unread_window
 use Rattle.law_caveats.specs.Alternatives.{HasUnreadStart, decision_unread}
 use Rattle.boot_caveats.proofs.ChoiceCaveatLemmas.{starts-in}
 use Rattle.boot_caveats.proofs.CaveatLemmas.{caveats-only}
-use Rattle.law_caveats.proofs.DoubtLemmas.{IsIn, by-choice, contains-one, decided, in-left, in-right, in-windows, reports-when, same-chosen}
+use Rattle.law_caveats.proofs.DoubtLemmas.{IsIn, contains-one, decided, in-right, in-windows, reports-when, same-chosen}
 use Rattle.boot_caveats.proofs.UnreadLemmas.{rolled-decides}
 use Rattle.boot_caveats.proofs.WindowLemmas.{window-decides}
 use Rattle.law_caveats.proofs.UnreadRowLemmas.{same-off, same-units, unread-image, unrolled}

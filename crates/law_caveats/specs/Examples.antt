@@ -1,5 +1,5 @@
 -- Images, orders and blocks of the worked examples.
-use Rattle.std.specs.Prelude.{ℕ, nat_le, Bool, false, if◌then◌else◌, List, [], ◌∷◌, pos, Option, Some, None, option_map, Result}
+use Rattle.std.specs.Prelude.{ℕ, nat_le, Bool, false, if◌then◌else◌, [], ◌∷◌, Option, Some, None, option_map, Result}
 use Rattle.std.specs.Result.{result_ok}
 use Rattle.pico_board.specs.declared.window.Window.{Window}
 use Rattle.block_codec.specs.Blocks.{BlockView}

@@ -1,35 +1,31 @@
 -- A line in words is the one that is written for its record.
-use Rattle.std.proofs.Common.{◌≡◌, ◌≢◌, ℕ, zero, suc, ◌+◌, ◌-◌, ◌*◌, ◌/◌, ◌%◌, ◌^◌, ◌<◌, ◌≤◌, ◌==◌, Bool, true, false, List, [], ◌∷◌, ◌++◌, length, take, drop, get_or, map, replicate, Option, Some, None, refl, sym, ap, subst, ◌∙◌, arith, append-nil, inl, inr}
-use Rattle.std.specs.Prelude.{Result, Ok, Err, if◌then◌else◌, ◌&&◌, bytes_eq, nat_le, nat_lt, option_and_then, slice_range, unwrap_or}
-use Rattle.std.proofs.lemmas.Bool.{and_parts, cases_eq, cases_lt, eq-eqb, eqb-true, leb-true, le-leb, le-ltb, lt-ltb, ltb-true, ne_eqb}
+use Rattle.std.proofs.Common.{◌≡◌, ◌≢◌, ℕ, suc, ◌+◌, ◌*◌, ◌/◌, ◌%◌, ◌^◌, ◌<◌, ◌≤◌, Bool, true, false, List, [], ◌∷◌, ◌++◌, length, take, drop, get_or, map, replicate, Option, Some, None, refl, sym, ap, subst, ◌∙◌, arith, append-nil}
+use Rattle.std.specs.Prelude.{Result, Ok, if◌then◌else◌, ◌&&◌, bytes_eq, nat_le, nat_lt, option_and_then, slice_range, unwrap_or}
+use Rattle.std.proofs.lemmas.Bool.{and_parts, eq-eqb, eqb-true, leb-true, le-leb, lt-ltb, ltb-true, ne_eqb}
 use Rattle.std.proofs.Math.Seq.{take-append_seam}
-use Rattle.byteorder.specs.Endian.{little_bytes, little_number}
+use Rattle.byteorder.specs.Endian.{little_number}
 use Rattle.byteorder.specs.Numbers.{little_number-reads_back}
-use Rattle.hex.specs.Hex.{IsBytes}
 use Rattle.block_codec.specs.Words.{AreWords, bytes_of, word_bytes, word_of, words_of}
 use Rattle.block_codec.proofs.WordLemmas.{get_or-words_of, length-bytes_of, words_of-append}
 use Rattle.pico_board.proofs.FileListLemmas.{bytes_eq-same}
 use Rattle.picoboot_cmd.specs.declared.cmd.Cmd.{Cmd}
 use Rattle.picoboot_cmd.specs.declared.cmd.CmdFault.{CmdFault}
-use Rattle.picoboot_cmd.specs.declared.kinds.TheConstants.{EXCLUSIVE, ERASE, READ, WRITE, EXIT_XIP, ENTER_XIP, REBOOT, OTP_READ, OTP_WRITE}
-use Rattle.info_reply.specs.declared.kinds.TheConstants.{INFO, TABLE, TARGET, DEVICE, PARTITION}
-use Rattle.picoboot_cmd.specs.Arguments.{address, reboot_flags, reboot_p0, reboot_p1}
-use Rattle.picoboot_cmd.specs.Arguments as arguments
+use Rattle.info_reply.specs.declared.kinds.TheConstants.{TABLE, TARGET, DEVICE, PARTITION}
 use Rattle.picoboot_cmd.specs.Commands.{command_in, written_command}
 use Rattle.uf2_place.specs.declared.block.Uf2.{Uf2 as Block}
 use Rattle.uf2_place.specs.declared.block.TheConstants.{HAS_FAMILY, END as LAST}
 use Rattle.uf2_place.specs.Blocks.{word_at, written_block}
 use Rattle.uf2_place.specs.Blocks as blocks
-use Rattle.boot_script.specs.Events.{EventView, Command, Uf2}
+use Rattle.boot_script.specs.Events.{EventView}
 use Rattle.script_words.specs.declared.forms.Form.TheVariants as forms
 use Rattle.script_words.specs.declared.forms.Keyword.{Keyword}
 use Rattle.script_words.specs.declared.forms.Keyword.TheVariants as keys
 use Rattle.script_words.specs.declared.rows.Row.{Row}
 use Rattle.script_words.specs.declared.rows.Row.TheVariants as rows
-use Rattle.script_words.specs.Rows.{form_at, has_words, is_command}
+use Rattle.script_words.specs.Rows.{has_words, is_command}
 use Rattle.script_words.specs.Values.{LineView, ValueView, Plain, Number, Span, Bytes, said}
-use Rattle.script_words.specs.Made.{block_of, command_of, four, halves, made, made_command, made_plain, own_payload, page_of, rows_bytes, size_of, words_bytes}
-use Rattle.script_words.specs.Naming.{are_fit, block_fields, block_line, block_values, command_line, command_values, fit_from, fits, info_row, is_said, line_of, named_by, named_command, or_line, raw_command, reboot_row, row_of_command, row_values, told_token, where_said}
+use Rattle.script_words.specs.Made.{command_of, four, halves, made, made_command, made_plain, own_payload, rows_bytes, size_of, words_bytes}
+use Rattle.script_words.specs.Naming.{block_fields, block_line, block_values, command_values, fit_from, fits, info_row, is_said, line_of, named_by, or_line, raw_command, reboot_row, row_of_command, row_values, told_token, where_said}
 use Rattle.script_words.specs.Saying.{HasToken, IsLine, MaySay, MaySayAll}
 use Rattle.law_scripts.specs.Listed.{is_in_words}
 use Rattle.law_scripts.proofs.LineBackLemmas.{of-one, of-two, of-three}

@@ -18,7 +18,7 @@ use Rattle.script_words.specs.declared.values.Value.{Value}
 use Rattle.script_words.specs.Rows.{form_at}
 use Rattle.script_words.specs.Values.{ValueView, Number, value_from}
 use Rattle.script_words.specs.Naming.{fit_from, fits}
-use Rattle.script_words.specs.Spelling.{spelled, value_texts, value_words}
+use Rattle.script_words.specs.Spelling.{spelled, value_texts}
 
 -- a value that fits, and those that are left
 pub fit-step : (row : Row) (i : ℕ) (left rest : List Value) (v : Value) → left ≡ v ∷ rest

@@ -1,5 +1,5 @@
 -- What the worked examples name.
-use Rattle.std.specs.Prelude.{ℕ, List, [], ◌∷◌, ◌++◌, replicate, Option, Result}
+use Rattle.std.specs.Prelude.{ℕ, List, ◌++◌, Result}
 use Rattle.byteorder.specs.Endian.{little_bytes}
 use Rattle.picoboot_cmd.specs.Commands.{written_command}
 use Rattle.picoboot_cmd.specs.Examples.{command}

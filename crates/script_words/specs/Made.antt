@@ -1,5 +1,5 @@
 -- The record of what a line says.
-use Rattle.std.specs.Prelude.{ℕ, ◌+◌, ◌-◌, ◌*◌, ◌/◌, ◌%◌, ◌^◌, ◌==◌, Bool, true, false, nat_le, nat_lt, if◌then◌else◌, List, [], ◌∷◌, ◌++◌, Option, Some, None, option_map, length, take, drop, replicate, slice_get, slice_range}
+use Rattle.std.specs.Prelude.{ℕ, ◌+◌, ◌-◌, ◌*◌, ◌/◌, ◌%◌, ◌^◌, ◌==◌, true, false, nat_le, nat_lt, if◌then◌else◌, List, [], ◌∷◌, ◌++◌, Option, Some, None, option_map, length, take, drop, replicate, slice_get, slice_range}
 use Rattle.std.specs.List.{flat_map}
 use Rattle.block_codec.specs.Words.{word_bytes}
 use Rattle.pico_board.specs.Cuts.{IsPattern}
@@ -17,7 +17,7 @@ use Rattle.script_words.specs.declared.record.Record.TheVariants as rust
 use Rattle.script_words.specs.declared.rows.Row.{Row}
 use Rattle.script_words.specs.declared.rows.Row.TheVariants as rows
 use Rattle.script_words.specs.Rows.{is_command}
-use Rattle.script_words.specs.Values.{ValueView, Plain, Number, Span, Bytes}
+use Rattle.script_words.specs.Values.{ValueView, Number, Span, Bytes}
 
 -- what the code answers, as plain data
 abbrev pub record_from : Record → EventView

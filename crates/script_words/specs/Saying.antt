@@ -1,5 +1,5 @@
 -- What the words of a line may say, and the events that a script may have.
-use Rattle.std.specs.Prelude.{ℕ, ◌≡◌, ◌+◌, ◌^◌, ◌<◌, ◌≤◌, Bool, true, false, List, [], ◌∷◌, ◌++◌, Option, Some, None, length}
+use Rattle.std.specs.Prelude.{ℕ, ◌≡◌, ◌+◌, ◌^◌, ◌<◌, ◌≤◌, true, List, [], ◌∷◌, Option, Some, None, length}
 use Rattle.hex.specs.Hex.{IsBytes}
 use Rattle.boot_script.specs.Events.{EventView, Command, Uf2, Cut, IsWellFormed}
 use Rattle.script_words.specs.declared.forms.Form.{Form}

@@ -1,5 +1,5 @@
 -- What stands in the table slots, by the functions and in the words of the rules.
-use Rattle.std.proofs.Common.{◌≡◌, ◌≢◌, ◌⊎◌, ℕ, zero, suc, ◌<◌, ◌&&◌, ◌||◌, not, nat_lt, pos, Bool, true, false, cond, List, [], ◌∷◌, ◌++◌, length, slice_get, Option, Some, None, Result, Ok, Err, is_some, option_map, option_and_then, refl, sym, ap, ◌∙◌, subst, inl, inr, arith, append_assoc}
+use Rattle.std.proofs.Common.{◌≡◌, ◌≢◌, ℕ, zero, suc, ◌<◌, ◌&&◌, not, nat_lt, Bool, true, false, cond, List, [], ◌∷◌, ◌++◌, length, slice_get, Option, Some, None, Result, Ok, Err, is_some, option_map, option_and_then, refl, sym, ap, ◌∙◌, subst, arith, append_assoc}
 use Rattle.std.specs.Prelude.{Contains, find, reverse, option_to_list}
 use Rattle.std.specs.Bool.{Decides}
 use Rattle.std.specs.List.{AllByRecursion}
@@ -36,9 +36,9 @@ use Rattle.boot_reasons.specs.declared.slots.TableInForce.{TableInForce}
 use Rattle.boot_reasons.specs.SlotRules.{IsTableInForce}
 use Rattle.slot_caveats.specs.declared.caveat.Caveat.{Caveat}
 use Rattle.slot_caveats.specs.declared.caveat.Caveat.TheVariants.{FaultyTable, SlotEnd}
-use Rattle.slot_caveats.specs.SlotCaveats.{begins_table, broken_place, fault_of_table, flash_from, has_executable, has_other_order, has_slot_image, image_in_slot, is_executable, is_hash, last_where, leads_on, of_slots, place_behind, slot_caveats, slot_end, table_fault, table_order}
+use Rattle.slot_caveats.specs.SlotCaveats.{begins_table, broken_place, fault_of_table, flash_from, has_executable, has_other_order, image_in_slot, is_executable, is_hash, last_where, leads_on, of_slots, place_behind, slot_caveats, slot_end, table_fault, table_order}
 use Rattle.slot_caveats.specs.SlotRules.{AreOfSlots, AreSlotCaveats, GoesOnBehind, HasExecutable, HasOtherOrder, HasTable, IsImageInSlot, IsLastWhere, IsSlotEnd, IsTableFault, IsTableOrder}
-use Rattle.slot_caveats.specs.TableCaveats.{range_in, range_of, short_flash}
+use Rattle.slot_caveats.specs.TableCaveats.{range_in, short_flash}
 use Rattle.slot_caveats.proofs.ListingLemmas.{IsJust, and-decides, both-just, not-decides, one-just, or-decides, where-just}
 
 -- ---- the last block that passes a test

@@ -1,15 +1,14 @@
 -- Rows, tables, units, reports and blocks of the worked examples.
-use Rattle.std.specs.Prelude.{ℕ, ◌+◌, ◌-◌, Bool, true, false, List, [], ◌∷◌, ◌++◌, replicate, pos, Option, Some, None, Result, Ok, Err}
+use Rattle.std.specs.Prelude.{ℕ, ◌+◌, ◌-◌, Bool, false, List, [], ◌∷◌, ◌++◌, replicate, pos, Option, Some, None, Err}
 use Rattle.pico_board.specs.declared.window.Window.{Window}
 use Rattle.pico_board.specs.Content.{Content}
 use Rattle.block_codec.specs.declared.items.Item.{Item}
 use Rattle.block_codec.specs.Blocks.{BlockView}
-use Rattle.image_def.specs.declared.started.Started.{Started}
 use Rattle.image_check.specs.declared.why.Why.{Why}
 use Rattle.part_table.specs.declared.partition.Partition.{Partition}
 use Rattle.part_table.specs.declared.table.Table.{Table}
 use Rattle.slot_choice.specs.declared.unit.Member.{Member}
-use Rattle.slot_choice.specs.declared.unit.Member.TheVariants.{A, B}
+use Rattle.slot_choice.specs.declared.unit.Member.TheVariants.{A}
 use Rattle.slot_choice.specs.declared.unit.SlotUnit.{SlotUnit}
 use Rattle.slot_choice.specs.declared.choice.Choice.{Choice}
 use Rattle.worked_flashes.specs.Tables.{lone_unit, pair_unit, plain_partition, sectors, window_at}

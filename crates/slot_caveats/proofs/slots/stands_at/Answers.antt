@@ -1,4 +1,4 @@
-use Rattle.std.proofs.Common.{◌≤ℤ◌, ◌<ℤ◌, ◌⊎◌, pos, length, arith, inl, inr, sym, ap}
+use Rattle.std.proofs.Common.{◌≤ℤ◌, pos, length, arith, inr, sym, ap}
 use Rattle.std.specs.Prelude.{is_some}
 use Rattle.std.proofs.lemmas.Int.{ints}
 use Rattle.block_loop.proofs.FindLemmas.{nowhere_to}
