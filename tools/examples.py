@@ -49,7 +49,7 @@ SPEC = '{"processor": "arm", "version": [1, 1]}\n'
 OTA = """\
 # The application runs from A, writes B at 0x10020000, and asks for the update.
 power
-reset bootsel                        # from here on each line is a call of the application's
+reset bootsel                        # each erase, write and reboot is a call of the application's
 erase 0x10020000+0x3000              # the sectors that the image takes
 write 0x10021000 image 0x1000+       # all of it but its first sector,
 write 0x10020000 image 0x0+0x1000    # and then the first sector
