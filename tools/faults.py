@@ -51,8 +51,8 @@ slot|slot {} fault={}|slots|table {} partitions={} singleton={}|table slot={} be
 unit {} not-reached|unit {} takes|updated|version|w|whole
 {} {} to {}|{} to {}|chart steps={} former={} finished={} chance={}|steps|steps 0 to {}|within
 {} starts|free|map windows={}|partition {} name={} families={}
-caveat {name} {}|caveat {name} partition={}|caveat {name} {} at={}|{} {} bytes={}|{} {}{}|{} rows={}|cmd 0x|load|plan|neither|s
-{}{}{}|cuts former={} finished={} bootsel={} other={}|former {}end {}effect {}|image hash={}|image none
+caveat {name} {}|caveat {name} partition={}|caveat {name} {} at={}|{} {} bytes={}|{} {}{}|{} rows={}|cmd 0x|load|plan|s
+{} event={} {}{}|{}{}{}|cuts former={} finished={} bootsel={} other={}|former {}end {}effect {}|image hash={}|image none
 law confined|law gated|records ok|rows raised={}{}{}
 gated|stage {} bytes={} order={}|staged
 """

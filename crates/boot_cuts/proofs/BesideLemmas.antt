@@ -3,6 +3,7 @@ use Rattle.std.proofs.Common.{◌≡◌, ℕ, ◌≤◌, Bool, true, false, List
 use Rattle.std.specs.Prelude.{◌&&◌, if◌then◌else◌}
 use Rattle.std.specs.List.{AllByRecursion}
 use Rattle.std.proofs.lemmas.Bool.{and_from}
+use Rattle.pico_board.specs.declared.Step.{Step}
 use Rattle.pico_board.specs.declared.boot.Cpu.{Cpu}
 use Rattle.pico_board.specs.declared.boot.BootKind.TheVariants.{Normal}
 use Rattle.pico_board.specs.declared.window.Window.{Window}
@@ -24,10 +25,10 @@ use Rattle.boot_sweep.specs.Verdicts.{LiesIn, verdict_by}
 use Rattle.boot_sweep.proofs.ResultLemmas.{decision-same, is-same, same-decision, start-holds}
 use Rattle.boot_cuts.specs.declared.answers.Answer.{Answer}
 use Rattle.boot_cuts.specs.declared.answers.Class.{Class}
-use Rattle.boot_cuts.specs.declared.answers.Class.TheVariants.{Former, Finished, Neither}
+use Rattle.boot_cuts.specs.declared.answers.Class.TheVariants.{Former, Finished}
 use Rattle.boot_cuts.specs.declared.moves.Move.{Move}
 use Rattle.boot_cuts.specs.Beside.{IsMoveBeside, StartsApart}
-use Rattle.boot_cuts.specs.Classing.{class_by, has_image_of, is_as_on, is_start}
+use Rattle.boot_cuts.specs.Classing.{class_by, has_image_of, is_as_on, is_mended, other_class}
 use Rattle.pico_board.specs.MemBoard.{state_of}
 use Rattle.boot_rules.specs.Choosing.{decision_in}
 use Rattle.boot_cuts.specs.declared.judging.Ends.{Ends}
@@ -70,12 +71,12 @@ has-apart c d w cpu (Start choice) chosen same apart =
     (same-self cpu (window_bytes c v) choice.image (start-holds c cpu choice chosen))
 has-apart c d w cpu (Bootsel fall) chosen same apart = refl
 
-pub former-is : (former finished : Decision) (cpu : Cpu) (c z d : Content) (e : Decision) → e ≡ former
-    → has_image_of cpu c d former ≡ true → Former ≡ class_by former finished cpu c z d e
-former-is former finished cpu c z d e same has =
+pub former-is : (former finished : Decision) (cpu : Cpu) (c z : Content) (torn : List Step) (d : Content) (e : Decision)
+    → e ≡ former → has_image_of cpu c d former ≡ true → Former ≡ class_by former finished cpu c z torn d e
+former-is former finished cpu c z torn d e same has =
     sym (ap (λ b. if b then Former
-    else if is_start finished && is_as_on finished cpu z d e then Finished
-    else Neither) (and_from _ _ (decision-same e former same) has))
+    else if is_mended torn finished && is_as_on finished cpu z d e then Finished
+    else other_class cpu c z torn d e) (and_from _ _ (decision-same e former same) has))
 
 -- which decision it is
 abbrev verdict_of : Bool → Bool → Verdict
@@ -129,10 +130,11 @@ answer-parts k l d e one two = cc
 -- the class by the decisions that are known
 pub judge-by : (ends : Ends) (n : ℕ) (d : Content) → AreEnds ends n
     → class_by ends.ends.former ends.ends.finished ends.ends.cpu (state_of ends.start.now).content
-    (state_of ends.ends.board.now).content d (decision_in d ends.ends.cpu Normal) ≡ (judge ends d).class
+    (state_of ends.ends.board.now).content ends.torn.now d (decision_in d ends.ends.cpu Normal) ≡ (judge ends d).class
 judge-by ends n d is =
     let c = (state_of ends.start.now).content in
     let z = (state_of ends.ends.board.now).content in
     let cpu = ends.ends.cpu in
-    ap (λ f. class_by f ends.ends.finished cpu c z d (decision_in d cpu Normal)) is.former
-    ∙ ap (λ f. class_by (decision_in c cpu Normal) f cpu c z d (decision_in d cpu Normal)) is.finished
+    let torn = ends.torn.now in
+    ap (λ f. class_by f ends.ends.finished cpu c z torn d (decision_in d cpu Normal)) is.former
+    ∙ ap (λ f. class_by (decision_in c cpu Normal) f cpu c z torn d (decision_in d cpu Normal)) is.finished

@@ -20,6 +20,7 @@ use Rattle.boot_cuts.specs.Contents.{cut_contents}
 use Rattle.boot_cuts.specs.Moving.{AreMovesIn, MoveView, Done, Torn, done_count, done_steps, moves_from, traced_by}
 use Rattle.boot_cuts.specs.Playing.{IsTraceOf}
 use Rattle.boot_cuts.specs.Runs.{runs_of}
+use Rattle.boot_cuts.specs.Tears.{left_torn}
 use Rattle.boot_cuts.specs.Traces.{Traced, trace, trace_steps}
 use Rattle.boot_cuts.proofs.TraceLemmas.{count-traced}
 
@@ -35,17 +36,26 @@ steps-found c cpu events t steps moves is same steps_is =
     steps_is ∙ (ap (λ ms. done_steps (moves_from ms)) same
     ∙ (done-steps c (moves_from t.moves.items) ∙ ap trace_steps is.steps))
 
-pub runs-found : (c z : Content) (cpu : Cpu) (events : List EventView) (pattern : List ℕ) (t : Trace)
+-- the steps that are left torn
+pub torn-found : (c : Content) (cpu : Cpu) (events : List EventView) (t : Trace) (torn : List Step) (moves : List Move)
+    → IsTraceOf c cpu events t → moves ≡ t.moves.items → torn ≡ left_torn (moves_from moves)
+    → torn ≡ left_torn (trace c cpu events).moves
+torn-found c cpu events t torn moves is same found =
+    found ∙ (ap (λ ms. left_torn (moves_from ms)) same ∙ ap left_torn is.moves)
+
+pub runs-found : (c z : Content) (torn : List Step) (cpu : Cpu) (events : List EventView) (pattern : List ℕ) (t : Trace)
     (runs : List Run) (moves : List Move) → IsTraceOf c cpu events t → moves ≡ t.moves.items
-    → z ≡ (state_of t.board).content
-    → runs ≡ runs_of (map (answer_of c z cpu) (cut_contents pattern (traced_by c (moves_from moves))))
+    → z ≡ (state_of t.board).content → torn ≡ left_torn (trace c cpu events).moves
+    → runs ≡ runs_of (map (answer_of c z torn cpu) (cut_contents pattern (traced_by c (moves_from moves))))
     → runs ≡ runs_of (answers c cpu events pattern)
-runs-found c z cpu events pattern t runs moves is same end runs_is =
+runs-found c z torn cpu events pattern t runs moves is same end torn_is runs_is =
     runs_is
-    ∙ (ap (λ ms. runs_of (map (answer_of c z cpu) (cut_contents pattern (traced_by c (moves_from ms))))) same
-    ∙ (ap (λ ts. runs_of (map (answer_of c z cpu) (cut_contents pattern ts))) is.steps
-    ∙ ap (λ x. runs_of (map (answer_of c x cpu) (cut_contents pattern (trace c cpu events).done)))
-    (end ∙ is.content)))
+    ∙ (ap (λ ms. runs_of (map (answer_of c z torn cpu) (cut_contents pattern (traced_by c (moves_from ms))))) same
+    ∙ (ap (λ ts. runs_of (map (answer_of c z torn cpu) (cut_contents pattern ts))) is.steps
+    ∙ (ap (λ x. runs_of (map (answer_of c x torn cpu) (cut_contents pattern (trace c cpu events).done)))
+    (end ∙ is.content)
+    ∙ ap (λ x. runs_of (map (answer_of c (trace c cpu events).last x cpu) (cut_contents pattern (trace c cpu events).done)))
+    torn_is)))
 
 pub moves-inside : (c : Content) (cpu : Cpu) (events : List EventView) (t : Trace) (moves : List Move) (n : ℕ)
     → IsTraceOf c cpu events t → moves ≡ t.moves.items → n ≡ length c.flash → AreMovesIn n moves
@@ -61,8 +71,9 @@ moves-few c cpu events t moves is same =
     let short = is.short in omega (arith, count, short)
 
 -- the class of what the script leaves, by the decisions that are known
-pub end-found : (c z : Content) (cpu : Cpu) (former finished : Decision) → former ≡ decision_in c cpu Normal
-    → finished ≡ decision_in z cpu Normal → class_by former finished cpu c z z finished ≡ class_of c z cpu z
-end-found c z cpu former finished one two =
-    ap (λ d. class_by d finished cpu c z z finished) one
-    ∙ ap (λ d. class_by (decision_in c cpu Normal) d cpu c z z d) two
+pub end-found : (c z : Content) (torn : List Step) (cpu : Cpu) (former finished : Decision)
+    → former ≡ decision_in c cpu Normal → finished ≡ decision_in z cpu Normal
+    → class_by former finished cpu c z torn z finished ≡ class_of c z torn cpu z
+end-found c z torn cpu former finished one two =
+    ap (λ d. class_by d finished cpu c z torn z finished) one
+    ∙ ap (λ d. class_by (decision_in c cpu Normal) d cpu c z torn z d) two

@@ -1,6 +1,7 @@
 mod PoolLemmas
 pub mod RunLemmas
 pub mod RunLawLemmas
+pub mod TearLemmas
 pub mod ClassLemmas
 pub mod TraceLemmas
 pub mod PlayLemmas
@@ -8,3 +9,5 @@ pub mod FoundLemmas
 pub mod ReplayLemmas
 mod BesideLemmas
 mod WalkLemmas
+mod StandingLemmas
+mod TailLemmas

@@ -1,5 +1,5 @@
 -- A play whose cuts stand beside the machine is the play of the machine.
-use Rattle.std.proofs.Common.{◌≡◌, ◌≢◌, ℕ, ◌+◌, ◌-◌, ◌≤◌, Bool, true, false, zero, suc, List, [], ◌∷◌, ◌++◌, length, take, drop, Option, Some, None, refl, sym, ap, ◌∙◌, subst, arith, inl, inr, append_assoc, length-append}
+use Rattle.std.proofs.Common.{◌≡◌, ◌≢◌, ℕ, ◌+◌, ◌-◌, ◌≤◌, Bool, true, false, zero, suc, List, [], ◌∷◌, ◌++◌, length, replicate, take, drop, Option, Some, None, refl, sym, ap, ◌∙◌, subst, arith, inl, inr, append_assoc, length-append}
 use Rattle.std.specs.Prelude.{All, IfOk, Result, Ok, Err, if◌then◌else◌, option_map}
 use Rattle.std.specs.List.{AllByRecursion}
 use Rattle.std.proofs.lemmas.List.{append-nil, length-drop, length-take, take-append-drop, take_all}
@@ -29,7 +29,7 @@ use Rattle.boot_cuts.specs.declared.tracer.Tracer.{Tracer}
 use Rattle.boot_session.specs.Standing.{IsUnarmed}
 use Rattle.boot_cuts.specs.Moving.{AreMovesIn, after_moves, done_count, moves_from, traced_by}
 use Rattle.boot_cuts.specs.Playing.{CutMoves, HasFollowed, HasPattern, IsFollowed, IsLeftBy, IsLong, IsPlay, IsPlayedTo, IsReady, IsStepped, IsTraceOf, bare, cut_from, cut_in, cut_moves, told_of, traced_state}
-use Rattle.boot_cuts.specs.Traces.{Traced, completed, event_steps, traced, traced_from}
+use Rattle.boot_cuts.specs.Traces.{Traced, completed, event_moves, event_steps, moves_in, step_numbers, traced, traced_from}
 use Rattle.boot_cuts.specs.Tracing.{HasTraced, first_steps}
 use Rattle.boot_cuts.proofs.TraceLemmas.{after-append, completed-more, count-append, count-traced, cut-steps, first-all, length-traced, prefix-lost, traced-append, traced-steps, whole-is}
 
@@ -151,11 +151,11 @@ same-moves h es fresh cut done true is few whole short c =
 
 -- where the event's steps are many, so is the trace
 pub long-by : (ot nt : Trace) (m mid : MachineView) (all left : List EventView) (event : EventView)
-    (fresh : List Step) (whole : Bool) (h : List Step)
-    → IsPlayedTo ot m all (event ∷ left) mid → cut_in event ≡ None
+    (number : ℕ) (fresh : List Step) (whole : Bool) (h : List Step)
+    → IsPlayedTo ot m all (event ∷ left) number mid → cut_in event ≡ None
     → IsFront h (effect mid event).steps fresh
-    → IsLeftBy ot (cut_moves (told_of ot) fresh) whole nt → IsLong nt m all
-long-by ot nt m mid all left event fresh whole h to uncut front is many =
+    → IsLeftBy ot (cut_moves (told_of ot) fresh) number whole nt → IsLong nt m all
+long-by ot nt m mid all left event number fresh whole h to uncut front is many =
     let es = (effect mid event).steps in
     let cut = told_of ot in
     let rest = traced (moved_machine mid event).next left in
@@ -178,11 +178,11 @@ long-by ot nt m mid all left event fresh whole h to uncut front is many =
     let done = is.done in omega (arith, sum, before, now, more, count, done, many)
 
 -- the trace is that of one event more
-pub played-more : (ot nt : Trace) (m mid : MachineView) (all left : List EventView) (event : EventView) (w : CutMoves)
-    (whole : Bool) → IsPlayedTo ot m all (event ∷ left) mid → cut_in event ≡ None
-    → w ≡ cut_moves (told_of ot) (effect mid event).steps → IsLeftBy ot w whole nt
-    → IsPlayedTo nt m all left (moved_as mid (effect mid event) (outcome_by mid.content w)).next
-played-more ot nt m mid all left event w whole to uncut w_is is =
+pub played-more : (ot nt : Trace) (m mid : MachineView) (all left : List EventView) (event : EventView) (number : ℕ)
+    (w : CutMoves) (whole : Bool) → IsPlayedTo ot m all (event ∷ left) number mid → cut_in event ≡ None
+    → w ≡ cut_moves (told_of ot) (effect mid event).steps → IsLeftBy ot w number whole nt
+    → IsPlayedTo nt m all left (number + 1) (moved_as mid (effect mid event) (outcome_by mid.content w)).next
+played-more ot nt m mid all left event number w whole to uncut w_is is =
     let e = effect mid event in
     let cut = told_of ot in
     let moved : moved_machine mid event ≡ moved_as mid e (outcome_by mid.content w) =
@@ -193,7 +193,22 @@ played-more ot nt m mid all left event w whole to uncut w_is is =
     let steps : traced_by mid.content w.moves ≡ traced_from mid.content (event_steps mid event) =
     ap (λ (x : CutMoves). traced_by mid.content x.moves) w_is
     ∙ (traced-steps e.steps cut mid.content
-    ∙ ap (traced_from mid.content) (sym (steps-by mid cut event to.told uncut))) in record {
+    ∙ ap (traced_from mid.content) (sym (steps-by mid cut event to.told uncut))) in
+    let count : done_count w.moves ≡ length (event_steps mid event) =
+    count-traced mid.content w.moves ∙ (ap (λ (ts : List Traced). length ts) steps
+    ∙ length-traced mid.content (event_steps mid event)) in
+    let came : w.moves ≡ event_moves mid event =
+    ap (λ (x : CutMoves). x.moves) w_is
+    ∙ ap (λ a. (cut_moves (told_cut a) e.steps).moves) (sym (armed-stays mid.armed event uncut ∙ to.told)) in record {
+      numbers = ap (λ ns. ns ++ step_numbers (number + 1) next left) is.numbers
+          ∙ (append_assoc ot.numbers.items (replicate (done_count w.moves) number) (step_numbers (number + 1) next left)
+          ∙ (ap (λ k. ot.numbers.items ++ (replicate k number ++ step_numbers (number + 1) next left)) count
+          ∙ (ap (λ (x : Moved). ot.numbers.items ++ (replicate (length (event_steps mid event)) number
+          ++ step_numbers (number + 1) x.next left)) (sym moved) ∙ to.numbers)));
+      moves = ap (λ ms. ms ++ moves_in next left) is.moves
+          ∙ (append_assoc past w.moves (moves_in next left)
+          ∙ (ap (λ ms. past ++ (ms ++ moves_in next left)) came
+          ∙ (ap (λ (x : Moved). past ++ (event_moves mid event ++ moves_in x.next left)) (sym moved) ∙ to.moves)));
       told = ap (λ a. Some a) (sym is.armed);
       cpu = to.cpu;
       content = ap (λ c. after_moves c w.moves) to.content ∙ sym is.content;
@@ -215,14 +230,14 @@ played-more ot nt m mid all left event w whole to uncut w_is is =
     }
 
 pub play-on : (om nm : Parts (Tracer MemBoard)) (ot nt : Trace) (m : MachineView) (all left : List EventView)
-    (event : EventView) (whole : Bool) (fresh : List Step) → IsPlay om ot m all (event ∷ left)
+    (event : EventView) (number : ℕ) (whole : Bool) (fresh : List Step) → IsPlay om ot m all (event ∷ left) number
     → cut_in event ≡ None
     → ((n : MachineView) → Stands traced_state om n → armed_for n.armed event ≡ Some None
     → IsStepped om n (effect n event) nm)
     → fresh ≡ drop (length om.board.steps.items) nm.board.steps.items
-    → IsLeftBy ot (cut_moves (told_of ot) fresh) whole nt → ot.done ≤ 262144
-    → IsLong nt m all × (nt.done ≤ 262144 → HasFollowed whole nm nt m all left)
-play-on om nm ot nt m all left event whole fresh play uncut stepped fresh_is is short =
+    → IsLeftBy ot (cut_moves (told_of ot) fresh) number whole nt → ot.done ≤ 262144
+    → IsLong nt m all × (nt.done ≤ 262144 → HasFollowed whole nm nt m all left (number + 1))
+play-on om nm ot nt m all left event number whole fresh play uncut stepped fresh_is is short =
     let mid = play.mid in
     let to = play.to in
     let e = effect mid event in
@@ -230,7 +245,7 @@ play-on om nm ot nt m all left event whole fresh play uncut stepped fresh_is is 
     let few = play.followed.few in
     let done = done-by om nm ot mid event uncut play.followed short stepped in
     let front = front-of h e.steps nm.board.steps.items fresh (omega (arith, few, short)) done.kept fresh_is in (
-      long-by ot nt m mid all left event fresh whole h to uncut front is,
+      long-by ot nt m mid all left event number fresh whole h to uncut front is,
       λ less.
           let w = cut_moves (told_of ot) fresh in
           let count = is.done in
@@ -238,7 +253,7 @@ play-on om nm ot nt m all left event whole fresh play uncut stepped fresh_is is 
           same-moves h e.steps fresh (told_of ot) ot.done whole front few is.whole_ (omega (arith, count, less)) mid.content in
           let next = (moved_as mid e (outcome_by mid.content w)).next in record {
             mid = next;
-            to = played-more ot nt m mid all left event w whole to uncut (sym same) is;
+            to = played-more ot nt m mid all left event number w whole to uncut (sym same) is;
             goes = λ yes.
                 let wh : w.whole ≡ true = sym is.whole_ ∙ yes in
                 let all_of = whole-is fresh (told_of ot) mid.content wh in
@@ -269,10 +284,10 @@ play-on om nm ot nt m all left event whole fresh play uncut stepped fresh_is is 
 
 -- a machine that is made anew
 pub made-anew : (machine : Parts (Tracer MemBoard)) (trace : Trace) (m mid : MachineView) (all left : List EventView)
-    (cpu : Cpu) → m.cpu ≡ cpu → IsPlayedTo trace m all left mid → mid.place ≡ Off
+    (number : ℕ) (cpu : Cpu) → m.cpu ≡ cpu → IsPlayedTo trace m all left number mid → mid.place ≡ Off
     → Stands traced_state machine (powerless (state_of trace.board).content cpu)
-    → machine.board.steps.items ≡ [] → IsPlay machine trace m all left
-made-anew machine trace m mid all left cpu is to off stands none = record {
+    → machine.board.steps.items ≡ [] → IsPlay machine trace m all left number
+made-anew machine trace m mid all left number cpu is to off stands none = record {
   mid = mid;
   to = to;
   followed = record {
@@ -289,11 +304,13 @@ made-anew machine trace m mid all left cpu is to off stands none = record {
 
 -- before the first event
 pub play-first : (machine : Parts (Tracer MemBoard)) (trace : Trace) (c : Content) (cpu : Cpu)
-    (events : List EventView) → (state_of trace.board).content ≡ c → trace.moves.items ≡ [] → trace.done ≡ 0
-    → trace.armed ≡ None → Stands traced_state machine (powerless c cpu)
-    → machine.board.steps.items ≡ [] → IsPlay machine trace (powerless c cpu) events events
-play-first machine trace c cpu events board moves done armed stands none =
-    made-anew machine trace (powerless c cpu) (powerless c cpu) events events cpu refl (record {
+    (events : List EventView) → (state_of trace.board).content ≡ c → trace.moves.items ≡ [] → trace.numbers.items ≡ []
+    → trace.done ≡ 0 → trace.armed ≡ None → Stands traced_state machine (powerless c cpu)
+    → machine.board.steps.items ≡ [] → IsPlay machine trace (powerless c cpu) events events 0
+play-first machine trace c cpu events board moves numbers done armed stands none =
+    made-anew machine trace (powerless c cpu) (powerless c cpu) events events 0 cpu refl (record {
+      numbers = ap (λ ns. ns ++ step_numbers 0 (powerless c cpu) events) numbers;
+      moves = ap (λ ms. moves_from ms ++ moves_in (powerless c cpu) events) moves;
       told = ap (λ a. Some (option_map cut_from a)) (sym armed);
       cpu = refl;
       content = sym board;
@@ -314,10 +331,10 @@ completed-none (Some cut) = take-nothing cut.left
 
 -- an event that arms a cut
 pub play-armed : (machine : Parts (Tracer MemBoard)) (old new : Trace) (m : MachineView) (all left : List EventView)
-    (event : EventView) (cut : ArmedCut) → cut_in event ≡ Some (cut_from cut) → new.board ≡ old.board
-    → new.moves ≡ old.moves → new.done ≡ old.done → new.armed ≡ Some cut
-    → IsPlay machine old m all (event ∷ left) → IsPlay machine new m all left
-play-armed machine old new m all left (EventView.Cut n within pattern) cut is board moves done armed play =
+    (event : EventView) (number : ℕ) (cut : ArmedCut) → cut_in event ≡ Some (cut_from cut) → new.board ≡ old.board
+    → new.moves ≡ old.moves → new.numbers ≡ old.numbers → new.done ≡ old.done → new.armed ≡ Some cut
+    → IsPlay machine old m all (event ∷ left) number → IsPlay machine new m all left (number + 1)
+play-armed machine old new m all left (EventView.Cut n within pattern) number cut is board moves numbers done armed play =
     let mid = play.mid in
     let to = play.to in
     let event : EventView = EventView.Cut n within pattern in
@@ -334,6 +351,12 @@ play-armed machine old new m all left (EventView.Cut n within pattern) cut is bo
     let none : event_steps mid event ≡ [] = completed-none (told_cut (armed_for mid.armed event)) in record {
       mid = next;
       to = record {
+        numbers = ap (λ ns. ns.items ++ step_numbers (number + 1) next left) numbers
+            ∙ (ap (λ x. old.numbers.items ++ step_numbers (number + 1) x left) (sym moved)
+            ∙ (ap (λ (xs : List Step). old.numbers.items ++ (replicate (length xs) number
+            ++ step_numbers (number + 1) (moved_machine mid event).next left)) (sym none) ∙ to.numbers));
+        moves = ap (λ ms. moves_from ms.items ++ moves_in next left) moves
+            ∙ (ap (λ x. moves_from old.moves.items ++ moves_in x left) (sym moved) ∙ to.moves);
         told = ap (λ a. Some (option_map cut_from a)) (sym armed);
         cpu = to.cpu;
         content = to.content ∙ ap (λ b. (state_of b).content) (sym board);
@@ -353,12 +376,12 @@ play-armed machine old new m all left (EventView.Cut n within pattern) cut is bo
         inside = play.followed.inside;
       };
     }
-play-armed machine old new m all left EventView.End cut is board moves done armed play = cc
-play-armed machine old new m all left (EventView.Command command payload) cut is board moves done armed play = cc
-play-armed machine old new m all left (EventView.Uf2 block) cut is board moves done armed play = cc
-play-armed machine old new m all left EventView.PowerOn cut is board moves done armed play = cc
-play-armed machine old new m all left (EventView.Reset kind) cut is board moves done armed play = cc
-play-armed machine old new m all left EventView.Buy cut is board moves done armed play = cc
+play-armed machine old new m all left EventView.End number cut is board moves numbers done armed play = cc
+play-armed machine old new m all left (EventView.Command command payload) number cut is board moves numbers done armed play = cc
+play-armed machine old new m all left (EventView.Uf2 block) number cut is board moves numbers done armed play = cc
+play-armed machine old new m all left EventView.PowerOn number cut is board moves numbers done armed play = cc
+play-armed machine old new m all left (EventView.Reset kind) number cut is board moves numbers done armed play = cc
+play-armed machine old new m all left EventView.Buy number cut is board moves numbers done armed play = cc
 
 told-none : (steps : List Step) (c : Content)
     → cut_steps steps None c ≡ (record { answer = true; content = after_all c steps; armed = None })
@@ -398,9 +421,9 @@ stepped-by old m event new outcome none is says =
 
 -- the whole trace of a script
 pub traced-end : (machine : Parts (Tracer MemBoard)) (trace_ : Trace) (c : Content) (cpu : Cpu)
-    (events left : List EventView) → left ≡ [] → IsReady trace_ → trace_.done ≤ 262144
-    → IsPlay machine trace_ (powerless c cpu) events left → IsTraceOf c cpu events trace_
-traced-end machine trace_ c cpu events left none ready short play =
+    (events left : List EventView) (number : ℕ) → left ≡ [] → IsReady trace_ → trace_.done ≤ 262144
+    → IsPlay machine trace_ (powerless c cpu) events left number → IsTraceOf c cpu events trace_
+traced-end machine trace_ c cpu events left number none ready short play =
     let mid = play.mid in
     let to = play.to in
     let steps : traced_by c (moves_from trace_.moves.items) ≡ traced (powerless c cpu) events =
@@ -410,6 +433,10 @@ traced-end machine trace_ c cpu events left none ready short play =
     to.counted ∙ (count-traced c (moves_from trace_.moves.items) ∙ ap (λ (ts : List Traced). length ts) steps) in record {
       ready = ready;
       steps = steps;
+      numbers = sym (append-nil trace_.numbers.items)
+          ∙ (ap (λ es. trace_.numbers.items ++ step_numbers number mid es) (sym none) ∙ to.numbers);
+      moves = sym (append-nil (moves_from trace_.moves.items))
+          ∙ (ap (λ es. moves_from trace_.moves.items ++ moves_in mid es) (sym none) ∙ to.moves);
       content = sym to.content ∙ (ap (λ es. (played mid es).last.content) (sym none) ∙ to.last);
       moved = to.moved;
       short = omega (arith, count, short);
@@ -452,15 +479,16 @@ if-ok (Err e) P Q f h = tt
 
 -- an event that was followed
 pub follow-whole : (nm : Parts (Tracer MemBoard)) (nt : Trace) (m : MachineView) (all left : List EventView)
-    (whole : Bool) → whole ≡ true → HasFollowed whole nm nt m all left → IsPlay nm nt m all left
-follow-whole nm nt m all left whole held is = record { mid = is.mid; to = is.to; followed = is.goes held }
+    (number : ℕ) (whole : Bool) → whole ≡ true → HasFollowed whole nm nt m all left number
+    → IsPlay nm nt m all left number
+follow-whole nm nt m all left number whole held is = record { mid = is.mid; to = is.to; followed = is.goes held }
 
 pub follow-anew : (nm machine : Parts (Tracer MemBoard)) (nt : Trace) (m : MachineView) (all left : List EventView)
-    (whole : Bool) (cpu : Cpu) → whole ≡ false → m.cpu ≡ cpu → HasFollowed whole nm nt m all left
-    → Stands traced_state machine (powerless (state_of nt.board).content cpu)
-    → machine.board.steps.items ≡ [] → IsPlay machine nt m all left
-follow-anew nm machine nt m all left whole cpu fell is has stands none =
-    made-anew machine nt m has.mid all left cpu is has.to (has.stops fell) stands none
+    (number : ℕ) (whole : Bool) (cpu : Cpu) → whole ≡ false → m.cpu ≡ cpu
+    → HasFollowed whole nm nt m all left number → Stands traced_state machine (powerless (state_of nt.board).content cpu)
+    → machine.board.steps.items ≡ [] → IsPlay machine nt m all left number
+follow-anew nm machine nt m all left number whole cpu fell is has stands none =
+    made-anew machine nt m has.mid all left number cpu is has.to (has.stops fell) stands none
 
 -- a trace that has not begun
 pub begins-ready : (trace_ : Trace) (board : MemBoard) → IsUnarmed (state_of board) → trace_.board ≡ board

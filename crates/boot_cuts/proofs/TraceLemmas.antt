@@ -1,10 +1,10 @@
 -- What a tracer keeps, and what is done of steps where a cut is armed.
-use Rattle.std.proofs.Common.{◌≡◌, ℕ, zero, suc, ◌+◌, ◌-◌, ◌<◌, ◌≤◌, Bool, true, false, List, [], ◌∷◌, ◌++◌, length, take, drop, get_or, Option, Some, None, refl, sym, ap, ◌∙◌, subst, arith, inl, inr, append_assoc, append-nil, length-append}
+use Rattle.std.proofs.Common.{◌≡◌, ℕ, zero, suc, ◌+◌, ◌-◌, ◌<◌, ◌≤◌, Bool, true, false, List, [], ◌∷◌, ◌++◌, length, replicate, take, drop, get_or, Option, Some, None, refl, sym, ap, ◌∙◌, subst, arith, inl, inr, append_assoc, append-nil, length-append}
 use Rattle.std.specs.Prelude.{◌==◌, if◌then◌else◌, nat_lt, option_map}
 use Rattle.std.specs.List.{AllByRecursion}
 use Rattle.std.proofs.lemmas.Bool.{cases_lt, le-ltb, lt-ltb}
 use Rattle.std.proofs.lemmas.Bool.Decides.{nat_tests}
-use Rattle.std.proofs.lemmas.List.{drop_more, length-take, length-take-le, take-append-le, take_all}
+use Rattle.std.proofs.lemmas.List.{drop_more, length-take, length-take-le, replicate-append-replicate, take-append-le, take_all}
 use Rattle.pico_board.specs.declared.Step.{Step}
 use Rattle.pico_board.specs.Board.{State, Does}
 use Rattle.pico_board.specs.Content.{Content}
@@ -114,10 +114,11 @@ count-traced c (Done step ∷ xs) = let rest = count-traced (after c step) xs in
 count-traced c (Torn step within pattern ∷ xs) = count-traced (cut_by (cut_with 0 within pattern) c step) xs
 
 -- one step
-pub taken-none : (old new : Trace) (step : Step) → told_of old ≡ None → HasCompleted old step new
-    → IsLeftBy old (cut_moves (told_of old) (step ∷ [])) true new
-taken-none old new step none is =
-    subst (λ cut. IsLeftBy old (cut_moves cut (step ∷ [])) true new) (sym none) (record {
+pub taken-none : (old new : Trace) (step : Step) (number : ℕ) → told_of old ≡ None
+    → HasCompleted old step number new → IsLeftBy old (cut_moves (told_of old) (step ∷ [])) number true new
+taken-none old new step number none is =
+    subst (λ cut. IsLeftBy old (cut_moves cut (step ∷ [])) number true new) (sym none) (record {
+      numbers = is.numbers;
       moves = is.moves;
       whole_ = refl;
       armed = ap (option_map cut_from) is.armed ∙ none;
@@ -138,17 +139,21 @@ one-by cut step b is =
     ap (λ (t : Bool). if t then record { moves = Torn step cut.within cut.pattern ∷ []; whole = false; armed = None }
     else record { moves = Done step ∷ []; whole = true; armed = Some (nearer cut) }) is
 
-pub taken-some : (old mid new : Trace) (step : Step) (cut : Cut) (next : ArmedCut) → told_of old ≡ Some cut
+pub taken-some : (old mid new : Trace) (step : Step) (number : ℕ) (cut : Cut) (next : ArmedCut)
+    → told_of old ≡ Some cut
     → Some (cut_from next) ≡ (if cut.left == 0 then None else Some (nearer cut))
-    → mid.board ≡ old.board → mid.moves ≡ old.moves → mid.done ≡ old.done → mid.armed ≡ Some next
-    → HasCompleted mid step new → IsLeftBy old (cut_moves (told_of old) (step ∷ [])) true new
-taken-some old mid new step cut next told near board moves done armed is = go (cut.left == 0) refl
+    → mid.board ≡ old.board → mid.moves ≡ old.moves → mid.numbers ≡ old.numbers → mid.done ≡ old.done
+    → mid.armed ≡ Some next → HasCompleted mid step number new
+    → IsLeftBy old (cut_moves (told_of old) (step ∷ [])) number true new
+taken-some old mid new step number cut next told near board moves numbers done armed is = go (cut.left == 0) refl
   where
-    go : (b : Bool) → (cut.left == 0) ≡ b → IsLeftBy old (cut_moves (told_of old) (step ∷ [])) true new
+    go : (b : Bool) → (cut.left == 0) ≡ b → IsLeftBy old (cut_moves (told_of old) (step ∷ [])) number true new
     go true due = let no : Some (cut_from next) ≡ None = near ∙ ap (armed_by cut) due in cc
     go false due =
-        subst (λ w. IsLeftBy old w true new) (sym (ap (λ a. cut_moves a (step ∷ [])) told ∙ one-by cut step false due))
+        subst (λ w. IsLeftBy old w number true new)
+        (sym (ap (λ a. cut_moves a (step ∷ [])) told ∙ one-by cut step false due))
         (record {
+          numbers = is.numbers ∙ ap (λ ns. ns.items ++ number ∷ []) numbers;
           moves = is.moves ∙ ap (λ ms. moves_from ms.items ++ Done step ∷ []) moves;
           whole_ = refl;
           armed = ap (option_map cut_from) (is.armed ∙ armed) ∙ (near ∙ ap (armed_by cut) due);
@@ -157,16 +162,18 @@ taken-some old mid new step cut next told near board moves done armed is = go (c
           size = is.size ∙ ap (λ b. length (state_of b).content.flash) board;
         })
 
-pub taken-lost : (old new : Trace) (step : Step) (cut : Cut) → told_of old ≡ Some cut
+pub taken-lost : (old new : Trace) (step : Step) (number : ℕ) (cut : Cut) → told_of old ≡ Some cut
     → None ≡ (if cut.left == 0 then None else Some (nearer cut)) → HasLost old step cut new
-    → IsLeftBy old (cut_moves (told_of old) (step ∷ [])) false new
-taken-lost old new step cut told near is = go (cut.left == 0) refl
+    → IsLeftBy old (cut_moves (told_of old) (step ∷ [])) number false new
+taken-lost old new step number cut told near is = go (cut.left == 0) refl
   where
-    go : (b : Bool) → (cut.left == 0) ≡ b → IsLeftBy old (cut_moves (told_of old) (step ∷ [])) false new
+    go : (b : Bool) → (cut.left == 0) ≡ b → IsLeftBy old (cut_moves (told_of old) (step ∷ [])) number false new
     go false due = let no : None ≡ Some (nearer cut) = near ∙ ap (armed_by cut) due in cc
     go true due =
-        subst (λ w. IsLeftBy old w false new) (sym (ap (λ a. cut_moves a (step ∷ [])) told ∙ one-by cut step true due))
+        subst (λ w. IsLeftBy old w number false new)
+        (sym (ap (λ a. cut_moves a (step ∷ [])) told ∙ one-by cut step true due))
         (record {
+          numbers = is.numbers ∙ sym (append-nil old.numbers.items);
           moves = is.moves;
           whole_ = refl;
           armed = ap (option_map cut_from) is.armed;
@@ -176,14 +183,20 @@ taken-lost old new step cut told near is = go (cut.left == 0) refl
         })
 
 -- more steps
-pub left-then : (old mid new : Trace) (w : CutMoves) (rest : Option Cut → CutMoves) (whole : Bool)
-    → IsLeftBy old w true mid → IsLeftBy mid (rest (told_of mid)) whole new
-    → IsLeftBy old (then_moves w rest) whole new
-left-then old mid new w rest whole first second =
+pub left-then : (old mid new : Trace) (w : CutMoves) (rest : Option Cut → CutMoves) (number : ℕ) (whole : Bool)
+    → IsLeftBy old w number true mid → IsLeftBy mid (rest (told_of mid)) number whole new
+    → IsLeftBy old (then_moves w rest) number whole new
+left-then old mid new w rest number whole first second =
     let r = rest w.armed in
-    let next : IsLeftBy mid r whole new = subst (λ a. IsLeftBy mid (rest a) whole new) first.armed second in
+    let next : IsLeftBy mid r number whole new =
+    subst (λ a. IsLeftBy mid (rest a) number whole new) first.armed second in
     let both : CutMoves = record { moves = w.moves ++ r.moves; whole = r.whole; armed = r.armed } in
-    subst (λ x. IsLeftBy old x whole new) (ap (λ b. if b then both else w) first.whole_) (record {
+    subst (λ x. IsLeftBy old x number whole new) (ap (λ b. if b then both else w) first.whole_) (record {
+      numbers = next.numbers ∙ (ap (λ ns. ns ++ replicate (done_count r.moves) number) first.numbers
+          ∙ (append_assoc old.numbers.items (replicate (done_count w.moves) number)
+          (replicate (done_count r.moves) number)
+          ∙ ap (λ ns. old.numbers.items ++ ns) (replicate-append-replicate (done_count w.moves) (done_count r.moves) number
+          ∙ ap (λ k. replicate k number) (sym (count-append w.moves r.moves)))));
       moves = next.moves ∙ (ap (λ ms. ms ++ r.moves) first.moves
           ∙ append_assoc (moves_from old.moves.items) w.moves r.moves);
       whole_ = next.whole_;
@@ -194,15 +207,16 @@ left-then old mid new w rest whole first second =
       size = next.size ∙ first.size;
     })
 
-pub left-lost : (old new : Trace) (w : CutMoves) (rest : Option Cut → CutMoves) → IsLeftBy old w false new
-    → IsLeftBy old (then_moves w rest) false new
-left-lost old new w rest is =
+pub left-lost : (old new : Trace) (w : CutMoves) (rest : Option Cut → CutMoves) (number : ℕ)
+    → IsLeftBy old w number false new → IsLeftBy old (then_moves w rest) number false new
+left-lost old new w rest number is =
     let r = rest w.armed in
     let both : CutMoves = record { moves = w.moves ++ r.moves; whole = r.whole; armed = r.armed } in
-    subst (λ x. IsLeftBy old x false new) (ap (λ b. if b then both else w) is.whole_) is
+    subst (λ x. IsLeftBy old x number false new) (ap (λ b. if b then both else w) is.whole_) is
 
-pub left-none : (old : Trace) → IsLeftBy old (cut_moves (told_of old) []) true old
-left-none old = record {
+pub left-none : (old : Trace) (number : ℕ) → IsLeftBy old (cut_moves (told_of old) []) number true old
+left-none old number = record {
+  numbers = sym (append-nil old.numbers.items);
   moves = sym (append-nil (moves_from old.moves.items));
   whole_ = refl;
   armed = refl;
@@ -332,30 +346,30 @@ one-count (Some cut) step = go (cut.left == 0)
     go true = omega arith
     go false = omega arith
 
-pub loop-lost : (now next : Trace) (k : ℕ) (other : Step) (steps : List Step) (whole : Bool) → k < length steps
-    → IsLeftBy now (cut_moves (told_of now) (get_or steps k other ∷ [])) whole next → whole ≡ false
-    → IsLeftBy now (cut_moves (told_of now) (drop k steps)) false next
-loop-lost now next k other steps whole lt is fell =
+pub loop-lost : (now next : Trace) (k : ℕ) (other : Step) (steps : List Step) (number : ℕ) (whole : Bool) → k < length steps
+    → IsLeftBy now (cut_moves (told_of now) (get_or steps k other ∷ [])) number whole next → whole ≡ false
+    → IsLeftBy now (cut_moves (told_of now) (drop k steps)) number false next
+loop-lost now next k other steps number whole lt is fell =
     let step = get_or steps k other in
     let rest = drop (k + 1) steps in
-    subst (λ w. IsLeftBy now w false next)
+    subst (λ w. IsLeftBy now w number false next)
     (sym (ap (cut_moves (told_of now)) (drop_more steps k other lt) ∙ cut-one (told_of now) step rest))
-    (left-lost now next (cut_moves (told_of now) (step ∷ [])) (λ a. cut_moves a rest)
-    (subst (λ b. IsLeftBy now (cut_moves (told_of now) (step ∷ [])) b next) fell is))
+    (left-lost now next (cut_moves (told_of now) (step ∷ [])) (λ a. cut_moves a rest) number
+    (subst (λ b. IsLeftBy now (cut_moves (told_of now) (step ∷ [])) number b next) fell is))
 
-pub loop-more : (now next new : Trace) (k : ℕ) (other : Step) (steps : List Step) (whole w : Bool) → k < length steps
-    → IsLeftBy now (cut_moves (told_of now) (get_or steps k other ∷ [])) whole next → whole ≡ true
-    → IsLeftBy next (cut_moves (told_of next) (drop (k + 1) steps)) w new
-    → IsLeftBy now (cut_moves (told_of now) (drop k steps)) w new
-loop-more now next new k other steps whole w lt is held later =
+pub loop-more : (now next new : Trace) (k : ℕ) (other : Step) (steps : List Step) (number : ℕ) (whole w : Bool) → k < length steps
+    → IsLeftBy now (cut_moves (told_of now) (get_or steps k other ∷ [])) number whole next → whole ≡ true
+    → IsLeftBy next (cut_moves (told_of next) (drop (k + 1) steps)) number w new
+    → IsLeftBy now (cut_moves (told_of now) (drop k steps)) number w new
+loop-more now next new k other steps number whole w lt is held later =
     let step = get_or steps k other in
     let rest = drop (k + 1) steps in
-    subst (λ x. IsLeftBy now x w new)
+    subst (λ x. IsLeftBy now x number w new)
     (sym (ap (cut_moves (told_of now)) (drop_more steps k other lt) ∙ cut-one (told_of now) step rest))
-    (left-then now next new (cut_moves (told_of now) (step ∷ [])) (λ a. cut_moves a rest) w
-    (subst (λ b. IsLeftBy now (cut_moves (told_of now) (step ∷ [])) b next) held is) later)
+    (left-then now next new (cut_moves (told_of now) (step ∷ [])) (λ a. cut_moves a rest) number w
+    (subst (λ b. IsLeftBy now (cut_moves (told_of now) (step ∷ [])) number b next) held is) later)
 
-pub one-done : (now next : Trace) (step : Step) (whole : Bool)
-    → IsLeftBy now (cut_moves (told_of now) (step ∷ [])) whole next → next.done ≤ now.done + 1
-one-done now next step whole is =
+pub one-done : (now next : Trace) (step : Step) (number : ℕ) (whole : Bool)
+    → IsLeftBy now (cut_moves (told_of now) (step ∷ [])) number whole next → next.done ≤ now.done + 1
+one-done now next step number whole is =
     let most = one-count (told_of now) step in let done = is.done in omega (arith, most, done)

@@ -1,4 +1,6 @@
 -- These definitions are this project's own, except where a comment names a public source.
+pub mod CutMoves
+pub mod Tears
 pub mod Traces
 pub mod Contents
 pub mod Examples
@@ -6,11 +8,12 @@ pub mod Classes
 pub mod Classing
 pub mod Answers
 pub mod Runs
-pub mod Kinds
+pub mod Counts
 pub mod Found
 pub mod Tracing
 pub mod Moving
 pub mod Playing
+pub mod Standings
 pub mod Judging
 pub mod Told
 pub mod Replaying

@@ -9,6 +9,7 @@ use Rattle.pico_board.specs.Steps.{after}
 use Rattle.boot_cuts.specs.declared.moves.Move.{Move}
 use Rattle.boot_cuts.specs.declared.moves.Move.TheVariants as rust
 use Rattle.boot_cuts.specs.Traces.{Traced}
+pub use Rattle.boot_cuts.specs.Tears.{done_steps}
 -- a step that completes, or one that a cut of the script cuts, and what it leaves
 pub use Rattle.boot_sweep.specs.Moving.{MoveView, Done, Torn, IsMoveIn, after_move, after_moves, done_count}
 
@@ -30,9 +31,3 @@ traced_by c (Done step ∷ moves) =
     record { before = c; step = step } ∷ traced_by (after c step) moves
 traced_by c (Torn step within pattern ∷ moves) =
     traced_by (cut_by (cut_with 0 within pattern) c step) moves
-
--- the steps that complete
-abbrev pub done_steps : List MoveView → List Step
-done_steps [] = []
-done_steps (Done step ∷ moves) = step ∷ done_steps moves
-done_steps (Torn step within pattern ∷ moves) = done_steps moves

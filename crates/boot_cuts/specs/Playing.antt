@@ -1,5 +1,5 @@
 -- What the steps of an event come to where a cut of the script is armed, and a play on its way.
-use Rattle.std.specs.Prelude.{◌≡◌, ⊤, ℕ, ◌+◌, ◌<◌, ◌≤◌, ◌==◌, Bool, true, false, if◌then◌else◌, List, [], ◌∷◌, ◌++◌, length, Option, Some, None, option_map}
+use Rattle.std.specs.Prelude.{◌≡◌, ⊤, ℕ, ◌+◌, ◌<◌, ◌≤◌, ◌==◌, Bool, true, false, if◌then◌else◌, List, [], ◌∷◌, ◌++◌, length, replicate, Option, Some, None, option_map}
 use Rattle.std.specs.List.{AllByRecursion}
 use Rattle.pico_board.specs.declared.mem_board.MemBoard.{MemBoard}
 use Rattle.pico_board.specs.MemBoard.{state_of}
@@ -16,38 +16,18 @@ use Rattle.boot_machine.specs.Standing.{Stands}
 use Rattle.boot_plays.specs.Plays.{played}
 use Rattle.boot_cuts.specs.declared.trace.Trace.{Trace}
 use Rattle.boot_cuts.specs.declared.tracer.Tracer.{Tracer}
-use Rattle.boot_cuts.specs.Traces.{trace, traced}
+use Rattle.boot_cuts.specs.Traces.{moves_in, step_numbers, trace, traced}
+pub use Rattle.boot_cuts.specs.CutMoves.{CutMoves, cut_moves, move_first}
 use Rattle.boot_cuts.specs.Tracing.{HasTraced}
 use Rattle.pico_board.specs.Board.{State}
 use Rattle.pico_board.specs.declared.Step.{Step}
-use Rattle.pico_board.specs.Cuts.{Cut, IsPattern, cut_by, cut_with, nearer}
+use Rattle.pico_board.specs.Cuts.{Cut, IsPattern, cut_by, cut_with}
 use Rattle.boot_cuts.specs.declared.trace.ArmedCut.{ArmedCut}
 use Rattle.boot_cuts.specs.Moving.{AreMovesIn, MoveView, Done, Torn, after_moves, done_count, moves_from, traced_by}
 
 -- the armed cut as plain data
 abbrev pub cut_from : ArmedCut → Cut
 cut_from cut = record { left = cut.left; within = cut.within; pattern = cut.pattern.now }
-
--- what is done, whether all steps complete, and the cut that is armed then
-pub record CutMoves : Type 0 where
-  pub moves : List MoveView
-  pub whole : Bool
-  pub armed : Option Cut
-
-abbrev pub move_first : MoveView → CutMoves → CutMoves
-move_first moved w = record { moves = moved ∷ w.moves; whole = w.whole; armed = w.armed }
-
--- the steps complete up to the one that the armed cut cuts
-abbrev pub cut_moves : Option Cut → List Step → CutMoves
-cut_moves cut [] = record { moves = []; whole = true; armed = cut }
-cut_moves None (step ∷ steps) = move_first (Done step) (cut_moves None steps)
-cut_moves (Some cut) (step ∷ steps) =
-    if cut.left == 0 then record {
-      moves = Torn step cut.within cut.pattern ∷ [];
-      whole = false;
-      armed = None;
-    }
-    else move_first (Done step) (cut_moves (Some (nearer cut)) steps)
 
 -- the cut that the script has armed
 abbrev pub told_of : Trace → Option Cut
@@ -68,8 +48,9 @@ pub record IsReady (trace : Trace) : Type 0 where
   pub pattern : HasPattern (told_of trace)
   pub inside : AreMovesIn (flash_long trace) trace.moves.items
 
--- a step completed; the cut that is armed stays
-pub record HasCompleted (old : Trace) (step : Step) (new : Trace) : Type 0 where
+-- a step of the event of this number completed; the cut that is armed stays
+pub record HasCompleted (old : Trace) (step : Step) (number : ℕ) (new : Trace) : Type 0 where
+  pub numbers : new.numbers.items ≡ old.numbers.items ++ number ∷ []
   pub moves : moves_from new.moves.items ≡ moves_from old.moves.items ++ Done step ∷ []
   pub armed : new.armed ≡ old.armed
   pub content : (state_of new.board).content ≡ after (state_of old.board).content step
@@ -78,6 +59,7 @@ pub record HasCompleted (old : Trace) (step : Step) (new : Trace) : Type 0 where
 
 -- the armed cut cut the step
 pub record HasLost (old : Trace) (step : Step) (cut : Cut) (new : Trace) : Type 0 where
+  pub numbers : new.numbers.items ≡ old.numbers.items
   pub moves : moves_from new.moves.items
       ≡ moves_from old.moves.items ++ Torn step cut.within cut.pattern ∷ []
   pub armed : new.armed ≡ None
@@ -86,8 +68,10 @@ pub record HasLost (old : Trace) (step : Step) (cut : Cut) (new : Trace) : Type 
   pub done : new.done ≡ old.done
   pub size : flash_long new ≡ flash_long old
 
--- the trace has these moves more, and the board is as they leave it
-pub record IsLeftBy (old : Trace) (w : CutMoves) (whole : Bool) (new : Trace) : Type 0 where
+-- the trace has these moves of the event of this number more, and the board is as they leave it
+pub record IsLeftBy (old : Trace) (w : CutMoves) (number : ℕ) (whole : Bool) (new : Trace)
+    : Type 0 where
+  pub numbers : new.numbers.items ≡ old.numbers.items ++ replicate (done_count w.moves) number
   pub moves : moves_from new.moves.items ≡ moves_from old.moves.items ++ w.moves
   pub whole_ : whole ≡ w.whole
   pub armed : told_of new ≡ w.armed
@@ -97,15 +81,16 @@ pub record IsLeftBy (old : Trace) (w : CutMoves) (whole : Bool) (new : Trace) : 
   pub size : flash_long new ≡ flash_long old
 
 -- the steps were done up to the one that the armed cut cut
-abbrev pub HasTaken : Trace → List Step → Bool → Trace → Type 0
-HasTaken old steps whole new = IsLeftBy old (cut_moves (told_of old) steps) whole new
+abbrev pub HasTaken : Trace → List Step → ℕ → Bool → Trace → Type 0
+HasTaken old steps number whole new = IsLeftBy old (cut_moves (told_of old) steps) number whole new
 
 -- the machine with no cut armed
 abbrev pub bare : MachineView → MachineView
 bare m = record { content = m.content; armed = Some None; cpu = m.cpu; place = m.place }
 
--- the trace is that of the events before those that are left, which lead m to mid
-pub record IsPlayedTo (trace : Trace) (m : MachineView) (all left : List EventView)
+-- the trace is that of the events before those that are left, which lead m to mid. The first of
+-- these has the number k.
+pub record IsPlayedTo (trace : Trace) (m : MachineView) (all left : List EventView) (k : ℕ)
     (mid : MachineView) : Type 0 where
   pub told : mid.armed ≡ Some (told_of trace)
   pub cpu : mid.cpu ≡ m.cpu
@@ -114,6 +99,8 @@ pub record IsPlayedTo (trace : Trace) (m : MachineView) (all left : List EventVi
       ≡ after_moves m.content (moves_from trace.moves.items)
   pub steps : traced_by m.content (moves_from trace.moves.items) ++ traced mid left
       ≡ traced m all
+  pub numbers : trace.numbers.items ++ step_numbers k mid left ≡ step_numbers 0 m all
+  pub moves : moves_from trace.moves.items ++ moves_in mid left ≡ moves_in m all
   pub last : (played mid left).last.content ≡ (played m all).last.content
   pub counted : trace.done ≡ done_count (moves_from trace.moves.items)
   pub size : flash_long trace ≡ length m.content.flash
@@ -131,17 +118,17 @@ pub record IsFollowed (machine : Parts (Tracer MemBoard)) (trace : Trace) (mid :
 
 -- a play on its way
 pub record IsPlay (machine : Parts (Tracer MemBoard)) (trace : Trace) (m : MachineView)
-    (all left : List EventView) : Type 0 where
+    (all left : List EventView) (k : ℕ) : Type 0 where
   pub mid : MachineView
-  pub to : IsPlayedTo trace m all left mid
+  pub to : IsPlayedTo trace m all left k mid
   pub followed : IsFollowed machine trace mid
 
 -- an event was played, so the trace is that of one event more. The machine stands where all its
 -- steps completed, and otherwise is off; or too many steps completed.
 pub record HasFollowed (whole : Bool) (machine : Parts (Tracer MemBoard)) (trace : Trace)
-    (m : MachineView) (all left : List EventView) : Type 0 where
+    (m : MachineView) (all left : List EventView) (k : ℕ) : Type 0 where
   pub mid : MachineView
-  pub to : IsPlayedTo trace m all left mid
+  pub to : IsPlayedTo trace m all left k mid
   pub goes : whole ≡ true → IsFollowed machine trace mid
   pub stops : whole ≡ false → mid.place ≡ Off
 
@@ -170,6 +157,8 @@ pub record IsTraceOf (c : Content) (cpu : Cpu) (events : List EventView) (found 
     : Type 0 where
   pub ready : IsReady found
   pub steps : traced_by c (moves_from found.moves.items) ≡ (trace c cpu events).done
+  pub numbers : found.numbers.items ≡ (trace c cpu events).numbers
+  pub moves : moves_from found.moves.items ≡ (trace c cpu events).moves
   pub content : (state_of found.board).content ≡ (trace c cpu events).last
   pub moved : (state_of found.board).content ≡ after_moves c (moves_from found.moves.items)
   pub short : length (trace c cpu events).done ≤ 262144

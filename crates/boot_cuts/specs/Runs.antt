@@ -4,7 +4,7 @@ use Rattle.equal_runs.specs.Runs.{RunOf, AreRuns as AreEqualRuns}
 use Rattle.boot_sweep.specs.Comparing.{is_same_decision}
 use Rattle.boot_cuts.specs.declared.answers.Answer.{Answer}
 use Rattle.boot_cuts.specs.declared.answers.Class.{Class}
-use Rattle.boot_cuts.specs.declared.answers.Class.TheVariants.{Former, Finished, Neither}
+use Rattle.boot_cuts.specs.declared.answers.Class.TheVariants.{Former, Finished, Whole, Tail, Mixed, Bootsel}
 use Rattle.boot_cuts.specs.declared.runs.Run.{Run}
 use Rattle.boot_cuts.specs.declared.runs.Runs.{Runs}
 
@@ -20,13 +20,11 @@ AreRuns answers runs = AreEqualRuns answers (map run_view runs)
 abbrev pub is_same_class : Class → Class → Bool
 is_same_class Former Former = true
 is_same_class Finished Finished = true
-is_same_class Neither Neither = true
-is_same_class Former Finished = false
-is_same_class Former Neither = false
-is_same_class Finished Former = false
-is_same_class Finished Neither = false
-is_same_class Neither Former = false
-is_same_class Neither Finished = false
+is_same_class Whole Whole = true
+is_same_class Tail Tail = true
+is_same_class Mixed Mixed = true
+is_same_class Bootsel Bootsel = true
+is_same_class _ _ = false
 
 -- the class and the decision are the same
 abbrev pub is_same_answer : Answer → Answer → Bool

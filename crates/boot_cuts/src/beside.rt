@@ -43,19 +43,21 @@ fn starts_apart(slot: Slot, decision: &Decision) -> bool
 
 /// The class of the former decision, on a board that differs from the one before the script in the
 /// slot alone.
-fn former_class(board: &MemBoard, ends: &Ends<'_>, slot: Slot) -> Class
+fn former_class(board: &MemBoard, pool: &mut SectorPool, ends: &Ends<'_>, slot: Slot) -> Class
     requires power { IsTrue (state_of board.now).powered }
+    requires free { HasFree pool.old }
     requires ends { AreEnds ends.now (length (state_of board.now).content.flash) }
     requires same { SameButWindow slot.window (state_of ends.now.start.now).content
         (state_of board.now).content }
     requires decided { decision_in (state_of board.now).content ends.now.ends.cpu Normal
         ≡ ends.now.ends.former }
-    ensures { result ≡ (judge ends.now (state_of board.now).content).class }
+    ensures exact { result ≡ (judge ends.now (state_of board.now).content).class }
+    ensures kept { KeepsOut pool.old pool.new }
 {
     if starts_apart(slot, &ends.ends.former) {
         Class::Former
     } else {
-        class_on(board, ends, &ends.ends.former)
+        class_on(board, pool, ends, &ends.ends.former)
     }
 }
 
@@ -88,11 +90,11 @@ fn answer_by(
 {
     match verdict {
         Verdict::Before => Ok(Answer {
-            class: former_class(board.board(), ends, slot),
+            class: former_class(board.board(), pool, ends, slot),
             decision: copy_of_decision(&ends.ends.former)?,
         }),
         Verdict::After => Ok(Answer {
-            class: class_on(board.board(), ends, &ends.ends.finished),
+            class: class_on(board.board(), pool, ends, &ends.ends.finished),
             decision: copy_of_decision(&ends.ends.finished)?,
         }),
         Verdict::Other => Ok(answer_on(board, pool, ends)),

@@ -15,10 +15,12 @@ ghost use Rattle.boot_cuts.specs.Playing.{IsTraceOf};
 
 use crate::answers::Class;
 use crate::copying::copy_of;
+use crate::images::images_of;
 use crate::judging::{Ends, class_on};
 use crate::moves::Move;
 use crate::playing::trace_on;
 use crate::runs::Run;
+use crate::tears::left_torn;
 use crate::trace::Trace;
 use crate::walking::runs_on;
 use boot_machine::Watched;
@@ -34,6 +36,8 @@ use std::alloc::{AllocError, Global};
 pub struct Cuts {
     /// The steps that the script completes.
     pub steps: Vec<Step>,
+    /// The number of the event that does each of them.
+    pub numbers: Vec<u32>,
     /// The runs of the losses of power before and within each of them.
     pub runs: Vec<Run>,
     /// The decision of a normal boot before the script.
@@ -55,6 +59,15 @@ fn steps_of(alloc: Global, moves: &[Move<'_>]) -> Result<Vec<Step>, AllocError>
         }
     }
     Ok(steps)
+}
+
+/// A copy of the numbers of events.
+fn numbers_of(alloc: Global, numbers: &[u32]) -> Result<Vec<u32>, AllocError>
+    ensures { IfOk result (λ copy. copy.items ≡ numbers.now) }
+{
+    let mut copy = Vec::new(alloc);
+    copy.extend_from_slice(numbers)?;
+    Ok(copy)
 }
 
 /// The member of a pair in which the steps lie, where all that the script does is these steps.
@@ -98,6 +111,9 @@ pub fn cuts_of(
     let mut pool = pool_of(alloc)?;
     let copy = copy_of(alloc, &board)?;
     let mut beside = Watched::new(copy);
+    let torn = left_torn(alloc, &trace.moves)?;
+    let stood = images_of(alloc, &board, &mut pool, cpu)?;
+    let left = images_of(alloc, &trace.board, &mut pool, cpu)?;
     let ends = Ends {
         start: &board,
         ends: SweepEnds {
@@ -106,6 +122,9 @@ pub fn cuts_of(
             finished: decide(&trace.board, &mut pool, cpu, BootKind::Normal),
             board: &trace.board,
         },
+        torn: &torn,
+        stood: &stood,
+        left: &left,
     };
     let steps = steps_of(alloc, &trace.moves)?;
     let slot = slot_beside(&board, cpu, &steps, &trace.moves);
@@ -118,9 +137,11 @@ pub fn cuts_of(
         &trace.moves,
         pattern,
     )?;
-    let end = class_on(&trace.board, &ends, &ends.ends.finished);
+    let end = class_on(&trace.board, &mut pool, &ends, &ends.ends.finished);
+    let numbers = numbers_of(alloc, &trace.numbers)?;
     Ok(Cuts {
         steps,
+        numbers,
         runs,
         former: ends.ends.former,
         finished: ends.ends.finished,

@@ -1,6 +1,6 @@
 //! The play of a script, which finds what it does to a board.
 
-ghost use Rattle.std.specs.Prelude.{◌≡◌, ◌≤◌, ◌<◌, ◌∷◌, [], IfOk, OnOk, IsTrue, MatchOption, None, Some, List, length, option_map};
+ghost use Rattle.std.specs.Prelude.{◌≡◌, ◌+◌, ◌≤◌, ◌<◌, ◌∷◌, [], IfOk, OnOk, IsTrue, MatchOption, None, Some, List, length, option_map};
 ghost use Rattle.pico_board.specs.MemBoard.{state_of};
 ghost use Rattle.boot_script.specs.Events.{EventView, IsWritableEvent, event_from};
 ghost use Rattle.boot_script.specs.Scripts.{script_events};
@@ -66,55 +66,58 @@ fn step(machine: &mut Machine<Tracer<MemBoard>>, event: &Event<'_>)
     machine.advance(event);
 }
 
-/// Plays an event that arms no cut, and answers whether all its steps complete.
+/// Plays an event that arms no cut, of this number, and answers whether all its steps complete.
 fn play<'a>(
     machine: &mut Machine<Tracer<MemBoard>>,
     trace: &mut Trace<'a>,
     event: &Event<'a>,
+    number: u32,
 ) -> Result<bool, AllocError>
     requires writable { IsWritableEvent (event_from event.now) }
     requires uncut { cut_in (event_from event.now) ≡ None }
     requires ready { IsReady trace.old }
     requires short { trace.old.done ≤ 262144 }
     requires play { (m : MachineView) × (all : List EventView) × (left : List EventView)
-        × IsPlay machine.old trace.old m all left }
+        × IsPlay machine.old trace.old m all left number }
     ensures ready { OnOk result (IsReady trace.new) }
     ensures played { IfOk result (λ whole. (m : MachineView) (all left : List EventView)
-        → IsPlay machine.old trace.old m all (event_from event.now ∷ left)
+        → IsPlay machine.old trace.old m all (event_from event.now ∷ left) number
         → IsLong trace.new m all
         × (trace.new.done ≤ 262144
-        → HasFollowed whole machine.new trace.new m all left)) }
+        → HasFollowed whole machine.new trace.new m all left (number + 1))) }
 {
     let former = machine.board().steps.as_slice().len();
     step(machine, event);
-    trace.take_steps(&machine.board().steps[former..])
+    trace.take_steps(&machine.board().steps[former..], number)
 }
 
-/// Plays an event. The armed cut stands beside the machine. The machine's board does all steps of
-/// the event, so that they are known. A machine whose power the cut loses is made anew.
+/// Plays an event of this number. The armed cut stands beside the machine. The machine's board does
+/// all steps of the event, so that they are known. A machine whose power the cut loses is made
+/// anew.
 fn follow<'a>(
     alloc: Global,
     machine: &mut Machine<Tracer<MemBoard>>,
     trace: &mut Trace<'a>,
     cpu: Cpu,
     event: &Event<'a>,
+    number: u32,
 ) -> Result<(), AllocError>
     requires writable { IsWritableEvent (event_from event.now) }
     requires ready { IsReady trace.old }
     requires short { trace.old.done ≤ 262144 }
     requires play { (m : MachineView) × (all : List EventView) × (left : List EventView)
-        × IsPlay machine.old trace.old m all left }
+        × IsPlay machine.old trace.old m all left number }
     ensures ready { OnOk result (IsReady trace.new) }
     ensures played { OnOk result ((m : MachineView) (all left : List EventView)
-        → m.cpu ≡ cpu → IsPlay machine.old trace.old m all (event_from event.now ∷ left)
+        → m.cpu ≡ cpu → IsPlay machine.old trace.old m all (event_from event.now ∷ left) number
         → IsLong trace.new m all
-        × (trace.new.done ≤ 262144 → IsPlay machine.new trace.new m all left)) }
+        × (trace.new.done ≤ 262144 → IsPlay machine.new trace.new m all left (number + 1))) }
 {
     if let Some(cut) = armed_by(event) {
         trace.armed = Some(cut);
         return Ok(());
     }
-    if !play(machine, trace, event)? {
+    if !play(machine, trace, event, number)? {
         *machine = machine_of(alloc, &trace.board, cpu)?;
     }
     Ok(())
@@ -135,11 +138,13 @@ pub fn trace_on<'a>(
 {
     let mut machine = machine_of(alloc, &board, cpu)?;
     let mut trace = Trace::begin(alloc, board);
+    let mut number = 0;
     for event in script.events() {
-        follow(alloc, &mut machine, &mut trace, cpu, &event)?;
+        follow(alloc, &mut machine, &mut trace, cpu, &event, number)?;
         if trace.done > TRACE_LIMIT {
             return Ok(None);
         }
+        number += 1;
     }
     Ok(Some(trace))
 }

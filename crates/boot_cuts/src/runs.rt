@@ -2,9 +2,9 @@
 
 ghost use Rattle.std.specs.Prelude.{◌≡◌, ◌+◌, ◌^◌, ◌<◌, ◌∷◌, ◌++◌, [], None, List, IfOk, OnOk};
 ghost use Rattle.boot_cuts.specs.declared.answers.Answer.{Answer as Told};
-ghost use Rattle.boot_cuts.specs.Runs.{all_runs, is_same_answer, is_same_class, next_runs, option_list};
+ghost use Rattle.boot_cuts.specs.Runs.{all_runs, is_same_answer, next_runs, option_list};
 
-use crate::answers::{Answer, Class};
+use crate::answers::{Answer, is_same_class};
 use boot_sweep::is_same_decision;
 use std::alloc::{AllocError, Global};
 
@@ -29,26 +29,6 @@ pub struct Runs {
     pub current: Option<Run>,
     /// The number of the next cut.
     pub next: u32,
-}
-
-/// Whether the classes are the same.
-fn is_same_class(one: Class, two: Class) -> bool
-    ensures { result ≡ is_same_class one two }
-{
-    match one {
-        Class::Former => match two {
-            Class::Former => true,
-            Class::Finished | Class::Neither => false,
-        },
-        Class::Finished => match two {
-            Class::Finished => true,
-            Class::Former | Class::Neither => false,
-        },
-        Class::Neither => match two {
-            Class::Neither => true,
-            Class::Former | Class::Finished => false,
-        },
-    }
 }
 
 /// Whether the class and the decision are the same.

@@ -28,6 +28,8 @@ pub struct Trace<'a> {
     pub board: MemBoard,
     /// All that it has done, in order.
     pub moves: Vec<Move<'a>>,
+    /// The number of the event that did each step that completed.
+    pub numbers: Vec<u32>,
     /// How many steps have completed.
     pub done: usize,
     /// The cut that it has armed.
@@ -55,27 +57,30 @@ impl<'a> Trace<'a> {
     pub fn begin(alloc: Global, board: MemBoard) -> Trace<'a>
         ensures board { result.board ≡ board }
         ensures none { result.moves.items ≡ [] }
+        ensures numbers { result.numbers.items ≡ [] }
         ensures done { result.done ≡ 0 }
         ensures unarmed { result.armed ≡ None }
     {
         Trace {
             board,
             moves: Vec::new(alloc),
+            numbers: Vec::new(alloc),
             done: 0,
             armed: None,
         }
     }
 
-    /// Does a step that completes.
-    fn complete(&mut self, step: &Step) -> Result<(), AllocError>
+    /// Does a step that completes, of the event of this number.
+    fn complete(&mut self, step: &Step, number: u32) -> Result<(), AllocError>
         requires ready { IsReady self.old }
         requires range { IsStepIn (flash_long self.old) step.now }
         requires few { self.old.done < 2 ^ 62 }
         ensures ready { OnOk result (IsReady self.new) }
-        ensures done { OnOk result (HasCompleted self.old step.now self.new) }
+        ensures done { OnOk result (HasCompleted self.old step.now number self.new) }
     {
         complete(&mut self.board, step);
         self.moves.push(Move::Done(*step))?;
+        self.numbers.push(number)?;
         self.done += 1;
         Ok(())
     }
@@ -96,14 +101,14 @@ impl<'a> Trace<'a> {
         Ok(false)
     }
 
-    /// Does a step, and answers whether it completes.
-    fn take_step(&mut self, step: &Step) -> Result<bool, AllocError>
+    /// Does a step of the event of this number, and answers whether it completes.
+    fn take_step(&mut self, step: &Step, number: u32) -> Result<bool, AllocError>
         requires ready { IsReady self.old }
         requires range { IsStepIn (flash_long self.old) step.now }
         requires few { self.old.done < 2 ^ 62 }
         ensures ready { OnOk result (IsReady self.new) }
         ensures taken { IfOk result
-            (λ whole. HasTaken self.old (step.now ∷ []) whole self.new) }
+            (λ whole. HasTaken self.old (step.now ∷ []) number whole self.new) }
     {
         if let Some(armed) = self.armed {
             match nearer(armed) {
@@ -111,20 +116,21 @@ impl<'a> Trace<'a> {
                 None => return self.lose(step, armed),
             }
         }
-        self.complete(step)?;
+        self.complete(step, number)?;
         Ok(true)
     }
 
-    /// Does the steps up to the one that the armed cut cuts, and answers whether all complete.
-    pub fn take_steps(&mut self, steps: &[Step]) -> Result<bool, AllocError>
+    /// Does the steps of the event of this number, up to the one that the armed cut cuts, and
+    /// answers whether all complete.
+    pub fn take_steps(&mut self, steps: &[Step], number: u32) -> Result<bool, AllocError>
         requires ready { IsReady self.old }
         requires range { All (IsStepIn (flash_long self.old)) steps.now }
         requires few { self.old.done + length steps.now < 2 ^ 62 }
         ensures ready { OnOk result (IsReady self.new) }
-        ensures taken { IfOk result (λ whole. HasTaken self.old steps.now whole self.new) }
+        ensures taken { IfOk result (λ whole. HasTaken self.old steps.now number whole self.new) }
     {
         for step in steps {
-            if !self.take_step(step)? {
+            if !self.take_step(step, number)? {
                 return Ok(false);
             }
         }

@@ -45,7 +45,7 @@ use Rattle.boot_rules.specs.declared.decision.Decision.TheVariants.{Bootsel as F
 use Rattle.boot_rules.specs.declared.decision.Fall.{Fall}
 use Rattle.boot_rules.specs.Chosen.{Chosen}
 use Rattle.cli_course.specs.declared.status.Status.{Status}
-use Rattle.cli_course.specs.declared.status.Status.TheVariants.{Done, Unbootable, Neither, NoEffect, Refused}
+use Rattle.cli_course.specs.declared.status.Status.TheVariants.{Done, Unbootable, Mixed, NoEffect, Refused}
 use Rattle.text_lines.specs.Texts.{decision_line}
 use Rattle.cli_inputs.specs.declared.forms.Form.TheVariants.{Flash, Otp}
 use Rattle.cli_inputs.specs.Rules.{AreFormed, IsRefusedFor, IsWorked}
@@ -247,7 +247,7 @@ judges _ = false
 -- a status of a verdict that is no pass
 abbrev pub is_verdict : Status → Bool
 is_verdict Unbootable = true
-is_verdict Neither = true
+is_verdict Mixed = true
 is_verdict NoEffect = true
 is_verdict Refused = true
 is_verdict _ = false

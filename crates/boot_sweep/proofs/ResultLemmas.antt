@@ -33,7 +33,7 @@ use Rattle.boot_sweep.specs.Comparing.{agree_on, agree_on_blocks, agree_on_load,
 use Rattle.boot_sweep.specs.Results.{IsCutResult, IsFormer}
 use Rattle.boot_session.specs.CutSessions.{StartsFinished}
 
-agree-is : (one two : List ℕ) (from n : ℕ) → agree_on one two from n ≡ true
+pub agree-is : (one two : List ℕ) (from n : ℕ) → agree_on one two from n ≡ true
     → (i : ℕ) → from ≤ i → i < from + n → slice_index two i ≡ slice_index one i
 unfolding agree_on
 agree-is one two from zero e i low high = absurd (omega (arith, low, high))
@@ -47,7 +47,7 @@ agree-is one two from (suc n) e i low high =
         ∙ ap (slice_index one) (sym here))
     go ih (inr there) = ih (omega (arith, low, there)) (omega (arith, high))
 
-is-agree : (one two : List ℕ) (from n : ℕ)
+pub is-agree : (one two : List ℕ) (from n : ℕ)
     → ((i : ℕ) → from ≤ i → i < from + n → slice_index two i ≡ slice_index one i) → agree_on one two from n ≡ true
 unfolding agree_on
 is-agree one two from zero agree = refl

@@ -25,7 +25,7 @@ mod sweeping;
 
 pub use act::Act;
 pub use boot_session::Recorder;
-pub use comparing::is_same_decision;
+pub use comparing::{is_same_decision, is_same_started};
 pub use cutting::each_cut;
 pub use doing::Doing;
 pub use error::SweepError;

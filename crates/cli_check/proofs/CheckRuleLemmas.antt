@@ -73,13 +73,13 @@ module _ (c : Content) (cpu : Cpu) (events : List EventView) (pattern : List ℕ
   findings-are = record {
     former = decision-chosen c cpu Normal;
     finished = decision-chosen (trace c cpu events).last cpu Normal;
-    end_class = (answer-is c (trace c cpu events).last cpu (trace c cpu events).last).class;
+    end_class = (answer-is c (trace c cpu events).last (trace c cpu events).moves cpu (trace c cpu events).last).class;
     refused = refused-is (played (powerless c cpu) events).outcomes;
     hashed = refl;
     raised = refl;
     law_is = law-is c cpu events right;
     found = answers c cpu events pattern;
-    answered = answers-are c (trace c cpu events).last cpu (cut_contents pattern (trace c cpu events).done);
+    answered = answers-are c (trace c cpu events).last (trace c cpu events).moves cpu (cut_contents pattern (trace c cpu events).done);
     counted = refl;
   }
 
@@ -90,13 +90,13 @@ module _ (c : Content) (cpu : Cpu) (events : List EventView) (pattern : List ℕ
       let z = (trace c cpu events).last in
       let finished : f.finished ≡ decision_in z cpu Normal = chosen-decision z cpu Normal f.finished are.finished in
       let found : are.found ≡ answers c cpu events pattern =
-      one-answers c z cpu (cut_contents pattern (trace c cpu events).done) are.found are.answered in
+      one-answers c z (trace c cpu events).moves cpu (cut_contents pattern (trace c cpu events).done) are.found are.answered in
       same-findings f (decision_in c cpu Normal) (decision_in z cpu Normal) (end_answer c cpu events).class
       (refused_from 0 (played (powerless c cpu) events).outcomes) (hash_of z cpu (decision_in z cpu Normal))
       (raise_count (trace_steps (trace c cpu events).done)) (law_of c cpu events)
       (counts_of (answers c cpu events pattern))
       (chosen-decision c cpu Normal f.former are.former) finished
-      ((class-exactly c z z cpu f.end_class).0 are.end_class)
+      ((class-exactly c z (trace c cpu events).moves z cpu f.end_class).0 are.end_class)
       (one-refused (played (powerless c cpu) events).outcomes f.refused
       (refused_from 0 (played (powerless c cpu) events).outcomes) are.refused
       (refused-is (played (powerless c cpu) events).outcomes))

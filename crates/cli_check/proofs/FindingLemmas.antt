@@ -1,5 +1,5 @@
 -- What is found of a script is what the functions say.
-use Rattle.std.proofs.Common.{◌≡◌, ℕ, ◌*◌, ◌^◌, ◌<◌, ◌≤◌, Bool, List, [], ◌∷◌, length, Option, refl, ap, ◌∙◌, arith}
+use Rattle.std.proofs.Common.{◌≡◌, ℕ, ◌+◌, ◌*◌, ◌^◌, ◌<◌, ◌≤◌, Bool, List, [], ◌∷◌, length, Option, refl, ap, ◌∙◌, arith}
 use Rattle.std.proofs.lemmas.List.{length-map}
 use Rattle.pico_board.specs.declared.Step.{Step}
 use Rattle.pico_board.specs.declared.boot.Cpu.{Cpu}
@@ -10,15 +10,17 @@ use Rattle.boot_rules.specs.Choosing.{decision_in}
 use Rattle.boot_script.specs.Events.{EventView}
 use Rattle.boot_plays.specs.Plays.{played, powerless}
 use Rattle.boot_session.specs.Recordings.{step_limit}
+use Rattle.boot_cuts.specs.declared.answers.Answer.{Answer}
 use Rattle.boot_cuts.specs.declared.answers.Class.{Class}
 use Rattle.boot_cuts.specs.declared.found.Cuts.{Cuts}
-use Rattle.boot_cuts.specs.declared.kinds.Kind.{Kind}
-use Rattle.boot_cuts.specs.declared.kinds.Kind.TheVariants as kinds
+use Rattle.boot_cuts.specs.declared.answers.Class.TheVariants as classes
 use Rattle.boot_cuts.specs.declared.runs.Run.{Run}
 use Rattle.boot_cuts.specs.Answers.{answer_of, answers, end_answer}
 use Rattle.boot_cuts.specs.Contents.{cut_contents}
 use Rattle.boot_cuts.specs.Found.{AreCutsOf}
-use Rattle.boot_cuts.specs.Kinds.{kind_count, runs_count}
+use Rattle.boot_cuts.specs.Counts.{class_count, runs_count}
+use Rattle.boot_cuts.specs.Tears.{left_torn}
+use Rattle.boot_cuts.specs.Runs.{runs_of}
 use Rattle.boot_cuts.specs.Traces.{Traced, trace, trace_steps}
 use Rattle.cli_check.specs.declared.findings.CutCounts.{CutCounts}
 use Rattle.cli_check.specs.declared.findings.Findings.{Findings}
@@ -27,7 +29,7 @@ use Rattle.cli_check.specs.CheckWorks.{counts_of, counts_of_runs, findings_of, h
 use Rattle.cli_check.specs.Records.{refused_from}
 use Rattle.cli_check.specs.SessionLaws.{law_by, law_of}
 use Rattle.cli_check.specs.Sessions.{is_one_session}
-use Rattle.cli_check.proofs.CountLemmas.{kind-few, runs-count}
+use Rattle.cli_check.proofs.CountLemmas.{class-few, runs-count}
 
 -- two cuts a step
 contents-long : (pattern : List ℕ) (done : List Traced) → length (cut_contents pattern done) ≡ 2 * length done
@@ -36,6 +38,18 @@ contents-long pattern (t ∷ done) = let rest = contents-long pattern done in om
 
 steps-long : (done : List Traced) → length (trace_steps done) ≡ length done
 steps-long done = length-map done (λ (t : Traced). t.step)
+
+-- the counts of runs are those of their cuts
+counts-by : (a b d e f g p q r s t u : ℕ) → a ≡ p → b ≡ q → d ≡ r → e ≡ s → f ≡ t → g ≡ u
+    → (let one : CutCounts = record { former = a; finished = b; bootsel = d; other = e + (f + g) } in
+    let two : CutCounts = record { former = p; finished = q; bootsel = r; other = s + (t + u) } in one ≡ two)
+counts-by a b d e f g p q r s t u h0 h1 h2 h3 h4 h5 = cc
+
+counts-same : (found : List Answer) → counts_of_runs (runs_of found) ≡ counts_of found
+counts-same found =
+    counts-by _ _ _ _ _ _ _ _ _ _ _ _ (runs-count classes.Former found) (runs-count classes.Finished found)
+    (runs-count classes.Bootsel found) (runs-count classes.Whole found) (runs-count classes.Tail found)
+    (runs-count classes.Mixed found)
 
 module _ (c : Content) (cpu : Cpu) (events : List EventView) (pattern : List ℕ) (found : Cuts)
     (are : AreCutsOf c cpu events pattern found) where
@@ -47,34 +61,24 @@ module _ (c : Content) (cpu : Cpu) (events : List EventView) (pattern : List ℕ
 
   answers-few : length (answers c cpu events pattern) ≤ 524288
   answers-few =
-      let long = length-map (cut_contents pattern (trace c cpu events).done) (answer_of c (trace c cpu events).last cpu)
+      let long = length-map (cut_contents pattern (trace c cpu events).done) (answer_of c (trace c cpu events).last (left_torn (trace c cpu events).moves) cpu)
       ∙ contents-long pattern (trace c cpu events).done in
       omega (arith, long, are.short)
 
-  runs-are : (kind : Kind) → runs_count kind found.runs.items ≡ kind_count kind (answers c cpu events pattern)
-  runs-are kind =
-      ap (λ (runs : List Run). runs_count kind runs) are.runs ∙ runs-count kind (answers c cpu events pattern)
+  runs-are : (class : Class) → runs_count class found.runs.items ≡ class_count class (answers c cpu events pattern)
+  runs-are class =
+      ap (λ (runs : List Run). runs_count class runs) are.runs ∙ runs-count class (answers c cpu events pattern)
 
-  pub runs-few : (kind : Kind) → runs_count kind found.runs.items < 2 ^ 32
-  runs-few kind =
-      let is = runs-are kind in
-      let few = kind-few kind (answers c cpu events pattern) in
+  pub runs-few : (class : Class) → runs_count class found.runs.items < 2 ^ 32
+  runs-few class =
+      let is = runs-are class in
+      let few = class-few class (answers c cpu events pattern) in
       omega (arith, is, few, answers-few)
 
   counts-are : counts_of_runs found.runs.items ≡ counts_of (answers c cpu events pattern)
   counts-are =
-      let made : ℕ → ℕ → ℕ → ℕ → CutCounts =
-      λ a b d e. record { former = a; finished = b; bootsel = d; other = e } in
-      ap (λ a. made a (runs_count kinds.Finished found.runs.items) (runs_count kinds.Dead found.runs.items)
-      (runs_count kinds.Strange found.runs.items)) (runs-are kinds.Former)
-      ∙ ap (λ b. made (kind_count kinds.Former (answers c cpu events pattern)) b
-      (runs_count kinds.Dead found.runs.items) (runs_count kinds.Strange found.runs.items)) (runs-are kinds.Finished)
-      ∙ ap (λ d. made (kind_count kinds.Former (answers c cpu events pattern))
-      (kind_count kinds.Finished (answers c cpu events pattern)) d (runs_count kinds.Strange found.runs.items))
-      (runs-are kinds.Dead)
-      ∙ ap (λ e. made (kind_count kinds.Former (answers c cpu events pattern))
-      (kind_count kinds.Finished (answers c cpu events pattern)) (kind_count kinds.Dead (answers c cpu events pattern)) e)
-      (runs-are kinds.Strange)
+      let made : List Run → CutCounts = counts_of_runs in
+      ap made are.runs ∙ counts-same (answers c cpu events pattern)
 
   pub findings-are : (z : Content) (refused : Option ℕ) (one : Bool) (steps again : List Step) (runs : List Run)
       (hashed : Option Bool) (raised : ℕ) (law : SessionLaw) (cuts : CutCounts)

@@ -4,13 +4,13 @@ use Rattle.std.specs.Prelude.{◌==◌, ◌&&◌, ◌||◌}
 use Rattle.std.proofs.lemmas.Bool.{and_from, and_parts, cases_lt, eqb-true}
 use Rattle.std.proofs.lemmas.Option.{same_Some}
 use Rattle.boot_cuts.specs.declared.answers.Class.{Class}
-use Rattle.boot_cuts.specs.declared.answers.Class.TheVariants.{Former, Finished, Neither}
+use Rattle.boot_cuts.specs.declared.answers.Class.TheVariants.{Former, Finished, Whole, Tail, Mixed, Bootsel}
 use Rattle.cli_course.specs.declared.status.Status.TheVariants.{Input}
-use Rattle.cli_course.specs.Outcomes.{Verdict, Passes, IsUnbootable, IsNeither, HasNoEffect, IsRefused, verdict_status}
+use Rattle.cli_course.specs.Outcomes.{Verdict, Passes, IsUnbootable, IsMixed, HasNoEffect, IsRefused, verdict_status}
 use Rattle.text_lines.specs.declared.outcome.EventOutcome.{EventOutcome}
 use Rattle.cli_check.specs.declared.findings.Findings.{Findings}
 use Rattle.cli_check.specs.CheckRules.{IsFirstRefused, IsLeftDead, IsPassing, IsVerdict}
-use Rattle.cli_check.specs.Findings.{has_effect, is_neither_class, is_safe, verdict_of}
+use Rattle.cli_check.specs.Findings.{has_effect, is_fallen_class, is_safe, verdict_of}
 use Rattle.cli_check.specs.Records.{does_nothing, refused_from}
 
 false-true : (b : Bool) → b ≡ false → b ≡ true → ⊥
@@ -70,10 +70,13 @@ none-is : (o : Option ℕ) → is_none o ≡ true → o ≡ None
 none-is None is = refl
 none-is (Some k) is = cc
 
-neither-is : (k : Class) → is_neither_class k ≡ true → k ≡ Neither
-neither-is Former is = cc
-neither-is Finished is = cc
-neither-is Neither is = refl
+fallen-is : (k : Class) → is_fallen_class k ≡ true → k ≡ Bootsel
+fallen-is Former is = cc
+fallen-is Finished is = cc
+fallen-is Whole is = cc
+fallen-is Tail is = cc
+fallen-is Mixed is = cc
+fallen-is Bootsel is = refl
 
 or-parts : (a b : Bool) → (a || b) ≡ true → (a ≡ true) ⊎ ((a ≡ false) × (b ≡ true))
 or-parts true b is = inl refl
@@ -94,7 +97,7 @@ module _ (f : Findings) where
   passes = is_safe f.cuts && (is_none f.refused && has_effect f)
 
   abbrev dead : Bool
-  dead = not (f.cuts.bootsel == 0) || is_neither_class f.end_class
+  dead = not (f.cuts.bootsel == 0) || is_fallen_class f.end_class
 
   passing-is : passes ≡ true → IsPassing f
   passing-is is =
@@ -109,28 +112,28 @@ module _ (f : Findings) where
       (and_from _ _ (ap is_none refused) effect)
 
   dead-is : dead ≡ true → IsLeftDead f
-  dead-is is = go (or-parts (not (f.cuts.bootsel == 0)) (is_neither_class f.end_class) is)
+  dead-is is = go (or-parts (not (f.cuts.bootsel == 0)) (is_fallen_class f.end_class) is)
     where
       go : (not (f.cuts.bootsel == 0) ≡ true)
-          ⊎ ((not (f.cuts.bootsel == 0) ≡ false) × (is_neither_class f.end_class ≡ true)) → IsLeftDead f
+          ⊎ ((not (f.cuts.bootsel == 0) ≡ false) × (is_fallen_class f.end_class ≡ true)) → IsLeftDead f
       go (inl some) = inl (λ none. false-true (not (f.cuts.bootsel == 0)) (ap not (is-zero f.cuts.bootsel none)) some)
-      go (inr (none, neither)) = inr (neither-is f.end_class neither)
+      go (inr (none, fallen)) = inr (fallen-is f.end_class fallen)
 
   is-dead : IsLeftDead f → dead ≡ true
   is-dead (inl some) =
-      ap (λ b. not b || is_neither_class f.end_class)
+      ap (λ b. not b || is_fallen_class f.end_class)
       (is-false (f.cuts.bootsel == 0) (λ is. some (zero-is f.cuts.bootsel is)))
-  is-dead (inr neither) = go (not (f.cuts.bootsel == 0))
+  is-dead (inr fallen) = go (not (f.cuts.bootsel == 0))
     where
-      go : (b : Bool) → (b || is_neither_class f.end_class) ≡ true
+      go : (b : Bool) → (b || is_fallen_class f.end_class) ≡ true
       go true = refl
-      go false = ap is_neither_class neither
+      go false = ap is_fallen_class fallen
 
   pub verdict-is : IsVerdict f (verdict_of f)
   verdict-is = go passes (f.cuts.other == 0) dead f.refused refl refl refl refl
     where
       go : (p o d : Bool) (r : Option ℕ) → passes ≡ p → (f.cuts.other == 0) ≡ o → dead ≡ d → f.refused ≡ r
-          → IsVerdict f (if p then Passes else if not o then IsNeither else if d then IsUnbootable
+          → IsVerdict f (if p then Passes else if not o then IsMixed else if d then IsUnbootable
           else if is_some r then IsRefused else HasNoEffect)
       go true o d r p other left refused = passing-is p
       go false false d r p other left refused = (
@@ -158,27 +161,27 @@ module _ (f : Findings) where
   pub one-verdict : (v w : Verdict) → IsVerdict f v → IsVerdict f w → v ≡ w
   one-verdict Passes Passes a b = refl
   one-verdict Passes IsUnbootable a b = absurd (b.0 a)
-  one-verdict Passes IsNeither a b = absurd (b.0 a)
+  one-verdict Passes IsMixed a b = absurd (b.0 a)
   one-verdict Passes HasNoEffect a b = absurd (b.0 a)
   one-verdict Passes IsRefused a b = absurd (b.0 a)
   one-verdict IsUnbootable Passes a b = absurd (a.0 b)
   one-verdict IsUnbootable IsUnbootable a b = refl
-  one-verdict IsUnbootable IsNeither a b = absurd (b.1 a.1)
+  one-verdict IsUnbootable IsMixed a b = absurd (b.1 a.1)
   one-verdict IsUnbootable HasNoEffect a b = absurd (b.2 a.2)
   one-verdict IsUnbootable IsRefused a b = absurd (b.2 a.2)
-  one-verdict IsNeither Passes a b = absurd (a.0 b)
-  one-verdict IsNeither IsUnbootable a b = absurd (a.1 b.1)
-  one-verdict IsNeither IsNeither a b = refl
-  one-verdict IsNeither HasNoEffect a b = absurd (a.1 b.1)
-  one-verdict IsNeither IsRefused a b = absurd (a.1 b.1)
+  one-verdict IsMixed Passes a b = absurd (a.0 b)
+  one-verdict IsMixed IsUnbootable a b = absurd (a.1 b.1)
+  one-verdict IsMixed IsMixed a b = refl
+  one-verdict IsMixed HasNoEffect a b = absurd (a.1 b.1)
+  one-verdict IsMixed IsRefused a b = absurd (a.1 b.1)
   one-verdict HasNoEffect Passes a b = absurd (a.0 b)
   one-verdict HasNoEffect IsUnbootable a b = absurd (a.2 b.2)
-  one-verdict HasNoEffect IsNeither a b = absurd (b.1 a.1)
+  one-verdict HasNoEffect IsMixed a b = absurd (b.1 a.1)
   one-verdict HasNoEffect HasNoEffect a b = refl
   one-verdict HasNoEffect IsRefused a b = absurd (b.3 a.3)
   one-verdict IsRefused Passes a b = absurd (a.0 b)
   one-verdict IsRefused IsUnbootable a b = absurd (a.2 b.2)
-  one-verdict IsRefused IsNeither a b = absurd (b.1 a.1)
+  one-verdict IsRefused IsMixed a b = absurd (b.1 a.1)
   one-verdict IsRefused HasNoEffect a b = absurd (a.3 b.3)
   one-verdict IsRefused IsRefused a b = refl
 
@@ -186,6 +189,6 @@ module _ (f : Findings) where
 pub not-input : (v : Verdict) → verdict_status v ≡ Input → ⊥
 not-input Passes is = cc
 not-input IsUnbootable is = cc
-not-input IsNeither is = cc
+not-input IsMixed is = cc
 not-input HasNoEffect is = cc
 not-input IsRefused is = cc

@@ -9,13 +9,13 @@ use Rattle.boot_script.specs.Scripts.{script_events}
 use Rattle.text_lines.specs.declared.outcome.EventOutcome.{EventOutcome}
 use Rattle.boot_plays.specs.Plays.{played, powerless}
 use Rattle.boot_cuts.specs.declared.answers.Answer.{Answer}
-use Rattle.boot_cuts.specs.declared.answers.Class.TheVariants.{Neither}
+use Rattle.boot_cuts.specs.declared.answers.Class.TheVariants.{Bootsel}
 use Rattle.boot_cuts.specs.Classes.{IsClass}
 use Rattle.boot_cuts.specs.Contents.{cut_contents}
 use Rattle.boot_cuts.specs.Found.{IsShort, trace_limit}
 use Rattle.boot_cuts.specs.Told.{AreAnswers}
 use Rattle.boot_cuts.specs.Traces.{trace, trace_steps}
-use Rattle.cli_course.specs.Outcomes.{AnswerView, verdict_status, Verdict, Passes, IsUnbootable, IsNeither, HasNoEffect, IsRefused}
+use Rattle.cli_course.specs.Outcomes.{AnswerView, verdict_status, Verdict, Passes, IsUnbootable, IsMixed, HasNoEffect, IsRefused}
 use Rattle.cli_check.specs.declared.findings.Findings.{Findings}
 use Rattle.cli_check.specs.CheckWorks.{counts_of, hash_of, raise_count}
 use Rattle.cli_check.specs.Findings.{findings_text, has_effect}
@@ -43,11 +43,11 @@ abbrev pub IsPassing : Findings → Type 0
 IsPassing f = IsSafe f × (f.refused ≡ None) × (has_effect f ≡ true)
 
 abbrev pub IsLeftDead : Findings → Type 0
-IsLeftDead f = (f.cuts.bootsel ≢ 0) ⊎ (f.end_class ≡ Neither)
+IsLeftDead f = (f.cuts.bootsel ≢ 0) ⊎ (f.end_class ≡ Bootsel)
 
 abbrev pub IsVerdict : Findings → Verdict → Type 0
 IsVerdict f Passes = IsPassing f
-IsVerdict f IsNeither = (IsPassing f → ⊥) × (f.cuts.other ≢ 0)
+IsVerdict f IsMixed = (IsPassing f → ⊥) × (f.cuts.other ≢ 0)
 IsVerdict f IsUnbootable = (IsPassing f → ⊥) × (f.cuts.other ≡ 0) × IsLeftDead f
 IsVerdict f IsRefused =
     (IsPassing f → ⊥) × (f.cuts.other ≡ 0) × (IsLeftDead f → ⊥) × (f.refused ≢ None)
@@ -56,18 +56,19 @@ IsVerdict f HasNoEffect =
 
 -- What is found of a script that leads from the content c to z. It has what a normal boot decides
 -- on c and on z, and the class of z. It has the first record that did nothing, and whether the
--- image that starts on z has a digest. Last come the raises, the law, and the cuts of each kind.
+-- image that starts on z has a digest. Last come the raises, the law, and the cuts of each class.
 pub record AreFindings (c : Content) (cpu : Cpu) (events : List EventView) (pattern : List ℕ)
     (f : Findings) : Type 0 where
   pub former : Chosen c cpu Normal f.former
   pub finished : Chosen (trace c cpu events).last cpu Normal f.finished
-  pub end_class : IsClass c (trace c cpu events).last (trace c cpu events).last cpu f.end_class
+  pub end_class : IsClass c (trace c cpu events).last (trace c cpu events).moves
+      (trace c cpu events).last cpu f.end_class
   pub refused : IsFirstRefused (played (powerless c cpu) events).outcomes f.refused
   pub hashed : f.hashed ≡ hash_of (trace c cpu events).last cpu f.finished
   pub raised : f.raised ≡ raise_count (trace_steps (trace c cpu events).done)
   pub law_is : IsSessionLaw c cpu events f.law
   pub found : List Answer
-  pub answered : AreAnswers c (trace c cpu events).last cpu
+  pub answered : AreAnswers c (trace c cpu events).last (trace c cpu events).moves cpu
       (cut_contents pattern (trace c cpu events).done) found
   pub counted : f.cuts ≡ counts_of found
 

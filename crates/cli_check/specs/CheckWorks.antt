@@ -1,5 +1,5 @@
 -- The work of `check`, as a function.
-use Rattle.std.specs.Prelude.{ℕ, Bool, true, false, if◌then◌else◌, nat_lt, is_some, List, length, count_by, Option, Some, None, Result, Ok, Err, codes}
+use Rattle.std.specs.Prelude.{ℕ, ◌+◌, Bool, true, false, if◌then◌else◌, nat_lt, is_some, List, length, count_by, Option, Some, None, Result, Ok, Err, codes}
 use Rattle.pico_board.specs.declared.Step.{Step}
 use Rattle.pico_board.specs.declared.step.Step.TheVariants.{Raise}
 use Rattle.pico_board.specs.declared.boot.Cpu.{Cpu}
@@ -15,10 +15,11 @@ use Rattle.boot_script.specs.Events.{EventView}
 use Rattle.boot_script.specs.Scripts.{script_events}
 use Rattle.boot_plays.specs.Plays.{played, powerless}
 use Rattle.boot_cuts.specs.declared.answers.Answer.{Answer}
-use Rattle.boot_cuts.specs.declared.kinds.Kind.TheVariants as kinds
+use Rattle.boot_cuts.specs.declared.answers.Class.TheVariants.{Former, Finished, Whole, Tail, Mixed}
+use Rattle.boot_cuts.specs.declared.answers.Class.TheVariants as classes
 use Rattle.boot_cuts.specs.Answers.{answers, end_answer}
 use Rattle.boot_cuts.specs.Found.{trace_limit}
-use Rattle.boot_cuts.specs.Kinds.{kind_count, runs_count}
+use Rattle.boot_cuts.specs.Counts.{class_count, runs_count}
 use Rattle.boot_cuts.specs.declared.runs.Run.{Run}
 use Rattle.boot_cuts.specs.Traces.{trace, trace_steps}
 use Rattle.cli_course.specs.Outcomes.{Work, Judges, Refuses}
@@ -47,22 +48,22 @@ hash_of z cpu (Start choice) =
     Some (is_hashed (defined_in cpu (window_bytes z choice.image.window)))
 hash_of z cpu (Bootsel fall) = None
 
--- the cuts with these answers, by kind
+-- the cuts with these answers: the former and the finished ones, those that fall, and all others
 abbrev pub counts_of : List Answer → CutCounts
 counts_of found = record {
-  former = kind_count kinds.Former found;
-  finished = kind_count kinds.Finished found;
-  bootsel = kind_count kinds.Dead found;
-  other = kind_count kinds.Strange found;
+  former = class_count Former found;
+  finished = class_count Finished found;
+  bootsel = class_count classes.Bootsel found;
+  other = class_count Whole found + (class_count Tail found + class_count Mixed found);
 }
 
 -- the same of the runs of these cuts
 abbrev pub counts_of_runs : List Run → CutCounts
 counts_of_runs runs = record {
-  former = runs_count kinds.Former runs;
-  finished = runs_count kinds.Finished runs;
-  bootsel = runs_count kinds.Dead runs;
-  other = runs_count kinds.Strange runs;
+  former = runs_count Former runs;
+  finished = runs_count Finished runs;
+  bootsel = runs_count classes.Bootsel runs;
+  other = runs_count Whole runs + (runs_count Tail runs + runs_count Mixed runs);
 }
 
 -- what is found of a script on a content

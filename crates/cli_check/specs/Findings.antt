@@ -1,11 +1,11 @@
 -- The lines of what is found of an update, and the verdict on it.
 use Rattle.std.specs.Prelude.{ℕ, ◌==◌, ◌&&◌, ◌||◌, not, Bool, true, false, is_none, is_some, if◌then◌else◌, List, ◌++◌, Option, Some, None, codes, decimal}
 use Rattle.boot_cuts.specs.declared.answers.Class.{Class}
-use Rattle.boot_cuts.specs.declared.answers.Class.TheVariants.{Former, Neither}
+use Rattle.boot_cuts.specs.declared.answers.Class.TheVariants.{Former, Bootsel}
 use Rattle.boot_cuts.specs.Classing.{is_start}
 use Rattle.text_words.specs.Writing.{yes_or_no}
 use Rattle.text_lines.specs.Texts.{decision_line, window_text}
-use Rattle.cli_course.specs.Outcomes.{Verdict, Passes, IsUnbootable, IsNeither, HasNoEffect, IsRefused, line}
+use Rattle.cli_course.specs.Outcomes.{Verdict, Passes, IsUnbootable, IsMixed, HasNoEffect, IsRefused, line}
 use Rattle.cli_check.specs.declared.findings.CutCounts.{CutCounts}
 use Rattle.cli_check.specs.declared.findings.Findings.{Findings}
 use Rattle.cli_check.specs.declared.findings.SessionLaw.{SessionLaw}
@@ -15,9 +15,9 @@ abbrev pub is_former_class : Class → Bool
 is_former_class Former = true
 is_former_class _ = false
 
-abbrev pub is_neither_class : Class → Bool
-is_neither_class Neither = true
-is_neither_class _ = false
+abbrev pub is_fallen_class : Class → Bool
+is_fallen_class Bootsel = true
+is_fallen_class _ = false
 
 -- there is an effect where a normal boot after the script starts an image, and not as before it
 abbrev pub has_effect : Findings → Bool
@@ -77,7 +77,7 @@ is_safe n = n.bootsel == 0 && n.other == 0
 abbrev pub verdict_of : Findings → Verdict
 verdict_of f =
     if is_safe f.cuts && (is_none f.refused && has_effect f) then Passes
-    else if not (f.cuts.other == 0) then IsNeither
-    else if not (f.cuts.bootsel == 0) || is_neither_class f.end_class then IsUnbootable
+    else if not (f.cuts.other == 0) then IsMixed
+    else if not (f.cuts.bootsel == 0) || is_fallen_class f.end_class then IsUnbootable
     else if is_some f.refused then IsRefused
     else HasNoEffect

@@ -4,12 +4,12 @@ ghost use Rattle.std.specs.Prelude.{◌≡◌, ◌+◌, ◌^◌, ◌<◌, ◌≤
 ghost use Rattle.pico_board.specs.declared.boot.BootKind.TheVariants.{Normal};
 ghost use Rattle.pico_board.specs.MemBoard.{state_of};
 ghost use Rattle.boot_rules.specs.Chosen.{Chosen};
-ghost use Rattle.boot_cuts.specs.declared.kinds.Kind.{Kind};
-ghost use Rattle.boot_cuts.specs.Kinds.{has_kind, is_kind, kind_of, neither_kind, run_count, runs_count};
+ghost use Rattle.boot_cuts.specs.declared.answers.Class.{Class as ClassView};
+ghost use Rattle.boot_cuts.specs.Counts.{run_count, runs_count};
 ghost use Rattle.cli_check.specs.CheckWorks.{counts_of_runs, hash_of, is_hashed, is_raise, raise_count};
 
 use crate::findings::CutCounts;
-use boot_cuts::{Answer, Class, Kind, Run};
+use boot_cuts::{Class, Run, is_same_class};
 use boot_rules::Decision;
 use image_check::defined_in;
 use pico_board::{Cpu, FlashView, MemBoard, Step};
@@ -58,71 +58,41 @@ pub(crate) fn hash_of(board: &MemBoard, cpu: Cpu, decision: &Decision) -> Option
     }
 }
 
-/// The kind of an answer whose class is neither.
-fn neither_kind(decision: &Decision) -> Kind
-    ensures { result ≡ neither_kind decision.now }
+/// How many cuts a run has, where it is of this class.
+fn run_count(class: Class, run: &Run) -> usize
+    ensures { result ≡ run_count class run.now }
 {
-    match decision {
-        Decision::Start(_) => Kind::Strange,
-        Decision::Bootsel(_) => Kind::Dead,
-    }
-}
-
-/// The kind of an answer.
-fn kind_of(answer: &Answer) -> Kind
-    ensures { result ≡ kind_of answer.now }
-{
-    match answer.class {
-        Class::Former => Kind::Former,
-        Class::Finished => Kind::Finished,
-        Class::Neither => neither_kind(&answer.decision),
-    }
-}
-
-/// Whether the kinds are the same.
-fn is_kind(one: Kind, two: Kind) -> bool
-    ensures { result ≡ is_kind one two }
-{
-    match one {
-        Kind::Former => matches!(two, Kind::Former),
-        Kind::Finished => matches!(two, Kind::Finished),
-        Kind::Dead => matches!(two, Kind::Dead),
-        Kind::Strange => matches!(two, Kind::Strange),
-    }
-}
-
-/// How many cuts a run has, where it is of this kind.
-fn run_count(kind: Kind, run: &Run) -> usize
-    ensures { result ≡ run_count kind run.now }
-{
-    if is_kind(kind, kind_of(&run.answer)) {
+    if is_same_class(class, run.answer.class) {
         (run.last as usize + 1).saturating_sub(run.first as usize)
     } else {
         0
     }
 }
 
-/// How many cuts of this kind the runs have.
-pub(crate) fn runs_count(kind: Kind, runs: &[Run]) -> usize
-    requires { runs_count kind runs.now < 2 ^ 32 }
-    ensures { result ≡ runs_count kind runs.now }
+/// How many cuts of this class the runs have.
+pub(crate) fn runs_count(class: Class, runs: &[Run]) -> usize
+    requires { runs_count class runs.now < 2 ^ 32 }
+    ensures { result ≡ runs_count class runs.now }
 {
     let mut count = 0;
     for run in runs {
-        count += run_count(kind, run);
+        count += run_count(class, run);
     }
     count
 }
 
-/// The cuts of each kind.
+/// The cuts by their classes.
 pub(crate) fn cut_counts(runs: &[Run]) -> CutCounts
-    requires { (kind : Kind) → runs_count kind runs.now < 2 ^ 32 }
+    requires { (class : ClassView) → runs_count class runs.now < 2 ^ 32 }
     ensures { result ≡ counts_of_runs runs.now }
 {
+    let whole = runs_count(Class::Whole, runs);
+    let tail = runs_count(Class::Tail, runs);
+    let mixed = runs_count(Class::Mixed, runs);
     CutCounts {
-        former: runs_count(Kind::Former, runs),
-        finished: runs_count(Kind::Finished, runs),
-        bootsel: runs_count(Kind::Dead, runs),
-        other: runs_count(Kind::Strange, runs),
+        former: runs_count(Class::Former, runs),
+        finished: runs_count(Class::Finished, runs),
+        bootsel: runs_count(Class::Bootsel, runs),
+        other: whole + (tail + mixed),
     }
 }

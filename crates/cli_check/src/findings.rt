@@ -15,16 +15,16 @@ pub enum SessionLaw {
     NoLaw,
 }
 
-/// How many losses of power there are of each kind.
+/// How many losses of power there are of each class.
 #[derive(Clone, Copy, Debug, PartialEq, Eq)]
 pub struct CutCounts {
     /// The boot decides as before the script.
     pub former: usize,
     /// The boot starts what it starts after the whole script.
     pub finished: usize,
-    /// Neither, and the boot falls to BOOTSEL.
+    /// The boot falls to BOOTSEL, and not as before the script.
     pub bootsel: usize,
-    /// Neither, and the boot starts an image.
+    /// The boot starts another image.
     pub other: usize,
 }
 
@@ -45,6 +45,6 @@ pub struct Findings {
     pub raised: usize,
     /// What holds of every torn content.
     pub law: SessionLaw,
-    /// The losses of power of each kind.
+    /// The losses of power of each class.
     pub cuts: CutCounts,
 }

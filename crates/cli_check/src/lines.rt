@@ -2,7 +2,7 @@
 
 ghost use Rattle.std.specs.Prelude.{◌≡◌, IfOk, string_bytes};
 ghost use Rattle.cli_course.specs.Outcomes.{verdict_status, line};
-ghost use Rattle.cli_check.specs.Findings.{boot_lines, counts_text, findings_text, has_effect, image_text, is_former_class, is_neither_class, is_safe, law_text, record_lines, records_text, step_lines, verdict_of};
+ghost use Rattle.cli_check.specs.Findings.{boot_lines, counts_text, findings_text, has_effect, image_text, is_former_class, is_fallen_class, is_safe, law_text, record_lines, records_text, step_lines, verdict_of};
 
 use crate::findings::{CutCounts, Findings, SessionLaw};
 use boot_cuts::Class;
@@ -17,8 +17,8 @@ fn has_effect(findings: &Findings) -> bool
     ensures { result ≡ has_effect findings.now }
 {
     match (&findings.finished, findings.end_class) {
-        (Decision::Start(_), Class::Finished | Class::Neither) => true,
-        _ => false,
+        (Decision::Start(_), Class::Former) | (Decision::Bootsel(_), _) => false,
+        (Decision::Start(_), _) => true,
     }
 }
 
@@ -128,14 +128,11 @@ fn is_safe(cuts: CutCounts) -> bool
     cuts.bootsel == 0 && cuts.other == 0
 }
 
-/// Whether the class is neither.
-fn is_neither(class: Class) -> bool
-    ensures { result ≡ is_neither_class class }
+/// Whether the class is that of a fall.
+fn is_fallen(class: Class) -> bool
+    ensures { result ≡ is_fallen_class class }
 {
-    match class {
-        Class::Neither => true,
-        Class::Former | Class::Finished => false,
-    }
+    matches!(class, Class::Bootsel)
 }
 
 /// The status of the verdict.
@@ -146,8 +143,8 @@ pub(crate) fn verdict(findings: &Findings) -> Status
     if is_safe(findings.cuts) && findings.refused.is_none() && effect {
         Status::Done
     } else if findings.cuts.other != 0 {
-        Status::Neither
-    } else if findings.cuts.bootsel != 0 || is_neither(findings.end_class) {
+        Status::Mixed
+    } else if findings.cuts.bootsel != 0 || is_fallen(findings.end_class) {
         Status::Unbootable
     } else if findings.refused.is_some() {
         Status::Refused

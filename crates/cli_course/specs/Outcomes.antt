@@ -4,7 +4,7 @@ use Rattle.pico_board.specs.Files.{File, file_of}
 -- a line ends with one line feed
 pub use Rattle.text_words.specs.Writing.{line}
 use Rattle.cli_course.specs.declared.status.Status.{Status}
-use Rattle.cli_course.specs.declared.status.Status.TheVariants.{Done, Words, Input, Bootsel, ReadFault, WriteFault, OutputFault, Memory, Unbootable, Neither, NoEffect, Refused}
+use Rattle.cli_course.specs.declared.status.Status.TheVariants.{Done, Words, Input, Bootsel, ReadFault, WriteFault, OutputFault, Memory, Unbootable, Mixed, NoEffect, Refused}
 
 -- an input file: its name, and the greatest length of a file that is read whole, in bytes
 pub record LimitedInputView : Type 0 where
@@ -32,7 +32,7 @@ pub record AnswerView : Type 0 where
 pub data Verdict : Type 0 where
   Passes : Verdict
   IsUnbootable : Verdict
-  IsNeither : Verdict
+  IsMixed : Verdict
   HasNoEffect : Verdict
   IsRefused : Verdict
 
@@ -69,7 +69,7 @@ answered_status false = Done
 abbrev pub verdict_status : Verdict → Status
 verdict_status Passes = Done
 verdict_status IsUnbootable = Unbootable
-verdict_status IsNeither = Neither
+verdict_status IsMixed = Mixed
 verdict_status HasNoEffect = NoEffect
 verdict_status IsRefused = Refused
 
@@ -111,7 +111,7 @@ is_finished Words = true
 is_finished Input = true
 is_finished Bootsel = true
 is_finished Unbootable = true
-is_finished Neither = true
+is_finished Mixed = true
 is_finished NoEffect = true
 is_finished Refused = true
 is_finished _ = false

@@ -23,8 +23,9 @@ pub enum Status {
     Memory,
     /// Some loss of power, or the whole script, leaves nothing to start.
     Unbootable,
-    /// After some loss of power an image starts that is neither the former nor the finished one.
-    Neither,
+    /// Some loss of power, or the whole script, starts an image that stood whole neither before
+    /// nor at the end.
+    Mixed,
     /// An update changes nothing that a boot starts.
     NoEffect,
     /// A record of an update did nothing.

@@ -54,16 +54,19 @@ module _ (c : Content) (cpu : Cpu) (name pattern : List ℕ) where
   pub found-work : (es : List EventView) (found : Cuts) → AreCutsOf c cpu es pattern found
       → ended (verdict_status (verdict_of
       (record { class = found.end_; decision = found.finished } ∷ run_answers found.runs.items)))
-      (cuts_text found.steps.items found.runs.items found.end_ found.finished)
+      (cuts_text found.steps.items found.numbers.items found.runs.items found.end_ found.finished)
       ≡ worked (events_work c cpu name es pattern)
   found-work es found is =
       let told : List Run → Answer → AnswerView =
       λ runs end. ended (verdict_status (verdict_of (end ∷ run_answers runs)))
-      (cuts_text (trace_steps (trace c cpu es).done) runs end.class end.decision) in
+      (cuts_text (trace_steps (trace c cpu es).done) (trace c cpu es).numbers runs end.class end.decision) in
       ap (λ steps. ended (verdict_status (verdict_of
       (record { class = found.end_; decision = found.finished } ∷ run_answers found.runs.items)))
-      (cuts_text steps found.runs.items found.end_ found.finished)) is.steps
-      ∙ (ap (λ runs. told runs (record { class = found.end_; decision = found.finished })) is.runs
+      (cuts_text steps found.numbers.items found.runs.items found.end_ found.finished)) is.steps
+      ∙ (ap (λ numbers. ended (verdict_status (verdict_of
+      (record { class = found.end_; decision = found.finished } ∷ run_answers found.runs.items)))
+      (cuts_text (trace_steps (trace c cpu es).done) numbers found.runs.items found.end_ found.finished)) is.numbers
+      ∙ ap (λ runs. told runs (record { class = found.end_; decision = found.finished })) is.runs
       ∙ (ap (λ k. told (script_runs c cpu es pattern) (record { class = k; decision = found.finished })) is.end_
       ∙ (ap (λ d. told (script_runs c cpu es pattern)
       (record { class = (end_answer c cpu es).class; decision = d })) is.finished
@@ -94,11 +97,11 @@ module _ (c : Content) (cpu : Cpu) (name script pattern : List ℕ) where
           reads = events-read script form;
           short = few;
           told = answers c cpu happened pattern;
-          answered = answers-are c z cpu (cut_contents pattern (trace c cpu happened).done);
+          answered = answers-are c z (trace c cpu happened).moves cpu (cut_contents pattern (trace c cpu happened).done);
           runs = script_runs c cpu happened pattern;
           maximal = runs-are (answers c cpu happened pattern);
           end_ = end_answer c cpu happened;
-          ended = answer-is c z cpu z;
+          ended = answer-is c z (trace c cpu happened).moves cpu z;
           text = ap (λ (o : AnswerView). o.text) told;
           status = subst (λ (o : AnswerView). IsStatusOf
               (end_answer c cpu happened ∷ run_answers (script_runs c cpu happened pattern)) o.status) (sym told)
@@ -112,17 +115,17 @@ module _ (c : Content) (cpu : Cpu) (name script pattern : List ℕ) where
       let es = is.happened in
       let z = (trace c cpu es).last in
       let told : is.told ≡ answers c cpu es pattern =
-      one-answers c z cpu (cut_contents pattern (trace c cpu es).done) is.told is.answered in
+      one-answers c z (trace c cpu es).moves cpu (cut_contents pattern (trace c cpu es).done) is.told is.answered in
       let runs : is.runs ≡ script_runs c cpu es pattern =
       runs-one is.told is.runs (runs_of is.told) is.maximal (runs-are is.told) ∙ ap runs_of told in
-      let end : is.end_ ≡ end_answer c cpu es = one-answer c z cpu z is.end_ is.ended in
+      let end : is.end_ ≡ end_answer c cpu es = one-answer c z (trace c cpu es).moves cpu z is.end_ is.ended in
       same-outcome o (verdict_status (cuts_verdict c cpu es pattern)) (told_cuts c cpu es pattern) []
       (status-only (is.end_ ∷ run_answers is.runs) o.status is.status
       ∙ (ap (λ xs. verdict_status (verdict_of (is.end_ ∷ run_answers xs))) runs
       ∙ ap (λ (a : Answer). verdict_status (verdict_of (a ∷ run_answers (script_runs c cpu es pattern)))) end))
-      (is.text ∙ (ap (λ xs. cuts_text (trace_steps (trace c cpu es).done) xs is.end_.class is.end_.decision) runs
-      ∙ ap (λ (a : Answer). cuts_text (trace_steps (trace c cpu es).done) (script_runs c cpu es pattern) a.class
-      a.decision) end))
+      (is.text ∙ (ap (λ xs. cuts_text (trace_steps (trace c cpu es).done) (trace c cpu es).numbers xs is.end_.class is.end_.decision) runs
+      ∙ ap (λ (a : Answer). cuts_text (trace_steps (trace c cpu es).done) (trace c cpu es).numbers
+      (script_runs c cpu es pattern) a.class a.decision) end))
       is.files
       ∙ (sym (short-work c cpu name pattern es is.short)
       ∙ ap (λ xs. worked (events_work c cpu name xs pattern)) (one-list es is.reads))

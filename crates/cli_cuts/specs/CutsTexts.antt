@@ -7,7 +7,7 @@ use Rattle.pico_board.specs.declared.step.Step.TheVariants.{Erase, Program, Rais
 use Rattle.boot_rules.specs.declared.decision.Decision.{Decision}
 use Rattle.text_lines.specs.Texts.{decision_line}
 use Rattle.boot_cuts.specs.declared.answers.Class.{Class}
-use Rattle.boot_cuts.specs.declared.answers.Class.TheVariants.{Former, Finished, Neither}
+use Rattle.boot_cuts.specs.declared.answers.Class.TheVariants.{Former, Finished, Whole, Tail, Mixed, Bootsel}
 use Rattle.boot_cuts.specs.declared.runs.Run.{Run}
 
 -- a step: an erase or a program with its flash offset, or a raise with its row
@@ -25,31 +25,41 @@ step_at_text (Some step) = step_text step
 abbrev pub part_text : ℕ → List ℕ
 part_text cut = if cut % 2 == 0 then codes " before" else codes " within"
 
--- a cut: the number of its step, the step, and where in the step it falls
-abbrev pub cut_text : List Step → ℕ → List ℕ
-cut_text steps cut =
-    decimal (cut / 2) ++ (codes " " ++ (step_at_text (slice_get steps (cut / 2)) ++ part_text cut))
+-- the number of an event at a place of a trace
+abbrev pub number_at_text : Option ℕ → List ℕ
+number_at_text None = []
+number_at_text (Some n) = decimal n
+
+-- a cut: the number of its step, the number of the event that does it, the step, and where in the
+-- step it falls
+abbrev pub cut_text : List Step → List ℕ → ℕ → List ℕ
+cut_text steps numbers cut =
+    decimal (cut / 2) ++ (codes " event=" ++ (number_at_text (slice_get numbers (cut / 2))
+    ++ (codes " " ++ (step_at_text (slice_get steps (cut / 2)) ++ part_text cut))))
 
 abbrev pub class_text : Class → List ℕ
 class_text Former = codes "former"
 class_text Finished = codes "finished"
-class_text Neither = codes "neither"
+class_text Whole = codes "whole"
+class_text Tail = codes "tail"
+class_text Mixed = codes "mixed"
+class_text Bootsel = codes "bootsel"
 
 -- a class with a decision, to the end of a line
 abbrev pub answer_text : Class → Decision → List ℕ
 answer_text class decision = class_text class ++ (codes " " ++ decision_line decision)
 
 -- the line of a run
-abbrev pub run_text : List Step → Run → List ℕ
-run_text steps run =
-    cut_text steps run.first ++ (codes " to " ++ (cut_text steps run.last ++ (codes " "
-    ++ answer_text run.answer.class run.answer.decision)))
+abbrev pub run_text : List Step → List ℕ → Run → List ℕ
+run_text steps numbers run =
+    cut_text steps numbers run.first ++ (codes " to " ++ (cut_text steps numbers run.last
+    ++ (codes " " ++ answer_text run.answer.class run.answer.decision)))
 
 -- the end line, of so many steps
 abbrev pub end_text : ℕ → Class → Decision → List ℕ
 end_text n class decision =
     codes "end " ++ (decimal n ++ (codes " " ++ answer_text class decision))
 
-abbrev pub cuts_text : List Step → List Run → Class → Decision → List ℕ
-cuts_text steps runs class decision =
-    flat_map (run_text steps) runs ++ end_text (length steps) class decision
+abbrev pub cuts_text : List Step → List ℕ → List Run → Class → Decision → List ℕ
+cuts_text steps numbers runs class decision =
+    flat_map (run_text steps numbers) runs ++ end_text (length steps) class decision

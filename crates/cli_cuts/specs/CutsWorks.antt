@@ -4,14 +4,14 @@ use Rattle.pico_board.specs.declared.boot.Cpu.{Cpu}
 use Rattle.pico_board.specs.Content.{Content}
 use Rattle.boot_script.specs.Events.{EventView}
 use Rattle.boot_script.specs.Scripts.{script_events}
-use Rattle.cli_course.specs.Outcomes.{Verdict, Passes, IsUnbootable, IsNeither, Work, Judges, Refuses}
+use Rattle.cli_course.specs.Outcomes.{Verdict, Passes, IsUnbootable, IsMixed, Work, Judges, Refuses}
 use Rattle.boot_cuts.specs.declared.answers.Answer.{Answer}
-use Rattle.boot_cuts.specs.declared.kinds.Kind.{Kind}
-use Rattle.boot_cuts.specs.declared.kinds.Kind.TheVariants.{Dead, Strange}
+use Rattle.boot_cuts.specs.declared.answers.Class.{Class}
+use Rattle.boot_cuts.specs.declared.answers.Class.TheVariants.{Mixed, Bootsel}
 use Rattle.boot_cuts.specs.declared.runs.Run.{Run}
 use Rattle.boot_cuts.specs.Answers.{answers, end_answer}
+use Rattle.boot_cuts.specs.Counts.{has_class}
 use Rattle.boot_cuts.specs.Found.{trace_limit}
-use Rattle.boot_cuts.specs.Kinds.{has_kind}
 use Rattle.boot_cuts.specs.Runs.{runs_of}
 use Rattle.boot_cuts.specs.Traces.{trace, trace_steps}
 use Rattle.cli_cuts.specs.CutsTexts.{cuts_text}
@@ -20,16 +20,16 @@ use Rattle.cli_cuts.specs.CutsTexts.{cuts_text}
 abbrev pub run_answers : List Run → List Answer
 run_answers runs = map (λ (run : Run). run.answer) runs
 
--- one of the answers is of this kind
-abbrev pub has_any : Kind → List Answer → Bool
-has_any kind [] = false
-has_any kind (answer ∷ answers) = has_kind kind answer || has_any kind answers
+-- one of the answers is of this class
+abbrev pub has_any : Class → List Answer → Bool
+has_any class [] = false
+has_any class (answer ∷ answers) = has_class class answer || has_any class answers
 
--- a start that is neither is worse than a fall that is
+-- a start of an image that stood whole nowhere is worse than a fall
 abbrev pub verdict_of : List Answer → Verdict
 verdict_of answers =
-    if has_any Strange answers then IsNeither
-    else if has_any Dead answers then IsUnbootable
+    if has_any Mixed answers then IsMixed
+    else if has_any Bootsel answers then IsUnbootable
     else Passes
 
 -- the runs of the cuts of a script
@@ -39,7 +39,8 @@ script_runs c cpu events pattern = runs_of (answers c cpu events pattern)
 -- what is told of the cuts of a script
 abbrev pub told_cuts : Content → Cpu → List EventView → List ℕ → List ℕ
 told_cuts c cpu events pattern =
-    cuts_text (trace_steps (trace c cpu events).done) (script_runs c cpu events pattern)
+    cuts_text (trace_steps (trace c cpu events).done) (trace c cpu events).numbers
+    (script_runs c cpu events pattern)
     (end_answer c cpu events).class (end_answer c cpu events).decision
 
 abbrev pub cuts_verdict : Content → Cpu → List EventView → List ℕ → Verdict

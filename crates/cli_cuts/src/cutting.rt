@@ -9,33 +9,33 @@ ghost use Rattle.cli_cuts.specs.CutsTexts.{cuts_text};
 ghost use Rattle.cli_cuts.specs.CutsWorks.{cuts_work, has_any, run_answers, verdict_of};
 
 use crate::texts::cuts_text;
-use boot_cuts::{Cuts, Kind, Run, cuts_on, is_kind, kind_of};
+use boot_cuts::{Class, Cuts, Run, cuts_on, is_same_class};
 use boot_script::Script;
 use cli_course::{Answer, Status, ended, refusal};
 use cli_inputs::Pattern;
 use pico_board::{Cpu, MemBoard};
 use std::alloc::{AllocError, Global};
 
-/// Whether one of the runs has an answer of this kind.
-fn has_any(kind: Kind, runs: &[Run]) -> bool
-    ensures { result ≡ has_any kind (run_answers runs.now) }
+/// Whether one of the runs has an answer of this class.
+fn has_any(class: Class, runs: &[Run]) -> bool
+    ensures { result ≡ has_any class (run_answers runs.now) }
 {
     for run in runs {
-        if is_kind(kind, kind_of(run.answer.class, &run.answer.decision)) {
+        if is_same_class(class, run.answer.class) {
             return true;
         }
     }
     false
 }
 
-/// Whether one of the lines has an answer of this kind.
-fn has_line(kind: Kind, found: &Cuts) -> bool
-    ensures { result ≡ has_any kind (record {
+/// Whether one of the lines has an answer of this class.
+fn has_line(class: Class, found: &Cuts) -> bool
+    ensures { result ≡ has_any class (record {
       class = found.now.end_;
       decision = found.now.finished;
     } ∷ run_answers found.now.runs.items) }
 {
-    is_kind(kind, kind_of(found.end_, &found.finished)) || has_any(kind, &found.runs)
+    is_same_class(class, found.end_) || has_any(class, &found.runs)
 }
 
 /// The status of the lines.
@@ -45,9 +45,9 @@ fn status_of(found: &Cuts) -> Status
       decision = found.now.finished;
     } ∷ run_answers found.now.runs.items)) }
 {
-    if has_line(Kind::Strange, found) {
-        Status::Neither
-    } else if has_line(Kind::Dead, found) {
+    if has_line(Class::Mixed, found) {
+        Status::Mixed
+    } else if has_line(Class::Bootsel, found) {
         Status::Unbootable
     } else {
         Status::Done
@@ -59,8 +59,8 @@ fn told_cuts<'a>(alloc: Global, found: &Cuts) -> Result<Answer<'a>, AllocError>
     ensures { IfOk result (λ answer. answer_from answer ≡ ended (verdict_status (verdict_of
         (record { class = found.now.end_; decision = found.now.finished }
         ∷ run_answers found.now.runs.items)))
-        (cuts_text found.now.steps.items found.now.runs.items found.now.end_
-        found.now.finished)) }
+        (cuts_text found.now.steps.items found.now.numbers.items found.now.runs.items
+        found.now.end_ found.now.finished)) }
 {
     let text = cuts_text(alloc, found)?;
     Ok(ended(alloc, status_of(found), text))

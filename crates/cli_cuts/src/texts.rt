@@ -2,7 +2,7 @@
 
 ghost use Rattle.std.specs.Prelude.{◌≡◌, ◌++◌, IfOk, OnOk, slice_get, string_bytes};
 ghost use Rattle.std.specs.List.{flat_map};
-ghost use Rattle.cli_cuts.specs.CutsTexts.{answer_text, class_text, cut_text, cuts_text, end_text, part_text, run_text, step_at_text, step_text};
+ghost use Rattle.cli_cuts.specs.CutsTexts.{answer_text, class_text, cut_text, cuts_text, end_text, number_at_text, part_text, run_text, step_at_text, step_text};
 
 use boot_cuts::{Class, Cuts, Run};
 use boot_rules::Decision;
@@ -17,7 +17,10 @@ fn class_word(class: Class) -> &'static str
     match class {
         Class::Former => "former",
         Class::Finished => "finished",
-        Class::Neither => "neither",
+        Class::Whole => "whole",
+        Class::Tail => "tail",
+        Class::Mixed => "mixed",
+        Class::Bootsel => "bootsel",
     }
 }
 
@@ -58,14 +61,29 @@ fn step_at_words(alloc: Global, steps: &[Step], place: usize) -> Result<String, 
     }
 }
 
-/// A cut: the number of its step, the step, and where in the step it falls.
-fn cut_words(alloc: Global, steps: &[Step], cut: u32) -> Result<String, AllocError>
-    ensures { IfOk result (λ t. string_bytes t ≡ cut_text steps.now cut) }
+/// The number of the event at a place of a trace.
+fn number_at_words(alloc: Global, numbers: &[u32], place: usize) -> Result<String, AllocError>
+    ensures { IfOk result (λ t. string_bytes t ≡ number_at_text (slice_get numbers.now place)) }
+{
+    match numbers.get(place) {
+        Some(number) => {
+            let number = *number;
+            format!(in alloc; "{number}")
+        }
+        None => Ok(String::new(alloc)),
+    }
+}
+
+/// A cut: the number of its step, the number of the event that does it, the step, and where in the
+/// step it falls.
+fn cut_words(alloc: Global, steps: &[Step], numbers: &[u32], cut: u32) -> Result<String, AllocError>
+    ensures { IfOk result (λ t. string_bytes t ≡ cut_text steps.now numbers.now cut) }
 {
     let number = cut / 2;
+    let event = number_at_words(alloc, numbers, number as usize)?;
     let step = step_at_words(alloc, steps, number as usize)?;
     let part = part_word(cut);
-    format!(in alloc; "{number} {step}{part}")
+    format!(in alloc; "{number} event={event} {step}{part}")
 }
 
 /// A class with a decision, to the end of a line.
@@ -78,12 +96,18 @@ fn answer_words(alloc: Global, class: Class, decision: &Decision) -> Result<Stri
 }
 
 /// Appends the line of a run.
-fn push_run(alloc: Global, text: &mut String, steps: &[Step], run: &Run) -> Result<(), AllocError>
+fn push_run(
+    alloc: Global,
+    text: &mut String,
+    steps: &[Step],
+    numbers: &[u32],
+    run: &Run,
+) -> Result<(), AllocError>
     ensures { OnOk result
-        (string_bytes text.new ≡ string_bytes text.old ++ run_text steps.now run.now) }
+        (string_bytes text.new ≡ string_bytes text.old ++ run_text steps.now numbers.now run.now) }
 {
-    let first = cut_words(alloc, steps, run.first)?;
-    let last = cut_words(alloc, steps, run.last)?;
+    let first = cut_words(alloc, steps, numbers, run.first)?;
+    let last = cut_words(alloc, steps, numbers, run.last)?;
     let answer = answer_words(alloc, run.answer.class, &run.answer.decision)?;
     let line = format!(in alloc; "{first} to {last} {answer}")?;
     text.push_str(&line)
@@ -94,13 +118,14 @@ fn push_runs(
     alloc: Global,
     text: &mut String,
     steps: &[Step],
+    numbers: &[u32],
     runs: &[Run],
 ) -> Result<(), AllocError>
     ensures { OnOk result (string_bytes text.new
-        ≡ string_bytes text.old ++ flat_map (run_text steps.now) runs.now) }
+        ≡ string_bytes text.old ++ flat_map (run_text steps.now numbers.now) runs.now) }
 {
     for run in runs {
-        push_run(alloc, text, steps, run)?;
+        push_run(alloc, text, steps, numbers, run)?;
     }
     Ok(())
 }
@@ -121,10 +146,10 @@ fn end_line(
 /// The text of the cuts of a script.
 pub fn cuts_text(alloc: Global, found: &Cuts) -> Result<String, AllocError>
     ensures { IfOk result (λ t. string_bytes t ≡ cuts_text found.now.steps.items
-        found.now.runs.items found.now.end_ found.now.finished) }
+        found.now.numbers.items found.now.runs.items found.now.end_ found.now.finished) }
 {
     let mut text = String::new(alloc);
-    push_runs(alloc, &mut text, &found.steps, &found.runs)?;
+    push_runs(alloc, &mut text, &found.steps, &found.numbers, &found.runs)?;
     let count = found.steps.as_slice().len();
     let end = end_line(alloc, count, found.end_, &found.finished)?;
     text.push_str(&end)?;

@@ -4,8 +4,8 @@ use Rattle.std.specs.Option.{option_or}
 use Rattle.std.proofs.lemmas.Bool.{lt-ltb, cases_lt}
 use Rattle.std.proofs.lemmas.List.{take_all, length-take, length-map}
 use Rattle.cli_course.specs.declared.status.Status.{Status}
-use Rattle.cli_course.specs.declared.status.Status.TheVariants.{Done, Words, Input as Refused, Bootsel, Unbootable, Neither, NoEffect, Refused as RecordRefused}
-use Rattle.cli_course.specs.Outcomes.{AnswerView, Work, Answers, Refuses, Judges, Passes, IsUnbootable, IsNeither, HasNoEffect, IsRefused, refused, worked, is_finished}
+use Rattle.cli_course.specs.declared.status.Status.TheVariants.{Done, Words, Input as Refused, Bootsel, Unbootable, Mixed, NoEffect, Refused as RecordRefused}
+use Rattle.cli_course.specs.Outcomes.{AnswerView, Work, Answers, Refuses, Judges, Passes, IsUnbootable, IsMixed, HasNoEffect, IsRefused, refused, worked, is_finished}
 use Rattle.cli_course.specs.Ends.{cut}
 use Rattle.cli_inputs.specs.declared.forms.Form.{Form}
 use Rattle.cli_inputs.specs.Forms.{HasForm, limit_of, own_fault, form_fault}
@@ -103,7 +103,7 @@ worked-text (Answers false text files) = (refl, λ (e : Done ≡ Words). cc)
 worked-text (Refuses name fault) = (refl, λ (e : Refused ≡ Words). cc)
 worked-text (Judges Passes text) = (refl, λ (e : Done ≡ Words). cc)
 worked-text (Judges IsUnbootable text) = (refl, λ (e : Unbootable ≡ Words). cc)
-worked-text (Judges IsNeither text) = (refl, λ (e : Neither ≡ Words). cc)
+worked-text (Judges IsMixed text) = (refl, λ (e : Mixed ≡ Words). cc)
 worked-text (Judges HasNoEffect text) = (refl, λ (e : NoEffect ≡ Words). cc)
 worked-text (Judges IsRefused text) = (refl, λ (e : RecordRefused ≡ Words). cc)
 

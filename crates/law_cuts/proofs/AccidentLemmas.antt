@@ -1,4 +1,4 @@
--- A cut of a gated session that is neither left an accidental image.
+-- A cut of a gated session that leaves another image than two left an accidental one.
 use Rattle.std.proofs.Common.{◌≡◌, inl, inr, ℕ, zero, suc, ◌<◌, All, List, [], ◌∷◌, refl, sym, ap, ◌∙◌, subst, Some}
 use Rattle.std.specs.Prelude.{false, slice_get, true}
 use Rattle.std.proofs.lemmas.Option.{same_Some}
@@ -25,13 +25,16 @@ use Rattle.boot_session.specs.CutSessions.{StartsFinished, StartsOutside}
 use Rattle.boot_session.specs.Sessions.{session}
 use Rattle.boot_session.proofs.GatedLaws.{decide-blank, gated-decision}
 use Rattle.boot_sweep.specs.Refusals.{StartsIn}
-use Rattle.boot_cuts.specs.declared.answers.Class.TheVariants.{Neither}
-use Rattle.boot_cuts.specs.Classes.{IsClass}
+use Rattle.boot_sweep.specs.Moving.{MoveView}
+use Rattle.boot_cuts.specs.declared.answers.Class.{Class}
+use Rattle.boot_cuts.specs.declared.answers.Class.TheVariants.{Former, Finished}
+use Rattle.boot_cuts.specs.Classes.{IsClass, IsFinished, IsFormer}
+use Rattle.boot_cuts.proofs.ClassLemmas.{class-exactly}
 use Rattle.boot_cuts.specs.Contents.{cut_contents}
 use Rattle.boot_cuts.specs.Traces.{trace, trace_steps, traced_from}
-use Rattle.law_cuts.specs.Cases.{IsAccident, IsGatedScript}
+use Rattle.law_cuts.specs.Cases.{IsAccident, IsGatedScript, IsOther}
 use Rattle.law_cuts.proofs.CaseLemmas.{decides-former, keeps-former, starts-finished}
-use Rattle.law_cuts.proofs.SessionTraceLemmas.{last-is, trace-is}
+use Rattle.law_cuts.proofs.SessionTraceLemmas.{all-mended, last-is, trace-is}
 
 -- the steps of a list of steps with the contents before them
 pub steps-of : (c : Content) (steps : List Step) → trace_steps (traced_from c steps) ≡ steps
@@ -59,12 +62,27 @@ cut-in pattern c (step ∷ steps) (suc (suc n)) d small bytes is =
 
 module _ (c : Content) (cpu : Cpu) (events : List EventView) (w : Window) (is : IsGatedScript c cpu events w)
     (d : Content) (cut : CutOf c (trace_steps (trace c cpu events).done) d)
-    (neither : IsClass c (trace c cpu events).last d cpu Neither) where
+    (class : Class) (found : IsClass c (trace c cpu events).last (trace c cpu events).moves d cpu class)
+    (other : IsOther class) where
   abbrev steps : List Step
   steps = trace_steps (trace c cpu events).done
 
   abbrev z : Content
   z = (trace c cpu events).last
+
+  abbrev moves : List MoveView
+  moves = (trace c cpu events).moves
+
+  never : (k : Class) → IsClass c z moves d cpu k → (IsOther k → ⊥) → ⊥
+  never k is no_other =
+      no_other (subst IsOther ((class-exactly c z moves d cpu class).0 found
+      ∙ sym ((class-exactly c z moves d cpu k).0 is)) other)
+
+  not-former : IsFormer c d cpu → ⊥
+  not-former h = never Former h (λ o. o)
+
+  not-finished : IsFinished z moves d cpu → ⊥
+  not-finished h = never Finished (not-former, h) (λ o. o)
 
   -- the script leaves what its steps do
   leads : z ≡ after_all c steps
@@ -87,12 +105,13 @@ module _ (c : Content) (cpu : Cpu) (events : List EventView) (w : Window) (is : 
         no_accident = no_accident;
       })) [
         | inl former ↦
-            neither.0 (decides-former c d cpu
+            not-former (decides-former c d cpu
             (keeps-former c w cpu d is.right is.keeps.slot.boot_member is.keeps.elsewhere
             (confined-CutOf c w steps d is.keeps.confined cut))
             (decision_in c cpu Normal, decision-chosen c cpu Normal, former))
         | inr finished ↦
-            neither.1 (starts-finished z d cpu (subst (λ x. StartsFinished x d cpu) (sym leads) finished))
+            not-finished (starts-finished z moves d cpu
+            (all-mended c cpu events is.keeps.session) (subst (λ x. StartsFinished x d cpu) (sym leads) finished))
       ]
 
   pub accident-is : IsAccident c cpu events w d

@@ -40,10 +40,16 @@ use Rattle.boot_sweep.specs.Results.{IsCutResult, IsFormer as DecidesSo}
 use Rattle.boot_sweep.specs.Sweeps.{Line, lines_from, sweep_lines}
 use Rattle.boot_sweep.proofs.RefusalCaseLemmas.{in-start, refused-exactly}
 use Rattle.boot_sweep.proofs.ResultLemmas.{judged-exactly, start-holds}
+use Rattle.boot_sweep.specs.Moving.{MoveView}
+use Rattle.boot_cuts.specs.declared.answers.Class.{Class}
+use Rattle.boot_cuts.specs.declared.answers.Class.TheVariants as classes
 use Rattle.boot_cuts.specs.Classes.{HasImageOf, IsClass, IsFinished, IsFormer}
+use Rattle.boot_cuts.specs.Classing.{class_of}
+use Rattle.boot_cuts.specs.Tears.{IsLeftTorn, left_torn}
+use Rattle.boot_cuts.proofs.ClassLemmas.{class-exactly}
 use Rattle.boot_cuts.specs.Contents.{cut_contents}
 use Rattle.boot_cuts.specs.Traces.{traced_from}
-use Rattle.law_cuts.specs.Cases.{IsSweptScript, class_for}
+use Rattle.law_cuts.specs.Cases.{IsClassFor, IsOther, IsSweptScript}
 use Rattle.law_cuts.proofs.SameImageLemmas.{same-back}
 
 -- d has the bytes of the image that a normal boot on c starts, where it starts one
@@ -85,17 +91,20 @@ former-decides : (c d : Content) (cpu : Cpu) → IsFormer c d cpu → DecidesSo 
 former-decides c d cpu is = (is.decision, is.first, is.here)
 
 -- an image that starts on both has the same bytes from either side
-pub starts-finished : (z d : Content) (cpu : Cpu) → StartsFinished z d cpu → IsFinished z d cpu
-starts-finished z d cpu is = record {
+pub starts-finished : (z : Content) (moves : List MoveView) (d : Content) (cpu : Cpu)
+    → ((w : Window) → IsLeftTorn moves w → ⊥) → StartsFinished z d cpu → IsFinished z moves d cpu
+starts-finished z moves d cpu mended is = record {
   choice = is.choice;
   last = is.after;
   here = is.here;
+  mended = mended is.choice.image.window;
   image = same-back cpu (window_bytes d is.choice.image.window) (window_bytes z is.choice.image.window) is.choice.image
       is.same (start-holds z cpu is.choice is.after);
 }
 
-pub finished-starts : (z d : Content) (cpu : Cpu) → IsFinished z d cpu → StartsFinished z d cpu
-finished-starts z d cpu is = record {
+pub finished-starts : (z : Content) (moves : List MoveView) (d : Content) (cpu : Cpu) → IsFinished z moves d cpu
+    → StartsFinished z d cpu
+finished-starts z moves d cpu is = record {
   choice = is.choice;
   here = is.here;
   after = is.last;
@@ -104,15 +113,34 @@ finished-starts z d cpu is = record {
 }
 
 -- the class of a result
-pub class-of-result : (c z d : Content) (cpu : Cpu) (result : CutResult) → KeepsFormer c d cpu
-    → IsCutResult c z d cpu result → IsClass c z d cpu (class_for result)
-class-of-result c z d cpu Former keeps is = decides-former c d cpu keeps is
-class-of-result c z d cpu Finished keeps is =
-    (λ former. is.0 (former-decides c d cpu former), starts-finished z d cpu is.1)
-class-of-result c z d cpu Chance keeps is = (
-  λ former. is.0 (former-decides c d cpu former),
-  λ finished. is.1 (finished-starts z d cpu finished),
-)
+pub record ClassFor (c z : Content) (moves : List MoveView) (d : Content) (cpu : Cpu) (result : CutResult)
+    : Type 0 where
+  pub class : Class
+  pub class_is : IsClass c z moves d cpu class
+  pub told : IsClassFor result class
+
+pub class-of-result : (c z : Content) (moves : List MoveView) (d : Content) (cpu : Cpu) (result : CutResult)
+    → KeepsFormer c d cpu → ((w : Window) → IsLeftTorn moves w → ⊥) → IsCutResult c z d cpu result
+    → ClassFor c z moves d cpu result
+class-of-result c z moves d cpu Former keeps mended is =
+    record { class = classes.Former; class_is = decides-former c d cpu keeps is; told = refl }
+class-of-result c z moves d cpu Finished keeps mended is = record {
+  class = classes.Finished;
+  class_is = (λ former. is.0 (former-decides c d cpu former), starts-finished z moves d cpu mended is.1);
+  told = refl;
+}
+class-of-result c z moves d cpu Chance keeps mended is =
+    let class = class_of c z (left_torn moves) cpu d in
+    let found : IsClass c z moves d cpu class = (class-exactly c z moves d cpu class).1 refl in
+    record { class = class; class_is = found; told = other class found }
+  where
+    other : (k : Class) → IsClass c z moves d cpu k → IsOther k
+    other classes.Former former = absurd (is.0 (former-decides c d cpu former))
+    other classes.Finished finished = absurd (is.1 (finished-starts z moves d cpu finished.1))
+    other classes.Whole found = tt
+    other classes.Tail found = tt
+    other classes.Mixed found = tt
+    other classes.Bootsel found = tt
 
 -- a torn step of a window
 torn-inside : (pattern : List ℕ) (c : Content) (w : Window) (step : Step) → IsConfined w step
@@ -243,17 +271,19 @@ not-refused c cpu events is = go (sweep_refusal c cpu (session c cpu events)) re
         absurd (is.swept why ((refused-exactly c cpu (session c cpu events) is.right why).0 refused))
 
 -- each line of a sweep that refuses nothing
-pub record IsCaseOf (c z : Content) (cpu : Cpu) (contents : List Content) (n : ℕ) (line : Line) : Type 0 where
+pub record IsCaseOf (c z : Content) (moves : List MoveView) (cpu : Cpu) (contents : List Content) (n : ℕ) (line : Line)
+    : Type 0 where
   pub content : Content
   pub stands : slice_get contents n ≡ Some content
-  pub class_is : IsClass c z content cpu (class_for line.result)
+  pub found : ClassFor c z moves content cpu line.result
 
-pub line-case : (c : Content) (cpu : Cpu) (pattern : List ℕ) (steps : List Step) (n : ℕ) (line : Line) → IsContent c
-    → sweep_refusal c cpu steps ≡ None → slice_get (sweep_lines c cpu pattern steps) n ≡ Some line
-    → IsCaseOf c (after_all c steps) cpu (cut_contents pattern (traced_from c steps)) n line
-line-case c cpu pattern [] zero line right none is = cc
-line-case c cpu pattern [] (suc n) line right none is = cc
-line-case c cpu pattern (first ∷ steps) n line right none is =
+pub line-case : (c : Content) (cpu : Cpu) (moves : List MoveView) (pattern : List ℕ) (steps : List Step) (n : ℕ)
+    (line : Line) → IsContent c → ((w : Window) → IsLeftTorn moves w → ⊥) → sweep_refusal c cpu steps ≡ None
+    → slice_get (sweep_lines c cpu pattern steps) n ≡ Some line
+    → IsCaseOf c (after_all c steps) moves cpu (cut_contents pattern (traced_from c steps)) n line
+line-case c cpu moves pattern [] zero line right mended none is = cc
+line-case c cpu moves pattern [] (suc n) line right mended none is = cc
+line-case c cpu moves pattern (first ∷ steps) n line right mended none is =
     let z = after_all c (first ∷ steps) in
     let slot = slot-of-swept c cpu first steps none in
     let w = slot.0 in
@@ -261,8 +291,8 @@ line-case c cpu pattern (first ∷ steps) n line right none is =
     record {
       content = cut.content;
       stands = cut.stands;
-      class_is = class-of-result c z cut.content cpu line.result
-          (keeps-former c w cpu cut.content right slot.1.boot_member slot.1.elsewhere cut.same)
+      found = class-of-result c z moves cut.content cpu line.result
+          (keeps-former c w cpu cut.content right slot.1.boot_member slot.1.elsewhere cut.same) mended
           ((judged-exactly c z cut.content cpu line.result).1 cut.result);
     }
 

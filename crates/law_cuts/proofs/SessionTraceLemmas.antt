@@ -1,11 +1,12 @@
 -- The trace of a script that is one session of a host is that session.
 use Rattle.std.proofs.Common.{◌≡◌, Bool, true, false, List, [], ◌∷◌, ◌++◌, Option, Some, None, refl, sym, ap, ◌∙◌, subst, append-nil}
-use Rattle.std.specs.Prelude.{if◌then◌else◌}
+use Rattle.std.specs.Prelude.{if◌then◌else◌, map}
 use Rattle.std.proofs.lemmas.Bool.{and_parts}
 use Rattle.pico_board.specs.declared.Step.{Step}
 use Rattle.pico_board.specs.declared.boot.Cpu.{Cpu}
 use Rattle.pico_board.specs.declared.boot.BootKind.{BootKind}
 use Rattle.pico_board.specs.declared.boot.BootKind.TheVariants.{Normal, Bootsel, Update}
+use Rattle.pico_board.specs.declared.window.Window.{Window}
 use Rattle.pico_board.specs.Content.{Content}
 use Rattle.pico_board.specs.Cuts.{cut_steps}
 use Rattle.pico_board.specs.Steps.{after, after_all}
@@ -22,7 +23,11 @@ use Rattle.boot_machine.specs.Serving.{followed, followed_by, is_hosted, served_
 use Rattle.boot_plays.specs.Plays.{Moved, moved_as, moved_machine, played, powerless, told_cut}
 use Rattle.boot_plays.proofs.PlayLemmas.{moved-as}
 use Rattle.boot_session.specs.Sessions.{going_on, session, session_from}
-use Rattle.boot_cuts.specs.Traces.{Traced, completed, event_steps, traced, traced_from}
+use Rattle.boot_sweep.specs.Moving.{MoveView, Done}
+use Rattle.boot_cuts.specs.CutMoves.{cut_moves}
+use Rattle.boot_cuts.specs.Tears.{IsLeftTorn, is_left_torn, left_torn}
+use Rattle.boot_cuts.specs.Traces.{Traced, completed, event_moves, event_steps, moves_in, traced, traced_from}
+use Rattle.boot_cuts.proofs.TearLemmas.{torn-exactly}
 use Rattle.cli_check.specs.Sessions.{Closing, closes_quietly, closing, ends_quietly, hosted_events, is_empty, is_one_session, is_quiet, is_quiet_boot, served_at}
 
 -- steps, and then others
@@ -45,13 +50,26 @@ uncut (step ∷ steps) c = uncut steps (after c step)
 abbrev at : Content → Cpu → StateView → MachineView
 at c cpu place = record { content = c; armed = Some None; cpu = cpu; place = place }
 
+-- all of the steps complete
+abbrev pub dones : List Step → List MoveView
+dones steps = map (λ (step : Step). Done step) steps
+
+done-then : (xs ys : List Step) → dones xs ++ dones ys ≡ dones (xs ++ ys)
+done-then [] ys = refl
+done-then (x ∷ xs) ys = ap (λ ms. Done x ∷ ms) (done-then xs ys)
+
+none-cut : (steps : List Step) → (cut_moves None steps).moves ≡ dones steps
+none-cut [] = refl
+none-cut (step ∷ steps) = ap (λ ms. Done step ∷ ms) (none-cut steps)
+
 -- in events these steps complete, one after another, and nothing else is left of them
 record IsTracedAs (m : MachineView) (events : List EventView) (c : Content) (steps : List Step) : Type 0 where
   pub steps_are : traced m events ≡ traced_from c steps
   pub left : (played m events).last.content ≡ after_all c steps
+  pub moves_are : moves_in m events ≡ dones steps
 
 none-traced : (c : Content) (cpu : Cpu) (place : StateView) → IsTracedAs (at c cpu place) [] c []
-none-traced c cpu place = record { steps_are = refl; left = refl }
+none-traced c cpu place = record { steps_are = refl; left = refl; moves_are = refl }
 
 -- an event that arms no cut, and then others
 event-then : (c : Content) (cpu : Cpu) (place next : StateView) (event : EventView) (events : List EventView)
@@ -62,6 +80,8 @@ event-then : (c : Content) (cpu : Cpu) (place next : StateView) (event : EventVi
 event-then c cpu place next event events xs ys keeps writes leads rest =
     let m = at c cpu place in
     let e = effect m event in
+    let did : event_moves m event ≡ dones xs =
+    ap (λ a. (cut_moves (told_cut a) e.steps).moves) keeps ∙ (none-cut e.steps ∙ ap dones writes) in
     let done : event_steps m event ≡ xs = ap (λ a. completed (told_cut a) e.steps) keeps ∙ writes in
     let moved : (moved_machine m event).next ≡ at (after_all c xs) cpu next =
     ap (λ (w : Moved). w.next) (moved-as m event None keeps ∙ ap (moved_as m e) (uncut e.steps c))
@@ -71,6 +91,9 @@ event-then c cpu place next event events xs ys keeps writes leads rest =
           ∙ (ap (λ (n : MachineView). traced_from c xs ++ traced n events) moved
           ∙ (ap (λ ts. traced_from c xs ++ ts) rest.steps_are ∙ traced-then c xs ys));
       left = ap (λ (n : MachineView). (played n events).last.content) moved ∙ (rest.left ∙ after-then c xs ys);
+      moves_are = ap (λ ms. ms ++ moves_in (moved_machine m event).next events) did
+          ∙ (ap (λ (n : MachineView). dones xs ++ moves_in n events) moved
+          ∙ (ap (λ ms. dones xs ++ ms) rest.moves_are ∙ done-then xs ys));
     }
 
 -- what a host's event does in each state
@@ -307,3 +330,20 @@ trace-is c cpu events one = (session-traced c cpu events one).steps_are
 pub last-is : (c : Content) (cpu : Cpu) (events : List EventView) → is_one_session c cpu events ≡ true
     → (played (powerless c cpu) events).last.content ≡ after_all c (session c cpu events)
 last-is c cpu events one = (session-traced c cpu events one).left
+
+pub moves-are : (c : Content) (cpu : Cpu) (events : List EventView) → is_one_session c cpu events ≡ true
+    → moves_in (powerless c cpu) events ≡ dones (session c cpu events)
+moves-are c cpu events one = (session-traced c cpu events one).moves_are
+
+none-torn : (steps : List Step) → left_torn (dones steps) ≡ []
+none-torn [] = refl
+none-torn (step ∷ steps) = none-torn steps
+
+-- such a script leaves no window torn
+pub all-mended : (c : Content) (cpu : Cpu) (events : List EventView) → is_one_session c cpu events ≡ true → (w : Window)
+    → IsLeftTorn (moves_in (powerless c cpu) events) w → ⊥
+all-mended c cpu events one w torn =
+    let no : false ≡ true =
+    sym (ap (λ ms. is_left_torn (left_torn ms) w) (moves-are c cpu events one)
+    ∙ ap (λ xs. is_left_torn xs w) (none-torn (session c cpu events)))
+    ∙ (torn-exactly (moves_in (powerless c cpu) events) w).0 torn in cc

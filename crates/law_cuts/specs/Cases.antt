@@ -1,5 +1,5 @@
 -- Scripts of which a sweep refuses nothing, gated scripts, and the cuts of their traces.
-use Rattle.std.specs.Prelude.{◌≡◌, ℕ, true, List, slice_get, Some}
+use Rattle.std.specs.Prelude.{◌≡◌, ⊤, ℕ, true, List, slice_get, Some}
 use Rattle.pico_board.specs.declared.boot.Cpu.{Cpu}
 use Rattle.pico_board.specs.declared.window.Window.{Window}
 use Rattle.pico_board.specs.Content.{Content, IsContent}
@@ -26,18 +26,37 @@ pub record IsSweptScript (c : Content) (cpu : Cpu) (events : List EventView) : T
   pub one : is_one_session c cpu events ≡ true
   pub swept : (why : SweepError) → IsRefusedSession c cpu (session c cpu events) why → ⊥
 
--- the class of a cut of which a sweep tells this result
-abbrev pub class_for : CutResult → Class
-class_for Former = classes.Former
-class_for Finished = classes.Finished
-class_for Chance = classes.Neither
+-- the class is neither `former` nor `finished`
+abbrev pub IsOther : Class → Type 0
+IsOther classes.Former = ⊥
+IsOther classes.Finished = ⊥
+IsOther classes.Whole = ⊤
+IsOther classes.Tail = ⊤
+IsOther classes.Mixed = ⊤
+IsOther classes.Bootsel = ⊤
 
--- the cut of this number of a script leaves some content, and has this class
-pub record HasClass (c : Content) (cpu : Cpu) (events : List EventView) (pattern : List ℕ)
-    (n : ℕ) (class : Class) : Type 0 where
+-- the class is one of a cut of which a sweep tells this result
+abbrev pub IsClassFor : CutResult → Class → Type 0
+IsClassFor Former class = class ≡ classes.Former
+IsClassFor Finished class = class ≡ classes.Finished
+IsClassFor Chance class = IsOther class
+
+-- the cut of this number of a script leaves some content, and its class is one for this result
+pub record HasClassFor (c : Content) (cpu : Cpu) (events : List EventView) (pattern : List ℕ)
+    (n : ℕ) (result : CutResult) : Type 0 where
   pub content : Content
   pub stands : slice_get (cut_contents pattern (trace c cpu events).done) n ≡ Some content
-  pub class_is : IsClass c (trace c cpu events).last content cpu class
+  pub class : Class
+  pub class_is : IsClass c (trace c cpu events).last (trace c cpu events).moves content cpu class
+  pub told : IsClassFor result class
+
+-- the class of what the script leaves is one for this result
+pub record EndsFor (c : Content) (cpu : Cpu) (events : List EventView) (result : CutResult)
+    : Type 0 where
+  pub class : Class
+  pub class_is : IsClass c (trace c cpu events).last (trace c cpu events).moves
+      (trace c cpu events).last cpu class
+  pub told : IsClassFor result class
 
 -- the script is one session of a host, whose boots write nothing, and its steps are gated on the
 -- slot w, where a normal boot on c starts no image; and they leave the table that there was. No

@@ -2,4 +2,6 @@
 
 pub mod classes;
 pub mod runs;
+pub mod standing;
+pub mod tears;
 pub mod traces;

@@ -1,11 +1,17 @@
 //! Laws of cuts, each the contract of a function that does nothing.
 
-ghost use Rattle.std.specs.Prelude.{◌≡◌, ◌↔◌, ◌+◌, ◌*◌, ◌++◌, ◌∷◌, [], ℕ, Bool, List, None, Some, codes, false, length, map, slice_get, true};
+ghost use Rattle.std.specs.Prelude.{◌≡◌, ◌↔◌, ◌⊎◌, ◌+◌, ◌*◌, ◌++◌, ◌∷◌, [], ℕ, Bool, List, None, Some, codes, false, length, map, slice_get, true};
 ghost use Rattle.pico_board.specs.Content.{Content};
 ghost use Rattle.pico_board.specs.declared.boot.Cpu.{Cpu};
 ghost use Rattle.pico_board.specs.Cuts.{cut_by, cut_with};
 ghost use Rattle.pico_board.specs.declared.boot.BootKind.TheVariants.{Normal};
 ghost use Rattle.boot_rules.specs.Choosing.{decision_in};
+ghost use Rattle.boot_rules.specs.Chosen.{Chosen};
+ghost use Rattle.boot_rules.specs.declared.decision.Decision.TheVariants.{Start};
+ghost use Rattle.slot_choice.specs.declared.choice.Choice.{Choice};
+ghost use Rattle.image_check.specs.SameImage.{SameImage};
+ghost use Rattle.pico_board.specs.declared.window.Window.{Window};
+ghost use Rattle.boot_sweep.specs.Moving.{MoveView};
 ghost use Rattle.boot_script.specs.Events.{EventView};
 ghost use Rattle.boot_machine.specs.Machines.{MachineView};
 ghost use Rattle.text_lines.specs.declared.outcome.EventOutcome.TheVariants as event_outcomes;
@@ -13,6 +19,7 @@ ghost use Rattle.boot_plays.specs.Plays.{played, powerless};
 ghost use Rattle.text_lines.specs.Texts.{decision_text};
 ghost use Rattle.boot_cuts.specs.declared.answers.Answer.{Answer};
 ghost use Rattle.boot_cuts.specs.declared.answers.Class.{Class};
+ghost use Rattle.boot_cuts.specs.declared.answers.Class.TheVariants.{Whole};
 ghost use Rattle.boot_cuts.specs.declared.runs.Run.{Run};
 ghost use Rattle.boot_cuts.specs.Answers.{answer_of};
 ghost use Rattle.boot_cuts.specs.Classes.{IsClass};
@@ -22,20 +29,39 @@ ghost use Rattle.boot_cuts.specs.Playing.{cut_in};
 ghost use Rattle.boot_cuts.specs.Replaying.{replay_of};
 ghost use Rattle.boot_cuts.specs.Traces.{Traced, event_steps, traced, traced_from};
 ghost use Rattle.boot_cuts.specs.Runs.{AreRuns, runs_of};
+ghost use Rattle.boot_cuts.specs.Tears.{IsLeftTorn, is_left_torn, left_torn};
 ghost use Rattle.boot_cuts.specs.Told.{AreAnswers};
 
-/// The class of a cut is the first of its three sentences that holds, and the function finds it.
+/// The class of a cut is the first of its six sentences that holds, and the function finds it.
 pub fn classes_are_judged()
-    ensures { (c z d : Content) (cpu : Cpu) (class : Class)
-        → IsClass c z d cpu class ↔ (class ≡ class_of c z cpu d) }
+    ensures { (c z d : Content) (moves : List MoveView) (cpu : Cpu) (class : Class)
+        → IsClass c z moves d cpu class ↔ (class ≡ class_of c z (left_torn moves) cpu d) }
+{}
+
+/// A window is left torn exactly where the function finds a step in it that is.
+pub fn windows_left_torn_are_found()
+    ensures { (moves : List MoveView) (w : Window)
+        → IsLeftTorn moves w ↔ (is_left_torn (left_torn moves) w ≡ true) }
 {}
 
 /// The answers of cuts are those that the function finds, and no others.
 pub fn answers_are_judged()
-    ensures are { (c z : Content) (cpu : Cpu) (contents : List Content)
-        → AreAnswers c z cpu contents (map (answer_of c z cpu) contents) }
-    ensures only { (c z : Content) (cpu : Cpu) (contents : List Content) (answers : List Answer)
-        → AreAnswers c z cpu contents answers → answers ≡ map (answer_of c z cpu) contents }
+    ensures are { (c z : Content) (moves : List MoveView) (cpu : Cpu) (contents : List Content)
+        → AreAnswers c z moves cpu contents
+        (map (answer_of c z (left_torn moves) cpu) contents) }
+    ensures only { (c z : Content) (moves : List MoveView) (cpu : Cpu) (contents : List Content)
+        (answers : List Answer)
+        → AreAnswers c z moves cpu contents answers
+        → answers ≡ map (answer_of c z (left_torn moves) cpu) contents }
+{}
+
+/// A whole image is whole: where the class is `whole`, a normal boot on what the cut leaves starts
+/// an image that has there the bytes that it has before the script or after it.
+pub fn a_whole_image_is_whole()
+    ensures { (c z d : Content) (moves : List MoveView) (cpu : Cpu)
+        → IsClass c z moves d cpu Whole
+        → (choice : Choice) × Chosen d cpu Normal (Start choice)
+        × (SameImage c d choice.image cpu ⊎ SameImage z d choice.image cpu) }
 {}
 
 /// The runs of cuts are all of them in their order, each of one answer, and neighbours differ.

@@ -2,7 +2,7 @@
 
 ghost use Rattle.std.specs.Prelude.{◌≡◌, ℕ, [], ◌∷◌, ◌++◌, codes, false, true, None, Some};
 ghost use Rattle.pico_board.specs.Examples.{window_at};
-ghost use Rattle.boot_cuts.specs.declared.answers.Class.TheVariants.{Former, Finished, Neither};
+ghost use Rattle.boot_cuts.specs.declared.answers.Class.TheVariants.{Former, Finished};
 ghost use Rattle.boot_rules.specs.declared.decision.Decision.{Decision};
 ghost use Rattle.boot_rules.specs.declared.decision.Decision.TheVariants.{Bootsel};
 ghost use Rattle.boot_rules.specs.declared.decision.Fall.TheVariants.{NoImage};
@@ -13,7 +13,7 @@ ghost use Rattle.text_lines.specs.Outcomes.{command_outcome, ram_start_outcome, 
 ghost use Rattle.text_lines.specs.declared.outcome.Refusal.{Refusal};
 ghost use Rattle.text_lines.specs.declared.outcome.BlockOutcome.TheVariants as block_outcomes;
 ghost use Rattle.text_lines.specs.declared.outcome.EventOutcome.TheVariants as event_outcomes;
-ghost use Rattle.cli_course.specs.Outcomes.{HasNoEffect, IsNeither, IsRefused, IsUnbootable};
+ghost use Rattle.cli_course.specs.Outcomes.{HasNoEffect, IsMixed, IsRefused, IsUnbootable};
 ghost use Rattle.cli_check.specs.declared.findings.SessionLaw.TheVariants.{ConfinedTo, GatedOn, NoLaw};
 ghost use Rattle.cli_check.specs.Findings.{counts_text, image_text, law_text, records_text};
 ghost use Rattle.cli_check.specs.Records.{does_nothing, refused_from};

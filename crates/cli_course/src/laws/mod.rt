@@ -2,7 +2,7 @@
 //! does nothing.
 
 ghost use Rattle.std.specs.Prelude.{ℕ, ◌≡◌, ◌<◌, ◌≤◌, ◌+◌, ◌++◌, [], ◌∷◌, List, length, true, false};
-ghost use Rattle.cli_course.specs.declared.status.Status.TheVariants.{Done, Words, Input, Bootsel, ReadFault, WriteFault, OutputFault, Memory, Unbootable, Neither, NoEffect, Refused};
+ghost use Rattle.cli_course.specs.declared.status.Status.TheVariants.{Done, Words, Input, Bootsel, ReadFault, WriteFault, OutputFault, Memory, Unbootable, Mixed, NoEffect, Refused};
 ghost use Rattle.cli_course.specs.Statuses.{exit_status};
 ghost use Rattle.cli_course.specs.Outcomes.{LimitedInputView as ReadInput, is_finished};
 ghost use Rattle.cli_course.specs.Ends.{cut};
@@ -18,7 +18,7 @@ pub fn statuses_have_numbers()
     ensures output_fault { exit_status OutputFault ≡ 6 }
     ensures memory { exit_status Memory ≡ 7 }
     ensures unbootable { exit_status Unbootable ≡ 8 }
-    ensures neither { exit_status Neither ≡ 9 }
+    ensures mixed { exit_status Mixed ≡ 9 }
     ensures no_effect { exit_status NoEffect ≡ 10 }
     ensures refused { exit_status Refused ≡ 11 }
 {}
@@ -36,7 +36,7 @@ pub fn statuses_of_finished_runs()
     ensures output_fault { is_finished OutputFault ≡ false }
     ensures memory { is_finished Memory ≡ false }
     ensures unbootable { is_finished Unbootable ≡ true }
-    ensures neither { is_finished Neither ≡ true }
+    ensures mixed { is_finished Mixed ≡ true }
     ensures no_effect { is_finished NoEffect ≡ true }
     ensures refused { is_finished Refused ≡ true }
 {}

@@ -3,10 +3,10 @@
 
 ghost use Rattle.std.specs.Prelude.{◌≡◌, ◌∷◌, ◌++◌, [], codes, None, Some};
 ghost use Rattle.pico_board.specs.declared.Step.TheVariants.{Erase, Program, Raise};
-ghost use Rattle.boot_cuts.specs.declared.answers.Class.TheVariants.{Former, Finished, Neither};
-ghost use Rattle.cli_course.specs.declared.status.Status.TheVariants.{Done, Unbootable, Neither as NeitherStatus};
+ghost use Rattle.boot_cuts.specs.declared.answers.Class.TheVariants.{Former, Finished, Whole, Tail, Mixed, Bootsel};
+ghost use Rattle.cli_course.specs.declared.status.Status.TheVariants.{Done, Unbootable, Mixed as MixedStatus};
 ghost use Rattle.cli_course.specs.Outcomes.{verdict_status};
-ghost use Rattle.cli_cuts.specs.CutsTexts.{cut_text, cuts_text, end_text, run_text, step_at_text, step_text};
+ghost use Rattle.cli_cuts.specs.CutsTexts.{class_text, cut_text, cuts_text, end_text, run_text, step_at_text, step_text};
 ghost use Rattle.cli_cuts.specs.CutsWorks.{verdict_of};
 ghost use Rattle.cli_cuts.specs.Examples.{falls, falls_otherwise, run_to, starts, three_steps, told};
 
@@ -26,49 +26,71 @@ pub fn texts_of_steps()
 
 /// Cut 2k falls before step k, and cut 2k + 1 within it.
 pub fn texts_of_cuts()
-    ensures first { cut_text three_steps 0 ≡ codes "0 erase 0x00002000 before" }
-    ensures second { cut_text three_steps 1 ≡ codes "0 erase 0x00002000 within" }
-    ensures third { cut_text three_steps 2 ≡ codes "1 program 0x00002100 before" }
-    ensures last { cut_text three_steps 5 ≡ codes "2 raise 0x0c1 within" }
+    ensures first { cut_text three_steps (3 ∷ 3 ∷ 10 ∷ []) 0
+        ≡ codes "0 event=3 erase 0x00002000 before" }
+    ensures second { cut_text three_steps (3 ∷ 3 ∷ 10 ∷ []) 1
+        ≡ codes "0 event=3 erase 0x00002000 within" }
+    ensures third { cut_text three_steps (3 ∷ 3 ∷ 10 ∷ []) 2
+        ≡ codes "1 event=3 program 0x00002100 before" }
+    ensures last { cut_text three_steps (3 ∷ 3 ∷ 10 ∷ []) 5
+        ≡ codes "2 event=10 raise 0x0c1 within" }
 {}
 
 /// A line has the first and the last cut of its run, the class and the decision; the end line has
 /// the number of steps.
 pub fn texts_of_lines()
-    ensures former { run_text three_steps (run_to 0 0 (told Former falls))
-        ≡ codes "0 erase 0x00002000 before to 0 erase 0x00002000 before former bootsel no-image\n" }
-    ensures neither { run_text three_steps (run_to 1 4 (told Neither falls_otherwise))
-        ≡ codes "0 erase 0x00002000 within to 2 raise 0x0c1 before neither bootsel flash-off\n" }
-    ensures finished { run_text three_steps (run_to 5 5 (told Finished starts))
-        ≡ codes "2 raise 0x0c1 within to 2 raise 0x0c1 within finished "
+    ensures former { run_text three_steps (3 ∷ 3 ∷ 10 ∷ []) (run_to 0 0 (told Former falls))
+        ≡ codes "0 event=3 erase 0x00002000 before to 0 event=3 erase 0x00002000 before "
+        ++ codes "former bootsel no-image\n" }
+    ensures bootsel { run_text three_steps (3 ∷ 3 ∷ 10 ∷ [])
+        (run_to 1 4 (told Bootsel falls_otherwise))
+        ≡ codes "0 event=3 erase 0x00002000 within to 2 event=10 raise 0x0c1 before "
+        ++ codes "bootsel bootsel flash-off\n" }
+    ensures finished { run_text three_steps (3 ∷ 3 ∷ 10 ∷ []) (run_to 5 5 (told Finished starts))
+        ≡ codes "2 event=10 raise 0x0c1 within to 2 event=10 raise 0x0c1 within finished "
         ++ (codes "start window=0x00002000+0x00002000 block=0x00000100 pc=0x10000201 "
         ++ codes "sp=0x20082000 limit=0x00000000 version=1.2 rollback=none trial=no\n") }
-    ensures end { end_text 3 Neither falls ≡ codes "end 3 neither bootsel no-image\n" }
-    ensures no_steps { cuts_text [] [] Former falls ≡ codes "end 0 former bootsel no-image\n" }
-    ensures whole { cuts_text (Erase 1 ∷ []) (run_to 0 0 (told Former falls)
-        ∷ run_to 1 1 (told Neither falls_otherwise) ∷ []) Finished falls
-        ≡ codes "0 erase 0x00001000 before to 0 erase 0x00001000 before former bootsel no-image\n"
-        ++ (codes "0 erase 0x00001000 within to 0 erase 0x00001000 within neither "
-        ++ codes "bootsel flash-off\nend 1 finished bootsel no-image\n") }
+    ensures end { end_text 3 Bootsel falls ≡ codes "end 3 bootsel bootsel no-image\n" }
+    ensures no_steps { cuts_text [] [] [] Former falls
+        ≡ codes "end 0 former bootsel no-image\n" }
+    ensures whole { cuts_text (Erase 1 ∷ []) (2 ∷ []) (run_to 0 0 (told Former falls)
+        ∷ run_to 1 1 (told Bootsel falls_otherwise) ∷ []) Finished falls
+        ≡ codes "0 event=2 erase 0x00001000 before to 0 event=2 erase 0x00001000 before "
+        ++ (codes "former bootsel no-image\n0 event=2 erase 0x00001000 within to "
+        ++ (codes "0 event=2 erase 0x00001000 within bootsel bootsel flash-off\n"
+        ++ codes "end 1 finished bootsel no-image\n")) }
 {}
 
-/// The status is 0 where no line says `neither`. It is 8 where one does and each that does is a
-/// fall, and 9 where one of them is a start. The end line, which stands first here, counts alone
-/// too.
+/// The words of the classes.
+pub fn words_of_classes()
+    ensures former { class_text Former ≡ codes "former" }
+    ensures finished { class_text Finished ≡ codes "finished" }
+    ensures whole { class_text Whole ≡ codes "whole" }
+    ensures tail { class_text Tail ≡ codes "tail" }
+    ensures mixed { class_text Mixed ≡ codes "mixed" }
+    ensures bootsel { class_text Bootsel ≡ codes "bootsel" }
+{}
+
+/// The status is 9 where a line says `mixed`. Otherwise it is 8 where one says `bootsel`, and 0
+/// where none does. The end line, which stands first here, counts alone too.
 pub fn statuses_of_lines()
     ensures none { verdict_status (verdict_of (told Former falls ∷ told Finished starts
         ∷ told Former starts ∷ [])) ≡ Done }
-    ensures fall { verdict_status (verdict_of (told Former falls ∷ told Neither falls ∷ []))
+    ensures whole { verdict_status (verdict_of (told Finished starts ∷ told Whole starts ∷ []))
+        ≡ Done }
+    ensures tail { verdict_status (verdict_of (told Finished starts ∷ told Tail starts ∷ []))
+        ≡ Done }
+    ensures fall { verdict_status (verdict_of (told Former falls ∷ told Bootsel falls ∷ []))
         ≡ Unbootable }
-    ensures start { verdict_status (verdict_of (told Former falls ∷ told Neither starts ∷ []))
-        ≡ NeitherStatus }
-    ensures both { verdict_status (verdict_of (told Former falls ∷ told Neither falls
-        ∷ told Neither starts ∷ [])) ≡ NeitherStatus }
-    ensures turned { verdict_status (verdict_of (told Former falls ∷ told Neither starts
-        ∷ told Neither falls ∷ [])) ≡ NeitherStatus }
-    ensures end_falls { verdict_status (verdict_of (told Neither falls ∷ told Former starts ∷ []))
+    ensures start { verdict_status (verdict_of (told Former falls ∷ told Mixed starts ∷ []))
+        ≡ MixedStatus }
+    ensures both { verdict_status (verdict_of (told Former falls ∷ told Bootsel falls
+        ∷ told Mixed starts ∷ [])) ≡ MixedStatus }
+    ensures turned { verdict_status (verdict_of (told Former falls ∷ told Mixed starts
+        ∷ told Bootsel falls ∷ [])) ≡ MixedStatus }
+    ensures end_falls { verdict_status (verdict_of (told Bootsel falls ∷ told Former starts ∷ []))
         ≡ Unbootable }
-    ensures end_starts { verdict_status (verdict_of (told Neither starts ∷ told Former falls
-        ∷ [])) ≡ NeitherStatus }
+    ensures end_starts { verdict_status (verdict_of (told Mixed starts ∷ told Former falls
+        ∷ [])) ≡ MixedStatus }
     ensures end_alone { verdict_status (verdict_of (told Former starts ∷ [])) ≡ Done }
 {}

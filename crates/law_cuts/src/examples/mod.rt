@@ -7,7 +7,7 @@ ghost use Rattle.pico_board.specs.declared.boot.Cpu.TheVariants.{Arm};
 ghost use Rattle.boot_session.specs.Sessions.{session};
 ghost use Rattle.boot_sweep.specs.declared.results.CutResult.TheVariants.{Chance};
 ghost use Rattle.boot_sweep.specs.Sweeps.{sweep_lines};
-ghost use Rattle.boot_cuts.specs.declared.answers.Class.TheVariants.{Neither};
+ghost use Rattle.boot_cuts.specs.declared.answers.Class.{Class};
 ghost use Rattle.boot_cuts.specs.Classes.{IsClass};
 ghost use Rattle.boot_cuts.specs.Contents.{cut_contents};
 ghost use Rattle.boot_cuts.specs.Traces.{trace};
@@ -15,7 +15,7 @@ ghost use Rattle.cli_check.specs.Sessions.{is_one_session};
 ghost use Rattle.worked_flashes.specs.Choices.{small_slot};
 ghost use Rattle.worked_flashes.specs.Flashes.{arm_slot, bare_slot, beside_small, data_page};
 ghost use Rattle.worked_flashes.specs.Writes.{longer_steps};
-ghost use Rattle.law_cuts.specs.Cases.{IsGatedScript, IsSweptScript};
+ghost use Rattle.law_cuts.specs.Cases.{IsGatedScript, IsOther, IsSweptScript};
 ghost use Rattle.law_cuts.specs.Examples.{small_script};
 
 use boot_session::examples::session::{a_cut_behind_the_image, a_cut_within_the_image};
@@ -40,15 +40,16 @@ pub fn a_script_that_is_swept()
 }
 
 /// It is gated on the slot. Cut number 6 leaves an image that lacks its last page, and starts: it
-/// is neither the former nor the finished one.
+/// is neither the former nor the finished one, and its class is another one.
 pub fn a_gated_script_with_an_accidental_image()
     ensures gated { IsGatedScript (beside_small bare_slot) Arm small_script small_slot }
     ensures cut { (pattern : List ℕ) → slice_get (cut_contents pattern
         (trace (beside_small bare_slot) Arm small_script).done) 6
         ≡ Some (beside_small (arm_slot 0x0001000a)) }
-    ensures neither { IsClass (beside_small bare_slot)
+    ensures other { (class : Class) × IsClass (beside_small bare_slot)
         (trace (beside_small bare_slot) Arm small_script).last
-        (beside_small (arm_slot 0x0001000a)) Arm Neither }
+        (trace (beside_small bare_slot) Arm small_script).moves
+        (beside_small (arm_slot 0x0001000a)) Arm class × IsOther class }
 {
     a_script_that_is_swept();
     a_cut_behind_the_image();

@@ -1,4 +1,4 @@
-use Rattle.std.proofs.Common.{arith, refl, sym}
+use Rattle.std.proofs.Common.{◌+◌, arith, refl, sym}
 use Rattle.boot_script.specs.Events.{event_from}
 use Rattle.boot_cuts.proofs.PlayLemmas.{follow-anew, follow-whole, play-armed}
 use Rattle.boot_cuts.proofs.playing.follow.Goals as goal
@@ -6,22 +6,23 @@ use Rattle.boot_cuts.proofs.playing.follow.Goals as goal
 pub returns-in-Some-clause-played : goal.returns-in-Some-clause-played
 returns-in-Some-clause-played c = λ m all left is play. (
   λ many. let short = c.requires.short in absurd (omega (arith, many, short)),
-  λ few. play-armed c.args.machine.now c.args.trace.now _ m all left (event_from c.args.event.now) c.in-Some.cut
-      (sym c.in-Some.ensures) refl refl refl refl play,
+  λ few. play-armed c.args.machine.now c.args.trace.now _ m all left (event_from c.args.event.now) c.args.number
+      c.in-Some.cut (sym c.in-Some.ensures) refl refl refl refl refl play,
 )
 
 pub returns-in_ok-machine-clause-played : goal.returns-in_ok-machine-clause-played
 returns-in_ok-machine-clause-played c = λ m all left is play.
     let played = c.in_ok-play.ensures.played m all left play in (
       played.0,
-      λ few. follow-anew c.play.new.machine c.in_ok-machine.field-0 c.play.new.trace m all left c.in_ok-play.field-0
-          c.args.cpu c.if-not-branch.true is (played.1 few) c.in_ok-machine.ensures.stands c.in_ok-machine.ensures.none,
+      λ few. follow-anew c.play.new.machine c.in_ok-machine.field-0 c.play.new.trace m all left (c.args.number + 1)
+          c.in_ok-play.field-0 c.args.cpu c.if-not-branch.true is (played.1 few) c.in_ok-machine.ensures.stands c.in_ok-machine.ensures.none,
     )
 
 pub returns-else-not-branch-clause-played : goal.returns-else-not-branch-clause-played
 returns-else-not-branch-clause-played c = λ m all left is play.
     let played = c.in_ok-play.ensures.played m all left play in (
       played.0,
-      λ few. follow-whole c.play.new.machine c.play.new.trace m all left c.in_ok-play.field-0 c.if-not-branch.false
+      λ few. follow-whole c.play.new.machine c.play.new.trace m all left (c.args.number + 1)
+          c.in_ok-play.field-0 c.if-not-branch.false
           (played.1 few),
     )

@@ -48,10 +48,10 @@ returns-clause-played c =
     let former = length c.as_slice-former.result.now in
     let read = c.deref.result.now in
     let fresh : List Step = take (length read - former) (drop former read) in
-    if-ok c.take_steps.result (λ whole. HasTaken c.args.trace.now fresh whole c.take_steps.new.self) _
+    if-ok c.take_steps.result (λ whole. HasTaken c.args.trace.now fresh c.args.number whole c.take_steps.new.self) _
     (λ whole taken m all left play.
     play-on c.args.machine.now c.step.new.machine c.args.trace.now c.take_steps.new.self m all left
-    (event_from c.args.event.now) whole fresh play c.requires.uncut c.step.ensures
+    (event_from c.args.event.now) c.args.number whole fresh play c.requires.uncut c.step.ensures
     (rest-is former read ∙ (ap (λ k. drop k read) (ap (λ (xs : List Step). length xs) c.as_slice-former.ensures.value
     ∙ ap (λ t. length t.steps.items) c.board.ensures)
     ∙ ap (drop (length c.args.machine.now.board.steps.items))

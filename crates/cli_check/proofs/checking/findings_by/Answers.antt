@@ -9,7 +9,7 @@ use Rattle.boot_rules.specs.Choosing.{decision_in}
 use Rattle.boot_rules.proofs.DecisionLemmas.{decision-chosen}
 use Rattle.boot_session.specs.Recordings.{step_limit}
 use Rattle.boot_cuts.specs.declared.runs.Run.{Run}
-use Rattle.boot_cuts.specs.Kinds.{runs_count}
+use Rattle.boot_cuts.specs.Counts.{runs_count}
 use Rattle.cli_check.proofs.FindingLemmas.{findings-are, runs-few, steps-few}
 use Rattle.cli_check.proofs.checking.findings_by.Goals as goal
 
@@ -28,10 +28,10 @@ hash_of-requires-clause-chosen c =
     (decision-chosen z c.args.cpu Normal)
 
 pub cut_counts-requires : goal.cut_counts-requires
-cut_counts-requires c = λ kind.
+cut_counts-requires c = λ class.
     let f = c.requires.found in
-    subst (λ (runs : List Run). runs_count kind runs < 2 ^ 32) (sym c.deref-3.ensures.value)
-    (runs-few (state_of c.args.start.now).content c.args.cpu f.0 f.1 c.args.found f.2 kind)
+    subst (λ (runs : List Run). runs_count class runs < 2 ^ 32) (sym c.deref-3.ensures.value)
+    (runs-few (state_of c.args.start.now).content c.args.cpu f.0 f.1 c.args.found f.2 class)
 
 pub returns : goal.returns
 returns c = λ events pattern are last did one.

@@ -4,4 +4,4 @@ use Rattle.cli_cuts.proofs.cutting.has_any.Given as goal
 
 -- the rest decides
 abbrev pub invariant-loop-run : goal.invariant-loop-run
-invariant-loop-run l = has_any l.kind (run_answers (drop l.run-index l.runs)) ≡ has_any l.kind (run_answers l.runs)
+invariant-loop-run l = has_any l.class (run_answers (drop l.run-index l.runs)) ≡ has_any l.class (run_answers l.runs)

@@ -7,9 +7,9 @@ pub returns-clause-former : goal.returns-clause-former
 unfolding padded_integral digits char_count
 returns-clause-former c = refl
 
-pub returns-clause-neither : goal.returns-clause-neither
+pub returns-clause-bootsel : goal.returns-clause-bootsel
 unfolding padded_integral digits char_count
-returns-clause-neither c = refl
+returns-clause-bootsel c = refl
 
 pub returns-clause-finished : goal.returns-clause-finished
 unfolding padded_integral digits char_count

@@ -7,5 +7,5 @@ use Rattle.cli_cuts.proofs.texts.push_runs.Given as goal
 -- the lines so far, and those of the rest, are all
 abbrev pub invariant-loop-run : goal.invariant-loop-run
 invariant-loop-run l =
-    string_bytes l.text ++ flat_map (run_text l.steps) (drop l.run-index l.runs)
-    ≡ string_bytes l.fn.text ++ flat_map (run_text l.steps) l.runs
+    string_bytes l.text ++ flat_map (run_text l.steps l.numbers) (drop l.run-index l.runs)
+    ≡ string_bytes l.fn.text ++ flat_map (run_text l.steps l.numbers) l.runs

@@ -1,5 +1,5 @@
 -- By computing.
-use Rattle.std.proofs.Common.{◌≡◌, List, Some, slice_get, sym, ap, ◌∙◌, subst}
+use Rattle.std.proofs.Common.{◌≡◌, List, Some, slice_get, refl, sym, ap, ◌∙◌, subst}
 use Rattle.pico_board.specs.declared.Step.{Step}
 use Rattle.pico_board.specs.declared.boot.Cpu.TheVariants.{Arm}
 use Rattle.pico_board.specs.Content.{Content}
@@ -8,10 +8,17 @@ use Rattle.pico_board.specs.Steps.{after_all}
 use Rattle.boot_rules.specs.Tables.{table_in}
 use Rattle.boot_session.specs.CutSessions.{StartsFinished}
 use Rattle.boot_session.specs.Slots.{IsSlot}
+use Rattle.boot_cuts.specs.declared.answers.Class.{Class}
+use Rattle.boot_cuts.specs.declared.answers.Class.TheVariants.{Former, Finished, Whole, Tail, Mixed, Bootsel}
+use Rattle.boot_cuts.specs.Classes.{IsClass}
+use Rattle.boot_cuts.specs.Classing.{class_of}
 use Rattle.boot_cuts.specs.Contents.{cut_contents}
+use Rattle.boot_cuts.specs.Tears.{left_torn}
 use Rattle.boot_cuts.specs.Traces.{Traced, trace, trace_steps, traced_from}
 use Rattle.worked_flashes.specs.Choices.{small_slot}
 use Rattle.worked_flashes.specs.Writes.{longer_steps}
+use Rattle.boot_cuts.proofs.ClassLemmas.{class-exactly}
+use Rattle.law_cuts.specs.Cases.{IsOther}
 use Rattle.law_cuts.specs.Examples.{small_script}
 use Rattle.law_cuts.proofs.AccidentLemmas.{steps-of}
 use Rattle.law_cuts.proofs.CaseLemmas.{finished-starts}
@@ -48,11 +55,23 @@ returns-clause-cut c = λ pattern.
     ap (λ (ts : List Traced). slice_get (cut_contents pattern ts) 6) done-is
     ∙ ap (λ (d : Content). Some d) first-three
 
-pub returns-clause-neither : goal.returns-clause-neither
-returns-clause-neither c = (
-  λ former. never-former c.a_cut_behind_the_image.ensures.session.former c.a_cut_within_the_image.ensures.here
-      former.decision former.first former.here,
-  λ finished. c.a_cut_within_the_image.ensures.not_finished
-      (subst (λ (z : Content). StartsFinished z short Arm) last-are
-      (finished-starts (trace small Arm small_script).last short Arm finished)),
-)
+pub returns-clause-other : goal.returns-clause-other
+returns-clause-other c =
+    let t = trace small Arm small_script in
+    let class = class_of small t.last (left_torn t.moves) Arm short in
+    let found : IsClass small t.last t.moves short Arm class = (class-exactly small t.last t.moves short Arm class).1 refl in
+    (class, found, other class found)
+  where
+    other : (k : Class) → IsClass small (trace small Arm small_script).last (trace small Arm small_script).moves short Arm k
+        → IsOther k
+    other Former former =
+        absurd (never-former c.a_cut_behind_the_image.ensures.session.former c.a_cut_within_the_image.ensures.here
+        former.decision former.first former.here)
+    other Finished finished =
+        absurd (c.a_cut_within_the_image.ensures.not_finished
+        (subst (λ (z : Content). StartsFinished z short Arm) last-are
+        (finished-starts (trace small Arm small_script).last (trace small Arm small_script).moves short Arm finished.1)))
+    other Whole found = tt
+    other Tail found = tt
+    other Mixed found = tt
+    other Bootsel found = tt

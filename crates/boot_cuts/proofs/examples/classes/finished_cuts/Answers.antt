@@ -13,10 +13,6 @@ pub returns-clause-start : goal.returns-clause-start
 unfolding agree_on def_of loop_of follow block_from block_at front_block item_words frame size_of word_of word_bytes
 returns-clause-start c = refl
 
-pub returns-clause-other_bytes : goal.returns-clause-other_bytes
-unfolding agree_on def_of loop_of follow block_from block_at front_block item_words frame size_of word_of word_bytes
-returns-clause-other_bytes c = refl
-
 pub returns-clause-one_start : goal.returns-clause-one_start
 unfolding agree_on def_of loop_of follow block_from block_at front_block item_words frame size_of word_of word_bytes
 returns-clause-one_start c = refl

@@ -10,6 +10,6 @@ invariant-loop-step l = record {
   ready : IsReady l.self;
   size : flash_long l.self ≡ flash_long l.fn.self;
   few : l.self.done ≤ l.fn.self.done + l.step-index;
-  rest : (whole : Bool) (new : Trace) → IsLeftBy l.self (cut_moves (told_of l.self) (drop l.step-index l.steps)) whole new
-      → IsLeftBy l.fn.self (cut_moves (told_of l.fn.self) l.steps) whole new;
+  rest : (whole : Bool) (new : Trace) → IsLeftBy l.self (cut_moves (told_of l.self) (drop l.step-index l.steps)) l.number whole new
+      → IsLeftBy l.fn.self (cut_moves (told_of l.fn.self) l.steps) l.number whole new;
 }
