@@ -41,7 +41,7 @@ after-then : (c : Content) (xs ys : List Step) → after_all (after_all c xs) ys
 after-then c [] ys = refl
 after-then c (x ∷ xs) ys = after-then (after c x) xs ys
 
-uncut : (steps : List Step) (c : Content)
+pub uncut : (steps : List Step) (c : Content)
     → cut_steps steps None c ≡ (record { answer = true; content = after_all c steps; armed = None })
 uncut [] c = refl
 uncut (step ∷ steps) c = uncut steps (after c step)
@@ -58,7 +58,7 @@ done-then : (xs ys : List Step) → dones xs ++ dones ys ≡ dones (xs ++ ys)
 done-then [] ys = refl
 done-then (x ∷ xs) ys = ap (λ ms. Done x ∷ ms) (done-then xs ys)
 
-none-cut : (steps : List Step) → (cut_moves None steps).moves ≡ dones steps
+pub none-cut : (steps : List Step) → (cut_moves None steps).moves ≡ dones steps
 none-cut [] = refl
 none-cut (step ∷ steps) = ap (λ ms. Done step ∷ ms) (none-cut steps)
 

@@ -35,6 +35,20 @@ IsOther classes.Tail = ⊤
 IsOther classes.Mixed = ⊤
 IsOther classes.Bootsel = ⊤
 
+-- the event is no Cut
+abbrev pub ArmsNoCut : EventView → Type 0
+ArmsNoCut (EventView.Cut left within pattern) = ⊥
+ArmsNoCut event = ⊤
+
+-- the class is `former`, `finished` or `bootsel`
+abbrev pub IsWholeOrNone : Class → Type 0
+IsWholeOrNone classes.Former = ⊤
+IsWholeOrNone classes.Finished = ⊤
+IsWholeOrNone classes.Whole = ⊥
+IsWholeOrNone classes.Tail = ⊥
+IsWholeOrNone classes.Mixed = ⊥
+IsWholeOrNone classes.Bootsel = ⊤
+
 -- the class is one of a cut of which a sweep tells this result
 abbrev pub IsClassFor : CutResult → Class → Type 0
 IsClassFor Former class = class ≡ classes.Former

@@ -4,4 +4,8 @@ mod KeptLemmas
 mod ByteLemmas
 mod WindowLemmas
 mod StagedLemmas
+mod StageSessionLemmas
+mod StageStepLemmas
+mod StageByteLemmas
+mod StagePlanLemmas
 mod ExampleLemmas

@@ -1,2 +1,3 @@
 -- These definitions are this project's own, except where a comment names a public source.
 pub mod Staged
+pub mod StagedPlans

@@ -1,13 +1,16 @@
 //! A worked script that meets the premises of the laws, by computing: each example is the `ensures`
 //! of a function that does nothing but cite others.
 
-ghost use Rattle.std.specs.Prelude.{◌≡◌, ℕ, List, Some, false, slice_get, true};
+ghost use Rattle.std.specs.Prelude.{◌≡◌, ℕ, Bool, List, Some, false, slice_get, true};
+ghost use Rattle.std.specs.List.{AllByRecursion};
 ghost use Rattle.pico_board.specs.declared.Step.TheVariants.{Program};
 ghost use Rattle.pico_board.specs.declared.boot.Cpu.TheVariants.{Arm};
+ghost use Rattle.boot_script.specs.Events.{Cut};
 ghost use Rattle.boot_session.specs.Sessions.{session};
 ghost use Rattle.boot_sweep.specs.declared.results.CutResult.TheVariants.{Chance};
 ghost use Rattle.boot_sweep.specs.Sweeps.{sweep_lines};
 ghost use Rattle.boot_cuts.specs.declared.answers.Class.{Class};
+ghost use Rattle.boot_cuts.specs.declared.answers.Class.TheVariants.{Former, Finished, Whole, Tail, Mixed, Bootsel};
 ghost use Rattle.boot_cuts.specs.Classes.{IsClass};
 ghost use Rattle.boot_cuts.specs.Contents.{cut_contents};
 ghost use Rattle.boot_cuts.specs.Traces.{trace};
@@ -15,7 +18,7 @@ ghost use Rattle.cli_check.specs.Sessions.{is_one_session};
 ghost use Rattle.worked_flashes.specs.Choices.{small_slot};
 ghost use Rattle.worked_flashes.specs.Flashes.{arm_slot, bare_slot, beside_small, data_page};
 ghost use Rattle.worked_flashes.specs.Writes.{longer_steps};
-ghost use Rattle.law_cuts.specs.Cases.{IsGatedScript, IsOther, IsSweptScript};
+ghost use Rattle.law_cuts.specs.Cases.{ArmsNoCut, IsGatedScript, IsOther, IsSweptScript, IsWholeOrNone};
 ghost use Rattle.law_cuts.specs.Examples.{small_script};
 
 use boot_session::examples::session::{a_cut_behind_the_image, a_cut_within_the_image};
@@ -38,6 +41,23 @@ pub fn a_script_that_is_swept()
     a_cut_behind_the_image();
     a_cut_within_the_image();
 }
+
+/// It arms no cut; a Cut event does.
+pub fn a_script_without_a_cut()
+    ensures script { AllByRecursion ArmsNoCut small_script }
+    ensures cut { (left : ℕ) (within : Bool) (pattern : List ℕ)
+        → ArmsNoCut (Cut left within pattern) → ⊥ }
+{}
+
+/// The three classes in which a script without one ends, and the others.
+pub fn classes_of_ends()
+    ensures former { IsWholeOrNone Former }
+    ensures finished { IsWholeOrNone Finished }
+    ensures bootsel { IsWholeOrNone Bootsel }
+    ensures whole { IsWholeOrNone Whole → ⊥ }
+    ensures tail { IsWholeOrNone Tail → ⊥ }
+    ensures mixed { IsWholeOrNone Mixed → ⊥ }
+{}
 
 /// It is gated on the slot. Cut number 6 leaves an image that lacks its last page, and starts: it
 /// is neither the former nor the finished one, and its class is another one.

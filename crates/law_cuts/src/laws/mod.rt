@@ -2,6 +2,7 @@
 //! does nothing.
 
 ghost use Rattle.std.specs.Prelude.{◌≡◌, ℕ, ◌<◌, All, List, Some, length, map, slice_get, true};
+ghost use Rattle.std.specs.List.{AllByRecursion};
 ghost use Rattle.pico_board.specs.declared.boot.Cpu.{Cpu};
 ghost use Rattle.pico_board.specs.declared.window.Window.{Window};
 ghost use Rattle.pico_board.specs.Content.{Content};
@@ -17,7 +18,7 @@ ghost use Rattle.boot_cuts.specs.Classes.{IsClass};
 ghost use Rattle.boot_cuts.specs.Contents.{cut_contents};
 ghost use Rattle.boot_cuts.specs.Traces.{trace, trace_steps, traced_from};
 ghost use Rattle.cli_check.specs.Sessions.{is_one_session};
-ghost use Rattle.law_cuts.specs.Cases.{EndsFor, HasClassFor, IsAccident, IsGatedScript, IsOther, IsSweptScript};
+ghost use Rattle.law_cuts.specs.Cases.{ArmsNoCut, EndsFor, HasClassFor, IsAccident, IsGatedScript, IsOther, IsSweptScript, IsWholeOrNone};
 
 /// The trace of a script that is one session of a host has the steps of its session, each with the
 /// content before it; and the script leaves what they do.
@@ -68,4 +69,14 @@ pub fn a_gated_session_leaves_one_of_two_images()
         → IsGatedScript c cpu events w → CutOf c (trace_steps (trace c cpu events).done) d
         → IsClass c (trace c cpu events).last (trace c cpu events).moves d cpu class
         → IsOther class → IsAccident c cpu events w d }
+{}
+
+/// What a script without a Cut event leaves is of class `former`, `finished` or `bootsel`: what
+/// starts at the end is the finished image, or as before.
+pub fn an_end_without_a_cut_is_whole_or_none()
+    ensures { (c : Content) (cpu : Cpu) (events : List EventView) (class : Class)
+        → AllByRecursion ArmsNoCut events
+        → IsClass c (trace c cpu events).last (trace c cpu events).moves
+        (trace c cpu events).last cpu class
+        → IsWholeOrNone class }
 {}

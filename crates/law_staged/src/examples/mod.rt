@@ -1,11 +1,14 @@
-//! A worked staged session, which meets the premises of the laws.
+//! A worked staged session, which meets the premises of the laws, and worked steps of stages.
 
+ghost use Rattle.std.specs.Prelude.{◌≡◌, [], ◌∷◌, ◌++◌, replicate};
+ghost use Rattle.pico_board.specs.declared.Step.TheVariants.{Erase, Program};
 ghost use Rattle.pico_board.specs.declared.boot.Cpu.TheVariants.{Arm};
 ghost use Rattle.boot_rules.specs.declared.decision.Decision.TheVariants.{Start};
 ghost use Rattle.worked_flashes.specs.Choices.{former_start};
 ghost use Rattle.worked_flashes.specs.Flashes.{bare, beside_former};
 ghost use Rattle.worked_flashes.specs.Writes.{plain_steps, slot};
 ghost use Rattle.law_staged.specs.Staged.{StagedSession};
+ghost use Rattle.law_staged.specs.StagedPlans.{rest_steps, stage_steps};
 
 use boot_session::examples::session::a_cut_between_two_pages;
 
@@ -16,3 +19,19 @@ pub fn a_staged_session()
 {
     a_cut_between_two_pages();
 }
+
+/// A stage of two pages and a byte, with the second page last, or the first one, or the byte's. A
+/// part without bytes has no step.
+pub fn the_steps_of_a_stage()
+    ensures middle { stage_steps 4 1 (replicate 256 1 ++ (replicate 256 2 ++ 3 ∷ []))
+        ≡ Erase 4 ∷ Program 64 (replicate 256 1) ∷ Program 66 (3 ∷ replicate 255 0)
+        ∷ Program 65 (replicate 256 2) ∷ [] }
+    ensures first { stage_steps 4 0 (replicate 256 1 ++ (replicate 256 2 ++ 3 ∷ []))
+        ≡ Erase 4 ∷ Program 65 (replicate 256 2) ∷ Program 66 (3 ∷ replicate 255 0)
+        ∷ Program 64 (replicate 256 1) ∷ [] }
+    ensures last { stage_steps 4 2 (replicate 256 1 ++ (replicate 256 2 ++ 3 ∷ []))
+        ≡ Erase 4 ∷ Program 64 (replicate 256 1) ∷ Program 65 (replicate 256 2)
+        ∷ Program 66 (3 ∷ replicate 255 0) ∷ [] }
+    ensures rest { rest_steps 5 (7 ∷ [])
+        ≡ Erase 5 ∷ Program 80 (7 ∷ replicate 255 0) ∷ [] }
+{}

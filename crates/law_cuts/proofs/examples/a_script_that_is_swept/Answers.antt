@@ -5,7 +5,6 @@ use Rattle.pico_board.specs.declared.Step.TheVariants.{Program}
 use Rattle.pico_board.specs.declared.boot.Cpu.TheVariants.{Arm}
 use Rattle.pico_board.specs.Content.{Content}
 use Rattle.pico_board.specs.Steps.{after_all}
-use Rattle.boot_session.specs.Sessions.{session}
 use Rattle.boot_sweep.specs.declared.results.CutResult.{CutResult}
 use Rattle.boot_sweep.specs.declared.results.CutResult.TheVariants.{Chance}
 use Rattle.boot_sweep.specs.Comparing.{result_of}
